@@ -1,0 +1,4 @@
+pub mod Buffers
+pub mod Masks
+pub mod Naming
+pub mod Places

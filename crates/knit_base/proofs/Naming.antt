@@ -1,0 +1,60 @@
+-- The names of carriers, as the code keeps them.
+use Rattle.std.proofs.Common.{◌≡◌, ℕ, ◌+◌, ◌<◌, ◌≤◌, List, [], ◌∷◌, ◌++◌, length, map, Option, None, Some, position, All, Bool, true, false, ap, sym, subst, ◌∙◌, refl, arith, length-append}
+use Rattle.std.specs.Option.{option_map}
+use Rattle.std.specs.List.{list_any, AllZip}
+use Rattle.std.specs.Str.{bytes_eq}
+use Rattle.std.specs.String.{string_bytes, string_eq}
+use Rattle.std.specs.Bool.{if◌then◌else◌}
+use Rattle.std.proofs.lemmas.List.{map-append}
+use Rattle.std.proofs.lemmas.List.Elements.{All-push}
+use Rattle.std.proofs.lemmas.List.Sums.{sum_by-append}
+use Rattle.std.proofs.Common.{Global, String}
+use Rattle.knit_base.specs.declared.yarns.CarrierNo.{CarrierNo}
+use Rattle.knit_base.specs.Names.{carrier_of, IsName, AreNames, names_len}
+use Rattle.knit_base.proofs.Places.{position-map, list_any-none}
+
+abbrev pub texts : List (String Global) → List (List ℕ)
+texts keys = map string_bytes keys
+
+-- a place among the keys is the carrier
+pub carrier_of-place : (keys seen : List (String Global)) (names : List (List ℕ)) (name : List ℕ) (place : Option ℕ) → texts keys ≡ names → seen ≡ keys
+    → place ≡ position (λ d. bytes_eq name (string_bytes d)) seen → option_map (λ i. record { 0 = i }) place ≡ carrier_of names name
+carrier_of-place keys seen names name place view same is =
+    ap (option_map (λ i. record { 0 = i }))
+    (is ∙ ap (position (λ d. bytes_eq name (string_bytes d))) same ∙ sym (position-map (bytes_eq name) string_bytes keys) ∙ ap (position (bytes_eq name)) view)
+
+no_place : {A : Type 0} (o : Option ℕ) (f : ℕ → A) → option_map f o ≡ None → o ≡ None
+no_place None f e = refl
+no_place (Some i) f e = cc
+
+-- a name that no carrier has is no key
+pub no_key : (keys : List (String Global)) (names : List (List ℕ)) (name : List ℕ) → texts keys ≡ names → carrier_of names name ≡ None
+    → list_any (λ d. bytes_eq name (string_bytes d)) keys ≡ false
+no_key keys names name view none =
+    list_any-none (λ d. bytes_eq name (string_bytes d)) keys
+    (sym (position-map (bytes_eq name) string_bytes keys) ∙ ap (position (bytes_eq name)) view ∙ no_place (position (bytes_eq name) names) _ none)
+
+pub names-push : (names : List (List ℕ)) (name : List ℕ) → AreNames names → IsName name → length names < 64 → names_len (names ++ name ∷ []) ≤ 65524 → AreNames (names ++ name ∷ [])
+names-push names name are is few room = record {
+  few = omega (arith, length-append names (name ∷ []));
+  each = All-push IsName names name are.each is;
+  room = room;
+}
+
+-- a copy has the same names
+pub texts-clone : (keys copy : List (String Global)) → AllZip (λ k l. string_bytes l ≡ string_bytes k) keys copy → texts copy ≡ texts keys
+texts-clone [] [] all = refl
+texts-clone [] (l ∷ ls) all = absurd all
+texts-clone (k ∷ ks) [] all = absurd all
+texts-clone (k ∷ ks) (l ∷ ls) all = ap (λ t. t ∷ texts ls) all.0 ∙ ap (λ ts. string_bytes k ∷ ts) (texts-clone ks ls all.1)
+
+-- a key that isn't there goes to the end
+pub texts-insert : (keys after : List (String Global)) (new : String Global) (names : List (List ℕ)) (name : List ℕ) → texts keys ≡ names → string_bytes new ≡ name
+    → after ≡ (if list_any (string_eq new) keys then keys else keys ++ new ∷ []) → carrier_of names name ≡ None → texts after ≡ names ++ name ∷ []
+texts-insert keys after new names name view same is none =
+    let other : list_any (string_eq new) keys ≡ false =
+    ap (λ n. list_any (λ d. bytes_eq n (string_bytes d)) keys) same ∙ no_key keys names name view none in
+    ap texts (is ∙ ap (λ b. if b then keys else keys ++ new ∷ []) other)
+    ∙ map-append string_bytes keys (new ∷ [])
+    ∙ ap (λ ts. ts ++ string_bytes new ∷ []) view
+    ∙ ap (λ t. names ++ t ∷ []) same

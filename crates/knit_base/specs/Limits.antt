@@ -1,0 +1,12 @@
+-- The limits of a machine.
+use Rattle.std.specs.Prelude.{ℕ, ◌<◌, ◌≤◌, ℤ, pos, ◌-ℤ◌, ◌≤ℤ◌}
+use Rattle.knit_base.specs.declared.profile.Profile.{Profile}
+
+-- the profile lies within the bounds of the project
+pub record IsLawfulProfile (profile : Profile) : Type 0 where
+  pub lowest : (pos 0 -ℤ pos 4096) ≤ℤ profile.low
+  pub ordered : profile.low ≤ℤ profile.high
+  pub highest : profile.high ≤ℤ pos 4096
+  pub rack : profile.rack ≤ 64
+  pub some : 1 ≤ profile.hold
+  pub hold : profile.hold ≤ 64

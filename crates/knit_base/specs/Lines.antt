@@ -1,0 +1,49 @@
+-- The lines of a text.
+use Rattle.std.specs.Prelude.{◌≡◌, ◌≢◌, ◌==◌, ℕ, ◌-◌, ◌<◌, ◌≤◌, ◌^◌, Bool, true, List, [], ◌∷◌, length, take, drop, map, All, if◌then◌else◌}
+use Rattle.std.specs.List.{slice_split}
+use Rattle.std.specs.Str.{is_utf8}
+use Rattle.knit_base.specs.declared.lines.Span.{Span}
+
+abbrev pub is_line_feed : ℕ → Bool
+is_line_feed byte = byte == 10
+
+abbrev pub HasNoLineEnd : List ℕ → Type 0
+HasNoLineEnd text = All (λ byte. byte ≢ 10) text
+
+-- UTF-8 without a line feed, and not too long
+pub record IsLine (line : List ℕ) : Type 0 where
+  pub utf8 : is_utf8 line ≡ true
+  pub one : HasNoLineEnd line
+  pub short : length line < 2 ^ 16
+
+-- the bytes from the start of the span to its end
+abbrev pub piece : List ℕ → Span → List ℕ
+piece bytes span = take (span.end - span.start) (drop span.start bytes)
+
+-- the span lies in the buffer
+pub record IsWithin (bytes : List ℕ) (span : Span) : Type 0 where
+  pub ordered : span.start ≤ span.end
+  pub inside : span.end ≤ length bytes
+
+-- each span of the buffer is a line
+pub record AreLines (bytes : List ℕ) (spans : List Span) : Type 0 where
+  pub few : length spans ≤ 16777217
+  pub within : All (IsWithin bytes) spans
+  pub lines : All IsLine (map (piece bytes) spans)
+
+-- the pieces without a last one that is empty
+abbrev pub without_empty_end : List (List ℕ) → List (List ℕ)
+without_empty_end [] = []
+without_empty_end ([] ∷ []) = []
+without_empty_end (piece ∷ pieces) = piece ∷ without_empty_end pieces
+
+-- one carriage return at the end of a line is no part of it
+abbrev pub without_return : List ℕ → List ℕ
+without_return [] = []
+without_return (byte ∷ []) = if byte == 13 then [] else byte ∷ []
+without_return (byte ∷ bytes) = byte ∷ without_return bytes
+
+-- The lines of a file: the pieces between its line feeds, without a last piece that is empty, and without the carriage
+-- return at the end of each.
+abbrev pub lines_of : List ℕ → List (List ℕ)
+lines_of bytes = map without_return (without_empty_end (slice_split is_line_feed bytes))

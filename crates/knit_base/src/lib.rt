@@ -1,0 +1,34 @@
+//! The plain values of the checker: needles, carriers, instructions and their readings, texts and their lines.
+//!
+//! Promises that a contract of a crate above sees each of these types as the plain value that it stands for: a text as its
+//! bytes, `Lines` as a list of texts, `Yarns` and every other list type as a list, `Declared` as the list of its names.
+//! Definitions: `specs/Needle` (order, beds, sliders), `specs/Yarns` (sets of carriers as bits), `specs/Names` (look-up by
+//! name), `specs/Reasons` (which rule is broken first), `specs/Lines` (the lines of bytes) and `specs/Limits` (lawful
+//! profiles). Below it stand std, `indexmap` and `smallvec`.
+#![tactic(auto)]
+
+mod declared;
+mod instr;
+mod lines;
+mod list;
+mod memory;
+mod needle;
+mod profile;
+mod rule;
+mod setting;
+mod steps;
+mod text;
+mod yarns;
+
+pub use declared::{AddName, Declared};
+pub use instr::{Instr, Quarter, Read, Reads};
+pub use lines::{Lines, Span};
+pub use list::ListOf;
+pub use memory::NoMemory;
+pub use needle::{Bed, Dir, Needle, NeedleList, needle_order};
+pub use profile::Profile;
+pub use rule::{Fault, Reason, Rule};
+pub use setting::Setting;
+pub use steps::Steps;
+pub use text::Text;
+pub use yarns::{CarrierNo, Yarns};

@@ -1,0 +1,89 @@
+//! Lines of text, kept in one buffer.
+ghost use Rattle.std.specs.Prelude.{◌≡◌, ◌<◌, ◌≤◌, [], ◌∷◌, ◌++◌, All, length, map, OnOk, OnErr, IfSome, slice_get};
+ghost use Rattle.std.specs.Option.{option_copied};
+ghost use Rattle.knit_base.specs.Lines.{IsLine, IsWithin, piece};
+
+use crate::NoMemory;
+use std::alloc::Global;
+use std::marker::Model;
+
+/// A piece of a buffer: the bytes from `start` to `end`, which isn't counted.
+#[derive(Clone, Copy, Debug, PartialEq, Eq)]
+pub struct Span {
+    pub start: usize,
+    pub end: usize,
+}
+
+/// A list of texts without a line feed, of at most 65,535 bytes each, whose bytes lie in one buffer. There are at most
+/// 16,777,217 of them.
+#[derive(Drop)]
+pub struct Lines {
+    bytes: Vec<u8>,
+    spans: Vec<Span>,
+}
+
+impl Model for Lines {
+    ghost use Rattle.std.specs.Prelude.{List, ℕ, map};
+
+    ghost Value = { List (List ℕ) };
+
+    ghost use Rattle.knit_base.specs.Lines.{AreLines, piece};
+
+    ghost view = { λ l. map (piece l.bytes.items) l.spans.items };
+
+    ghost invariant = { λ l. AreLines l.bytes.items l.spans.items };
+}
+
+impl Lines {
+    pub fn new(alloc: Global) -> Self
+        ensures { result ≡ [] }
+    {
+        Lines {
+            bytes: Vec::new(alloc),
+            spans: Vec::new(alloc),
+        }
+    }
+
+    /// The lines that lie in the buffer at these places. Nothing is copied.
+    pub fn in_buffer(bytes: Vec<u8>, spans: Vec<Span>) -> Self
+        requires few { length spans.items ≤ 16777217 }
+        requires within { All (IsWithin bytes.items) spans.items }
+        requires lines { All IsLine (map (piece bytes.items) spans.items) }
+        ensures { result ≡ map (piece bytes.items) spans.items }
+    {
+        Lines { bytes, spans }
+    }
+
+    pub fn len(&self) -> u32
+        ensures len { result ≡ length self.now }
+        ensures few { length self.now ≤ 16777217 }
+    {
+        self.spans.len() as u32
+    }
+
+    /// The line at this place, from 0.
+    pub fn get(&self, i: u32) -> Option<&str>
+        ensures found { option_copied result ≡ slice_get self.now i }
+        ensures line { IfSome result (λ line. IsLine line.now) }
+    {
+        let span = self.spans.get(i as usize)?;
+        let line = &self.bytes[span.start..span.end];
+        // SAFETY: each line is UTF-8, which the check proves here.
+        Some(unsafe { str::from_utf8_unchecked(line) })
+    }
+
+    /// Appends a copy of the line.
+    pub fn push(&mut self, s: &str) -> Result<(), NoMemory>
+        requires line { IsLine s.now }
+        requires few { length self.old < 16777217 }
+        ensures ok { OnOk result (self.new ≡ self.old ++ s.now ∷ []) }
+        ensures err { OnErr result (self.new ≡ self.old) }
+    {
+        let start = self.bytes.len();
+        self.spans.reserve(1)?;
+        self.bytes.extend_from_slice(s.as_bytes())?;
+        let end = self.bytes.len();
+        self.spans.push(Span { start, end })?;
+        Ok(())
+    }
+}

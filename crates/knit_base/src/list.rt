@@ -1,0 +1,90 @@
+//! The list that the list types of the project are made of.
+ghost use Rattle.std.specs.Prelude.{◌≡◌, ◌==◌, ◌+◌, ◌<◌, ◌^◌, ◌-◌, [], ◌∷◌, ◌++◌, length, OnOk, OnErr, IfOk, slice_get};
+ghost use Rattle.std.specs.Option.{option_copied};
+
+use crate::NoMemory;
+use std::alloc::Global;
+use std::marker::Model;
+
+/// A list that grows at its end. It has fewer than 2 ^ 32 items, so that a `u32` counts them.
+#[derive(Drop)]
+pub struct ListOf<T> {
+    items: Vec<T>,
+}
+
+impl<T> Model for ListOf<T> {
+    ghost use Rattle.std.specs.Prelude.{List, ◌<◌, ◌^◌, length};
+
+    ghost Value = { List T };
+
+    ghost view = { λ l. l.items.items };
+
+    ghost invariant = { λ l. length l.items.items < 2 ^ 32 };
+}
+
+impl<T: Drop> ListOf<T> {
+    /// The empty list, which takes no memory.
+    pub fn new(alloc: Global) -> Self
+        ensures { result ≡ [] }
+    {
+        ListOf {
+            items: Vec::new(alloc),
+        }
+    }
+
+    /// The empty list, with room for so many items.
+    pub fn with_capacity(alloc: Global, room: u32) -> Result<Self, NoMemory>
+        ensures { IfOk result (λ list. list ≡ []) }
+    {
+        let items = Vec::with_capacity(alloc, room as usize)?;
+        Ok(ListOf { items })
+    }
+
+    /// Appends an item.
+    pub fn push(&mut self, item: T) -> Result<(), NoMemory>
+        requires { length self.old < 2 ^ 32 - 1 }
+        ensures ok { OnOk result (self.new ≡ self.old ++ item ∷ []) }
+        ensures err { OnErr result (self.new ≡ self.old) }
+    {
+        self.items.push(item)?;
+        Ok(())
+    }
+
+    pub fn len(&self) -> u32
+        ensures { result ≡ length self.now }
+    {
+        self.items.len() as u32
+    }
+
+    pub fn is_empty(&self) -> bool
+        ensures { result ≡ (length self.now == 0) }
+    {
+        self.items.is_empty()
+    }
+
+    /// The item at this place, from 0.
+    pub fn get(&self, i: u32) -> Option<&T>
+        ensures { option_copied result ≡ slice_get self.now i }
+    {
+        self.items.get(i as usize)
+    }
+
+    pub fn as_slice(&self) -> &[T]
+        ensures items { result.now ≡ self.now }
+        ensures small { length self.now < 2 ^ 32 }
+    {
+        &self.items
+    }
+}
+
+impl<T: Copy + Drop> ListOf<T> {
+    /// Appends a copy of each item.
+    pub fn extend_from_slice(&mut self, more: &[T]) -> Result<(), NoMemory>
+        requires { length self.old + length more.now < 2 ^ 32 }
+        ensures ok { OnOk result (self.new ≡ self.old ++ more.now) }
+        ensures err { OnErr result (self.new ≡ self.old) }
+    {
+        self.items.extend_from_slice(more)?;
+        Ok(())
+    }
+}

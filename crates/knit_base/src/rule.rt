@@ -1,0 +1,39 @@
+//! The rules, and what is said where one is broken.
+
+/// The rules, in the order in which they are tried on a line. `docs/MODEL.md` states each.
+///
+/// The first nine need the line alone, with the profile and the declared carriers; the others need the machine's state.
+#[derive(Clone, Copy, Debug, PartialEq, Eq)]
+pub enum Rule {
+    Unreadable,
+    OffBed,
+    SliderForm,
+    SameBed,
+    TwoSliders,
+    NoCarrier,
+    CarrierTwice,
+    RackStep,
+    RackLimit,
+    CarrierIsOut,
+    CarrierIsIn,
+    HookBusy,
+    HookOther,
+    CarrierHooked,
+    NotAligned,
+    SliderHolds,
+    TooManyLoops,
+}
+
+/// A broken rule, and the place of the token that breaks it: the operation word is at 0.
+#[derive(Clone, Copy, Debug, PartialEq, Eq)]
+pub struct Reason {
+    pub rule: Rule,
+    pub at: u16,
+}
+
+/// A broken rule, and the number of its line in the file.
+#[derive(Clone, Copy, Debug, PartialEq, Eq)]
+pub struct Fault {
+    pub line: u32,
+    pub reason: Reason,
+}
