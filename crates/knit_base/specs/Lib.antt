@@ -4,4 +4,5 @@ pub mod Lines
 pub mod Names
 pub mod Needle
 pub mod Reasons
+pub mod Spelling
 pub mod Yarns
