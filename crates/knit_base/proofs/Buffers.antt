@@ -1,5 +1,5 @@
 -- Lines in a buffer that grows.
-use Rattle.std.proofs.Common.{◌≡◌, ℕ, ◌+◌, ◌-◌, ◌<◌, ◌≤◌, Some, List, [], ◌∷◌, ◌++◌, length, take, drop, get_or, map, All, ap, sym, subst, ◌∙◌, refl, arith, length-append}
+use Rattle.std.proofs.Common.{◌≡◌, ℕ, ◌+◌, ◌-◌, ◌<◌, ◌≤◌, ◌^◌, Some, List, [], ◌∷◌, ◌++◌, length, take, drop, get_or, map, All, ap, sym, subst, ◌∙◌, refl, arith, length-append}
 use Rattle.std.proofs.lemmas.List.{map-append, take-append-le, drop-append-le, length-drop, take_all, length-map, get_or-map}
 use Rattle.std.proofs.lemmas.List.Elements.{All-push, All-head, All-tail}
 use Rattle.std.proofs.lemmas.Option.{slice_get-map, slice_get-get_or}
@@ -7,7 +7,9 @@ use Rattle.std.specs.List.{slice_get}
 use Rattle.std.specs.Option.{option_map}
 use Rattle.std.proofs.Math.Seq.{drop-append_seam}
 use Rattle.knit_base.specs.declared.lines.Span.{Span}
-use Rattle.knit_base.specs.Lines.{AreLines, IsLine, IsWithin, piece}
+use Rattle.std.specs.Str.{IsUtf8}
+use Rattle.std.proofs.lemmas.Str.{is_utf8-from_IsUtf8}
+use Rattle.knit_base.specs.Lines.{AreLines, HasNoLineEnd, IsLine, IsWithin, piece}
 
 -- a piece that lies in the buffer stays as it is when the buffer grows
 piece-append : (bytes more : List ℕ) (span : Span) → IsWithin bytes span → piece (bytes ++ more) span ≡ piece bytes span
@@ -85,3 +87,7 @@ lines-pushed bytes bytes' text line spans spans' all names start end lines view 
       subst (λ b. AreLines b all) (sym buffer) (subst (AreLines (bytes ++ line)) (sym places) (lines-push bytes line spans lines is room)),
       ap (λ b. map (piece b) all) buffer ∙ ap (map (piece (bytes ++ line))) places ∙ pieces-push bytes line spans lines.within ∙ ap (λ n. n ++ line ∷ []) view,
     )
+
+-- a short text without a line feed is a line
+pub text_line : (text : List ℕ) → IsUtf8 text → HasNoLineEnd text → length text < 2 ^ 16 → IsLine text
+text_line text utf8 one short = record { utf8 = is_utf8-from_IsUtf8 text utf8; one = one; short = short }

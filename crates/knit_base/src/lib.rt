@@ -17,6 +17,8 @@ mod profile;
 mod rule;
 mod setting;
 mod steps;
+#[cfg(test)]
+mod tests;
 mod text;
 mod yarns;
 

@@ -1,7 +1,7 @@
 //! Lines of text, kept in one buffer.
-ghost use Rattle.std.specs.Prelude.{◌≡◌, ◌<◌, ◌≤◌, [], ◌∷◌, ◌++◌, All, length, map, OnOk, OnErr, IfSome, slice_get};
+ghost use Rattle.std.specs.Prelude.{◌≡◌, ◌<◌, ◌≤◌, ◌^◌, [], ◌∷◌, ◌++◌, All, length, map, OnOk, OnErr, IfSome, slice_get};
 ghost use Rattle.std.specs.Option.{option_copied};
-ghost use Rattle.knit_base.specs.Lines.{IsLine, IsWithin, piece};
+ghost use Rattle.knit_base.specs.Lines.{HasNoLineEnd, IsLine, IsWithin, piece};
 
 use crate::NoMemory;
 use std::alloc::Global;
@@ -74,7 +74,8 @@ impl Lines {
 
     /// Appends a copy of the line.
     pub fn push(&mut self, s: &str) -> Result<(), NoMemory>
-        requires line { IsLine s.now }
+        requires one { HasNoLineEnd s.now }
+        requires short { length s.now < 2 ^ 16 }
         requires few { length self.old < 16777217 }
         ensures ok { OnOk result (self.new ≡ self.old ++ s.now ∷ []) }
         ensures err { OnErr result (self.new ≡ self.old) }
