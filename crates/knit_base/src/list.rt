@@ -50,6 +50,13 @@ impl<T: Drop> ListOf<T> {
         Ok(())
     }
 
+    /// Drops all items, and keeps their room.
+    pub fn clear(&mut self)
+        ensures { self.new ≡ [] }
+    {
+        self.items.clear();
+    }
+
     pub fn len(&self) -> u32
         ensures { result ≡ length self.now }
     {
