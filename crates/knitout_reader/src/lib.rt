@@ -1,0 +1,4 @@
+//! Knitout lines, read.
+#![tactic(auto)]
+
+mod tokens;
