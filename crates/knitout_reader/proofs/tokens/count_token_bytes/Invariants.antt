@@ -1,0 +1,6 @@
+use Rattle.std.proofs.Common.{◌≡◌, take, All, false}
+use Rattle.knitout_reader.specs.Tokens.{is_blank}
+use Rattle.knitout_reader.proofs.tokens.count_token_bytes.Given as goal
+
+abbrev pub invariant-loop-at : goal.invariant-loop-at
+invariant-loop-at l = All (λ byte. is_blank byte ≡ false) (take l.at l.text)

@@ -1,0 +1,5 @@
+//! Knitout lines, read.
+#![tactic(auto)]
+
+mod number;
+mod tokens;
