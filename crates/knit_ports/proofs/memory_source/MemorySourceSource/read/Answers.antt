@@ -1,0 +1,8 @@
+use Rattle.std.proofs.Common.{ap, sym}
+use Rattle.knit_ports.proofs.Copied.{copied-read}
+use Rattle.knit_ports.proofs.memory_source.MemorySourceSource.read.Goals as goal
+
+pub returns-clause-bytes : goal.returns-clause-bytes
+returns-clause-bytes c =
+    copied-read _ _ _ _ _ _ _ _ _ c.deref-2.ensures.value (ap (λ v. v.left) (sym c.self.view_is)) c.self.invariant.0 c.self.invariant.1
+    c.copy_from_slice.ensures.after c.min.ensures c.min-count.ensures

@@ -1,0 +1,4 @@
+pub mod Edge
+pub mod Faults
+pub mod Memory
+pub mod Whole

@@ -1,0 +1,93 @@
+//! Each call once, with ample memory: which bytes come and go, and which calls fail.
+ghost use Rattle.std.specs.Prelude.{◌<◌};
+
+use crate::{
+    CalmSource, Failed, Gate, IdleGate, InputFault, MemorySink, MemorySource, ReaderSource, Sink,
+    Source, WriterSink, read_input, write_report,
+};
+use std::test::Fail;
+
+// The limit of the inputs below. It is passed on, since a number that is written out computes for long in a proof.
+fn limit() -> usize
+    ensures { result < 100 }
+{
+    7
+}
+
+#[test]
+fn a_source_in_memory_gives_pieces(rt: HostRuntime) -> Result<(), Fail> {
+    let bytes = vec![in rt.alloc(); 1, 2, 3, 4, 5]?;
+    let mut source = MemorySource::of(bytes, 2, vec![in rt.alloc(); 2]?);
+    let mut piece = [0; 4];
+    assert_eq!(rt; source.read(&mut piece), Ok(2));
+    assert_eq!(rt; piece, [1, 2, 0, 0]);
+    assert_eq!(rt; source.read(&mut piece), Err(Failed));
+    assert_eq!(rt; source.read(&mut piece[..1]), Ok(1));
+    assert_eq!(rt; piece, [3, 2, 0, 0]);
+    assert_eq!(rt; source.read(&mut piece), Ok(2));
+    assert_eq!(rt; source.read(&mut piece), Ok(0));
+    Ok(())
+}
+
+#[test]
+fn a_sink_in_memory_takes_pieces_up_to_its_room(rt: HostRuntime) -> Result<(), Fail> {
+    let mut sink = MemorySink::of(rt.alloc(), 2, 3, vec![in rt.alloc(); 2]?)?;
+    assert_eq!(rt; sink.write(&[1, 2, 3]), Ok(2));
+    assert_eq!(rt; sink.write(&[3]), Err(Failed));
+    assert_eq!(rt; sink.write(&[3, 4]), Ok(1));
+    assert_eq!(rt; sink.write(&[4]), Err(Failed));
+    assert_eq!(rt; sink.write(&[]), Ok(0));
+    Ok(())
+}
+
+#[test]
+fn an_input_is_read_whole(rt: HostRuntime) -> Result<(), Fail> {
+    let mut calm = CalmSource::of(vec![in rt.alloc(); 1, 2, 3]?);
+    let input = read_input(rt.alloc(), &mut calm, limit())?;
+    assert_eq!(rt; input.as_slice(), [1, 2, 3].as_slice());
+
+    let nine = vec![in rt.alloc(); 1, 2, 3, 4, 5, 6, 7, 8, 9]?;
+    let mut large = MemorySource::of(nine, 3, Vec::new(rt.alloc()));
+    let input = read_input(rt.alloc(), &mut large, limit())?;
+    assert_eq!(rt; input.as_slice(), [1, 2, 3, 4, 5, 6, 7, 8].as_slice());
+
+    let failing = vec![in rt.alloc(); 2]?;
+    let mut broken = MemorySource::of(vec![in rt.alloc(); 1, 2, 3]?, 2, failing);
+    match read_input(rt.alloc(), &mut broken, limit()) {
+        Ok(_) => assert!(rt; false),
+        Err(fault) => assert_eq!(rt; fault, InputFault::Failed),
+    }
+    Ok(())
+}
+
+#[test]
+fn a_report_is_written_whole(rt: HostRuntime) -> Result<(), Fail> {
+    let mut sink = MemorySink::of(rt.alloc(), 2, 3, Vec::new(rt.alloc()))?;
+    assert_eq!(rt; write_report(&mut sink, &[1, 2, 3]), Ok(()));
+    assert_eq!(rt; write_report(&mut sink, &[4]), Err(Failed));
+    Ok(())
+}
+
+#[test]
+fn the_edge_passes_bytes_on(rt: HostRuntime) -> Result<(), Fail> {
+    let text = [1, 2, 3];
+    let mut source = ReaderSource::of(text.as_slice());
+    let mut piece = [0; 2];
+    assert_eq!(rt; source.read(&mut piece), Ok(2));
+    assert_eq!(rt; piece, [1, 2]);
+    assert_eq!(rt; source.read(&mut piece), Ok(1));
+    assert_eq!(rt; source.read(&mut piece), Ok(0));
+
+    let mut written: Vec<u8> = Vec::new(rt.alloc());
+    let mut sink = WriterSink::of(&mut written);
+    assert_eq!(rt; write_report(&mut sink, &[1, 2, 3]), Ok(()));
+    assert_eq!(rt; written.as_slice(), [1, 2, 3].as_slice());
+    Ok(())
+}
+
+#[test]
+fn an_idle_gate_holds_nobody(rt: HostRuntime) {
+    let gate = IdleGate;
+    gate.before(&rt, 0, 1);
+    gate.after(&rt, 0, 1);
+}
