@@ -1,4 +1,5 @@
 pub mod Digits
+pub mod Named
 pub mod Signs
 pub mod Splitting
 pub mod Unique

@@ -1,5 +1,6 @@
 //! Knitout lines, read.
 #![tactic(auto)]
 
+mod carriers;
 mod number;
 mod tokens;
