@@ -75,6 +75,7 @@ impl Declared {
     pub fn find(&self, name: &str) -> Option<CarrierNo>
         ensures found { result ≡ carrier_of self.now name.now }
         ensures carrier { IfSome result (λ c. c.0 < length self.now) }
+        ensures few { length self.now ≤ 64 }
     {
         self.find_bytes(name.as_bytes())
     }
@@ -83,6 +84,7 @@ impl Declared {
     pub fn find_bytes(&self, name: &[u8]) -> Option<CarrierNo>
         ensures found { result ≡ carrier_of self.now name.now }
         ensures carrier { IfSome result (λ c. c.0 < length self.now) }
+        ensures few { length self.now ≤ 64 }
     {
         match place_of(self.names.as_slice(), name) {
             Some(at) => Some(CarrierNo(at as u8)),

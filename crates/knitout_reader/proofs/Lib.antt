@@ -1,2 +1,5 @@
 pub mod Heads
+pub mod Digits
+pub mod Signs
 pub mod Splitting
+pub mod Unique

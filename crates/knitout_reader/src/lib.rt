@@ -2,6 +2,7 @@
 #![tactic(auto)]
 
 mod head;
+mod number;
 mod tokens;
 
 pub use head::{Head, HeadFault, read_head};
