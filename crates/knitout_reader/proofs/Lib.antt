@@ -1,3 +1,4 @@
+pub mod Heads
 pub mod Digits
 pub mod Named
 pub mod Signs

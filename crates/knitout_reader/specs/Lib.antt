@@ -1,3 +1,4 @@
 pub mod Carriers
+pub mod Head
 pub mod Numbers
 pub mod Tokens

@@ -2,5 +2,8 @@
 #![tactic(auto)]
 
 mod carriers;
+mod head;
 mod number;
 mod tokens;
+
+pub use head::{Head, HeadFault, read_head};

@@ -1,0 +1,190 @@
+//! The head of a file.
+ghost use Rattle.std.specs.Prelude.{◌≡◌, ◌+◌, ◌<◌, ◌≤◌, [], ◌∷◌, All, IfOk, IfErr, IfSome, MatchOption, MatchResult, true, false, nat_eq, length, take, drop, slice_index_or};
+ghost use Rattle.std.specs.List.{list_any, list_all};
+ghost use Rattle.std.specs.Str.{bytes_eq};
+ghost use Rattle.knit_base.specs.Lines.{IsLine};
+ghost use Rattle.knitout_reader.specs.Tokens.{is_blank, tokens_of};
+ghost use Rattle.knitout_reader.specs.Head.{is_magic, is_head_line, head_len, head_of, is_carriers_line, names_of, carriers_word, carriers_headers, has_name_twice, names_declared, one_declared, IsHead, IsHeadFault, IsRefusal, IsNamesText};
+
+use crate::tokens::next_token;
+use knit_base::{AddName, Declared, Lines};
+use std::alloc::Global;
+
+// What a file begins with.
+const MAGIC: &[u8] = b";!knitout-2";
+
+// What the header that names the carriers begins with.
+const CARRIERS: &[u8] = b";;Carriers:";
+
+/// The head of a file: how many lines it has, and the carriers that its header declares.
+#[derive(Drop)]
+pub struct Head {
+    pub lines: u32,
+    pub declared: Declared,
+}
+
+/// Why a head is refused. Where several reasons hold over the whole head, the first of them is told. Lines count from 1.
+#[derive(Clone, Copy, Debug, PartialEq, Eq)]
+pub enum HeadFault {
+    /// There is no first line, or it isn't `;!knitout-2` and blanks.
+    BadMagic,
+    /// No line of the head begins with `;;Carriers:`.
+    NoCarriers,
+    /// This line is the second of the head that begins with `;;Carriers:`.
+    TwoCarriers { line: u32 },
+    /// The header at this line gives a name twice.
+    CarrierNameTwice { line: u32 },
+    /// The header at this line gives more than 64 names.
+    ManyCarriers { line: u32 },
+    NoMemory,
+}
+
+// A header that names the carriers: the number of its line, from 1, and what stands behind its colon.
+#[derive(Clone, Copy)]
+struct Header<'a> {
+    line: u32,
+    names: &'a [u8],
+}
+
+/// Reads the head of a file: its first line, and the lines behind it that are blank or have a `;` as their first byte, up
+/// to the first other line.
+pub fn read_head(alloc: Global, lines: &Lines) -> Result<Head, HeadFault>
+    requires short { All (λ line. length line < 65535) lines.now }
+    ensures head { IfOk result (λ head. IsHead lines.now head) }
+    ensures fault { IfErr result (λ fault. IsHeadFault lines.now fault) }
+{
+    if lines.len() == 0 || !is_magic(line_at(lines, 0).as_bytes()) {
+        return Err(HeadFault::BadMagic);
+    }
+    let len = count_head_lines(lines);
+    let Some(header) = next_header(lines, 0, len) else {
+        return Err(HeadFault::NoCarriers);
+    };
+    if let Some(second) = next_header(lines, header.line, len) {
+        return Err(HeadFault::TwoCarriers { line: second.line });
+    }
+    let declared = read_names(alloc, header.names, header.line)?;
+    Ok(Head {
+        lines: len,
+        declared,
+    })
+}
+
+fn line_at(lines: &Lines, i: u32) -> &str
+    requires { i < length lines.now }
+    ensures text { result.now ≡ slice_index_or lines.now i [] }
+    ensures line { IsLine result.now }
+{
+    lines.get(i).unwrap()
+}
+
+fn is_blank_text(text: &[u8]) -> bool
+    ensures { result ≡ list_all is_blank text.now }
+{
+    text.iter().all(|byte| *byte == b' ' || *byte == b'\t')
+}
+
+fn is_magic(line: &[u8]) -> bool
+    ensures { result ≡ is_magic line.now }
+{
+    line.starts_with(MAGIC) && is_blank_text(&line[MAGIC.len()..])
+}
+
+fn is_head_line(line: &[u8]) -> bool
+    ensures { result ≡ is_head_line line.now }
+{
+    line.starts_with(b";") || is_blank_text(line)
+}
+
+// How many lines the head has.
+fn count_head_lines(lines: &Lines) -> u32
+    requires { 0 < length lines.now }
+    ensures len { result ≡ head_len lines.now }
+    ensures within { result ≤ length lines.now }
+{
+    for i in 1..lines.len() {
+        if !is_head_line(line_at(lines, i).as_bytes()) {
+            return i;
+        }
+    }
+    lines.len()
+}
+
+// The next header of the head that names the carriers, from this place of the lines on.
+fn next_header(lines: &Lines, from: u32, len: u32) -> Option<Header<'_>>
+    requires short { All (λ line. length line < 65535) lines.now }
+    requires within { len ≤ length lines.now }
+    requires start { from ≤ len }
+    ensures next { let head = take len lines.now in MatchOption result
+        (carriers_headers (from + 1) (drop from head) ≡ [])
+        (λ h. carriers_headers (from + 1) (drop from head) ≡ record { line = h.line; names = tokens_of h.names.now } ∷ carriers_headers (h.line + 1) (drop h.line head)) }
+    ensures line { IfSome result (λ h. h.line ≤ len) }
+    ensures text { IfSome result (λ h. IsNamesText h.names.now) }
+{
+    for i in from..len {
+        if let Some(names) = names_text(line_at(lines, i)) {
+            return Some(Header { line: i + 1, names });
+        }
+    }
+    None
+}
+
+// What stands behind the colon of a header that names the carriers.
+fn names_text(line: &str) -> Option<&[u8]>
+    requires line { IsLine line.now }
+    requires short { length line.now < 65535 }
+    ensures header { MatchOption result (is_carriers_line line.now ≡ false) (λ text. (is_carriers_line line.now ≡ true) × (text.now ≡ drop (length carriers_word) line.now)) }
+    ensures text { IfSome result (λ text. IsNamesText text.now) }
+{
+    line.as_bytes().strip_prefix(CARRIERS)
+}
+
+// The carriers that the header at this line declares.
+fn read_names(alloc: Global, text: &[u8], line: u32) -> Result<Declared, HeadFault>
+    requires { IsNamesText text.now }
+    ensures names { let answer = names_declared (record { line = line; names = tokens_of text.now }) in MatchResult result (λ declared. answer ≡ Ok declared) (λ fault. IsRefusal answer fault) }
+{
+    if has_name_twice(text) {
+        return Err(HeadFault::CarrierNameTwice { line });
+    }
+    let mut declared = Declared::new(alloc);
+    let mut rest = text;
+    while let Some((name, after)) = next_token(rest) {
+        let name = str::from_utf8(name).unwrap();
+        match declared.add(name) {
+            Ok(()) => rest = after,
+            Err(AddName::Twice) => return Err(HeadFault::CarrierNameTwice { line }),
+            Err(AddName::Many) => return Err(HeadFault::ManyCarriers { line }),
+            Err(AddName::NoMemory) => return Err(HeadFault::NoMemory),
+        }
+    }
+    Ok(declared)
+}
+
+// Whether some name stands twice. Each name is compared with those behind it, which takes no memory.
+fn has_name_twice(text: &[u8]) -> bool
+    ensures { result ≡ has_name_twice (tokens_of text.now) }
+{
+    let mut rest = text;
+    while let Some((name, after)) = next_token(rest) {
+        if has_name(after, name) {
+            return true;
+        }
+        rest = after;
+    }
+    false
+}
+
+// Whether this name is among those of the text.
+fn has_name(text: &[u8], name: &[u8]) -> bool
+    ensures { result ≡ list_any (bytes_eq name.now) (tokens_of text.now) }
+{
+    let mut rest = text;
+    while let Some((other, after)) = next_token(rest) {
+        if name == other {
+            return true;
+        }
+        rest = after;
+    }
+    false
+}
