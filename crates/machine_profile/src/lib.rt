@@ -1,0 +1,172 @@
+//! The limits of a machine, chosen by options.
+//!
+//! Promises that the options of a command line are refused exactly where one of them lies outside its bounds, the first in
+//! the order of `Which`, and otherwise give the limits that they say, which are lawful. Definitions: `specs/Bounds`.
+//! Below it stands `knit_base`. It takes no memory.
+#![tactic(auto)]
+
+ghost use Rattle.std.specs.Prelude.{◌≡◌, ◌≤◌, ◌≤ℤ◌, negsuc, pos, IfOk, MatchResult, None, Some};
+ghost use Rattle.knit_base.specs.Limits.{IsLawfulProfile};
+ghost use Rattle.machine_profile.specs.Bounds.{HasValues, IsBlockSize, IsChosen, outside, refused};
+
+use knit_base::Profile;
+
+// Needles, by their numbers on a bed.
+const LEAST_NEEDLE: i64 = -4096;
+
+const GREATEST_NEEDLE: i64 = 4096;
+
+const USUAL_LOW: i64 = -1024;
+
+const USUAL_HIGH: i64 = 1023;
+
+// How far the beds rack, in needles.
+const LEAST_RACK: i64 = 0;
+
+const GREATEST_RACK: i64 = 64;
+
+const USUAL_RACK: i64 = 8;
+
+// Loops on one needle.
+const LEAST_HOLD: i64 = 1;
+
+const GREATEST_HOLD: i64 = 64;
+
+const USUAL_HOLD: i64 = 16;
+
+// Body lines of an opening block.
+const LEAST_BLOCK: i64 = 1;
+
+const GREATEST_BLOCK: i64 = 4096;
+
+const USUAL_BLOCK: i64 = 64;
+
+/// The values that the options of a command line give; one that isn't given has its usual value.
+#[derive(Clone, Copy, Debug, PartialEq, Eq)]
+pub struct Options {
+    /// The lowest needle of a bed.
+    pub low: Option<i64>,
+    /// The highest needle of a bed.
+    pub high: Option<i64>,
+    /// How far the beds rack to either side, in needles.
+    pub rack: Option<i64>,
+    /// How many loops a needle may hold.
+    pub hold: Option<i64>,
+    /// How many body lines an opening block has.
+    pub block: Option<i64>,
+}
+
+/// The limits of the machine, and how many body lines an opening block has.
+#[derive(Clone, Copy, Debug, PartialEq, Eq)]
+pub struct Chosen {
+    pub profile: Profile,
+    pub block: u32,
+}
+
+/// One of the options.
+#[derive(Clone, Copy, Debug, PartialEq, Eq)]
+pub enum Which {
+    Low,
+    High,
+    Rack,
+    Hold,
+    Block,
+}
+
+/// An option that is refused.
+#[derive(Clone, Copy, Debug, PartialEq, Eq)]
+pub struct BadOption {
+    pub which: Which,
+}
+
+/// The value of an option, unless it lies outside its bounds.
+fn within(which: Which, least: i64, greatest: i64, value: i64) -> Result<i64, BadOption>
+    ensures exact { MatchResult result (λ v. (outside which least greatest value ≡ None) × (v ≡ value))
+        (λ bad. outside which least greatest value ≡ Some bad.which) }
+    ensures bounds { IfOk result (λ v. (least ≤ℤ v) × (v ≤ℤ greatest)) }
+{
+    if value < least || value > greatest {
+        return Err(BadOption { which });
+    }
+    Ok(value)
+}
+
+/// The limits with these values, which lie within their bounds.
+fn chosen_with(low: i64, high: i64, rack: i64, hold: i64, block: i64) -> Chosen
+    requires low { negsuc 4095 ≤ℤ low }
+    requires ordered { low ≤ℤ high }
+    requires high { high ≤ℤ pos 4096 }
+    requires rack { (pos 0 ≤ℤ rack) × (rack ≤ℤ pos 64) }
+    requires hold { (pos 1 ≤ℤ hold) × (hold ≤ℤ pos 64) }
+    requires block { (pos 1 ≤ℤ block) × (block ≤ℤ pos 4096) }
+    ensures values { HasValues low high rack hold block result }
+    ensures lawful { IsLawfulProfile result.profile }
+    ensures block { IsBlockSize result.block }
+{
+    let profile = Profile {
+        low: low as i16,
+        high: high as i16,
+        rack: rack as u8,
+        hold: hold as u8,
+    };
+    Chosen {
+        profile,
+        block: block as u32,
+    }
+}
+
+/// The limits that the options choose, or the first option that is refused, in the order of `Which`. A highest needle below
+/// the lowest is refused as `High`.
+pub fn profile_of(options: &Options) -> Result<Chosen, BadOption>
+    ensures refuses { MatchResult result (λ _. refused options.now ≡ None)
+        (λ bad. refused options.now ≡ Some bad.which) }
+    ensures values { IfOk result (IsChosen options.now) }
+    ensures lawful { IfOk result (λ chosen. IsLawfulProfile chosen.profile) }
+    ensures block { IfOk result (λ chosen. IsBlockSize chosen.block) }
+{
+    let low = options.low.unwrap_or(USUAL_LOW);
+    let low = within(Which::Low, LEAST_NEEDLE, GREATEST_NEEDLE, low)?;
+    let high = options.high.unwrap_or(USUAL_HIGH);
+    let high = within(Which::High, low, GREATEST_NEEDLE, high)?;
+    let rack = options.rack.unwrap_or(USUAL_RACK);
+    let rack = within(Which::Rack, LEAST_RACK, GREATEST_RACK, rack)?;
+    let hold = options.hold.unwrap_or(USUAL_HOLD);
+    let hold = within(Which::Hold, LEAST_HOLD, GREATEST_HOLD, hold)?;
+    let block = options.block.unwrap_or(USUAL_BLOCK);
+    let block = within(Which::Block, LEAST_BLOCK, GREATEST_BLOCK, block)?;
+    Ok(chosen_with(low, high, rack, hold, block))
+}
+
+#[cfg(test)]
+mod tests {
+    use super::*;
+
+    const NONE: Options = Options {
+        low: None,
+        high: None,
+        rack: None,
+        hold: None,
+        block: None,
+    };
+
+    #[test]
+    fn the_usual_values_are_chosen(rt: HostRuntime) {
+        let profile = Profile {
+            low: -1024,
+            high: 1023,
+            rack: 8,
+            hold: 16,
+        };
+        assert!(rt; profile_of(&NONE) == Ok(Chosen { profile, block: 64 }));
+    }
+
+    #[test]
+    fn the_first_option_outside_is_refused(rt: HostRuntime) {
+        let options = Options {
+            hold: Some(65),
+            block: Some(0),
+            ..NONE
+        };
+        assert!(rt; profile_of(&options) == Err(BadOption { which: Which::Hold }));
+    }
+}
