@@ -1,0 +1,6 @@
+pub mod Broken
+pub mod Carriers
+pub mod Listed
+pub mod Machines
+pub mod Needs
+pub mod Reached

@@ -1,0 +1,83 @@
+-- What a lawful line that breaks no rule needs is there.
+use Rattle.std.proofs.Common.{◌≡◌, ℕ, ◌+◌, ◌<◌, ◌≤◌, Bool, true, false, nat_lt, List, [], ◌∷◌, length, Option, None, Some, is_some, All, get_or, subst, sym, ap, refl, arith}
+use Rattle.std.proofs.lemmas.List.Elements.{All-get_or, All-same}
+use Rattle.std.proofs.lemmas.Bool.{true≢false, ltb-false}
+use Rattle.knit_base.specs.Lawful.{IsLawful, IsLawfulRead}
+use Rattle.knit_base.specs.Limits.{IsLawfulProfile}
+use Rattle.knit_base.specs.Reasons.{broken_if, or_else}
+use Rattle.knit_base.specs.declared.instr.Instr.TheVariants.{CarryIn, CarryOut, HookIn, HookOut, Knit, Tuck, Miss, Split, Xfer}
+use Rattle.knit_base.specs.declared.instr.Instr.{Instr}
+use Rattle.knit_base.specs.declared.instr.Read.{Read}
+use Rattle.knit_base.specs.declared.instr.Read.TheVariants as read
+use Rattle.knit_base.specs.declared.rule.Rule.{Rule}
+use Rattle.knit_base.specs.declared.rule.Reason.{Reason}
+use Rattle.knit_base.specs.declared.profile.Profile.{Profile}
+use Rattle.carriage_model.specs.declared.machine.Machine.{Machine}
+use Rattle.carriage_model.specs.State.{State}
+use Rattle.carriage_model.specs.Rules.{broken, broken_instr, carriers_out, not_aligned, slider_holds, too_many}
+use Rattle.carriage_model.specs.Machine.{Represents, HasPlaces, HasPlacesInLine, HasRoom, HasRoomInLine}
+
+instr_has-places : (profile : Profile) (d : ℕ) (i : Instr) → IsLawful profile d i → HasPlaces i
+instr_has-places profile d (CarryIn cs) lawful = lawful.places
+instr_has-places profile d (CarryOut cs) lawful = lawful.places
+instr_has-places profile d (HookIn cs) lawful = lawful.places
+instr_has-places profile d (HookOut cs) lawful = lawful.places
+instr_has-places profile d (Knit dir n cs) lawful = lawful.2.places
+instr_has-places profile d (Tuck dir n cs) lawful = lawful.2.places
+instr_has-places profile d (Miss dir n cs) lawful = lawful.1.places
+instr_has-places profile d (Split dir n n2 cs) lawful = lawful.4.places
+instr_has-places profile d i lawful = tt
+
+pub line_has-places : (profile : Profile) (d : ℕ) (r : Read) → IsLawfulRead profile d r → HasPlacesInLine r
+line_has-places profile d (read.Instr i) lawful = instr_has-places profile d i lawful
+line_has-places profile d r lawful = tt
+
+-- a reading of the list is lawful
+pub lawful-item : (profile : Profile) (d : ℕ) (items reads : List Read) (i : ℕ) (r : Read) → items ≡ reads → All (IsLawfulRead profile d) reads → i < length items → r ≡ get_or items i r
+    → IsLawfulRead profile d r
+lawful-item profile d items reads i r same lawful within is =
+    subst (IsLawfulRead profile d) (sym is) (All-get_or (IsLawfulRead profile d) items i r within (All-same (IsLawfulRead profile d) items reads same lawful))
+
+second-none : (first second : Option Reason) → or_else first second ≡ None → second ≡ None
+second-none None second e = e
+second-none (Some reason) second e = absurd (true≢false (ap is_some e))
+
+test-none : (test : Bool) (rule : Rule) (at : ℕ) → broken_if test rule at ≡ None → test ≡ false
+test-none true rule at e = absurd (true≢false (ap is_some e))
+test-none false rule at e = refl
+
+few : (profile : Profile) (loops at : ℕ) → IsLawfulProfile profile → too_many profile loops at ≡ None → loops ≤ 64
+few profile loops at limits sound = omega (arith, limits.hold, ltb-false profile.hold loops (test-none (nat_lt profile.hold loops) _ at sound))
+
+instr_has-room : (profile : Profile) (d : ℕ) (i : Instr) (machine : Machine) (s : State) → IsLawfulProfile profile → IsLawful profile d i → Represents machine s → broken_instr profile i s ≡ None
+    → HasRoom machine i
+instr_has-room profile d (Tuck dir n []) machine s limits lawful here sound = tt
+instr_has-room profile d (Tuck dir n (c ∷ cs)) machine s limits lawful here sound =
+    omega (
+      arith,
+      ap length (here.stacks n),
+      few profile (length (s.stacks n) + 1) 2 limits (second-none (slider_holds s n) _ (second-none (carriers_out s 3 (c ∷ cs)) _ sound)),
+    )
+instr_has-room profile d (Split dir n n2 []) machine s limits lawful here sound = record {
+  sides = lawful.2.sides;
+  room = omega (arith, ap length (here.stacks n), ap length (here.stacks n2), few profile (length (s.stacks n2) + length (s.stacks n)) 3 limits (second-none (not_aligned s n n2 3) _ sound));
+}
+instr_has-room profile d (Split dir n n2 (c ∷ cs)) machine s limits lawful here sound = record {
+  sides = lawful.2.sides;
+  room = omega (
+    arith,
+    ap length (here.stacks n),
+    ap length (here.stacks n2),
+    few profile (length (s.stacks n2) + length (s.stacks n)) 3 limits (second-none (slider_holds s n) _ (second-none (not_aligned s n n2 3) _ (second-none (carriers_out s 4 (c ∷ cs)) _ sound))),
+  );
+}
+instr_has-room profile d (Xfer n n2) machine s limits lawful here sound = record {
+  sides = lawful.2.sides;
+  room = omega (arith, ap length (here.stacks n), ap length (here.stacks n2), few profile (length (s.stacks n2) + length (s.stacks n)) 2 limits (second-none (not_aligned s n n2 2) _ sound));
+}
+instr_has-room profile d i machine s limits lawful here sound = tt
+
+pub line_has-room : (profile : Profile) (d : ℕ) (r : Read) (machine : Machine) (s : State) → IsLawfulProfile profile → IsLawfulRead profile d r → Represents machine s → broken profile r s ≡ None
+    → HasRoomInLine machine r
+line_has-room profile d (read.Instr i) machine s limits lawful here sound = instr_has-room profile d i machine s limits lawful here sound
+line_has-room profile d r machine s limits lawful here sound = tt

@@ -1,0 +1,9 @@
+use Rattle.std.proofs.Common.{◌<◌, length, arith}
+use Rattle.std.proofs.lemmas.Result.{IfOk-weaker}
+use Rattle.carriage_model.proofs.Machines.{split-step}
+use Rattle.carriage_model.proofs.machine.Machine.step_split.Goals as goal
+
+pub returns-clause-ok : goal.returns-clause-ok
+returns-clause-ok c =
+    let some : 0 < length c.args.yarns.now = omega (arith, c.len.ensures, c.if-len-eq0.false) in
+    IfOk-weaker c.knit_off.result _ _ (λ _ formed. split-step _ _ _ _ _ _ _ some c.in_ok-transfer.ensures.ok formed) c.knit_off.ensures.ok

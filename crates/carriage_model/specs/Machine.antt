@@ -1,0 +1,111 @@
+-- What the program keeps, and the state that it stands for.
+use Rattle.std.specs.Prelude.{◌≡◌, ◌≢◌, ℕ, ◌+◌, ◌<◌, ◌^◌, List, [], ◌∷◌, length, unwrap_or, IfSome}
+use Rattle.std.specs.BTreeMap.{get, btree_map_len}
+use Rattle.knit_base.specs.declared.instr.Instr.{Instr}
+use Rattle.knit_base.specs.declared.instr.Instr.TheVariants.{CarryIn, CarryOut, HookIn, HookOut, ReleaseHook, Stitch, Pause, Extension, Rack, Knit, Tuck, Miss, Split, Xfer, Drop, Amiss}
+use Rattle.knit_base.specs.declared.instr.Read.{Read}
+use Rattle.knit_base.specs.declared.instr.Read.TheVariants as read
+use Rattle.knit_base.specs.declared.needle.Needle.{Needle}
+use Rattle.knit_base.specs.declared.yarns.CarrierNo.{CarrierNo}
+use Rattle.knit_base.specs.Needle.{needle_cmp, is_front}
+use Rattle.carriage_model.specs.declared.machine.Machine.{Machine}
+use Rattle.carriage_model.specs.declared.verdict.Stack.{Stack}
+use Rattle.carriage_model.specs.State.{State}
+
+-- the loops that the machine keeps for a needle
+abbrev pub stack_of : Machine → Needle → List ℕ
+stack_of machine n = unwrap_or (get needle_cmp machine.stacks n) []
+
+-- how many needles the machine keeps
+abbrev pub needles_kept : Machine → ℕ
+needles_kept machine = btree_map_len machine.stacks
+
+-- no needle is kept without loops
+abbrev pub IsTidy : Machine → Type 0
+IsTidy machine = (n : Needle) → IfSome (get needle_cmp machine.stacks n) (λ loops. 0 < length loops)
+
+-- an entry of the machine's map as a list has it
+abbrev pub stack_from : Needle × List ℕ → Stack
+stack_from entry = record { needle = entry.0; loops = entry.1 }
+
+-- the machine stands so
+pub record Represents (machine : Machine) (s : State) : Type 0 where
+  pub rack : machine.rack.0 ≡ s.rack
+  pub ins : machine.ins ≡ s.ins
+  pub hook : machine.hook ≡ s.hook
+  pub stacks : (n : Needle) → stack_of machine n ≡ s.stacks n
+  pub nonempty : IsTidy machine
+
+-- the needles now hold these loops, and all else is as it was
+pub record Holds (old new : Machine) (stacks : Needle → List ℕ) : Type 0 where
+  pub rack : new.rack ≡ old.rack
+  pub ins : new.ins ≡ old.ins
+  pub hook : new.hook ≡ old.hook
+  pub stacks_are : (n : Needle) → stack_of new n ≡ stacks n
+  pub nonempty : IsTidy old → IsTidy new
+
+-- the places of these carriers' tokens, of which the first is at this place, fit in 16 bits
+abbrev pub FitsPlaces : ℕ → List CarrierNo → Type 0
+FitsPlaces at cs = at + length cs < 2 ^ 16
+
+-- the places of the instruction's carriers fit in 16 bits
+abbrev pub HasPlaces : Instr → Type 0
+HasPlaces (CarryIn cs) = FitsPlaces 1 cs
+HasPlaces (CarryOut cs) = FitsPlaces 1 cs
+HasPlaces (HookIn cs) = FitsPlaces 1 cs
+HasPlaces (HookOut cs) = FitsPlaces 1 cs
+HasPlaces (ReleaseHook cs) = Unit {0}
+HasPlaces Stitch = Unit {0}
+HasPlaces Pause = Unit {0}
+HasPlaces Extension = Unit {0}
+HasPlaces (Rack q) = Unit {0}
+HasPlaces (Knit dir n cs) = FitsPlaces 3 cs
+HasPlaces (Tuck dir n cs) = FitsPlaces 3 cs
+HasPlaces (Miss dir n cs) = FitsPlaces 3 cs
+HasPlaces (Split dir n n2 cs) = FitsPlaces 4 cs
+HasPlaces (Xfer n n2) = Unit {0}
+HasPlaces (Drop n) = Unit {0}
+HasPlaces (Amiss n) = Unit {0}
+
+-- the places of the line's carriers fit in 16 bits
+abbrev pub HasPlacesInLine : Read → Type 0
+HasPlacesInLine read.Blank = Unit {0}
+HasPlacesInLine read.Comment = Unit {0}
+HasPlacesInLine (read.Broken reason) = Unit {0}
+HasPlacesInLine (read.Instr i) = HasPlaces i
+
+-- all loops of the first needle can go over to the second, on the other side
+pub record CanGoOver (machine : Machine) (n n2 : Needle) : Type 0 where
+  pub sides : is_front n.bed ≢ is_front n2.bed
+  pub room : length (stack_of machine n2) + length (stack_of machine n) < 2 ^ 32
+
+-- a needle has room for one more loop, where there are carriers to form it of
+abbrev pub HasRoomForLoop : Machine → Needle → List CarrierNo → Type 0
+HasRoomForLoop machine n [] = Unit {0}
+HasRoomForLoop machine n (c ∷ cs) = length (stack_of machine n) + 1 < 2 ^ 32
+
+-- the loops that the instruction moves and makes have room on their needles
+abbrev pub HasRoom : Machine → Instr → Type 0
+HasRoom machine (CarryIn cs) = Unit {0}
+HasRoom machine (CarryOut cs) = Unit {0}
+HasRoom machine (HookIn cs) = Unit {0}
+HasRoom machine (HookOut cs) = Unit {0}
+HasRoom machine (ReleaseHook cs) = Unit {0}
+HasRoom machine Stitch = Unit {0}
+HasRoom machine Pause = Unit {0}
+HasRoom machine Extension = Unit {0}
+HasRoom machine (Rack q) = Unit {0}
+HasRoom machine (Knit dir n cs) = Unit {0}
+HasRoom machine (Tuck dir n cs) = HasRoomForLoop machine n cs
+HasRoom machine (Miss dir n cs) = Unit {0}
+HasRoom machine (Split dir n n2 cs) = CanGoOver machine n n2
+HasRoom machine (Xfer n n2) = CanGoOver machine n n2
+HasRoom machine (Drop n) = Unit {0}
+HasRoom machine (Amiss n) = Unit {0}
+
+-- the loops that the line moves and makes have room on their needles
+abbrev pub HasRoomInLine : Machine → Read → Type 0
+HasRoomInLine machine read.Blank = Unit {0}
+HasRoomInLine machine read.Comment = Unit {0}
+HasRoomInLine machine (read.Broken reason) = Unit {0}
+HasRoomInLine machine (read.Instr i) = HasRoom machine i

@@ -1,0 +1,221 @@
+//! The rules that need the machine's state.
+ghost use Rattle.std.specs.Prelude.{◌≡◌, ◌+◌, ◌<◌, ◌^◌, length, position};
+ghost use Rattle.knit_base.specs.Needle.{own_slider};
+ghost use Rattle.knit_base.specs.Reasons.{broken_if, first_broken, or_else};
+ghost use Rattle.knit_base.specs.Yarns.{contains_carrier, lacks_carrier, AreCarriers};
+ghost use Rattle.carriage_model.specs.State.{State};
+ghost use Rattle.carriage_model.specs.Rules.{broken, broken_instr, broken_knit, broken_tuck, broken_split, carriers_out, carriers_in, carriers_hooked, hook_busy, hook_other, not_aligned, slider_holds, too_many, rack_facing};
+
+use crate::machine::Machine;
+use knit_base::{Bed, CarrierNo, Instr, Needle, Profile, Read, Reason, Rule, Yarns};
+
+impl Machine {
+    ghost use Rattle.carriage_model.specs.Machine.{Represents, HasPlaces, HasPlacesInLine, FitsPlaces, stack_of};
+
+    /// The first rule that the line breaks.
+    pub fn broken(&self, profile: &Profile, read: &Read) -> Option<Reason>
+        requires { HasPlacesInLine read.now }
+        ensures { (s : State) → Represents self.now s → result ≡ broken profile.now read.now s }
+    {
+        match read {
+            Read::Instr(instr) => self.broken_instr(profile, instr),
+            Read::Broken(reason) => Some(*reason),
+            Read::Blank | Read::Comment => None,
+        }
+    }
+
+    fn broken_instr(&self, profile: &Profile, instr: &Instr) -> Option<Reason>
+        requires { HasPlaces instr.now }
+        ensures { (s : State) → Represents self.now s → result ≡ broken_instr profile.now instr.now s }
+    {
+        match instr {
+            Instr::CarryIn(yarns) => self.carriers_in(1, yarns),
+            Instr::CarryOut(yarns) => {
+                first_of(self.carriers_out(1, yarns), self.carriers_hooked(1, yarns))
+            }
+            Instr::HookIn(yarns) => first_of(self.carriers_in(1, yarns), self.hook_busy()),
+            Instr::HookOut(yarns) => first_of(self.carriers_out(1, yarns), self.hook_busy()),
+            Instr::ReleaseHook(yarns) => self.hook_other(yarns),
+            Instr::Knit(_, n, yarns) => self.broken_knit(*n, yarns),
+            Instr::Tuck(_, n, yarns) => self.broken_tuck(profile, *n, yarns),
+            Instr::Miss(_, _, yarns) => self.carriers_out(3, yarns),
+            Instr::Split(_, n, n2, yarns) => self.broken_split(profile, *n, *n2, yarns),
+            Instr::Xfer(n, n2) => {
+                first_of(
+                    self.not_aligned(*n, *n2, 2),
+                    self.too_many_together(profile, *n, *n2, 2),
+                )
+            }
+            Instr::Stitch | Instr::Pause | Instr::Extension => None,
+            Instr::Rack(_) | Instr::Drop(_) | Instr::Amiss(_) => None,
+        }
+    }
+
+    fn broken_knit(&self, n: Needle, yarns: &Yarns) -> Option<Reason>
+        requires { FitsPlaces 3 yarns.now }
+        ensures { (s : State) → Represents self.now s → result ≡ broken_knit n yarns.now s }
+    {
+        if yarns.len() == 0 {
+            return None;
+        }
+        first_of(self.carriers_out(3, yarns), self.slider_holds(n))
+    }
+
+    fn broken_tuck(&self, profile: &Profile, n: Needle, yarns: &Yarns) -> Option<Reason>
+        requires { FitsPlaces 3 yarns.now }
+        ensures { (s : State) → Represents self.now s → result ≡ broken_tuck profile.now n yarns.now s }
+    {
+        if yarns.len() == 0 {
+            return None;
+        }
+        let loops = u64::from(self.loops_on(n)) + 1;
+        let later = first_of(self.slider_holds(n), too_many(profile, loops, 2));
+        first_of(self.carriers_out(3, yarns), later)
+    }
+
+    fn broken_split(
+        &self,
+        profile: &Profile,
+        n: Needle,
+        n2: Needle,
+        yarns: &Yarns,
+    ) -> Option<Reason>
+        requires { FitsPlaces 4 yarns.now }
+        ensures { (s : State) → Represents self.now s → result ≡ broken_split profile.now n n2 yarns.now s }
+    {
+        let together = self.too_many_together(profile, n, n2, 3);
+        if yarns.len() == 0 {
+            return first_of(self.not_aligned(n, n2, 3), together);
+        }
+        let last = first_of(self.slider_holds(n), together);
+        let later = first_of(self.not_aligned(n, n2, 3), last);
+        first_of(self.carriers_out(4, yarns), later)
+    }
+
+    // A carrier of the list isn't in action. The list begins at this token.
+    fn carriers_out(&self, at: u16, yarns: &Yarns) -> Option<Reason>
+        requires { FitsPlaces at yarns.now }
+        ensures { (s : State) → Represents self.now s → result ≡ carriers_out s at yarns.now }
+    {
+        let i = first_not_in_set(self.ins, yarns.as_slice())?;
+        Some(Reason {
+            rule: Rule::CarrierIsOut,
+            at: at + i as u16,
+        })
+    }
+
+    // A carrier of the list is in action.
+    fn carriers_in(&self, at: u16, yarns: &Yarns) -> Option<Reason>
+        requires { FitsPlaces at yarns.now }
+        ensures { (s : State) → Represents self.now s → result ≡ carriers_in s at yarns.now }
+    {
+        let i = first_in_set(self.ins, yarns.as_slice())?;
+        Some(Reason {
+            rule: Rule::CarrierIsIn,
+            at: at + i as u16,
+        })
+    }
+
+    // The hook holds a carrier of the list.
+    fn carriers_hooked(&self, at: u16, yarns: &Yarns) -> Option<Reason>
+        requires { FitsPlaces at yarns.now }
+        ensures { (s : State) → Represents self.now s → result ≡ carriers_hooked s at yarns.now }
+    {
+        let i = first_in_set(self.hook, yarns.as_slice())?;
+        Some(Reason {
+            rule: Rule::CarrierHooked,
+            at: at + i as u16,
+        })
+    }
+
+    fn hook_busy(&self) -> Option<Reason>
+        ensures { (s : State) → Represents self.now s → result ≡ hook_busy s }
+    {
+        rule_if(self.hook > 0, Rule::HookBusy, 0)
+    }
+
+    fn hook_other(&self, yarns: &Yarns) -> Option<Reason>
+        ensures { (s : State) → Represents self.now s → result ≡ hook_other s yarns.now }
+    {
+        rule_if(self.hook != yarns.mask(), Rule::HookOther, 0)
+    }
+
+    fn not_aligned(&self, n: Needle, n2: Needle, at: u16) -> Option<Reason>
+        ensures { (s : State) → Represents self.now s → result ≡ not_aligned s n n2 at }
+    {
+        rule_if(self.rack.0 != rack_facing(n, n2), Rule::NotAligned, at)
+    }
+
+    fn slider_holds(&self, n: Needle) -> Option<Reason>
+        ensures { (s : State) → Represents self.now s → result ≡ slider_holds s n }
+    {
+        rule_if(self.loops_on(own_slider(n)) > 0, Rule::SliderHolds, 2)
+    }
+
+    // The loops of both needles are too many for one.
+    fn too_many_together(&self, profile: &Profile, n: Needle, n2: Needle, at: u16) -> Option<Reason>
+        ensures { (s : State) → Represents self.now s → result ≡ too_many profile.now (length (s.stacks n2) + length (s.stacks n)) at }
+    {
+        let loops = u64::from(self.loops_on(n2)) + u64::from(self.loops_on(n));
+        too_many(profile, loops, at)
+    }
+}
+
+fn too_many(profile: &Profile, loops: u64, at: u16) -> Option<Reason>
+    ensures { result ≡ too_many profile.now loops at }
+{
+    rule_if(loops > u64::from(profile.hold), Rule::TooManyLoops, at)
+}
+
+fn rule_if(broken: bool, rule: Rule, at: u16) -> Option<Reason>
+    ensures { result ≡ broken_if broken rule at }
+{
+    if broken {
+        Some(Reason { rule, at })
+    } else {
+        None
+    }
+}
+
+fn first_of(first: Option<Reason>, second: Option<Reason>) -> Option<Reason>
+    ensures { result ≡ or_else first second }
+{
+    first.or(second)
+}
+
+fn first_in_set(set: u64, carriers: &[CarrierNo]) -> Option<usize>
+    requires { AreCarriers carriers.now }
+    ensures { result ≡ position (contains_carrier set) carriers.now }
+{
+    carriers.iter().position(|c| (set >> c.0) % 2 == 1)
+}
+
+fn first_not_in_set(set: u64, carriers: &[CarrierNo]) -> Option<usize>
+    requires { AreCarriers carriers.now }
+    ensures { result ≡ position (lacks_carrier set) carriers.now }
+{
+    carriers.iter().position(|c| (set >> c.0) % 2 != 1)
+}
+
+// The slider of a needle's side and number.
+fn own_slider(n: Needle) -> Needle
+    ensures { result ≡ own_slider n }
+{
+    let bed = if n.bed.is_front() {
+        Bed::FrontSlider
+    } else {
+        Bed::BackSlider
+    };
+    Needle { bed, at: n.at }
+}
+
+// The rack at which two needles face each other, in quarters.
+fn rack_facing(n: Needle, n2: Needle) -> i32
+    ensures { result ≡ rack_facing n n2 }
+{
+    if n.bed.is_front() {
+        4 * (i32::from(n.at) - i32::from(n2.at))
+    } else {
+        4 * (i32::from(n2.at) - i32::from(n.at))
+    }
+}
