@@ -1,0 +1,79 @@
+-- The first piece of a text, and its line.
+use Rattle.std.proofs.Common.{◌≡◌, ◌≢◌, ℕ, ◌+◌, ◌-◌, ◌<◌, ◌≤◌, Bool, true, false, List, [], ◌∷◌, ◌++◌, length, take, get_or, map, All, MatchOption, Option, None, Some, ap, sym, ◌∙◌, refl, arith, ⊎_elim}
+use Rattle.std.specs.List.{slice_split, position_or_len, before_first, after_first}
+use Rattle.std.proofs.lemmas.Bool.{cases_lt}
+use Rattle.std.proofs.lemmas.List.{take_all, drop_all, take_more}
+use Rattle.std.proofs.lemmas.List.Sums.{fails_before_first, position_or_len_is}
+use Rattle.std.proofs.lemmas.List.Splits.{slice_split_first, slice_split_none, length-slice_split}
+use Rattle.knit_base.specs.Lines.{is_line_feed, lines_of, without_empty_end, without_return}
+use Rattle.memchr.specs.Find.{IsFirstByte, is_byte}
+
+-- a piece that others follow stays, also where it is empty
+not_last : (piece : List ℕ) (pieces : List (List ℕ)) → 0 < length pieces → without_empty_end (piece ∷ pieces) ≡ piece ∷ without_empty_end pieces
+not_last piece [] some = absurd (omega arith)
+not_last [] (next ∷ pieces) some = refl
+not_last (byte ∷ bytes) (next ∷ pieces) some = refl
+
+last_piece : (text : List ℕ) → 0 < length text → without_empty_end (text ∷ []) ≡ text ∷ []
+last_piece [] some = absurd (omega arith)
+last_piece (byte ∷ bytes) some = refl
+
+no_feed : (text : List ℕ) → length text ≤ position_or_len is_line_feed text → All (λ byte. is_line_feed byte ≡ false) text
+no_feed text past = λ k d below. fails_before_first is_line_feed text k d (omega arith)
+
+-- the first line of a text, and those of what stands behind its line feed
+pub lines_of-next : (text : List ℕ) → 0 < length text
+    → lines_of text ≡ without_return (before_first is_line_feed text) ∷ lines_of (after_first is_line_feed text)
+lines_of-next text some =
+    ⊎_elim
+    (λ found. ap (λ pieces. map without_return (without_empty_end pieces)) (slice_split_first is_line_feed text 0 found)
+    ∙ ap (map without_return) (not_last (before_first is_line_feed text) (slice_split is_line_feed (after_first is_line_feed text)) (omega (arith, length-slice_split is_line_feed (after_first is_line_feed text)))))
+    (λ past. ap (λ pieces. map without_return (without_empty_end pieces)) (slice_split_none is_line_feed text (no_feed text past))
+    ∙ ap (map without_return) (last_piece text some)
+    ∙ ap (λ piece. without_return piece ∷ []) (sym (take_all (position_or_len is_line_feed text) text past))
+    ∙ ap (λ rest. without_return (before_first is_line_feed text) ∷ lines_of rest) (sym (drop_all (position_or_len is_line_feed text + 1) text (omega arith))))
+    (cases_lt (position_or_len is_line_feed text) (length text))
+
+pub false_from : (b : Bool) → (b ≡ true → ⊥) → b ≡ false
+false_from true never = absurd (never refl)
+false_from false never = refl
+
+-- what a search for a line feed gives
+pub first_feed : (text : List ℕ) (place : Option ℕ) → IsFirstByte (is_byte 10) text place
+    → MatchOption place (length text ≡ position_or_len is_line_feed text) (λ k. (k ≤ length text) × (k ≡ position_or_len is_line_feed text))
+first_feed text None none =
+    sym (position_or_len_is is_line_feed text (length text) 0 (omega arith) (λ k below. false_from _ (none k (omega arith) below)) (λ within. absurd (omega arith)))
+first_feed text (Some k) found = (
+  omega (arith, found.0.high),
+  sym (position_or_len_is is_line_feed text k 0 (omega (arith, found.0.high)) (λ j below. false_from _ (found.0.before j (omega arith) below)) (λ within. found.1)),
+)
+
+returned : (front : List ℕ) → without_return (front ++ 13 ∷ []) ≡ front
+returned [] = refl
+returned (byte ∷ []) = refl
+returned (byte ∷ next ∷ bytes) = ap (λ l. byte ∷ l) (returned (next ∷ bytes))
+
+kept : (front : List ℕ) (byte : ℕ) → byte ≢ 13 → without_return (front ++ byte ∷ []) ≡ front ++ byte ∷ []
+kept [] byte other = grind arith
+kept (first ∷ []) byte other = ap (λ l. first ∷ l) (kept [] byte other)
+kept (first ∷ next ∷ bytes) byte other = ap (λ l. first ∷ l) (kept (next ∷ bytes) byte other)
+
+-- a piece is what stands before its last byte, and that byte
+front_and_last : (piece : List ℕ) → 0 < length piece → piece ≡ take (length piece - 1) piece ++ get_or piece (length piece - 1) 0 ∷ []
+front_and_last piece some =
+    let count : length piece ≡ length piece - 1 + 1 = omega arith in
+    sym (take_all (length piece) piece (omega arith)) ∙ ap (λ n. take n piece) count ∙ take_more piece (length piece - 1) 0 (omega arith)
+
+pub return_dropped : (piece : List ℕ) → 0 < length piece → get_or piece (length piece - 1) 0 ≡ 13 → take (length piece - 1) piece ≡ without_return piece
+return_dropped piece some ends =
+    sym (returned (take (length piece - 1) piece))
+    ∙ ap (λ byte. without_return (take (length piece - 1) piece ++ byte ∷ [])) (sym ends)
+    ∙ ap without_return (sym (front_and_last piece some))
+
+pub nothing_dropped : (piece : List ℕ) → (0 < length piece → get_or piece (length piece - 1) 0 ≢ 13) → take (length piece) piece ≡ without_return piece
+nothing_dropped [] other = refl
+nothing_dropped (byte ∷ bytes) other =
+    let some : 0 < length (byte ∷ bytes) = omega arith in
+    take_all (length (byte ∷ bytes)) (byte ∷ bytes) (omega arith) ∙ front_and_last (byte ∷ bytes) some
+    ∙ sym (kept (take (length (byte ∷ bytes) - 1) (byte ∷ bytes)) (get_or (byte ∷ bytes) (length (byte ∷ bytes) - 1) 0) (other some))
+    ∙ ap without_return (sym (front_and_last (byte ∷ bytes) some))

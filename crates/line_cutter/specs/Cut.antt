@@ -1,0 +1,67 @@
+-- Good lines, and the first bad one.
+use Rattle.std.specs.Prelude.{◌≡◌, ℕ, ◌+◌, ◌<◌, ◌≤◌, true, false, List, ◌∷◌, ◌++◌, length, drop, map, All}
+use Rattle.std.specs.Str.{is_utf8}
+use Rattle.knit_base.specs.declared.lines.Span.{Span}
+use Rattle.knit_base.specs.Lines.{AreLines, HasNoLineEnd, IsWithin, lines_of, piece}
+use Rattle.line_cutter.specs.declared.line.TheConstants.{LINE_LIMIT}
+use Rattle.line_cutter.specs.declared.fault.CutFault.{CutFault}
+use Rattle.line_cutter.specs.declared.fault.CutFault.TheVariants.{NotUtf8, LineLong, NoMemory}
+use Rattle.line_cutter.specs.declared.line.Found.{Found}
+
+-- a line that is UTF-8 and not too long
+pub record IsGoodLine (line : List ℕ) : Type 0 where
+  pub utf8 : is_utf8 line ≡ true
+  pub short : length line ≤ LINE_LIMIT
+
+-- a line that isn't UTF-8
+abbrev pub IsNotUtf8 : List ℕ → Type 0
+IsNotUtf8 line = is_utf8 line ≡ false
+
+-- a line that is UTF-8 and too long
+pub record IsLong (line : List ℕ) : Type 0 where
+  pub utf8 : is_utf8 line ≡ true
+  pub long : LINE_LIMIT < length line
+
+-- the line with this number, from 1, is bad, and the lines before it are good
+pub record IsFirstBadLine (IsBad : List ℕ → Type 0) (lines : List (List ℕ)) (number : ℕ) : Type 0 where
+  pub before : List (List ℕ)
+  pub bad : List ℕ
+  pub after : List (List ℕ)
+  pub lines_are : lines ≡ before ++ bad ∷ after
+  pub counted : number ≡ length before + 1
+  pub good_before : All IsGoodLine before
+  pub is_bad : IsBad bad
+
+-- the refusal names the first bad line and what is wrong with it; want of memory says nothing of the lines
+abbrev pub IsFirstBad : List (List ℕ) → CutFault → Type 0
+IsFirstBad lines (NotUtf8 number) = IsFirstBadLine IsNotUtf8 lines number
+IsFirstBad lines (LineLong number) = IsFirstBadLine IsLong lines number
+IsFirstBad lines NoMemory = Unit {0}
+
+-- the spans are the lines of the text, all of them good
+pub record AreCut (text : List ℕ) (spans : List Span) : Type 0 where
+  pub are_lines : AreLines text spans
+  pub all_lines : map (piece text) spans ≡ lines_of text
+  pub good : All IsGoodLine (lines_of text)
+
+-- the refusal names this line and what is wrong with it
+abbrev pub IsRefused : List ℕ → ℕ → CutFault → Type 0
+IsRefused line number (NotUtf8 named) = (named ≡ number) × IsNotUtf8 line
+IsRefused line number (LineLong named) = (named ≡ number) × IsLong line
+IsRefused line number NoMemory = ⊥
+
+-- a good line begins here and is found, and the lines after it are those of the text from the next place on
+pub record IsNextLine (text : List ℕ) (start : ℕ) (found : Found) : Type 0 where
+  pub here : found.line.start ≡ start
+  pub within : IsWithin text found.line
+  pub further : start < found.next
+  pub first : lines_of (drop start text) ≡ piece text found.line ∷ lines_of (drop found.next text)
+  pub good : IsGoodLine (piece text found.line)
+  pub one : HasNoLineEnd (piece text found.line)
+
+-- the line that begins here is refused
+pub record IsNextRefused (text : List ℕ) (start number : ℕ) (fault : CutFault) : Type 0 where
+  pub line : List ℕ
+  pub later : List (List ℕ)
+  pub first : lines_of (drop start text) ≡ line ∷ later
+  pub refused : IsRefused line number fault

@@ -1,0 +1,55 @@
+//! All lines of a text.
+ghost use Rattle.std.specs.Prelude.{◌≡◌, ◌≤◌, length, All, IfOk, IfErr};
+ghost use Rattle.knit_base.specs.Lines.{lines_of};
+ghost use Rattle.line_cutter.specs.Cut.{AreCut, IsFirstBad, IsGoodLine};
+
+use crate::CutFault;
+use crate::line::next_line;
+use knit_base::{Lines, Span};
+use std::alloc::Global;
+
+/// The lines of the bytes, which stay where they are.
+pub fn cut_buffer(alloc: Global, bytes: Vec<u8>) -> Result<Lines, CutFault>
+    requires { length bytes.items ≤ 16777216 }
+    ensures lines { IfOk result (λ lines. lines ≡ lines_of bytes.items) }
+    ensures good { IfOk result (All IsGoodLine) }
+    ensures fault { IfErr result (IsFirstBad (lines_of bytes.items)) }
+{
+    let spans = cut_spans(alloc, &bytes)?;
+    Ok(Lines::in_buffer(bytes, spans))
+}
+
+/// The lines of a copy of the bytes.
+pub fn cut(alloc: Global, bytes: &[u8]) -> Result<Lines, CutFault>
+    requires { length bytes.now ≤ 16777216 }
+    ensures lines { IfOk result (λ lines. lines ≡ lines_of bytes.now) }
+    ensures good { IfOk result (All IsGoodLine) }
+    ensures fault { IfErr result (IsFirstBad (lines_of bytes.now)) }
+{
+    let mut copy = Vec::with_capacity(alloc, bytes.len())?;
+    copy.extend_from_slice(bytes)?;
+    cut_buffer(alloc, copy)
+}
+
+// The places of the lines.
+fn cut_spans(alloc: Global, text: &[u8]) -> Result<Vec<Span>, CutFault>
+    requires { length text.now ≤ 16777216 }
+    ensures ok { IfOk result (λ spans. AreCut text.now spans.items) }
+    ensures err { IfErr result (IsFirstBad (lines_of text.now)) }
+{
+    let mut spans = Vec::with_capacity(alloc, line_feeds(text) + 1)?;
+    let mut start = 0;
+    'cutting: while start < text.len() {
+        let found = next_line(text, start, spans.len() as u32 + 1)?;
+        spans.push(found.line)?;
+        start = found.next;
+    }
+    Ok(spans)
+}
+
+// How many line feeds there are.
+fn line_feeds(text: &[u8]) -> usize
+    ensures { result ≤ length text.now }
+{
+    text.iter().filter(|byte| **byte == b'\n').count()
+}

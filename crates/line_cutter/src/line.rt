@@ -1,0 +1,85 @@
+//! One line of a text.
+ghost use Rattle.std.specs.Prelude.{◌≡◌, ◌≤◌, ◌<◌, ◌^◌, length, take, drop, IfOk, IfErr, OnOk};
+ghost use Rattle.std.specs.List.{position_or_len};
+ghost use Rattle.std.specs.Str.{is_utf8};
+ghost use Rattle.knit_base.specs.Lines.{is_line_feed, without_return};
+ghost use Rattle.line_cutter.specs.Cut.{IsGoodLine, IsNextLine, IsRefused, IsNextRefused};
+
+use crate::CutFault;
+use knit_base::Span;
+use memchr::memchr;
+
+/// The greatest number of bytes of a line, without its end.
+pub const LINE_LIMIT: usize = 4_096;
+
+/// A line and where the next one begins.
+#[derive(Clone, Copy, Debug, PartialEq, Eq)]
+pub struct Found {
+    pub line: Span,
+    pub next: usize,
+}
+
+/// The line that begins at `start`, which is the one with this number.
+pub fn next_line(text: &[u8], start: usize, number: u32) -> Result<Found, CutFault>
+    requires some { start < length text.now }
+    requires size { length text.now < 2 ^ 60 }
+    ensures ok { IfOk result (IsNextLine text.now start) }
+    ensures err { IfErr result (IsNextRefused text.now start number) }
+{
+    let rest = &text[start..];
+    let piece = &rest[..piece_len(rest)];
+    let line = &piece[..line_len(piece)];
+    check_line(line, number)?;
+    Ok(Found {
+        line: Span {
+            start,
+            end: start + line.len(),
+        },
+        next: start + piece.len() + 1,
+    })
+}
+
+// How many bytes stand before the first line feed: all, where there is none.
+fn piece_len(rest: &[u8]) -> usize
+    ensures within { result ≤ length rest.now }
+    ensures first { result ≡ position_or_len is_line_feed rest.now }
+{
+    match memchr(b'\n', rest) {
+        Some(len) => len,
+        None => rest.len(),
+    }
+}
+
+// How many bytes of the piece are the line: one carriage return at the end is no part of it.
+fn line_len(piece: &[u8]) -> usize
+    ensures within { result ≤ length piece.now }
+    ensures line { take result piece.now ≡ without_return piece.now }
+{
+    let len = piece.len();
+    if len > 0 && piece[len - 1] == b'\r' {
+        len - 1
+    } else {
+        len
+    }
+}
+
+// A line is UTF-8 before it is too long.
+fn check_line(line: &[u8], number: u32) -> Result<(), CutFault>
+    ensures ok { OnOk result (IsGoodLine line.now) }
+    ensures err { IfErr result (IsRefused line.now number) }
+{
+    if !is_text(line) {
+        return Err(CutFault::NotUtf8 { line: number });
+    }
+    if line.len() > LINE_LIMIT {
+        return Err(CutFault::LineLong { line: number });
+    }
+    Ok(())
+}
+
+// Most lines are ASCII, which is seen at once.
+fn is_text(line: &[u8]) -> bool
+    ensures { result ≡ is_utf8 line.now }
+{
+    line.is_ascii() || str::from_utf8(line).is_ok()
+}

@@ -1,0 +1,86 @@
+//! Each call with ample memory: which lines there are, and which line is refused.
+ghost use Rattle.std.specs.Prelude.{◌≡◌, ◌≤◌, ◌+◌, length, IfOk};
+
+use crate::{CutFault, LINE_LIMIT, cut, cut_buffer};
+use knit_base::Lines;
+use std::alloc::{AllocError, Global};
+use std::process::Abort;
+use std::test::Fail;
+
+// The lines, each between two marks, so that they are compared as one text.
+fn shown(rt: &impl Abort, alloc: Global, lines: &Lines) -> Result<String, AllocError> {
+    let mut text = String::new(alloc);
+    for i in 0..lines.len() {
+        match lines.get(i) {
+            Some(line) => {
+                text.push('<')?;
+                text.push_str(line)?;
+                text.push('>')?;
+            }
+            None => assert!(rt; false),
+        }
+    }
+    Ok(text)
+}
+
+#[test]
+fn lines_are_cut(rt: HostRuntime) -> Result<(), Fail> {
+    for (text, want) in [
+        ("", ""),
+        ("\n", "<>"),
+        ("a\r\nb", "<a><b>"),
+        ("\r", "<>"),
+        ("a\r\r\n\rb\n\n", "<a\r><\rb><>"),
+        ("\t\n\u{feff};\0\n", "<\t><\u{feff};\0>"),
+    ] {
+        assert!(rt; text.len() < 100);
+        let lines = cut(rt.alloc(), text.as_bytes())?;
+        let shown = shown(&rt, rt.alloc(), &lines)?;
+        assert_eq!(rt; shown.as_str(), want);
+    }
+    Ok(())
+}
+
+// So many bytes `a`, and then more.
+fn long_text(alloc: Global, count: usize, more: &[u8]) -> Result<Vec<u8>, AllocError>
+    ensures { IfOk result (λ text. length text.items ≡ count + length more.now) }
+{
+    let mut text = vec![in alloc; b'a'; count]?;
+    text.extend_from_slice(more)?;
+    Ok(text)
+}
+
+fn fault_of(alloc: Global, count: usize, more: &[u8]) -> Result<Option<CutFault>, AllocError>
+    requires few { count ≤ 10000 }
+    requires more { length more.now ≤ 10000 }
+{
+    let text = long_text(alloc, count, more)?;
+    Ok(cut_buffer(alloc, text).err())
+}
+
+#[test]
+fn the_first_bad_line_is_named(rt: HostRuntime) -> Result<(), Fail> {
+    let long = LINE_LIMIT + 1;
+    for (count, more, want) in [
+        (LINE_LIMIT, b"\r\n".as_slice(), None),
+        (
+            long,
+            b"\n\xff".as_slice(),
+            Some(CutFault::LineLong { line: 1 }),
+        ),
+        (
+            1,
+            b"\n\xff\n".as_slice(),
+            Some(CutFault::NotUtf8 { line: 2 }),
+        ),
+        (
+            long,
+            b"\xff".as_slice(),
+            Some(CutFault::NotUtf8 { line: 1 }),
+        ),
+    ] {
+        assert!(rt; count < 10_000 && more.len() < 100);
+        assert_eq!(rt; fault_of(rt.alloc(), count, more)?, want);
+    }
+    Ok(())
+}
