@@ -1,0 +1,109 @@
+-- What some command lines spell, and what they ask for.
+use Rattle.std.proofs.Common.{◌≡◌, refl, [], ◌∷◌, Option, Some, None, codes, pos, true, false}
+use Rattle.std.specs.Prelude.{negsuc}
+use Rattle.machine_profile.specs.declared.Options.{Options}
+use Rattle.command_words.specs.declared.command.Command.{Command}
+use Rattle.command_words.specs.declared.command.Command.TheVariants.{Check, Live, Make}
+use Rattle.command_words.specs.declared.command.Request.{Request}
+use Rattle.command_words.specs.Grammar.{Flag, Json, Low, Place, Setting, items_of}
+use Rattle.command_words.specs.Request.{request_of}
+
+both_ways : items_of None (codes "--low=-64" ∷ codes "check" ∷ codes "--low" ∷ codes "7" ∷ codes "--json" ∷ [])
+    ≡ Some (Setting Low (codes "-64") ∷ Place (codes "check") ∷ Setting Low (codes "7") ∷ Flag Json ∷ [])
+both_ways = refl
+
+no_value : items_of None (codes "check" ∷ codes "--low" ∷ codes "-64" ∷ []) ≡ None
+no_value = refl
+
+no_flag_value : items_of None (codes "check" ∷ codes "--loops=1" ∷ []) ≡ None
+no_flag_value = refl
+
+no_help : items_of None (codes "--help" ∷ []) ≡ None
+no_help = refl
+
+dashes : items_of None (codes "--" ∷ codes "--loops" ∷ codes "--" ∷ []) ≡ Some (Place (codes "--loops") ∷ Place (codes "--") ∷ [])
+dashes = refl
+
+-- no option is given
+abbrev usual : Options
+usual = record { low = None; high = None; rack = None; hold = None; block = None }
+
+abbrev asks : Command → Options → Option Request
+asks command options = Some (record { command = command; options = options })
+
+-- ---- in the grammar
+
+check_alone : request_of (codes "check" ∷ []) ≡ asks (Check false false) usual
+check_alone = refl
+
+check_with_flags : request_of (codes "--json" ∷ codes "check" ∷ codes "--loops" ∷ []) ≡ asks (Check true true) usual
+check_with_flags = refl
+
+-- 65 loops are a number, which the profile refuses
+check_hold : request_of (codes "check" ∷ codes "--hold" ∷ codes "65" ∷ []) ≡ asks (Check false false) (record usual { hold = Some (pos 65) })
+check_hold = refl
+
+negative_value : request_of (codes "check" ∷ codes "--low=-64" ∷ []) ≡ asks (Check false false) (record usual { low = Some (negsuc 63) })
+negative_value = refl
+
+negative_zero : request_of (codes "check" ∷ codes "--low=-0" ∷ []) ≡ asks (Check false false) (record usual { low = Some (pos 0) })
+negative_zero = refl
+
+leading_zeros : request_of (codes "live" ∷ codes "--block" ∷ codes "00064" ∷ []) ≡ asks Live (record usual { block = Some (pos 64) })
+leading_zeros = refl
+
+make_three : request_of (codes "make" ∷ codes "--block=7" ∷ codes "20000" ∷ codes "2147483647" ∷ []) ≡ asks (Make 20000 2147483647) (record usual { block = Some (pos 7) })
+make_three = refl
+
+after_dashes : request_of (codes "--hold=3" ∷ codes "--" ∷ codes "check" ∷ []) ≡ asks (Check false false) (record usual { hold = Some (pos 3) })
+after_dashes = refl
+
+-- ---- outside the grammar
+
+no_words : request_of [] ≡ None
+no_words = refl
+
+no_command : request_of (codes "knit" ∷ []) ≡ None
+no_command = refl
+
+low_without_equals : request_of (codes "check" ∷ codes "--low" ∷ codes "-64" ∷ []) ≡ None
+low_without_equals = refl
+
+make_two : request_of (codes "make" ∷ codes "2" ∷ []) ≡ None
+make_two = refl
+
+make_no_rows : request_of (codes "make" ∷ codes "0" ∷ codes "5" ∷ []) ≡ None
+make_no_rows = refl
+
+make_many_rows : request_of (codes "make" ∷ codes "20001" ∷ codes "5" ∷ []) ≡ None
+make_many_rows = refl
+
+make_late_start : request_of (codes "make" ∷ codes "1" ∷ codes "2147483648" ∷ []) ≡ None
+make_late_start = refl
+
+make_hold : request_of (codes "make" ∷ codes "2" ∷ codes "5" ∷ codes "--hold" ∷ codes "3" ∷ []) ≡ None
+make_hold = refl
+
+live_json : request_of (codes "live" ∷ codes "--json" ∷ []) ≡ None
+live_json = refl
+
+text_block : request_of (codes "text" ∷ codes "--block=64" ∷ []) ≡ None
+text_block = refl
+
+twice : request_of (codes "check" ∷ codes "--hold" ∷ codes "2" ∷ codes "--hold" ∷ codes "2" ∷ []) ≡ None
+twice = refl
+
+flag_after_dashes : request_of (codes "check" ∷ codes "--" ∷ codes "--json" ∷ []) ≡ None
+flag_after_dashes = refl
+
+plus_sign : request_of (codes "check" ∷ codes "--hold=+5" ∷ []) ≡ None
+plus_sign = refl
+
+eleven_digits : request_of (codes "check" ∷ codes "--hold=00000000005" ∷ []) ≡ None
+eleven_digits = refl
+
+empty_value : request_of (codes "check" ∷ codes "--hold=" ∷ []) ≡ None
+empty_value = refl
+
+lone_hyphen : request_of (codes "check" ∷ codes "--hold" ∷ codes "-" ∷ []) ≡ None
+lone_hyphen = refl

@@ -1,0 +1,15 @@
+pub mod Rules
+pub mod Turns
+pub mod Looks
+pub mod Kept
+pub mod Stuck
+pub mod Standing
+pub mod Comes
+pub mod Whole
+pub mod Matches
+pub mod Results
+pub mod Strict
+pub mod Faults
+pub mod Examples
+pub mod Digits
+pub mod Requests

@@ -1,0 +1,140 @@
+-- From what clap finds to what the grammar says.
+use Rattle.std.proofs.Common.{◌≡◌, ◌∙◌, ◌≤◌, refl, sym, ap, arith, Bool, true, false, not, ◌&&◌, List, [], ◌∷◌, length, Option, Some, None}
+use Rattle.std.specs.Prelude.{if◌then◌else◌, option_and_then, slice_get}
+use Rattle.std.specs.List.{list_any}
+use Rattle.std.proofs.lemmas.Bool.{false≢true, true≢false}
+use Rattle.command_words.specs.declared.command.Command.{Command}
+use Rattle.command_words.specs.declared.command.Request.{Request}
+use Rattle.command_words.specs.declared.given.Given.{Given}
+use Rattle.command_words.specs.Grammar.{Item, Name, Low, High, Rack, Hold, Block, Loops, Json, Text}
+use Rattle.command_words.specs.Grammar.{are_distinct, begins_with_hyphen, is_flag, items_of, names_in, places_in, value_in}
+use Rattle.command_words.specs.Numbers.{number_or_none}
+use Rattle.command_words.specs.Given.{IsGiven, IsLawful, now_of, parts_given, words_of}
+use Rattle.command_words.specs.Request.{Parts, command_of, command_of_words, has_numbers, is_lawful, parts_of, request_from, request_from_parts, request_of, with_options}
+use Rattle.command_words.proofs.Kept.{both}
+use Rattle.command_words.proofs.Looks.{by_test}
+use Rattle.command_words.proofs.Comes.{some_of}
+
+-- three places hold the positional words
+words_given : (ws : List Text) → length ws ≤ 3 → words_of (slice_get ws 0) (slice_get ws 1) (slice_get ws 2) ≡ ws
+words_given [] few = refl
+words_given (a ∷ []) few = refl
+words_given (a ∷ b ∷ []) few = refl
+words_given (a ∷ b ∷ c ∷ []) few = refl
+words_given (a ∷ b ∷ c ∷ d ∷ ws) few = absurd (omega (arith, few))
+
+abbrev parts : (low high rack hold block : Option Text) (loops json : Bool) (words : List Text) → Parts
+parts l h r o b k j ws = record { low = l; high = h; rack = r; hold = o; block = b; loops = k; json = j; words = ws }
+
+same_parts : (l l2 h h2 r r2 o o2 b b2 : Option Text) (k k2 j j2 : Bool) (ws ws2 : List Text) → l ≡ l2 → h ≡ h2 → r ≡ r2 → o ≡ o2 → b ≡ b2 → k ≡ k2 → j ≡ j2 → ws ≡ ws2
+    → parts l h r o b k j ws ≡ parts l2 h2 r2 o2 b2 k2 j2 ws2
+same_parts l l2 h h2 r r2 o o2 b b2 k k2 j j2 ws ws2 e1 e2 e3 e4 e5 e6 e7 e8 = rw (e1, e2, e3, e4, e5, e6, e7, e8) refl
+
+words_are : (g : Given) (ws : List Text) → length ws ≤ 3 → now_of g.first ≡ slice_get ws 0 → now_of g.second ≡ slice_get ws 1 → now_of g.third ≡ slice_get ws 2
+    → words_of (now_of g.first) (now_of g.second) (now_of g.third) ≡ ws
+words_are g ws few first second third =
+    ap (λ o. words_of o (now_of g.second) (now_of g.third)) first
+    ∙ ap (λ o. words_of (slice_get ws 0) o (now_of g.third)) second
+    ∙ ap (λ o. words_of (slice_get ws 0) (slice_get ws 1) o) third
+    ∙ words_given ws few
+
+parts_are : (items : List Item) (g : Given) → length (places_in items) ≤ 3 → IsGiven items g → parts_given g ≡ parts_of items
+parts_are items g few is =
+    same_parts _ _ _ _ _ _ _ _ _ _ _ _ _ _ _ _ is.low is.high is.rack is.hold is.block is.loops is.json
+    (words_are g (places_in items) few is.first is.second is.third)
+
+-- the test of the items and its facts
+pub lawful_is : (items : List Item) → IsLawful items → is_lawful items ≡ true
+lawful_is items lawful =
+    rw (
+      lawful.fit.distinct,
+      lawful.fit.plain,
+      lawful.numbers Low refl,
+      lawful.numbers High refl,
+      lawful.numbers Rack refl,
+      lawful.numbers Hold refl,
+      lawful.numbers Block refl,
+    ) refl
+
+not_true : (b : Bool) → not b ≡ true → b ≡ false
+not_true true e = absurd (false≢true e)
+not_true false e = refl
+
+record Five (a b c d e : Bool) : Type 0 where
+  first : a ≡ true
+  second : b ≡ true
+  third : c ≡ true
+  fourth : d ≡ true
+  fifth : e ≡ true
+
+five : (a b c d e : Bool) → (a && (b && (c && (d && (e && true))))) ≡ true → Five a b c d e
+five a b c d e all =
+    let one = both a _ all in
+    let two = both b _ one.1 in
+    let three = both c _ two.1 in
+    let four = both d _ three.1 in
+    record { first = one.0; second = two.0; third = three.0; fourth = four.0; fifth = (both e _ four.1).0 }
+
+all_numbers : (items : List Item) → has_numbers (parts_of items) ≡ true → (n : Name) → is_flag n ≡ false → number_or_none (value_in n items) ≡ true
+all_numbers items e n flag = go (five _ _ _ _ _ e) n flag
+  where
+    go : Five (number_or_none (value_in Low items)) (number_or_none (value_in High items)) (number_or_none (value_in Rack items))
+        (number_or_none (value_in Hold items)) (number_or_none (value_in Block items))
+        → (n : Name) → is_flag n ≡ false → number_or_none (value_in n items) ≡ true
+    go all Low flag = all.first
+    go all High flag = all.second
+    go all Rack flag = all.third
+    go all Hold flag = all.fourth
+    go all Block flag = all.fifth
+    go all Loops flag = absurd (true≢false flag)
+    go all Json flag = absurd (true≢false flag)
+
+lawful_of : (items : List Item) → is_lawful items ≡ true → length (places_in items) ≤ 3 → IsLawful items
+lawful_of items e few =
+    let outer = both (are_distinct (names_in items)) _ e in
+    let inner = both (not (list_any begins_with_hyphen (places_in items))) _ outer.1 in
+    record {
+      fit = record { distinct = outer.0; few = few; plain = not_true _ inner.0 };
+      numbers = all_numbers items inner.1;
+    }
+
+-- a command has at most three words
+few_words : (loops json : Bool) (ws : List Text) (c : Command) → command_of_words loops json ws ≡ Some c → length ws ≤ 3
+few_words loops json [] c e = omega arith
+few_words loops json (a ∷ []) c e = omega arith
+few_words loops json (a ∷ b ∷ []) c e = omega arith
+few_words loops json (a ∷ b ∷ d ∷ []) c e = omega arith
+few_words loops json (a ∷ b ∷ d ∷ f ∷ ws) c e = absurd (some_of c (sym e))
+
+some_before : {X Y : Type 0} (f : X → Option Y) (o : Option X) (y : Y) → option_and_then f o ≡ Some y → (x : X) × (o ≡ Some x)
+some_before f None y e = absurd (some_of y (sym e))
+some_before f (Some x) y e = (x, refl)
+
+-- the items of a request are lawful
+lawful_when : (items : List Item) (r : Request) → request_from items ≡ Some r → IsLawful items
+lawful_when items r e = by_test (is_lawful items)
+    (λ lawful.
+    let asked : request_from_parts (parts_of items) ≡ Some r = rw lawful at e in
+    let command = some_before (with_options (parts_of items)) (command_of (parts_of items)) r asked in
+    lawful_of items lawful (few_words _ _ (places_in items) command.0 command.1))
+    (λ other. absurd (some_of r (sym (rw other at e))))
+
+-- what is found asks for what the words ask for
+pub asked_is : (words : List Text) (items : List Item) (g : Given) → items_of None words ≡ Some items → IsLawful items → IsGiven items g
+    → request_of words ≡ request_from_parts (parts_given g)
+asked_is words items g is lawful given =
+    ap (option_and_then request_from) is
+    ∙ ap (λ b. if b then request_from_parts (parts_of items) else None) (lawful_is items lawful)
+    ∙ ap request_from_parts (sym (parts_are items g lawful.fit.few given))
+
+-- words without lawful items ask for nothing
+pub nothing_asked : (words : List Text) → ((items : List Item) → items_of None words ≡ Some items → IsLawful items → ⊥) → request_of words ≡ None
+nothing_asked words never = go (items_of None words) refl
+  where
+    none : (items : List Item) → items_of None words ≡ Some items → (o : Option Request) → request_from items ≡ o → o ≡ None
+    none items is None e = refl
+    none items is (Some r) e = absurd (never items is (lawful_when items r e))
+
+    go : (o : Option (List Item)) → items_of None words ≡ o → option_and_then request_from o ≡ None
+    go None is = refl
+    go (Some items) is = none items is (request_from items) refl

@@ -1,0 +1,155 @@
+-- What the walk of clap finds for a name, an id and a place in the one command.
+use Rattle.std.proofs.Common.{◌≡◌, ℕ, refl, Bool, true, false, cond, not, List, [], ◌∷◌, Some, None, codes, option_map}
+use Rattle.std.specs.Str.{bytes_eq}
+use Rattle.clap.specs.Walk.{Rule, Row, arg_by_id, arg_by_index, arg_by_long, arg_by_short, takes_values}
+use Rattle.clap.specs.Simple.{Shape, built, filled, new_rule, with_index, is_simple}
+use Rattle.clap.specs.Faults.{is_simple_and_free, use_fault, repeat_fault}
+use Rattle.std.specs.Prelude.{◌+◌, ◌||◌}
+use Rattle.std.proofs.lemmas.Bool.{false≢true, true≢false}
+use Rattle.clap.specs.Kinds.{Kinds, or_else}
+use Rattle.clap.specs.declared.error.kind.ErrorKind.TheVariants as kind
+use Rattle.command_words.specs.Arguments.{check_app, flag_rule, option_rule}
+use Rattle.command_words.specs.Grammar.{Name, Text, Low, High, Rack, Hold, Block, Loops, Json, spelling, is_flag, name_of}
+
+-- the three positional words
+pub data Spot : Type 0 where
+  first : Spot
+  second : Spot
+  third : Spot
+
+abbrev pub spot_id : Spot → Text
+spot_id first = codes "command"
+spot_id second = codes "rows"
+spot_id third = codes "start"
+
+abbrev pub spot_rule : Spot → Rule
+spot_rule first = with_index 1 (filled (new_rule (codes "command")))
+spot_rule second = with_index 2 (filled (new_rule (codes "rows")))
+spot_rule third = with_index 3 (filled (new_rule (codes "start")))
+
+abbrev pub rule : Name → Rule
+rule Low = filled (option_rule (codes "low"))
+rule High = filled (option_rule (codes "high"))
+rule Rack = filled (option_rule (codes "rack"))
+rule Hold = filled (option_rule (codes "hold"))
+rule Block = filled (option_rule (codes "block"))
+rule Loops = filled (flag_rule (codes "loops"))
+rule Json = filled (flag_rule (codes "json"))
+
+abbrev pub rules : List Rule
+rules = rule Low ∷ rule High ∷ rule Rack ∷ rule Hold ∷ rule Block ∷ rule Loops ∷ rule Json ∷ spot_rule first ∷ spot_rule second ∷ spot_rule third ∷ []
+
+abbrev pub shape : Shape
+shape = (built check_app).top
+
+pub rules_are : shape.rules ≡ rules
+rules_are = refl
+
+pub is_simple_app : is_simple check_app ≡ true
+is_simple_app = refl
+
+pub is_free_app : is_simple_and_free check_app ≡ true
+is_free_app = refl
+
+abbrev pub spot_at : Spot → ℕ
+spot_at first = 0
+spot_at second = 1
+spot_at third = 2
+
+pub by_id : (n : Name) → arg_by_id shape.rules (spelling n) ≡ Some (rule n)
+by_id Low = refl
+by_id High = refl
+by_id Rack = refl
+by_id Hold = refl
+by_id Block = refl
+by_id Loops = refl
+by_id Json = refl
+
+pub by_spot_id : (s : Spot) → arg_by_id shape.rules (spot_id s) ≡ Some (spot_rule s)
+by_spot_id first = refl
+by_spot_id second = refl
+by_spot_id third = refl
+
+-- the rules by their long names, test by test
+long_by_tests : (a b c d e f g : Bool) → cond (a || false) (Some (rule Low)) (cond (b || false) (Some (rule High)) (cond (c || false) (Some (rule Rack))
+    (cond (d || false) (Some (rule Hold)) (cond (e || false) (Some (rule Block)) (cond (f || false) (Some (rule Loops)) (cond (g || false) (Some (rule Json)) None))))))
+    ≡ option_map rule (cond a (Some Low) (cond b (Some High) (cond c (Some Rack) (cond d (Some Hold) (cond e (Some Block) (cond f (Some Loops) (cond g (Some Json) None)))))))
+long_by_tests true b c d e f g = refl
+long_by_tests false true c d e f g = refl
+long_by_tests false false true d e f g = refl
+long_by_tests false false false true e f g = refl
+long_by_tests false false false false true f g = refl
+long_by_tests false false false false false true g = refl
+long_by_tests false false false false false false true = refl
+long_by_tests false false false false false false false = refl
+
+pub by_long : (t : Text) → arg_by_long shape.rules t ≡ option_map rule (name_of t)
+by_long t = long_by_tests (bytes_eq (spelling Low) t) (bytes_eq (spelling High) t) (bytes_eq (spelling Rack) t) (bytes_eq (spelling Hold) t)
+    (bytes_eq (spelling Block) t) (bytes_eq (spelling Loops) t) (bytes_eq (spelling Json) t)
+
+pub by_short : (x : ℕ) → arg_by_short shape.rules x ≡ None
+by_short x = refl
+
+pub by_index : (s : Spot) → arg_by_index shape.rules (1 + spot_at s) ≡ Some (spot_rule s)
+by_index first = refl
+by_index second = refl
+by_index third = refl
+
+pub past_index : arg_by_index shape.rules 4 ≡ None
+past_index = refl
+
+-- an option's use with one value, and a flag's with none, fail only where it was used before
+no_more : (ks : Kinds) → or_else ks [] ≡ ks
+no_more [] = refl
+no_more (k ∷ ks) = refl
+
+pub option_use : (n : Name) (v : Text) (rows : List Row) → is_flag n ≡ false → use_fault false (rule n) (v ∷ []) rows ≡ repeat_fault false (spelling n) rows
+option_use Low v rows flag = no_more _
+option_use High v rows flag = no_more _
+option_use Rack v rows flag = no_more _
+option_use Hold v rows flag = no_more _
+option_use Block v rows flag = no_more _
+option_use Loops v rows bad = absurd (true≢false bad)
+option_use Json v rows bad = absurd (true≢false bad)
+
+pub flag_use : (n : Name) (rows : List Row) → is_flag n ≡ true → use_fault false (rule n) [] rows ≡ repeat_fault false (spelling n) rows
+flag_use Loops rows flag = no_more _
+flag_use Json rows flag = no_more _
+flag_use Low rows bad = absurd (false≢true bad)
+flag_use High rows bad = absurd (false≢true bad)
+flag_use Rack rows bad = absurd (false≢true bad)
+flag_use Hold rows bad = absurd (false≢true bad)
+flag_use Block rows bad = absurd (false≢true bad)
+
+pub spot_use : (s : Spot) (v : Text) (rows : List Row) → use_fault false (spot_rule s) (v ∷ []) rows ≡ repeat_fault false (spot_id s) rows
+spot_use first v rows = no_more _
+spot_use second v rows = no_more _
+spot_use third v rows = no_more _
+
+-- an option that waits has no value yet, and its use would fail
+pub waiting_use : (n : Name) (rows : List Row) → is_flag n ≡ false → use_fault false (rule n) [] rows ≡ kind.InvalidValue ∷ []
+waiting_use Low rows flag = refl
+waiting_use High rows flag = refl
+waiting_use Rack rows flag = refl
+waiting_use Hold rows flag = refl
+waiting_use Block rows flag = refl
+waiting_use Loops rows bad = absurd (true≢false bad)
+waiting_use Json rows bad = absurd (true≢false bad)
+
+pub takes_its_value : (n : Name) → takes_values (rule n) ≡ not (is_flag n)
+takes_its_value Low = refl
+takes_its_value High = refl
+takes_its_value Rack = refl
+takes_its_value Hold = refl
+takes_its_value Block = refl
+takes_its_value Loops = refl
+takes_its_value Json = refl
+
+pub rule_id : (n : Name) → (rule n).id ≡ spelling n
+rule_id Low = refl
+rule_id High = refl
+rule_id Rack = refl
+rule_id Hold = refl
+rule_id Block = refl
+rule_id Loops = refl
+rule_id Json = refl

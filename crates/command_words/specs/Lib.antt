@@ -1,0 +1,6 @@
+pub mod Arguments
+pub mod Given
+pub mod Grammar
+pub mod Numbers
+pub mod Request
+pub mod Taken

@@ -1,0 +1,24 @@
+//! What the words of a command line ask for.
+use machine_profile::Options;
+
+/// What the program is to do.
+#[derive(Clone, Copy, Debug, PartialEq, Eq)]
+pub enum Command {
+    /// Checks a knitout file: with the loops made, and as JSON.
+    Check { loops: bool, json: bool },
+    /// Writes the canonical text of a knitout file.
+    Text,
+    /// Writes the passes of a knitout file.
+    Passes,
+    /// Runs a script of edits.
+    Live,
+    /// Makes a program of 1 to 20,000 rows, from the start that its transfers are drawn from (0 to 2,147,483,647).
+    Make { rows: u32, start: u32 },
+}
+
+/// A command and the values of its options, which are not yet tested against their bounds.
+#[derive(Clone, Copy, Debug, PartialEq, Eq)]
+pub struct Request {
+    pub command: Command,
+    pub options: Options,
+}

@@ -1,0 +1,141 @@
+//! From the texts to the request: the two tables and the numbers.
+ghost use Rattle.std.specs.Prelude.{◌≡◌, IfOk, IfSome, IsErrOf, None, Some, map, option_and_then, string_bytes};
+ghost use Rattle.command_words.specs.Given.{has_limits, now_of, parts_given};
+ghost use Rattle.command_words.specs.Numbers.{number_of};
+ghost use Rattle.command_words.specs.Request.{IsLawfulCommand, command_of, command_of_word, goes_with, make_of_words, options_of, request_from_parts, request_of};
+
+use crate::given::{Given, read_words};
+use crate::numbers::{count, number};
+use crate::{Command, Request, WordFault};
+use machine_profile::Options;
+use std::alloc::Global;
+
+const LEAST_ROWS: u32 = 1;
+
+const GREATEST_ROWS: u32 = 20_000;
+
+const LEAST_START: u32 = 0;
+
+const GREATEST_START: u32 = 2_147_483_647;
+
+/// The command of one word.
+fn plain_command(word: &str, loops: bool, json: bool) -> Option<Command>
+    ensures value { result ≡ command_of_word loops json word.now }
+    ensures lawful { IfSome result IsLawfulCommand }
+{
+    if word == "check" {
+        Some(Command::Check { loops, json })
+    } else if word == "text" {
+        Some(Command::Text)
+    } else if word == "passes" {
+        Some(Command::Passes)
+    } else if word == "live" {
+        Some(Command::Live)
+    } else {
+        None
+    }
+}
+
+/// The command of three words.
+fn make_command(word: &str, rows: &str, start: &str) -> Option<Command>
+    ensures value { result ≡ make_of_words word.now rows.now start.now }
+    ensures lawful { IfSome result IsLawfulCommand }
+{
+    if word != "make" {
+        return None;
+    }
+    let rows = count(rows, LEAST_ROWS, GREATEST_ROWS)?;
+    let start = count(start, LEAST_START, GREATEST_START)?;
+    Some(Command::Make { rows, start })
+}
+
+/// The command that the positional words name.
+fn command_in(given: &Given<'_>) -> Option<Command>
+    ensures value { result ≡ command_of (parts_given given.now) }
+    ensures lawful { IfSome result IsLawfulCommand }
+{
+    let word = given.first?;
+    match (given.second, given.third) {
+        (None, None) => plain_command(word, given.loops, given.json),
+        (Some(rows), Some(start)) => make_command(word, rows, start),
+        _ => None,
+    }
+}
+
+/// The number of an option that stands.
+fn number_in(value: Option<&str>) -> Option<i64>
+    ensures { result ≡ option_and_then number_of (now_of value.entry) }
+{
+    match value {
+        Some(text) => number(text),
+        None => None,
+    }
+}
+
+/// The values that the options give.
+fn options_in(given: &Given<'_>) -> Options
+    ensures { result ≡ options_of (parts_given given.now) }
+{
+    Options {
+        low: number_in(given.low),
+        high: number_in(given.high),
+        rack: number_in(given.rack),
+        hold: number_in(given.hold),
+        block: number_in(given.block),
+    }
+}
+
+/// Whether an option for a limit of the machine stands.
+fn has_limit(given: &Given<'_>) -> bool
+    ensures { result ≡ has_limits (parts_given given.now) }
+{
+    given.low.is_some() || given.high.is_some() || given.rack.is_some() || given.hold.is_some()
+}
+
+/// Whether each option that stands goes with the command.
+fn is_allowed(command: Command, given: &Given<'_>) -> bool
+    ensures { result ≡ goes_with command (parts_given given.now) }
+{
+    let has_flag = given.loops || given.json;
+    match command {
+        Command::Check { .. } => true,
+        Command::Text => given.block.is_none() && !has_flag,
+        Command::Passes | Command::Live => !has_flag,
+        Command::Make { .. } => !has_limit(given) && !has_flag,
+    }
+}
+
+/// What the texts ask for.
+fn requested(given: &Given<'_>) -> Option<Request>
+    ensures value { result ≡ request_from_parts (parts_given given.now) }
+    ensures lawful { IfSome result (λ request. IsLawfulCommand request.command) }
+{
+    let command = command_in(given)?;
+    if !is_allowed(command, given) {
+        return None;
+    }
+    Some(Request {
+        command,
+        options: options_in(given),
+    })
+}
+
+/// Reads the words after the program's name, from left to right. `Usage`: they are outside the grammar of the command line.
+/// `NoMemory`: memory ran out. Whether the options lie within their bounds is for `machine_profile` to say.
+pub fn request(alloc: Global, words: &[String]) -> Result<Request, WordFault>
+    ensures ok { IfOk result (λ request. request_of (map string_bytes words.now) ≡ Some request) }
+    ensures lawful { IfOk result (λ request. IsLawfulCommand request.command) }
+    ensures usage { IsErrOf result WordFault.Usage → request_of (map string_bytes words.now) ≡ None }
+{
+    let given = match read_words(alloc, words) {
+        Ok(given) => given,
+        Err(fault) => return Err(fault),
+    };
+    match requested(&given) {
+        Some(request) => Ok(request),
+        None => Err(WordFault::Usage),
+    }
+}
+
+#[cfg(test)]
+mod tests;

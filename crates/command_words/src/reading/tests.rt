@@ -1,0 +1,59 @@
+use super::*;
+
+const NONE: Options = Options {
+    low: None,
+    high: None,
+    rack: None,
+    hold: None,
+    block: None,
+};
+
+/// What the words ask for, or want of memory in place of it.
+fn asked(alloc: Global, texts: &[&str]) -> Result<Request, WordFault> {
+    let mut words = Vec::new(alloc);
+    for text in texts {
+        let word = String::from_str(alloc, text)?;
+        words.push(word)?;
+    }
+    request(alloc, &words)
+}
+
+#[test]
+fn check_has_options_and_flags(rt: HostRuntime) {
+    let words = ["--json", "check", "--low=-64", "--hold", "3"];
+    let options = Options {
+        low: Some(-64),
+        hold: Some(3),
+        ..NONE
+    };
+    let command = Command::Check {
+        loops: false,
+        json: true,
+    };
+    assert!(rt; asked(rt.alloc(), &words) == Ok(Request { command, options }));
+}
+
+#[test]
+fn make_has_rows_and_a_start(rt: HostRuntime) {
+    let command = Command::Make {
+        rows: 20_000,
+        start: 5,
+    };
+    let made = Request {
+        command,
+        options: NONE,
+    };
+    assert!(rt; asked(rt.alloc(), &["make", "20000", "--", "005"]) == Ok(made));
+}
+
+#[test]
+fn words_outside_the_grammar_are_refused(rt: HostRuntime) {
+    let alloc = rt.alloc();
+    let usage = Err(WordFault::Usage);
+    assert!(rt; asked(alloc, &[]) == usage);
+    assert!(rt; asked(alloc, &["make", "2"]) == usage);
+    assert!(rt; asked(alloc, &["live", "--json"]) == usage);
+    assert!(rt; asked(alloc, &["check", "--low", "-64"]) == usage);
+    assert!(rt; asked(alloc, &["check", "--hold", "2", "--hold", "2"]) == usage);
+    assert!(rt; asked(alloc, &["--help"]) == usage);
+}
