@@ -3,4 +3,5 @@
 
 mod carriers;
 mod number;
+mod rack;
 mod tokens;
