@@ -4,6 +4,7 @@
 mod carriers;
 mod head;
 mod number;
+mod rack;
 mod tokens;
 
 pub use head::{Head, HeadFault, read_head};
