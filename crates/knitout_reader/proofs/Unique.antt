@@ -1,5 +1,5 @@
 -- A token spells one number and one needle at most.
-use Rattle.std.proofs.Common.{◌≡◌, ◌⊎◌, ⊎_elim, ℕ, ◌<◌, ◌≤◌, ℤ, pos, ◌-ℤ◌, List, ◌∷◌, length, get_or, ap, sym, subst, ◌∙◌, refl, arith}
+use Rattle.std.proofs.Common.{◌≡◌, ◌⊎◌, ⊎_elim, ℕ, ◌≤◌, ℤ, pos, ◌-ℤ◌, List, ◌∷◌, get_or, ap, sym, subst, ◌∙◌, arith}
 use Rattle.knit_base.specs.declared.needle.Bed.{Bed}
 use Rattle.knitout_reader.specs.Numbers.{IsDigit, AreDigits, IsSigned, IsNeedle, number_of}
 use Rattle.knitout_reader.proofs.Signs.{one_bed, s_is_no_number, first_byte, other_bytes}

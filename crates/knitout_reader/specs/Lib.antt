@@ -1,3 +1,4 @@
 pub mod Head
+pub mod Carriers
 pub mod Numbers
 pub mod Tokens

@@ -2,6 +2,7 @@
 #![tactic(auto)]
 
 mod head;
+mod carriers;
 mod number;
 mod tokens;
 

@@ -1,5 +1,5 @@
 //! The tokens of a line, pulled one by one.
-ghost use Rattle.std.specs.Prelude.{◌≡◌, ◌+◌, ◌<◌, ◌≤◌, ◌*◌, [], ◌∷◌, length, position, take, slice_index, true, false, All, MatchOption, IfSome};
+ghost use Rattle.std.specs.Prelude.{◌≡◌, ◌+◌, ◌<◌, ◌≤◌, ◌*◌, [], ◌∷◌, length, ◌-◌, position, take, drop, slice_index, true, false, All, MatchOption, IfSome};
 ghost use Rattle.knitout_reader.specs.Tokens.{tokens_of, before_comment, is_blank, is_semicolon, IsToken};
 
 /// Where the comment of a line begins: at its first `;`, even inside what would else be a token.
@@ -27,6 +27,7 @@ pub(crate) fn next_token<'a>(code: &'a [u8]) -> Option<(&'a [u8], &'a [u8])>
     ensures split { MatchOption result (tokens_of code.now ≡ []) (λ found. tokens_of code.now ≡ found.0.now ∷ tokens_of found.1.now) }
     ensures shorter { IfSome result (λ found. length found.0.now + length found.1.now ≤ length code.now) }
     ensures token { IfSome result (λ found. IsToken found.0.now) }
+    ensures suffix { IfSome result (λ found. found.1.now ≡ drop (length code.now - length found.1.now) code.now) }
 {
     let start = count_blanks(code);
     if start == code.len() {
