@@ -2,9 +2,10 @@
 //!
 //! Promises that a contract of a crate above sees each of these types as the plain value that it stands for: a text as its
 //! bytes, `Lines` as a list of texts, `Yarns` and every other list type as a list, `Declared` as the list of its names.
-//! Definitions: `specs/Needle` (order, beds, sliders), `specs/Yarns` (sets of carriers as bits), `specs/Names` (look-up by
-//! name), `specs/Reasons` (which rule is broken first), `specs/Lines` (the lines of bytes) and `specs/Limits` (lawful
-//! profiles). Below it stand std, `indexmap` and `smallvec`.
+//! Definitions: `specs/Needle` (order, beds, sliders), `specs/Spelling` (how needles, racks and rules are written),
+//! `specs/Yarns` (sets of carriers as bits), `specs/Names` (look-up by name), `specs/Reasons` (which rule is broken first),
+//! `specs/Lines` (the lines of bytes) and `specs/Limits` (lawful profiles). Below it stand std, `indexmap`, `itoa` and
+//! `smallvec`.
 #![tactic(auto)]
 
 mod declared;
@@ -16,6 +17,7 @@ mod needle;
 mod profile;
 mod rule;
 mod setting;
+mod spelling;
 mod steps;
 mod text;
 mod yarns;
@@ -29,6 +31,7 @@ pub use needle::{Bed, Dir, Needle, NeedleList, needle_order};
 pub use profile::Profile;
 pub use rule::{Fault, Reason, Rule};
 pub use setting::Setting;
+pub use spelling::{append_needle, append_number, append_rack};
 pub use steps::Steps;
 pub use text::Text;
 pub use yarns::{CarrierNo, Yarns};

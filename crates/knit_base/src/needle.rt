@@ -2,6 +2,7 @@
 ghost use Rattle.std.specs.Prelude.{◌≡◌};
 ghost use Rattle.knit_base.specs.Needle.{by_bed_and_number};
 ghost use Rattle.knit_base.specs.Needle.{is_front, is_slider};
+ghost use Rattle.knit_base.specs.Spelling.{bed_word, dir_word};
 
 use crate::ListOf;
 use std::cmp::Ordering;
@@ -34,6 +35,18 @@ impl Bed {
             Bed::Front | Bed::Back => false,
         }
     }
+
+    /// The letters with which a needle's spelling begins.
+    pub fn letters(self) -> &'static str
+        ensures { result.now ≡ bed_word self }
+    {
+        match self {
+            Bed::Front => "f",
+            Bed::FrontSlider => "fs",
+            Bed::Back => "b",
+            Bed::BackSlider => "bs",
+        }
+    }
 }
 
 /// A needle: its bed and its number. Needles are ordered by bed, then by number.
@@ -51,6 +64,18 @@ pub type NeedleList = ListOf<Needle>;
 pub enum Dir {
     Right,
     Left,
+}
+
+impl Dir {
+    /// The sign of the direction.
+    pub fn sign(self) -> &'static str
+        ensures { result.now ≡ dir_word self }
+    {
+        match self {
+            Dir::Right => "+",
+            Dir::Left => "-",
+        }
+    }
 }
 
 /// The order of needles is by bed, and then by number.

@@ -1,4 +1,6 @@
 //! The rules, and what is said where one is broken.
+ghost use Rattle.std.specs.Prelude.{◌≡◌};
+ghost use Rattle.knit_base.specs.Spelling.{rule_name};
 
 /// The rules, in the order in which they are tried on a line. `docs/MODEL.md` states each.
 ///
@@ -22,6 +24,33 @@ pub enum Rule {
     NotAligned,
     SliderHolds,
     TooManyLoops,
+}
+
+impl Rule {
+    /// The name by which a report calls the rule.
+    pub fn name(self) -> &'static str
+        ensures { result.now ≡ rule_name self }
+    {
+        match self {
+            Rule::Unreadable => "Unreadable",
+            Rule::OffBed => "OffBed",
+            Rule::SliderForm => "SliderForm",
+            Rule::SameBed => "SameBed",
+            Rule::TwoSliders => "TwoSliders",
+            Rule::NoCarrier => "NoCarrier",
+            Rule::CarrierTwice => "CarrierTwice",
+            Rule::RackStep => "RackStep",
+            Rule::RackLimit => "RackLimit",
+            Rule::CarrierIsOut => "CarrierIsOut",
+            Rule::CarrierIsIn => "CarrierIsIn",
+            Rule::HookBusy => "HookBusy",
+            Rule::HookOther => "HookOther",
+            Rule::CarrierHooked => "CarrierHooked",
+            Rule::NotAligned => "NotAligned",
+            Rule::SliderHolds => "SliderHolds",
+            Rule::TooManyLoops => "TooManyLoops",
+        }
+    }
 }
 
 /// A broken rule, and the place of the token that breaks it: the operation word is at 0.

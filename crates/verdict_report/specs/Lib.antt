@@ -1,0 +1,3 @@
+pub mod Carriers
+pub mod Refusals
+pub mod VerdictText

@@ -1,0 +1,26 @@
+-- The lines of the program's refusals.
+use Rattle.std.specs.Prelude.{ℕ, List, ◌++◌, codes, decimal}
+use Rattle.verdict_report.specs.declared.refusal.Refusal.{Refusal}
+use Rattle.verdict_report.specs.declared.refusal.Refusal.TheVariants.{Usage, ReadFault, TooManyBytes, TooManyLines, TooManyBlocks, NotUtf8, LineLong, BadMagic, NoCarriers, TwoCarriers, CarrierNameTwice, ManyCarriers}
+
+-- a line of the file that can't be read
+abbrev pub bad_line : ℕ → List ℕ → List ℕ
+bad_line line cause = codes "bad input: line " ++ (decimal line ++ cause)
+
+-- a line of the head that can't be read
+abbrev pub bad_head_line : ℕ → List ℕ → List ℕ
+bad_head_line line cause = codes "bad input: head line " ++ (decimal line ++ cause)
+
+abbrev pub refusal_text : Refusal → List ℕ
+refusal_text Usage = codes "usage: check_main check|text|passes|live|make N START [options]\n"
+refusal_text ReadFault = codes "read fault\n"
+refusal_text TooManyBytes = codes "too large: bytes\n"
+refusal_text TooManyLines = codes "too large: lines\n"
+refusal_text TooManyBlocks = codes "too large: blocks\n"
+refusal_text (NotUtf8 line) = bad_line line (codes " NotUtf8\n")
+refusal_text (LineLong line) = bad_line line (codes " LineLong\n")
+refusal_text BadMagic = codes "bad input: head BadMagic\n"
+refusal_text NoCarriers = codes "bad input: head NoCarriers\n"
+refusal_text (TwoCarriers line) = bad_head_line line (codes " TwoCarriers\n")
+refusal_text (CarrierNameTwice line) = bad_head_line line (codes " CarrierNameTwice\n")
+refusal_text (ManyCarriers line) = bad_head_line line (codes " ManyCarriers\n")

@@ -1,0 +1,85 @@
+//! What the program says where it refuses its words or its input.
+ghost use Rattle.std.specs.Prelude.{◌≡◌, ◌++◌, OnOk, OnErr};
+ghost use Rattle.verdict_report.specs.Refusals.{bad_head_line, bad_line, refusal_text};
+
+use knit_base::{NoMemory, append_number};
+use std::alloc::Global;
+
+/// Why the program refuses its words or its input. Lines are numbered from 1 in the knitout text.
+#[derive(Clone, Copy, Debug, PartialEq, Eq)]
+pub enum Refusal {
+    /// The words of the command line aren't in the grammar, or an option is beyond its bounds.
+    Usage,
+    ReadFault,
+    TooManyBytes,
+    TooManyLines,
+    TooManyBlocks,
+    NotUtf8(u32),
+    LineLong(u32),
+    BadMagic,
+    NoCarriers,
+    TwoCarriers(u32),
+    CarrierNameTwice(u32),
+    ManyCarriers(u32),
+}
+
+// Appends the line that names a bad line of the file.
+fn append_bad_line(line: u32, cause: &str, out: &mut Vec<u8>) -> Result<(), NoMemory>
+    ensures { OnOk result (out.new.items ≡ out.old.items ++ bad_line line cause.now) }
+{
+    out.extend_from_slice(b"bad input: line ")?;
+    append_number(u64::from(line), out)?;
+    out.extend_from_slice(cause.as_bytes())?;
+    Ok(())
+}
+
+// Appends the line that names a bad line of the head.
+fn append_bad_head_line(line: u32, cause: &str, out: &mut Vec<u8>) -> Result<(), NoMemory>
+    ensures { OnOk result (out.new.items ≡ out.old.items ++ bad_head_line line cause.now) }
+{
+    out.extend_from_slice(b"bad input: head line ")?;
+    append_number(u64::from(line), out)?;
+    out.extend_from_slice(cause.as_bytes())?;
+    Ok(())
+}
+
+// Appends a text.
+fn append(text: &str, out: &mut Vec<u8>) -> Result<(), NoMemory>
+    ensures { OnOk result (out.new.items ≡ out.old.items ++ text.now) }
+{
+    out.extend_from_slice(text.as_bytes())?;
+    Ok(())
+}
+
+fn append_refusal(refusal: Refusal, out: &mut Vec<u8>) -> Result<(), NoMemory>
+    ensures { OnOk result (out.new.items ≡ out.old.items ++ refusal_text refusal) }
+{
+    match refusal {
+        Refusal::Usage => append(
+            "usage: check_main check|text|passes|live|make N START [options]\n",
+            out,
+        ),
+        Refusal::ReadFault => append("read fault\n", out),
+        Refusal::TooManyBytes => append("too large: bytes\n", out),
+        Refusal::TooManyLines => append("too large: lines\n", out),
+        Refusal::TooManyBlocks => append("too large: blocks\n", out),
+        Refusal::NotUtf8(line) => append_bad_line(line, " NotUtf8\n", out),
+        Refusal::LineLong(line) => append_bad_line(line, " LineLong\n", out),
+        Refusal::BadMagic => append("bad input: head BadMagic\n", out),
+        Refusal::NoCarriers => append("bad input: head NoCarriers\n", out),
+        Refusal::TwoCarriers(line) => append_bad_head_line(line, " TwoCarriers\n", out),
+        Refusal::CarrierNameTwice(line) => append_bad_head_line(line, " CarrierNameTwice\n", out),
+        Refusal::ManyCarriers(line) => append_bad_head_line(line, " ManyCarriers\n", out),
+    }
+}
+
+/// Appends the line that says why the program refuses.
+pub fn report_refusal(alloc: Global, refusal: Refusal, out: &mut Vec<u8>) -> Result<(), NoMemory>
+    ensures ok { OnOk result (out.new.items ≡ out.old.items ++ refusal_text refusal) }
+    ensures err { OnErr result (out.new.items ≡ out.old.items) }
+{
+    let mut text = Vec::new(alloc);
+    append_refusal(refusal, &mut text)?;
+    out.extend_from_slice(&text)?;
+    Ok(())
+}
