@@ -7,3 +7,4 @@ mod number;
 mod tokens;
 
 pub use head::{Head, HeadFault, read_head};
+pub use tokens::{code_of, comment_at, next_token};
