@@ -1,9 +1,9 @@
 -- The text and the names of a header.
-use Rattle.std.proofs.Common.{◌≡◌, ◌≢◌, ℕ, zero, suc, ◌+◌, ◌<◌, ◌≤◌, ◌⊎◌, ⊎_elim, ◌↔◌, Bool, true, false, ◌||◌, not, nat_eq, nat_lt, List, [], ◌∷◌, ◌++◌, length, take, drop, get_or, filter, All, Option, None, Some, IsSome, IsErrOf, Result, Ok, Err, MatchResult, MatchOption, IfSome, is_ok, is_some, take-append-drop, append-nil, position, ap, sym, subst, ◌∙◌, refl, arith, length-append, length-drop}
+use Rattle.std.proofs.Common.{◌≡◌, ◌≢◌, ℕ, zero, suc, ◌+◌, ◌<◌, ◌≤◌, ◌⊎◌, ⊎_elim, ◌↔◌, Bool, true, false, ◌||◌, not, nat_eq, ◌==◌, nat_lt, List, [], ◌∷◌, ◌++◌, length, take, drop, get_or, filter, All, Option, None, Some, IsSome, IsErrOf, Result, Ok, Err, MatchResult, MatchOption, IfSome, is_ok, is_some, take-append-drop, append-nil, position, ap, sym, subst, ◌∙◌, refl, arith, length-append, length-drop}
 use Rattle.std.specs.List.{slice_split, onto_first, position_or_len, list_any, sum_by}
 use Rattle.std.specs.Str.{bytes_eq, IsUtf8}
 use Rattle.std.specs.Option.{option_map}
-use Rattle.std.proofs.lemmas.Bool.{cond-true, cond-false, ltb-true, eqb-true, cases_lt, false≢true}
+use Rattle.std.proofs.lemmas.Bool.{eq-eqb, cond-true, cond-false, ltb-true, eqb-true, cases_lt, false≢true}
 use Rattle.std.proofs.lemmas.Bool.Decides.{Decides-eqb}
 use Rattle.std.proofs.Math.Bool.{or-true}
 use Rattle.std.proofs.lemmas.List.{length-take, get_or-take}
@@ -225,3 +225,11 @@ declared_all line text names rest isnt so_far none few =
     let lawful : nat_lt 64 (length (tokens_of text)) ≡ false =
     by_test (nat_lt 64 (length (tokens_of text))) (λ is. absurd (omega (arith, ltb-true 64 (length (tokens_of text)) is, ap length all))) (λ isnt. isnt) in
     cond-false (has_name_twice (tokens_of text)) _ _ isnt ∙ cond-false (nat_lt 64 (length (tokens_of text))) _ _ lawful ∙ ap Ok (sym all)
+
+-- a text without a line feed
+pub no_line_feed : (text : List ℕ) → list_any (λ byte. byte == 10) text ≡ false → HasNoLineEnd text
+no_line_feed text none k d inside e = false≢true (sym none ∙ list_any_at (λ byte. byte == 10) text k d inside (eq-eqb (get_or text k d) 10 e))
+
+pub not_true : (b : Bool) → not b ≡ true → b ≡ false
+not_true true e = sym e
+not_true false e = refl

@@ -188,3 +188,6 @@ fn has_name(text: &[u8], name: &[u8]) -> bool
     }
     false
 }
+
+#[cfg(test)]
+mod tests;

@@ -3,14 +3,14 @@ ghost use Rattle.std.specs.Prelude.{◌≡◌, ◌+◌, ◌<◌, ◌≤◌, ◌*
 ghost use Rattle.knitout_reader.specs.Tokens.{tokens_of, before_comment, is_blank, is_semicolon, IsToken};
 
 /// Where the comment of a line begins: at its first `;`, even inside what would else be a token.
-pub(crate) fn comment_at(line: &[u8]) -> Option<usize>
+pub fn comment_at(line: &[u8]) -> Option<usize>
     ensures { result ≡ position is_semicolon line.now }
 {
     line.iter().position(|byte| *byte == b';')
 }
 
 /// What stands before the comment.
-pub(crate) fn code_of(line: &[u8]) -> &[u8]
+pub fn code_of(line: &[u8]) -> &[u8]
     ensures code { result.now ≡ before_comment line.now }
     ensures short { length result.now ≤ length line.now }
 {
@@ -23,7 +23,7 @@ pub(crate) fn code_of(line: &[u8]) -> &[u8]
 /// The first token, and what stands behind it. `None` where no token is left.
 ///
 /// A line's tokens are pulled out of its code one after another, so reading a line takes no memory.
-pub(crate) fn next_token<'a>(code: &'a [u8]) -> Option<(&'a [u8], &'a [u8])>
+pub fn next_token<'a>(code: &'a [u8]) -> Option<(&'a [u8], &'a [u8])>
     ensures split { MatchOption result (tokens_of code.now ≡ []) (λ found. tokens_of code.now ≡ found.0.now ∷ tokens_of found.1.now) }
     ensures shorter { IfSome result (λ found. length found.0.now + length found.1.now ≤ length code.now) }
     ensures token { IfSome result (λ found. IsToken found.0.now) }

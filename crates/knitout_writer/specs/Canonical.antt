@@ -1,0 +1,65 @@
+-- The canonical spelling of a line.
+--
+-- It is this project's own choice: one space between two tokens, one spelling for each number, and comments as they are.
+use Rattle.std.specs.Prelude.{ℕ, List, [], ◌∷◌, ◌++◌, Option, None, Some, position, drop, slice_get, codes}
+use Rattle.std.specs.List.{filter_map, flat_map}
+use Rattle.knit_base.specs.declared.instr.Instr.{Instr}
+use Rattle.knit_base.specs.declared.instr.Instr.TheVariants.{CarryIn, CarryOut, HookIn, HookOut, ReleaseHook, Stitch, Pause, Extension, Rack, Knit, Tuck, Miss, Split, Xfer, Drop, Amiss}
+use Rattle.knit_base.specs.declared.instr.Read.{Read}
+use Rattle.knit_base.specs.declared.instr.Read.TheVariants as read
+use Rattle.knit_base.specs.declared.yarns.CarrierNo.{CarrierNo}
+use Rattle.knit_base.specs.Spelling.{dir_word, needle_text, rack_text}
+use Rattle.knitout_reader.specs.Tokens.{tokens_of, before_comment, is_semicolon}
+
+-- the names of the carriers
+abbrev pub carrier_names : List (List ℕ) → List CarrierNo → List (List ℕ)
+carrier_names names carriers = filter_map (λ c. slice_get names c.0) carriers
+
+-- the tokens, with a space before each
+abbrev pub each_spaced : List (List ℕ) → List ℕ
+each_spaced tokens = flat_map (λ token. 32 ∷ token) tokens
+
+-- the tokens, with one space between two
+abbrev pub spaced : List (List ℕ) → List ℕ
+spaced [] = []
+spaced (token ∷ tokens) = token ++ each_spaced tokens
+
+-- The tokens of the instruction's one spelling, where its line has these tokens. The tokens behind `stitch`, `pause` and an
+-- extension have no other spelling.
+abbrev pub canonical_tokens : List (List ℕ) → Instr → List (List ℕ) → List (List ℕ)
+canonical_tokens names (CarryIn cs) tokens = codes "in" ∷ carrier_names names cs
+canonical_tokens names (CarryOut cs) tokens = codes "out" ∷ carrier_names names cs
+canonical_tokens names (HookIn cs) tokens = codes "inhook" ∷ carrier_names names cs
+canonical_tokens names (HookOut cs) tokens = codes "outhook" ∷ carrier_names names cs
+canonical_tokens names (ReleaseHook cs) tokens = codes "releasehook" ∷ carrier_names names cs
+canonical_tokens names Stitch tokens = tokens
+canonical_tokens names Pause tokens = tokens
+canonical_tokens names Extension tokens = tokens
+canonical_tokens names (Rack q) tokens = codes "rack" ∷ rack_text q.0 ∷ []
+canonical_tokens names (Knit dir n cs) tokens = codes "knit" ∷ dir_word dir ∷ needle_text n ∷ carrier_names names cs
+canonical_tokens names (Tuck dir n cs) tokens = codes "tuck" ∷ dir_word dir ∷ needle_text n ∷ carrier_names names cs
+canonical_tokens names (Miss dir n cs) tokens = codes "miss" ∷ dir_word dir ∷ needle_text n ∷ carrier_names names cs
+canonical_tokens names (Split dir n n2 cs) tokens = codes "split" ∷ dir_word dir ∷ needle_text n ∷ needle_text n2 ∷ carrier_names names cs
+canonical_tokens names (Xfer n n2) tokens = codes "xfer" ∷ needle_text n ∷ needle_text n2 ∷ []
+canonical_tokens names (Drop n) tokens = codes "drop" ∷ needle_text n ∷ []
+canonical_tokens names (Amiss n) tokens = codes "amiss" ∷ needle_text n ∷ []
+
+abbrev pub comment_from : Option ℕ → List ℕ → List ℕ
+comment_from None line = []
+comment_from (Some at) line = drop at line
+
+-- the comment of a line: its first `;` and all that follows, or nothing
+abbrev pub comment_of : List ℕ → List ℕ
+comment_of line = comment_from (position is_semicolon line) line
+
+-- a comment behind an instruction, with one space before it
+abbrev pub comment_behind : List ℕ → List ℕ
+comment_behind [] = []
+comment_behind (byte ∷ bytes) = 32 ∷ byte ∷ bytes
+
+-- The canonical spelling of a line that reads so. A line that breaks a rule is its own spelling.
+abbrev pub canonical : List (List ℕ) → Read → List ℕ → List ℕ
+canonical names read.Blank line = []
+canonical names read.Comment line = comment_of line
+canonical names (read.Instr i) line = spaced (canonical_tokens names i (tokens_of (before_comment line))) ++ comment_behind (comment_of line)
+canonical names (read.Broken reason) line = line

@@ -1,0 +1,9 @@
+//! The canonical text of a knitout file.
+//!
+//! Promises that a line is written in its one spelling. Definitions: `specs/Canonical`. Below it stand `knitout_reader`, whose
+//! readings it writes, and `knit_base`.
+#![tactic(auto)]
+
+mod line;
+
+pub use line::write_line;
