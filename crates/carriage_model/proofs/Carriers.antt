@@ -1,5 +1,5 @@
 -- A run names declared carriers only.
-use Rattle.std.proofs.Common.{ℕ, ◌+◌, ◌<◌, ◌^◌, List, [], ◌∷◌, All, Option, None, Some, sym, subst, arith, inl, inr}
+use Rattle.std.proofs.Common.{◌≡◌, ℕ, ◌+◌, ◌<◌, ◌^◌, List, [], ◌∷◌, All, Option, None, Some, IfSome, Bool, true, false, cond, nat_eq, sym, subst, arith, inl, inr}
 use Rattle.std.specs.Int.{w64, bit_at, bit_not}
 use Rattle.std.specs.Option.{option_to_list}
 use Rattle.std.proofs.lemmas.Bool.{eqb-true, cases_lt}
@@ -25,8 +25,8 @@ use Rattle.carriage_model.specs.State.{State, empty_state}
 use Rattle.carriage_model.specs.Rules.{broken}
 use Rattle.carriage_model.specs.Steps.{step, step_instr}
 use Rattle.carriage_model.specs.Run.{run, run_on, Ended, Ends, Stops}
-use Rattle.carriage_model.specs.Loops.{loops_made, made_on, fact_made, loop_of_instr, formed}
-use Rattle.carriage_model.specs.Verdict.{IsVerdict, HasDeclared, NamesDeclared, HaveDeclared}
+use Rattle.carriage_model.specs.Loops.{loops_made, made_on, fact_made, loop_of_instr, formed, fact_of}
+use Rattle.carriage_model.specs.Verdict.{IsVerdict, HasDeclared, NamesDeclared, AreOfDeclared, IsOfDeclared}
 
 mask-below : (d : ℕ) (cs : List CarrierNo) → All (λ c. c.0 < d) cs → mask_of cs < 2 ^ d
 mask-below d [] all = pow_pos d
@@ -101,31 +101,44 @@ names-declared profile d first lines rs v lawful is =
     verdict-declared d lines v (run profile empty_state first rs) (loops_made profile empty_state first rs) is
     (run-below profile d empty_state first rs lawful (record { ins = pow_pos d; hook = pow_pos d }))
 
-abbrev IsOfDeclared : ℕ → LoopFact → Type 0
-IsOfDeclared d fact = All (λ c. c.0 < d) fact.yarns
-
-formed-declared : (d k : ℕ) (dir : Dir) (n : Needle) (cs : List CarrierNo) (through : List ℕ) → All (λ c. c.0 < d) cs → HaveDeclared d (option_to_list (formed k dir n cs through))
+formed-declared : (d k : ℕ) (dir : Dir) (n : Needle) (cs : List CarrierNo) (through : List ℕ) → All (λ c. c.0 < d) cs → AreOfDeclared d (option_to_list (formed k dir n cs through))
 formed-declared d k dir n [] through all = All-nil (IsOfDeclared d)
 formed-declared d k dir n (c ∷ cs) through all =
     All-cons (IsOfDeclared d) (record { line = k; needle = n; dir = dir; yarns = c ∷ cs; through = through }) [] all (All-nil (IsOfDeclared d))
 
-loop_of_instr-declared : (profile : Profile) (d k : ℕ) (i : Instr) (s : State) → IsLawful profile d i → HaveDeclared d (option_to_list (loop_of_instr k i s))
+loop_of_instr-declared : (profile : Profile) (d k : ℕ) (i : Instr) (s : State) → IsLawful profile d i → AreOfDeclared d (option_to_list (loop_of_instr k i s))
 loop_of_instr-declared profile d k (Knit dir n cs) s lawful = formed-declared d k dir n cs (s.stacks n) lawful.2.each
 loop_of_instr-declared profile d k (Tuck dir n cs) s lawful = formed-declared d k dir n cs [] lawful.2.each
 loop_of_instr-declared profile d k (Split dir n n2 cs) s lawful = formed-declared d k dir n cs (s.stacks n) lawful.4.each
 loop_of_instr-declared profile d k i s lawful = All-nil (IsOfDeclared d)
 
-fact_made-declared : (profile : Profile) (d k : ℕ) (r : Read) (s : State) → IsLawfulRead profile d r → HaveDeclared d (option_to_list (fact_made k r s))
+fact_made-declared : (profile : Profile) (d k : ℕ) (r : Read) (s : State) → IsLawfulRead profile d r → AreOfDeclared d (option_to_list (fact_made k r s))
 fact_made-declared profile d k (read.Instr i) s lawful = loop_of_instr-declared profile d k i s lawful
 fact_made-declared profile d k r s lawful = All-nil (IsOfDeclared d)
 
-made_on-declared : (d : ℕ) (b : Option Reason) (fact : Option LoopFact) (later : List LoopFact) → HaveDeclared d (option_to_list fact) → HaveDeclared d later → HaveDeclared d (made_on b fact later)
+made_on-declared : (d : ℕ) (b : Option Reason) (fact : Option LoopFact) (later : List LoopFact) → AreOfDeclared d (option_to_list fact) → AreOfDeclared d later → AreOfDeclared d (made_on b fact later)
 made_on-declared d None fact later here there = All-append (IsOfDeclared d) (option_to_list fact) later here there
 made_on-declared d (Some reason) fact later here there = All-nil (IsOfDeclared d)
 
 -- the loops of lawful readings are of declared carriers only
-pub loops_made-declared : (profile : Profile) (d : ℕ) (s : State) (k : ℕ) (rs : List Read) → All (IsLawfulRead profile d) rs → HaveDeclared d (loops_made profile s k rs)
+pub loops_made-declared : (profile : Profile) (d : ℕ) (s : State) (k : ℕ) (rs : List Read) → All (IsLawfulRead profile d) rs → AreOfDeclared d (loops_made profile s k rs)
 loops_made-declared profile d s k [] lawful = All-nil (IsOfDeclared d)
 loops_made-declared profile d s k (r ∷ rs) lawful =
     made_on-declared d (broken profile r s) (fact_made k r s) (loops_made profile (step k r s) (k + 1) rs)
     (fact_made-declared profile d k r s (All-head (IsLawfulRead profile d) r rs lawful)) (loops_made-declared profile d (step k r s) (k + 1) rs (All-tail (IsLawfulRead profile d) r rs lawful))
+
+chosen-declared : (d : ℕ) (b : Bool) (fact : LoopFact) (rest : Option LoopFact) → IsOfDeclared d fact → IfSome rest (IsOfDeclared d) → IfSome (cond b (Some fact) rest) (IsOfDeclared d)
+chosen-declared d true fact rest here there = here
+chosen-declared d false fact rest here there = there
+
+-- a loop that is found among loops of declared carriers is one of them
+fact_of-declared : (d line : ℕ) (facts : List LoopFact) → AreOfDeclared d facts → IfSome (fact_of line facts) (IsOfDeclared d)
+fact_of-declared d line [] all = tt
+fact_of-declared d line (fact ∷ facts) all =
+    chosen-declared d (nat_eq fact.line line) fact (fact_of line facts) (All-head (IsOfDeclared d) fact facts all) (fact_of-declared d line facts (All-tail (IsOfDeclared d) fact facts all))
+
+-- the loops of lawful readings that are found by their line
+pub found-declared : (profile : Profile) (d first line : ℕ) (rs : List Read) (fact : Option LoopFact) → All (IsLawfulRead profile d) rs
+    → fact ≡ fact_of line (loops_made profile empty_state first rs) → IfSome fact (IsOfDeclared d)
+found-declared profile d first line rs fact lawful is =
+    subst (λ o. IfSome o (IsOfDeclared d)) (sym is) (fact_of-declared d line (loops_made profile empty_state first rs) (loops_made-declared profile d empty_state first rs lawful))

@@ -1,11 +1,14 @@
 -- Where a run has come after some lines.
-use Rattle.std.proofs.Common.{◌≡◌, ℕ, ◌+◌, ◌<◌, ◌≤◌, List, [], ◌∷◌, ◌++◌, drop, length, get_or, None, Some, ap, sym, ◌∙◌, arith, add_assoc, length-append}
+use Rattle.std.proofs.Common.{◌≡◌, ℕ, ◌+◌, ◌<◌, ◌≤◌, List, [], ◌∷◌, ◌++◌, drop, length, get_or, Option, None, Some, is_some, true, refl, ap, sym, ◌∙◌, arith, add_assoc, length-append}
 use Rattle.std.specs.Option.{option_to_list}
+use Rattle.std.proofs.lemmas.Bool.{true≢false}
+use Rattle.std.proofs.lemmas.Bool.{true≢false}
 use Rattle.std.proofs.lemmas.List.{drop_more, drop_all}
 use Rattle.knit_base.specs.declared.profile.Profile.{Profile}
 use Rattle.knit_base.specs.declared.instr.Read.{Read}
 use Rattle.knit_base.specs.declared.rule.Reason.{Reason}
 use Rattle.carriage_model.specs.declared.machine.Machine.{Machine}
+use Rattle.carriage_model.specs.declared.verdict.LoopFact.{LoopFact}
 use Rattle.carriage_model.specs.State.{State, empty_state}
 use Rattle.carriage_model.specs.Rules.{broken}
 use Rattle.carriage_model.specs.Steps.{step}
@@ -40,11 +43,15 @@ loops-next profile reads first i r s within is sound =
     loops-line profile reads first i r s within is
     ∙ ap (λ b. made_on b (fact_made (first + i) r s) (loops_made profile (step (first + i) r s) (first + (i + 1)) (drop (i + 1) reads))) sound
 
-pub loops-stop : (profile : Profile) (reads : List Read) (first i : ℕ) (r : Read) (s : State) (reason : Reason) → i < length reads → r ≡ get_or reads i r → broken profile r s ≡ Some reason
+made_on-stop : (b : Option Reason) (fact : Option LoopFact) (later : List LoopFact) → is_some b ≡ true → made_on b fact later ≡ []
+made_on-stop None fact later e = absurd (true≢false (sym e))
+made_on-stop (Some reason) fact later e = refl
+
+pub loops-stop : (profile : Profile) (reads : List Read) (first i : ℕ) (r : Read) (s : State) → i < length reads → r ≡ get_or reads i r → is_some (broken profile r s) ≡ true
     → loops_made profile s (first + i) (drop i reads) ≡ []
-loops-stop profile reads first i r s reason within is broke =
+loops-stop profile reads first i r s within is broke =
     loops-line profile reads first i r s within is
-    ∙ ap (λ b. made_on b (fact_made (first + i) r s) (loops_made profile (step (first + i) r s) (first + (i + 1)) (drop (i + 1) reads))) broke
+    ∙ made_on-stop (broken profile r s) (fact_made (first + i) r s) (loops_made profile (step (first + i) r s) (first + (i + 1)) (drop (i + 1) reads)) broke
 
 pub loops-end : (profile : Profile) (reads : List Read) (first i : ℕ) (s : State) → length reads ≤ i → loops_made profile s (first + i) (drop i reads) ≡ []
 loops-end profile reads first i s past = ap (loops_made profile s (first + i)) (drop_all i reads past)

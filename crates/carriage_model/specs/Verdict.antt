@@ -49,6 +49,10 @@ abbrev pub NamesDeclared : ℕ → Verdict → Type 0
 NamesDeclared declared (verdict.Sound final) = HasDeclared declared final.ins × HasDeclared declared final.hook
 NamesDeclared declared (verdict.Broken fault) = Unit {0}
 
+-- each yarn of the loop is one of so many declared carriers
+abbrev pub IsOfDeclared : ℕ → LoopFact → Type 0
+IsOfDeclared declared fact = All (λ c. c.0 < declared) fact.yarns
+
 -- each yarn of each loop is one of so many declared carriers
-abbrev pub HaveDeclared : ℕ → List LoopFact → Type 0
-HaveDeclared declared = All (λ fact. All (λ c. c.0 < declared) fact.yarns)
+abbrev pub AreOfDeclared : ℕ → List LoopFact → Type 0
+AreOfDeclared declared = All (IsOfDeclared declared)

@@ -1,16 +1,19 @@
 //! The machine that knits: its state, the rules that need it, and the run of a program from empty beds.
 //!
-//! Promises that `run_plain` gives the verdict on a program, and names declared carriers only.
+//! Promises that `run_plain` gives the verdict on a program, that `facts_plain` lists the loops that it makes, and that
+//! `fact_plain` finds the loop of one line; each carrier that they name is declared.
 //! Definitions: `specs/State` (where a machine stands), `specs/Rules` (which rule a line breaks there), `specs/Steps` (what
 //! a line does), `specs/Run` (lines one after the other), `specs/Loops` (the loops that they make) and `specs/Verdict`.
 //! `specs/Machine` says which state the code's own `Machine` stands for. Below it stand std and `knit_base`.
 #![tactic(auto)]
 
+mod facts;
 mod machine;
 mod rules;
 mod run;
 mod steps;
 mod verdict;
 
+pub use facts::{fact_plain, facts_plain};
 pub use run::run_plain;
 pub use verdict::{Brief, Facts, Final, LoopFact, LoopLines, Stack, Stacks, Verdict};
