@@ -4,4 +4,6 @@
 mod carriers;
 mod number;
 mod rack;
+#[cfg(test)]
+mod token_tests;
 mod tokens;
