@@ -5,6 +5,8 @@ mod carriers;
 mod head;
 mod number;
 mod rack;
+#[cfg(test)]
+mod token_tests;
 mod tokens;
 
 pub use head::{Head, HeadFault, read_head};
