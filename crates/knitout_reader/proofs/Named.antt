@@ -46,15 +46,15 @@ pub first_broken-cons : {A : Type 0} (fails : A → Bool) (rule : Rule) (at : �
 first_broken-cons fails rule at x xs =
     ap (option_map (λ j. broken_at rule (at + j))) (position_from-zero fails (x ∷ xs))
     ∙ by_test (fails x)
-      (λ is.
-      ap (λ b. option_map (λ j. broken_at rule (at + j)) (cond b (Some 0) (position_from fails 1 xs))) is
-      ∙ ap (λ n. Some (broken_at rule n)) (omega arith)
-      ∙ sym (ap (λ b. cond b (Some (broken_at rule at)) (first_broken fails rule (at + 1) xs)) is))
-      (λ isnt.
-      ap (λ b. option_map (λ j. broken_at rule (at + j)) (cond b (Some 0) (position_from fails 1 xs))) isnt
-      ∙ shifted fails rule at 0 xs
-      ∙ ap (option_map (λ j. broken_at rule ((at + 1) + j))) (sym (position_from-zero fails xs))
-      ∙ sym (ap (λ b. cond b (Some (broken_at rule at)) (first_broken fails rule (at + 1) xs)) isnt))
+    (λ is.
+    ap (λ b. option_map (λ j. broken_at rule (at + j)) (cond b (Some 0) (position_from fails 1 xs))) is
+    ∙ ap (λ n. Some (broken_at rule n)) (omega arith)
+    ∙ sym (ap (λ b. cond b (Some (broken_at rule at)) (first_broken fails rule (at + 1) xs)) is))
+    (λ isnt.
+    ap (λ b. option_map (λ j. broken_at rule (at + j)) (cond b (Some 0) (position_from fails 1 xs))) isnt
+    ∙ shifted fails rule at 0 xs
+    ∙ ap (option_map (λ j. broken_at rule ((at + 1) + j))) (sym (position_from-zero fails xs))
+    ∙ sym (ap (λ b. cond b (Some (broken_at rule at)) (first_broken fails rule (at + 1) xs)) isnt))
 
 -- a name that a carrier has, in front
 named_first : (names : List (List ℕ)) (at : ℕ) (t : List ℕ) (ts : List (List ℕ)) → is_undeclared names t ≡ false → no_carrier names at (t ∷ ts) ≡ no_carrier names (at + 1) ts

@@ -60,4 +60,3 @@ one_needle token bed bed' z z' one other =
     (λ here. (here.0, one_signed one.0 z z' one.2 (subst (λ n. IsSigned n z') (sym here.1) other.2)))
     (λ longer. absurd (s_is_no_number longer.1.0 z (subst (λ n. IsSigned n z) longer.1.1 one.2)))
     (one_bed bed bed' one.0 other.0 z' (sym one.1 ∙ other.1) other.2)
-

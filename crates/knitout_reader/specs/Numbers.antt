@@ -1,5 +1,5 @@
 -- Numbers in digits, needles and racks.
-use Rattle.std.specs.Prelude.{◌≡◌, ◌⊎◌, ℕ, ◌+◌, ◌-◌, ◌*◌, ◌^◌, ◌<◌, ◌≤◌, ℤ, pos, ◌-ℤ◌, ◌≤ℤ◌, Bool, true, false, List, [], ◌++◌, length, fold, All, codes}
+use Rattle.std.specs.Prelude.{◌≡◌, ◌≢◌, ◌⊎◌, ℕ, ◌+◌, ◌-◌, ◌*◌, ◌^◌, ◌<◌, ◌≤◌, ℤ, pos, ◌-ℤ◌, ◌≤ℤ◌, Bool, true, false, List, [], ◌++◌, length, fold, All, codes}
 use Rattle.knit_base.specs.declared.needle.Bed.{Bed}
 use Rattle.knit_base.specs.Spelling.{bed_word}
 
@@ -34,11 +34,14 @@ abbrev pub IsSign : List ℕ → Bool → Type 0
 IsSign sign false = (sign ≡ []) ⊎ (sign ≡ codes "+")
 IsSign sign true = sign ≡ codes "-"
 
+abbrev pub IsNoPoint : ℕ → Type 0
+IsNoPoint byte = byte ≢ 46
+
 -- digits; or digits, a point and none or more digits; or a point and one or more digits
 abbrev pub IsDecimal : List ℕ → List ℕ → List ℕ → Type 0
 IsDecimal text whole fraction = All IsDigit whole × All IsDigit fraction
     × (((text ≡ whole) × (fraction ≡ []) × (0 < length whole))
-    ⊎ ((text ≡ whole ++ codes "." ++ fraction) × (0 < length whole + length fraction)))
+    ⊎ ((text ≡ whole ++ (codes "." ++ fraction)) × (0 < length whole + length fraction)))
 
 -- A rack: its sign, and the digits before and behind the point. Its value is the number of the whole and that of the
 -- fraction over 10 to the power of the fraction's length.

@@ -4,6 +4,7 @@
 mod head;
 mod carriers;
 mod number;
+mod rack;
 mod tokens;
 
 pub use head::{Head, HeadFault, read_head};

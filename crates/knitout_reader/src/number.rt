@@ -37,7 +37,7 @@ pub(crate) fn needle(token: &[u8]) -> Option<Written>
 }
 
 // What follows a word at the front of a text.
-fn after<'a>(text: &'a [u8], word: &[u8]) -> Option<&'a [u8]>
+pub(crate) fn after<'a>(text: &'a [u8], word: &[u8]) -> Option<&'a [u8]>
     ensures { MatchOption result ((rest : List ℕ) → text.now ≢ word.now ++ rest) (λ rest. text.now ≡ word.now ++ rest.now) }
 {
     text.strip_prefix(word)
