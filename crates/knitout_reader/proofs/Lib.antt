@@ -1,7 +1,12 @@
 pub mod Decimals
 pub mod Digits
+pub mod Marks
 pub mod Named
+pub mod OneShape
 pub mod Quarters
+pub mod ReadSoFar
+pub mod Rules
 pub mod Signs
+pub mod Spelled
 pub mod Splitting
 pub mod Unique

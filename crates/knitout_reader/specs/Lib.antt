@@ -1,3 +1,6 @@
 pub mod Carriers
 pub mod Numbers
+pub mod Operations
+pub mod Reads
+pub mod Shapes
 pub mod Tokens
