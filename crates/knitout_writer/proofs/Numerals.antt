@@ -1,5 +1,5 @@
 -- What numbers are written as spells them.
-use Rattle.std.proofs.Common.{◌≡◌, ◌⊎◌, inl, inr, ℕ, suc, ◌+◌, ◌-◌, ◌*◌, ◌/◌, ◌%◌, ◌^◌, ◌<◌, ◌≤◌, ℤ, pos, negsuc, ◌≤ℤ◌, false, true, ◌-ℤ◌, List, [], ◌∷◌, ◌++◌, length, All, ap, sym, subst, ◌∙◌, refl, arith, length-append}
+use Rattle.std.proofs.Common.{◌≡◌, ◌⊎◌, inl, inr, ℕ, suc, ◌+◌, ◌-◌, ◌*◌, ◌/◌, ◌%◌, ◌^◌, ◌<◌, ◌≤◌, ℤ, pos, negsuc, ◌≤ℤ◌, false, true, ◌||◌, nat_eq, ◌-ℤ◌, List, [], ◌∷◌, ◌++◌, length, All, ap, sym, subst, ◌∙◌, refl, arith, length-append}
 use Rattle.std.specs.Fmt.{decimal, signed_decimal}
 use Rattle.std.proofs.lemmas.Fmt.{decimal_by_steps}
 use Rattle.std.proofs.lemmas.Int.{ints}
@@ -50,8 +50,14 @@ signed_spells (negsuc n) small =
 pub needle_spells : (bed : Bed) (z : ℤ) → IsSmall z → IsNeedle (needle_text (record { bed = bed; at = z })) bed z
 needle_spells bed z small = (signed_decimal z, refl, signed_spells z small)
 
-digit_byte : (byte : ℕ) → IsDigit byte → IsWordByte byte
+no_blank : (byte : ℕ) → IsDigit byte → is_blank byte ≡ true → ⊥
+no_blank byte digit is =
+    by_test (nat_eq byte 32)
+    (λ space. omega (arith, eqb-true byte 32 space, digit))
+    (λ other. omega (arith, eqb-true byte 9 (sym (ap (λ b. b || nat_eq byte 9) other) ∙ is), digit))
+
+pub digit_byte : (byte : ℕ) → IsDigit byte → IsWordByte byte
 digit_byte byte digit = (
-  by_test (is_blank byte) (λ is. absurd ?) (λ isnt. isnt),
+  by_test (is_blank byte) (λ is. absurd (no_blank byte digit is)) (λ isnt. isnt),
   by_test (is_semicolon byte) (λ is. absurd (omega (arith, eqb-true byte 59 is))) (λ isnt. isnt),
 )

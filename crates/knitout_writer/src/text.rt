@@ -5,7 +5,7 @@ ghost use Rattle.knitout_reader.specs.Head.{IsHead};
 ghost use Rattle.knitout_writer.specs.Canonical.{IsCanonicalText, IsCanonicalLine, with_line_feeds};
 
 use crate::line::append_line;
-use knit_base::{Lines, NoMemory, Profile};
+use knit_base::{Declared, Lines, NoMemory, Profile};
 use knitout_reader::{Head, read_line};
 use std::alloc::Global;
 
@@ -63,10 +63,23 @@ fn append_body(
     ensures { OnOk result ((texts : List (List ℕ)) × AllZip (IsCanonicalLine profile.now head.now.declared) (drop head.now.lines lines.now) texts × (out.new.items ≡ out.old.items ++ with_line_feeds texts)) }
 {
     for i in head.lines..lines.len() {
-        let line = line_at(lines, i);
-        let read = read_line(alloc, line, profile, &head.declared)?;
-        append_line(&read, line.as_bytes(), &head.declared, out)?;
+        append_body_line(alloc, line_at(lines, i), profile, &head.declared, out)?;
         out.push(b'\n')?;
     }
     Ok(())
+}
+
+// Reads a line, and appends its canonical spelling.
+fn append_body_line(
+    alloc: Global,
+    line: &str,
+    profile: &Profile,
+    declared: &Declared,
+    out: &mut Vec<u8>,
+) -> Result<(), NoMemory>
+    requires { length line.now < 2 ^ 16 }
+    ensures { OnOk result ((text : List ℕ) × IsCanonicalLine profile.now declared.now line.now text × (out.new.items ≡ out.old.items ++ text)) }
+{
+    let read = read_line(alloc, line, profile, declared)?;
+    append_line(&read, line.as_bytes(), declared, out)
 }
