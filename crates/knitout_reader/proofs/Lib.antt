@@ -1,6 +1,6 @@
-pub mod Heads
 pub mod Decimals
 pub mod Digits
+pub mod Heads
 pub mod Marks
 pub mod Named
 pub mod OneShape

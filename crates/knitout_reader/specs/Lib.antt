@@ -1,5 +1,5 @@
-pub mod Head
 pub mod Carriers
+pub mod Head
 pub mod Numbers
 pub mod Operations
 pub mod Reads

@@ -1,17 +1,18 @@
 //! What the lines of a knitout file say.
 //!
 //! Promises that a line's reading is the one that its tokens have by the grammar and by the rules that need no machine, and that
-//! a body's readings are those of its lines. Definitions: `specs/Tokens` (tokens and comments), `specs/Numbers` (needles and
-//! racks), `specs/Shapes` (what a line spells), `specs/Carriers` (the rules of carriers) and `specs/Reads` (the other rules, and
-//! the reading). Below it stands `knit_base`.
+//! a body's readings are those of its lines. A head is read as far as it goes, or the first refusal that holds is told.
+//! Definitions: `specs/Tokens` (tokens and comments), `specs/Head` (heads), `specs/Numbers` (needles and racks), `specs/Shapes`
+//! (what a line spells), `specs/Carriers` (the rules of carriers) and `specs/Reads` (the other rules, and the reading). Below it
+//! stands `knit_base`.
 #![tactic(auto)]
 
-mod head;
 mod answers;
 mod body;
 mod carriers;
 mod carrying;
 mod forming;
+mod head;
 mod moving;
 mod number;
 mod operands;
@@ -19,10 +20,9 @@ mod rack;
 mod racking;
 mod read;
 mod tokens;
-
-pub use head::{Head, HeadFault, read_head};
-pub use tokens::{code_of, comment_at, next_token};
 mod words;
 
 pub use body::read_body;
+pub use head::{Head, HeadFault, read_head};
 pub use read::read_line;
+pub use tokens::{code_of, comment_at, next_token};
