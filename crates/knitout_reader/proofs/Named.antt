@@ -130,6 +130,7 @@ pub record GatheredSoFar (names : List (List ℕ)) (code : List ℕ) (at place s
   pub within : start ≤ length code
   pub room : place + length (tokens_of (rest_from code start)) < 2 ^ 16
   pub counted : place ≡ at + length yarns
+  pub taken : length yarns + length (tokens_of (rest_from code start)) ≡ length (tokens_of code)
   pub each : All (λ c. c.0 < length names) yarns
   pub set : (c : CarrierNo) → contains_carrier seen c ≡ is_among yarns c
   pub rule : carrier_rule names at (tokens_of code) ≡ rule_behind names yarns place (tokens_of (rest_from code start))
@@ -147,6 +148,7 @@ gathered-more names code at place start yarns after seen name behind c so_far ne
       within = omega arith;
       room = omega (arith, so_far.room, ap length tokens);
       counted = omega (arith, so_far.counted, length-append yarns (c ∷ []));
+      taken = omega (arith, so_far.taken, ap length tokens, length-append yarns (c ∷ []));
       each = All-push (λ d. d.0 < length names) yarns c so_far.each declared;
       set = seen-more seen yarns c small so_far.set;
       rule = so_far.rule

@@ -1,5 +1,5 @@
 //! The carriers that the tokens of a line name.
-ghost use Rattle.std.specs.Prelude.{◌≡◌, ◌+◌, ◌<◌, ◌^◌, length, List, ℕ, Some, None, IfOk, MatchResult};
+ghost use Rattle.std.specs.Prelude.{◌≡◌, ◌+◌, ◌<◌, ◌≤◌, ◌^◌, length, List, ℕ, Some, None, IfOk, IsOk, MatchResult};
 ghost use Rattle.knit_base.specs.Lawful.{AreDeclared};
 ghost use Rattle.knit_base.specs.Yarns.{contains_carrier};
 ghost use Rattle.knitout_reader.specs.Carriers.{no_carrier, carriers_of, carrier_rule};
@@ -12,7 +12,7 @@ use std::alloc::Global;
 /// The carriers that all the tokens of the code name, or the first rule that the list breaks: the first token that names
 /// no carrier, or else the first carrier that stands earlier in the list.
 ///
-/// `at` is the place of the first of these tokens in its line. Up to four carriers take no memory.
+/// `at` is the place of the first of these tokens in its line. Memory is taken, and can run out, from the fifth carrier on.
 pub(crate) fn carriers(
     alloc: Global,
     declared: &Declared,
@@ -23,6 +23,7 @@ pub(crate) fn carriers(
     ensures carriers { IfOk result (λ found. MatchResult found
         (λ yarns. (carrier_rule declared.now at (tokens_of code.now) ≡ None) × (yarns ≡ carriers_of declared.now (tokens_of code.now)))
         (λ reason. carrier_rule declared.now at (tokens_of code.now) ≡ Some reason)) }
+    ensures in_place { length (tokens_of code.now) ≤ 4 → IsOk result }
     ensures declared { IfOk result (λ found. IfOk found (λ yarns. AreDeclared (length declared.now) at yarns)) }
 {
     let mut yarns = Yarns::new(alloc);

@@ -19,6 +19,8 @@ mod operands;
 mod rack;
 mod racking;
 mod read;
+#[cfg(test)]
+mod token_tests;
 mod tokens;
 mod words;
 
