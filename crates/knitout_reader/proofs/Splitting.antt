@@ -1,9 +1,9 @@
 -- The first token of a text, and how many tokens there can be.
 use Rattle.std.proofs.Common.{◌≡◌, ℕ, ◌+◌, ◌-◌, ◌*◌, ◌<◌, ◌≤◌, Bool, true, false, List, [], ◌∷◌, ◌++◌, length, take, drop, get_or, filter, nat_lt, All, ap, sym, subst, ◌∙◌, refl, arith, ⊎_elim, append-nil, take-append-drop, length-drop}
 use Rattle.std.specs.List.{slice_split, onto_first, position_or_len}
-use Rattle.std.proofs.lemmas.List.{drop_all, length-take, get_or-drop, take_more, take_rest}
+use Rattle.std.proofs.lemmas.List.{drop_all, length-take, get_or-drop, take_rest}
 use Rattle.std.proofs.lemmas.Bool.{cond-true, cond-false, lt-ltb, ltb-true, false≢true, cases_lt}
-use Rattle.std.proofs.lemmas.List.Elements.{All-head, All-tail, All-push}
+use Rattle.std.proofs.lemmas.List.Elements.{All-head, All-tail}
 use Rattle.std.proofs.lemmas.List.Splits.{slice_split-cons_yes, slice_split-cons_no, slice_split_none, slice_split_at, length-slice_split}
 use Rattle.knit_base.proofs.Places.{by_test}
 use Rattle.knitout_reader.specs.Tokens.{tokens_of, before_comment, is_blank, is_semicolon, IsToken}
@@ -16,10 +16,6 @@ Blank byte = is_blank byte ≡ true
 
 abbrev pub Plain : ℕ → Type 0
 Plain byte = is_blank byte ≡ false
-
--- one byte more
-pub All-more : (P : ℕ → Type 0) (text : List ℕ) (i : ℕ) → i < length text → All P (take i text) → P (get_or text i 0) → All P (take (i + 1) text)
-All-more P text i within so_far here = subst (All P) (sym (take_more text i 0 within)) (All-push P (take i text) (get_or text i 0) so_far here)
 
 -- a run that isn't empty is kept
 kept : (run : List ℕ) (runs : List (List ℕ)) → 0 < length run → filter nonempty (run ∷ runs) ≡ run ∷ filter nonempty runs

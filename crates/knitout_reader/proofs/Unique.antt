@@ -8,7 +8,7 @@ use Rattle.knitout_reader.proofs.Signs.{one_bed, s_is_no_number, first_byte, oth
 pub digit_first : (digits rest : List ℕ) (byte : ℕ) → AreDigits digits → digits ≡ byte ∷ rest → 48 ≤ byte
 digit_first digits rest byte are is = (subst (λ (l : List ℕ). IsDigit (get_or l 0 0)) is (are.1 0 0 are.0)).0
 
--- a text with a sign begins with it
+-- a text, its digits and its value: without a sign, and with each of the two
 abbrev pub Plain : List ℕ → List ℕ → ℤ → Type 0
 Plain text digits z = (text ≡ digits) × (z ≡ pos (number_of digits))
 

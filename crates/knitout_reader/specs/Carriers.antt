@@ -19,6 +19,7 @@ no_carrier names at tokens = first_broken (is_undeclared names) NoCarrier at tok
 abbrev pub carriers_of : List (List ℕ) → List (List ℕ) → List CarrierNo
 carriers_of names tokens = filter_map (carrier_of names) tokens
 
+-- the carrier stands in the list
 abbrev pub is_among : List CarrierNo → CarrierNo → Bool
 is_among carriers c = list_any (λ d. nat_eq d.0 c.0) carriers
 

@@ -3,6 +3,7 @@ use Rattle.std.specs.Prelude.{◌≡◌, ◌≢◌, ◌⊎◌, ℕ, ◌+◌, ◌
 use Rattle.knit_base.specs.declared.needle.Bed.{Bed}
 use Rattle.knit_base.specs.Spelling.{bed_word}
 
+-- 0 to 9
 abbrev pub IsDigit : ℕ → Type 0
 IsDigit byte = (48 ≤ byte) × (byte ≤ 57)
 
@@ -34,6 +35,7 @@ abbrev pub IsSign : List ℕ → Bool → Type 0
 IsSign sign false = (sign ≡ []) ⊎ (sign ≡ codes "+")
 IsSign sign true = sign ≡ codes "-"
 
+-- any byte but the point
 abbrev pub IsNoPoint : ℕ → Type 0
 IsNoPoint byte = byte ≢ 46
 

@@ -6,6 +6,7 @@ use Rattle.std.specs.List.{slice_split, before_first}
 abbrev pub is_blank : ℕ → Bool
 is_blank byte = byte == 32 || byte == 9
 
+-- the byte that begins a comment
 abbrev pub is_semicolon : ℕ → Bool
 is_semicolon byte = byte == 59
 
