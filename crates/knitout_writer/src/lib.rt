@@ -9,3 +9,6 @@ mod text;
 
 pub use line::write_line;
 pub use text::write_text;
+
+#[cfg(test)]
+mod tests;
