@@ -1,8 +1,13 @@
-pub mod Heads
 pub mod Decimals
 pub mod Digits
+pub mod Heads
+pub mod Marks
 pub mod Named
+pub mod OneShape
 pub mod Quarters
+pub mod ReadSoFar
+pub mod Rules
 pub mod Signs
+pub mod Spelled
 pub mod Splitting
 pub mod Unique

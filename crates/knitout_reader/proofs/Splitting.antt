@@ -41,7 +41,7 @@ tokens_of-before token b text some are blank =
     ∙ ap (λ ts. token ∷ ts) (sym (ap (filter nonempty) (slice_split-cons_yes is_blank b text blank)))
 
 -- a token that goes on as long as it can
-tokens_of-token : (token text : List ℕ) → 0 < length token → All Plain token → (0 < length text → Blank (get_or text 0 0))
+pub tokens_of-token : (token text : List ℕ) → 0 < length token → All Plain token → (0 < length text → Blank (get_or text 0 0))
     → tokens_of (token ++ text) ≡ token ∷ tokens_of text
 tokens_of-token token [] some are ends = ap tokens_of (append-nil token) ∙ tokens_of-last token some are
 tokens_of-token token (b ∷ text) some are ends = tokens_of-before token b text some are (ends (omega arith))

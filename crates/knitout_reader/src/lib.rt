@@ -1,13 +1,32 @@
-//! Knitout lines, read.
+//! What the lines of a knitout file say.
+//!
+//! Promises that a line's reading is the one that its tokens have by the grammar and by the rules that need no machine, and that
+//! a body's readings are those of its lines. A head is read as far as it goes, or the first refusal that holds is told.
+//! Definitions: `specs/Tokens` (tokens and comments), `specs/Head` (heads), `specs/Numbers` (needles and racks), `specs/Shapes`
+//! (what a line spells), `specs/Carriers` (the rules of carriers) and `specs/Reads` (the other rules, and the reading). Below it
+//! stands `knit_base`.
 #![tactic(auto)]
 
 mod carriers;
 mod head;
+mod answers;
+mod body;
+mod carriers;
+mod carrying;
+mod forming;
+mod head;
+mod moving;
 mod number;
+mod operands;
 mod rack;
+mod racking;
+mod read;
 #[cfg(test)]
 mod token_tests;
 mod tokens;
+mod words;
 
+pub use body::read_body;
 pub use head::{Head, HeadFault, read_head};
+pub use read::read_line;
 pub use tokens::{code_of, comment_at, next_token};

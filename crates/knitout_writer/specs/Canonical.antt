@@ -1,14 +1,17 @@
 -- The canonical spelling of a line.
 --
 -- It is this project's own choice: one space between two tokens, one spelling for each number, and comments as they are.
-use Rattle.std.specs.Prelude.{ℕ, List, [], ◌∷◌, ◌++◌, Option, None, Some, position, drop, slice_get, codes}
-use Rattle.std.specs.List.{filter_map, flat_map}
+use Rattle.std.specs.Prelude.{◌≡◌, ℕ, List, [], ◌∷◌, ◌++◌, Option, None, Some, position, take, drop, slice_get, codes}
+use Rattle.std.specs.List.{filter_map, flat_map, AllZip}
 use Rattle.knit_base.specs.declared.instr.Instr.{Instr}
 use Rattle.knit_base.specs.declared.instr.Instr.TheVariants.{CarryIn, CarryOut, HookIn, HookOut, ReleaseHook, Stitch, Pause, Extension, Rack, Knit, Tuck, Miss, Split, Xfer, Drop, Amiss}
 use Rattle.knit_base.specs.declared.instr.Read.{Read}
 use Rattle.knit_base.specs.declared.instr.Read.TheVariants as read
+use Rattle.knit_base.specs.declared.profile.Profile.{Profile}
 use Rattle.knit_base.specs.declared.yarns.CarrierNo.{CarrierNo}
 use Rattle.knit_base.specs.Spelling.{dir_word, needle_text, rack_text}
+use Rattle.knitout_reader.specs.declared.head.Head.{Head}
+use Rattle.knitout_reader.specs.Reads.{Reads}
 use Rattle.knitout_reader.specs.Tokens.{tokens_of, before_comment, is_semicolon}
 
 -- the names of the carriers
@@ -63,3 +66,17 @@ canonical names read.Blank line = []
 canonical names read.Comment line = comment_of line
 canonical names (read.Instr i) line = spaced (canonical_tokens names i (tokens_of (before_comment line))) ++ comment_behind (comment_of line)
 canonical names (read.Broken reason) line = line
+
+-- the text is the canonical spelling of the line
+abbrev pub IsCanonicalLine : Profile → List (List ℕ) → List ℕ → List ℕ → Type 0
+IsCanonicalLine profile names line text = (r : Read) × Reads profile names line r × (text ≡ canonical names r line)
+
+-- the lines, with a line feed behind each
+abbrev pub with_line_feeds : List (List ℕ) → List ℕ
+with_line_feeds lines = flat_map (λ line. line ++ 10 ∷ []) lines
+
+-- The canonical text of a file: the lines of its head as they are, and each line of its body in its canonical spelling.
+abbrev pub IsCanonicalText : Profile → Head → List (List ℕ) → List ℕ → Type 0
+IsCanonicalText profile head lines text =
+    (body : List (List ℕ)) × AllZip (IsCanonicalLine profile head.declared) (drop head.lines lines) body
+    × (text ≡ with_line_feeds (take head.lines lines) ++ with_line_feeds body)

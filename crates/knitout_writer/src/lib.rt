@@ -5,5 +5,10 @@
 #![tactic(auto)]
 
 mod line;
+mod text;
 
 pub use line::write_line;
+pub use text::write_text;
+
+#[cfg(test)]
+mod tests;

@@ -1,0 +1,85 @@
+//! Whole files in their canonical spelling.
+ghost use Rattle.std.specs.Prelude.{◌≡◌, ◌<◌, ◌≤◌, ◌^◌, ◌++◌, [], length, take, drop, slice_index_or, OnOk, OnErr, List, ℕ};
+ghost use Rattle.std.specs.List.{AllZip};
+ghost use Rattle.knitout_reader.specs.Head.{IsHead};
+ghost use Rattle.knitout_writer.specs.Canonical.{IsCanonicalText, IsCanonicalLine, with_line_feeds};
+
+use crate::line::append_line;
+use knit_base::{Declared, Lines, NoMemory, Profile};
+use knitout_reader::{Head, read_line};
+use std::alloc::Global;
+
+/// Appends the canonical text of the file with these lines: the lines of its head as they are, and each line of its body in its
+/// canonical spelling, each with a line feed.
+///
+/// The head of what is written may be longer than `head`: a body line that is blanks and a comment is written from its `;` on.
+pub fn write_text(
+    alloc: Global,
+    lines: &Lines,
+    head: &Head,
+    profile: &Profile,
+    out: &mut Vec<u8>,
+) -> Result<(), NoMemory>
+    requires { IsHead lines.now head.now }
+    ensures ok { OnOk result ((text : List ℕ) × IsCanonicalText profile.now head.now lines.now text × (out.new.items ≡ out.old.items ++ text)) }
+    ensures err { OnErr result (out.new.items ≡ out.old.items) }
+{
+    let mut text = Vec::new(alloc);
+    append_head(lines, head.lines, &mut text)?;
+    append_body(alloc, lines, head, profile, &mut text)?;
+    out.extend_from_slice(&text)?;
+    Ok(())
+}
+
+fn line_at(lines: &Lines, i: u32) -> &str
+    requires { i < length lines.now }
+    ensures text { result.now ≡ slice_index_or lines.now i [] }
+    ensures short { length result.now < 2 ^ 16 }
+{
+    lines.get(i).unwrap()
+}
+
+// Appends this many lines as they are, each with a line feed.
+fn append_head(lines: &Lines, count: u32, out: &mut Vec<u8>) -> Result<(), NoMemory>
+    requires { count ≤ length lines.now }
+    ensures { OnOk result (out.new.items ≡ out.old.items ++ with_line_feeds (take count lines.now)) }
+{
+    for i in 0..count {
+        out.extend_from_slice(line_at(lines, i).as_bytes())?;
+        out.push(b'\n')?;
+    }
+    Ok(())
+}
+
+// Appends the lines behind the head, each in its canonical spelling and with a line feed.
+fn append_body(
+    alloc: Global,
+    lines: &Lines,
+    head: &Head,
+    profile: &Profile,
+    out: &mut Vec<u8>,
+) -> Result<(), NoMemory>
+    requires { head.now.lines ≤ length lines.now }
+    ensures { OnOk result ((texts : List (List ℕ)) × AllZip (IsCanonicalLine profile.now head.now.declared) (drop head.now.lines lines.now) texts × (out.new.items ≡ out.old.items ++ with_line_feeds texts)) }
+{
+    for i in head.lines..lines.len() {
+        append_body_line(alloc, line_at(lines, i), profile, &head.declared, out)?;
+        out.push(b'\n')?;
+    }
+    Ok(())
+}
+
+// Reads a line, and appends its canonical spelling.
+fn append_body_line(
+    alloc: Global,
+    line: &str,
+    profile: &Profile,
+    declared: &Declared,
+    out: &mut Vec<u8>,
+) -> Result<(), NoMemory>
+    requires { length line.now < 2 ^ 16 }
+    ensures { OnOk result ((text : List ℕ) × IsCanonicalLine profile.now declared.now line.now text × (out.new.items ≡ out.old.items ++ text)) }
+{
+    let read = read_line(alloc, line, profile, declared)?;
+    append_line(&read, line.as_bytes(), declared, out)
+}
