@@ -1,0 +1,4 @@
+pub mod Chain
+pub mod Names
+pub mod Plain
+pub mod Written

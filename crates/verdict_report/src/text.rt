@@ -65,8 +65,8 @@ pub(crate) fn held(stacks: &[Stack]) -> u64
     held
 }
 
-// Appends a label and a number.
-fn append_labelled(label: &str, number: u64, out: &mut Vec<u8>) -> Result<(), NoMemory>
+/// Appends a label and a number.
+pub(crate) fn append_labelled(label: &str, number: u64, out: &mut Vec<u8>) -> Result<(), NoMemory>
     ensures { OnOk result (out.new.items ≡ out.old.items ++ labelled label.now number) }
 {
     out.extend_from_slice(label.as_bytes())?;

@@ -1,0 +1,89 @@
+-- The text of a verdict's value piece by piece, for private clauses. `proofs/Written` shows that it is the value's compact text.
+use Rattle.std.specs.Prelude.{ℕ, Option, None, Some, List, [], ◌∷◌, ◌++◌, length, flat_map, codes, decimal, unwrap_or, slice_get}
+use Rattle.json.specs.Print.{quoted}
+use Rattle.knit_base.specs.Spelling.{dir_word, needle_text, rack_text, rule_name}
+use Rattle.knit_base.specs.declared.needle.Dir.{Dir}
+use Rattle.knit_base.specs.declared.needle.Needle.{Needle}
+use Rattle.knit_base.specs.declared.rule.Fault.{Fault}
+use Rattle.knit_base.specs.declared.rule.Rule.{Rule}
+use Rattle.knit_base.specs.declared.yarns.CarrierNo.{CarrierNo}
+use Rattle.carriage_model.specs.declared.verdict.Final.{Final}
+use Rattle.carriage_model.specs.declared.verdict.LoopFact.{LoopFact}
+use Rattle.carriage_model.specs.declared.verdict.Stack.{Stack}
+use Rattle.carriage_model.specs.declared.verdict.Verdict.{Verdict}
+use Rattle.carriage_model.specs.declared.verdict.Verdict.TheVariants.{Sound, Broken}
+use Rattle.verdict_report.specs.Carriers.{carriers_in}
+use Rattle.verdict_report.specs.VerdictText.{Text, held_of, labelled}
+
+-- a comma and the text of the item
+abbrev pub next_text : {A : Type 0} → (A → Text) → A → Text
+next_text text item = codes "," ++ text item
+
+-- the items behind the first
+abbrev pub more_text : {A : Type 0} → (A → Text) → List A → Text
+more_text text items = flat_map (next_text text) items
+
+abbrev pub list_text : {A : Type 0} → (A → Text) → List A → Text
+list_text text [] = codes "[]"
+list_text text (item ∷ items) = codes "[" ++ (text item ++ (more_text text items ++ codes "]"))
+
+-- a name as JSON has it, where the strings are the names as JSON has them
+abbrev pub string_of : List Text → CarrierNo → Text
+string_of strings c = unwrap_or (slice_get strings c.0) (codes "\"\"")
+
+-- lists behind their keys
+abbrev pub names_member : Text → List Text → List CarrierNo → Text
+names_member key strings carriers = key ++ list_text (string_of strings) carriers
+
+abbrev pub lines_member : Text → List ℕ → Text
+lines_member key lines = key ++ list_text decimal lines
+
+abbrev pub set_member : Text → List Text → ℕ → Text
+set_member key strings set = names_member key strings (carriers_in (length strings) set)
+
+-- the needle, behind a list or a number
+abbrev pub needle_member : Needle → Text
+needle_member needle = codes ",\"needle\":\"" ++ (needle_text needle ++ codes "\"")
+
+unfoldable pub stack_json : Stack → Text
+stack_json stack = lines_member (codes "{\"loops\":") stack.loops ++ (needle_member stack.needle ++ codes "}")
+
+abbrev pub dir_member : Dir → Text
+dir_member dir = codes "{\"dir\":\"" ++ (dir_word dir ++ codes "\"")
+
+-- the first three members of a loop
+unfoldable pub loop_place : LoopFact → Text
+loop_place fact = dir_member fact.dir ++ (labelled (codes ",\"line\":") fact.line ++ needle_member fact.needle)
+
+unfoldable pub loop_json : List Text → LoopFact → Text
+loop_json strings fact = loop_place fact ++ (lines_member (codes ",\"through\":") fact.through
+    ++ (names_member (codes ",\"yarns\":") strings fact.yarns ++ codes "}"))
+
+abbrev pub loops_member : List Text → Option (List LoopFact) → Text
+loops_member strings None = codes ""
+loops_member strings (Some facts) = codes ",\"made_loops\":" ++ list_text (loop_json strings) facts
+
+abbrev pub sound_front : List Text → Final → Text
+sound_front strings final = labelled (codes "{\"held\":") (held_of final.stacks) ++ (set_member (codes ",\"hook\":") strings final.hook
+    ++ (set_member (codes ",\"in\":") strings final.ins ++ (labelled (codes ",\"lines\":") final.lines ++ labelled (codes ",\"made\":") final.made)))
+
+abbrev pub sound_back : Final → Text
+sound_back final = codes ",\"needles\":" ++ (list_text stack_json final.stacks ++ (codes ",\"rack\":\"" ++ (rack_text final.rack.0 ++ codes "\",\"verdict\":\"sound\"}")))
+
+abbrev pub broken_front : Fault → Text
+broken_front fault = labelled (codes "{\"at\":") fault.reason.at ++ labelled (codes ",\"line\":") fault.line
+
+abbrev pub broken_back : Text → Rule → Text
+broken_back line rule = codes ",\"rule\":\"" ++ (rule_name rule ++ (codes "\",\"text\":" ++ (quoted line ++ codes ",\"verdict\":\"broken\"}")))
+
+abbrev pub front_text : List Text → Verdict → Text
+front_text strings (Sound final) = sound_front strings final
+front_text strings (Broken fault) = broken_front fault
+
+abbrev pub back_text : Text → Verdict → Text
+back_text line (Sound final) = sound_back final
+back_text line (Broken fault) = broken_back line fault.reason.rule
+
+-- the whole line
+abbrev pub json_line : List Text → Text → Verdict → Option (List LoopFact) → Text
+json_line strings line verdict facts = front_text strings verdict ++ (loops_member strings facts ++ (back_text line verdict ++ codes "\n"))
