@@ -48,6 +48,13 @@ impl MemorySink {
             faults: 0,
         })
     }
+
+    /// The bytes that it has taken.
+    pub fn as_slice(&self) -> &[u8]
+        ensures { result.now ≡ self.now.taken }
+    {
+        &self.bytes
+    }
 }
 
 impl Sink for MemorySink {

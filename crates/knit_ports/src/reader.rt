@@ -8,10 +8,11 @@ use crate::{Failed, Source};
 use std::io::{ErrorKind, Read};
 use std::marker::Model;
 
-// How often a read is made that is interrupted each time.
+// How often a read is made that a signal interrupts each time.
 const TRIES: u32 = 1_000;
 
-/// A source over a reader of std. Its count rises at each read that fails. A read that a signal interrupts is tried again.
+/// A source over a reader of std. Its count rises at each read that fails. A read that a signal interrupts is made again,
+/// 1,000 times at most.
 #[derive(Drop)]
 pub struct ReaderSource<R> {
     reader: R,

@@ -37,6 +37,7 @@ fn a_sink_in_memory_takes_pieces_up_to_its_room(rt: HostRuntime) -> Result<(), F
     assert_eq!(rt; sink.write(&[3, 4]), Ok(1));
     assert_eq!(rt; sink.write(&[4]), Err(Failed));
     assert_eq!(rt; sink.write(&[]), Ok(0));
+    assert_eq!(rt; sink.as_slice(), [1, 2, 3].as_slice());
     Ok(())
 }
 
@@ -65,6 +66,7 @@ fn a_report_is_written_whole(rt: HostRuntime) -> Result<(), Fail> {
     let mut sink = MemorySink::of(rt.alloc(), 2, 3, Vec::new(rt.alloc()))?;
     assert_eq!(rt; write_report(&mut sink, &[1, 2, 3]), Ok(()));
     assert_eq!(rt; write_report(&mut sink, &[4]), Err(Failed));
+    assert_eq!(rt; sink.as_slice(), [1, 2, 3].as_slice());
     Ok(())
 }
 

@@ -8,11 +8,11 @@ use crate::{Failed, Sink};
 use std::io::{ErrorKind, Write};
 use std::marker::Model;
 
-// How often a write is made that is interrupted each time.
+// How often a write is made that a signal interrupts each time.
 const TRIES: u32 = 1_000;
 
 /// A sink over a writer of std. Its count rises at each write that fails or takes nothing of a piece that isn't empty. A
-/// write that a signal interrupts is tried again.
+/// write that a signal interrupts is made again, 1,000 times at most.
 #[derive(Drop)]
 pub struct WriterSink<W> {
     writer: W,
