@@ -107,6 +107,7 @@ command_of_words loops json (word ∷ rows ∷ []) = None
 command_of_words loops json (word ∷ rows ∷ start ∷ []) = make_of_words word rows start
 command_of_words loops json (word ∷ rows ∷ start ∷ next ∷ more) = None
 
+-- the command that the parts name
 abbrev pub command_of : Parts → Option Command
 command_of parts = command_of_words parts.loops parts.json parts.words
 
@@ -135,9 +136,11 @@ abbrev pub with_options : Parts → Command → Option Request
 with_options parts command =
     if goes_with command parts then Some (record { command = command; options = options_of parts }) else None
 
+-- the command that the parts name, with their options
 abbrev pub request_from_parts : Parts → Option Request
 request_from_parts parts = option_and_then (with_options parts) (command_of parts)
 
+-- what the items ask for, where they are lawful
 abbrev pub request_from : List Item → Option Request
 request_from items = if is_lawful items then request_from_parts (parts_of items) else None
 

@@ -8,6 +8,7 @@ use Rattle.command_words.specs.Grammar.{Item, Name, Place, Setting, Text, is_end
 abbrev pub is_value : Text → Bool
 is_value word = not (bytes_eq word (45 ∷ 45 ∷ [])) && (not (is_some (long_of word)) && not (is_some (short_of word)))
 
+-- the words as clap reads them, from left to right
 abbrev pub taken_of : Option Name → List Text → Option (List Item)
 taken_of None [] = Some []
 taken_of (Some n) [] = None

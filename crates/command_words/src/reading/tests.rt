@@ -1,4 +1,5 @@
 use super::*;
+use std::alloc::AllocError;
 
 const NONE: Options = Options {
     low: None,
@@ -8,13 +9,18 @@ const NONE: Options = Options {
     block: None,
 };
 
-/// What the words ask for, or want of memory in place of it.
-fn asked(alloc: Global, texts: &[&str]) -> Result<Request, WordFault> {
+fn strings(alloc: Global, texts: &[&str]) -> Result<Vec<String>, AllocError> {
     let mut words = Vec::new(alloc);
     for text in texts {
         let word = String::from_str(alloc, text)?;
         words.push(word)?;
     }
+    Ok(words)
+}
+
+/// What the words ask for.
+fn asked(alloc: Global, texts: &[&str]) -> Result<Request, WordFault> {
+    let words = strings(alloc, texts)?;
     request(alloc, &words)
 }
 
