@@ -7,8 +7,6 @@
 //! stands `knit_base`.
 #![tactic(auto)]
 
-mod carriers;
-mod head;
 mod answers;
 mod body;
 mod carriers;

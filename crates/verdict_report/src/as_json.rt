@@ -2,7 +2,8 @@
 ghost use Rattle.std.specs.Prelude.{◌≡◌, ◌≤◌, ◌++◌, ◌∷◌, [], length, map, codes, decimal, string_bytes, IfOk, OnOk, OnErr};
 ghost use Rattle.std.specs.Option.{option_copied};
 ghost use Rattle.json.specs.Print.{quoted};
-ghost use Rattle.verdict_report.specs.Carriers.{carrier, HasDeclared, HaveDeclared, name_of};
+ghost use Rattle.carriage_model.specs.Verdict.{NamesDeclared};
+ghost use Rattle.verdict_report.specs.Carriers.{carrier, name_of, IfGivenDeclared};
 ghost use Rattle.verdict_report.specs.JsonText.{back_text, broken_back, broken_front, dir_member, front_text, json_line, lines_member, list_text, loop_json, loop_place, loops_member, more_text, names_member, needle_member, next_text, set_member, sound_back, sound_front, stack_json, string_of};
 ghost use Rattle.verdict_report.specs.VerdictJson.{verdict_json};
 
@@ -421,8 +422,8 @@ pub fn report_json(
     broken: &str,
     out: &mut Vec<u8>,
 ) -> Result<(), NoMemory>
-    requires declared { HasDeclared (length declared.now) verdict.now }
-    requires declared_loops { HaveDeclared (length declared.now) (option_copied facts) }
+    requires declared { NamesDeclared (length declared.now) verdict.now }
+    requires declared_loops { IfGivenDeclared (length declared.now) (option_copied facts) }
     ensures ok { OnOk result (out.new.items ≡ out.old.items ++ verdict_json declared.now broken.now verdict.now (option_copied facts.entry)) }
     ensures err { OnErr result (out.new.items ≡ out.old.items) }
 {

@@ -1,7 +1,8 @@
 //! A verdict as text.
 ghost use Rattle.std.specs.Prelude.{◌≡◌, ◌++◌, ◌<◌, ◌^◌, [], length, codes, decimal, flat_map, OnOk, OnErr};
 ghost use Rattle.std.specs.Option.{option_copied};
-ghost use Rattle.verdict_report.specs.Carriers.{HasDeclared, HaveDeclared};
+ghost use Rattle.carriage_model.specs.Verdict.{NamesDeclared};
+ghost use Rattle.verdict_report.specs.Carriers.{IfGivenDeclared};
 ghost use Rattle.verdict_report.specs.VerdictText.{broken_brief, broken_text, end_text, held_of, labelled, line_word, lines_text, loop_text, loops_text, name_word, names_text, place_text, rule_word, set_text, sound_brief, sound_text, stack_text, verdict_text};
 
 use crate::carriers::carriers_of;
@@ -248,8 +249,8 @@ pub fn report_text(
     broken: &str,
     out: &mut Vec<u8>,
 ) -> Result<(), NoMemory>
-    requires declared { HasDeclared (length declared.now) verdict.now }
-    requires declared_loops { HaveDeclared (length declared.now) (option_copied facts) }
+    requires declared { NamesDeclared (length declared.now) verdict.now }
+    requires declared_loops { IfGivenDeclared (length declared.now) (option_copied facts) }
     ensures ok { OnOk result (out.new.items ≡ out.old.items ++ verdict_text declared.now broken.now verdict.now (option_copied facts.entry)) }
     ensures err { OnErr result (out.new.items ≡ out.old.items) }
 {
