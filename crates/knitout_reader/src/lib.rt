@@ -11,6 +11,8 @@ mod body;
 mod carriers;
 mod carrying;
 mod forming;
+#[cfg(test)]
+mod line_tests;
 mod moving;
 mod number;
 mod operands;
