@@ -1,3 +1,5 @@
 pub mod Bodies
 pub mod Numerals
+pub mod Settling
 pub mod Spacing
+pub mod Words

@@ -80,3 +80,10 @@ abbrev pub IsCanonicalText : Profile → Head → List (List ℕ) → List ℕ �
 IsCanonicalText profile head lines text =
     (body : List (List ℕ)) × AllZip (IsCanonicalLine profile head.declared) (drop head.lines lines) body
     × (text ≡ with_line_feeds (take head.lines lines) ++ with_line_feeds body)
+
+-- Where the line is an instruction, its canonical spelling reads as the same instruction, and is its own canonical spelling.
+abbrev pub IsSettled : Profile → List (List ℕ) → List ℕ → Type 0
+IsSettled profile names line =
+    (i : Instr) → Reads profile names line (read.Instr i)
+    → Reads profile names (canonical names (read.Instr i) line) (read.Instr i)
+    × (canonical names (read.Instr i) (canonical names (read.Instr i) line) ≡ canonical names (read.Instr i) line)

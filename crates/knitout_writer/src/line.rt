@@ -1,8 +1,10 @@
 //! Lines in their canonical spelling.
 ghost use Rattle.std.specs.Prelude.{◌≡◌, ◌∷◌, ◌++◌, [], OnOk, OnErr, codes};
+ghost use Rattle.knit_base.specs.declared.profile.Profile.{Profile};
+ghost use Rattle.knit_base.specs.Limits.{IsLawfulProfile};
 ghost use Rattle.knit_base.specs.Spelling.{dir_word, needle_text, rack_text};
 ghost use Rattle.knitout_reader.specs.Tokens.{tokens_of};
-ghost use Rattle.knitout_writer.specs.Canonical.{canonical, canonical_tokens, carrier_names, comment_of, comment_behind, spaced, each_spaced};
+ghost use Rattle.knitout_writer.specs.Canonical.{IsSettled, canonical, canonical_tokens, carrier_names, comment_of, comment_behind, spaced, each_spaced};
 
 use knit_base::{
     Declared, Dir, Instr, Needle, NoMemory, Quarter, Read, Yarns, append_needle, append_rack,
@@ -21,6 +23,9 @@ pub fn write_line(
 ) -> Result<(), NoMemory>
     ensures ok { OnOk result (out.new.items ≡ out.old.items ++ canonical declared.now read.now raw.now) }
     ensures err { OnErr result (out.new.items ≡ out.old.items) }
+
+    // Whatever the line is, its canonical spelling reads as the same instruction and is its own.
+    ensures settled { (profile : Profile) → IsLawfulProfile profile → IsSettled profile declared.now raw.now }
 {
     let mut line = Vec::new(alloc);
     append_line(read, raw.as_bytes(), declared, &mut line)?;
