@@ -1,5 +1,5 @@
 -- The text that is written piece by piece is the compact text of the verdict's value.
-use Rattle.std.proofs.Common.{◌≡◌, ◌∙◌, ℕ, true, false, Option, None, Some, List, [], ◌∷◌, ◌++◌, length, map, codes, decimal, unwrap_or, refl, sym, ap, ap₂, append_assoc}
+use Rattle.std.proofs.Common.{◌≡◌, ◌∙◌, ℕ, true, Option, None, Some, List, [], ◌∷◌, ◌++◌, length, map, codes, decimal, unwrap_or, refl, sym, ap, ap₂, append_assoc}
 use Rattle.std.specs.List.{slice_get}
 use Rattle.std.specs.Option.{option_map}
 use Rattle.std.proofs.lemmas.List.{length-map}
@@ -16,9 +16,9 @@ use Rattle.carriage_model.specs.declared.verdict.LoopFact.{LoopFact}
 use Rattle.carriage_model.specs.declared.verdict.Stack.{Stack}
 use Rattle.carriage_model.specs.declared.verdict.Verdict.{Verdict}
 use Rattle.carriage_model.specs.declared.verdict.Verdict.TheVariants.{Sound, Broken}
-use Rattle.verdict_report.specs.Carriers.{carriers_in, name_of}
+use Rattle.verdict_report.specs.Carriers.{carriers_in}
 use Rattle.verdict_report.specs.VerdictText.{Text, held_of}
-use Rattle.verdict_report.specs.VerdictJson.{broken_value, count_value, list_value, loop_value, name_value, set_value, sound_value, stack_value, verdict_json, verdict_value, with_loops}
+use Rattle.verdict_report.specs.VerdictJson.{broken_value, count_value, list_value, loop_value, name_value, set_value, sound_value, stack_value, verdict_json, with_loops}
 use Rattle.verdict_report.specs.JsonText.{broken_back, broken_front, json_line, list_text, loop_json, loop_place, loops_member, more_text, sound_back, sound_front, stack_json, string_of}
 use Rattle.verdict_report.proofs.Plain.{dir_plain, needle_plain, quoted-plain, rack_plain, rule_plain}
 

@@ -1,10 +1,8 @@
 -- The carriers that a report names.
-use Rattle.std.specs.Prelude.{ℕ, Option, None, Some, List, [], map, filter, unwrap_or, slice_get}
+use Rattle.std.specs.Prelude.{ℕ, List, [], map, filter, unwrap_or, slice_get}
 use Rattle.std.specs.List.{range_with_len}
 use Rattle.knit_base.specs.Yarns.{contains_carrier}
 use Rattle.knit_base.specs.declared.yarns.CarrierNo.{CarrierNo}
-use Rattle.carriage_model.specs.declared.verdict.LoopFact.{LoopFact}
-use Rattle.carriage_model.specs.Verdict.{AreOfDeclared}
 
 -- the carrier with this number
 abbrev pub carrier : ℕ → CarrierNo
@@ -14,11 +12,6 @@ carrier number = record { 0 = number }
 abbrev pub carriers_in : ℕ → ℕ → List CarrierNo
 carriers_in declared set = filter (contains_carrier set) (map carrier (range_with_len 0 declared))
 
--- the name of a carrier, where the names stand in the order of the header
+-- the name of a carrier, where the names stand in the order of the header. One that isn't declared has none
 abbrev pub name_of : List (List ℕ) → CarrierNo → List ℕ
 name_of names c = unwrap_or (slice_get names c.0) []
-
--- each yarn of the loops, where they are given, is one of so many declared carriers
-abbrev pub IfGivenDeclared : ℕ → Option (List LoopFact) → Type 0
-IfGivenDeclared declared None = Unit {0}
-IfGivenDeclared declared (Some facts) = AreOfDeclared declared facts

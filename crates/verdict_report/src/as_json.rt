@@ -2,8 +2,7 @@
 ghost use Rattle.std.specs.Prelude.{◌≡◌, ◌≤◌, ◌++◌, ◌∷◌, [], length, map, codes, decimal, string_bytes, IfOk, OnOk, OnErr};
 ghost use Rattle.std.specs.Option.{option_copied};
 ghost use Rattle.json.specs.Print.{quoted};
-ghost use Rattle.carriage_model.specs.Verdict.{NamesDeclared};
-ghost use Rattle.verdict_report.specs.Carriers.{carrier, name_of, IfGivenDeclared};
+ghost use Rattle.verdict_report.specs.Carriers.{carrier, name_of};
 ghost use Rattle.verdict_report.specs.JsonText.{back_text, broken_back, broken_front, dir_member, front_text, json_line, lines_member, list_text, loop_json, loop_place, loops_member, more_text, names_member, needle_member, next_text, set_member, sound_back, sound_front, stack_json, string_of};
 ghost use Rattle.verdict_report.specs.VerdictJson.{verdict_json};
 
@@ -413,7 +412,12 @@ fn append_json(
     Ok(())
 }
 
-/// Appends a verdict as a line of JSON, with the loops made, where they are given. `broken` is the line of a broken verdict.
+/// Appends a verdict as one compact JSON object and a line feed, with the loops made, where `facts` gives them. `broken` is
+/// the line of a broken verdict, as it stands in the file.
+///
+/// Sound: `held`, `hook`, `in`, `lines`, `made`, `needles`, `rack` and `verdict`. Broken: `at`, `line`, `rule`, `text` and
+/// `verdict`. Where the loops are given both have `made_loops`. Keys stand in the order of their bytes. Carriers are as
+/// for `report_text`.
 pub fn report_json(
     alloc: Global,
     verdict: &Verdict,
@@ -422,8 +426,6 @@ pub fn report_json(
     broken: &str,
     out: &mut Vec<u8>,
 ) -> Result<(), NoMemory>
-    requires declared { NamesDeclared (length declared.now) verdict.now }
-    requires declared_loops { IfGivenDeclared (length declared.now) (option_copied facts) }
     ensures ok { OnOk result (out.new.items ≡ out.old.items ++ verdict_json declared.now broken.now verdict.now (option_copied facts.entry)) }
     ensures err { OnErr result (out.new.items ≡ out.old.items) }
 {

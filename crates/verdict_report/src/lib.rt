@@ -1,9 +1,16 @@
-//! Verdicts as text.
+//! What the program writes: verdicts as text and as JSON, and the lines of its refusals.
+//!
+//! Promises that each report is appended whole, byte for byte as the definitions say, or not at all. Definitions:
+//! `specs/VerdictText` and `specs/Refusals` (the lines), `specs/VerdictJson` (the value whose compact text is written), and
+//! `specs/Carriers` (sets of carriers by name); `specs/JsonText` is for private clauses alone. Below it stand `knit_base`,
+//! `carriage_model`, `serde_json`, which writes the strings, and `json`, whose `quoted` says how.
 #![tactic(auto)]
 
 mod as_json;
 mod carriers;
 mod refusal;
+#[cfg(test)]
+mod tests;
 mod text;
 
 pub use as_json::report_json;

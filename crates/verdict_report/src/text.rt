@@ -1,8 +1,6 @@
 //! A verdict as text.
 ghost use Rattle.std.specs.Prelude.{◌≡◌, ◌++◌, ◌<◌, ◌^◌, [], length, codes, decimal, flat_map, OnOk, OnErr};
 ghost use Rattle.std.specs.Option.{option_copied};
-ghost use Rattle.carriage_model.specs.Verdict.{NamesDeclared};
-ghost use Rattle.verdict_report.specs.Carriers.{IfGivenDeclared};
 ghost use Rattle.verdict_report.specs.VerdictText.{broken_brief, broken_text, end_text, held_of, labelled, line_word, lines_text, loop_text, loops_text, name_word, names_text, place_text, rule_word, set_text, sound_brief, sound_text, stack_text, verdict_text};
 
 use crate::carriers::carriers_of;
@@ -240,7 +238,11 @@ fn append_made(
     }
 }
 
-/// Appends a verdict as text, and behind it the loops made, where they are given. `broken` is the line of a broken verdict.
+/// Appends a verdict as text, a line for each needle that holds loops, and behind it a line for each loop made, where `facts`
+/// gives them. `broken` is the line of a broken verdict, as it stands in the file.
+///
+/// The sets of carriers and the loops are those of declared carriers: of others a set says nothing, and a loop has an empty
+/// name.
 pub fn report_text(
     alloc: Global,
     verdict: &Verdict,
@@ -249,8 +251,6 @@ pub fn report_text(
     broken: &str,
     out: &mut Vec<u8>,
 ) -> Result<(), NoMemory>
-    requires declared { NamesDeclared (length declared.now) verdict.now }
-    requires declared_loops { IfGivenDeclared (length declared.now) (option_copied facts) }
     ensures ok { OnOk result (out.new.items ≡ out.old.items ++ verdict_text declared.now broken.now verdict.now (option_copied facts.entry)) }
     ensures err { OnErr result (out.new.items ≡ out.old.items) }
 {

@@ -1,4 +1,4 @@
-use Rattle.std.proofs.Common.{rules, ◌≡◌, ◌∙◌, ◌+◌, ◌<◌, ◌≤◌, ◌++◌, [], ◌∷◌, length, map, string_bytes, ap, arith}
+use Rattle.std.proofs.Common.{◌≡◌, ◌∙◌, ◌<◌, ◌≤◌, ◌++◌, [], ◌∷◌, length, map, string_bytes, ap, arith}
 use Rattle.std.proofs.lemmas.List.{length-map, take_all}
 use Rattle.json.specs.Print.{quoted}
 use Rattle.verdict_report.specs.Carriers.{carrier, name_of}
