@@ -1,0 +1,36 @@
+-- What the words of the command line ask for.
+use Rattle.std.specs.Prelude.{◌≡◌, Bool, true, false, List, ℕ, None, Some}
+use Rattle.knit_base.specs.Limits.{IsLawfulProfile}
+use Rattle.machine_profile.specs.declared.Chosen.{Chosen}
+use Rattle.machine_profile.specs.declared.Which.{Which}
+use Rattle.machine_profile.specs.Bounds.{refused, IsBlockSize, IsChosen}
+use Rattle.command_words.specs.declared.command.Command.{Command}
+use Rattle.command_words.specs.declared.command.Command.TheVariants.{Check, Text, Passes, Live, Make}
+use Rattle.command_words.specs.declared.command.Request.{Request}
+use Rattle.command_words.specs.Request.{request_of}
+
+-- the words are in the grammar and ask for this command, and these are the limits that its options choose
+pub record Ask (words : List (List ℕ)) (command : Command) (chosen : Chosen) : Type 0 where
+  pub request : Request
+  pub in_grammar : request_of words ≡ Some request
+  pub commands : request.command ≡ command
+  pub within : refused request.options ≡ None
+  pub values : IsChosen request.options chosen
+
+-- the words are outside the grammar, or one of their options is outside its bounds
+pub data AreRefused (words : List (List ℕ)) : Type 0 where
+  outside : request_of words ≡ None → AreRefused words
+  out_of_bounds : (request : Request) (which : Which) → request_of words ≡ Some request → refused request.options ≡ Some which → AreRefused words
+
+-- the limits lie within the bounds of the project
+pub record IsLawfulChosen (chosen : Chosen) : Type 0 where
+  pub profile : IsLawfulProfile chosen.profile
+  pub block : IsBlockSize chosen.block
+
+-- the commands that are there
+abbrev pub is_built : Command → Bool
+is_built (Check loops json) = true
+is_built Text = false
+is_built Passes = false
+is_built Live = false
+is_built (Make rows start) = false

@@ -1,0 +1,15 @@
+-- The exit statuses.
+use Rattle.std.specs.Prelude.{ℕ}
+use Rattle.check_main.specs.declared.outcome.Status.{Status}
+use Rattle.check_main.specs.declared.outcome.Status.TheVariants.{Done, Broken, Usage, BadInput, ReadFault, WriteFault, NoMemory, TooLarge, Unbuilt}
+
+abbrev pub code_of : Status → ℕ
+code_of Done = 0
+code_of Broken = 1
+code_of Usage = 2
+code_of BadInput = 3
+code_of ReadFault = 4
+code_of WriteFault = 5
+code_of NoMemory = 6
+code_of TooLarge = 7
+code_of Unbuilt = 8

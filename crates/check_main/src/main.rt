@@ -1,0 +1,40 @@
+//! The checker of knitout programs, whole: from the words of the command line and the bytes of a source to the bytes that a
+//! sink takes and an exit status.
+//!
+//! Promises, for every source and every sink, that `top` ends with the status that is due for the words and the input, that
+//! the sink then took exactly the report that is due, and that every other end has its cause (`specs/Top`). What is due for
+//! an input is in `specs/Due`, what the words ask for in `specs/Asked`. Below it stand all crates of the project.
+#![tactic(auto)]
+
+mod answer;
+mod judge;
+mod outcome;
+mod plan;
+#[cfg(test)]
+mod tests;
+mod top;
+
+use knit_ports::{ReaderSource, WriterSink};
+use outcome::Status;
+use std::process::ExitCode;
+use std::rt::Env;
+use std::{env, io};
+use top::top;
+
+fn main(rt: HostRuntime) -> ExitCode {
+    let mut source = ReaderSource::of(rt.reader());
+    let mut sink = WriterSink::of(io::writer(&rt));
+    let status = match words(&rt) {
+        Ok(words) => top(rt.alloc(), &words, &mut source, &mut sink).status,
+        Err(error) if error.kind() == io::ErrorKind::OutOfMemory => Status::NoMemory,
+        // Words that aren't text are outside the grammar, as no words are.
+        Err(_) => top(rt.alloc(), &[], &mut source, &mut sink).status,
+    };
+    ExitCode::from(status.code())
+}
+
+// The words behind the program's name.
+fn words(rt: &(impl Env + AllocGlobal)) -> io::Result<Vec<String>> {
+    let words = env::args(rt)?.skip(1).collect(rt.alloc())?;
+    Ok(words)
+}

@@ -1,0 +1,350 @@
+//! The program on whole inputs, with the bytes that it writes and its status.
+use crate::outcome::Status;
+use crate::top::top;
+use knit_ports::{CalmSource, MemorySink, MemorySource};
+use std::alloc::Global;
+use std::test::Fail;
+
+// What the program wrote, and how it ended.
+#[derive(Drop)]
+struct Written {
+    status: Status,
+    text: Vec<u8>,
+}
+
+fn texts(alloc: Global, words: &[&str]) -> Result<Vec<String>, Fail> {
+    let mut texts = Vec::new(alloc);
+    for word in words {
+        texts.push(String::from_str(alloc, word)?)?;
+    }
+    Ok(texts)
+}
+
+// The program on an input that is given in memory, over a sink that takes all.
+fn said(alloc: Global, words: &[&str], input: &[u8]) -> Result<Written, Fail> {
+    let words = texts(alloc, words)?;
+    let mut source = CalmSource::of(Vec::from_slice(alloc, input)?);
+    let mut sink = MemorySink::of(alloc, 65_536, 65_536, Vec::new(alloc))?;
+    let outcome = top(alloc, &words, &mut source, &mut sink);
+    let text = Vec::from_slice(alloc, sink.as_slice())?;
+    Ok(Written {
+        status: outcome.status,
+        text,
+    })
+}
+
+fn is(said: &Written, status: Status, text: &str) -> bool {
+    said.status == status && said.text.as_slice() == text.as_bytes()
+}
+
+const SCARF: &[u8] =
+    b";!knitout-2\n;;Carriers: 1 2 3\nin 1\ntuck - f2 1\ntuck - f1 1\nknit + f1 1\nknit + f2 1\nout 1\n";
+
+const SCARF_TEXT: &str = "sound lines 6 made 4 held 2 rack 0\nin:\nhook:\nf1: 6\nf2: 7\n";
+
+const SCARF_LOOPS: &str =
+    "loop 4 on f2 - with 1 through\nloop 5 on f1 - with 1 through\nloop 6 on f1 + with 1 through 5\nloop 7 on f2 + with 1 through 4\n";
+
+#[test]
+fn a_sound_program(rt: HostRuntime) -> Result<(), Fail> {
+    let alloc = rt.alloc();
+    assert!(rt; is(&said(alloc, &["check"], SCARF)?, Status::Done, SCARF_TEXT));
+    let with_loops = said(alloc, &["check", "--loops"], SCARF)?;
+    let loops = format!(in alloc; "{SCARF_TEXT}{SCARF_LOOPS}")?;
+    assert!(rt; is(&with_loops, Status::Done, &loops));
+    Ok(())
+}
+
+#[test]
+fn heads_alone(rt: HostRuntime) -> Result<(), Fail> {
+    let alloc = rt.alloc();
+    let empty = "sound lines 0 made 0 held 0 rack 0\nin:\nhook:\n";
+    for head in [
+        b";!knitout-2\n;;Carriers: 1 2 3\n".as_slice(),
+        b";!knitout-2\n;;Carriers: 1 2 3\n\n\n".as_slice(),
+    ] {
+        assert!(rt; is(&said(alloc, &["check"], head)?, Status::Done, empty));
+    }
+    Ok(())
+}
+
+const HEAD: &str = ";!knitout-2\n;;Carriers: 1 2 3\n";
+
+// The program on a file with three carriers and this body.
+fn said_of(alloc: Global, words: &[&str], body: &str) -> Result<Written, Fail> {
+    let file = format!(in alloc; "{HEAD}{body}")?;
+    said(alloc, words, file.as_bytes())
+}
+
+#[test]
+fn rules_that_need_the_machine(rt: HostRuntime) -> Result<(), Fail> {
+    let alloc = rt.alloc();
+    for (body, verdict) in [
+        (
+            "knit + f1 1\n",
+            "broken line 3 rule CarrierIsOut at 3\n> knit + f1 1\n",
+        ),
+        (
+            "in 1\nin 1\n",
+            "broken line 4 rule CarrierIsIn at 1\n> in 1\n",
+        ),
+        (
+            "in 1\nin 2 1\n",
+            "broken line 4 rule CarrierIsIn at 2\n> in 2 1\n",
+        ),
+        (
+            "inhook 1\ninhook 2\n",
+            "broken line 4 rule HookBusy at 0\n> inhook 2\n",
+        ),
+        (
+            "inhook 1\nreleasehook 2\n",
+            "broken line 4 rule HookOther at 0\n> releasehook 2\n",
+        ),
+        (
+            "inhook 1\nouthook 1\n",
+            "broken line 4 rule HookBusy at 0\n> outhook 1\n",
+        ),
+        (
+            "inhook 1\nout 1\n",
+            "broken line 4 rule CarrierHooked at 1\n> out 1\n",
+        ),
+        (
+            "rack 1\nxfer f1 b1\n",
+            "broken line 4 rule NotAligned at 2\n> xfer f1 b1\n",
+        ),
+        (
+            "in 1\ntuck + b5 1\nxfer b5 fs5\ntuck + f5 1\n",
+            "broken line 6 rule SliderHolds at 2\n> tuck + f5 1\n",
+        ),
+    ] {
+        let said = said_of(alloc, &["check"], body)?;
+        assert!(rt; is(&said, Status::Broken, verdict));
+    }
+    Ok(())
+}
+
+#[test]
+fn rules_that_need_the_line_alone(rt: HostRuntime) -> Result<(), Fail> {
+    let alloc = rt.alloc();
+    for (body, verdict) in [
+        (
+            "knit + f1 1 1\n",
+            "broken line 3 rule CarrierTwice at 4\n> knit + f1 1 1\n",
+        ),
+        (
+            "knit + f1 1 1 Z\n",
+            "broken line 3 rule NoCarrier at 5\n> knit + f1 1 1 Z\n",
+        ),
+        (
+            "knit + fs1 Z\n",
+            "broken line 3 rule SliderForm at 2\n> knit + fs1 Z\n",
+        ),
+        (
+            "xfer f1 fs1\n",
+            "broken line 3 rule SameBed at 2\n> xfer f1 fs1\n",
+        ),
+        (
+            "xfer fs1 bs1\n",
+            "broken line 3 rule TwoSliders at 2\n> xfer fs1 bs1\n",
+        ),
+        (
+            "drop f1023\ndrop f-1024\ndrop f1024\n",
+            "broken line 5 rule OffBed at 1\n> drop f1024\n",
+        ),
+        (
+            "knit f1\n",
+            "broken line 3 rule Unreadable at 0\n> knit f1\n",
+        ),
+        (
+            "rack 0.3\n",
+            "broken line 3 rule RackStep at 1\n> rack 0.3\n",
+        ),
+        (
+            "rack 8.25\n",
+            "broken line 3 rule RackLimit at 1\n> rack 8.25\n",
+        ),
+    ] {
+        let said = said_of(alloc, &["check"], body)?;
+        assert!(rt; is(&said, Status::Broken, verdict));
+    }
+    Ok(())
+}
+
+#[test]
+fn sound_bodies(rt: HostRuntime) -> Result<(), Fail> {
+    let alloc = rt.alloc();
+    for (body, verdict) in [
+        (
+            "rack 1\nxfer f1 b0\n",
+            "sound lines 2 made 0 held 0 rack 1\nin:\nhook:\n",
+        ),
+        (
+            "rack -8\n",
+            "sound lines 1 made 0 held 0 rack -8\nin:\nhook:\n",
+        ),
+        (
+            "in 1\ntuck + f3 1\nxfer f3 bs3\nrack 1\nxfer bs3 f4\n",
+            "sound lines 5 made 1 held 1 rack 1\nin: 1\nhook:\nf4: 4\n",
+        ),
+        (
+            "in 1\ntuck + b5 1\nxfer b5 fs5\ntuck + f6 1\n",
+            "sound lines 4 made 2 held 2 rack 0\nin: 1\nhook:\nf6: 6\nfs5: 4\n",
+        ),
+    ] {
+        let said = said_of(alloc, &["check"], body)?;
+        assert!(rt; is(&said, Status::Done, verdict));
+    }
+    Ok(())
+}
+
+const CROWDED: &str = "in 1\ntuck + f1 1\ntuck + f1 1\ntuck + b1 1\nxfer f1 b1\n";
+
+#[test]
+fn limits_by_options(rt: HostRuntime) -> Result<(), Fail> {
+    let alloc = rt.alloc();
+    let over = said_of(alloc, &["check", "--hold", "2"], CROWDED)?;
+    assert!(rt;
+        is(
+            &over,
+            Status::Broken,
+            "broken line 7 rule TooManyLoops at 2\n> xfer f1 b1\n"
+        )
+    );
+    let held = said_of(alloc, &["--hold=3", "check"], CROWDED)?;
+    let text = "sound lines 5 made 3 held 3 rack 0\nin: 1\nhook:\nb1: 6 4 5\n";
+    assert!(rt; is(&held, Status::Done, text));
+    Ok(())
+}
+
+const HEADED: &[u8] =
+    b";!knitout-2\r\n;;Machine: SWG091N2\r\n;;Gauge: 15\r\n;;Carriers: 1 2 3 4 5 6 7 8 9 10\r\n;;Position: Center\r\n\r\nx-stitch-number 60\r\nstitch 10 5\r\ninhook 6\r\ntuck - f3 6 ; cast on\r\ntuck - b2 6\r\ntuck - f1 6\r\nknit + f1 6\r\nknit + b2 6\r\nreleasehook 6\r\nknit + f3 6\r\nouthook 6";
+
+#[test]
+fn a_file_with_headers_and_carriage_returns(rt: HostRuntime) -> Result<(), Fail> {
+    let verdict = "sound lines 11 made 6 held 3 rack 0\nin:\nhook:\nf1: 13\nf3: 16\nb2: 14\n";
+    let said = said(rt.alloc(), &["check"], HEADED)?;
+    assert!(rt; is(&said, Status::Done, verdict));
+    Ok(())
+}
+
+#[test]
+fn bad_inputs(rt: HostRuntime) -> Result<(), Fail> {
+    let alloc = rt.alloc();
+    for (input, refusal) in [
+        (b"".as_slice(), "bad input: head BadMagic\n"),
+        (b"\n".as_slice(), "bad input: head BadMagic\n"),
+        (
+            b"\xef\xbb\xbf;!knitout-2\n".as_slice(),
+            "bad input: head BadMagic\n",
+        ),
+        (
+            b";!knitout-2\ndrop f1\n".as_slice(),
+            "bad input: head NoCarriers\n",
+        ),
+        (
+            b";!knitout-2\n;;Carriers: 1 2 3\n;;Carriers: 4\n".as_slice(),
+            "bad input: head line 3 TwoCarriers\n",
+        ),
+        (
+            b";!knitout-2\n;;Carriers: 1 1\n".as_slice(),
+            "bad input: head line 2 CarrierNameTwice\n",
+        ),
+        (
+            b";!knitout-2\n\xff\n".as_slice(),
+            "bad input: line 2 NotUtf8\n",
+        ),
+    ] {
+        let said = said(alloc, &["check"], input)?;
+        assert!(rt; is(&said, Status::BadInput, refusal));
+    }
+    Ok(())
+}
+
+#[test]
+fn json(rt: HostRuntime) -> Result<(), Fail> {
+    let alloc = rt.alloc();
+    let sound =
+        "{\"held\":2,\"hook\":[],\"in\":[],\"lines\":6,\"made\":4,\"needles\":[{\"loops\":[6],\"needle\":\"f1\"},{\"loops\":[7],\"needle\":\"f2\"}],\"rack\":\"0\",\"verdict\":\"sound\"}\n";
+    assert!(rt;
+        is(
+            &said(alloc, &["check", "--json"], SCARF)?,
+            Status::Done,
+            sound
+        )
+    );
+    let broken =
+        "{\"at\":2,\"line\":4,\"rule\":\"NotAligned\",\"text\":\"xfer f1 b1\",\"verdict\":\"broken\"}\n";
+    let said = said_of(alloc, &["check", "--json"], "rack 1\nxfer f1 b1\n")?;
+    assert!(rt; is(&said, Status::Broken, broken));
+    Ok(())
+}
+
+const USAGE: &str = "usage: check_main check|text|passes|live|make N START [options]\n";
+
+#[test]
+fn words_that_are_refused(rt: HostRuntime) -> Result<(), Fail> {
+    let alloc = rt.alloc();
+    for words in [
+        [].as_slice(),
+        ["check", "--hold", "65"].as_slice(),
+        ["check", "--low", "-64"].as_slice(),
+        ["make", "2"].as_slice(),
+        ["live", "--json"].as_slice(),
+        ["check", "--hold", "2", "--hold", "2"].as_slice(),
+    ] {
+        let said = said(alloc, words, SCARF)?;
+        assert!(rt; is(&said, Status::Usage, USAGE));
+    }
+    let low = said(alloc, &["check", "--low=-64"], SCARF)?;
+    assert!(rt; is(&low, Status::Done, SCARF_TEXT));
+    Ok(())
+}
+
+// So many bytes.
+fn bytes(alloc: Global, byte: u8, count: usize) -> Result<Vec<u8>, Fail> {
+    Ok(vec![in alloc; byte; count]?)
+}
+
+// So many lines behind the head.
+fn pauses(alloc: Global, count: usize) -> Result<Vec<u8>, Fail> {
+    let mut file = Vec::from_slice(alloc, HEAD.as_bytes())?;
+    for _ in 0..count {
+        file.extend_from_slice(b"pause\n")?;
+    }
+    Ok(file)
+}
+
+#[test]
+fn inputs_that_are_too_large(rt: HostRuntime) -> Result<(), Fail> {
+    let alloc = rt.alloc();
+    let long = said(alloc, &["check"], &bytes(alloc, b';', 4_097)?)?;
+    assert!(rt; is(&long, Status::BadInput, "bad input: line 1 LineLong\n"));
+    let large = said(alloc, &["check"], &bytes(alloc, b';', 16_777_217)?)?;
+    assert!(rt; is(&large, Status::TooLarge, "too large: bytes\n"));
+    let most = said(alloc, &["check"], &pauses(alloc, 1_048_576)?)?;
+    let sound = "sound lines 1048576 made 0 held 0 rack 0\nin:\nhook:\n";
+    assert!(rt; is(&most, Status::Done, sound));
+    let many = said(alloc, &["check"], &pauses(alloc, 1_048_577)?)?;
+    assert!(rt; is(&many, Status::TooLarge, "too large: lines\n"));
+    Ok(())
+}
+
+#[test]
+fn devices_that_fail(rt: HostRuntime) -> Result<(), Fail> {
+    let alloc = rt.alloc();
+    let words = texts(alloc, &["check"])?;
+    // The second write of ten bytes fails.
+    let mut source = CalmSource::of(Vec::from_slice(alloc, SCARF)?);
+    let mut sink = MemorySink::of(alloc, 10, 65_536, Vec::from_slice(alloc, &[2])?)?;
+    let outcome = top(alloc, &words, &mut source, &mut sink);
+    assert!(rt; outcome.status == Status::WriteFault);
+    assert!(rt; sink.as_slice() == b"sound line".as_slice());
+    // The second read fails.
+    let bytes = Vec::from_slice(alloc, SCARF)?;
+    let mut source = MemorySource::of(bytes, 16, Vec::from_slice(alloc, &[2])?);
+    let mut sink = MemorySink::of(alloc, 65_536, 65_536, Vec::new(alloc))?;
+    let outcome = top(alloc, &words, &mut source, &mut sink);
+    assert!(rt; outcome.status == Status::ReadFault);
+    assert!(rt; sink.as_slice() == b"read fault\n".as_slice());
+    Ok(())
+}
