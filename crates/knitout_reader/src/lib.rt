@@ -13,6 +13,8 @@ mod carriers;
 mod carrying;
 mod forming;
 mod head;
+#[cfg(test)]
+mod line_tests;
 mod moving;
 mod number;
 mod operands;
