@@ -1,18 +1,17 @@
 -- What numbers are written as spells them.
-use Rattle.std.proofs.Common.{◌≡◌, ◌⊎◌, inl, inr, ℕ, suc, ◌+◌, ◌-◌, ◌*◌, ◌/◌, ◌%◌, ◌^◌, ◌<◌, ◌≤◌, ℤ, pos, negsuc, ◌≤ℤ◌, false, true, ◌||◌, nat_eq, ◌-ℤ◌, List, [], ◌∷◌, ◌++◌, length, All, ap, sym, subst, ◌∙◌, refl, arith, length-append}
+use Rattle.std.proofs.Common.{◌≡◌, inl, inr, ℕ, suc, ◌+◌, ◌-◌, ◌*◌, ◌/◌, ◌%◌, ◌^◌, ◌<◌, ◌≤◌, ℤ, pos, negsuc, ◌≤ℤ◌, true, ◌||◌, nat_eq, ◌-ℤ◌, List, [], ◌∷◌, ◌++◌, length, All, ap, sym, ◌∙◌, refl, arith, length-append}
 use Rattle.std.specs.Fmt.{decimal, signed_decimal}
 use Rattle.std.proofs.lemmas.Fmt.{decimal_by_steps}
 use Rattle.std.proofs.lemmas.Int.{ints}
 use Rattle.std.proofs.lemmas.List.Sums.{fold-append}
 use Rattle.std.proofs.lemmas.List.Elements.{All-nil, All-cons, All-push}
 use Rattle.knit_base.specs.declared.needle.Bed.{Bed}
-use Rattle.knit_base.specs.declared.needle.Needle.{Needle}
-use Rattle.knit_base.specs.Spelling.{bed_word, needle_text}
+use Rattle.knit_base.specs.Spelling.{needle_text}
 use Rattle.knit_base.proofs.Places.{by_test}
 use Rattle.knitout_reader.specs.Tokens.{is_blank, is_semicolon}
-use Rattle.knitout_writer.proofs.Spacing.{IsWord, IsWordByte}
+use Rattle.knitout_writer.proofs.Spacing.{IsWordByte}
 use Rattle.std.proofs.lemmas.Bool.{eqb-true}
-use Rattle.knitout_reader.specs.Numbers.{IsDigit, AreDigits, IsSigned, IsNeedle, number_of}
+use Rattle.knitout_reader.specs.Numbers.{IsDigit, IsSigned, IsNeedle, number_of}
 
 -- the digits spell the number
 pub record Spell (n : ℕ) (digits : List ℕ) : Type 0 where

@@ -1,26 +1,25 @@
 -- A canonical line reads as the same instruction.
-use Rattle.std.proofs.Common.{◌≡◌, ◌==◌, ◌⊎◌, ⊎_elim, inl, inr, ℕ, zero, suc, ◌+◌, ◌*◌, ◌/◌, ◌%◌, ◌^◌, ◌<◌, ◌≤◌, nat_lt, if◌then◌else◌, append-nil, length-append, ℤ, pos, negsuc, ◌-ℤ◌, ◌≤ℤ◌, int_lt, Bool, true, false, ◌||◌, List, [], ◌∷◌, ◌++◌, length, All, Option, None, Some, codes, ap, sym, subst, ◌∙◌, refl, arith}
+use Rattle.std.proofs.Common.{◌≡◌, ◌==◌, ⊎_elim, inl, inr, ℕ, zero, suc, ◌+◌, ◌*◌, ◌/◌, ◌%◌, ◌^◌, ◌<◌, ◌≤◌, nat_lt, if◌then◌else◌, append-nil, length-append, ℤ, pos, negsuc, ◌-ℤ◌, ◌≤ℤ◌, int_lt, Bool, true, false, ◌||◌, List, [], ◌∷◌, ◌++◌, length, All, Option, None, Some, codes, ap, sym, subst, ◌∙◌, refl, arith}
 use Rattle.std.specs.Fmt.{decimal}
 use Rattle.std.proofs.lemmas.Bool.{cases_lt, eqb-false, eqb-true, false≢true, lt-ltb, ltb-true}
 use Rattle.std.proofs.lemmas.Int.{ints}
 use Rattle.std.proofs.lemmas.List.Elements.{All-append, All-cons, All-head, All-nil, All-tail, All-weaker}
 use Rattle.knit_base.specs.declared.instr.Instr.{Instr}
 use Rattle.knit_base.specs.declared.instr.Instr.TheVariants as instr
-use Rattle.knit_base.specs.declared.instr.Read.{Read}
 use Rattle.knit_base.specs.declared.instr.Read.TheVariants as read
 use Rattle.knit_base.specs.declared.needle.Bed.{Bed}
 use Rattle.knit_base.specs.declared.needle.Dir.{Dir}
 use Rattle.knit_base.specs.declared.profile.Profile.{Profile}
 use Rattle.knit_base.specs.Limits.{IsLawfulProfile}
 use Rattle.knit_base.specs.Spelling.{dir_word, needle_text, quarters_text, quarters_word}
-use Rattle.knitout_reader.specs.Reads.{Reads, ReadsCode, ReadsTokens, instr_of, needle_on, off_bed, is_off_bed, reading_of, reading_or, static_rule, unreadable}
+use Rattle.knitout_reader.specs.Reads.{Reads, ReadsCode, ReadsTokens, instr_of, needle_on, off_bed, reading_of, reading_or, static_rule, unreadable}
 use Rattle.knitout_reader.specs.Carriers.{carriers_of}
 use Rattle.knit_base.specs.declared.rule.Reason.{Reason}
 use Rattle.knit_base.specs.declared.rule.Rule.TheVariants.{RackLimit}
 use Rattle.knit_base.specs.Reasons.{broken_if}
 use Rattle.knit_base.proofs.Places.{by_test}
 use Rattle.knitout_reader.specs.Numbers.{IsDecimal, IsDigit, IsQuarter, number_of}
-use Rattle.knitout_reader.specs.Shapes.{Shape, Spells, BeginsWithNeedle, AreCarried, IsFormed, IsDivided, IsMoved, IsNamed, CarryInShape, CarryOutShape, HookInShape, HookOutShape, ReleaseHookShape, StitchShape, PauseShape, ExtensionShape, RackShape, KnitShape, TuckShape, MissShape, SplitShape, XferShape, DropShape, AmissShape}
+use Rattle.knitout_reader.specs.Shapes.{Shape, Spells, BeginsWithNeedle, IsFormed, CarryInShape, CarryOutShape, HookInShape, HookOutShape, ReleaseHookShape, StitchShape, PauseShape, ExtensionShape, RackShape, KnitShape, TuckShape, MissShape, SplitShape, XferShape, DropShape, AmissShape}
 use Rattle.knitout_reader.specs.Tokens.{tokens_of, before_comment, has_comment}
 use Rattle.knitout_writer.specs.Canonical.{canonical, canonical_tokens, carrier_names, IsSettled, comment_behind, comment_of, spaced}
 use Rattle.knitout_writer.proofs.Numerals.{IsSmall, Spell, decimal_spells, digit_byte, needle_spells}
@@ -160,10 +159,11 @@ settled_up profile names tokens m within few =
       canon = refl;
       words = rack_words (quarters_text m) (quarters_bytes m (omega arith) left.bytes);
       reads =
-          inl
-          (RackShape false (decimal (m / 4)) (Some (m % 4)),
-          record { token = quarters_text m; fraction = fraction_of (m % 4); spelled = refl; named = ([], quarters_text m, refl, inl refl, left.spelled); left = left.value },
-          racked profile m (4 * number_of (decimal (m / 4)) + m % 4) pos within value);
+          inl (
+            RackShape false (decimal (m / 4)) (Some (m % 4)),
+            record { token = quarters_text m; fraction = fraction_of (m % 4); spelled = refl; named = ([], quarters_text m, refl, inl refl, left.spelled); left = left.value },
+            racked profile m (4 * number_of (decimal (m / 4)) + m % 4) pos within value,
+          );
       again = refl;
     }
 
@@ -181,11 +181,12 @@ settled_down profile names tokens k within few =
       canon = refl;
       words = rack_words (45 ∷ quarters_text (suc k)) whole;
       reads =
-          inl
-          (RackShape true (decimal (suc k / 4)) (Some (suc k % 4)),
-          record { token = 45 ∷ quarters_text (suc k); fraction = fraction_of (suc k % 4); spelled = refl; named = (codes "-", quarters_text (suc k), refl, refl, left.spelled); left = left.value },
-          ap (λ z. read.Instr (instr.Rack (record { 0 = z }))) minus
-          ∙ racked profile (suc k) (4 * number_of (decimal (suc k / 4)) + suc k % 4) (λ n. pos 0 -ℤ pos n) within value);
+          inl (
+            RackShape true (decimal (suc k / 4)) (Some (suc k % 4)),
+            record { token = 45 ∷ quarters_text (suc k); fraction = fraction_of (suc k % 4); spelled = refl; named = (codes "-", quarters_text (suc k), refl, refl, left.spelled); left = left.value },
+            ap (λ z. read.Instr (instr.Rack (record { 0 = z }))) minus
+                ∙ racked profile (suc k) (4 * number_of (decimal (suc k / 4)) + suc k % 4) (λ n. pos 0 -ℤ pos n) within value,
+          );
       again = refl;
     }
 
@@ -338,16 +339,17 @@ settled profile names tokens (SplitShape dir bed at bed2 at2 carriers) lawful sp
           All-cons IsWord (codes "split") (dir_word dir ∷ rest) (All-head IsWord (codes "split") (dir_word dir ∷ spelt.operands) all)
           (All-cons IsWord (dir_word dir) rest (All-head IsWord (dir_word dir) spelt.operands operands) (with_needle bed at (needle_text (needle_on bed2 at2) ∷ carriers) small (with_needle bed2 at2 carriers small2 carriers_are)));
       reads =
-          inl
-          (SplitShape dir bed at bed2 at2 carriers,
-          record {
-            operands = needle_text (needle_on bed at) ∷ needle_text (needle_on bed2 at2) ∷ carriers;
-            others = needle_text (needle_on bed2 at2) ∷ carriers;
-            spelled = refl;
-            first = begins bed at (needle_text (needle_on bed2 at2) ∷ carriers) small;
-            second = begins bed2 at2 carriers small2;
-          },
-          reading_is profile names (SplitShape dir bed at bed2 at2 carriers) none);
+          inl (
+            SplitShape dir bed at bed2 at2 carriers,
+            record {
+              operands = needle_text (needle_on bed at) ∷ needle_text (needle_on bed2 at2) ∷ carriers;
+              others = needle_text (needle_on bed2 at2) ∷ carriers;
+              spelled = refl;
+              first = begins bed at (needle_text (needle_on bed2 at2) ∷ carriers) small;
+              second = begins bed2 at2 carriers small2;
+            },
+            reading_is profile names (SplitShape dir bed at bed2 at2 carriers) none,
+          );
       again = ap (λ cs. codes "split" ∷ dir_word dir ∷ needle_text (needle_on bed at) ∷ needle_text (needle_on bed2 at2) ∷ cs) back;
     }
 settled profile names tokens (XferShape bed at bed2 at2) lawful spelt none are =
@@ -363,16 +365,17 @@ settled profile names tokens (XferShape bed at bed2 at2) lawful spelt none are =
           All-cons IsWord (codes "xfer") (needle_text (needle_on bed at) ∷ needle_text (needle_on bed2 at2) ∷ []) (first_word (codes "xfer") tokens spelt.operands spelt.spelled are)
           (with_needle bed at (needle_text (needle_on bed2 at2) ∷ []) small (with_needle bed2 at2 [] small2 (All-nil IsWord)));
       reads =
-          inl
-          (XferShape bed at bed2 at2,
-          record {
-            operands = needle_text (needle_on bed at) ∷ needle_text (needle_on bed2 at2) ∷ [];
-            others = needle_text (needle_on bed2 at2) ∷ [];
-            spelled = refl;
-            first = begins bed at (needle_text (needle_on bed2 at2) ∷ []) small;
-            second = begins bed2 at2 [] small2;
-          },
-          reading_is profile names (XferShape bed at bed2 at2) none);
+          inl (
+            XferShape bed at bed2 at2,
+            record {
+              operands = needle_text (needle_on bed at) ∷ needle_text (needle_on bed2 at2) ∷ [];
+              others = needle_text (needle_on bed2 at2) ∷ [];
+              spelled = refl;
+              first = begins bed at (needle_text (needle_on bed2 at2) ∷ []) small;
+              second = begins bed2 at2 [] small2;
+            },
+            reading_is profile names (XferShape bed at bed2 at2) none,
+          );
       again = refl;
     }
 settled profile names tokens (DropShape bed at) lawful spelt none are =
@@ -423,9 +426,9 @@ rewritten : (profile : Profile) (names : List (List ℕ)) (line new first : List
 rewritten profile names line new first others i new_is reads again is = (
   subst (λ ts. ReadsCode profile names ts (has_comment new) (read.Instr i)) (sym new_is.spelled) reads,
   ap (λ ts. spaced (canonical_tokens names i ts) ++ comment_behind (comment_of new)) new_is.spelled
-  ∙ ap (λ ts. spaced ts ++ comment_behind (comment_of new)) again
-  ∙ ap (λ c. spaced (first ∷ others) ++ comment_behind c) new_is.comment
-  ∙ sym is,
+      ∙ ap (λ ts. spaced ts ++ comment_behind (comment_of new)) again
+      ∙ ap (λ c. spaced (first ∷ others) ++ comment_behind c) new_is.comment
+      ∙ sym is,
 )
 
 pub settles : (profile : Profile) (names : List (List ℕ)) (line : List ℕ) → IsLawfulProfile profile → IsSettled profile names line

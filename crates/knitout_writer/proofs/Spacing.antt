@@ -1,7 +1,7 @@
 -- Tokens that were written with one space between two, and the comment behind them.
-use Rattle.std.proofs.Common.{◌≡◌, ℕ, ◌+◌, ◌<◌, ◌≤◌, ◌⊎◌, ⊎_elim, inl, inr, Bool, true, false, List, [], ◌∷◌, ◌++◌, length, take, drop, get_or, All, Option, None, Some, is_some, position, nat_lt, cond, ap, sym, subst, ◌∙◌, refl, arith, length-append, append_assoc, append-nil}
+use Rattle.std.proofs.Common.{◌≡◌, ℕ, ◌+◌, ◌<◌, ◌⊎◌, ⊎_elim, inl, inr, Bool, true, false, List, [], ◌∷◌, ◌++◌, length, take, drop, get_or, All, Option, None, Some, is_some, position, nat_lt, cond, ap, sym, subst, ◌∙◌, refl, arith, length-append, append_assoc, append-nil}
 use Rattle.std.specs.List.{position_or_len}
-use Rattle.std.proofs.lemmas.Bool.{cond-true, cond-false, lt-ltb, false≢true}
+use Rattle.std.proofs.lemmas.Bool.{cond-true, cond-false, lt-ltb}
 use Rattle.std.proofs.lemmas.List.{drop_more, take_all}
 use Rattle.std.proofs.lemmas.List.Elements.{All-nil, All-cons, All-head, All-tail, All-append, All-weaker}
 use Rattle.std.proofs.lemmas.List.Quantifiers.{position-Some}
@@ -10,7 +10,7 @@ use Rattle.std.proofs.Math.ListN.{get_or-append}
 use Rattle.std.proofs.Math.Seq.{get_or-append_seam, take-append_seam, drop-append_seam}
 use Rattle.std.proofs.lemmas.Bool.{eqb-true, ltb-true}
 use Rattle.knit_base.proofs.Places.{by_test}
-use Rattle.knitout_reader.specs.Tokens.{tokens_of, before_comment, has_comment, is_blank, is_semicolon, IsToken}
+use Rattle.knitout_reader.specs.Tokens.{tokens_of, before_comment, has_comment, is_blank, is_semicolon}
 use Rattle.knitout_reader.proofs.Splitting.{Blank, Plain, tokens_of-blanks, tokens_of-token}
 use Rattle.knitout_writer.specs.Canonical.{spaced, each_spaced, comment_of, comment_from, comment_behind}
 

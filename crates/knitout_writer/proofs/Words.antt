@@ -1,7 +1,7 @@
 -- The tokens that a line is written with.
-use Rattle.std.proofs.Common.{◌≡◌, ℕ, suc, ◌+◌, ◌^◌, ◌||◌, ◌<◌, ◌≤◌, Bool, true, false, ℤ, pos, negsuc, List, [], ◌∷◌, ◌++◌, length, take, get_or, filter, nat_lt, All, Option, None, Some, is_none, position, slice_get, ap, sym, subst, ◌∙◌, refl, arith, length-append}
+use Rattle.std.proofs.Common.{◌≡◌, ℕ, suc, ◌+◌, ◌^◌, ◌||◌, ◌<◌, Bool, true, false, ℤ, pos, negsuc, List, [], ◌∷◌, length, get_or, filter, All, Option, None, Some, is_none, position, slice_get, ap, sym, subst, ◌∙◌, refl, arith, length-append}
 use Rattle.std.specs.Fmt.{decimal, signed_decimal}
-use Rattle.std.specs.List.{slice_split, onto_first, position_or_len, filter_map, cons_option, list_any}
+use Rattle.std.specs.List.{slice_split, onto_first, position_or_len, cons_option, list_any}
 use Rattle.std.specs.Option.{option_map}
 use Rattle.std.specs.Str.{bytes_eq}
 use Rattle.std.proofs.lemmas.Bool.{cond-true, cond-false, ltb-true, false≢true}
@@ -19,11 +19,10 @@ use Rattle.knit_base.specs.declared.rule.Rule.{Rule}
 use Rattle.knit_base.specs.declared.rule.Rule.TheVariants.{NoCarrier}
 use Rattle.knit_base.specs.declared.rule.Reason.{Reason}
 use Rattle.knit_base.specs.declared.yarns.CarrierNo.{CarrierNo}
-use Rattle.knit_base.specs.Names.{carrier_of}
-use Rattle.knit_base.specs.Reasons.{broken_if, first_broken, or_else}
+use Rattle.knit_base.specs.Reasons.{broken_if, or_else}
 use Rattle.knit_base.specs.Spelling.{bed_word, needle_text}
 use Rattle.knit_base.proofs.Places.{by_test, list_any-none}
-use Rattle.knitout_reader.specs.Carriers.{is_undeclared, carriers_of, carrier_rule, no_carrier}
+use Rattle.knitout_reader.specs.Carriers.{is_undeclared, carriers_of, carrier_rule}
 use Rattle.knitout_reader.specs.Numbers.{IsDigit}
 use Rattle.knitout_reader.specs.Tokens.{tokens_of, before_comment, is_blank, is_semicolon}
 use Rattle.knitout_reader.proofs.Splitting.{nonempty}

@@ -1,7 +1,8 @@
 //! The canonical text of a knitout file.
 //!
-//! Promises that a line is written in its one spelling. Definitions: `specs/Canonical`. Below it stand `knitout_reader`, whose
-//! readings it writes, and `knit_base`.
+//! Promises that a line is written in its one spelling, that this spelling reads as the same instruction and is its own, and that
+//! a file is written line by line. Definitions: `specs/Canonical`. Below it stand `knitout_reader`, whose readings it writes, and
+//! `knit_base`.
 #![tactic(auto)]
 
 mod line;

@@ -12,7 +12,7 @@ use knit_base::{
 use knitout_reader::{code_of, comment_at, next_token};
 use std::alloc::Global;
 
-/// Appends the canonical spelling of a line, without an end of line. `read` is what the line `raw` reads as, with these
+/// Appends the canonical spelling of a line, without an end of line. `read` is what the line `raw` reads as with these
 /// carriers declared.
 pub fn write_line(
     alloc: Global,
