@@ -1,5 +1,5 @@
 -- What is due, from what the parts of the program say.
-use Rattle.std.proofs.Common.{◌≡◌, ℕ, List, length, Bool, Ok, Some, All, ap, sym, subst, ◌∙◌}
+use Rattle.std.proofs.Common.{◌≡◌, ℕ, List, length, Bool, Some, All, refl, ap, sym, subst, ◌∙◌}
 use Rattle.knit_base.specs.Lines.{lines_of}
 use Rattle.line_cutter.specs.declared.fault.CutFault.{CutFault}
 use Rattle.line_cutter.specs.Cut.{IsFirstBad, IsGoodLine}
@@ -8,12 +8,13 @@ use Rattle.knitout_reader.specs.declared.head.HeadFault.{HeadFault}
 use Rattle.knitout_reader.specs.Head.{IsHead, IsHeadFault}
 use Rattle.machine_profile.specs.declared.Chosen.{Chosen}
 use Rattle.command_words.specs.declared.command.Command.{Command}
-use Rattle.command_words.specs.declared.command.Command.TheVariants.{Check}
+use Rattle.command_words.specs.declared.command.Command.TheVariants.{Check, Text}
 use Rattle.verdict_report.specs.declared.refusal.Refusal.{Refusal}
 use Rattle.verdict_report.specs.Refusals.{refusal_text}
 use Rattle.check_main.specs.declared.outcome.Status.{Status}
 use Rattle.check_main.specs.declared.outcome.Status.TheVariants as status
-use Rattle.check_main.specs.Due.{Due, bad_line, bad_head, too_large, judged, Fits, HasHead, IsCheckReply, IsSizeRefusal, body_of, cut_refusal, head_refusal}
+use Rattle.knitout_writer.specs.Canonical.{IsCanonicalText}
+use Rattle.check_main.specs.Due.{Due, bad_line, bad_head, too_large, judged, canonical, Fits, HasHead, IsCheckReply, IsSizeRefusal, body_of, cut_refusal, head_refusal}
 
 -- this text and this status are those that are due
 said_so : (command : Command) (chosen : Chosen) (input text said : List ℕ) (result ends : Status) → Due command chosen input said ends → text ≡ said → result ≡ ends
@@ -35,24 +36,35 @@ due-bad_head command chosen input text result lines fault said are good bad tell
     (bad_head fault said (subst (All IsGoodLine) are good) (subst (λ ls. IsHeadFault ls fault) are bad) tells) reply.0 reply.1
 
 -- a file with good lines and this head
-has_head : (input : List ℕ) (lines : List (List ℕ)) (head : Head) → lines ≡ lines_of input → All IsGoodLine lines → IsHead lines head → HasHead input head.declared
+has_head : (input : List ℕ) (lines : List (List ℕ)) (head : Head) → lines ≡ lines_of input → All IsGoodLine lines → IsHead lines head → HasHead input head
 has_head input lines head are good is = record {
   good = subst (All IsGoodLine) are good;
-  declared = (subst (λ ls. IsHead ls head) are is).names;
+  head_is = subst (λ ls. IsHead ls head) are is;
 }
 
-pub due-too_large : (command : Command) (chosen : Chosen) (input text : List ℕ) (result : Status) (lines : List (List ℕ)) (head : Head) (count : ℕ) (said : Refusal)
+pub due-too_large : (loops json : Bool) (chosen : Chosen) (input text : List ℕ) (result : Status) (lines : List (List ℕ)) (head : Head) (count : ℕ) (said : Refusal)
     → lines ≡ lines_of input → All IsGoodLine lines → IsHead lines head → count ≡ length (body_of lines) → IsSizeRefusal chosen.block count said
-    → (text ≡ refusal_text said) × (result ≡ status.TooLarge) → Due command chosen input text result
-due-too_large command chosen input text result lines head count said are good is counted large reply =
+    → (text ≡ refusal_text said) × (result ≡ status.TooLarge) → Due (Check loops json) chosen input text result
+due-too_large loops json chosen input text result lines head count said are good is counted large reply =
     let counts : count ≡ length (body_of (lines_of input)) = counted ∙ ap (λ ls. length (body_of ls)) are in
-    said_so command chosen input text (refusal_text said) result status.TooLarge
-    (too_large head.declared said (has_head input lines head are good is) (subst (λ (n : ℕ). IsSizeRefusal chosen.block n said) counts large)) reply.0 reply.1
+    said_so (Check loops json) chosen input text (refusal_text said) result status.TooLarge
+    (too_large loops json head said refl (has_head input lines head are good is) (subst (λ (n : ℕ). IsSizeRefusal chosen.block n said) counts large)) reply.0 reply.1
 
-pub due-judged : (command : Command) (chosen : Chosen) (input text : List ℕ) (result : Status) (lines : List (List ℕ)) (head : Head) (loops json : Bool)
-    → lines ≡ lines_of input → All IsGoodLine lines → IsHead lines head → Fits chosen.block (length (body_of lines)) → command ≡ Check loops json
-    → IsCheckReply chosen.profile loops json head.declared lines text result → Due command chosen input text result
-due-judged command chosen input text result lines head loops json are good is fits asks reply =
-    judged loops json head.declared text result asks (has_head input lines head are good is)
+pub due-judged : (loops json : Bool) (chosen : Chosen) (input text : List ℕ) (result : Status) (lines : List (List ℕ)) (head : Head)
+    → lines ≡ lines_of input → All IsGoodLine lines → IsHead lines head → Fits chosen.block (length (body_of lines))
+    → IsCheckReply chosen.profile loops json head.declared lines text result → Due (Check loops json) chosen input text result
+due-judged loops json chosen input text result lines head are good is fits reply =
+    judged loops json head text result refl (has_head input lines head are good is)
     (subst (λ ls. Fits chosen.block (length (body_of ls))) are fits)
     (subst (λ ls. IsCheckReply chosen.profile loops json head.declared ls text result) are reply)
+
+pub due-canonical : (chosen : Chosen) (input text out : List ℕ) (lines : List (List ℕ)) (head : Head)
+    → lines ≡ lines_of input → All IsGoodLine lines → IsHead lines head → IsCanonicalText chosen.profile head lines text → out ≡ text
+    → Due Text chosen input out status.Done
+due-canonical chosen input text out lines head are good is spelled same =
+    said_so Text chosen input out text status.Done status.Done
+    (canonical head text refl (has_head input lines head are good is) (subst (λ ls. IsCanonicalText chosen.profile head ls text) are spelled)) same refl
+
+-- the reply to the command that was asked for
+pub due-for : (command asked : Command) (chosen : Chosen) (input text : List ℕ) (result : Status) → command ≡ asked → Due asked chosen input text result → Due command chosen input text result
+due-for command asked chosen input text result is due = subst (λ (x : Command). Due x chosen input text result) (sym is) due

@@ -30,7 +30,7 @@ pub record IsLawfulChosen (chosen : Chosen) : Type 0 where
 -- the commands that are there
 abbrev pub is_built : Command → Bool
 is_built (Check loops json) = true
-is_built Text = false
+is_built Text = true
 is_built Passes = false
 is_built Live = false
 is_built (Make rows start) = false

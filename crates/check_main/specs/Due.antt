@@ -1,5 +1,5 @@
 -- What is due for an input that was read whole: the text and the status.
-use Rattle.std.specs.Prelude.{◌≡◌, ◌⊎◌, ℕ, ◌+◌, ◌-◌, ◌/◌, ◌<◌, ◌≤◌, Bool, true, false, List, [], length, drop, Option, None, Some, Ok, All, unwrap_or, slice_get}
+use Rattle.std.specs.Prelude.{◌≡◌, ◌⊎◌, ℕ, ◌+◌, ◌-◌, ◌/◌, ◌<◌, ◌≤◌, Bool, true, false, List, [], length, drop, Option, None, Some, All, unwrap_or, slice_get}
 use Rattle.std.specs.List.{AllZip}
 use Rattle.knit_base.specs.declared.instr.Read.{Read}
 use Rattle.knit_base.specs.declared.profile.Profile.{Profile}
@@ -9,7 +9,9 @@ use Rattle.line_cutter.specs.declared.fault.CutFault.TheVariants as cut
 use Rattle.line_cutter.specs.Cut.{IsFirstBad, IsGoodLine}
 use Rattle.knitout_reader.specs.declared.head.HeadFault.{HeadFault}
 use Rattle.knitout_reader.specs.declared.head.HeadFault.TheVariants as head
-use Rattle.knitout_reader.specs.Head.{declared_names, head_len, IsHeadFault}
+use Rattle.knitout_reader.specs.declared.head.Head.{Head}
+use Rattle.knitout_reader.specs.Head.{head_len, IsHead, IsHeadFault}
+use Rattle.knitout_writer.specs.Canonical.{IsCanonicalText}
 use Rattle.knitout_reader.specs.Reads.{Reads}
 use Rattle.carriage_model.specs.declared.verdict.Verdict.{Verdict}
 use Rattle.carriage_model.specs.declared.verdict.Verdict.TheVariants as verdict
@@ -20,7 +22,7 @@ use Rattle.carriage_model.specs.Loops.{loops_made}
 use Rattle.carriage_model.specs.Verdict.{IsVerdict}
 use Rattle.machine_profile.specs.declared.Chosen.{Chosen}
 use Rattle.command_words.specs.declared.command.Command.{Command}
-use Rattle.command_words.specs.declared.command.Command.TheVariants.{Check}
+use Rattle.command_words.specs.declared.command.Command.TheVariants.{Check, Text}
 use Rattle.verdict_report.specs.declared.refusal.Refusal.{Refusal}
 use Rattle.verdict_report.specs.declared.refusal.Refusal.TheVariants as refusal
 use Rattle.verdict_report.specs.Refusals.{refusal_text}
@@ -95,10 +97,10 @@ head_refusal head.NoMemory = None
 abbrev pub blocks_of : ℕ → ℕ → ℕ
 blocks_of size count = (count + (size - 1)) / size
 
--- the file has good lines and a head that declares these carriers
-pub record HasHead (input : List ℕ) (names : List (List ℕ)) : Type 0 where
+-- the file has good lines and this head
+pub record HasHead (input : List ℕ) (head : Head) : Type 0 where
   pub good : All IsGoodLine (lines_of input)
-  pub declared : declared_names (lines_of input) ≡ Ok names
+  pub head_is : IsHead (lines_of input) head
 
 -- so many body lines are at most 1,048,576, in at most 65,536 blocks of this size
 pub record Fits (size count : ℕ) : Type 0 where
@@ -118,12 +120,15 @@ pub data Due (command : Command) (chosen : Chosen) (input : List ℕ) : List ℕ
   -- the lines are good and the head is refused, for the first reason that holds
   bad_head : (fault : HeadFault) (said : Refusal) → All IsGoodLine (lines_of input) → IsHeadFault (lines_of input) fault → head_refusal fault ≡ Some said
       → Due command chosen input (refusal_text said) status.BadInput
-  -- the body has too many lines, or else too many blocks
-  too_large : (names : List (List ℕ)) (said : Refusal) → HasHead input names
+  -- the body that is to be checked has too many lines, or else too many blocks
+  too_large : (loops json : Bool) (head : Head) (said : Refusal) → command ≡ Check loops json → HasHead input head
       → IsSizeRefusal chosen.block (length (body_of (lines_of input))) said
       → Due command chosen input (refusal_text said) status.TooLarge
   -- the verdict on the program
-  judged : (loops json : Bool) (names : List (List ℕ)) (text : List ℕ) (status : Status)
-      → command ≡ Check loops json → HasHead input names → Fits chosen.block (length (body_of (lines_of input)))
-      → IsCheckReply chosen.profile loops json names (lines_of input) text status
-      → Due command chosen input text status
+  judged : (loops json : Bool) (head : Head) (text : List ℕ) (result : Status)
+      → command ≡ Check loops json → HasHead input head → Fits chosen.block (length (body_of (lines_of input)))
+      → IsCheckReply chosen.profile loops json head.declared (lines_of input) text result
+      → Due command chosen input text result
+  -- the canonical text of the file
+  canonical : (head : Head) (text : List ℕ) → command ≡ Text → HasHead input head → IsCanonicalText chosen.profile head (lines_of input) text
+      → Due command chosen input text status.Done

@@ -3,6 +3,7 @@ ghost use Rattle.std.specs.Prelude.{◌≡◌, ◌≤◌, ◌<◌, true, All, le
 ghost use Rattle.knit_base.specs.Lines.{lines_of};
 ghost use Rattle.line_cutter.specs.Cut.{IsFirstBad, IsGoodLine};
 ghost use Rattle.knitout_reader.specs.Head.{IsHead, IsHeadFault};
+ghost use Rattle.command_words.specs.declared.command.Command.{Command};
 ghost use Rattle.machine_profile.specs.Bounds.{IsBlockSize};
 ghost use Rattle.verdict_report.specs.Refusals.{refusal_text};
 ghost use Rattle.check_main.specs.Asked.{IsLawfulChosen, is_built};
@@ -14,7 +15,9 @@ use crate::plan::Plan;
 use command_words::Command;
 use knit_base::{Lines, NoMemory};
 use knitout_reader::{Head, HeadFault, read_head};
+use knitout_writer::write_text;
 use line_cutter::{CutFault, cut_buffer};
+use machine_profile::Chosen;
 use std::alloc::Global;
 use verdict_report::{Refusal, report_refusal};
 
@@ -52,49 +55,67 @@ fn answer_lines(alloc: Global, plan: &Plan, lines: &Lines) -> Result<Reply, NoMe
         → Due plan.now.command plan.now.chosen input reply.text.items reply.status) }
 {
     match read_head(alloc, lines) {
-        Ok(head) => answer_body(alloc, plan, lines, &head),
+        Ok(head) => answer_command(alloc, plan, lines, &head),
         Err(fault) => refuse(alloc, said_of_head(fault)?, Status::BadInput),
     }
 }
 
-// What is due for an input with these lines and this head.
-fn answer_body(alloc: Global, plan: &Plan, lines: &Lines, head: &Head) -> Result<Reply, NoMemory>
-    requires good { All IsGoodLine lines.now }
-    requires head { IsHead lines.now head.now }
-    requires lawful { IsLawfulChosen plan.now.chosen }
-    requires built { is_built plan.now.command ≡ true }
-    ensures { IfOk result (λ reply. (input : List ℕ) → lines.now ≡ lines_of input
-        → Due plan.now.command plan.now.chosen input reply.text.items reply.status) }
-{
-    match said_of_size(lines.len() - head.lines, plan.chosen.block) {
-        Some(refusal) => refuse(alloc, refusal, Status::TooLarge),
-        None => answer_command(alloc, plan, lines, head),
-    }
-}
-
-// What the command gives for a file with these lines and this head, which isn't too large.
+// What the command gives for an input with these lines and this head.
 fn answer_command(alloc: Global, plan: &Plan, lines: &Lines, head: &Head) -> Result<Reply, NoMemory>
     requires good { All IsGoodLine lines.now }
     requires head { IsHead lines.now head.now }
     requires lawful { IsLawfulChosen plan.now.chosen }
     requires built { is_built plan.now.command ≡ true }
-    requires lines { length lines.now ≤ 16777217 }
-    requires fits { Fits plan.now.chosen.block (length (body_of lines.now)) }
     ensures { IfOk result (λ reply. (input : List ℕ) → lines.now ≡ lines_of input
         → Due plan.now.command plan.now.chosen input reply.text.items reply.status) }
 {
+    let chosen = &plan.chosen;
     match plan.command {
-        Command::Check { loops, json } => {
-            judge(
-                alloc,
-                Style { loops, json },
-                &plan.chosen.profile,
-                lines,
-                head,
-            )
-        }
-        Command::Text | Command::Passes | Command::Live | Command::Make { .. } => unreachable!(),
+        Command::Check { loops, json } => check(alloc, Style { loops, json }, chosen, lines, head),
+        Command::Text => canonical_text(alloc, chosen, lines, head),
+        Command::Passes | Command::Live | Command::Make { .. } => unreachable!(),
     }
+}
+
+// The verdict on a file with these lines and this head, unless its body is too large.
+fn check(
+    alloc: Global,
+    style: Style,
+    chosen: &Chosen,
+    lines: &Lines,
+    head: &Head,
+) -> Result<Reply, NoMemory>
+    requires good { All IsGoodLine lines.now }
+    requires head { IsHead lines.now head.now }
+    requires lawful { IsLawfulChosen chosen.now }
+    ensures { IfOk result (λ reply. (input : List ℕ) → lines.now ≡ lines_of input
+        → Due (Command.Check style.loops style.json) chosen.now input reply.text.items reply.status) }
+{
+    match said_of_size(lines.len() - head.lines, chosen.block) {
+        Some(refusal) => refuse(alloc, refusal, Status::TooLarge),
+        None => judge(alloc, style, &chosen.profile, lines, head),
+    }
+}
+
+// The canonical text of a file with these lines and this head.
+fn canonical_text(
+    alloc: Global,
+    chosen: &Chosen,
+    lines: &Lines,
+    head: &Head,
+) -> Result<Reply, NoMemory>
+    requires good { All IsGoodLine lines.now }
+    requires head { IsHead lines.now head.now }
+    requires lawful { IsLawfulChosen chosen.now }
+    ensures { IfOk result (λ reply. (input : List ℕ) → lines.now ≡ lines_of input
+        → Due Command.Text chosen.now input reply.text.items reply.status) }
+{
+    let mut text = Vec::new(alloc);
+    write_text(alloc, lines, head, &chosen.profile, &mut text)?;
+    Ok(Reply {
+        status: Status::Done,
+        text,
+    })
 }
 
 // What is said of a body with so many lines, where these are too many, or too many blocks of this size.

@@ -19,8 +19,8 @@ impl Plan {
         ensures { result ≡ is_built self.now.command }
     {
         match self.command {
-            Command::Check { .. } => true,
-            Command::Text | Command::Passes | Command::Live | Command::Make { .. } => false,
+            Command::Check { .. } | Command::Text => true,
+            Command::Passes | Command::Live | Command::Make { .. } => false,
         }
     }
 }

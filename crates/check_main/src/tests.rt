@@ -348,3 +348,30 @@ fn devices_that_fail(rt: HostRuntime) -> Result<(), Fail> {
     assert!(rt; sink.as_slice() == b"read fault\n".as_slice());
     Ok(())
 }
+
+const LOOSE: &[u8] =
+    b";!knitout-2\n;;Carriers: A B\n in   A   ;bring\nknit + f+01 A B\nrack -0.50\nrack 1.\nx-vendor   7  \"q\"\nknit ?\ndrop f2000\n\t\n";
+
+const TIDY: &str =
+    ";!knitout-2\n;;Carriers: A B\nin A ;bring\nknit + f1 A B\nrack -0.5\nrack 1\nx-vendor 7 \"q\"\nknit ?\ndrop f2000\n\n";
+
+#[test]
+fn canonical_text(rt: HostRuntime) -> Result<(), Fail> {
+    let alloc = rt.alloc();
+    assert!(rt; is(&said(alloc, &["text"], LOOSE)?, Status::Done, TIDY));
+    assert!(rt;
+        is(
+            &said(alloc, &["text"], TIDY.as_bytes())?,
+            Status::Done,
+            TIDY
+        )
+    );
+    assert!(rt;
+        is(
+            &said(alloc, &["passes"], LOOSE)?,
+            Status::Unbuilt,
+            "unbuilt\n"
+        )
+    );
+    Ok(())
+}

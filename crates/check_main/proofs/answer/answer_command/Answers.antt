@@ -1,11 +1,17 @@
 use Rattle.std.proofs.lemmas.Result.{IfOk-weaker}
-use Rattle.check_main.proofs.Dues.{due-judged}
+use Rattle.command_words.specs.declared.command.Command.TheVariants.{Check, Text}
+use Rattle.check_main.proofs.Dues.{due-for}
 use Rattle.check_main.proofs.answer.answer_command.Goals as goal
 
-pub returns : goal.returns
-returns c =
-    IfOk-weaker c.judge.result _ _
-    (λ reply is input are.
-    due-judged c.args.plan.now.command c.args.plan.now.chosen input reply.text.items reply.status c.args.lines.now c.args.head.now c.in-Check.loops c.in-Check.json
-    are c.requires.good c.requires.head c.requires.fits c.in-Check.is is)
-    c.judge.ensures
+pub returns-in-Check : goal.returns-in-Check
+returns-in-Check c =
+    IfOk-weaker c.check.result _ _
+    (λ reply due input are.
+    due-for c.args.plan.now.command (Check c.in-Check.loops c.in-Check.json) c.args.plan.now.chosen input reply.text.items reply.status c.in-Check.is (due input are))
+    c.check.ensures
+
+pub returns-in-Text : goal.returns-in-Text
+returns-in-Text c =
+    IfOk-weaker c.canonical_text.result _ _
+    (λ reply due input are. due-for c.args.plan.now.command Text c.args.plan.now.chosen input reply.text.items reply.status c.in-Text.is (due input are))
+    c.canonical_text.ensures
