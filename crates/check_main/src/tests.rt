@@ -281,20 +281,21 @@ fn json(rt: HostRuntime) -> Result<(), Fail> {
 
 const USAGE: &str = "usage: check_main check|text|passes|live|make N START [options]\n";
 
+// Whether the words are refused.
+fn are_refused(alloc: Global, words: &[&str]) -> Result<bool, Fail> {
+    let said = said(alloc, words, SCARF)?;
+    Ok(is(&said, Status::Usage, USAGE))
+}
+
 #[test]
 fn words_that_are_refused(rt: HostRuntime) -> Result<(), Fail> {
     let alloc = rt.alloc();
-    for words in [
-        [].as_slice(),
-        ["check", "--hold", "65"].as_slice(),
-        ["check", "--low", "-64"].as_slice(),
-        ["make", "2"].as_slice(),
-        ["live", "--json"].as_slice(),
-        ["check", "--hold", "2", "--hold", "2"].as_slice(),
-    ] {
-        let said = said(alloc, words, SCARF)?;
-        assert!(rt; is(&said, Status::Usage, USAGE));
-    }
+    assert!(rt; are_refused(alloc, &[])?);
+    assert!(rt; are_refused(alloc, &["check", "--hold", "65"])?);
+    assert!(rt; are_refused(alloc, &["check", "--low", "-64"])?);
+    assert!(rt; are_refused(alloc, &["make", "2"])?);
+    assert!(rt; are_refused(alloc, &["live", "--json"])?);
+    assert!(rt; are_refused(alloc, &["check", "--hold", "2", "--hold", "2"])?);
     let low = said(alloc, &["check", "--low=-64"], SCARF)?;
     assert!(rt; is(&low, Status::Done, SCARF_TEXT));
     Ok(())
@@ -315,17 +316,70 @@ fn pauses(alloc: Global, count: usize) -> Result<Vec<u8>, Fail> {
 }
 
 #[test]
-fn inputs_that_are_too_large(rt: HostRuntime) -> Result<(), Fail> {
+fn too_many_bytes(rt: HostRuntime) -> Result<(), Fail> {
     let alloc = rt.alloc();
     let long = said(alloc, &["check"], &bytes(alloc, b';', 4_097)?)?;
     assert!(rt; is(&long, Status::BadInput, "bad input: line 1 LineLong\n"));
     let large = said(alloc, &["check"], &bytes(alloc, b';', 16_777_217)?)?;
     assert!(rt; is(&large, Status::TooLarge, "too large: bytes\n"));
-    let most = said(alloc, &["check"], &pauses(alloc, 1_048_576)?)?;
+    Ok(())
+}
+
+#[test]
+fn most_lines(rt: HostRuntime) -> Result<(), Fail> {
+    let most = said(rt.alloc(), &["check"], &pauses(rt.alloc(), 1_048_576)?)?;
     let sound = "sound lines 1048576 made 0 held 0 rack 0\nin:\nhook:\n";
     assert!(rt; is(&most, Status::Done, sound));
-    let many = said(alloc, &["check"], &pauses(alloc, 1_048_577)?)?;
+    Ok(())
+}
+
+#[test]
+fn too_many_lines(rt: HostRuntime) -> Result<(), Fail> {
+    let many = said(rt.alloc(), &["check"], &pauses(rt.alloc(), 1_048_577)?)?;
     assert!(rt; is(&many, Status::TooLarge, "too large: lines\n"));
+    Ok(())
+}
+
+#[test]
+fn blocks_that_are_too_many(rt: HostRuntime) -> Result<(), Fail> {
+    let alloc = rt.alloc();
+    let words = ["check", "--block", "1"];
+    let most = said(alloc, &words, &pauses(alloc, 65_536)?)?;
+    let sound = "sound lines 65536 made 0 held 0 rack 0\nin:\nhook:\n";
+    assert!(rt; is(&most, Status::Done, sound));
+    let many = said(alloc, &words, &pauses(alloc, 65_537)?)?;
+    assert!(rt; is(&many, Status::TooLarge, "too large: blocks\n"));
+    Ok(())
+}
+
+// A head that declares so many carriers.
+fn head_of(alloc: Global, carriers: u32) -> Result<String, Fail> {
+    let mut head = String::from_str(alloc, ";!knitout-2\n;;Carriers:")?;
+    for number in 0..carriers {
+        head.push_str(&format!(in alloc; " {number}")?)?;
+    }
+    Ok(head)
+}
+
+#[test]
+fn most_carriers(rt: HostRuntime) -> Result<(), Fail> {
+    let alloc = rt.alloc();
+    let most = said(alloc, &["check"], head_of(alloc, 64)?.as_bytes())?;
+    assert!(rt;
+        is(
+            &most,
+            Status::Done,
+            "sound lines 0 made 0 held 0 rack 0\nin:\nhook:\n"
+        )
+    );
+    let many = said(alloc, &["check"], head_of(alloc, 65)?.as_bytes())?;
+    assert!(rt;
+        is(
+            &many,
+            Status::BadInput,
+            "bad input: head line 2 ManyCarriers\n"
+        )
+    );
     Ok(())
 }
 
