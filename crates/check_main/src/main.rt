@@ -7,6 +7,8 @@
 #![tactic(auto)]
 
 mod answer;
+#[cfg(test)]
+mod example_tests;
 mod judge;
 mod outcome;
 mod plan;

@@ -7,7 +7,7 @@ use std::test::Fail;
 
 // What the program wrote, and how it ended.
 #[derive(Drop)]
-struct Written {
+pub(crate) struct Written {
     status: Status,
     text: Vec<u8>,
 }
@@ -21,7 +21,7 @@ fn texts(alloc: Global, words: &[&str]) -> Result<Vec<String>, Fail> {
 }
 
 // The program on an input that is given in memory, over a sink that takes all.
-fn said(alloc: Global, words: &[&str], input: &[u8]) -> Result<Written, Fail> {
+pub(crate) fn said(alloc: Global, words: &[&str], input: &[u8]) -> Result<Written, Fail> {
     let words = texts(alloc, words)?;
     let mut source = CalmSource::of(Vec::from_slice(alloc, input)?);
     let mut sink = MemorySink::of(alloc, 65_536, 65_536, Vec::new(alloc))?;
@@ -33,7 +33,7 @@ fn said(alloc: Global, words: &[&str], input: &[u8]) -> Result<Written, Fail> {
     })
 }
 
-fn is(said: &Written, status: Status, text: &str) -> bool {
+pub(crate) fn is(said: &Written, status: Status, text: &str) -> bool {
     said.status == status && said.text.as_slice() == text.as_bytes()
 }
 
