@@ -1,5 +1,5 @@
 -- The class of a length.
-use Rattle.std.proofs.Common.{◌≡◌, ℕ, zero, suc, ◌+◌, ◌*◌, ◌-◌, ◌<◌, ◌≤◌, ◌^◌, arith, inl, inr, refl}
+use Rattle.std.proofs.Common.{◌≡◌, ℕ, zero, suc, ◌+◌, ◌*◌, ◌-◌, ◌<◌, ◌≤◌, ◌^◌, arith, inl, inr, add-one}
 use Rattle.std.proofs.lemmas.Bool.{cases_lt}
 use Rattle.std.proofs.Math.Pow.{pow_mono}
 use Rattle.std.proofs.Math.Nat.{pow-succ'}
@@ -13,7 +13,7 @@ exponent a b h = elim (cases_lt a b) [
 ]
 
 doubled : (n : ℕ) → 2 ^ (n + 1) ≡ 2 * 2 ^ n
-doubled n = pow-succ' 2 n
+doubled n = rw add-one (pow-succ' 2 n)
 
 -- the class of a length that lies just above a power of two and not above the next
 pub class_above : (len power : ℕ) → 2 ^ power ≤ len - 1 → len - 1 < 2 * 2 ^ power → 1 < len → IsClassOf len (power + 1)
@@ -25,3 +25,7 @@ class_above len power low high more = record {
 -- a length has one class
 pub class_is : (len a b : ℕ) → IsClassOf len a → IsClassOf len b → a ≡ b
 class_is len a b p q = omega (arith, p.least b q.fits, q.least a p.fits)
+
+-- and there are few classes
+pub class_small : (len class : ℕ) → IsClassOf len class → len ≤ 2 ^ 62 → class < 64
+class_small len class p h = omega (arith, p.least 62 h)

@@ -78,7 +78,6 @@ module _ {T : Type 0} where
     pub classes : (length shelves ≡ 0) ⊎ (length shelves ≡ 63)
     pub rooms : (class : ℕ) → class < length shelves → (shelf_of shelves class).room ≡ 2 ^ class
 
-  -- a shelf for each class, and none has a span
-  pub record IsBarePool (shelves : PoolView T) : Type 0 where
-    pub classes : length shelves ≡ 63
-    pub rooms : (class : ℕ) → class < length shelves → shelf_of shelves class ≡ record { lists = []; spare = 0; room = 2 ^ class }
+  -- each shelf has the room of its class, and no span
+  abbrev pub AreBare : PoolView T → Type 0
+  AreBare shelves = (class : ℕ) → class < length shelves → shelf_of shelves class ≡ record { lists = []; spare = 0; room = 2 ^ class }

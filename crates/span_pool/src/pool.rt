@@ -1,7 +1,7 @@
 //! The pool: one shelf for each class.
-ghost use Rattle.std.specs.Prelude.{◌≡◌, ◌≢◌, ℕ, ◌+◌, ◌<◌, ◌≤◌, ◌^◌, ◌↔◌, [], length, None, OnOk, OnErr, IfOk, IsErr};
+ghost use Rattle.std.specs.Prelude.{◌≡◌, ◌≢◌, ℕ, ◌+◌, ◌<◌, ◌≤◌, ◌^◌, ◌↔◌, [], length, None, OnOk, OnErr, IfOk, IsErr, vec_len};
 ghost use Rattle.span_pool.specs.Class.{IsClassOf};
-ghost use Rattle.span_pool.specs.Pool.{PoolView, held, spare_of, Holds, IsOfPool, KeepsOthers, KeepsOtherClasses, KeepsSpare, OneFewer, OneMore, IsBarePool};
+ghost use Rattle.span_pool.specs.Pool.{PoolView, held, spare_of, Holds, IsOfPool, KeepsOthers, KeepsOtherClasses, KeepsSpare, OneFewer, OneMore, AreBare};
 
 use crate::class::{CLASSES, class_of, room_of};
 use crate::shelf::Shelf;
@@ -36,7 +36,8 @@ impl<T> Model for Pool<T> {
 
 // A shelf for each class, without spans.
 fn all_shelves<T: Copy>(alloc: Global) -> Result<Vec<Shelf<T>>, NoMemory>
-    ensures { IfOk result (λ shelves. IsBarePool shelves.items) }
+    ensures classes { IfOk result (λ shelves. vec_len shelves ≡ 63) }
+    ensures bare { IfOk result (λ shelves. AreBare shelves.items) }
 {
     let mut shelves = Vec::with_capacity(alloc, CLASSES as usize)?;
     for class in 0..CLASSES {
@@ -81,10 +82,10 @@ impl<T: Copy> Pool<T> {
     pub fn spare(&self, class: u8) -> u32
         ensures { result ≡ spare_of self.now class }
     {
-        match self.shelves.get(class as usize) {
-            Some(shelf) => shelf.spare(),
-            None => 0,
+        if class as usize >= self.shelves.len() {
+            return 0;
         }
+        self.shelves[class as usize].spare()
     }
 
     /// An empty span with room for `len` items. It takes constant time and no memory.
@@ -104,10 +105,10 @@ impl<T: Copy> Pool<T> {
         if class as usize >= self.shelves.len() {
             return Err(NoSpare);
         }
-        match self.shelves[class as usize].take() {
-            Some(key) => Ok(Span { key, class }),
-            None => Err(NoSpare),
-        }
+        let Some(key) = self.shelves[class as usize].take() else {
+            return Err(NoSpare);
+        };
+        Ok(Span { key, class })
     }
 
     /// Puts the items into the span, in place of what it held.
