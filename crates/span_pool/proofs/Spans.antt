@@ -64,8 +64,8 @@ module _ {T : Type 0} where
   found_at pool key class items h =
       let both = some_class (list_at (shelf_of pool (number_of key class % 64)) (number_of key class / 64)) (number_of key class % 64) class items h in
       let there : list_at (shelf_of pool class) key ≡ Some items =
-          subst (λ k. list_at (shelf_of pool class) k ≡ Some items) (key_of key class both.0)
-          (subst (λ k. list_at (shelf_of pool k) (number_of key class / 64) ≡ Some items) both.0 both.1) in
+      subst (λ k. list_at (shelf_of pool class) k ≡ Some items) (key_of key class both.0)
+      (subst (λ k. list_at (shelf_of pool k) (number_of key class / 64) ≡ Some items) both.0 both.1) in
       record {
         small = omega (arith, both.0);
         inside = elim (cases_lt class (length pool)) [
@@ -256,6 +256,10 @@ module _ {T : Type 0} where
             let seam : P (length shelves) = get_or-append_seam shelves shelf [] bare ∙ is ∙ ap (λ n. record { lists = []; spare = 0; room = 2 ^ n }) (sym count) in
             subst P last seam
       ]
+
+  -- where there are no shelves, none has a span
+  pub nothing_bare : (shelves : PoolView T) → length shelves ≡ 0 → AreBare shelves
+  nothing_bare shelves none = λ k below. absurd (omega (arith, none, below))
 
   shelf_bare : (shelves : PoolView T) (class : ℕ) → AreBare shelves → ((shelf_of shelves class).spare ≡ 0) × ((shelf_of shelves class).lists ≡ [])
   shelf_bare shelves class are = elim (cases_lt class (length shelves)) [

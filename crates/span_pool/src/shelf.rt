@@ -109,9 +109,9 @@ impl<T: Copy> Shelf<T> {
     {
         match self.spare.pop() {
             None => None,
-            Some(mut list) => {
-                list.clear();
-                Some(self.out.insert_reserved(list))
+            Some(mut fresh) => {
+                fresh.clear();
+                Some(self.out.insert_reserved(fresh))
             }
         }
     }
