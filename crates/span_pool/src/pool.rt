@@ -1,5 +1,5 @@
 //! The pool: one shelf for each class.
-ghost use Rattle.std.specs.Prelude.{◌≡◌, ◌≢◌, ℕ, ◌+◌, ◌<◌, ◌≤◌, ◌^◌, ◌↔◌, [], length, None, OnOk, OnErr, IfOk, IsErr, vec_len};
+ghost use Rattle.std.specs.Prelude.{◌≡◌, ℕ, ◌<◌, ◌≤◌, ◌^◌, ◌↔◌, [], length, None, OnOk, OnErr, IfOk, IsErr, vec_len};
 ghost use Rattle.span_pool.specs.Class.{IsClassOf};
 ghost use Rattle.span_pool.specs.Pool.{PoolView, held, spare_of, Holds, IsOfPool, KeepsOthers, KeepsOtherClasses, KeepsSpare, OneFewer, OneMore, AreBare};
 

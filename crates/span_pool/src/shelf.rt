@@ -1,5 +1,5 @@
 //! The spans of one class.
-ghost use Rattle.std.specs.Prelude.{◌≡◌, ◌≢◌, ℕ, ◌+◌, ◌-◌, ◌<◌, ◌≤◌, ◌^◌, List, [], length, Option, Some, None, OnOk, OnErr, IfOk, IsSome, IfSome, IsNone, vec_len, vec_capacity, ◌↔◌};
+ghost use Rattle.std.specs.Prelude.{◌≡◌, ◌+◌, ◌-◌, ◌<◌, ◌≤◌, [], length, Option, Some, None, OnOk, OnErr, IsSome, IfSome, IsNone, vec_len, vec_capacity, ◌↔◌};
 ghost use Rattle.std.specs.List.{All};
 ghost use Rattle.span_pool.specs.Shelf.{ShelfView, list_at, Changes};
 

@@ -1,5 +1,4 @@
-use Rattle.std.proofs.Common.{arith, ◌≡◌, ◌≤◌, ◌^◌, ℕ, sym, ap, ◌∙◌, subst, length, Some}
-use Rattle.span_pool.specs.Shelf.{ShelfView}
+use Rattle.std.proofs.Common.{arith, ◌≤◌, sym, subst, length, Some}
 use Rattle.span_pool.proofs.Spans.{found, out_here, read_here, room_here, filled, kept_others, same_spare}
 use Rattle.span_pool.proofs.pool.Pool.fill.Goals as goal
 

@@ -1,6 +1,5 @@
 use Rattle.std.proofs.Common.{arith, None}
-use Rattle.span_pool.specs.Pool.{SpanView, OneMore}
-use Rattle.span_pool.proofs.Spans.{found, out_here, read_here, emptied, kept_others, class_seen, one_more}
+use Rattle.span_pool.proofs.Spans.{found, out_here, read_here, emptied, kept_others, one_more}
 use Rattle.span_pool.proofs.pool.Pool.give.Goals as goal
 
 pub index_mut-requires : goal.index_mut-requires

@@ -1,6 +1,6 @@
-use Rattle.std.proofs.Common.{◌≡◌, ℕ, arith, refl, sym, ap, ◌∙◌, subst, length, ◌≤◌, ◌<◌, vec_len, OnOk}
+use Rattle.std.proofs.Common.{◌≡◌, arith, refl, sym, ap, ◌∙◌, subst, length, ◌≤◌, ◌<◌, vec_len, OnOk}
 use Rattle.std.proofs.lemmas.Bool.Decides.{nat_tests}
-use Rattle.span_pool.specs.Pool.{PoolView, held, spare_of, AreBare}
+use Rattle.span_pool.specs.Pool.{PoolView, held, spare_of}
 use Rattle.span_pool.proofs.Spans.{read_here, spare_past, bare_spare, bare_out, nothing_bare, spare_here, spare_others, spare_seen, same_held}
 use Rattle.span_pool.proofs.pool.Pool.reserve.Goals as goal
 

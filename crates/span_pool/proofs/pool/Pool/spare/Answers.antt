@@ -1,4 +1,4 @@
-use Rattle.std.proofs.Common.{sym, ap, ◌∙◌, refl, ◌≡◌, ◌≤◌, arith, length}
+use Rattle.std.proofs.Common.{sym, ap, ◌∙◌, refl, ◌≤◌, arith, length}
 use Rattle.span_pool.specs.Pool.{PoolView, spare_of}
 use Rattle.span_pool.proofs.Spans.{read_here, spare_past, spare_seen}
 use Rattle.span_pool.proofs.pool.Pool.spare.Goals as goal

@@ -1,4 +1,4 @@
-use Rattle.std.proofs.Common.{sym, ap, ◌∙◌, refl, ◌≡◌, ◌<◌, ◌≤◌, arith, length, Some, [], true, false}
+use Rattle.std.proofs.Common.{sym, ap, ◌∙◌, refl, ◌≡◌, ◌≤◌, arith, length, Some, []}
 use Rattle.span_pool.specs.Pool.{PoolView, spare_of}
 use Rattle.span_pool.proofs.Classes.{class_is, class_small}
 use Rattle.span_pool.proofs.Spans.{read_here, spare_past, spare_seen, not_out, put_here, kept_others, one_fewer}

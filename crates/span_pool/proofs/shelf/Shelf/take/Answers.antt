@@ -1,4 +1,4 @@
-use Rattle.std.proofs.Common.{◌≡◌, [], sym, ap, Some}
+use Rattle.std.proofs.Common.{[], sym, ap, Some}
 use Rattle.span_pool.specs.Shelf.{ShelfView}
 use Rattle.span_pool.proofs.Slots.{changes}
 use Rattle.span_pool.proofs.shelf.Shelf.take.Goals as goal
