@@ -1,0 +1,11 @@
+pub mod Standing
+pub mod Turning
+pub mod Bounds
+pub mod Applied
+pub mod Insertion
+pub mod Heights
+pub mod Reading
+pub mod Shrinking
+pub mod Rows
+pub mod Touching
+pub mod Raising

@@ -1,0 +1,6 @@
+pub mod Tree
+pub mod Plan
+pub mod Apply
+pub mod Fewest
+pub mod View
+pub mod Removal
