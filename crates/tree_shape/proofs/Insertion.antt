@@ -11,7 +11,7 @@ use Rattle.tree_shape.specs.declared.Side.TheVariants.{Left, Right}
 use Rattle.tree_shape.specs.declared.Node.{Node}
 use Rattle.tree_shape.specs.Tree.{Tree, leaf, inner, name, height, count, leaves, IsBalanced, Stands}
 use Rattle.tree_shape.specs.Plan.{Plan, kept, made, inner_on, erase, same_side, other, turned, turned_once, turned_twice, turned_through, turned_plan, leaned, over, grown}
-use Rattle.tree_shape.specs.Apply.{mark, times, times_made, KeptStands}
+use Rattle.tree_shape.specs.Apply.{mark, times, times_made, KeptBy, KeptStands}
 use Rattle.tree_shape.specs.Fewest.{inserted}
 use Rattle.tree_shape.proofs.Standing.{length_leaves}
 use Rattle.tree_shape.proofs.Turning.{height_inner_on}
@@ -56,25 +56,37 @@ times_grown k at new number (inner n l r) =
 
 -- The parts that stay.
 
-kept_turned : (nodes : List Node) (side : Side) (m : ℕ) (p : Plan) (far : Tree) → KeptStands nodes p → Stands nodes far → KeptStands nodes (turned_plan side m p far)
-kept_turned nodes side m (kept t) far s f = (s, f)
-kept_turned nodes side m (made s1 n near (made s2 m2 a2 b2)) far s f = (s, f)
-kept_turned nodes side m (made s1 n (kept t) (kept f1)) far s f = (s, f)
-kept_turned nodes side m (made s1 n (made s2 m1 a (made s3 m2 a2 b2)) (kept f1)) far s f = (s, f)
-kept_turned nodes side m (made s1 n (made s2 q a (kept b)) (kept f1)) far s f =
-    both_ways (KeptStands nodes) (same_side s1 side) _ _
-    (s.0, (s.1, f))
-    (both_ways (KeptStands nodes) (same_side s2 side) _ _ ((s.0.0, s.1), (s.0.1, f)) ((s.0.0, f), (s.0.1, s.1)))
+-- a property of every new leaf, and of the parts of a tree that has it
+pub record GoesDown (P : Tree → Type 0) : Type 0 where
+  pub leaf_has : (n : ℕ) → P (leaf n)
+  pub parts_have : (n : ℕ) (l r : Tree) → P (inner n l r) → P l × P r
 
-kept_leaned : (nodes : List Node) (side : Side) (m : ℕ) (p : Plan) (far : Tree) → KeptStands nodes p → Stands nodes far → KeptStands nodes (leaned side m p far)
-kept_leaned nodes side m p far s f = both_ways (KeptStands nodes) (nat_le (height (erase p)) (height far + 1)) _ _ (s, f) (kept_turned nodes side m p far s f)
+pub standing_goes_down : (nodes : List Node) → GoesDown (Stands nodes)
+standing_goes_down nodes = record { leaf_has = λ n. tt; parts_have = λ n l r s. (s.1, s.2) }
+
+kept_turned : (P : Tree → Type 0) (side : Side) (m : ℕ) (p : Plan) (far : Tree) → KeptBy P p → P far → KeptBy P (turned_plan side m p far)
+kept_turned P side m (kept t) far s f = (s, f)
+kept_turned P side m (made s1 n near (made s2 m2 a2 b2)) far s f = (s, f)
+kept_turned P side m (made s1 n (kept t) (kept f1)) far s f = (s, f)
+kept_turned P side m (made s1 n (made s2 m1 a (made s3 m2 a2 b2)) (kept f1)) far s f = (s, f)
+kept_turned P side m (made s1 n (made s2 q a (kept b)) (kept f1)) far s f =
+    both_ways (KeptBy P) (same_side s1 side) _ _
+    (s.0, (s.1, f))
+    (both_ways (KeptBy P) (same_side s2 side) _ _ ((s.0.0, s.1), (s.0.1, f)) ((s.0.0, f), (s.0.1, s.1)))
+
+kept_leaned : (P : Tree → Type 0) (side : Side) (m : ℕ) (p : Plan) (far : Tree) → KeptBy P p → P far → KeptBy P (leaned side m p far)
+kept_leaned P side m p far s f = both_ways (KeptBy P) (nat_le (height (erase p)) (height far + 1)) _ _ (s, f) (kept_turned P side m p far s f)
+
+pub kept_by_grown : (P : Tree → Type 0) → GoesDown P → (at new number : ℕ) (t : Tree) → P t → KeptBy P (grown at new number t)
+kept_by_grown P down at new number (leaf n) s = (down.leaf_has new, s)
+kept_by_grown P down at new number (inner n l r) s =
+    let w = down.parts_have n l r s in
+    both_ways (KeptBy P) (nat_le at (count l)) _ _
+    (kept_leaned P Left n _ r (kept_by_grown P down at new number l w.0) w.1)
+    (kept_leaned P Right n _ l (kept_by_grown P down (at - count l) new number r w.1) w.0)
 
 pub kept_grown : (nodes : List Node) (at new number : ℕ) (t : Tree) → Stands nodes t → KeptStands nodes (grown at new number t)
-kept_grown nodes at new number (leaf n) s = (tt, tt)
-kept_grown nodes at new number (inner n l r) s =
-    both_ways (KeptStands nodes) (nat_le at (count l)) _ _
-    (kept_leaned nodes Left n _ r (kept_grown nodes at new number l s.1) s.2)
-    (kept_leaned nodes Right n _ l (kept_grown nodes (at - count l) new number r s.2) s.1)
+kept_grown nodes at new number t s = kept_by_grown (Stands nodes) (standing_goes_down nodes) at new number t s
 
 -- Leaves.
 

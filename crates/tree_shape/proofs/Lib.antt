@@ -4,8 +4,10 @@ pub mod Bounds
 pub mod Applied
 pub mod Insertion
 pub mod Heights
-pub mod Reading
 pub mod Shrinking
 pub mod Rows
 pub mod Touching
 pub mod Raising
+pub mod Counting
+pub mod Reading
+pub mod Shapes

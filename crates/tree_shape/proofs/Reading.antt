@@ -11,7 +11,9 @@ use Rattle.tree_shape.specs.Tree.{Tree, leaf, inner, name, height, count, leaves
 use Rattle.tree_shape.specs.Plan.{Plan, grown, erase, rows}
 use Rattle.tree_shape.specs.Apply.{mark, times, times_made, applied, FitRows}
 use Rattle.tree_shape.specs.View.{unfolded, tree_at, IsSound, IsRoot, count_of, leaves_of_tree, tree_with}
-use Rattle.tree_shape.specs.Fewest.{inserted}
+use Rattle.tree_shape.specs.Fewest.{inserted, removed}
+use Rattle.tree_shape.specs.Removal.{shrunk, gone}
+use Rattle.tree_shape.proofs.Shrinking.{told_shrunk, kept_shrunk, leaves_shrunk, low_shrunk, Lower, as_high, one_lower, IsLow, IsInner}
 use Rattle.tree_shape.proofs.Standing.{stored, length_leaves}
 use Rattle.tree_shape.proofs.Applied.{IsApplicable, stands_applied, frame, one, one_same, fit_rows, length_applied, made_within}
 use Rattle.tree_shape.proofs.Insertion.{times_grown, kept_grown, leaves_grown, well_grown, IsWell}
@@ -63,7 +65,7 @@ get_before [] ys k x e = cc
 get_before (y ∷ xs) ys zero x e = e
 get_before (y ∷ xs) ys (suc k) x e = get_before xs ys k x e
 
-stands_longer : (nodes : List Node) (x : Node) (t : Tree) → Stands nodes t → Stands (nodes ++ x ∷ []) t
+pub stands_longer : (nodes : List Node) (x : Node) (t : Tree) → Stands nodes t → Stands (nodes ++ x ∷ []) t
 stands_longer nodes x (leaf n) s = tt
 stands_longer nodes x (inner n l r) s = (get_before nodes _ n _ s.0, stands_longer nodes x l s.1, stands_longer nodes x r s.2)
 
@@ -71,53 +73,94 @@ zero_or : (a : ℕ) → (1 ≤ a → ⊥) → a ≡ 0
 zero_or zero h = refl
 zero_or (suc a) h = absurd (h (omega arith))
 
-not_there : (nodes : List Node) (t : Tree) (k : ℕ) → Stands nodes t → k ≡ length nodes → times k t ≡ 0
-not_there nodes t k s e = zero_or (times k t) (λ h. omega (arith, within nodes t k s h))
-
-once_grown : (nodes : List Node) (t : Tree) (at new k : ℕ) → Stands nodes t → times k t ≤ 1 → times k (erase (grown at new (length nodes) t)) ≤ 1
-once_grown nodes t at new k s o =
-    elim (one k (length nodes)) [
-      | inl w ↦ omega (arith, times_grown k at new (length nodes) t, w.1, not_there nodes t k s w.0)
-      | inr w ↦ omega (arith, times_grown k at new (length nodes) t, w.1)
+once_grown : (t : Tree) (at new number k : ℕ) → times number t ≡ 0 → times k t ≤ 1 → times k (erase (grown at new number t)) ≤ 1
+once_grown t at new number k free o =
+    elim (one k number) [
+      | inl w ↦ omega (arith, times_grown k at new number t, w.1, ap (λ v. times v t) w.0)
+      | inr w ↦ omega (arith, times_grown k at new number t, w.1)
     ]
 
-place_grown : (nodes : List Node) (x : Node) (t : Tree) (at new k : ℕ) → Stands nodes t → 1 ≤ times_made k (grown at new (length nodes) t) → k < length (nodes ++ x ∷ [])
-place_grown nodes x t at new k s h =
-    let long = length-append nodes (x ∷ []) in
-    let some = made_within k (grown at new (length nodes) t) in
-    let tells = times_grown k at new (length nodes) t in
-    elim (one k (length nodes)) [
+place_grown : (nodes : List Node) (t : Tree) (at new number k : ℕ) → Stands nodes t → number < length nodes → 1 ≤ times_made k (grown at new number t) → k < length nodes
+place_grown nodes t at new number k s place h =
+    let some = made_within k (grown at new number t) in
+    let tells = times_grown k at new number t in
+    elim (one k number) [
       | inl w ↦ omega (arith, w.0)
-      | inr w ↦ omega (arith, within nodes t k s (omega (arith, w.1)))
+      | inr w ↦ within nodes t k s (omega (arith, w.1))
     ]
 
-pub applicable_grown : (nodes : List Node) (x : Node) (t : Tree) (at new : ℕ) → Stands nodes t → ((k : ℕ) → times k t ≤ 1) → IsApplicable (nodes ++ x ∷ []) (grown at new (length nodes) t)
-applicable_grown nodes x t at new s o = record {
-  stands = kept_grown (nodes ++ x ∷ []) at new (length nodes) t (stands_longer nodes x t s);
-  once = λ k. once_grown nodes t at new k s (o k);
-  places = λ k h. place_grown nodes x t at new k s h;
+pub applicable_grown : (nodes : List Node) (t : Tree) (at new number : ℕ) → Stands nodes t → ((k : ℕ) → times k t ≤ 1) → times number t ≡ 0 → number < length nodes → IsApplicable nodes (grown at new number t)
+applicable_grown nodes t at new number s o free place = record {
+  stands = kept_grown nodes at new number t s;
+  once = λ k. once_grown t at new number k free (o k);
+  places = λ k h. place_grown nodes t at new number k s place h;
 }
 
-length_inserted : (at x : ℕ) (xs : List ℕ) → at ≤ length xs → length (inserted at x xs) ≡ length xs + 1
+pub length_inserted : (at x : ℕ) (xs : List ℕ) → at ≤ length xs → length (inserted at x xs) ≡ length xs + 1
 length_inserted at x xs h = grind (arith, common_steps)
 
-count_grown : (at new number : ℕ) (t : Tree) → at ≤ count t → count (erase (grown at new number t)) ≡ count t + 1
+pub count_grown : (at new number : ℕ) (t : Tree) → at ≤ count t → count (erase (grown at new number t)) ≡ count t + 1
 count_grown at new number t h =
     sym (length_leaves (erase (grown at new number t))) ∙ (ap length (leaves_grown at new number t h) ∙ (length_inserted at new (leaves t) (omega (arith, length_leaves t)) ∙ omega (arith, length_leaves t)))
 
-pub fits_grown : (nodes : List Node) (x : Node) (child : Child) (t : Tree) (at new : ℕ) → IsSound nodes child t → at ≤ count t → FitRows (nodes ++ x ∷ []) (rows (grown at new (length nodes) t))
-fits_grown nodes x child t at new s h =
-    fit_rows _ _ (applicable_grown nodes x t at new s.stands s.once)
-    (omega (arith, grown_high at new (length nodes) t, at_most_22 t s.balanced s.few))
-    (omega (arith, count_grown at new (length nodes) t h, s.few))
+pub fits_grown : (nodes : List Node) (child : Child) (t : Tree) (at new number : ℕ) → IsSound nodes child t → at ≤ count t → times number t ≡ 0 → number < length nodes → FitRows nodes (rows (grown at new number t))
+fits_grown nodes child t at new number s h free place =
+    fit_rows _ _ (applicable_grown nodes t at new number s.stands s.once free place)
+    (omega (arith, grown_high at new number t, at_most_22 t s.balanced s.few))
+    (omega (arith, count_grown at new number t h, s.few))
 
-pub sound_grown : (nodes : List Node) (x : Node) (child : Child) (t : Tree) (at new : ℕ) → IsSound nodes child t → at ≤ count t → count t < 65536 → IsSound (applied (nodes ++ x ∷ []) (rows (grown at new (length nodes) t))) (name (erase (grown at new (length nodes) t))) (erase (grown at new (length nodes) t))
-sound_grown nodes x child t at new s h few = record {
+pub sound_grown : (nodes : List Node) (child : Child) (t : Tree) (at new number : ℕ) → IsSound nodes child t → at ≤ count t → count t < 65536 → times number t ≡ 0 → number < length nodes → IsSound (applied nodes (rows (grown at new number t))) (name (erase (grown at new number t))) (erase (grown at new number t))
+sound_grown nodes child t at new number s h few free place = record {
   named = refl;
-  stands = stands_applied _ _ (applicable_grown nodes x t at new s.stands s.once);
-  balanced = (well_grown at new (length nodes) t s.balanced).balanced;
-  once = λ k. once_grown nodes t at new k s.stands (s.once k);
-  few = omega (arith, count_grown at new (length nodes) t h);
+  stands = stands_applied _ _ (applicable_grown nodes t at new number s.stands s.once free place);
+  balanced = (well_grown at new number t s.balanced).balanced;
+  once = λ k. once_grown t at new number k free (s.once k);
+  few = omega (arith, count_grown at new number t h);
+}
+
+-- the same root in another arena
+pub sound_in : (nodes other : List Node) (child : Child) (t : Tree) → IsSound nodes child t → Stands other t → IsSound other child t
+sound_in nodes other child t s stands = record { named = s.named; stands = stands; balanced = s.balanced; once = s.once; few = s.few }
+
+-- A removal.
+
+pub shrunk_times : (k at : ℕ) (t : Tree) → IsInner t → times k (erase (shrunk at t)) + mark k (gone at t) ≡ times k t
+shrunk_times k at (leaf n) i = absurd i
+shrunk_times k at (inner m l r) i = told_shrunk k at (inner m l r)
+
+pub applicable_shrunk : (nodes : List Node) (t : Tree) (at : ℕ) → Stands nodes t → ((k : ℕ) → times k t ≤ 1) → IsInner t → IsApplicable nodes (shrunk at t)
+applicable_shrunk nodes t at s o i = record {
+  stands = kept_shrunk nodes at t s;
+  once = λ k. omega (arith, shrunk_times k at t i, o k);
+  places = λ k h. within nodes t k s (omega (arith, shrunk_times k at t i, made_within k (shrunk at t)));
+}
+
+pub length_removed : (at : ℕ) (xs : List ℕ) → at < length xs → length (removed at xs) + 1 ≡ length xs
+length_removed at xs h = grind (arith, common_steps)
+
+pub count_shrunk : (at : ℕ) (t : Tree) → at < count t → IsInner t → count (erase (shrunk at t)) + 1 ≡ count t
+count_shrunk at t h i =
+    omega (arith, length_leaves (erase (shrunk at t)), ap length (leaves_shrunk at t h i), length_removed at (leaves t) (omega (arith, length_leaves t)), length_leaves t)
+
+lower_than : (before : ℕ) (p : Plan) → Lower before p → height (erase p) ≤ before
+lower_than before p h = elim h [ as_high e ↦ omega arith | one_lower e ↦ omega arith ]
+
+pub not_higher : (at : ℕ) (t : Tree) → IsBalanced t → height (erase (shrunk at t)) ≤ height t
+not_higher at t b = lower_than (height t) (shrunk at t) (low_shrunk at t b).height
+
+pub fits_shrunk : (nodes : List Node) (child : Child) (t : Tree) (at : ℕ) → IsSound nodes child t → at < count t → IsInner t → FitRows nodes (rows (shrunk at t))
+fits_shrunk nodes child t at s h i =
+    fit_rows _ _ (applicable_shrunk nodes t at s.stands s.once i)
+    (omega (arith, not_higher at t s.balanced, at_most_22 t s.balanced s.few))
+    (omega (arith, count_shrunk at t h i, s.few))
+
+pub sound_shrunk : (nodes : List Node) (child : Child) (t : Tree) (at : ℕ) → IsSound nodes child t → at < count t → IsInner t → IsSound (applied nodes (rows (shrunk at t))) (name (erase (shrunk at t))) (erase (shrunk at t))
+sound_shrunk nodes child t at s h i = record {
+  named = refl;
+  stands = stands_applied _ _ (applicable_shrunk nodes t at s.stands s.once i);
+  balanced = (low_shrunk at t s.balanced).balanced;
+  once = λ k. omega (arith, shrunk_times k at t i, s.once k);
+  few = omega (arith, count_shrunk at t h i, s.few);
 }
 
 pub rootless : (nodes : List Node) (root : Option Child) → root ≡ None → option_map (tree_at nodes) root ≡ None

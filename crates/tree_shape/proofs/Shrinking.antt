@@ -9,13 +9,14 @@ use Rattle.tree_shape.specs.declared.Side.TheVariants.{Left, Right}
 use Rattle.tree_shape.specs.declared.Node.{Node}
 use Rattle.tree_shape.specs.Tree.{Tree, leaf, inner, name, height, count, leaves, IsBalanced, Stands}
 use Rattle.tree_shape.specs.Plan.{Plan, kept, made, inner_on, erase, rows, dirty_row, over}
-use Rattle.tree_shape.specs.Apply.{mark, times, times_made, KeptStands}
-use Rattle.tree_shape.specs.Removal.{beside, outer, raised_once, raised_twice, raised_by, raised, sunk, without, shrunk, gone_in, gone, removed}
+use Rattle.tree_shape.specs.Apply.{mark, times, times_made, KeptBy, KeptStands}
+use Rattle.tree_shape.specs.Removal.{beside, outer, raised_once, raised_twice, raised_by, raised, sunk, without, shrunk, gone_in, gone}
+use Rattle.tree_shape.specs.Fewest.{removed}
 use Rattle.tree_shape.proofs.Standing.{length_leaves}
 use Rattle.tree_shape.proofs.Turning.{height_inner_on}
 use Rattle.tree_shape.proofs.Bounds.{both_ways, both_ways_by, plan_height}
 use Rattle.tree_shape.proofs.Applied.{times_inner_on}
-use Rattle.tree_shape.proofs.Insertion.{joined, leaves_on, balanced_on, parts_of}
+use Rattle.tree_shape.proofs.Insertion.{joined, leaves_on, balanced_on, parts_of, GoesDown, standing_goes_down}
 
 high : (side : Side) (n : ℕ) (a b : Plan) → plan_height (made side n a b) ≡ 1 + max (plan_height a) (plan_height b)
 high side n a b = height_inner_on side n (erase a) (erase b)
@@ -66,30 +67,34 @@ told_shrunk x at (inner m l r) =
 
 -- The parts that stay.
 
-parts_stand : (nodes : List Node) (side : Side) (k : ℕ) (l r : Tree) → Stands nodes (inner k l r) → Stands nodes (beside side l r) × Stands nodes (outer side l r)
-parts_stand nodes Left k l r s = (s.1, s.2)
-parts_stand nodes Right k l r s = (s.2, s.1)
+parts_of_far : (P : Tree → Type 0) → GoesDown P → (side : Side) (k : ℕ) (l r : Tree) → P (inner k l r) → P (beside side l r) × P (outer side l r)
+parts_of_far P down Left k l r s = down.parts_have k l r s
+parts_of_far P down Right k l r s = let w = down.parts_have k l r s in (w.1, w.0)
 
-kept_twice : (nodes : List Node) (side : Side) (m : ℕ) (p : Plan) (k : ℕ) (b o : Tree) → KeptStands nodes p → Stands nodes b → Stands nodes o → KeptStands nodes (raised_twice side m p k b o)
-kept_twice nodes side m p k (leaf n) o s b f = ((s, b), f)
-kept_twice nodes side m p k (inner q l r) o s b f = let w = parts_stand nodes side q l r b in ((s, w.0), (w.1, f))
+kept_twice : (P : Tree → Type 0) → GoesDown P → (side : Side) (m : ℕ) (p : Plan) (k : ℕ) (b o : Tree) → KeptBy P p → P b → P o → KeptBy P (raised_twice side m p k b o)
+kept_twice P down side m p k (leaf n) o s b f = ((s, b), f)
+kept_twice P down side m p k (inner q l r) o s b f = let w = parts_of_far P down side q l r b in ((s, w.0), (w.1, f))
 
-kept_raised : (nodes : List Node) (side : Side) (m : ℕ) (p : Plan) (far : Tree) → KeptStands nodes p → Stands nodes far → KeptStands nodes (raised side m p far)
-kept_raised nodes side m p (leaf n) s f = (s, f)
-kept_raised nodes side m p (inner k l r) s f =
-    let w = parts_stand nodes side k l r f in
-    both_ways (KeptStands nodes) (nat_le (height (beside side l r)) (height (outer side l r))) _ _ ((s, w.0), w.1) (kept_twice nodes side m p k _ _ s w.0 w.1)
+kept_raised : (P : Tree → Type 0) → GoesDown P → (side : Side) (m : ℕ) (p : Plan) (far : Tree) → KeptBy P p → P far → KeptBy P (raised side m p far)
+kept_raised P down side m p (leaf n) s f = (s, f)
+kept_raised P down side m p (inner k l r) s f =
+    let w = parts_of_far P down side k l r f in
+    both_ways (KeptBy P) (nat_le (height (beside side l r)) (height (outer side l r))) _ _ ((s, w.0), w.1) (kept_twice P down side m p k _ _ s w.0 w.1)
 
-kept_without : (nodes : List Node) (side : Side) (m : ℕ) (near : Tree) (p : Plan) (far : Tree) → KeptStands nodes p → Stands nodes far → KeptStands nodes (without side m near p far)
-kept_without nodes side m (leaf n) p far s f = f
-kept_without nodes side m (inner k l r) p far s f = both_ways (KeptStands nodes) (nat_le (height far) (height (erase p) + 1)) _ _ (s, f) (kept_raised nodes side m p far s f)
+kept_without : (P : Tree → Type 0) → GoesDown P → (side : Side) (m : ℕ) (near : Tree) (p : Plan) (far : Tree) → KeptBy P p → P far → KeptBy P (without side m near p far)
+kept_without P down side m (leaf n) p far s f = f
+kept_without P down side m (inner k l r) p far s f = both_ways (KeptBy P) (nat_le (height far) (height (erase p) + 1)) _ _ (s, f) (kept_raised P down side m p far s f)
+
+pub kept_by_shrunk : (P : Tree → Type 0) → GoesDown P → (at : ℕ) (t : Tree) → P t → KeptBy P (shrunk at t)
+kept_by_shrunk P down at (leaf n) s = s
+kept_by_shrunk P down at (inner m l r) s =
+    let w = down.parts_have m l r s in
+    both_ways (KeptBy P) (nat_lt at (count l)) _ _
+    (kept_without P down Left m l (shrunk at l) r (kept_by_shrunk P down at l w.0) w.1)
+    (kept_without P down Right m r (shrunk (at - count l) r) l (kept_by_shrunk P down (at - count l) r w.1) w.0)
 
 pub kept_shrunk : (nodes : List Node) (at : ℕ) (t : Tree) → Stands nodes t → KeptStands nodes (shrunk at t)
-kept_shrunk nodes at (leaf n) s = tt
-kept_shrunk nodes at (inner m l r) s =
-    both_ways (KeptStands nodes) (nat_lt at (count l)) _ _
-    (kept_without nodes Left m l (shrunk at l) r (kept_shrunk nodes at l s.1) s.2)
-    (kept_without nodes Right m r (shrunk (at - count l) r) l (kept_shrunk nodes (at - count l) r s.2) s.1)
+kept_shrunk nodes at t s = kept_by_shrunk (Stands nodes) (standing_goes_down nodes) at t s
 
 -- Leaves.
 

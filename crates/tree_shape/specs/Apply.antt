@@ -58,7 +58,11 @@ abbrev pub times_made : ℕ → Plan → ℕ
 times_made k (kept t) = 0
 times_made k (made side n near far) = mark k n + (times_made k near + times_made k far)
 
+-- each part that stays has a property
+abbrev pub KeptBy : (Tree → Type 0) → Plan → Type 0
+KeptBy P (kept t) = P t
+KeptBy P (made side n near far) = KeptBy P near × KeptBy P far
+
 -- the parts that stay stand in the arena
 abbrev pub KeptStands : List Node → Plan → Type 0
-KeptStands rows (kept t) = Stands rows t
-KeptStands rows (made side n near far) = KeptStands rows near × KeptStands rows far
+KeptStands rows p = KeptBy (Stands rows) p

@@ -4,3 +4,5 @@ pub mod Apply
 pub mod Fewest
 pub mod View
 pub mod Removal
+pub mod Numbers
+pub mod Changes

@@ -3,6 +3,7 @@ use Rattle.std.specs.Prelude.{◌≡◌, ◌<◌, ◌≤◌, ◌*◌, length, �
 use Rattle.tree_shape.specs.declared.Side.{Side}
 use Rattle.tree_shape.specs.declared.Side.TheVariants.{Left, Right}
 use Rattle.tree_shape.specs.declared.Child.{Child}
+use Rattle.tree_shape.specs.declared.Child.TheVariants.{Inner}
 use Rattle.tree_shape.specs.declared.Node.{Node}
 use Rattle.tree_shape.specs.declared.DirtyRow.{DirtyRow}
 use Rattle.tree_shape.specs.declared.removal.Part.{Part}
@@ -54,9 +55,6 @@ abbrev pub gone : ℕ → Tree → ℕ
 gone at (leaf n) = 0
 gone at (inner m l r) = cond (nat_lt at (count l)) (gone_in m l (gone at l)) (gone_in m r (gone (at - count l) r))
 
-abbrev pub removed : {X : Type 0} → ℕ → List X → List X
-removed at xs = take at xs ++ drop (at + 1) xs
-
 -- the nodes above a leaf, with the parts that they have
 abbrev pub touched : ℕ → Tree → Plan
 touched at (leaf n) = kept (leaf n)
@@ -105,3 +103,7 @@ HasRaising nodes part dirty b o o_height = (p : Plan) × (before : List DirtyRow
 -- the arena's node has a balanced tree with that leaf, and the list has room for three rows a level
 abbrev pub HasRemoval : List Node → Child → ℕ → ℕ → Type 0
 HasRemoval nodes child at used = (t : Tree) × (child ≡ name t) × Stands nodes t × (at < count t) × (used + 3 * height t ≤ 72) × IsBalanced t
+
+-- the inner node has a tree with that leaf
+abbrev pub IsAbove : List Node → ℕ → ℕ → Type 0
+IsAbove nodes n at = (t : Tree) × (Inner n ≡ name t) × Stands nodes t × (at < count t)

@@ -1,4 +1,9 @@
-// A height-balanced tree by positions, in an arena of rows.
+//! The shape of a height-balanced tree whose leaves are found by position.
+//!
+//! Promises, of each change, the list of leaf numbers and the tree afterwards, and the list of the inner nodes written,
+//! children before parents, each with its two children. Definitions: `specs/Tree` (the tree, its height and its balance),
+//! `specs/Plan` and `specs/Removal` (what a change writes), `specs/Numbers` (free numbers), `specs/View` (what contracts see
+//! of a shape). Below it stands `knit_base`.
 #![tactic(auto)]
 
 ghost use Rattle.std.specs.Prelude.{◌≡◌, ℕ, ◌+◌, ◌-◌, ◌<◌, ◌≤◌, max, nat_le, if◌then◌else◌, List, [], ◌∷◌, ◌++◌, length, slice_index, get_or, slice_get};
@@ -9,15 +14,16 @@ ghost use Rattle.tree_shape.specs.Tree.{Tree, name, height, count, leaves, inner
 
 mod arena;
 mod dirty;
+mod numbers;
 mod removal;
 mod shape;
 
 ghost use Rattle.tree_shape.specs.Plan.{Plan, kept, made, same_side, other, dirty_row, leaned, grown, turned, below, rows, erase, IsPending, IsLeaning, FitsLean, turned_plan, IsTwice, child_on, HasPlaceAt};
 ghost use Rattle.tree_shape.specs.declared.DirtyRow.{DirtyRow};
 
-pub use arena::apply;
+use arena::apply;
 pub use dirty::Dirty;
-pub use removal::{Part, touch_below};
+use removal::{parent_of, shrink, touch_below};
 pub use shape::Shape;
 
 /// A part of an inner node, by its number.

@@ -2,7 +2,7 @@
 ghost use Rattle.std.specs.Prelude.{◌≡◌, ℕ, ◌+◌, ◌-◌, ◌<◌, ◌≤◌, max, List, [], ◌∷◌, ◌++◌, length};
 ghost use Rattle.tree_shape.specs.Tree.{Tree, name, height, count, Stands};
 ghost use Rattle.tree_shape.specs.Plan.{Plan, erase, rows, over};
-ghost use Rattle.tree_shape.specs.Removal.{HasRows, HasRemoval, touched, IsSinking, HasSinking, IsPart, raised, raised_once, raised_twice, IsRaising, HasRaising, sunk, raised_by, shrunk, beside_child, outer_child, beside, outer};
+ghost use Rattle.tree_shape.specs.Removal.{HasRows, HasRemoval, IsAbove, gone, touched, IsSinking, HasSinking, IsPart, raised, raised_once, raised_twice, IsRaising, HasRaising, sunk, raised_by, shrunk, beside_child, outer_child, beside, outer};
 ghost use Rattle.tree_shape.specs.declared.DirtyRow.{DirtyRow};
 ghost use Rattle.tree_shape.specs.declared.Node.{Node};
 ghost use Rattle.tree_shape.specs.declared.Child.TheVariants.{Leaf, Inner};
@@ -10,7 +10,7 @@ ghost use Rattle.tree_shape.specs.declared.Child.TheVariants.{Leaf, Inner};
 use crate::{Child, Dirty, DirtyRow, Node, Side, above, height_of, leaves_of, row, row_on};
 
 /// Lists the inner nodes above a leaf.
-pub fn touch_below(nodes: &[Node], child: Child, at: u32, dirty: &mut Dirty)
+pub(crate) fn touch_below(nodes: &[Node], child: Child, at: u32, dirty: &mut Dirty)
     requires { HasRows 1 nodes.now child at (length dirty.old) }
     ensures { (t : Tree) → child ≡ name t → Stands nodes.now t → dirty.new ≡ dirty.old ++ rows (touched at t) }
 {
@@ -32,7 +32,7 @@ pub fn touch_below(nodes: &[Node], child: Child, at: u32, dirty: &mut Dirty)
 
 /// A part after a removal, listed.
 #[derive(Clone, Copy)]
-pub struct Part {
+pub(crate) struct Part {
     pub child: Child,
     pub height: u8,
 }
@@ -154,7 +154,7 @@ fn set_above(side: Side, m: u32, part: Part, far: Child, far_height: u8, dirty: 
 }
 
 /// The tree below an inner node without the leaf at a position: lists all inner nodes written.
-pub fn shrink(nodes: &[Node], child: Child, at: u32, dirty: &mut Dirty) -> Part
+pub(crate) fn shrink(nodes: &[Node], child: Child, at: u32, dirty: &mut Dirty) -> Part
     requires { HasRemoval nodes.now child at (length dirty.old) }
     ensures { (t : Tree) → child ≡ name t → Stands nodes.now t → IsPart result (shrunk at t) × (dirty.new ≡ dirty.old ++ rows (shrunk at t)) }
 {
@@ -186,6 +186,26 @@ pub fn shrink(nodes: &[Node], child: Child, at: u32, dirty: &mut Dirty) -> Part
                     }
                 }
             }
+        }
+    }
+}
+
+/// The inner node right above the leaf at a position.
+pub(crate) fn parent_of(nodes: &[Node], inner: u32, at: u32) -> u32
+    requires { IsAbove nodes.now inner at }
+    ensures { (t : Tree) → Inner inner ≡ name t → Stands nodes.now t → result ≡ gone at t }
+{
+    let node = row(nodes, inner);
+    let before = leaves_of(nodes, node.left);
+    if at < before {
+        match node.left {
+            Child::Leaf(_) => inner,
+            Child::Inner(below) => parent_of(nodes, below, at),
+        }
+    } else {
+        match node.right {
+            Child::Leaf(_) => inner,
+            Child::Inner(below) => parent_of(nodes, below, at - before),
         }
     }
 }
