@@ -1,0 +1,13 @@
+pub mod Standing
+pub mod Turning
+pub mod Bounds
+pub mod Applied
+pub mod Insertion
+pub mod Heights
+pub mod Shrinking
+pub mod Rows
+pub mod Touching
+pub mod Raising
+pub mod Counting
+pub mod Reading
+pub mod Shapes

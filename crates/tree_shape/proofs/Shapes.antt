@@ -1,0 +1,193 @@
+-- A shape after one change: its root, and the numbers of its leaves and inner nodes.
+use Rattle.std.proofs.Common.{◌≡◌, ◌≢◌, ℕ, zero, suc, ◌+◌, ◌-◌, ◌<◌, ◌≤◌, max, List, [], ◌∷◌, ◌++◌, length, take, drop, Option, Some, None, refl, sym, ◌∙◌, ap, subst, arith, append_assoc, append-nil, length-append, ◌⊎◌, inl, inr, add-one}
+use Rattle.std.specs.Prelude.{slice_index}
+use Rattle.std.specs.Option.{option_map}
+use Rattle.std.proofs.Common.{Bool, true, false, ◌&&◌, nat_lt}
+use Rattle.std.proofs.lemmas.Bool.{ltb-true}
+use Rattle.tree_shape.specs.declared.Child.{Child}
+use Rattle.tree_shape.specs.declared.Child.TheVariants.{Leaf, Inner}
+use Rattle.tree_shape.specs.declared.Node.{Node}
+use Rattle.tree_shape.specs.Tree.{Tree, leaf, inner, name, height, count, leaves, inners, IsBalanced, Stands}
+use Rattle.tree_shape.specs.Changes.{IsPart, IsPartOf, numbers_below}
+use Rattle.tree_shape.specs.Plan.{Plan, grown, erase, rows}
+use Rattle.tree_shape.specs.Apply.{mark, times}
+use Rattle.tree_shape.specs.Removal.{shrunk, gone}
+use Rattle.tree_shape.specs.Fewest.{inserted, removed}
+use Rattle.tree_shape.specs.Numbers.{NumbersView, times_in, next_number, taken, given_back, IsCounted}
+use Rattle.tree_shape.specs.View.{ShapeView, tree_at, count_of, leaves_of_tree, inners_of_tree, IsBalancedTree, IsSound, IsRoot, IsShape, IsLawful, tree_without, inners_without}
+use Rattle.tree_shape.proofs.Standing.{length_leaves}
+use Rattle.tree_shape.proofs.Insertion.{times_grown, leaves_grown}
+use Rattle.tree_shape.proofs.Shrinking.{leaves_shrunk, IsInner}
+use Rattle.tree_shape.proofs.Reading.{sound_read, tree_at_is, length_inserted, length_removed, count_grown, count_shrunk, shrunk_times, sound_leaf}
+use Rattle.tree_shape.proofs.Counting.{times_in-append, counted_taken, counted_back, counted_none, fresh, comes, Comes, drawn_new, free_again}
+
+pub times_inners : (k : ℕ) (t : Tree) → times_in k (inners t) ≡ times k t
+times_inners k (leaf n) = refl
+times_inners k (inner n l r) = omega (arith, times_in-append k (inners l) (inners r), times_inners k l, times_inners k r)
+
+pub length_inners : (t : Tree) → length (inners t) + 1 ≡ count t
+length_inners (leaf n) = refl
+length_inners (inner n l r) = omega (arith, length-append (inners l) (inners r), length_inners l, length_inners r)
+
+split_times : (k at : ℕ) (xs : List ℕ) → times_in k (take at xs) + times_in k (drop at xs) ≡ times_in k xs
+split_times k zero xs = omega arith
+split_times k (suc at) [] = refl
+split_times k (suc at) (x ∷ xs) = omega (arith, split_times k at xs)
+
+pub times_inserted : (k at x : ℕ) (xs : List ℕ) → times_in k (inserted at x xs) ≡ mark k x + times_in k xs
+times_inserted k at x xs = omega (arith, times_in-append k (take at xs) (x ∷ drop at xs), split_times k at xs)
+
+pub times_removed : (k at : ℕ) (xs : List ℕ) → at < length xs → times_in k (removed at xs) + mark k (slice_index xs at) ≡ times_in k xs
+times_removed k at [] h = absurd (omega arith)
+times_removed k zero (x ∷ xs) h = omega arith
+times_removed k (suc at) (x ∷ xs) h =
+    let w = times_removed k at xs (omega arith) in
+    let rest : drop (suc at + 1) (x ∷ xs) ≡ drop (at + 1) xs = ap (λ n. drop n (x ∷ xs)) (add-one (suc at)) ∙ sym (ap (λ n. drop n xs) (add-one at)) in
+    let e : removed (suc at) (x ∷ xs) ≡ x ∷ removed at xs = ap (λ v. (x ∷ take at xs) ++ v) rest in
+    let f : slice_index (x ∷ xs) (suc at) ≡ slice_index xs at = refl in
+    omega (arith, w, ap (times_in k) e, ap (mark k) f)
+
+-- what the invariant says, by the tree
+pub counted_leaves : (nodes : List Node) (child : Child) (t : Tree) (l i : NumbersView) → IsShape nodes (Some child) l i → IsSound nodes child t → IsCounted l (leaves t)
+counted_leaves nodes child t l i c s = subst (λ v. IsCounted l (leaves v)) (sound_read nodes child t s) c.leaves
+
+pub counted_inners : (nodes : List Node) (child : Child) (t : Tree) (l i : NumbersView) → IsShape nodes (Some child) l i → IsSound nodes child t → IsCounted i (inners t)
+counted_inners nodes child t l i c s = subst (λ v. IsCounted i (inners v)) (sound_read nodes child t s) c.inners
+
+-- the next inner number is not in the tree
+pub next_free : (nodes : List Node) (child : Child) (t : Tree) (l i : NumbersView) → IsShape nodes (Some child) l i → IsSound nodes child t → times (next_number i) t ≡ 0
+next_free nodes child t l i c s = sym (times_inners (next_number i) t) ∙ fresh i (inners t) (counted_inners nodes child t l i c s)
+
+pub shape_of : (nodes : List Node) (child : Child) (t : Tree) (l i : NumbersView) → IsSound nodes child t → IsCounted l (leaves t) → IsCounted i (inners t) → IsShape nodes (Some child) l i
+shape_of nodes child t l i s leaf_count inner_count =
+    let seen = sym (sound_read nodes child t s) in
+    record { sound = (t, s); leaves = subst (λ v. IsCounted l (leaves v)) seen leaf_count; inners = subst (λ v. IsCounted i (inners v)) seen inner_count }
+
+pub shape_first : (nodes : List Node) (l i : NumbersView) → IsShape nodes None l i → IsShape nodes (Some (Leaf (next_number l))) (taken l) i
+shape_first nodes l i c =
+    shape_of nodes (Leaf (next_number l)) (leaf (next_number l)) (taken l) i (sound_leaf nodes (next_number l))
+    (counted_taken l [] (next_number l ∷ []) c.leaves (omega arith) refl (λ k. refl)) c.inners
+
+pub shape_grown : (nodes other : List Node) (child top : Child) (t : Tree) (at : ℕ) (l i : NumbersView) → IsShape nodes (Some child) l i → IsSound nodes child t → at ≤ count t → count t < 65536
+    → IsSound other top (erase (grown at (next_number l) (next_number i) t)) → IsShape other (Some top) (taken l) (taken i)
+shape_grown nodes other child top t at l i c s h few after =
+    let g = erase (grown at (next_number l) (next_number i) t) in
+    let list = leaves_grown at (next_number l) (next_number i) t h in
+    let many = count_grown at (next_number l) (next_number i) t h in
+    shape_of other top g (taken l) (taken i) after
+    (counted_taken l (leaves t) (leaves g) (counted_leaves nodes child t l i c s) (omega (arith, length_leaves t)) (omega (arith, length_leaves t, length_leaves g))
+    (λ k. ap (times_in k) list ∙ times_inserted k at (next_number l) (leaves t)))
+    (counted_taken i (inners t) (inners g) (counted_inners nodes child t l i c s) (omega (arith, length_inners t)) (omega (arith, length_inners t, length_inners g))
+    (λ k. omega (arith, times_inners k g, times_inners k t, times_grown k at (next_number l) (next_number i) t)))
+
+pub shape_shrunk : (nodes other : List Node) (child top : Child) (t : Tree) (at : ℕ) (l i : NumbersView) → IsShape nodes (Some child) l i → IsSound nodes child t → at < count t → IsInner t
+    → IsSound other top (erase (shrunk at t)) → IsShape other (Some top) (given_back (slice_index (leaves t) at) l) (given_back (gone at t) i)
+shape_shrunk nodes other child top t at l i c s h inside after =
+    let g = erase (shrunk at t) in
+    let list = leaves_shrunk at t h inside in
+    let many = count_shrunk at t h inside in
+    shape_of other top g (given_back (slice_index (leaves t) at) l) (given_back (gone at t) i) after
+    (counted_back l (leaves t) (leaves g) (slice_index (leaves t) at) (counted_leaves nodes child t l i c s) (omega (arith, length_leaves t, length_leaves g))
+    (λ k. omega (arith, ap (times_in k) list, times_removed k at (leaves t) (omega (arith, length_leaves t)))))
+    (counted_back i (inners t) (inners g) (gone at t) (counted_inners nodes child t l i c s) (omega (arith, length_inners t, length_inners g))
+    (λ k. omega (arith, times_inners k g, times_inners k t, shrunk_times k at t inside)))
+
+pub shape_emptied : (nodes : List Node) (n : ℕ) (l i : NumbersView) → IsShape nodes (Some (Leaf n)) l i → IsShape nodes None (given_back n l) i
+shape_emptied nodes n l i c = record { sound = tt; leaves = counted_back l (n ∷ []) [] n c.leaves refl (λ k. omega arith); inners = c.inners }
+
+pub shape_none : (nodes : List Node) → IsShape nodes None (record { free = []; drawn = 0 }) (record { free = []; drawn = 0 })
+shape_none nodes = record { sound = tt; leaves = counted_none; inners = counted_none }
+
+-- what the invariant says of the value
+lawful_root : (nodes : List Node) (top : Option Child) → IsRoot nodes top → IsBalancedTree (option_map (tree_at nodes) top) × (count_of (option_map (tree_at nodes) top) ≤ 65536)
+lawful_root nodes None r = (tt, omega arith)
+lawful_root nodes (Some child) r =
+    let seen = sym (sound_read nodes child r.0 r.1) in
+    (subst IsBalanced seen r.1.balanced, subst (λ v. count v ≤ 65536) seen r.1.few)
+
+pub lawful : (nodes : List Node) (top : Option Child) (v : ShapeView) → IsShape nodes top v.leaf_numbers v.inner_numbers → v.tree ≡ option_map (tree_at nodes) top → IsLawful v
+lawful nodes top v c e =
+    let back = sym e in
+    let w = lawful_root nodes top c.sound in
+    record {
+      balanced = subst IsBalancedTree back w.0;
+      few = subst (λ t. count_of t ≤ 65536) back w.1;
+      leaves = subst (λ t. IsCounted v.leaf_numbers (leaves_of_tree t)) back c.leaves;
+      inners = subst (λ t. IsCounted v.inner_numbers (inners_of_tree t)) back c.inners;
+    }
+
+pub root_name : (nodes : List Node) (top : Option Child) → IsRoot nodes top → top ≡ option_map name (option_map (tree_at nodes) top)
+root_name nodes None r = refl
+root_name nodes (Some child) r = ap (λ v. Some v) (r.1.named ∙ ap name (sym (sound_read nodes child r.0 r.1)))
+
+part_stands_in : (nodes : List Node) (part t : Tree) → Stands nodes t → IsPart part t → Stands nodes part
+part_stands_in nodes part (leaf n) s p = subst (Stands nodes) (sym p) s
+part_stands_in nodes part (inner n l r) s (inl p) = subst (Stands nodes) (sym p) s
+part_stands_in nodes part (inner n l r) s (inr (inl p)) = part_stands_in nodes part l s.1 p
+part_stands_in nodes part (inner n l r) s (inr (inr p)) = part_stands_in nodes part r s.2 p
+
+-- a part of the tree that is read off an arena stands in it
+pub part_stands : (nodes : List Node) (top : Option Child) (part : Tree) → IsRoot nodes top → IsPartOf part (option_map (tree_at nodes) top) → Stands nodes part
+part_stands nodes None part r p = absurd p
+part_stands nodes (Some child) part r p = part_stands_in nodes part r.0 r.1.stands (subst (IsPart part) (sound_read nodes child r.0 r.1) p)
+
+both : (b c : Bool) → (b && c) ≡ true → (b ≡ true) × (c ≡ true)
+both true c e = (refl, e)
+both false c e = cc
+
+pub rooms : (a b c d e f : ℕ) → ((nat_lt a b && nat_lt c d) && nat_lt e f) ≡ true → (a < b) × (c < d) × (e < f)
+rooms a b c d e f h =
+    let w = both (nat_lt a b && nat_lt c d) (nat_lt e f) h in
+    let v = both (nat_lt a b) (nat_lt c d) w.0 in
+    (ltb-true a b v.0, ltb-true c d v.1, ltb-true e f w.1)
+
+pub taken_drawn : (v : NumbersView) → (taken v).drawn ≤ v.drawn + 1
+taken_drawn v = elim (comes v) [ drawn_new e n f d ↦ omega (arith, d) | free_again e d ↦ omega (arith, d) ]
+
+pub shape_at : (nodes : List Node) (top : Option Child) (child : Child) (l i : NumbersView) → top ≡ Some child → IsShape nodes top l i → IsShape nodes (Some child) l i
+shape_at nodes top child l i e c = subst (λ v. IsShape nodes v l i) e c
+
+pub inside : (n : ℕ) (t : Tree) → Inner n ≡ name t → IsInner t
+inside n (leaf m) e = cc
+inside n (inner m l r) e = tt
+
+count_positive : (t : Tree) → 1 ≤ count t
+count_positive (leaf n) = omega arith
+count_positive (inner n l r) = omega (arith, count_positive l)
+
+two_leaves : (t : Tree) → IsInner t → 2 ≤ count t
+two_leaves (leaf n) i = absurd i
+two_leaves (inner n l r) i = omega (arith, count_positive l, count_positive r)
+
+-- a number in use can be given back
+pub leaf_room : (nodes : List Node) (child : Child) (t : Tree) (l i : NumbersView) → IsShape nodes (Some child) l i → IsSound nodes child t → length l.free < l.drawn
+leaf_room nodes child t l i c s = let counted = counted_leaves nodes child t l i c s in omega (arith, counted.all, length_leaves t, count_positive t)
+
+pub inner_room : (nodes : List Node) (child : Child) (t : Tree) (l i : NumbersView) → IsShape nodes (Some child) l i → IsSound nodes child t → IsInner t → length i.free < i.drawn
+inner_room nodes child t l i c s within = let counted = counted_inners nodes child t l i c s in omega (arith, counted.all, length_inners t, two_leaves t within)
+
+pub tree_without_inner : (at : ℕ) (t : Tree) → IsInner t → tree_without at (Some t) ≡ Some (erase (shrunk at t))
+tree_without_inner at (leaf n) i = absurd i
+tree_without_inner at (inner n l r) i = refl
+
+pub inners_without_inner : (at : ℕ) (t : Tree) (v : NumbersView) → IsInner t → inners_without at (Some t) v ≡ given_back (gone at t) v
+inners_without_inner at (leaf n) v i = absurd i
+inners_without_inner at (inner n l r) v i = refl
+
+pub length_tree : (t : Option Tree) → length (leaves_of_tree t) ≡ count_of t
+length_tree None = refl
+length_tree (Some t) = length_leaves t
+
+-- one more leaf at the end of a shape that was built so far
+pub appended : {X : Type 0} (n : ℕ) (x : X) (xs : List X) → length xs ≡ n → inserted n x xs ≡ xs ++ x ∷ []
+appended n x [] e = ap (λ k. inserted k x []) (sym e)
+appended zero x (y ∷ ys) e = absurd (omega arith)
+appended (suc n) x (y ∷ ys) e = ap (λ v. y ∷ v) (appended n x ys (omega arith))
+
+pub next_built : (v : NumbersView) (n : ℕ) → v ≡ record { free = []; drawn = n } → (next_number v ≡ n) × (taken v ≡ record { free = []; drawn = n + 1 })
+next_built v n e = (ap next_number e, ap taken e)
+
+pub leaves_built : (new old : Option Tree) (n x : ℕ) → leaves_of_tree new ≡ inserted n x (leaves_of_tree old) → leaves_of_tree old ≡ numbers_below n → count_of old ≡ n → x ≡ n → (leaves_of_tree new ≡ numbers_below (suc n)) × (count_of new ≡ n + 1)
+leaves_built new old n x e before many same =
+    let list : leaves_of_tree new ≡ leaves_of_tree old ++ x ∷ [] = e ∙ appended n x (leaves_of_tree old) (length_tree old ∙ many) in
+    (list ∙ cc (before, same), omega (arith, ap length list, length-append (leaves_of_tree old) (x ∷ []), length_tree new, length_tree old))

@@ -1,0 +1,31 @@
+-- What follows from a tree that an arena stands for.
+use Rattle.std.proofs.Common.{◌≡◌, ℕ, ◌+◌, ◌<◌, ◌≤◌, ◌-◌, max, List, [], ◌∷◌, ◌++◌, length, Option, Some, None, refl, sym, ◌∙◌, ap, subst, arith, length-append, get_or}
+use Rattle.std.specs.List.{slice_get}
+use Rattle.tree_shape.specs.declared.Child.{Child}
+use Rattle.tree_shape.specs.declared.Child.TheVariants.{Leaf, Inner}
+use Rattle.tree_shape.specs.declared.Node.{Node}
+use Rattle.tree_shape.specs.Tree.{Tree, leaf, inner, name, height, count, leaves, inners, row_of, Stands, IsTreeAt, HasLeafAt, stored_height, height_in}
+
+-- a tree whose root is an inner node, opened
+pub record Opened (rows : List Node) (n : ℕ) (t : Tree) (node : Node) : Type 0 where
+  pub left : Tree
+  pub right : Tree
+  pub is : t ≡ inner n left right
+  pub node_is : node ≡ row_of left right
+  pub stands_left : Stands rows left
+  pub stands_right : Stands rows right
+
+pub opened : (rows : List Node) (n : ℕ) (t : Tree) (node : Node) → Inner n ≡ name t → Stands rows t → slice_get rows n ≡ Some node → Opened rows n t node
+opened rows n (leaf m) node e s g = cc
+opened rows n (inner m l r) node e s g =
+    let same : n ≡ m = cc in
+    let row : Some node ≡ Some (row_of l r) = sym g ∙ (ap (slice_get rows) same ∙ s.0) in
+    record { left = l; right = r; is = ap (λ k. inner k l r) (sym same); node_is = cc; stands_left = s.1; stands_right = s.2 }
+
+pub stored : (rows : List Node) (child : Child) (t : Tree) → child ≡ name t → Stands rows t → stored_height rows child ≡ height t
+stored rows child (leaf n) e s = ap (stored_height rows) e
+stored rows child (inner n l r) e s = ap (stored_height rows) e ∙ ap height_in s.0
+
+pub length_leaves : (t : Tree) → length (leaves t) ≡ count t
+length_leaves (leaf n) = refl
+length_leaves (inner n l r) = omega (arith, length-append (leaves l) (leaves r), length_leaves l, length_leaves r)

@@ -1,0 +1,6 @@
+use Rattle.std.proofs.Common.{◌≡◌, arith, length, take, sym, ◌∙◌, ap}
+use Rattle.std.proofs.lemmas.List.{length-take-le}
+use Rattle.tree_shape.proofs.dirty.Dirty.len.Goals as goal
+
+pub returns : goal.returns
+returns c = sym (ap length (sym c.self.view_is) ∙ length-take-le _ _ (omega arith))

@@ -1,0 +1,15 @@
+use Rattle.std.proofs.Common.{◌≡◌, ℕ, ◌+◌, max, List, [], ◌∷◌, ◌++◌, arith, sym, ◌∙◌, ap, append_assoc, append-nil}
+use Rattle.tree_shape.specs.declared.Child.TheVariants.{Leaf, Inner}
+use Rattle.tree_shape.specs.declared.DirtyRow.{DirtyRow}
+use Rattle.tree_shape.specs.Tree.{Tree, name, height}
+use Rattle.tree_shape.specs.Plan.{Plan, erase, rows, inner_on, dirty_row}
+use Rattle.tree_shape.specs.Removal.{raised_once, IsRaising}
+use Rattle.tree_shape.proofs.Turning.{name_inner_on, height_inner_on}
+use Rattle.tree_shape.proofs.removal.raise_once.Goals as goal
+
+pub returns : goal.returns
+returns c = λ nodes p before bt ot r eh.
+    let low = inner_on c.args.side c.args.m (erase p) bt in
+    let list : c.push-2.new.self ≡ ((before ++ rows p) ++ dirty_row c.args.side c.args.m (name (erase p)) (name bt) ∷ []) ++ dirty_row c.args.side c.args.k (name low) (name ot) ∷ [] =
+    c.push-2.ensures ∙ cc (c.push.ensures, c.row_on.ensures, c.row_on-2.ensures, r.listed, r.child, r.named, r.named_outer, name_inner_on c.args.side c.args.m (erase p) bt) in
+    ((sym (name_inner_on c.args.side c.args.k low ot), omega (arith, height_inner_on c.args.side c.args.k low ot, height_inner_on c.args.side c.args.m (erase p) bt, r.high, r.high_outer)), list ∙ simp (append_assoc, append-nil))

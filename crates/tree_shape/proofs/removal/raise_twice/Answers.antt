@@ -1,0 +1,24 @@
+use Rattle.std.proofs.Common.{◌≡◌, ℕ, ◌+◌, max, List, [], ◌∷◌, ◌++◌, arith, sym, ◌∙◌, ap, append_assoc, append-nil}
+use Rattle.tree_shape.specs.declared.Child.TheVariants.{Leaf, Inner}
+use Rattle.tree_shape.specs.declared.DirtyRow.{DirtyRow}
+use Rattle.tree_shape.specs.Tree.{Tree, inner, name, height}
+use Rattle.tree_shape.specs.Plan.{Plan, erase, rows, inner_on, dirty_row}
+use Rattle.tree_shape.specs.Removal.{raised_twice, IsRaising, IsPart, beside, outer}
+use Rattle.tree_shape.proofs.Turning.{name_inner_on, height_inner_on}
+use Rattle.tree_shape.proofs.Raising.{OpenedOn, opened_on}
+use Rattle.tree_shape.proofs.removal.raise_twice.Goals as goal
+
+pub returns : goal.returns
+returns c = λ p before bt ot r.
+    let v = opened_on _ c.args.side _ bt c.row-node.result r.named r.stands c.row-node.ensures in
+    let e = beside c.args.side v.left v.right in
+    let g = outer c.args.side v.left v.right in
+    let eb = c.beside_of-e.ensures ∙ v.beside_is in
+    let og = c.outer_of-g.ensures ∙ v.outer_is in
+    let he = c.height_of-e_height.ensures e eb v.stands_beside in
+    let hg = c.height_of-g_height.ensures g og v.stands_outer in
+    let low = inner_on c.args.side c.args.m (erase p) e in
+    let side_node = inner_on c.args.side c.args.k g ot in
+    let list : c.push-3.new.self ≡ (((before ++ rows p) ++ dirty_row c.args.side c.args.m (name (erase p)) (name e) ∷ []) ++ dirty_row c.args.side c.args.k (name g) (name ot) ∷ []) ++ dirty_row c.args.side c.args.q (name low) (name side_node) ∷ [] =
+    c.push-3.ensures ∙ cc (c.push-2.ensures, c.push.ensures, c.row_on.ensures, c.row_on-2.ensures, c.row_on-3.ensures, r.listed, r.child, eb, og, r.named_outer, name_inner_on c.args.side c.args.m (erase p) e, name_inner_on c.args.side c.args.k g ot) in
+    rw v.is ((sym (name_inner_on c.args.side c.args.q low side_node), omega (arith, he, hg, height_inner_on c.args.side c.args.q low side_node, height_inner_on c.args.side c.args.m (erase p) e, height_inner_on c.args.side c.args.k g ot, r.high, r.high_outer)), list ∙ simp (append_assoc, append-nil))

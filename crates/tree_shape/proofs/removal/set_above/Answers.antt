@@ -1,0 +1,13 @@
+use Rattle.std.proofs.Common.{◌≡◌, ℕ, ◌+◌, max, List, [], ◌∷◌, ◌++◌, arith, sym, ◌∙◌, ap, append_assoc, append-nil}
+use Rattle.tree_shape.specs.declared.Child.TheVariants.{Leaf, Inner}
+use Rattle.tree_shape.specs.declared.DirtyRow.{DirtyRow}
+use Rattle.tree_shape.specs.Tree.{Tree, name, height}
+use Rattle.tree_shape.specs.Plan.{Plan, erase, rows, inner_on, dirty_row}
+use Rattle.tree_shape.specs.Removal.{IsSinking}
+use Rattle.tree_shape.proofs.Turning.{name_inner_on, height_inner_on}
+use Rattle.tree_shape.proofs.removal.set_above.Goals as goal
+
+pub returns : goal.returns
+returns c = λ nodes p before f l e.
+    let list : c.push.new.self ≡ (before ++ rows p) ++ dirty_row c.args.side c.args.m (name (erase p)) (name f) ∷ [] = c.push.ensures ∙ cc (c.row_on.ensures, l.listed, l.child, l.named) in
+    ((sym (name_inner_on c.args.side c.args.m (erase p) f), omega (arith, height_inner_on c.args.side c.args.m (erase p) f, l.high)), list ∙ simp (append_assoc, append-nil))

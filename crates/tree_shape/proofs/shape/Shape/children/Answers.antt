@@ -1,0 +1,24 @@
+use Rattle.std.proofs.Common.{◌≡◌, ◌<◌, ◌≤◌, ℕ, sym, ◌∙◌, ap, subst, refl, arith, rules, Some, None, Option}
+use Rattle.std.specs.Option.{option_map}
+use Rattle.tree_shape.specs.View.{ShapeView, count_of, leaves_of_tree, height_of_tree, IsLawful}
+use Rattle.tree_shape.specs.Tree.{Stands, Tree, name, height, count, inner, row_of}
+use Rattle.tree_shape.proofs.Reading.{rooted, Rooted}
+use Rattle.tree_shape.specs.declared.Child.{Child}
+use Rattle.tree_shape.specs.declared.Node.{Node}
+use Rattle.tree_shape.specs.Changes.{IsPartOf}
+use Rattle.tree_shape.proofs.Shapes.{part_stands}
+use Rattle.tree_shape.proofs.shape.Shape.children.Goals as goal
+
+pub row-node-requires : goal.row-node-requires
+row-node-requires c =
+    let h = c.requires in
+    let part = subst (λ (v : ShapeView). IsPartOf (inner c.args.inner h.0 h.1) v.tree) (sym c.self.view_is) h.2 in
+    (inner c.args.inner h.0 h.1, refl, subst (λ v. Stands v (inner c.args.inner h.0 h.1)) (sym c.as_slice.ensures.value) (part_stands _ _ _ c.self.invariant.0.sound part))
+
+pub returns : goal.returns
+returns c = λ l r p.
+    let part = subst (λ (v : ShapeView). IsPartOf (inner c.args.inner l r) v.tree) (sym c.self.view_is) p in
+    let s = subst (λ v. Stands v (inner c.args.inner l r)) (sym c.as_slice.ensures.value) (part_stands _ _ _ c.self.invariant.0.sound part) in
+    let same : Some c.row-node.result ≡ Some (row_of l r) = sym c.row-node.ensures ∙ s.0 in
+    let node : c.row-node.result ≡ row_of l r = cc in
+    ap (λ (n : Node). (n.left, n.right)) node

@@ -1,0 +1,105 @@
+use Rattle.std.proofs.Common.{◌≡◌, ◌<◌, ◌≤◌, ◌+◌, ◌*◌, ℕ, List, [], ◌∷◌, ◌++◌, length, length-append, vec_len, vec_capacity, sym, ◌∙◌, ap, subst, refl, arith, rules, Some, None, Option, take, drop, max}
+use Rattle.std.specs.Prelude.{slice_index}
+use Rattle.std.specs.Option.{option_map}
+use Rattle.std.proofs.lemmas.List.{take_at}
+use Rattle.tree_shape.specs.declared.Child.{Child}
+use Rattle.tree_shape.specs.declared.Child.TheVariants.{Leaf, Inner}
+use Rattle.tree_shape.specs.declared.Grown.{Grown}
+use Rattle.tree_shape.specs.declared.Node.{Node}
+use Rattle.tree_shape.specs.declared.DirtyRow.{DirtyRow}
+use Rattle.tree_shape.specs.Tree.{Stands, Tree, name, height, count, leaf, inner, leaves, inners, row_of}
+use Rattle.tree_shape.specs.Plan.{Plan, grown, erase, rows, below, IsPending, dirty_row}
+use Rattle.tree_shape.specs.Apply.{FitRows, applied, times}
+use Rattle.tree_shape.specs.Removal.{shrunk, gone, touched}
+use Rattle.tree_shape.specs.Numbers.{NumbersView, numbers_of, next_number, taken, given_back, IsCounted}
+use Rattle.tree_shape.specs.View.{ShapeView, tree_at, IsShape, IsSound, HasPlace, HasSoundLeaf, count_of, leaves_of_tree, height_of_tree, tree_with, rows_with, inners_with, tree_without, rows_without, inners_without, rows_above}
+use Rattle.tree_shape.specs.Fewest.{inserted, removed}
+use Rattle.tree_shape.proofs.Heights.{at_most_22}
+use Rattle.tree_shape.proofs.Bounds.{grown_listed}
+use Rattle.tree_shape.proofs.Turning.{rows_pending, name_pending}
+use Rattle.tree_shape.proofs.Counting.{next_place}
+use Rattle.tree_shape.proofs.Reading.{rooted, Rooted, rootless, sound_in, sound_read, fits_grown, sound_grown, fits_shrunk, sound_shrunk, leaves_with}
+use Rattle.tree_shape.proofs.Shapes.{rooms, taken_drawn, shape_at, shape_first, shape_grown, shape_shrunk, shape_emptied, next_free, counted_inners}
+use Rattle.tree_shape.proofs.shape.Shape.insert.Goals as goal
+
+pub invariant_of-self : goal.invariant_of-self
+invariant_of-self c =
+    let room = rooms c.self.inside.leaves.drawn (vec_capacity c.self.inside.leaves.free) c.self.inside.inners.drawn (vec_capacity c.self.inside.inners.free) (vec_len c.self.inside.nodes) (vec_capacity c.self.inside.nodes) (ap (λ (v : ShapeView). v.room) c.self.view_is ∙ c.requires.room) in
+    let first = shape_first c.self.inside.nodes.items (numbers_of c.self.inside.leaves) (numbers_of c.self.inside.inners) (subst (λ v. IsShape c.self.inside.nodes.items v (numbers_of c.self.inside.leaves) (numbers_of c.self.inside.inners)) c.in-None.is c.self.invariant.0) in (
+      rw (c.draw-new.ensures.number, c.draw-new.ensures.numbers) first,
+      c.self.invariant.1,
+      omega (arith, ap (λ (v : NumbersView). v.drawn) c.draw-new.ensures.numbers, taken_drawn (numbers_of c.self.inside.leaves), room.0, c.draw-new.ensures.capacity),
+      c.self.invariant.3,
+    )
+
+pub put-requires-clause-near : goal.put-requires-clause-near
+put-requires-clause-near c =
+    let r = rooted _ _ c.in-Some.child c.in-Some.is c.self.invariant.0.sound in
+    let seen : c.args.self.now.tree ≡ Some r.t = ap (λ (v : ShapeView). v.tree) (sym c.self.view_is) ∙ r.seen in
+    let shape = shape_at c.self.inside.nodes.items c.self.inside.root c.in-Some.child (numbers_of c.self.inside.leaves) (numbers_of c.self.inside.inners) c.in-Some.is c.self.invariant.0 in
+    let near = (next_place (numbers_of c.self.inside.inners) (inners r.t) (counted_inners _ _ r.t _ _ shape r.sound)).0 in
+    omega (arith, near, c.draw-number.ensures.number, c.self.invariant.1)
+
+pub put-requires-clause-place : goal.put-requires-clause-place
+put-requires-clause-place c =
+    let r = rooted _ _ c.in-Some.child c.in-Some.is c.self.invariant.0.sound in
+    let seen : c.args.self.now.tree ≡ Some r.t = ap (λ (v : ShapeView). v.tree) (sym c.self.view_is) ∙ r.seen in
+    let shape = shape_at c.self.inside.nodes.items c.self.inside.root c.in-Some.child (numbers_of c.self.inside.leaves) (numbers_of c.self.inside.inners) c.in-Some.is c.self.invariant.0 in
+    let place = subst (λ v. c.args.at ≤ count_of v) seen c.requires.place in
+    let few = subst (λ v. count_of v < 65536) seen c.requires.few in
+    let free : times c.draw-number.result r.t ≡ 0 = rw c.draw-number.ensures.number (next_free _ _ r.t _ _ shape r.sound) in
+    (r.t, r.sound, place, few, free)
+
+pub invariant_of-self-in-Some : goal.invariant_of-self-in-Some
+invariant_of-self-in-Some c =
+    let r = rooted _ _ c.in-Some.child c.in-Some.is c.self.invariant.0.sound in
+    let seen : c.args.self.now.tree ≡ Some r.t = ap (λ (v : ShapeView). v.tree) (sym c.self.view_is) ∙ r.seen in
+    let shape = shape_at c.self.inside.nodes.items c.self.inside.root c.in-Some.child (numbers_of c.self.inside.leaves) (numbers_of c.self.inside.inners) c.in-Some.is c.self.invariant.0 in
+    let place = subst (λ v. c.args.at ≤ count_of v) seen c.requires.place in
+    let few = subst (λ v. count_of v < 65536) seen c.requires.few in
+    let free : times c.draw-number.result r.t ≡ 0 = rw c.draw-number.ensures.number (next_free _ _ r.t _ _ shape r.sound) in
+    let after : IsSound c.put.new.nodes.items c.put.result (erase (grown c.args.at (next_number (numbers_of c.self.inside.leaves)) (next_number (numbers_of c.self.inside.inners)) r.t)) =
+    rw (← c.draw-new.ensures.number, ← c.draw-number.ensures.number) (c.put.ensures.sound r.t r.sound place few free) in
+    let room = rooms c.self.inside.leaves.drawn (vec_capacity c.self.inside.leaves.free) c.self.inside.inners.drawn (vec_capacity c.self.inside.inners.free) (vec_len c.self.inside.nodes) (vec_capacity c.self.inside.nodes) (ap (λ (v : ShapeView). v.room) c.self.view_is ∙ c.requires.room) in
+    let whole = shape_grown _ _ _ _ r.t c.args.at _ _ shape r.sound place few after in
+    let at = (next_place (numbers_of c.self.inside.inners) (inners r.t) (counted_inners _ _ r.t _ _ shape r.sound)).1 in
+    let drawn = ap (λ (v : NumbersView). v.drawn) c.draw-number.ensures.numbers in (
+      rw (c.draw-new.ensures.numbers, c.draw-number.ensures.numbers) whole,
+      omega (arith, c.put.ensures.len, at, drawn, c.self.invariant.1, c.draw-number.ensures.number),
+      omega (arith, ap (λ (v : NumbersView). v.drawn) c.draw-new.ensures.numbers, taken_drawn (numbers_of c.self.inside.leaves), room.0, c.draw-new.ensures.capacity),
+      omega (arith, drawn, taken_drawn (numbers_of c.self.inside.inners), room.1, c.draw-number.ensures.capacity),
+    )
+
+pub returns-in-Some-clause-tree : goal.returns-in-Some-clause-tree
+returns-in-Some-clause-tree c =
+    let r = rooted _ _ c.in-Some.child c.in-Some.is c.self.invariant.0.sound in
+    let seen : c.args.self.now.tree ≡ Some r.t = ap (λ (v : ShapeView). v.tree) (sym c.self.view_is) ∙ r.seen in
+    let shape = shape_at c.self.inside.nodes.items c.self.inside.root c.in-Some.child (numbers_of c.self.inside.leaves) (numbers_of c.self.inside.inners) c.in-Some.is c.self.invariant.0 in
+    let place = subst (λ v. c.args.at ≤ count_of v) seen c.requires.place in
+    let few = subst (λ v. count_of v < 65536) seen c.requires.few in
+    let free : times c.draw-number.result r.t ≡ 0 = rw c.draw-number.ensures.number (next_free _ _ r.t _ _ shape r.sound) in
+    let after : IsSound c.put.new.nodes.items c.put.result (erase (grown c.args.at (next_number (numbers_of c.self.inside.leaves)) (next_number (numbers_of c.self.inside.inners)) r.t)) =
+    rw (← c.draw-new.ensures.number, ← c.draw-number.ensures.number) (c.put.ensures.sound r.t r.sound place few free) in
+    let fresh_leaf : c.args.self.now.leaf_numbers ≡ numbers_of c.self.inside.leaves = ap (λ (v : ShapeView). v.leaf_numbers) (sym c.self.view_is) in
+    let fresh_inner : c.args.self.now.inner_numbers ≡ numbers_of c.self.inside.inners = ap (λ (v : ShapeView). v.inner_numbers) (sym c.self.view_is) in
+    rw (seen, fresh_leaf, fresh_inner) (ap (λ v. Some v) (sound_read _ _ _ after))
+
+pub returns-in-Some-clause-leaves : goal.returns-in-Some-clause-leaves
+returns-in-Some-clause-leaves c =
+    let r = rooted _ _ c.in-Some.child c.in-Some.is c.self.invariant.0.sound in
+    let seen : c.args.self.now.tree ≡ Some r.t = ap (λ (v : ShapeView). v.tree) (sym c.self.view_is) ∙ r.seen in
+    let shape = shape_at c.self.inside.nodes.items c.self.inside.root c.in-Some.child (numbers_of c.self.inside.leaves) (numbers_of c.self.inside.inners) c.in-Some.is c.self.invariant.0 in
+    let place = subst (λ v. c.args.at ≤ count_of v) seen c.requires.place in
+    let few = subst (λ v. count_of v < 65536) seen c.requires.few in
+    let free : times c.draw-number.result r.t ≡ 0 = rw c.draw-number.ensures.number (next_free _ _ r.t _ _ shape r.sound) in
+    let after : IsSound c.put.new.nodes.items c.put.result (erase (grown c.args.at (next_number (numbers_of c.self.inside.leaves)) (next_number (numbers_of c.self.inside.inners)) r.t)) =
+    rw (← c.draw-new.ensures.number, ← c.draw-number.ensures.number) (c.put.ensures.sound r.t r.sound place few free) in
+    rw (seen, c.draw-new.ensures.number) (ap leaves (sound_read _ _ _ after) ∙ leaves_with c.args.at (next_number (numbers_of c.self.inside.leaves)) (next_number (numbers_of c.self.inside.inners)) (Some r.t) place)
+
+pub returns-in-Some-clause-listed : goal.returns-in-Some-clause-listed
+returns-in-Some-clause-listed c =
+    let r = rooted _ _ c.in-Some.child c.in-Some.is c.self.invariant.0.sound in
+    let seen : c.args.self.now.tree ≡ Some r.t = ap (λ (v : ShapeView). v.tree) (sym c.self.view_is) ∙ r.seen in
+    let fresh_leaf : c.args.self.now.leaf_numbers ≡ numbers_of c.self.inside.leaves = ap (λ (v : ShapeView). v.leaf_numbers) (sym c.self.view_is) in
+    let fresh_inner : c.args.self.now.inner_numbers ≡ numbers_of c.self.inside.inners = ap (λ (v : ShapeView). v.inner_numbers) (sym c.self.view_is) in
+    rw (seen, fresh_leaf, fresh_inner, ← c.draw-new.ensures.number, ← c.draw-number.ensures.number) (c.put.ensures.listed r.t r.sound)

@@ -1,0 +1,18 @@
+use Rattle.std.proofs.Common.{◌≡◌, ◌<◌, sym, ◌∙◌, ap, subst, arith, rules, Some}
+use Rattle.tree_shape.specs.View.{ShapeView, count_of, leaves_of_tree}
+use Rattle.tree_shape.specs.Tree.{Stands, Tree}
+use Rattle.tree_shape.proofs.Reading.{rooted, Rooted}
+use Rattle.tree_shape.proofs.shape.Shape.leaf.Goals as goal
+
+pub leaf_at-requires : goal.leaf_at-requires
+leaf_at-requires c =
+    let r = rooted _ _ c.in-Some.child c.in-Some.is c.self.invariant.0.sound in
+    let seen : c.args.self.now.tree ≡ Some r.t = ap (λ (v : ShapeView). v.tree) (sym c.self.view_is) ∙ r.seen in
+    let below = subst (λ v. c.args.at < count_of v) seen c.requires in
+    (r.t, r.sound.named, subst (λ v. Stands v r.t) (sym c.as_slice.ensures.value) r.sound.stands, below)
+
+pub returns-in-Some : goal.returns-in-Some
+returns-in-Some c =
+    let r = rooted _ _ c.in-Some.child c.in-Some.is c.self.invariant.0.sound in
+    let seen : c.args.self.now.tree ≡ Some r.t = ap (λ (v : ShapeView). v.tree) (sym c.self.view_is) ∙ r.seen in
+    rw seen (c.leaf_at.ensures r.t r.sound.named (subst (λ v. Stands v r.t) (sym c.as_slice.ensures.value) r.sound.stands))

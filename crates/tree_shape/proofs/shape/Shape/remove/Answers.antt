@@ -1,0 +1,172 @@
+use Rattle.std.proofs.Common.{◌≡◌, ◌<◌, ◌≤◌, ◌+◌, ◌*◌, ℕ, List, [], ◌∷◌, ◌++◌, length, length-append, vec_len, sym, ◌∙◌, ap, subst, refl, arith, rules, Some, None, Option, take, drop, max}
+use Rattle.std.specs.Prelude.{slice_index}
+use Rattle.std.specs.Option.{option_map}
+use Rattle.std.proofs.lemmas.List.{take_at}
+use Rattle.tree_shape.specs.declared.Child.{Child}
+use Rattle.tree_shape.specs.declared.Child.TheVariants.{Leaf, Inner}
+use Rattle.tree_shape.specs.declared.Grown.{Grown}
+use Rattle.tree_shape.specs.declared.Node.{Node}
+use Rattle.tree_shape.specs.declared.DirtyRow.{DirtyRow}
+use Rattle.tree_shape.specs.Tree.{Stands, Tree, name, height, count, leaf, inner, leaves, inners, row_of}
+use Rattle.tree_shape.specs.Plan.{Plan, grown, erase, rows, below, IsPending, dirty_row}
+use Rattle.tree_shape.specs.Apply.{FitRows, applied, times}
+use Rattle.tree_shape.specs.Removal.{shrunk, gone, touched}
+use Rattle.tree_shape.specs.Numbers.{NumbersView, numbers_of, next_number, taken, given_back, IsCounted}
+use Rattle.tree_shape.specs.View.{ShapeView, tree_at, IsShape, IsSound, HasPlace, HasSoundLeaf, count_of, leaves_of_tree, height_of_tree, tree_with, rows_with, inners_with, tree_without, rows_without, inners_without, rows_above}
+use Rattle.tree_shape.specs.Fewest.{inserted, removed}
+use Rattle.tree_shape.proofs.Heights.{at_most_22}
+use Rattle.tree_shape.proofs.Bounds.{grown_listed}
+use Rattle.tree_shape.proofs.Turning.{rows_pending, name_pending}
+use Rattle.tree_shape.proofs.Counting.{next_place}
+use Rattle.tree_shape.proofs.Reading.{rooted, Rooted, rootless, sound_in, sound_read, fits_grown, sound_grown, fits_shrunk, sound_shrunk, leaves_with}
+use Rattle.tree_shape.proofs.Shapes.{rooms, taken_drawn, shape_at, shape_first, shape_grown, shape_shrunk, shape_emptied, next_free, counted_inners}
+use Rattle.tree_shape.proofs.Shrinking.{IsInner, leaves_shrunk}
+use Rattle.tree_shape.proofs.Shapes.{inside, leaf_room, inner_room, tree_without_inner, inners_without_inner}
+use Rattle.tree_shape.proofs.shape.Shape.remove.Goals as goal
+
+pub invariant_of-self : goal.invariant_of-self
+invariant_of-self c =
+    let top : c.self.inside.root ≡ Some (Leaf c.in-Leaf.number) = c.in-Some.is ∙ ap (λ v. Some v) c.in-Leaf.is in
+    let shape = shape_at c.self.inside.nodes.items c.self.inside.root (Leaf c.in-Leaf.number) (numbers_of c.self.inside.leaves) (numbers_of c.self.inside.inners) top c.self.invariant.0 in (
+      rw c.give_back.ensures.numbers (shape_emptied c.self.inside.nodes.items c.in-Leaf.number (numbers_of c.self.inside.leaves) (numbers_of c.self.inside.inners) shape),
+      c.self.invariant.1,
+      omega (arith, ap (λ (v : NumbersView). v.drawn) c.give_back.ensures.numbers, c.give_back.ensures.capacity, c.self.invariant.2),
+      c.self.invariant.3,
+    )
+
+pub leaf_at-number-requires : goal.leaf_at-number-requires
+leaf_at-number-requires c =
+    let top : c.self.inside.root ≡ Some (Inner c.in-Inner.top) = c.in-Some.is ∙ ap (λ v. Some v) c.in-Inner.is in
+    let r = rooted _ _ (Inner c.in-Inner.top) top c.self.invariant.0.sound in
+    let seen : c.args.self.now.tree ≡ Some r.t = ap (λ (v : ShapeView). v.tree) (sym c.self.view_is) ∙ r.seen in
+    let place : c.args.at < count r.t = subst (λ v. c.args.at < count_of v) seen c.requires in
+    let within = inside c.in-Inner.top r.t r.sound.named in
+    let shape = shape_at c.self.inside.nodes.items c.self.inside.root (Inner c.in-Inner.top) (numbers_of c.self.inside.leaves) (numbers_of c.self.inside.inners) top c.self.invariant.0 in
+    (r.t, r.sound.named, subst (λ v. Stands v r.t) (sym c.as_slice.ensures.value) r.sound.stands, place)
+
+pub parent_of-gone-requires : goal.parent_of-gone-requires
+parent_of-gone-requires c =
+    let top : c.self.inside.root ≡ Some (Inner c.in-Inner.top) = c.in-Some.is ∙ ap (λ v. Some v) c.in-Inner.is in
+    let r = rooted _ _ (Inner c.in-Inner.top) top c.self.invariant.0.sound in
+    let seen : c.args.self.now.tree ≡ Some r.t = ap (λ (v : ShapeView). v.tree) (sym c.self.view_is) ∙ r.seen in
+    let place : c.args.at < count r.t = subst (λ v. c.args.at < count_of v) seen c.requires in
+    let within = inside c.in-Inner.top r.t r.sound.named in
+    let shape = shape_at c.self.inside.nodes.items c.self.inside.root (Inner c.in-Inner.top) (numbers_of c.self.inside.leaves) (numbers_of c.self.inside.inners) top c.self.invariant.0 in
+    (r.t, r.sound.named, subst (λ v. Stands v r.t) (sym c.as_slice-in-Inner.ensures.value) r.sound.stands, place)
+
+pub take-requires-clause-place : goal.take-requires-clause-place
+take-requires-clause-place c =
+    let top : c.self.inside.root ≡ Some (Inner c.in-Inner.top) = c.in-Some.is ∙ ap (λ v. Some v) c.in-Inner.is in
+    let r = rooted _ _ (Inner c.in-Inner.top) top c.self.invariant.0.sound in
+    let seen : c.args.self.now.tree ≡ Some r.t = ap (λ (v : ShapeView). v.tree) (sym c.self.view_is) ∙ r.seen in
+    let place : c.args.at < count r.t = subst (λ v. c.args.at < count_of v) seen c.requires in
+    let within = inside c.in-Inner.top r.t r.sound.named in
+    let shape = shape_at c.self.inside.nodes.items c.self.inside.root (Inner c.in-Inner.top) (numbers_of c.self.inside.leaves) (numbers_of c.self.inside.inners) top c.self.invariant.0 in
+    (r.t, r.sound, place)
+
+pub give_back-requires-in-Inner : goal.give_back-requires-in-Inner
+give_back-requires-in-Inner c =
+    let top : c.self.inside.root ≡ Some (Inner c.in-Inner.top) = c.in-Some.is ∙ ap (λ v. Some v) c.in-Inner.is in
+    let r = rooted _ _ (Inner c.in-Inner.top) top c.self.invariant.0.sound in
+    let seen : c.args.self.now.tree ≡ Some r.t = ap (λ (v : ShapeView). v.tree) (sym c.self.view_is) ∙ r.seen in
+    let place : c.args.at < count r.t = subst (λ v. c.args.at < count_of v) seen c.requires in
+    let within = inside c.in-Inner.top r.t r.sound.named in
+    let shape = shape_at c.self.inside.nodes.items c.self.inside.root (Inner c.in-Inner.top) (numbers_of c.self.inside.leaves) (numbers_of c.self.inside.inners) top c.self.invariant.0 in
+    omega (arith, leaf_room _ _ r.t _ _ shape r.sound, c.self.invariant.2)
+
+pub give_back-requires-in-Inner-2 : goal.give_back-requires-in-Inner-2
+give_back-requires-in-Inner-2 c =
+    let top : c.self.inside.root ≡ Some (Inner c.in-Inner.top) = c.in-Some.is ∙ ap (λ v. Some v) c.in-Inner.is in
+    let r = rooted _ _ (Inner c.in-Inner.top) top c.self.invariant.0.sound in
+    let seen : c.args.self.now.tree ≡ Some r.t = ap (λ (v : ShapeView). v.tree) (sym c.self.view_is) ∙ r.seen in
+    let place : c.args.at < count r.t = subst (λ v. c.args.at < count_of v) seen c.requires in
+    let within = inside c.in-Inner.top r.t r.sound.named in
+    let shape = shape_at c.self.inside.nodes.items c.self.inside.root (Inner c.in-Inner.top) (numbers_of c.self.inside.leaves) (numbers_of c.self.inside.inners) top c.self.invariant.0 in
+    omega (arith, inner_room _ _ r.t _ _ shape r.sound within, c.self.invariant.3)
+
+pub invariant_of-self-in-Inner : goal.invariant_of-self-in-Inner
+invariant_of-self-in-Inner c =
+    let top : c.self.inside.root ≡ Some (Inner c.in-Inner.top) = c.in-Some.is ∙ ap (λ v. Some v) c.in-Inner.is in
+    let r = rooted _ _ (Inner c.in-Inner.top) top c.self.invariant.0.sound in
+    let seen : c.args.self.now.tree ≡ Some r.t = ap (λ (v : ShapeView). v.tree) (sym c.self.view_is) ∙ r.seen in
+    let place : c.args.at < count r.t = subst (λ v. c.args.at < count_of v) seen c.requires in
+    let within = inside c.in-Inner.top r.t r.sound.named in
+    let shape = shape_at c.self.inside.nodes.items c.self.inside.root (Inner c.in-Inner.top) (numbers_of c.self.inside.leaves) (numbers_of c.self.inside.inners) top c.self.invariant.0 in
+    let number = c.leaf_at-number.ensures r.t r.sound.named (subst (λ v. Stands v r.t) (sym c.as_slice.ensures.value) r.sound.stands) in
+    let parent = c.parent_of-gone.ensures r.t r.sound.named (subst (λ v. Stands v r.t) (sym c.as_slice-in-Inner.ensures.value) r.sound.stands) in
+    let whole = shape_shrunk _ _ _ _ r.t c.args.at _ _ shape r.sound place within (c.take.ensures.sound r.t r.sound place) in (
+      rw (c.give_back-in-Inner.ensures.numbers, c.give_back-in-Inner-2.ensures.numbers, number, parent) whole,
+      omega (arith, c.take.ensures.len, c.self.invariant.1, ap (λ (v : NumbersView). v.drawn) c.give_back-in-Inner-2.ensures.numbers),
+      omega (arith, c.self.invariant.2, c.give_back-in-Inner.ensures.capacity, ap (λ (v : NumbersView). v.drawn) c.give_back-in-Inner.ensures.numbers),
+      omega (arith, c.self.invariant.3, c.give_back-in-Inner-2.ensures.capacity, ap (λ (v : NumbersView). v.drawn) c.give_back-in-Inner-2.ensures.numbers),
+    )
+
+pub returns-in-Inner-clause-number : goal.returns-in-Inner-clause-number
+returns-in-Inner-clause-number c =
+    let top : c.self.inside.root ≡ Some (Inner c.in-Inner.top) = c.in-Some.is ∙ ap (λ v. Some v) c.in-Inner.is in
+    let r = rooted _ _ (Inner c.in-Inner.top) top c.self.invariant.0.sound in
+    let seen : c.args.self.now.tree ≡ Some r.t = ap (λ (v : ShapeView). v.tree) (sym c.self.view_is) ∙ r.seen in
+    let place : c.args.at < count r.t = subst (λ v. c.args.at < count_of v) seen c.requires in
+    let within = inside c.in-Inner.top r.t r.sound.named in
+    let shape = shape_at c.self.inside.nodes.items c.self.inside.root (Inner c.in-Inner.top) (numbers_of c.self.inside.leaves) (numbers_of c.self.inside.inners) top c.self.invariant.0 in
+    let number = c.leaf_at-number.ensures r.t r.sound.named (subst (λ v. Stands v r.t) (sym c.as_slice.ensures.value) r.sound.stands) in
+    let parent = c.parent_of-gone.ensures r.t r.sound.named (subst (λ v. Stands v r.t) (sym c.as_slice-in-Inner.ensures.value) r.sound.stands) in
+    rw seen number
+
+pub returns-in-Inner-clause-leaves : goal.returns-in-Inner-clause-leaves
+returns-in-Inner-clause-leaves c =
+    let top : c.self.inside.root ≡ Some (Inner c.in-Inner.top) = c.in-Some.is ∙ ap (λ v. Some v) c.in-Inner.is in
+    let r = rooted _ _ (Inner c.in-Inner.top) top c.self.invariant.0.sound in
+    let seen : c.args.self.now.tree ≡ Some r.t = ap (λ (v : ShapeView). v.tree) (sym c.self.view_is) ∙ r.seen in
+    let place : c.args.at < count r.t = subst (λ v. c.args.at < count_of v) seen c.requires in
+    let within = inside c.in-Inner.top r.t r.sound.named in
+    let shape = shape_at c.self.inside.nodes.items c.self.inside.root (Inner c.in-Inner.top) (numbers_of c.self.inside.leaves) (numbers_of c.self.inside.inners) top c.self.invariant.0 in
+    rw seen (ap leaves (sound_read _ _ _ (c.take.ensures.sound r.t r.sound place)) ∙ leaves_shrunk c.args.at r.t place within)
+
+pub returns-in-Inner-clause-tree : goal.returns-in-Inner-clause-tree
+returns-in-Inner-clause-tree c =
+    let top : c.self.inside.root ≡ Some (Inner c.in-Inner.top) = c.in-Some.is ∙ ap (λ v. Some v) c.in-Inner.is in
+    let r = rooted _ _ (Inner c.in-Inner.top) top c.self.invariant.0.sound in
+    let seen : c.args.self.now.tree ≡ Some r.t = ap (λ (v : ShapeView). v.tree) (sym c.self.view_is) ∙ r.seen in
+    let place : c.args.at < count r.t = subst (λ v. c.args.at < count_of v) seen c.requires in
+    let within = inside c.in-Inner.top r.t r.sound.named in
+    let shape = shape_at c.self.inside.nodes.items c.self.inside.root (Inner c.in-Inner.top) (numbers_of c.self.inside.leaves) (numbers_of c.self.inside.inners) top c.self.invariant.0 in
+    rw seen (ap (λ v. Some v) (sound_read _ _ _ (c.take.ensures.sound r.t r.sound place)) ∙ sym (tree_without_inner c.args.at r.t within))
+
+pub returns-in-Inner-clause-leaf_numbers : goal.returns-in-Inner-clause-leaf_numbers
+returns-in-Inner-clause-leaf_numbers c =
+    let top : c.self.inside.root ≡ Some (Inner c.in-Inner.top) = c.in-Some.is ∙ ap (λ v. Some v) c.in-Inner.is in
+    let r = rooted _ _ (Inner c.in-Inner.top) top c.self.invariant.0.sound in
+    let seen : c.args.self.now.tree ≡ Some r.t = ap (λ (v : ShapeView). v.tree) (sym c.self.view_is) ∙ r.seen in
+    let place : c.args.at < count r.t = subst (λ v. c.args.at < count_of v) seen c.requires in
+    let within = inside c.in-Inner.top r.t r.sound.named in
+    let shape = shape_at c.self.inside.nodes.items c.self.inside.root (Inner c.in-Inner.top) (numbers_of c.self.inside.leaves) (numbers_of c.self.inside.inners) top c.self.invariant.0 in
+    let number = c.leaf_at-number.ensures r.t r.sound.named (subst (λ v. Stands v r.t) (sym c.as_slice.ensures.value) r.sound.stands) in
+    let parent = c.parent_of-gone.ensures r.t r.sound.named (subst (λ v. Stands v r.t) (sym c.as_slice-in-Inner.ensures.value) r.sound.stands) in
+    let leaf_numbers : c.args.self.now.leaf_numbers ≡ numbers_of c.self.inside.leaves = ap (λ (v : ShapeView). v.leaf_numbers) (sym c.self.view_is) in
+    let inner_numbers : c.args.self.now.inner_numbers ≡ numbers_of c.self.inside.inners = ap (λ (v : ShapeView). v.inner_numbers) (sym c.self.view_is) in
+    rw (seen, leaf_numbers, ← number) c.give_back-in-Inner.ensures.numbers
+
+pub returns-in-Inner-clause-inner_numbers : goal.returns-in-Inner-clause-inner_numbers
+returns-in-Inner-clause-inner_numbers c =
+    let top : c.self.inside.root ≡ Some (Inner c.in-Inner.top) = c.in-Some.is ∙ ap (λ v. Some v) c.in-Inner.is in
+    let r = rooted _ _ (Inner c.in-Inner.top) top c.self.invariant.0.sound in
+    let seen : c.args.self.now.tree ≡ Some r.t = ap (λ (v : ShapeView). v.tree) (sym c.self.view_is) ∙ r.seen in
+    let place : c.args.at < count r.t = subst (λ v. c.args.at < count_of v) seen c.requires in
+    let within = inside c.in-Inner.top r.t r.sound.named in
+    let shape = shape_at c.self.inside.nodes.items c.self.inside.root (Inner c.in-Inner.top) (numbers_of c.self.inside.leaves) (numbers_of c.self.inside.inners) top c.self.invariant.0 in
+    let number = c.leaf_at-number.ensures r.t r.sound.named (subst (λ v. Stands v r.t) (sym c.as_slice.ensures.value) r.sound.stands) in
+    let parent = c.parent_of-gone.ensures r.t r.sound.named (subst (λ v. Stands v r.t) (sym c.as_slice-in-Inner.ensures.value) r.sound.stands) in
+    let leaf_numbers : c.args.self.now.leaf_numbers ≡ numbers_of c.self.inside.leaves = ap (λ (v : ShapeView). v.leaf_numbers) (sym c.self.view_is) in
+    let inner_numbers : c.args.self.now.inner_numbers ≡ numbers_of c.self.inside.inners = ap (λ (v : ShapeView). v.inner_numbers) (sym c.self.view_is) in
+    rw (seen, inner_numbers) (c.give_back-in-Inner-2.ensures.numbers ∙ (ap (λ n. given_back n (numbers_of c.self.inside.inners)) parent ∙ sym (inners_without_inner c.args.at r.t (numbers_of c.self.inside.inners) within)))
+
+pub returns-in-Inner-clause-listed : goal.returns-in-Inner-clause-listed
+returns-in-Inner-clause-listed c =
+    let top : c.self.inside.root ≡ Some (Inner c.in-Inner.top) = c.in-Some.is ∙ ap (λ v. Some v) c.in-Inner.is in
+    let r = rooted _ _ (Inner c.in-Inner.top) top c.self.invariant.0.sound in
+    let seen : c.args.self.now.tree ≡ Some r.t = ap (λ (v : ShapeView). v.tree) (sym c.self.view_is) ∙ r.seen in
+    let place : c.args.at < count r.t = subst (λ v. c.args.at < count_of v) seen c.requires in
+    let within = inside c.in-Inner.top r.t r.sound.named in
+    let shape = shape_at c.self.inside.nodes.items c.self.inside.root (Inner c.in-Inner.top) (numbers_of c.self.inside.leaves) (numbers_of c.self.inside.inners) top c.self.invariant.0 in
+    rw seen (c.take.ensures.listed r.t r.sound)

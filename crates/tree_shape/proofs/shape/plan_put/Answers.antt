@@ -1,0 +1,49 @@
+use Rattle.std.proofs.Common.{◌≡◌, ◌<◌, ◌≤◌, ◌+◌, ◌*◌, ℕ, List, [], ◌∷◌, ◌++◌, length, length-append, vec_len, sym, ◌∙◌, ap, subst, refl, arith, rules, Some, None, Option, take, drop, max}
+use Rattle.std.specs.Prelude.{slice_index}
+use Rattle.std.specs.Option.{option_map}
+use Rattle.std.proofs.lemmas.List.{take_at}
+use Rattle.tree_shape.specs.declared.Child.{Child}
+use Rattle.tree_shape.specs.declared.Child.TheVariants.{Leaf, Inner}
+use Rattle.tree_shape.specs.declared.Grown.{Grown}
+use Rattle.tree_shape.specs.declared.Node.{Node}
+use Rattle.tree_shape.specs.declared.DirtyRow.{DirtyRow}
+use Rattle.tree_shape.specs.Tree.{Stands, Tree, name, height, count, leaf, inner, leaves, inners, row_of}
+use Rattle.tree_shape.specs.Plan.{Plan, grown, erase, rows, below, IsPending, dirty_row}
+use Rattle.tree_shape.specs.Apply.{FitRows, applied, times}
+use Rattle.tree_shape.specs.Removal.{shrunk, gone, touched}
+use Rattle.tree_shape.specs.Numbers.{NumbersView, numbers_of, next_number, taken, given_back, IsCounted}
+use Rattle.tree_shape.specs.View.{ShapeView, tree_at, IsShape, IsSound, HasPlace, HasSoundLeaf, count_of, leaves_of_tree, height_of_tree, tree_with, rows_with, inners_with, tree_without, rows_without, inners_without, rows_above}
+use Rattle.tree_shape.specs.Fewest.{inserted, removed}
+use Rattle.tree_shape.proofs.Heights.{at_most_22}
+use Rattle.tree_shape.proofs.Bounds.{grown_listed}
+use Rattle.tree_shape.proofs.Turning.{rows_pending, name_pending}
+use Rattle.tree_shape.proofs.Counting.{next_place}
+use Rattle.tree_shape.proofs.Reading.{rooted, Rooted, rootless, sound_in, sound_read, fits_grown, sound_grown, fits_shrunk, sound_shrunk, leaves_with}
+use Rattle.tree_shape.proofs.Shapes.{rooms, taken_drawn, shape_at, shape_first, shape_grown, shape_shrunk, shape_emptied, next_free, counted_inners}
+use Rattle.tree_shape.proofs.shape.plan_put.Goals as goal
+
+pub grow-grown-requires : goal.grow-grown-requires
+grow-grown-requires c =
+    let h = c.requires.place in
+    let low = at_most_22 h.0 h.1.balanced h.1.few in
+    (h.0, h.1.named, h.1.stands, h.2, omega (arith, ap length c.requires.empty))
+
+listed_rows : (g : Grown) (p : Plan) (d0 d1 d2 : List DirtyRow) (row : DirtyRow) → d0 ≡ [] → IsPending g p → d1 ≡ d0 ++ below p → row ≡ dirty_row g.side g.node g.near g.far → d2 ≡ d1 ++ row ∷ [] → d2 ≡ rows p
+listed_rows g p d0 d1 d2 row e0 pending e1 er e2 =
+    let short : d1 ≡ below p = e1 ∙ ap (λ v. v ++ below p) e0 in
+    e2 ∙ (cc (short, er) ∙ sym (rows_pending g p pending))
+
+pub push-requires : goal.push-requires
+push-requires c =
+    let h = c.requires.place in
+    let low = at_most_22 h.0 h.1.balanced h.1.few in
+    let told = c.grow-grown.ensures h.0 h.1.named h.1.stands in
+    omega (arith, grown_listed c.args.at c.args.new c.args.number h.0, ap length told.1, ap length c.requires.empty, length-append c.args.dirty.now (below (grown c.args.at c.args.new c.args.number h.0)))
+
+pub returns-clause-root : goal.returns-clause-root
+returns-clause-root c = λ t s. sym (name_pending _ _ (c.grow-grown.ensures t s.named s.stands).0)
+
+pub returns-clause-listed : goal.returns-clause-listed
+returns-clause-listed c = λ t s.
+    let told = c.grow-grown.ensures t s.named s.stands in
+    listed_rows _ _ _ _ _ _ c.requires.empty told.0 told.1 c.row_on.ensures c.push.ensures

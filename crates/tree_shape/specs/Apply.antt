@@ -1,0 +1,68 @@
+-- What the rows of a change make of the arena.
+use Rattle.std.specs.Prelude.{◌≡◌, ℕ, ◌+◌, ◌-◌, ◌^◌, ◌<◌, ◌≤◌, max, eqb, cond, List, [], ◌∷◌, ◌++◌, length, Option, Some, None, slice_set}
+use Rattle.std.specs.List.{slice_get}
+use Rattle.tree_shape.specs.declared.Child.{Child}
+use Rattle.tree_shape.specs.declared.Child.TheVariants.{Leaf, Inner}
+use Rattle.tree_shape.specs.declared.DirtyRow.{DirtyRow}
+use Rattle.tree_shape.specs.declared.Node.{Node}
+use Rattle.tree_shape.specs.Tree.{Tree, leaf, inner, name, height, count, Stands, stored_height}
+use Rattle.tree_shape.specs.Plan.{Plan, kept, made}
+
+abbrev pub leaves_in : Option Node → ℕ
+leaves_in None = 0
+leaves_in (Some node) = node.leaves
+
+abbrev pub stored_leaves : List Node → Child → ℕ
+stored_leaves rows (Leaf n) = 1
+stored_leaves rows (Inner n) = leaves_in (slice_get rows n)
+
+-- the row that a node with these parts gets
+abbrev pub node_from : List Node → Child → Child → Node
+node_from rows left right = record { left = left; right = right; height = 1 + max (stored_height rows left) (stored_height rows right); leaves = stored_leaves rows left + stored_leaves rows right }
+
+abbrev pub written : List Node → DirtyRow → List Node
+written rows row = slice_set rows row.node (node_from rows row.left row.right)
+
+-- one row after the other
+abbrev pub applied : List Node → List DirtyRow → List Node
+applied rows [] = rows
+applied rows (row ∷ rest) = applied (written rows row) rest
+
+abbrev pub IsIn : List Node → Child → Type 0
+IsIn rows (Leaf n) = Unit {0}
+IsIn rows (Inner n) = n < length rows
+
+-- the row has its place, and its height and its leaves are numbers that fit
+pub record FitsRow (rows : List Node) (row : DirtyRow) : Type 0 where
+  pub place : row.node < length rows
+  pub left : IsIn rows row.left
+  pub right : IsIn rows row.right
+  pub low : (stored_height rows row.left < 255) × (stored_height rows row.right < 255)
+  pub few : stored_leaves rows row.left + stored_leaves rows row.right < 2 ^ 32
+
+abbrev pub FitRows : List Node → List DirtyRow → Type 0
+FitRows rows [] = Unit {0}
+FitRows rows (row ∷ rest) = FitsRow rows row × FitRows (written rows row) rest
+
+-- one where two numbers are the same
+abbrev pub mark : ℕ → ℕ → ℕ
+mark k n = cond (eqb k n) 1 0
+
+-- how often a number is an inner node's
+abbrev pub times : ℕ → Tree → ℕ
+times k (leaf n) = 0
+times k (inner n l r) = mark k n + (times k l + times k r)
+
+-- how often a plan writes the node
+abbrev pub times_made : ℕ → Plan → ℕ
+times_made k (kept t) = 0
+times_made k (made side n near far) = mark k n + (times_made k near + times_made k far)
+
+-- each part that stays has a property
+abbrev pub KeptBy : (Tree → Type 0) → Plan → Type 0
+KeptBy P (kept t) = P t
+KeptBy P (made side n near far) = KeptBy P near × KeptBy P far
+
+-- the parts that stay stand in the arena
+abbrev pub KeptStands : List Node → Plan → Type 0
+KeptStands rows p = KeptBy (Stands rows) p

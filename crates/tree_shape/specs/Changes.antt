@@ -1,0 +1,55 @@
+-- What a list of rows says of a tree before and after a change.
+use Rattle.std.specs.Prelude.{◌≡◌, ℕ, zero, suc, ◌+◌, ◌<◌, ◌≤◌, ◌⊎◌, List, [], ◌∷◌, ◌++◌, Option, Some, None}
+use Rattle.std.specs.List.{All}
+use Rattle.tree_shape.specs.declared.Child.{Child}
+use Rattle.tree_shape.specs.declared.Child.TheVariants.{Leaf, Inner}
+use Rattle.tree_shape.specs.declared.DirtyRow.{DirtyRow}
+use Rattle.tree_shape.specs.Tree.{Tree, leaf, inner, name, height, count, IsBalanced}
+use Rattle.tree_shape.specs.Apply.{mark}
+
+-- a leaf or an inner node of a tree, with all that is below it
+abbrev pub IsPart : Tree → Tree → Type 0
+IsPart part (leaf n) = part ≡ leaf n
+IsPart part (inner n l r) = (part ≡ inner n l r) ⊎ (IsPart part l ⊎ IsPart part r)
+
+abbrev pub IsPartOf : Tree → Option Tree → Type 0
+IsPartOf part None = ⊥
+IsPartOf part (Some t) = IsPart part t
+
+-- the number is an inner node's, with these trees below it
+abbrev pub HasBelow : Option Tree → ℕ → Tree → Tree → Type 0
+HasBelow tree n l r = IsPartOf (inner n l r) tree
+
+abbrev pub HasInner : Option Tree → ℕ → Type 0
+HasInner tree n = (l : Tree) × (r : Tree) × HasBelow tree n l r
+
+-- how often a node is listed
+abbrev pub times_listed : ℕ → List DirtyRow → ℕ
+times_listed k [] = 0
+times_listed k (row ∷ rest) = mark k row.node + times_listed k rest
+
+-- the row's node is in the tree, with these two children
+abbrev pub HasChildren : Option Tree → DirtyRow → Type 0
+HasChildren tree row = (l : Tree) × (r : Tree) × IsPartOf (inner row.node l r) tree × (row.left ≡ name l) × (row.right ≡ name r)
+
+-- every inner node that is not listed was there before with the same children, and the same tree below each
+abbrev pub LeavesOthers : Option Tree → Option Tree → List DirtyRow → Type 0
+LeavesOthers old new rows = (k : ℕ) (l r : Tree) → IsPartOf (inner k l r) new → times_listed k rows ≡ 0 → IsPartOf (inner k l r) old
+
+abbrev pub IsNotListed : Child → List DirtyRow → Type 0
+IsNotListed (Leaf n) rows = Unit {0}
+IsNotListed (Inner k) rows = times_listed k rows ≡ 0
+
+-- children before parents: neither child of a row is listed with it or after it
+abbrev pub IsOrdered : List DirtyRow → Type 0
+IsOrdered [] = Unit {0}
+IsOrdered (row ∷ rest) = IsNotListed row.left (row ∷ rest) × IsNotListed row.right (row ∷ rest) × IsOrdered rest
+
+-- no balanced tree of so many leaves is higher
+abbrev pub BoundsHeight : ℕ → ℕ → Type 0
+BoundsHeight leaves high = (t : Tree) → IsBalanced t → count t ≡ leaves → height t ≤ high
+
+-- the numbers below a count, in order
+abbrev pub numbers_below : ℕ → List ℕ
+numbers_below zero = []
+numbers_below (suc n) = numbers_below n ++ n ∷ []

@@ -1,0 +1,137 @@
+-- A tree after one change, with the parts that stayed as they were marked: which inner nodes the change wrote, and in which order they are listed.
+use Rattle.std.specs.Prelude.{◌≡◌, ℕ, ◌+◌, ◌-◌, ◌<◌, ◌≤◌, max, Bool, true, false, nat_le, cond, List, [], ◌∷◌, ◌++◌, length, Option, Some, None}
+use Rattle.tree_shape.specs.declared.Child.{Child}
+use Rattle.tree_shape.specs.declared.Child.TheVariants.{Leaf, Inner}
+use Rattle.tree_shape.specs.declared.Side.{Side}
+use Rattle.tree_shape.specs.declared.Side.TheVariants.{Left, Right}
+use Rattle.tree_shape.specs.declared.Way.{Way}
+use Rattle.tree_shape.specs.declared.Way.TheVariants.{Turned, Once, Twice}
+use Rattle.tree_shape.specs.declared.DirtyRow.{DirtyRow}
+use Rattle.tree_shape.specs.declared.Grown.{Grown}
+use Rattle.tree_shape.specs.Tree.{Tree, leaf, inner, name, height, count, Stands}
+use Rattle.tree_shape.specs.declared.Node.{Node}
+
+-- a part that stayed, or an inner node that was written: the side of its near part, its number, its near part and its far part
+pub data Plan : Type 0 where
+  kept : Tree → Plan
+  made : Side → ℕ → Plan → Plan → Plan
+
+-- an inner node by its near and its far part
+abbrev pub inner_on : Side → ℕ → Tree → Tree → Tree
+inner_on Left n near far = inner n near far
+inner_on Right n near far = inner n far near
+
+-- the tree after the change
+abbrev pub erase : Plan → Tree
+erase (kept t) = t
+erase (made side n near far) = inner_on side n (erase near) (erase far)
+
+abbrev pub dirty_row : Side → ℕ → Child → Child → DirtyRow
+dirty_row Left n near far = record { node = n; left = near; right = far }
+dirty_row Right n near far = record { node = n; left = far; right = near }
+
+abbrev pub child_on : Side → DirtyRow → Child
+child_on Left row = row.left
+child_on Right row = row.right
+
+-- the rows written, each node after its parts
+abbrev pub rows : Plan → List DirtyRow
+rows (kept t) = []
+rows (made side n near far) = (rows near ++ rows far) ++ dirty_row side n (name (erase near)) (name (erase far)) ∷ []
+
+-- the same without the root's
+abbrev pub below : Plan → List DirtyRow
+below (kept t) = []
+below (made side n near far) = rows near ++ rows far
+
+abbrev pub same_side : Side → Side → Bool
+same_side Left Left = true
+same_side Left Right = false
+same_side Right Left = false
+same_side Right Right = true
+
+abbrev pub other : Side → Side
+other Left = Right
+other Right = Left
+
+-- the three ways to set a node above a changed part that has grown
+abbrev pub over : Side → ℕ → Plan → Tree → Plan
+over side m near far = made side m near (kept far)
+
+abbrev pub turned_once : Side → ℕ → ℕ → Plan → Tree → Tree → Plan
+turned_once side m p near f far = made side p near (made side m (kept f) (kept far))
+
+-- q's near part on the node's own side, or on the other
+abbrev pub turned_twice : Side → ℕ → ℕ → ℕ → Side → Plan → Tree → Tree → Tree → Plan
+turned_twice side m p q third near b f far =
+    cond (same_side third side)
+    (made side q (made (other side) p near (kept f)) (made side m (kept b) (kept far)))
+    (made (other side) q (made side m near (kept far)) (made (other side) p (kept b) (kept f)))
+
+abbrev pub turned : Side → ℕ → Side → ℕ → Side → ℕ → Plan → Tree → Tree → Tree → Plan
+turned side m second p third q near b f far =
+    cond (same_side second side)
+    (turned_once side m p (made third q near (kept b)) f far)
+    (turned_twice side m p q third near b f far)
+
+-- turned, where the part has two nodes to turn by
+abbrev pub turned_through : Side → ℕ → Side → ℕ → Plan → Tree → Tree → Plan
+turned_through side m second p (made third q near (kept b)) f far = turned side m second p third q near b f far
+turned_through side m second p part f far = over side m (made second p part (kept f)) far
+
+abbrev pub turned_plan : Side → ℕ → Plan → Tree → Plan
+turned_plan side m (made second p near (kept f)) far = turned_through side m second p near f far
+turned_plan side m part far = over side m part far
+
+-- a node above a part that was changed by an insertion, turned where the part is too high
+abbrev pub leaned : Side → ℕ → Plan → Tree → Plan
+leaned side m part far = cond (nat_le (height (erase part)) (height far + 1)) (over side m part far) (turned_plan side m part far)
+
+-- the tree with a new leaf at a position, below a new inner node
+abbrev pub grown : ℕ → ℕ → ℕ → Tree → Plan
+grown at new number (leaf old) = made (cond (nat_le at 0) Left Right) number (kept (leaf new)) (kept (leaf old))
+grown at new number (inner m l r) =
+    cond (nat_le at (count l)) (leaned Left m (grown at new number l) r) (leaned Right m (grown (at - count l) new number r) l)
+
+-- what the change did at a plan's root
+abbrev pub way_through : Plan → Way
+way_through (made third q near (kept b)) = Twice third (height (erase near)) (height b)
+way_through part = Once
+
+abbrev pub way_of : Plan → Way
+way_of (made second p near (kept f)) = way_through near
+way_of part = Turned
+
+-- the root of a plan, as the code knows it
+abbrev pub IsPending : Grown → Plan → Type 0
+IsPending g (kept t) = ⊥
+IsPending g (made side n near far) = g ≡ record {
+  node = n;
+  side = side;
+  near = name (erase near);
+  far = name (erase far);
+  near_height = height (erase near);
+  far_height = height (erase far);
+  way = way_of (made side n near far);
+}
+
+-- a part that an insertion changed and the part that stayed beside it
+pub record IsLeaning (g : Grown) (dirty : List DirtyRow) (far : Child) (far_height : ℕ) (part : Plan) (before : List DirtyRow) (f : Tree) : Type 0 where
+  pub pending : IsPending g part
+  pub listed : dirty ≡ before ++ below part
+  pub named : far ≡ name f
+  pub high : far_height ≡ height f
+
+-- the heights and the rows leave room
+pub record FitsLean (g : Grown) (far_height : ℕ) (dirty : List DirtyRow) : Type 0 where
+  pub near : g.near_height < 254
+  pub far : g.far_height < 254
+  pub beside : far_height < 254
+  pub room : length dirty < 71
+
+abbrev pub IsTwice : Way → Side → ℕ → ℕ → Type 0
+IsTwice way third near far = way ≡ Twice third near far
+
+-- the arena's node has a tree with a place for a leaf at that position, and the list has room for the rows
+abbrev pub HasPlaceAt : List Node → Child → ℕ → ℕ → Type 0
+HasPlaceAt nodes child at used = (t : Tree) × (child ≡ name t) × Stands nodes t × (at ≤ count t) × (used + height t < 71)

@@ -1,0 +1,77 @@
+// The rows that a change lists.
+ghost use Rattle.std.specs.Prelude.{◌≡◌, ℕ, ◌+◌, ◌<◌, ◌≤◌, List, [], ◌∷◌, ◌++◌, length, take};
+ghost use Rattle.std.specs.List.{slice_get};
+
+use crate::{Child, DirtyRow};
+use std::marker::Model;
+
+/// At most 72 rows, kept in place.
+pub struct Dirty {
+    rows: [DirtyRow; 72],
+    len: usize,
+}
+
+impl Model for Dirty {
+    ghost use Rattle.std.specs.Prelude.{◌≡◌, List, ◌≤◌, take, length};
+    ghost use Rattle.tree_shape.specs.declared.DirtyRow.{DirtyRow};
+
+    ghost Value = { List DirtyRow };
+
+    ghost view = { λ d. take d.len d.rows };
+
+    ghost invariant = { λ d. (d.len ≤ 72) × (length d.rows ≡ 72) };
+}
+
+impl Dirty {
+    pub fn new() -> Dirty
+        ensures { result ≡ [] }
+    {
+        let row = DirtyRow {
+            node: 0,
+            left: Child::Leaf(0),
+            right: Child::Leaf(0),
+        };
+        Dirty {
+            rows: [row; 72],
+            len: 0,
+        }
+    }
+
+    pub fn len(&self) -> u32
+        ensures { result ≡ length self.now }
+    {
+        self.len as u32
+    }
+
+    pub fn get(&self, i: u32) -> Option<DirtyRow>
+        ensures { result ≡ slice_get self.now i }
+    {
+        if (i as usize) < self.len {
+            Some(self.rows[i as usize])
+        } else {
+            None
+        }
+    }
+
+    pub fn clear(&mut self)
+        ensures { self.new ≡ [] }
+    {
+        self.len = 0;
+    }
+
+    pub fn push(&mut self, row: DirtyRow)
+        requires { length self.old < 72 }
+        ensures { self.new ≡ self.old ++ row ∷ [] }
+    {
+        self.rows[self.len] = row;
+        self.len += 1;
+    }
+
+    pub fn pop(&mut self) -> DirtyRow
+        requires { 0 < length self.old }
+        ensures { self.old ≡ self.new ++ result ∷ [] }
+    {
+        self.len -= 1;
+        self.rows[self.len]
+    }
+}
