@@ -1,0 +1,5 @@
+pub mod Passes
+pub mod Yarns
+pub mod Windows
+pub mod Groupings
+pub mod Listing
