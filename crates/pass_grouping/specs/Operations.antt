@@ -130,8 +130,8 @@ operations_after first earlier (r ∷ later) =
     option_to_list (operation_of (first + length earlier) (count_by ends_stretch earlier) (rack_after earlier) r) ++ operations_after first (earlier ++ r ∷ []) later
 
 -- from -256 to 256 quarters
-abbrev pub IsWithin64 : ℤ → Type 0
-IsWithin64 rack = (negsuc 255 ≤ℤ rack) × (rack ≤ℤ pos 256)
+abbrev pub IsWithinGreatestRack : ℤ → Type 0
+IsWithinGreatestRack rack = (negsuc 255 ≤ℤ rack) × (rack ≤ℤ pos 256)
 
 abbrev pub IsSetWithin : Instr → Type 0
 IsSetWithin (CarryIn cs) = Unit {0}
@@ -142,7 +142,7 @@ IsSetWithin (ReleaseHook cs) = Unit {0}
 IsSetWithin Stitch = Unit {0}
 IsSetWithin Pause = Unit {0}
 IsSetWithin Extension = Unit {0}
-IsSetWithin (Rack q) = IsWithin64 q.0
+IsSetWithin (Rack q) = IsWithinGreatestRack q.0
 IsSetWithin (Knit dir n cs) = Unit {0}
 IsSetWithin (Tuck dir n cs) = Unit {0}
 IsSetWithin (Miss dir n cs) = Unit {0}

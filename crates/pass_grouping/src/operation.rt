@@ -1,7 +1,7 @@
 //! The carriage operations of a text.
 ghost use Rattle.std.specs.Prelude.{◌≡◌, ◌+◌, ◌<◌, ◌^◌, ◌-◌, ◌++◌, [], pos, negsuc, ◌+ℤ◌, ◌*ℤ◌, ◌≤ℤ◌, length, All, IfOk, OnOk, if◌then◌else◌};
 ghost use Rattle.std.specs.Option.{option_to_list};
-ghost use Rattle.pass_grouping.specs.Operations.{operations_after, operation_of_instr, operation_of, ends_stretch, rack_behind, place_of, IsRackWithin, IsWithin64, carried, uncarried};
+ghost use Rattle.pass_grouping.specs.Operations.{operations_after, operation_of_instr, operation_of, ends_stretch, rack_behind, place_of, IsRackWithin, IsWithinGreatestRack, carried, uncarried};
 
 use knit_base::{Bed, Dir, Instr, ListOf, Needle, NoMemory, Read, Reads, Yarns};
 use std::alloc::Global;
@@ -96,7 +96,7 @@ fn operation_of(
     rack: i32,
     read: &Read,
 ) -> Result<Option<PassOp>, NoMemory>
-    requires { IsWithin64 rack }
+    requires { IsWithinGreatestRack rack }
     ensures { IfOk result (λ op. op ≡ operation_of line stretch rack read.now) }
 {
     match read {
@@ -112,7 +112,7 @@ fn operation_of_instr(
     rack: i32,
     instr: &Instr,
 ) -> Result<Option<PassOp>, NoMemory>
-    requires { IsWithin64 rack }
+    requires { IsWithinGreatestRack rack }
     ensures { IfOk result (λ op. op ≡ operation_of_instr line stretch rack instr.now) }
 {
     let spot = Spot {
@@ -166,7 +166,7 @@ impl Spot {
         n: Needle,
         yarns: &Yarns,
     ) -> Result<Option<PassOp>, NoMemory>
-        requires { IsWithin64 self.rack }
+        requires { IsWithinGreatestRack self.rack }
         ensures { IfOk result (λ op. op ≡ Some (carried class self.line self.stretch self.rack dir n yarns.now)) }
     {
         Ok(Some(PassOp {
@@ -181,7 +181,7 @@ impl Spot {
 
     // An operation without direction and carriers.
     fn uncarried(self, alloc: Global, class: Class, n: Needle) -> PassOp
-        requires { IsWithin64 self.rack }
+        requires { IsWithinGreatestRack self.rack }
         ensures { result ≡ uncarried class self.line self.stretch self.rack n }
     {
         PassOp {
@@ -196,7 +196,7 @@ impl Spot {
 
     // The needle's place in quarters: the back bed stands off by the rack.
     fn place_of(self, n: Needle) -> i32
-        requires { IsWithin64 self.rack }
+        requires { IsWithinGreatestRack self.rack }
         ensures { result ≡ place_of self.rack n }
     {
         let place = quarters(n.at);
