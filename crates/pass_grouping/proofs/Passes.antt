@@ -62,3 +62,6 @@ goes-pair way ops from to i a b above below within first second goes =
     let here : Follows way (get_or ops i a) (get_or ops (i + 1) a) = goes.pairs i (i + 1) a above (omega arith) (omega arith) in
     let later : get_or ops (i + 1) a ≡ b = get_or_default ops (i + 1) a b (omega arith) ∙ sym second in
     subst (λ x. Follows way x b) (sym first) (subst (λ y. Follows way (get_or ops i a) y) later here)
+
+pub neither-way : (ops : List PassOp) (from to : ℕ) → ¬ GoesOneWay Right ops from to → ¬ GoesOneWay Left ops from to → ¬ IsOnePass ops from to
+neither-way ops from to not_right not_left pass = elim pass [ inl right ↦ not_right right | inr left ↦ not_left left ]

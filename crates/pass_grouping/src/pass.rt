@@ -16,6 +16,38 @@ pub(crate) fn is_one_pass(ops: &[PassOp], from: usize, to: usize) -> bool
     goes_one_way(Dir::Left, ops, from, to)
 }
 
+/// The operation behind the longest pass that begins with this one.
+pub(crate) fn pass_end(ops: &[PassOp], from: usize) -> usize
+    requires { from < length ops.now }
+    ensures some { from < result }
+    ensures within { result ≤ length ops.now }
+    ensures pass { IsOnePass ops.now from (result - 1) }
+    ensures longest { result < length ops.now → ¬ IsOnePass ops.now from result }
+{
+    let right = run_end(Dir::Right, ops, from);
+    let left = run_end(Dir::Left, ops, from);
+    if left < right {
+        return right;
+    }
+    left
+}
+
+// The operation behind the longest pass that begins with this one and goes this way.
+fn run_end(way: Dir, ops: &[PassOp], from: usize) -> usize
+    requires { from < length ops.now }
+    ensures some { from < result }
+    ensures within { result ≤ length ops.now }
+    ensures pass { GoesOneWay way ops.now from (result - 1) }
+    ensures longest { (to : ℕ) → result ≤ to → to < length ops.now → ¬ GoesOneWay way ops.now from to }
+{
+    for last in from..ops.len() - 1 {
+        if !follows(way, &ops[last], &ops[last + 1]) {
+            return last + 1;
+        }
+    }
+    ops.len()
+}
+
 // Whether the range is one pass that goes this way. Each operation is compared with the one behind it.
 fn goes_one_way(way: Dir, ops: &[PassOp], from: usize, to: usize) -> bool
     requires within { to < length ops.now }
