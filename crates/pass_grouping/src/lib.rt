@@ -11,6 +11,8 @@ mod certificate;
 mod grouping;
 mod operation;
 mod pass;
+#[cfg(test)]
+mod tests;
 
 pub use certificate::{Grouping, Starts, Window, Windows, check_certificate};
 pub use grouping::group;
