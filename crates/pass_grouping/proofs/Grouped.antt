@@ -4,7 +4,7 @@ use Rattle.std.proofs.lemmas.List.Elements.{All-push}
 use Rattle.pass_grouping.specs.declared.operation.PassOp.{PassOp}
 use Rattle.pass_grouping.specs.declared.certificate.Window.{Window}
 use Rattle.pass_grouping.specs.Passes.{IsOnePass}
-use Rattle.pass_grouping.specs.Groupings.{Part, parts, first_or, IsPass, IsGrouping, IsFewest, IsWindow, AreApart, IsCertificate, between_starts}
+use Rattle.pass_grouping.specs.Groupings.{Part, parts, first_or, IsPass, IsWindow, AreApart, IsCertificate, between_starts}
 
 -- the operations before this one are grouped, the last part from this start on
 pub record Grouped (ops : List PassOp) (starts : List ℕ) (windows : List Window) (start behind : ℕ) : Type 0 where

@@ -1,9 +1,8 @@
 -- What a certificate shows: every grouping has a start among the cut places of each window, so it has more parts than there are windows.
-use Rattle.std.proofs.Common.{◌≡◌, ℕ, ◌+◌, ◌-◌, ◌<◌, ◌≤◌, List, [], ◌∷◌, ◌++◌, length, drop, get_or, All, sym, ap, subst, ◌∙◌, refl, arith, zero, suc}
+use Rattle.std.proofs.Common.{◌≡◌, ℕ, ◌+◌, ◌-◌, ◌<◌, ◌≤◌, List, [], ◌∷◌, length, drop, get_or, All, sym, ap, subst, ◌∙◌, refl, arith, zero, suc}
 use Rattle.std.proofs.lemmas.List.Elements.{All-head, All-tail}
 use Rattle.pass_grouping.specs.declared.operation.PassOp.{PassOp}
 use Rattle.pass_grouping.specs.declared.certificate.Window.{Window}
-use Rattle.pass_grouping.specs.Passes.{IsOnePass}
 use Rattle.pass_grouping.specs.Groupings.{Part, parts, first_or, IsPass, IsGrouping, IsFewest, IsWindow, AreApart, IsCertificate}
 use Rattle.pass_grouping.proofs.Passes.{by_order, one_pass-shrink}
 

@@ -1,12 +1,12 @@
 -- A range is one pass exactly where each operation follows its neighbour, and so is each range within it.
-use Rattle.std.proofs.Common.{◌≡◌, ◌⊎◌, inl, inr, ℕ, ◌+◌, ◌-◌, ◌<◌, ◌≤◌, ℤ, ◌<ℤ◌, List, Option, None, Some, length, get_or, sym, ap, subst, ◌∙◌, refl, arith}
+use Rattle.std.proofs.Common.{◌≡◌, inl, inr, ℕ, ◌+◌, ◌<◌, ◌≤◌, ℤ, List, length, get_or, sym, subst, ◌∙◌, arith}
 use Rattle.std.proofs.lemmas.Bool.{cases_lt}
 use Rattle.std.proofs.lemmas.Int.{ints}
 use Rattle.std.proofs.lemmas.List.{get_or_default}
 use Rattle.knit_base.specs.declared.needle.Dir.{Dir}
 use Rattle.knit_base.specs.declared.needle.Dir.TheVariants.{Right, Left}
 use Rattle.pass_grouping.specs.declared.operation.PassOp.{PassOp}
-use Rattle.pass_grouping.specs.Passes.{AreAlike, IsBeyond, IsFree, way_asked, Follows, GoesOneWay, IsOnePass}
+use Rattle.pass_grouping.specs.Passes.{IsBeyond, Follows, GoesOneWay, IsOnePass}
 
 pub by_order : {P : Type 0} (m n : ℕ) → (m < n → P) → (n ≤ m → P) → P
 by_order m n below above = elim (cases_lt m n) [ inl h ↦ below h | inr h ↦ above h ]

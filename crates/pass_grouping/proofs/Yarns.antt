@@ -1,5 +1,5 @@
 -- Lists of carriers, compared pair by pair.
-use Rattle.std.proofs.Common.{◌≡◌, Bool, true, List, ap}
+use Rattle.std.proofs.Common.{◌≡◌, true, List, ap}
 use Rattle.std.proofs.lemmas.Bool.{eqb-true}
 use Rattle.std.proofs.Common.{eq-eqb}
 use lib.Pointwise.{pointwise, pointwise_decides}

@@ -16,6 +16,7 @@ pub struct Window {
 /// The places of the operations with which the passes begin.
 pub type Starts = ListOf<u32>;
 
+/// Windows, in the order of the operations.
 pub type Windows = ListOf<Window>;
 
 /// A grouping into passes, and the windows that show that no grouping has fewer.

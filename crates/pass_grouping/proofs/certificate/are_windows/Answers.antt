@@ -1,7 +1,6 @@
-use Rattle.std.proofs.Common.{◌≡◌, ◌<◌, ◌≤◌, ℕ, IsTrue, length, All, refl, sym, subst, ◌∙◌, arith}
+use Rattle.std.proofs.Common.{sym}
 use Rattle.std.proofs.lemmas.Bool.{true≢false}
 use Rattle.std.proofs.lemmas.List.{get_or_default}
-use Rattle.pass_grouping.specs.Groupings.{IsWindow, AreApart}
 use Rattle.pass_grouping.proofs.Windows.{windows-overlap}
 use Rattle.pass_grouping.proofs.certificate.are_windows.Goals as goal
 

@@ -1,7 +1,5 @@
-use Rattle.std.proofs.Common.{◌≡◌, ◌<◌, ◌≤◌, ◌+◌, ◌-◌, ℕ, List, [], IsTrue, length, All, ap, refl, sym, subst, ◌∙◌, arith, ◌↔◌, nat_eq}
+use Rattle.std.proofs.Common.{◌≡◌, length, ap, refl, sym, ◌∙◌, arith}
 use Rattle.std.proofs.lemmas.Bool.{eqb-true}
-use Rattle.pass_grouping.specs.declared.operation.PassOp.{PassOp}
-use Rattle.pass_grouping.specs.Groupings.{IsWindow, AreApart, IsGrouping, IsCertificate, IsFewest}
 use Rattle.pass_grouping.proofs.Groupings.{certificate-fewest, certified, no_starts, no_windows}
 use Rattle.pass_grouping.proofs.certificate.check_certificate.Goals as goal
 

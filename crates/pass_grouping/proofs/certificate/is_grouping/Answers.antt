@@ -1,6 +1,6 @@
-use Rattle.std.proofs.Common.{◌≡◌, ◌<◌, ◌≤◌, ℕ, IsTrue, length, All, refl, sym, subst, ◌∙◌, arith}
+use Rattle.std.proofs.Common.{◌≡◌, length, refl, sym, subst, ◌∙◌, arith}
 use Rattle.std.proofs.lemmas.Bool.{true≢false}
-use Rattle.pass_grouping.specs.Groupings.{first_or, IsPass, IsGrouping, parts}
+use Rattle.pass_grouping.specs.Groupings.{first_or, IsPass}
 use Rattle.pass_grouping.proofs.Groupings.{passes-all, passes-at, part_at}
 use Rattle.pass_grouping.proofs.certificate.is_grouping.Goals as goal
 

@@ -1,4 +1,4 @@
-use Rattle.std.proofs.Common.{◌≡◌, ◌≤◌, List, sym, subst}
+use Rattle.std.proofs.Common.{List, subst}
 use Rattle.pass_grouping.specs.declared.operation.PassOp.{PassOp}
 use Rattle.pass_grouping.specs.Groupings.{IsCertificate, IsFewest}
 use Rattle.pass_grouping.proofs.Groupings.{certificate-fewest}

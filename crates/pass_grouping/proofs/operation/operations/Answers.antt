@@ -1,6 +1,5 @@
-use Rattle.std.proofs.Common.{◌≡◌, ◌+◌, arith, ap, List, All, sym, subst, ◌∙◌, to_z, of_z, w32}
+use Rattle.std.proofs.Common.{◌≡◌, ◌+◌, arith, ap, All, sym, subst, ◌∙◌, to_z, of_z, w32}
 use Rattle.std.proofs.lemmas.Int.{ints}
-use Rattle.knit_base.specs.declared.instr.Read.{Read}
 use Rattle.pass_grouping.specs.Operations.{IsRackWithin}
 use Rattle.pass_grouping.proofs.Listing.{listed-next}
 use Rattle.pass_grouping.proofs.operation.operations.Goals as goal

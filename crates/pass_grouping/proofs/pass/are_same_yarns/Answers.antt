@@ -1,4 +1,4 @@
-use Rattle.std.proofs.Common.{◌≡◌, IsTrue, sym, ◌∙◌}
+use Rattle.std.proofs.Common.{sym, ◌∙◌}
 use Rattle.pass_grouping.proofs.Yarns.{yarns-decides}
 use Rattle.pass_grouping.proofs.pass.are_same_yarns.Goals as goal
 

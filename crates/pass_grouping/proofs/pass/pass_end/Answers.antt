@@ -1,5 +1,4 @@
-use Rattle.std.proofs.Common.{◌≡◌, ◌<◌, ◌≤◌, inl, inr, arith}
-use Rattle.pass_grouping.specs.Passes.{GoesOneWay}
+use Rattle.std.proofs.Common.{inl, inr, arith}
 use Rattle.pass_grouping.proofs.Passes.{neither-way}
 use Rattle.pass_grouping.proofs.pass.pass_end.Goals as goal
 

@@ -1,8 +1,7 @@
-use Rattle.std.proofs.Common.{◌≡◌, ◌+◌, ◌-◌, ◌<◌, ◌≤◌, ℕ, length, IsTrue, false, true, refl, sym, ◌∙◌, arith}
+use Rattle.std.proofs.Common.{sym, ◌∙◌, arith}
 use Rattle.std.proofs.lemmas.Bool.{true≢false}
 use Rattle.std.proofs.lemmas.List.Elements.{pair_read}
-use Rattle.pass_grouping.specs.declared.operation.PassOp.{PassOp}
-use Rattle.pass_grouping.specs.Passes.{Follows, GoesOneWay}
+use Rattle.pass_grouping.specs.Passes.{Follows}
 use Rattle.pass_grouping.proofs.Passes.{goes-one, goes-shrink, goes-more, goes-pair}
 use Rattle.pass_grouping.proofs.pass.run_end.Goals as goal
 
