@@ -1,0 +1,159 @@
+-- What each line of a text is to the carriage.
+use Rattle.std.specs.Prelude.{ℕ, ℤ, pos, negsuc, ◌+ℤ◌, ◌*ℤ◌, ◌≤ℤ◌, ◌+◌, Bool, true, false, List, [], ◌∷◌, ◌++◌, Option, None, Some, length, count_by}
+use Rattle.std.specs.Option.{option_to_list}
+use Rattle.std.specs.List.{fold}
+use Rattle.knit_base.specs.declared.instr.Instr.{Instr}
+use Rattle.knit_base.specs.declared.instr.Instr.TheVariants.{CarryIn, CarryOut, HookIn, HookOut, ReleaseHook, Stitch, Pause, Extension, Rack, Knit, Tuck, Miss, Split, Xfer, Drop, Amiss}
+use Rattle.knit_base.specs.declared.instr.Read.{Read}
+use Rattle.knit_base.specs.declared.instr.Read.TheVariants as read
+use Rattle.knit_base.specs.declared.needle.Bed.{Bed}
+use Rattle.knit_base.specs.declared.needle.Bed.TheVariants.{Front, FrontSlider, Back, BackSlider}
+use Rattle.knit_base.specs.declared.needle.Needle.{Needle}
+use Rattle.knit_base.specs.declared.needle.Dir.{Dir}
+use Rattle.knit_base.specs.declared.yarns.CarrierNo.{CarrierNo}
+use Rattle.pass_grouping.specs.declared.operation.Class.{Class}
+use Rattle.pass_grouping.specs.declared.operation.Class.TheVariants as class
+use Rattle.pass_grouping.specs.declared.operation.PassOp.{PassOp}
+
+-- a number on a bed in quarters of a needle, seen from the front bed: the back bed stands off by the rack
+abbrev pub quarters_on : ℤ → Bed → ℤ → ℤ
+quarters_on rack Front at = pos 4 *ℤ at
+quarters_on rack FrontSlider at = pos 4 *ℤ at
+quarters_on rack Back at = (pos 4 *ℤ at) +ℤ rack
+quarters_on rack BackSlider at = (pos 4 *ℤ at) +ℤ rack
+
+-- the place of a needle at this rack
+abbrev pub place_of : ℤ → Needle → ℤ
+place_of rack n = quarters_on rack n.bed n.at
+
+-- an operation that goes in a direction and uses carriers
+abbrev pub carried : Class → ℕ → ℕ → ℤ → Dir → Needle → List CarrierNo → PassOp
+carried class line stretch rack dir n cs = record { line = line; stretch = stretch; class = class; dir = Some dir; yarns = cs; place = place_of rack n }
+
+-- an operation without direction and carriers
+abbrev pub uncarried : Class → ℕ → ℕ → ℤ → Needle → PassOp
+uncarried class line stretch rack n = record { line = line; stretch = stretch; class = class; dir = None; yarns = []; place = place_of rack n }
+
+-- the operation of an instruction. `knit` and `tuck` without carriers drop loops, `split` without carriers moves them, and
+-- `miss` without carriers is no operation
+abbrev pub operation_of_instr : ℕ → ℕ → ℤ → Instr → Option PassOp
+operation_of_instr line stretch rack (CarryIn cs) = None
+operation_of_instr line stretch rack (CarryOut cs) = None
+operation_of_instr line stretch rack (HookIn cs) = None
+operation_of_instr line stretch rack (HookOut cs) = None
+operation_of_instr line stretch rack (ReleaseHook cs) = None
+operation_of_instr line stretch rack Stitch = None
+operation_of_instr line stretch rack Pause = None
+operation_of_instr line stretch rack Extension = None
+operation_of_instr line stretch rack (Rack q) = None
+operation_of_instr line stretch rack (Knit dir n []) = Some (uncarried class.Drop line stretch rack n)
+operation_of_instr line stretch rack (Knit dir n (c ∷ cs)) = Some (carried class.Form line stretch rack dir n (c ∷ cs))
+operation_of_instr line stretch rack (Tuck dir n []) = Some (uncarried class.Drop line stretch rack n)
+operation_of_instr line stretch rack (Tuck dir n (c ∷ cs)) = Some (carried class.Form line stretch rack dir n (c ∷ cs))
+operation_of_instr line stretch rack (Miss dir n []) = None
+operation_of_instr line stretch rack (Miss dir n (c ∷ cs)) = Some (carried class.Form line stretch rack dir n (c ∷ cs))
+operation_of_instr line stretch rack (Split dir n n2 []) = Some (uncarried class.Move line stretch rack n)
+operation_of_instr line stretch rack (Split dir n n2 (c ∷ cs)) = Some (carried class.Split line stretch rack dir n (c ∷ cs))
+operation_of_instr line stretch rack (Xfer n n2) = Some (uncarried class.Move line stretch rack n)
+operation_of_instr line stretch rack (Drop n) = Some (uncarried class.Drop line stretch rack n)
+operation_of_instr line stretch rack (Amiss n) = Some (uncarried class.Drop line stretch rack n)
+
+-- the operation of a line
+abbrev pub operation_of : ℕ → ℕ → ℤ → Read → Option PassOp
+operation_of line stretch rack read.Blank = None
+operation_of line stretch rack read.Comment = None
+operation_of line stretch rack (read.Broken reason) = None
+operation_of line stretch rack (read.Instr i) = operation_of_instr line stretch rack i
+
+-- an instruction that no pass goes over
+abbrev pub stops_carriage : Instr → Bool
+stops_carriage (CarryIn cs) = true
+stops_carriage (CarryOut cs) = true
+stops_carriage (HookIn cs) = true
+stops_carriage (HookOut cs) = true
+stops_carriage (ReleaseHook cs) = true
+stops_carriage Stitch = true
+stops_carriage Pause = true
+stops_carriage Extension = true
+stops_carriage (Rack q) = true
+stops_carriage (Knit dir n cs) = false
+stops_carriage (Tuck dir n cs) = false
+stops_carriage (Miss dir n []) = true
+stops_carriage (Miss dir n (c ∷ cs)) = false
+stops_carriage (Split dir n n2 cs) = false
+stops_carriage (Xfer n n2) = false
+stops_carriage (Drop n) = false
+stops_carriage (Amiss n) = false
+
+-- a line that ends a stretch
+abbrev pub ends_stretch : Read → Bool
+ends_stretch read.Blank = false
+ends_stretch read.Comment = false
+ends_stretch (read.Broken reason) = true
+ends_stretch (read.Instr i) = stops_carriage i
+
+-- the rack behind an instruction, where it was this before
+abbrev pub rack_set : ℤ → Instr → ℤ
+rack_set rack (CarryIn cs) = rack
+rack_set rack (CarryOut cs) = rack
+rack_set rack (HookIn cs) = rack
+rack_set rack (HookOut cs) = rack
+rack_set rack (ReleaseHook cs) = rack
+rack_set rack Stitch = rack
+rack_set rack Pause = rack
+rack_set rack Extension = rack
+rack_set rack (Rack q) = q.0
+rack_set rack (Knit dir n cs) = rack
+rack_set rack (Tuck dir n cs) = rack
+rack_set rack (Miss dir n cs) = rack
+rack_set rack (Split dir n n2 cs) = rack
+rack_set rack (Xfer n n2) = rack
+rack_set rack (Drop n) = rack
+rack_set rack (Amiss n) = rack
+
+-- the rack behind a line, where it was this before
+abbrev pub rack_behind : ℤ → Read → ℤ
+rack_behind rack read.Blank = rack
+rack_behind rack read.Comment = rack
+rack_behind rack (read.Broken reason) = rack
+rack_behind rack (read.Instr i) = rack_set rack i
+
+-- the rack behind these lines, which is 0 before the first
+abbrev pub rack_after : List Read → ℤ
+rack_after = fold rack_behind (pos 0)
+
+-- The operations of the later lines, behind these earlier ones. The first line of all has this number. An operation's stretch
+-- is how many lines before it end a stretch, and its place is that of its needle at the rack behind those lines.
+abbrev pub operations_after : ℕ → List Read → List Read → List PassOp
+operations_after first earlier [] = []
+operations_after first earlier (r ∷ later) =
+    option_to_list (operation_of (first + length earlier) (count_by ends_stretch earlier) (rack_after earlier) r) ++ operations_after first (earlier ++ r ∷ []) later
+
+-- from -256 to 256 quarters
+abbrev pub IsWithinGreatestRack : ℤ → Type 0
+IsWithinGreatestRack rack = (negsuc 255 ≤ℤ rack) × (rack ≤ℤ pos 256)
+
+abbrev pub IsSetWithin : Instr → Type 0
+IsSetWithin (CarryIn cs) = Unit {0}
+IsSetWithin (CarryOut cs) = Unit {0}
+IsSetWithin (HookIn cs) = Unit {0}
+IsSetWithin (HookOut cs) = Unit {0}
+IsSetWithin (ReleaseHook cs) = Unit {0}
+IsSetWithin Stitch = Unit {0}
+IsSetWithin Pause = Unit {0}
+IsSetWithin Extension = Unit {0}
+IsSetWithin (Rack q) = IsWithinGreatestRack q.0
+IsSetWithin (Knit dir n cs) = Unit {0}
+IsSetWithin (Tuck dir n cs) = Unit {0}
+IsSetWithin (Miss dir n cs) = Unit {0}
+IsSetWithin (Split dir n n2 cs) = Unit {0}
+IsSetWithin (Xfer n n2) = Unit {0}
+IsSetWithin (Drop n) = Unit {0}
+IsSetWithin (Amiss n) = Unit {0}
+
+-- a rack that the line sets is of 64 needles at most, on either side
+abbrev pub IsRackWithin : Read → Type 0
+IsRackWithin read.Blank = Unit {0}
+IsRackWithin read.Comment = Unit {0}
+IsRackWithin (read.Broken reason) = Unit {0}
+IsRackWithin (read.Instr i) = IsSetWithin i

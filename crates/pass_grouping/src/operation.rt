@@ -1,0 +1,217 @@
+//! The carriage operations of a text.
+ghost use Rattle.std.specs.Prelude.{◌≡◌, ◌+◌, ◌<◌, ◌^◌, ◌-◌, ◌++◌, [], pos, negsuc, ◌+ℤ◌, ◌*ℤ◌, ◌≤ℤ◌, length, All, IfOk, OnOk, if◌then◌else◌};
+ghost use Rattle.std.specs.Option.{option_to_list};
+ghost use Rattle.pass_grouping.specs.Operations.{operations_after, operation_of_instr, operation_of, ends_stretch, rack_behind, place_of, IsRackWithin, IsWithinGreatestRack, carried, uncarried};
+
+use knit_base::{Bed, Dir, Instr, ListOf, Needle, NoMemory, Read, Reads, Yarns};
+use std::alloc::Global;
+
+/// What a carriage operation does. Operations of different classes are never in one pass.
+#[derive(Clone, Copy, Debug, PartialEq, Eq)]
+pub enum Class {
+    Form,
+    Split,
+    Move,
+    Drop,
+}
+
+/// A carriage operation: the line that it stands in, the stretch of lines without a pause, and what two operations of one
+/// pass share or differ in. `place` is in quarters of a needle, seen from the front bed. `dir` is `None` and `yarns` empty
+/// for `Move` and `Drop`.
+#[derive(Drop)]
+pub struct PassOp {
+    pub line: u32,
+    pub stretch: u32,
+    pub class: Class,
+    pub dir: Option<Dir>,
+    pub yarns: Yarns,
+    pub place: i32,
+}
+
+/// The carriage operations of a text, in the order of their lines.
+pub type PassOps = ListOf<PassOp>;
+
+/// The carriage operations of these readings, of which the first is that of the line `first`. A line that the reader found
+/// broken ends a stretch.
+pub fn operations(alloc: Global, reads: &Reads, first: u32) -> Result<PassOps, NoMemory>
+    requires lines { first + length reads.now < 2 ^ 32 }
+    requires racks { All IsRackWithin reads.now }
+    ensures { IfOk result (λ ops. ops ≡ operations_after first [] reads.now) }
+{
+    let mut ops = PassOps::new(alloc);
+    let mut stretch = 0;
+    let mut rack = 0;
+    for (i, read) in reads.as_slice().iter().enumerate() {
+        let line = first + i as u32;
+        let op = operation_of(alloc, line, stretch, rack, read)?;
+        append(&mut ops, op)?;
+        stretch += stretches_ended(read);
+        rack = rack_behind(rack, read);
+    }
+    Ok(ops)
+}
+
+fn append(ops: &mut PassOps, op: Option<PassOp>) -> Result<(), NoMemory>
+    requires { length ops.old < 2 ^ 32 - 1 }
+    ensures { OnOk result (ops.new ≡ ops.old ++ option_to_list op) }
+{
+    match op {
+        Some(op) => ops.push(op),
+        None => Ok(()),
+    }
+}
+
+// How many stretches end at this line.
+fn stretches_ended(read: &Read) -> u32
+    ensures { result ≡ (if ends_stretch read.now then 1 else 0) }
+{
+    match read {
+        Read::Blank | Read::Comment => 0,
+        Read::Broken(_) => 1,
+        Read::Instr(instr) => match instr {
+            Instr::CarryIn(_) | Instr::CarryOut(_) | Instr::HookIn(_) | Instr::HookOut(_) => 1,
+            Instr::ReleaseHook(_) | Instr::Rack(_) => 1,
+            Instr::Stitch | Instr::Pause | Instr::Extension => 1,
+            Instr::Miss(_, _, yarns) => { if yarns.len() == 0 { 1 } else { 0 } }
+            Instr::Knit(_, _, _) | Instr::Tuck(_, _, _) | Instr::Split(_, _, _, _) => 0,
+            Instr::Xfer(_, _) | Instr::Drop(_) | Instr::Amiss(_) => 0,
+        },
+    }
+}
+
+// The rack behind this line, in quarters.
+fn rack_behind(rack: i32, read: &Read) -> i32
+    ensures { result ≡ rack_behind rack read.now }
+{
+    match read {
+        Read::Instr(Instr::Rack(quarters)) => quarters.0,
+        _ => rack,
+    }
+}
+
+fn operation_of(
+    alloc: Global,
+    line: u32,
+    stretch: u32,
+    rack: i32,
+    read: &Read,
+) -> Result<Option<PassOp>, NoMemory>
+    requires { IsWithinGreatestRack rack }
+    ensures { IfOk result (λ op. op ≡ operation_of line stretch rack read.now) }
+{
+    match read {
+        Read::Instr(instr) => operation_of_instr(alloc, line, stretch, rack, instr),
+        Read::Blank | Read::Comment | Read::Broken(_) => Ok(None),
+    }
+}
+
+fn operation_of_instr(
+    alloc: Global,
+    line: u32,
+    stretch: u32,
+    rack: i32,
+    instr: &Instr,
+) -> Result<Option<PassOp>, NoMemory>
+    requires { IsWithinGreatestRack rack }
+    ensures { IfOk result (λ op. op ≡ operation_of_instr line stretch rack instr.now) }
+{
+    let spot = Spot {
+        line,
+        stretch,
+        rack,
+    };
+    match instr {
+        Instr::Knit(dir, n, yarns) | Instr::Tuck(dir, n, yarns) => {
+            if yarns.len() == 0 {
+                return Ok(Some(spot.uncarried(alloc, Class::Drop, *n)));
+            }
+            spot.carried(Class::Form, *dir, *n, yarns)
+        }
+        Instr::Miss(dir, n, yarns) => {
+            if yarns.len() == 0 {
+                return Ok(None);
+            }
+            spot.carried(Class::Form, *dir, *n, yarns)
+        }
+        Instr::Split(dir, n, _, yarns) => {
+            if yarns.len() == 0 {
+                return Ok(Some(spot.uncarried(alloc, Class::Move, *n)));
+            }
+            spot.carried(Class::Split, *dir, *n, yarns)
+        }
+        Instr::Xfer(n, _) => Ok(Some(spot.uncarried(alloc, Class::Move, *n))),
+        Instr::Drop(n) | Instr::Amiss(n) => Ok(Some(spot.uncarried(alloc, Class::Drop, *n))),
+        Instr::CarryIn(_) | Instr::CarryOut(_) | Instr::HookIn(_) | Instr::HookOut(_) => Ok(None),
+        Instr::ReleaseHook(_) | Instr::Rack(_) => Ok(None),
+        Instr::Stitch | Instr::Pause | Instr::Extension => Ok(None),
+    }
+}
+
+// Where a line stands: its number, its stretch, and the rack there.
+#[derive(Clone, Copy)]
+struct Spot {
+    line: u32,
+    stretch: u32,
+    rack: i32,
+}
+
+impl Spot {
+    ghost use Rattle.std.specs.Prelude.{◌≡◌, IfOk, Some};
+
+    // An operation that goes in a direction and uses carriers.
+    fn carried(
+        self,
+        class: Class,
+        dir: Dir,
+        n: Needle,
+        yarns: &Yarns,
+    ) -> Result<Option<PassOp>, NoMemory>
+        requires { IsWithinGreatestRack self.rack }
+        ensures { IfOk result (λ op. op ≡ Some (carried class self.line self.stretch self.rack dir n yarns.now)) }
+    {
+        Ok(Some(PassOp {
+            line: self.line,
+            stretch: self.stretch,
+            class,
+            dir: Some(dir),
+            yarns: yarns.try_clone()?,
+            place: self.place_of(n),
+        }))
+    }
+
+    // An operation without direction and carriers.
+    fn uncarried(self, alloc: Global, class: Class, n: Needle) -> PassOp
+        requires { IsWithinGreatestRack self.rack }
+        ensures { result ≡ uncarried class self.line self.stretch self.rack n }
+    {
+        PassOp {
+            line: self.line,
+            stretch: self.stretch,
+            class,
+            dir: None,
+            yarns: Yarns::new(alloc),
+            place: self.place_of(n),
+        }
+    }
+
+    // The needle's place in quarters: the back bed stands off by the rack.
+    fn place_of(self, n: Needle) -> i32
+        requires { IsWithinGreatestRack self.rack }
+        ensures { result ≡ place_of self.rack n }
+    {
+        let place = quarters(n.at);
+        match n.bed {
+            Bed::Front | Bed::FrontSlider => place,
+            Bed::Back | Bed::BackSlider => place + self.rack,
+        }
+    }
+}
+
+// A number on a bed in quarters of a needle.
+fn quarters(at: i16) -> i32
+    ensures value { result ≡ pos 4 *ℤ at }
+    ensures low { negsuc 131071 ≤ℤ result }
+    ensures high { result ≤ℤ pos 131068 }
+{
+    4 * at as i32
+}

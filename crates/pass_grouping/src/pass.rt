@@ -1,0 +1,135 @@
+//! One pass of the carriage over a range of operations.
+ghost use Rattle.std.specs.Prelude.{◌≡◌, ◌+◌, ◌-◌, ◌<◌, ◌≤◌, ◌↔◌, ℕ, length, IsTrue};
+ghost use Rattle.pass_grouping.specs.Passes.{AreAlike, way_asked, IsFree, IsBeyond, Follows, GoesOneWay, IsOnePass};
+
+use crate::{Class, PassOp};
+use knit_base::{CarrierNo, Dir};
+
+/// Whether the range, both ends counted, is one pass.
+pub(crate) fn is_one_pass(ops: &[PassOp], from: usize, to: usize) -> bool
+    requires within { to < length ops.now }
+    ensures { IsTrue result ↔ IsOnePass ops.now from to }
+{
+    if goes_one_way(Dir::Right, ops, from, to) {
+        return true;
+    }
+    goes_one_way(Dir::Left, ops, from, to)
+}
+
+/// The operation behind the longest pass that begins with this one.
+pub(crate) fn pass_end(ops: &[PassOp], from: usize) -> usize
+    requires { from < length ops.now }
+    ensures some { from < result }
+    ensures within { result ≤ length ops.now }
+    ensures pass { IsOnePass ops.now from (result - 1) }
+    ensures longest { result < length ops.now → ¬ IsOnePass ops.now from result }
+{
+    let right = run_end(Dir::Right, ops, from);
+    let left = run_end(Dir::Left, ops, from);
+    if left < right {
+        return right;
+    }
+    left
+}
+
+// The operation behind the longest pass that begins with this one and goes this way.
+fn run_end(way: Dir, ops: &[PassOp], from: usize) -> usize
+    requires { from < length ops.now }
+    ensures some { from < result }
+    ensures within { result ≤ length ops.now }
+    ensures pass { GoesOneWay way ops.now from (result - 1) }
+    ensures longest { (to : ℕ) → result ≤ to → to < length ops.now → ¬ GoesOneWay way ops.now from to }
+{
+    for last in from..ops.len() - 1 {
+        if !follows(way, &ops[last], &ops[last + 1]) {
+            return last + 1;
+        }
+    }
+    ops.len()
+}
+
+// Whether the range is one pass that goes this way. Each operation is compared with the one behind it.
+fn goes_one_way(way: Dir, ops: &[PassOp], from: usize, to: usize) -> bool
+    requires within { to < length ops.now }
+    ensures { IsTrue result ↔ GoesOneWay way ops.now from to }
+{
+    for i in from..to {
+        if !follows(way, &ops[i], &ops[i + 1]) {
+            return false;
+        }
+    }
+    true
+}
+
+// Whether b may come behind a in one pass that goes this way.
+fn follows(way: Dir, a: &PassOp, b: &PassOp) -> bool
+    ensures { IsTrue result ↔ Follows way a.now b.now }
+{
+    if !are_alike(a, b) {
+        return false;
+    }
+    if !is_free(a.class, a.dir, way) {
+        return false;
+    }
+    is_beyond(way, a.place, b.place)
+}
+
+fn are_alike(a: &PassOp, b: &PassOp) -> bool
+    ensures { IsTrue result ↔ AreAlike a.now b.now }
+{
+    if a.stretch != b.stretch {
+        return false;
+    }
+    if !is_same_class(a.class, b.class) {
+        return false;
+    }
+    if !is_same_dir(a.dir, b.dir) {
+        return false;
+    }
+    are_same_yarns(a.yarns.as_slice(), b.yarns.as_slice())
+}
+
+fn is_same_class(a: Class, b: Class) -> bool
+    ensures { IsTrue result ↔ (a ≡ b) }
+{
+    a == b
+}
+
+fn is_same_dir(a: Option<Dir>, b: Option<Dir>) -> bool
+    ensures { IsTrue result ↔ (a ≡ b) }
+{
+    match (a, b) {
+        (Some(a), Some(b)) => a == b,
+        (None, None) => true,
+        (Some(_), None) | (None, Some(_)) => false,
+    }
+}
+
+// Whether these are the same carriers in the same order.
+fn are_same_yarns(a: &[CarrierNo], b: &[CarrierNo]) -> bool
+    ensures { IsTrue result ↔ (a.now ≡ b.now) }
+{
+    a == b
+}
+
+// Whether an operation of this class and direction may be in a pass that goes this way.
+fn is_free(class: Class, dir: Option<Dir>, way: Dir) -> bool
+    ensures { IsTrue result ↔ IsFree (way_asked class dir) way }
+{
+    match class {
+        Class::Form | Class::Split => match dir {
+            Some(asked) => asked == way,
+            None => true,
+        },
+        Class::Move | Class::Drop => true,
+    }
+}
+
+fn is_beyond(way: Dir, a: i32, b: i32) -> bool
+    ensures { IsTrue result ↔ IsBeyond way a b }
+{
+    match way {
+        Dir::Right => a < b,
+        Dir::Left => b < a,
+    }
+}
