@@ -2,6 +2,7 @@
 use Rattle.std.specs.Prelude.{ℕ, ◌+◌, ℤ, pos, nat_eq, nat_le, int_le, Bool, List, [], ◌∷◌, length, Option, None, Some, slice_range, if◌then◌else◌}
 use Rattle.std.specs.List.{sum_by}
 use Rattle.std.specs.Ordering.{int_eq}
+use Rattle.knit_base.specs.declared.instr.Quarter.{Quarter}
 use Rattle.knit_base.specs.declared.needle.Needle.{Needle}
 use Rattle.knit_base.specs.declared.rule.Reason.{Reason}
 use Rattle.knit_base.specs.declared.yarns.CarrierNo.{CarrierNo}
@@ -60,11 +61,16 @@ abbrev pub first_unmet : List (Reason × Cond) → State → Option Reason
 first_unmet [] s = None
 first_unmet (c ∷ cs) s = or_else (unless (holds (ask_of [] c.1) s) c.0) (first_unmet cs s)
 
--- the reason of a condition on the rack that doesn't hold. None asks nothing
-abbrev pub unmet_rack : Option (Reason × Cond) → State → Option Reason
+-- the reason, where the rack is another than the one that is asked for. None asks for no rack
+abbrev pub unmet_rack : Option (Reason × Quarter) → State → Option Reason
 unmet_rack None s = None
-unmet_rack (Some c) s = unless (holds (ask_of [] c.1) s) c.0
+unmet_rack (Some c) s = unless (holds (rack_is c.1.0) s) c.0
 
 -- the reason of a condition on sizes, where the needles hold more loops together than it allows
 abbrev pub unmet_size : SizeAsk → State → Option Reason
 unmet_size ask s = unless (int_le (pos (size_of ask.entries s)) ask.max) ask.reason
+
+-- the same of a condition that may be asked or not
+abbrev pub unmet_size_if_any : Option SizeAsk → State → Option Reason
+unmet_size_if_any None s = None
+unmet_size_if_any (Some ask) s = unmet_size ask s

@@ -1,5 +1,5 @@
 //! Each public call once, with ample memory.
-use crate::{Seg, Segs, Symbols, ask_size, rules_in_groups};
+use crate::{Seg, Segs, Symbols, ask_size, forming_needle, rules_in_groups};
 use knit_base::{Bed, Instr, Needle, Profile, Reason, Rule};
 use std::test::Fail;
 
@@ -45,13 +45,15 @@ fn new_loops_take_room(rt: HostRuntime) -> Result<(), Fail> {
 }
 
 #[test]
-fn laws_do_nothing(_rt: HostRuntime) -> Result<(), Fail> {
+fn a_transfer_forms_no_loop(rt: HostRuntime) -> Result<(), Fail> {
     let profile = Profile {
         low: 0,
         high: 8,
         rack: 4,
         hold: 16,
     };
-    rules_in_groups(&profile, &Instr::Xfer(FRONT, BACK));
+    let transfer = Instr::Xfer(FRONT, BACK);
+    rules_in_groups(&profile, &transfer);
+    assert_eq!(rt; forming_needle(&transfer), None);
     Ok(())
 }
