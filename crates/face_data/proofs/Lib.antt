@@ -1,0 +1,4 @@
+mod Examples
+mod Groups
+mod Held
+pub mod Unmet

@@ -1,0 +1,17 @@
+use Rattle.std.proofs.Common.{rules, ◌≡◌, ◌+◌, ◌-◌, ◌∙◌, ap, take, w16}
+use Rattle.std.proofs.lemmas.Int.{to_z-of_z}
+use Rattle.std.proofs.lemmas.List.{take_all}
+use Rattle.face_data.specs.Segments.{names_through, new_through}
+use Rattle.face_data.proofs.Held.{unmet-now}
+use Rattle.face_data.proofs.sizes.ask_size.Goals as goal
+
+pub returns : goal.returns
+returns c =
+    let all : take c.loop-n.n-index c.args.needles.now ≡ c.args.needles.now = take_all c.loop-n.n-index c.args.needles.now c.loop-n-test.false in
+    let entries : c.loop-n.entries ≡ names_through c.args.contents.now c.args.needles.now = c.loop-n.invariant.entries ∙ ap (names_through c.args.contents.now) all in
+    let room : c.loop-n.room ≡ (c.args.most + 1) - new_through c.args.contents.now c.args.needles.now =
+    c.loop-n.invariant.room ∙ ap (λ ns. (c.args.most + 1) - new_through c.args.contents.now ns) all in
+    record {
+      entries = entries;
+      unmet = λ s t first read. unmet-now c.args.contents.now s t first c.args.needles.now c.loop-n.entries c.args.most c.loop-n.room _ c.args.reason read entries room (to_z-of_z w16 c.max_of.result (search rules) ∙ c.max_of.ensures);
+    }

@@ -1,0 +1,9 @@
+pub mod Bearings
+pub mod Conditions
+pub mod Goodness
+pub mod RuleGroups
+pub mod Segments
+pub mod Sets
+pub mod Sizes
+pub mod Summaries
+pub mod View

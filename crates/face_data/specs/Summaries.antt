@@ -1,0 +1,73 @@
+-- What a block does to the state at its entry.
+use Rattle.std.specs.Prelude.{ℕ, ◌+◌, ℤ, List, [], ◌∷◌, Option, None, Some, unwrap_or, bit_or, bit_and, bit_xor, if◌then◌else◌}
+use Rattle.knit_base.specs.declared.instr.Quarter.{Quarter}
+use Rattle.knit_base.specs.declared.rule.Fault.{Fault}
+use Rattle.carriage_model.specs.State.{State}
+use Rattle.face_data.specs.declared.face.Effect.{Effect}
+use Rattle.face_data.specs.declared.face.Ending.{Ending}
+use Rattle.face_data.specs.declared.face.Ending.TheVariants.{Through, Broken}
+use Rattle.face_data.specs.Conditions.{Ask, holds}
+use Rattle.face_data.specs.Segments.{Changed, contents_of, read_segs}
+
+-- a condition, and the fault where it doesn't hold
+pub record Asked : Type 0 where
+  pub fault : Fault
+  pub ask : Ask
+
+-- a block's summary, with the needles and segments of its parts written out
+pub record Summary : Type 0 where
+  pub lines : ℕ
+  pub made : ℕ
+  pub checks : List Asked
+  pub changes : List Changed
+  pub ending : Ending
+
+-- the fault of the first condition that doesn't hold
+abbrev pub first_fault : List Asked → State → Option Fault
+first_fault [] s = None
+first_fault (c ∷ cs) s = if holds c.ask s then first_fault cs s else Some c.fault
+
+-- the carriers of the first set that aren't in the second
+abbrev pub without_set : ℕ → ℕ → ℕ
+without_set set other = bit_xor set (bit_and set other)
+
+-- the new rack, or the old one
+abbrev pub rack_after : Option Quarter → ℤ → ℤ
+rack_after None old = old
+rack_after (Some q) old = q.0
+
+-- the carriers in action after some went and some came
+abbrev pub ins_after : Effect → ℕ → ℕ
+ins_after effect old = bit_or (without_set old effect.went) effect.came
+
+-- what the hook holds, where the block changes it or not
+abbrev pub hook_after : Effect → ℕ → ℕ
+hook_after effect old = unwrap_or effect.hook old
+
+-- the state that the effect and the changes make
+abbrev pub after : Effect → List Changed → State → ℕ → State
+after effect changes s first = record {
+  rack = rack_after effect.rack s.rack;
+  ins = ins_after effect s.ins;
+  hook = hook_after effect s.hook;
+  stacks = λ n. read_segs s first (contents_of changes n);
+}
+
+-- the fault, its line raised
+abbrev pub raised : ℕ → Fault → Fault
+raised by fault = record fault { line = by + fault.line }
+
+-- how a block ends
+pub data Outcome : Type 0 where
+  went_on : State → Outcome
+  faulted : Fault → Outcome
+
+-- how a block ends whose first condition that fails has this fault
+abbrev pub outcome_of : Option Fault → Ending → List Changed → State → ℕ → Outcome
+outcome_of (Some fault) ending changes s first = faulted (raised first fault)
+outcome_of None (Broken fault) changes s first = faulted (raised first fault)
+outcome_of None (Through effect) changes s first = went_on (after effect changes s first)
+
+-- how the block ends that is entered in state s at line `first`
+abbrev pub applied : Summary → State → ℕ → Outcome
+applied summary s first = outcome_of (first_fault summary.checks s) summary.ending summary.changes s first

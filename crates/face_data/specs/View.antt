@@ -1,0 +1,49 @@
+-- A summary as the lists of a face hold it: parts of a list of needles and of a list of segments.
+use Rattle.std.specs.Prelude.{◌≡◌, ◌≤◌, ◌+◌, List, [], length, map, All}
+use Rattle.std.specs.List.{flat_map}
+use Rattle.knit_base.specs.declared.needle.Needle.{Needle}
+use Rattle.face_data.specs.declared.face.Change.{Change}
+use Rattle.face_data.specs.declared.face.Check.{Check}
+use Rattle.face_data.specs.declared.face.Cond.{Cond}
+use Rattle.face_data.specs.declared.face.Cond.TheVariants.{SizeAtMost}
+use Rattle.face_data.specs.declared.face.FaceView.{FaceView}
+use Rattle.face_data.specs.declared.face.Seg.{Seg}
+use Rattle.face_data.specs.Conditions.{ask_of, part_of}
+use Rattle.face_data.specs.Segments.{Changed}
+use Rattle.face_data.specs.Summaries.{Asked, Summary}
+
+-- a check with its needles written out
+abbrev pub asked_of : List Needle → Check → Asked
+asked_of names check = record { fault = check.fault; ask = ask_of names check.cond }
+
+-- a change with its segments written out
+abbrev pub changed_of : List Seg → Change → Changed
+changed_of segs change = (change.needle, part_of segs change.part)
+
+-- the summary that a view shows
+abbrev pub summary_of : FaceView → Summary
+summary_of view = record {
+  lines = view.lines;
+  made = view.made;
+  checks = map (asked_of view.names.now) view.checks.now;
+  changes = map (changed_of view.segs.now) view.changes.now;
+  ending = view.ending;
+}
+
+-- the needles of a condition on sizes
+abbrev pub names_of : List Needle → Cond → List Needle
+names_of names (SizeAtMost p most) = part_of names p
+names_of names cond = []
+
+-- the part of a condition on sizes lies in the list of names
+abbrev pub CondFits : List Needle → Cond → Type 0
+CondFits names (SizeAtMost p most) = p.start + p.len ≤ length names
+CondFits names cond = Unit {0}
+
+-- each part lies in its list; those of the checks, in their order, make up the list of names, and those of the changes the
+-- list of segments
+pub record IsPacked (view : FaceView) : Type 0 where
+  pub checks_fit : All (λ (c : Check). CondFits view.names.now c.cond) view.checks.now
+  pub changes_fit : All (λ (c : Change). c.part.start + c.part.len ≤ length view.segs.now) view.changes.now
+  pub names : flat_map (λ (c : Check). names_of view.names.now c.cond) view.checks.now ≡ view.names.now
+  pub segs : flat_map (λ (c : Change). part_of view.segs.now c.part) view.changes.now ≡ view.segs.now

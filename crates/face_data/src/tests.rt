@@ -1,0 +1,59 @@
+//! Each public call once, with ample memory.
+use crate::{Seg, Segs, Symbols, ask_size, forming_needle, rules_in_groups};
+use knit_base::{Bed, Instr, Needle, Profile, Reason, Rule};
+use std::test::Fail;
+
+const FRONT: Needle = Needle {
+    bed: Bed::Front,
+    at: 1,
+};
+
+const BACK: Needle = Needle {
+    bed: Bed::Back,
+    at: 1,
+};
+
+#[test]
+fn touched_needles_have_segments(rt: HostRuntime) -> Result<(), Fail> {
+    let mut symbols = Symbols::new(rt.alloc());
+    symbols.set(FRONT, Segs::new(rt.alloc()))?;
+    assert!(rt; symbols.of(BACK).is_none());
+    match symbols.of(FRONT) {
+        Some(segs) => assert!(rt; segs.is_empty()),
+        None => assert!(rt; false),
+    }
+    Ok(())
+}
+
+#[test]
+fn new_loops_take_room(rt: HostRuntime) -> Result<(), Fail> {
+    let mut segs = Segs::new(rt.alloc());
+    segs.push(Seg::Entry(BACK))?;
+    segs.push(Seg::New(3))?;
+    let mut symbols = Symbols::new(rt.alloc());
+    symbols.set(BACK, segs)?;
+    let reason = Reason {
+        rule: Rule::TooManyLoops,
+        at: 2,
+    };
+    let ask = ask_size(rt.alloc(), reason, 16, &[BACK, FRONT], &symbols)?;
+    assert_eq!(rt; ask.max, 15);
+    assert_eq!(rt; ask.entries.len(), 2);
+    assert_eq!(rt; ask.entries.get(0).copied(), Some(BACK));
+    assert_eq!(rt; ask.entries.get(1).copied(), Some(FRONT));
+    Ok(())
+}
+
+#[test]
+fn a_transfer_forms_no_loop(rt: HostRuntime) -> Result<(), Fail> {
+    let profile = Profile {
+        low: 0,
+        high: 8,
+        rack: 4,
+        hold: 16,
+    };
+    let transfer = Instr::Xfer(FRONT, BACK);
+    rules_in_groups(&profile, &transfer);
+    assert_eq!(rt; forming_needle(&transfer), None);
+    Ok(())
+}

@@ -1,0 +1,50 @@
+//! What is asked of the slider beside a hook on which a loop is formed.
+//!
+//! Promises that `ask` answers with the condition on the block's entry under which the instruction breaks no rule on sliders,
+//! for every state of the machine. Definitions: `specs/RuleGroups`, `specs/Segments` and `specs/Conditions` of `face_data`. Below
+//! it stand std, `knit_base`, `carriage_model` and `face_data`.
+#![tactic(auto)]
+
+ghost use Rattle.std.specs.Prelude.{◌≡◌, ℕ, IfOk};
+ghost use Rattle.std.specs.Option.{is_none};
+ghost use Rattle.knit_base.specs.Needle.{own_slider};
+ghost use Rattle.carriage_model.specs.State.{State};
+ghost use Rattle.face_data.specs.Conditions.{unmet_size_if_any};
+ghost use Rattle.face_data.specs.RuleGroups.{slider_broken, forming_needle};
+ghost use Rattle.face_data.specs.Segments.{AreRead};
+
+use face_data::{SizeAsk, Symbols, ask_size, forming_needle};
+use knit_base::{Bed, Instr, Needle, NoMemory, Reason, Rule};
+use std::alloc::Global;
+
+#[cfg(test)]
+mod tests;
+
+/// The slider with the number and the side of a hook on which a loop is formed holds nothing: that, as a condition on the
+/// entry of a block after which the needles hold these segments. `None` exactly where the instruction forms no loop.
+pub fn ask(alloc: Global, instr: &Instr, contents: &Symbols) -> Result<Option<SizeAsk>, NoMemory>
+    ensures broken { IfOk result (λ ask. (s t : State) (first : ℕ) → AreRead contents.now s first t.stacks → slider_broken instr.now t ≡ unmet_size_if_any ask s) }
+    ensures none { IfOk result (λ ask. is_none ask ≡ is_none (forming_needle instr.now)) }
+{
+    let Some(n) = forming_needle(instr) else {
+        return Ok(None);
+    };
+    let reason = Reason {
+        rule: Rule::SliderHolds,
+        at: 2,
+    };
+    let ask = ask_size(alloc, reason, 0, &[own_slider(n)], contents)?;
+    Ok(Some(ask))
+}
+
+// The slider of a needle's side and number.
+fn own_slider(n: Needle) -> Needle
+    ensures { result ≡ own_slider n }
+{
+    let bed = if n.bed.is_front() {
+        Bed::FrontSlider
+    } else {
+        Bed::BackSlider
+    };
+    Needle { bed, at: n.at }
+}
