@@ -6,6 +6,7 @@ use crate::{Child, DirtyRow};
 use std::marker::Model;
 
 /// At most 72 rows, kept in place.
+#[derive(Drop)]
 pub struct Dirty {
     rows: [DirtyRow; 72],
     len: usize,

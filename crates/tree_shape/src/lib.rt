@@ -17,6 +17,8 @@ mod dirty;
 mod numbers;
 mod removal;
 mod shape;
+#[cfg(test)]
+mod tests;
 
 ghost use Rattle.tree_shape.specs.Plan.{Plan, kept, made, same_side, other, dirty_row, leaned, grown, turned, below, rows, erase, IsPending, IsLeaning, FitsLean, turned_plan, IsTwice, child_on, HasPlaceAt};
 ghost use Rattle.tree_shape.specs.declared.DirtyRow.{DirtyRow};
