@@ -54,13 +54,13 @@ impl Dirty {
         }
     }
 
-    pub fn clear(&mut self)
+    pub(crate) fn clear(&mut self)
         ensures { self.new ≡ [] }
     {
         self.len = 0;
     }
 
-    pub fn push(&mut self, row: DirtyRow)
+    pub(crate) fn push(&mut self, row: DirtyRow)
         requires { length self.old < 72 }
         ensures { self.new ≡ self.old ++ row ∷ [] }
     {
@@ -68,7 +68,7 @@ impl Dirty {
         self.len += 1;
     }
 
-    pub fn pop(&mut self) -> DirtyRow
+    pub(crate) fn pop(&mut self) -> DirtyRow
         requires { 0 < length self.old }
         ensures { self.old ≡ self.new ++ result ∷ [] }
     {
