@@ -1,9 +1,35 @@
 // The rows that a change lists.
 ghost use Rattle.std.specs.Prelude.{◌≡◌, ℕ, ◌+◌, ◌<◌, ◌≤◌, List, [], ◌∷◌, ◌++◌, length, take};
 ghost use Rattle.std.specs.List.{slice_get};
+ghost use Rattle.tree_shape.specs.Plan.{dirty_row};
 
-use crate::{Child, DirtyRow};
+use crate::node::{Child, Side};
 use std::marker::Model;
+
+/// An inner node that a change wrote, with the parts that it has afterwards.
+#[derive(Clone, Copy)]
+pub struct DirtyRow {
+    pub node: u32,
+    pub left: Child,
+    pub right: Child,
+}
+
+pub(crate) fn row_on(side: Side, node: u32, near: Child, far: Child) -> DirtyRow
+    ensures { result ≡ dirty_row side node near far }
+{
+    match side {
+        Side::Left => DirtyRow {
+            node,
+            left: near,
+            right: far,
+        },
+        Side::Right => DirtyRow {
+            node,
+            left: far,
+            right: near,
+        },
+    }
+}
 
 /// At most 72 rows, kept in place.
 #[derive(Drop)]
@@ -14,7 +40,7 @@ pub struct Dirty {
 
 impl Model for Dirty {
     ghost use Rattle.std.specs.Prelude.{◌≡◌, List, ◌≤◌, take, length};
-    ghost use Rattle.tree_shape.specs.declared.DirtyRow.{DirtyRow};
+    ghost use Rattle.tree_shape.specs.declared.dirty.DirtyRow.{DirtyRow};
 
     ghost Value = { List DirtyRow };
 
