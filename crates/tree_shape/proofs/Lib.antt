@@ -2,7 +2,7 @@ pub mod Standing
 pub mod Turning
 pub mod Bounds
 pub mod Applied
-pub mod Insertion
+pub mod Growing
 pub mod Heights
 pub mod Shrinking
 pub mod Rows

@@ -4,9 +4,9 @@ use Rattle.std.specs.Option.{option_map}
 use Rattle.std.specs.List.{slice_get}
 use Rattle.std.proofs.lemmas.Option.{slice_get_within}
 use Rattle.std.proofs.lemmas.Grind.{common_steps}
-use Rattle.tree_shape.specs.declared.Child.{Child}
-use Rattle.tree_shape.specs.declared.Child.TheVariants.{Leaf, Inner}
-use Rattle.tree_shape.specs.declared.Node.{Node}
+use Rattle.tree_shape.specs.declared.node.Child.{Child}
+use Rattle.tree_shape.specs.declared.node.Child.TheVariants.{Leaf, Inner}
+use Rattle.tree_shape.specs.declared.node.Node.{Node}
 use Rattle.tree_shape.specs.Tree.{Tree, leaf, inner, name, height, count, leaves, row_of, Stands, stored_height, IsBalanced}
 use Rattle.tree_shape.specs.Plan.{Plan, grown, erase, rows}
 use Rattle.tree_shape.specs.Apply.{mark, times, times_made, applied, FitRows}
@@ -16,7 +16,7 @@ use Rattle.tree_shape.specs.Removal.{shrunk, gone}
 use Rattle.tree_shape.proofs.Shrinking.{told_shrunk, kept_shrunk, leaves_shrunk, low_shrunk, Lower, as_high, one_lower, IsLow, IsInner}
 use Rattle.tree_shape.proofs.Standing.{stored, length_leaves}
 use Rattle.tree_shape.proofs.Applied.{IsApplicable, stands_applied, frame, one, one_same, fit_rows, length_applied, made_within}
-use Rattle.tree_shape.proofs.Insertion.{times_grown, kept_grown, leaves_grown, well_grown, IsWell}
+use Rattle.tree_shape.proofs.Growing.{times_grown, kept_grown, leaves_grown, well_grown, IsWell}
 use Rattle.tree_shape.proofs.Bounds.{grown_high}
 use Rattle.tree_shape.proofs.Heights.{at_most_22}
 

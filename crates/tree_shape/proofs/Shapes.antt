@@ -4,9 +4,9 @@ use Rattle.std.specs.Prelude.{slice_index}
 use Rattle.std.specs.Option.{option_map}
 use Rattle.std.proofs.Common.{Bool, true, false, ◌&&◌, nat_lt}
 use Rattle.std.proofs.lemmas.Bool.{ltb-true}
-use Rattle.tree_shape.specs.declared.Child.{Child}
-use Rattle.tree_shape.specs.declared.Child.TheVariants.{Leaf, Inner}
-use Rattle.tree_shape.specs.declared.Node.{Node}
+use Rattle.tree_shape.specs.declared.node.Child.{Child}
+use Rattle.tree_shape.specs.declared.node.Child.TheVariants.{Leaf, Inner}
+use Rattle.tree_shape.specs.declared.node.Node.{Node}
 use Rattle.tree_shape.specs.Tree.{Tree, leaf, inner, name, height, count, leaves, inners, IsBalanced, Stands}
 use Rattle.tree_shape.specs.Changes.{IsPart, IsPartOf, numbers_below}
 use Rattle.tree_shape.specs.Plan.{Plan, grown, erase, rows}
@@ -16,7 +16,7 @@ use Rattle.tree_shape.specs.Fewest.{inserted, removed}
 use Rattle.tree_shape.specs.Numbers.{NumbersView, times_in, next_number, taken, given_back, IsCounted}
 use Rattle.tree_shape.specs.View.{ShapeView, tree_at, count_of, leaves_of_tree, inners_of_tree, IsBalancedTree, IsSound, IsRoot, IsShape, IsLawful, tree_without, inners_without}
 use Rattle.tree_shape.proofs.Standing.{length_leaves}
-use Rattle.tree_shape.proofs.Insertion.{times_grown, leaves_grown}
+use Rattle.tree_shape.proofs.Growing.{times_grown, leaves_grown}
 use Rattle.tree_shape.proofs.Shrinking.{leaves_shrunk, IsInner}
 use Rattle.tree_shape.proofs.Reading.{sound_read, tree_at_is, length_inserted, length_removed, count_grown, count_shrunk, shrunk_times, sound_leaf}
 use Rattle.tree_shape.proofs.Counting.{times_in-append, counted_taken, counted_back, counted_none, fresh, comes, Comes, drawn_new, free_again}

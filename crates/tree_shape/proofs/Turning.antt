@@ -3,14 +3,14 @@ use Rattle.std.proofs.Common.{◌≡◌, ℕ, ◌+◌, ◌-◌, ◌<◌, ◌≤�
 use Rattle.std.proofs.lemmas.Bool.{le-leb, lt-leb}
 use Rattle.std.proofs.lemmas.List.{same_from_push}
 use Rattle.std.proofs.lemmas.Grind.{common_steps}
-use Rattle.tree_shape.specs.declared.Child.{Child}
-use Rattle.tree_shape.specs.declared.Child.TheVariants.{Leaf, Inner}
-use Rattle.tree_shape.specs.declared.Side.{Side}
-use Rattle.tree_shape.specs.declared.Side.TheVariants.{Left, Right}
-use Rattle.tree_shape.specs.declared.Way.{Way}
-use Rattle.tree_shape.specs.declared.Way.TheVariants.{Turned, Once, Twice}
-use Rattle.tree_shape.specs.declared.DirtyRow.{DirtyRow}
-use Rattle.tree_shape.specs.declared.Grown.{Grown}
+use Rattle.tree_shape.specs.declared.node.Child.{Child}
+use Rattle.tree_shape.specs.declared.node.Child.TheVariants.{Leaf, Inner}
+use Rattle.tree_shape.specs.declared.node.Side.{Side}
+use Rattle.tree_shape.specs.declared.node.Side.TheVariants.{Left, Right}
+use Rattle.tree_shape.specs.declared.insertion.Way.{Way}
+use Rattle.tree_shape.specs.declared.insertion.Way.TheVariants.{Turned, Once, Twice}
+use Rattle.tree_shape.specs.declared.dirty.DirtyRow.{DirtyRow}
+use Rattle.tree_shape.specs.declared.insertion.Grown.{Grown}
 use Rattle.tree_shape.specs.Tree.{Tree, leaf, inner, name, height, count}
 use Rattle.tree_shape.specs.Plan.{Plan, kept, made, inner_on, erase, dirty_row, child_on, rows, below, same_side, other, turned, turned_once, turned_twice, turned_plan, leaned, over, way_of, way_through, IsPending, IsLeaning, FitsLean, IsTwice}
 

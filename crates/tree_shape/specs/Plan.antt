@@ -1,15 +1,15 @@
 -- A tree after one change, with the parts that stayed as they were marked: which inner nodes the change wrote, and in which order they are listed.
 use Rattle.std.specs.Prelude.{◌≡◌, ℕ, ◌+◌, ◌-◌, ◌<◌, ◌≤◌, max, Bool, true, false, nat_le, cond, List, [], ◌∷◌, ◌++◌, length, Option, Some, None}
-use Rattle.tree_shape.specs.declared.Child.{Child}
-use Rattle.tree_shape.specs.declared.Child.TheVariants.{Leaf, Inner}
-use Rattle.tree_shape.specs.declared.Side.{Side}
-use Rattle.tree_shape.specs.declared.Side.TheVariants.{Left, Right}
-use Rattle.tree_shape.specs.declared.Way.{Way}
-use Rattle.tree_shape.specs.declared.Way.TheVariants.{Turned, Once, Twice}
-use Rattle.tree_shape.specs.declared.DirtyRow.{DirtyRow}
-use Rattle.tree_shape.specs.declared.Grown.{Grown}
+use Rattle.tree_shape.specs.declared.node.Child.{Child}
+use Rattle.tree_shape.specs.declared.node.Child.TheVariants.{Leaf, Inner}
+use Rattle.tree_shape.specs.declared.node.Side.{Side}
+use Rattle.tree_shape.specs.declared.node.Side.TheVariants.{Left, Right}
+use Rattle.tree_shape.specs.declared.insertion.Way.{Way}
+use Rattle.tree_shape.specs.declared.insertion.Way.TheVariants.{Turned, Once, Twice}
+use Rattle.tree_shape.specs.declared.dirty.DirtyRow.{DirtyRow}
+use Rattle.tree_shape.specs.declared.insertion.Grown.{Grown}
 use Rattle.tree_shape.specs.Tree.{Tree, leaf, inner, name, height, count, Stands}
-use Rattle.tree_shape.specs.declared.Node.{Node}
+use Rattle.tree_shape.specs.declared.node.Node.{Node}
 
 -- a part that stayed, or an inner node that was written: the side of its near part, its number, its near part and its far part
 pub data Plan : Type 0 where

@@ -1,11 +1,11 @@
 -- The tree without the leaf at a position.
 use Rattle.std.specs.Prelude.{◌≡◌, ◌<◌, ◌≤◌, ◌*◌, length, ℕ, ◌+◌, ◌-◌, Bool, nat_le, nat_lt, cond, List, [], ◌∷◌, ◌++◌, take, drop}
-use Rattle.tree_shape.specs.declared.Side.{Side}
-use Rattle.tree_shape.specs.declared.Side.TheVariants.{Left, Right}
-use Rattle.tree_shape.specs.declared.Child.{Child}
-use Rattle.tree_shape.specs.declared.Child.TheVariants.{Inner}
-use Rattle.tree_shape.specs.declared.Node.{Node}
-use Rattle.tree_shape.specs.declared.DirtyRow.{DirtyRow}
+use Rattle.tree_shape.specs.declared.node.Side.{Side}
+use Rattle.tree_shape.specs.declared.node.Side.TheVariants.{Left, Right}
+use Rattle.tree_shape.specs.declared.node.Child.{Child}
+use Rattle.tree_shape.specs.declared.node.Child.TheVariants.{Inner}
+use Rattle.tree_shape.specs.declared.node.Node.{Node}
+use Rattle.tree_shape.specs.declared.dirty.DirtyRow.{DirtyRow}
 use Rattle.tree_shape.specs.declared.removal.Part.{Part}
 use Rattle.tree_shape.specs.Tree.{Tree, leaf, inner, name, height, count, Stands, IsBalanced}
 use Rattle.tree_shape.specs.Plan.{Plan, kept, made, erase, over, rows}

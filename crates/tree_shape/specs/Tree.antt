@@ -1,9 +1,9 @@
 -- A tree by positions with numbers at its leaves and inner nodes, and how an arena of rows stands for it.
 use Rattle.std.specs.Prelude.{◌≡◌, ℕ, ◌+◌, ◌<◌, ◌≤◌, max, List, [], ◌∷◌, ◌++◌, length, Option, Some, None}
 use Rattle.std.specs.List.{slice_get}
-use Rattle.tree_shape.specs.declared.Child.{Child}
-use Rattle.tree_shape.specs.declared.Child.TheVariants.{Leaf, Inner}
-use Rattle.tree_shape.specs.declared.Node.{Node}
+use Rattle.tree_shape.specs.declared.node.Child.{Child}
+use Rattle.tree_shape.specs.declared.node.Child.TheVariants.{Leaf, Inner}
+use Rattle.tree_shape.specs.declared.node.Node.{Node}
 
 -- a tree, each leaf and inner node with its number
 pub data Tree : Type 0 where

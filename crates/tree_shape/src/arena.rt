@@ -3,7 +3,8 @@ ghost use Rattle.std.specs.Prelude.{◌≡◌, ℕ, ◌+◌, ◌<◌, ◌≤◌,
 ghost use Rattle.tree_shape.specs.Tree.{stored_height};
 ghost use Rattle.tree_shape.specs.Apply.{IsIn, stored_leaves, node_from, FitsRow, FitRows, applied};
 
-use crate::{Child, Dirty, DirtyRow, Node};
+use crate::dirty::{Dirty, DirtyRow};
+use crate::node::{Child, Node};
 
 fn kept_height(nodes: &[Node], child: Child) -> u8
     requires { IsIn nodes.now child }

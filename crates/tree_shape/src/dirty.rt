@@ -1,11 +1,38 @@
 // The rows that a change lists.
 ghost use Rattle.std.specs.Prelude.{◌≡◌, ℕ, ◌+◌, ◌<◌, ◌≤◌, List, [], ◌∷◌, ◌++◌, length, take};
 ghost use Rattle.std.specs.List.{slice_get};
+ghost use Rattle.tree_shape.specs.Plan.{dirty_row};
 
-use crate::{Child, DirtyRow};
+use crate::node::{Child, Side};
 use std::marker::Model;
 
+/// An inner node that a change wrote, with the parts that it has afterwards.
+#[derive(Clone, Copy)]
+pub struct DirtyRow {
+    pub node: u32,
+    pub left: Child,
+    pub right: Child,
+}
+
+pub(crate) fn row_on(side: Side, node: u32, near: Child, far: Child) -> DirtyRow
+    ensures { result ≡ dirty_row side node near far }
+{
+    match side {
+        Side::Left => DirtyRow {
+            node,
+            left: near,
+            right: far,
+        },
+        Side::Right => DirtyRow {
+            node,
+            left: far,
+            right: near,
+        },
+    }
+}
+
 /// At most 72 rows, kept in place.
+#[derive(Drop)]
 pub struct Dirty {
     rows: [DirtyRow; 72],
     len: usize,
@@ -13,7 +40,7 @@ pub struct Dirty {
 
 impl Model for Dirty {
     ghost use Rattle.std.specs.Prelude.{◌≡◌, List, ◌≤◌, take, length};
-    ghost use Rattle.tree_shape.specs.declared.DirtyRow.{DirtyRow};
+    ghost use Rattle.tree_shape.specs.declared.dirty.DirtyRow.{DirtyRow};
 
     ghost Value = { List DirtyRow };
 
@@ -53,13 +80,13 @@ impl Dirty {
         }
     }
 
-    pub fn clear(&mut self)
+    pub(crate) fn clear(&mut self)
         ensures { self.new ≡ [] }
     {
         self.len = 0;
     }
 
-    pub fn push(&mut self, row: DirtyRow)
+    pub(crate) fn push(&mut self, row: DirtyRow)
         requires { length self.old < 72 }
         ensures { self.new ≡ self.old ++ row ∷ [] }
     {
@@ -67,7 +94,7 @@ impl Dirty {
         self.len += 1;
     }
 
-    pub fn pop(&mut self) -> DirtyRow
+    pub(crate) fn pop(&mut self) -> DirtyRow
         requires { 0 < length self.old }
         ensures { self.old ≡ self.new ++ result ∷ [] }
     {

@@ -3,11 +3,12 @@ ghost use Rattle.std.specs.Prelude.{◌≡◌, ℕ, ◌+◌, ◌-◌, ◌<◌, �
 ghost use Rattle.tree_shape.specs.Tree.{Tree, name, height, count, Stands};
 ghost use Rattle.tree_shape.specs.Plan.{Plan, erase, rows, over};
 ghost use Rattle.tree_shape.specs.Removal.{HasRows, HasRemoval, IsAbove, gone, touched, IsSinking, HasSinking, IsPart, raised, raised_once, raised_twice, IsRaising, HasRaising, sunk, raised_by, shrunk, beside_child, outer_child, beside, outer};
-ghost use Rattle.tree_shape.specs.declared.DirtyRow.{DirtyRow};
-ghost use Rattle.tree_shape.specs.declared.Node.{Node};
-ghost use Rattle.tree_shape.specs.declared.Child.TheVariants.{Leaf, Inner};
+ghost use Rattle.tree_shape.specs.declared.dirty.DirtyRow.{DirtyRow};
+ghost use Rattle.tree_shape.specs.declared.node.Node.{Node};
+ghost use Rattle.tree_shape.specs.declared.node.Child.TheVariants.{Leaf, Inner};
 
-use crate::{Child, Dirty, DirtyRow, Node, Side, above, height_of, leaves_of, row, row_on};
+use crate::dirty::{Dirty, DirtyRow, row_on};
+use crate::node::{Child, Node, Side, above, height_of, leaves_of, row};
 
 /// Lists the inner nodes above a leaf.
 pub(crate) fn touch_below(nodes: &[Node], child: Child, at: u32, dirty: &mut Dirty)

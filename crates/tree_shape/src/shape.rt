@@ -2,7 +2,7 @@
 ghost use Rattle.std.specs.Prelude.{◌≡◌, ℕ, ◌+◌, ◌-◌, ◌*◌, ◌^◌, ◌<◌, ◌≤◌, max, List, [], ◌∷◌, ◌++◌, length, Option, Some, None, true, IfOk, IfErr, OnOk, MatchResult, nat_lt, slice_index, vec_len, vec_capacity};
 ghost use Rattle.std.specs.List.{All};
 ghost use Rattle.std.specs.Option.{option_map};
-ghost use Rattle.tree_shape.specs.declared.Child.TheVariants.{Inner};
+ghost use Rattle.tree_shape.specs.declared.node.Child.TheVariants.{Inner};
 ghost use Rattle.tree_shape.specs.Tree.{Tree, name, height, count, Stands};
 ghost use Rattle.tree_shape.specs.Plan.{grown, erase, rows};
 ghost use Rattle.tree_shape.specs.Apply.{times};
@@ -12,11 +12,12 @@ ghost use Rattle.tree_shape.specs.View.{ShapeView, count_of, leaves_of_tree, hei
 ghost use Rattle.tree_shape.specs.Changes.{HasBelow, HasInner, HasChildren, LeavesOthers, IsOrdered, BoundsHeight, numbers_below};
 ghost use Rattle.tree_shape.specs.Fewest.{inserted, removed};
 
+use crate::arena::apply;
+use crate::dirty::{Dirty, row_on};
+use crate::insertion::grow;
+use crate::node::{Child, Node, height_of, leaf_at, leaves_of, row};
 use crate::numbers::Numbers;
-use crate::{
-    Child, Dirty, Node, apply, grow, height_of, leaf_at, leaves_of, parent_of, row, row_on, shrink,
-    touch_below,
-};
+use crate::removal::{parent_of, shrink, touch_below};
 use knit_base::NoMemory;
 use std::alloc::Global;
 use std::marker::Model;

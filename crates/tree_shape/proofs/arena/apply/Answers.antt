@@ -1,8 +1,8 @@
 use Rattle.std.proofs.Common.{◌≡◌, ℕ, zero, suc, ◌+◌, ◌<◌, List, length, drop, [], ◌∷◌, arith, sym, ◌∙◌, ap, subst, refl, add-one, Some, None}
 use Rattle.std.specs.Prelude.{slice_set}
 use Rattle.std.specs.List.{slice_get}
-use Rattle.tree_shape.specs.declared.Node.{Node}
-use Rattle.tree_shape.specs.declared.DirtyRow.{DirtyRow}
+use Rattle.tree_shape.specs.declared.node.Node.{Node}
+use Rattle.tree_shape.specs.declared.dirty.DirtyRow.{DirtyRow}
 use Rattle.tree_shape.specs.Apply.{FitsRow, FitRows, applied, written}
 use Rattle.tree_shape.proofs.arena.apply.Goals as goal
 use Rattle.tree_shape.proofs.arena.apply.Goals.{in-Some, in_default}

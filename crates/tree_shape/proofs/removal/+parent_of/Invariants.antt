@@ -1,4 +1,4 @@
-use Rattle.tree_shape.specs.declared.Child.TheVariants.{Inner}
+use Rattle.tree_shape.specs.declared.node.Child.TheVariants.{Inner}
 use Rattle.tree_shape.specs.Tree.{stored_height}
 use Rattle.tree_shape.proofs.removal.+parent_of.Given as goal
 

@@ -1,10 +1,10 @@
 use Rattle.std.proofs.Common.{◌≡◌, ℕ, ◌+◌, ◌-◌, ◌*◌, ◌<◌, ◌≤◌, List, ◌++◌, arith, sym, ◌∙◌, ap, subst, refl, length, length-append, cond, false, nat_lt}
 use Rattle.std.proofs.lemmas.Bool.{le-ltb}
-use Rattle.tree_shape.specs.declared.Child.{Child}
-use Rattle.tree_shape.specs.declared.Child.TheVariants.{Leaf, Inner}
-use Rattle.tree_shape.specs.declared.Side.TheVariants.{Left, Right}
-use Rattle.tree_shape.specs.declared.Node.{Node}
-use Rattle.tree_shape.specs.declared.DirtyRow.{DirtyRow}
+use Rattle.tree_shape.specs.declared.node.Child.{Child}
+use Rattle.tree_shape.specs.declared.node.Child.TheVariants.{Leaf, Inner}
+use Rattle.tree_shape.specs.declared.node.Side.TheVariants.{Left, Right}
+use Rattle.tree_shape.specs.declared.node.Node.{Node}
+use Rattle.tree_shape.specs.declared.dirty.DirtyRow.{DirtyRow}
 use Rattle.tree_shape.specs.Tree.{Tree, leaf, inner, name, height, count, Stands, IsBalanced}
 use Rattle.tree_shape.specs.Plan.{Plan, erase, rows}
 use Rattle.tree_shape.specs.Removal.{shrunk, HasRemoval, IsSinking, IsPart, sunk, without}

@@ -1,6 +1,6 @@
 use Rattle.std.proofs.Common.{◌≡◌, ℕ, ◌+◌, max, List, [], ◌∷◌, ◌++◌, arith, sym, ◌∙◌, ap, append_assoc, append-nil}
-use Rattle.tree_shape.specs.declared.Child.TheVariants.{Leaf, Inner}
-use Rattle.tree_shape.specs.declared.DirtyRow.{DirtyRow}
+use Rattle.tree_shape.specs.declared.node.Child.TheVariants.{Leaf, Inner}
+use Rattle.tree_shape.specs.declared.dirty.DirtyRow.{DirtyRow}
 use Rattle.tree_shape.specs.Tree.{Tree, inner, name, height}
 use Rattle.tree_shape.specs.Plan.{Plan, erase, rows, inner_on, dirty_row}
 use Rattle.tree_shape.specs.Removal.{raised_twice, IsRaising, IsPart, beside, outer}

@@ -2,11 +2,11 @@ use Rattle.std.proofs.Common.{◌≡◌, ◌<◌, ◌≤◌, ◌+◌, ◌*◌, �
 use Rattle.std.specs.Prelude.{slice_index}
 use Rattle.std.specs.Option.{option_map}
 use Rattle.std.proofs.lemmas.List.{take_at}
-use Rattle.tree_shape.specs.declared.Child.{Child}
-use Rattle.tree_shape.specs.declared.Child.TheVariants.{Leaf, Inner}
-use Rattle.tree_shape.specs.declared.Grown.{Grown}
-use Rattle.tree_shape.specs.declared.Node.{Node}
-use Rattle.tree_shape.specs.declared.DirtyRow.{DirtyRow}
+use Rattle.tree_shape.specs.declared.node.Child.{Child}
+use Rattle.tree_shape.specs.declared.node.Child.TheVariants.{Leaf, Inner}
+use Rattle.tree_shape.specs.declared.insertion.Grown.{Grown}
+use Rattle.tree_shape.specs.declared.node.Node.{Node}
+use Rattle.tree_shape.specs.declared.dirty.DirtyRow.{DirtyRow}
 use Rattle.tree_shape.specs.Tree.{Stands, Tree, name, height, count, leaf, inner, leaves, inners, row_of}
 use Rattle.tree_shape.specs.Plan.{Plan, grown, erase, rows, below, IsPending, dirty_row}
 use Rattle.tree_shape.specs.Apply.{FitRows, applied, times}

@@ -3,8 +3,8 @@ use Rattle.std.specs.Option.{option_map}
 use Rattle.tree_shape.specs.View.{ShapeView, count_of, leaves_of_tree, height_of_tree, IsLawful}
 use Rattle.tree_shape.specs.Tree.{Stands, Tree, name, height, count, inner, row_of}
 use Rattle.tree_shape.proofs.Reading.{rooted, Rooted}
-use Rattle.tree_shape.specs.declared.Child.{Child}
-use Rattle.tree_shape.specs.declared.Node.{Node}
+use Rattle.tree_shape.specs.declared.node.Child.{Child}
+use Rattle.tree_shape.specs.declared.node.Node.{Node}
 use Rattle.tree_shape.specs.Changes.{IsPartOf}
 use Rattle.tree_shape.proofs.Shapes.{part_stands}
 use Rattle.tree_shape.proofs.shape.Shape.children.Goals as goal

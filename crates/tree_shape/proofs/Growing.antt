@@ -4,11 +4,11 @@ use Rattle.std.proofs.lemmas.Bool.{le-leb, lt-leb, leb-true, leb-false}
 use Rattle.std.proofs.Math.Seq.{take-append-add, drop-append-add}
 use Rattle.std.proofs.lemmas.Bool.Decides.{leb_tells}
 use Rattle.std.proofs.lemmas.Grind.{common_steps}
-use Rattle.tree_shape.specs.declared.Child.{Child}
-use Rattle.tree_shape.specs.declared.Child.TheVariants.{Leaf, Inner}
-use Rattle.tree_shape.specs.declared.Side.{Side}
-use Rattle.tree_shape.specs.declared.Side.TheVariants.{Left, Right}
-use Rattle.tree_shape.specs.declared.Node.{Node}
+use Rattle.tree_shape.specs.declared.node.Child.{Child}
+use Rattle.tree_shape.specs.declared.node.Child.TheVariants.{Leaf, Inner}
+use Rattle.tree_shape.specs.declared.node.Side.{Side}
+use Rattle.tree_shape.specs.declared.node.Side.TheVariants.{Left, Right}
+use Rattle.tree_shape.specs.declared.node.Node.{Node}
 use Rattle.tree_shape.specs.Tree.{Tree, leaf, inner, name, height, count, leaves, IsBalanced, Stands}
 use Rattle.tree_shape.specs.Plan.{Plan, kept, made, inner_on, erase, same_side, other, turned, turned_once, turned_twice, turned_through, turned_plan, leaned, over, grown}
 use Rattle.tree_shape.specs.Apply.{mark, times, times_made, KeptBy, KeptStands}

@@ -2,7 +2,7 @@ use Rattle.std.proofs.Common.{◌≡◌, sym, ◌∙◌, ap, subst, arith}
 use Rattle.std.proofs.lemmas.Grind.{common_steps}
 use Rattle.tree_shape.specs.Plan.{child_on}
 use Rattle.tree_shape.proofs.Turning.{two_steps, own_turn, other_turn}
-use Rattle.tree_shape.proofs.turn.Goals as goal
+use Rattle.tree_shape.proofs.insertion.turn.Goals as goal
 
 pub returns-then-same-2 : goal.returns-then-same-2
 returns-then-same-2 c = λ p before f l.

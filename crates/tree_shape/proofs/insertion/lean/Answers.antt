@@ -2,12 +2,12 @@ use Rattle.std.proofs.Common.{◌≡◌, ◌+◌, ◌<◌, ◌≤◌, max, ◌�
 use Rattle.std.proofs.lemmas.Bool.{lt-leb}
 use Rattle.tree_shape.specs.Tree.{Tree, height}
 use Rattle.tree_shape.specs.Plan.{Plan, erase, leaned, IsLeaning, way_through}
-use Rattle.tree_shape.specs.declared.Side.{Side}
-use Rattle.tree_shape.specs.declared.Way.{Way}
-use Rattle.tree_shape.specs.declared.Way.TheVariants.{Turned, Once, Twice}
+use Rattle.tree_shape.specs.declared.node.Side.{Side}
+use Rattle.tree_shape.specs.declared.insertion.Way.{Way}
+use Rattle.tree_shape.specs.declared.insertion.Way.TheVariants.{Turned, Once, Twice}
 use Rattle.tree_shape.proofs.Turning.{height_pending, leaned_turned, leaned_is_over, way_over, way_over_turned, set_over, Leaves}
-use Rattle.tree_shape.proofs.lean.Goals as goal
-use Rattle.tree_shape.proofs.lean.Goals.{in-Twice+else-above-far_height, in_default, in-Turned, in_default-way}
+use Rattle.tree_shape.proofs.insertion.lean.Goals as goal
+use Rattle.tree_shape.proofs.insertion.lean.Goals.{in-Twice+else-above-far_height, in_default, in-Turned, in_default-way}
 
 pub returns-then-above-far_height : goal.returns-then-above-far_height
 returns-then-above-far_height c = λ p before f l.

@@ -1,0 +1,91 @@
+//! Small shapes whose leaves, numbers and rows are worked by hand.
+use crate::{Child, Dirty, Shape};
+use knit_base::NoMemory;
+use std::test::Fail;
+
+/// Inserts with room made first, where the position and the number of leaves allow it.
+fn add(shape: &mut Shape, at: u32, dirty: &mut Dirty) -> Result<Option<u32>, NoMemory> {
+    let len = shape.len();
+    if at > len || len >= 65536 {
+        return Ok(None);
+    }
+    shape.reserve_one()?;
+    Ok(Some(shape.insert(at, dirty)))
+}
+
+fn cut(shape: &mut Shape, at: u32, dirty: &mut Dirty) -> Option<u32> {
+    if at < shape.len() {
+        Some(shape.remove(at, dirty))
+    } else {
+        None
+    }
+}
+
+fn planned(shape: &Shape, at: u32, dirty: &mut Dirty) -> Option<u32> {
+    let len = shape.len();
+    if at > len || len >= 65536 {
+        None
+    } else {
+        Some(shape.plan_insert(at, dirty))
+    }
+}
+
+fn leaf(shape: &Shape, at: u32) -> Option<u32> {
+    if at < shape.len() {
+        Some(shape.leaf(at))
+    } else {
+        None
+    }
+}
+
+/// Inserts at 0, 1, 1 and 0: the leaves then read 3, 0, 2, 1.
+fn four(shape: &mut Shape, dirty: &mut Dirty) -> Result<(), NoMemory> {
+    add(shape, 0, dirty)?;
+    add(shape, 1, dirty)?;
+    add(shape, 1, dirty)?;
+    add(shape, 0, dirty)?;
+    Ok(())
+}
+
+#[test]
+fn leaves_stand_where_they_were_put(rt: HostRuntime) -> Result<(), Fail> {
+    let mut dirty = Dirty::new();
+    let mut shape = Shape::new(rt.alloc());
+    four(&mut shape, &mut dirty)?;
+    assert_eq!(rt; shape.len(), 4);
+    assert_eq!(rt; shape.height(), 2);
+    assert_eq!(rt; leaf(&shape, 0), Some(3));
+    assert_eq!(rt; leaf(&shape, 1), Some(0));
+    assert_eq!(rt; leaf(&shape, 2), Some(2));
+    assert_eq!(rt; leaf(&shape, 3), Some(1));
+    Ok(())
+}
+
+#[test]
+fn a_freed_number_is_drawn_next(rt: HostRuntime) -> Result<(), Fail> {
+    let mut dirty = Dirty::new();
+    let mut shape = Shape::new(rt.alloc());
+    four(&mut shape, &mut dirty)?;
+    assert_eq!(rt; cut(&mut shape, 1, &mut dirty), Some(0));
+    assert_eq!(rt; leaf(&shape, 1), Some(2));
+    assert_eq!(rt; planned(&shape, 3, &mut dirty), Some(0));
+    assert_eq!(rt; add(&mut shape, 3, &mut dirty)?, Some(0));
+    assert_eq!(rt; leaf(&shape, 3), Some(0));
+    assert_eq!(rt; add(&mut shape, 0, &mut dirty)?, Some(4));
+    Ok(())
+}
+
+#[test]
+fn a_second_leaf_lists_one_row(rt: HostRuntime) -> Result<(), Fail> {
+    let mut dirty = Dirty::new();
+    let mut shape = Shape::new(rt.alloc());
+    assert_eq!(rt; add(&mut shape, 0, &mut dirty)?, Some(0));
+    assert_eq!(rt; dirty.len(), 0);
+    assert_eq!(rt; add(&mut shape, 0, &mut dirty)?, Some(1));
+    assert_eq!(rt; dirty.len(), 1);
+    if let Some(row) = dirty.get(0) {
+        assert_eq!(rt; row.node, 0);
+        assert!(rt; matches!((row.left, row.right), (Child::Leaf(1), Child::Leaf(0))));
+    }
+    Ok(())
+}
