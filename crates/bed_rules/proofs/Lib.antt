@@ -1,0 +1,2 @@
+mod TooMany
+mod Stacks

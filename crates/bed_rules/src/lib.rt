@@ -1,0 +1,52 @@
+//! What an instruction asks of the loops on needles, and what it makes of them.
+//!
+//! Promises, for every state of the machine, that the first size condition of `ask` that isn't met tells whether the
+//! instruction puts too many loops on a needle, and that the needles hold the segments that `ask` gives them after it.
+//! Definitions: `specs/Beds`, and `specs/RuleGroups`, `specs/Segments` and `specs/Conditions` of `face_data`. Below it stand
+//! std, `knit_base`, `carriage_model` and `face_data`.
+#![tactic(auto)]
+
+mod changes;
+mod limits;
+#[cfg(test)]
+mod tests;
+
+ghost use Rattle.std.specs.Prelude.{◌≡◌, ℕ, ◌+◌, IfOk};
+ghost use Rattle.knit_base.specs.Limits.{IsLawfulProfile};
+ghost use Rattle.carriage_model.specs.State.{State};
+ghost use Rattle.carriage_model.specs.Steps.{step_instr};
+ghost use Rattle.face_data.specs.RuleGroups.{size_broken, forming_needle};
+ghost use Rattle.face_data.specs.Segments.{AreRead};
+ghost use Rattle.bed_rules.specs.Beds.{first_unmet_size, AreReadAfter};
+
+use face_data::{SizeAsks, SymbolList, Symbols, forming_needle};
+use knit_base::{Instr, Needle, NoMemory, Profile};
+use std::alloc::Global;
+
+/// What an instruction asks of sizes, and what it makes of needles. `makes` is the needle on which it forms a loop, and
+/// `changed` gives the needles that change their segments without that loop: the caller puts its segment last there.
+#[derive(Drop)]
+pub struct BedAsk {
+    pub sizes: SizeAsks,
+    pub changed: SymbolList,
+    pub makes: Option<Needle>,
+}
+
+/// What the instruction asks and changes in a block after which, so far, the needles hold these segments.
+pub fn ask(
+    alloc: Global,
+    instr: &Instr,
+    profile: &Profile,
+    contents: &Symbols,
+) -> Result<BedAsk, NoMemory>
+    requires { IsLawfulProfile profile.now }
+    ensures broken { IfOk result (λ ask. (s t : State) (first : ℕ) → AreRead contents.now s first t.stacks → size_broken profile.now instr.now t ≡ first_unmet_size ask.sizes s) }
+    ensures changed { IfOk result (λ ask. (s t : State) (first offset : ℕ) → AreRead contents.now s first t.stacks → AreReadAfter contents.now ask.changed ask.makes s first offset (step_instr (first + offset) instr.now t).stacks) }
+    ensures makes { IfOk result (λ ask. ask.makes ≡ forming_needle instr.now) }
+{
+    Ok(BedAsk {
+        sizes: limits::sizes_of(alloc, instr, profile, contents)?,
+        changed: changes::changes_of(alloc, instr, contents)?,
+        makes: forming_needle(instr),
+    })
+}
