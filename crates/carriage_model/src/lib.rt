@@ -12,6 +12,8 @@ mod machine;
 mod rules;
 mod run;
 mod steps;
+#[cfg(test)]
+mod tests;
 mod verdict;
 
 pub use facts::{fact_plain, facts_plain};

@@ -1,0 +1,50 @@
+//! Each public call once with ample memory, on a carrier that comes in and a loop that it makes.
+ghost use Rattle.std.specs.Prelude.{◌∷◌, [], ◌≡◌, IfOk};
+
+use crate::{Verdict, fact_plain, facts_plain, run_plain};
+use knit_base::{
+    Bed, CarrierNo, Declared, Dir, Instr, Needle, NoMemory, Profile, Read, Reads, Yarns,
+};
+use std::alloc::Global;
+use std::test::Fail;
+
+const MACHINE: Profile = Profile {
+    low: -1024,
+    high: 1023,
+    rack: 8,
+    hold: 16,
+};
+
+fn first_carrier(alloc: Global) -> Result<Yarns, NoMemory>
+    ensures { IfOk result (λ yarns. yarns ≡ record { 0 = 0 } ∷ []) }
+{
+    let mut yarns = Yarns::new(alloc);
+    yarns.push(CarrierNo(0))?;
+    Ok(yarns)
+}
+
+#[test]
+fn a_loop_by_its_line(rt: HostRuntime) -> Result<(), Fail> {
+    let alloc = rt.alloc();
+    let mut declared = Declared::new(alloc);
+    declared.add("1")?;
+    let needle = Needle {
+        bed: Bed::Front,
+        at: 1,
+    };
+    let mut reads = Reads::new(alloc);
+    reads.push(Read::Instr(Instr::CarryIn(first_carrier(alloc)?)))?;
+    reads.push(Read::Instr(Instr::Tuck(Dir::Left, needle, first_carrier(alloc)?)))?;
+    let facts = facts_plain(alloc, &MACHINE, &declared, &reads, 3)?;
+    assert_eq!(rt; facts.len(), 1);
+    let none = fact_plain(alloc, &MACHINE, &declared, &reads, 3, 3)?;
+    assert!(rt; none.is_none());
+    let fact = fact_plain(alloc, &MACHINE, &declared, &reads, 3, 4)?;
+    assert_eq!(rt; fact.map(|f| f.needle), Some(needle));
+    let Verdict::Sound(end) = run_plain(alloc, &MACHINE, &declared, &reads, 3)? else {
+        assert!(rt; false);
+        return Ok(());
+    };
+    assert_eq!(rt; end.made, 1);
+    Ok(())
+}
