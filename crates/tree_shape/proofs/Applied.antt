@@ -1,18 +1,17 @@
 -- The arena after a change stands for the tree after the change.
-use Rattle.std.proofs.Common.{◌≡◌, ◌≢◌, ℕ, zero, suc, ◌+◌, ◌-◌, ◌^◌, ◌<◌, ◌≤◌, max, Bool, true, false, eqb, cond, List, [], ◌∷◌, ◌++◌, length, Option, Some, None, refl, sym, ◌∙◌, ap, subst, arith, append_assoc, append-nil, length-append, ◌⊎◌, inl, inr}
+use Rattle.std.proofs.Common.{◌≡◌, ◌≢◌, ℕ, zero, suc, ◌+◌, ◌^◌, ◌<◌, ◌≤◌, Bool, cond, List, [], ◌∷◌, ◌++◌, length, Some, refl, sym, ◌∙◌, ap, arith, ◌⊎◌, inl, inr}
 use Rattle.std.specs.Prelude.{slice_set}
 use Rattle.std.specs.List.{slice_get}
 use Rattle.std.proofs.lemmas.Bool.Decides.{eqb_tells}
 use Rattle.std.proofs.Math.ListN.{length-set}
 use Rattle.std.proofs.lemmas.Option.{slice_get_within}
 use Rattle.tree_shape.specs.declared.node.Child.{Child}
-use Rattle.tree_shape.specs.declared.node.Child.TheVariants.{Leaf, Inner}
 use Rattle.tree_shape.specs.declared.node.Side.{Side}
 use Rattle.tree_shape.specs.declared.node.Side.TheVariants.{Left, Right}
 use Rattle.tree_shape.specs.declared.dirty.DirtyRow.{DirtyRow}
 use Rattle.tree_shape.specs.declared.node.Node.{Node}
-use Rattle.tree_shape.specs.Tree.{Tree, leaf, inner, name, height, count, row_of, Stands, stored_height, height_in}
-use Rattle.tree_shape.specs.Plan.{Plan, kept, made, inner_on, erase, dirty_row, rows, below}
+use Rattle.tree_shape.specs.Tree.{Tree, leaf, inner, name, height, count, row_of, Stands}
+use Rattle.tree_shape.specs.Plan.{Plan, kept, made, inner_on, erase, dirty_row, rows}
 use Rattle.tree_shape.specs.Apply.{leaves_in, stored_leaves, node_from, written, applied, IsIn, FitsRow, FitRows, mark, times, times_made, KeptStands}
 use Rattle.tree_shape.proofs.Standing.{stored}
 

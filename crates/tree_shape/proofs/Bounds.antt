@@ -1,13 +1,10 @@
 -- How high an insertion makes a tree, and how many rows it lists.
-use Rattle.std.proofs.Common.{◌≡◌, ℕ, ◌+◌, ◌-◌, ◌<◌, ◌≤◌, max, Bool, true, false, nat_le, cond, List, [], ◌∷◌, ◌++◌, length, refl, sym, ◌∙◌, ap, subst, arith, append_assoc, append-nil, length-append, ◌⊎◌, inl, inr}
-use Rattle.std.proofs.lemmas.Bool.{le-leb, lt-leb, leb-true, leb-false}
-use Rattle.tree_shape.specs.declared.node.Child.{Child}
-use Rattle.tree_shape.specs.declared.node.Child.TheVariants.{Leaf, Inner}
+use Rattle.std.proofs.Common.{◌≡◌, ℕ, ◌+◌, ◌-◌, ◌<◌, ◌≤◌, max, Bool, true, false, nat_le, cond, [], ◌∷◌, ◌++◌, length, refl, arith, append-nil, length-append}
+use Rattle.std.proofs.lemmas.Bool.{leb-false}
 use Rattle.tree_shape.specs.declared.node.Side.{Side}
 use Rattle.tree_shape.specs.declared.node.Side.TheVariants.{Left, Right}
-use Rattle.tree_shape.specs.declared.dirty.DirtyRow.{DirtyRow}
 use Rattle.tree_shape.specs.Tree.{Tree, leaf, inner, name, height, count}
-use Rattle.tree_shape.specs.Plan.{Plan, kept, made, inner_on, erase, dirty_row, child_on, rows, below, same_side, other, turned, turned_once, turned_twice, turned_through, turned_plan, leaned, over, grown}
+use Rattle.tree_shape.specs.Plan.{Plan, kept, made, erase, dirty_row, rows, below, same_side, other, turned_plan, leaned, over, grown}
 use Rattle.tree_shape.proofs.Turning.{height_inner_on}
 
 -- what holds of both choices

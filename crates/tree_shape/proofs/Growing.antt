@@ -1,22 +1,20 @@
 -- What an insertion makes of a tree: its numbers, its leaves, and its balance.
-use Rattle.std.proofs.Common.{◌≡◌, ℕ, zero, suc, ◌+◌, ◌-◌, ◌<◌, ◌≤◌, max, Bool, true, false, nat_le, cond, List, [], ◌∷◌, ◌++◌, length, take, drop, refl, sym, ◌∙◌, ap, subst, arith, append_assoc, append-nil, length-append, ◌⊎◌, inl, inr}
-use Rattle.std.proofs.lemmas.Bool.{le-leb, lt-leb, leb-true, leb-false}
+use Rattle.std.proofs.Common.{◌≡◌, ℕ, zero, suc, ◌+◌, ◌-◌, ◌<◌, ◌≤◌, max, nat_le, cond, List, [], ◌∷◌, ◌++◌, length, take, drop, refl, sym, ◌∙◌, ap, subst, arith, append_assoc, inl, inr}
+use Rattle.std.proofs.lemmas.Bool.{leb-true, leb-false}
 use Rattle.std.proofs.Math.Seq.{take-append-add, drop-append-add}
 use Rattle.std.proofs.lemmas.Bool.Decides.{leb_tells}
 use Rattle.std.proofs.lemmas.Grind.{common_steps}
-use Rattle.tree_shape.specs.declared.node.Child.{Child}
-use Rattle.tree_shape.specs.declared.node.Child.TheVariants.{Leaf, Inner}
 use Rattle.tree_shape.specs.declared.node.Side.{Side}
 use Rattle.tree_shape.specs.declared.node.Side.TheVariants.{Left, Right}
 use Rattle.tree_shape.specs.declared.node.Node.{Node}
-use Rattle.tree_shape.specs.Tree.{Tree, leaf, inner, name, height, count, leaves, IsBalanced, Stands}
-use Rattle.tree_shape.specs.Plan.{Plan, kept, made, inner_on, erase, same_side, other, turned, turned_once, turned_twice, turned_through, turned_plan, leaned, over, grown}
-use Rattle.tree_shape.specs.Apply.{mark, times, times_made, KeptBy, KeptStands}
+use Rattle.tree_shape.specs.Tree.{Tree, leaf, inner, height, count, leaves, IsBalanced, Stands}
+use Rattle.tree_shape.specs.Plan.{Plan, kept, made, inner_on, erase, same_side, other, turned_plan, leaned, over, grown}
+use Rattle.tree_shape.specs.Apply.{mark, times, KeptBy, KeptStands}
 use Rattle.tree_shape.specs.Fewest.{inserted}
 use Rattle.tree_shape.proofs.Standing.{length_leaves}
 use Rattle.tree_shape.proofs.Turning.{height_inner_on}
 use Rattle.tree_shape.proofs.Bounds.{both_ways, both_ways_by, plan_height}
-use Rattle.tree_shape.proofs.Applied.{times_inner_on, made_within, IsApplicable}
+use Rattle.tree_shape.proofs.Applied.{times_inner_on}
 
 -- Numbers.
 

@@ -1,5 +1,5 @@
 -- A balanced tree of few leaves is low.
-use Rattle.std.proofs.Common.{◌≡◌, ℕ, zero, suc, ◌+◌, ◌-◌, ◌<◌, ◌≤◌, max, refl, sym, ◌∙◌, ap, arith, zero-add, suc-add, ◌⊎◌, inl, inr}
+use Rattle.std.proofs.Common.{◌≡◌, ℕ, zero, suc, ◌+◌, ◌-◌, ◌≤◌, max, ap, arith, zero-add, suc-add, inl, inr}
 use Rattle.std.proofs.lemmas.Bool.Decides.{leb_tells}
 use Rattle.tree_shape.specs.Tree.{Tree, leaf, inner, height, count, IsBalanced}
 use Rattle.tree_shape.specs.Fewest.{fewest}

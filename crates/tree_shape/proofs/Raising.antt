@@ -1,16 +1,15 @@
 -- The other part of a node, opened on the side of the part that a removal changed.
-use Rattle.std.proofs.Common.{◌≡◌, ℕ, ◌+◌, ◌<◌, ◌≤◌, max, List, Some, sym, ◌∙◌, ap, refl, arith}
+use Rattle.std.proofs.Common.{◌≡◌, ℕ, ◌+◌, ◌<◌, ◌≤◌, List, Some, ap, refl, arith}
 use Rattle.std.specs.List.{slice_get}
 use Rattle.std.proofs.lemmas.Bool.{le-leb, lt-leb}
 use Rattle.tree_shape.specs.Plan.{Plan, erase, over}
-use Rattle.tree_shape.specs.declared.node.Child.{Child}
 use Rattle.tree_shape.specs.declared.node.Child.TheVariants.{Leaf, Inner}
 use Rattle.tree_shape.specs.declared.node.Side.{Side}
 use Rattle.tree_shape.specs.declared.node.Side.TheVariants.{Left, Right}
 use Rattle.tree_shape.specs.declared.node.Node.{Node}
-use Rattle.tree_shape.specs.Tree.{Tree, leaf, inner, name, height, row_of, Stands}
+use Rattle.tree_shape.specs.Tree.{Tree, leaf, inner, name, height, Stands}
 use Rattle.tree_shape.specs.Removal.{beside, outer, beside_child, outer_child, raised_by, raised_once, raised_twice, raised, sunk}
-use Rattle.tree_shape.proofs.Standing.{Opened, opened}
+use Rattle.tree_shape.proofs.Standing.{opened}
 
 pub record OpenedOn (rows : List Node) (side : Side) (n : ℕ) (t : Tree) (node : Node) : Type 0 where
   pub left : Tree

@@ -1,11 +1,11 @@
 -- The tree that is read off an arena, and a sound root after an insertion.
-use Rattle.std.proofs.Common.{◌≡◌, ◌≢◌, ℕ, zero, suc, ◌+◌, ◌-◌, ◌^◌, ◌<◌, ◌≤◌, max, Bool, true, false, eqb, cond, List, [], ◌∷◌, ◌++◌, length, Option, Some, None, refl, sym, ◌∙◌, ap, subst, arith, append_assoc, append-nil, length-append, ◌⊎◌, inl, inr}
+use Rattle.std.proofs.Common.{◌≡◌, ℕ, zero, suc, ◌+◌, ◌<◌, ◌≤◌, List, [], ◌∷◌, ◌++◌, length, Option, Some, None, refl, sym, ◌∙◌, ap, subst, arith, ◌⊎◌, inl, inr}
 use Rattle.std.specs.Option.{option_map}
 use Rattle.std.specs.List.{slice_get}
 use Rattle.std.proofs.lemmas.Option.{slice_get_within}
 use Rattle.std.proofs.lemmas.Grind.{common_steps}
 use Rattle.tree_shape.specs.declared.node.Child.{Child}
-use Rattle.tree_shape.specs.declared.node.Child.TheVariants.{Leaf, Inner}
+use Rattle.tree_shape.specs.declared.node.Child.TheVariants.{Leaf}
 use Rattle.tree_shape.specs.declared.node.Node.{Node}
 use Rattle.tree_shape.specs.Tree.{Tree, leaf, inner, name, height, count, leaves, row_of, Stands, stored_height, IsBalanced}
 use Rattle.tree_shape.specs.Plan.{Plan, grown, erase, rows}
@@ -13,10 +13,10 @@ use Rattle.tree_shape.specs.Apply.{mark, times, times_made, applied, FitRows}
 use Rattle.tree_shape.specs.View.{unfolded, tree_at, IsSound, IsRoot, count_of, leaves_of_tree, tree_with}
 use Rattle.tree_shape.specs.Fewest.{inserted, removed}
 use Rattle.tree_shape.specs.Removal.{shrunk, gone}
-use Rattle.tree_shape.proofs.Shrinking.{told_shrunk, kept_shrunk, leaves_shrunk, low_shrunk, Lower, as_high, one_lower, IsLow, IsInner}
+use Rattle.tree_shape.proofs.Shrinking.{told_shrunk, kept_shrunk, leaves_shrunk, low_shrunk, Lower, as_high, one_lower, IsInner}
 use Rattle.tree_shape.proofs.Standing.{stored, length_leaves}
-use Rattle.tree_shape.proofs.Applied.{IsApplicable, stands_applied, frame, one, one_same, fit_rows, length_applied, made_within}
-use Rattle.tree_shape.proofs.Growing.{times_grown, kept_grown, leaves_grown, well_grown, IsWell}
+use Rattle.tree_shape.proofs.Applied.{IsApplicable, stands_applied, one, fit_rows, made_within}
+use Rattle.tree_shape.proofs.Growing.{times_grown, kept_grown, leaves_grown, well_grown}
 use Rattle.tree_shape.proofs.Bounds.{grown_high}
 use Rattle.tree_shape.proofs.Heights.{at_most_22}
 

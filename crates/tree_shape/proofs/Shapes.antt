@@ -1,5 +1,5 @@
 -- A shape after one change: its root, and the numbers of its leaves and inner nodes.
-use Rattle.std.proofs.Common.{◌≡◌, ◌≢◌, ℕ, zero, suc, ◌+◌, ◌-◌, ◌<◌, ◌≤◌, max, List, [], ◌∷◌, ◌++◌, length, take, drop, Option, Some, None, refl, sym, ◌∙◌, ap, subst, arith, append_assoc, append-nil, length-append, ◌⊎◌, inl, inr, add-one}
+use Rattle.std.proofs.Common.{◌≡◌, ℕ, zero, suc, ◌+◌, ◌<◌, ◌≤◌, List, [], ◌∷◌, ◌++◌, length, take, drop, Option, Some, None, refl, sym, ◌∙◌, ap, subst, arith, length-append, inl, inr, add-one}
 use Rattle.std.specs.Prelude.{slice_index}
 use Rattle.std.specs.Option.{option_map}
 use Rattle.std.proofs.Common.{Bool, true, false, ◌&&◌, nat_lt}
@@ -7,9 +7,9 @@ use Rattle.std.proofs.lemmas.Bool.{ltb-true}
 use Rattle.tree_shape.specs.declared.node.Child.{Child}
 use Rattle.tree_shape.specs.declared.node.Child.TheVariants.{Leaf, Inner}
 use Rattle.tree_shape.specs.declared.node.Node.{Node}
-use Rattle.tree_shape.specs.Tree.{Tree, leaf, inner, name, height, count, leaves, inners, IsBalanced, Stands}
+use Rattle.tree_shape.specs.Tree.{Tree, leaf, inner, name, count, leaves, inners, IsBalanced, Stands}
 use Rattle.tree_shape.specs.Changes.{IsPart, IsPartOf, numbers_below}
-use Rattle.tree_shape.specs.Plan.{Plan, grown, erase, rows}
+use Rattle.tree_shape.specs.Plan.{grown, erase}
 use Rattle.tree_shape.specs.Apply.{mark, times}
 use Rattle.tree_shape.specs.Removal.{shrunk, gone}
 use Rattle.tree_shape.specs.Fewest.{inserted, removed}
@@ -18,8 +18,8 @@ use Rattle.tree_shape.specs.View.{ShapeView, tree_at, count_of, leaves_of_tree, 
 use Rattle.tree_shape.proofs.Standing.{length_leaves}
 use Rattle.tree_shape.proofs.Growing.{times_grown, leaves_grown}
 use Rattle.tree_shape.proofs.Shrinking.{leaves_shrunk, IsInner}
-use Rattle.tree_shape.proofs.Reading.{sound_read, tree_at_is, length_inserted, length_removed, count_grown, count_shrunk, shrunk_times, sound_leaf}
-use Rattle.tree_shape.proofs.Counting.{times_in-append, counted_taken, counted_back, counted_none, fresh, comes, Comes, drawn_new, free_again}
+use Rattle.tree_shape.proofs.Reading.{sound_read, count_grown, count_shrunk, shrunk_times, sound_leaf}
+use Rattle.tree_shape.proofs.Counting.{times_in-append, counted_taken, counted_back, counted_none, fresh, comes, drawn_new, free_again}
 
 pub times_inners : (k : ℕ) (t : Tree) → times_in k (inners t) ≡ times k t
 times_inners k (leaf n) = refl

@@ -1,5 +1,5 @@
 -- What a removal makes of a tree: its numbers, its leaves, its rows and its balance.
-use Rattle.std.proofs.Common.{◌≡◌, ℕ, zero, suc, ◌+◌, ◌-◌, ◌*◌, ◌<◌, ◌≤◌, max, Bool, true, false, nat_le, nat_lt, cond, List, [], ◌∷◌, ◌++◌, length, take, drop, refl, sym, ◌∙◌, ap, subst, arith, append_assoc, append-nil, length-append, ◌⊎◌, inl, inr}
+use Rattle.std.proofs.Common.{◌≡◌, ℕ, zero, suc, ◌+◌, ◌-◌, ◌*◌, ◌<◌, ◌≤◌, max, Bool, true, false, nat_le, nat_lt, cond, List, ◌++◌, length, take, drop, refl, sym, ◌∙◌, ap, subst, arith, append_assoc, append-nil, length-append, inl, inr}
 use Rattle.std.proofs.lemmas.Bool.{leb-true, leb-false, ltb-true, ltb-false}
 use Rattle.std.proofs.lemmas.Bool.Decides.{leb_tells}
 use Rattle.std.proofs.lemmas.Grind.{common_steps}
@@ -7,16 +7,16 @@ use Rattle.std.proofs.Math.Seq.{take-append-add, drop-append-add}
 use Rattle.tree_shape.specs.declared.node.Side.{Side}
 use Rattle.tree_shape.specs.declared.node.Side.TheVariants.{Left, Right}
 use Rattle.tree_shape.specs.declared.node.Node.{Node}
-use Rattle.tree_shape.specs.Tree.{Tree, leaf, inner, name, height, count, leaves, IsBalanced, Stands}
-use Rattle.tree_shape.specs.Plan.{Plan, kept, made, inner_on, erase, rows, dirty_row, over}
-use Rattle.tree_shape.specs.Apply.{mark, times, times_made, KeptBy, KeptStands}
-use Rattle.tree_shape.specs.Removal.{beside, outer, raised_once, raised_twice, raised_by, raised, sunk, without, shrunk, gone_in, gone}
+use Rattle.tree_shape.specs.Tree.{Tree, leaf, inner, height, count, leaves, IsBalanced, Stands}
+use Rattle.tree_shape.specs.Plan.{Plan, kept, made, erase, rows, over}
+use Rattle.tree_shape.specs.Apply.{mark, times, KeptBy, KeptStands}
+use Rattle.tree_shape.specs.Removal.{beside, outer, raised_once, raised_twice, raised, sunk, without, shrunk, gone_in, gone}
 use Rattle.tree_shape.specs.Fewest.{removed}
 use Rattle.tree_shape.proofs.Standing.{length_leaves}
 use Rattle.tree_shape.proofs.Turning.{height_inner_on}
 use Rattle.tree_shape.proofs.Bounds.{both_ways, both_ways_by, plan_height}
 use Rattle.tree_shape.proofs.Applied.{times_inner_on}
-use Rattle.tree_shape.proofs.Growing.{joined, leaves_on, balanced_on, parts_of, GoesDown, standing_goes_down}
+use Rattle.tree_shape.proofs.Growing.{joined, leaves_on, balanced_on, GoesDown, standing_goes_down}
 
 high : (side : Side) (n : ℕ) (a b : Plan) → plan_height (made side n a b) ≡ 1 + max (plan_height a) (plan_height b)
 high side n a b = height_inner_on side n (erase a) (erase b)

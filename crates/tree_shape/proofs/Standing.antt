@@ -1,10 +1,10 @@
 -- What follows from a tree that an arena stands for.
-use Rattle.std.proofs.Common.{◌≡◌, ℕ, ◌+◌, ◌<◌, ◌≤◌, ◌-◌, max, List, [], ◌∷◌, ◌++◌, length, Option, Some, None, refl, sym, ◌∙◌, ap, subst, arith, length-append, get_or}
+use Rattle.std.proofs.Common.{◌≡◌, ℕ, List, length, Some, refl, sym, ◌∙◌, ap, arith, length-append}
 use Rattle.std.specs.List.{slice_get}
 use Rattle.tree_shape.specs.declared.node.Child.{Child}
-use Rattle.tree_shape.specs.declared.node.Child.TheVariants.{Leaf, Inner}
+use Rattle.tree_shape.specs.declared.node.Child.TheVariants.{Inner}
 use Rattle.tree_shape.specs.declared.node.Node.{Node}
-use Rattle.tree_shape.specs.Tree.{Tree, leaf, inner, name, height, count, leaves, inners, row_of, Stands, IsTreeAt, HasLeafAt, stored_height, height_in}
+use Rattle.tree_shape.specs.Tree.{Tree, leaf, inner, name, height, count, leaves, row_of, Stands, stored_height, height_in}
 
 -- a tree whose root is an inner node, opened
 pub record Opened (rows : List Node) (n : ℕ) (t : Tree) (node : Node) : Type 0 where

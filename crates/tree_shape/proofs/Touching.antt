@@ -1,8 +1,7 @@
 -- The nodes above a leaf.
-use Rattle.std.proofs.Common.{◌≡◌, ℕ, ◌+◌, ◌-◌, ◌<◌, ◌≤◌, max, Bool, true, false, nat_lt, cond, List, [], ◌∷◌, ◌++◌, length, refl, sym, ◌∙◌, ap, arith, length-append, append-nil}
-use Rattle.tree_shape.specs.declared.node.Side.TheVariants.{Left, Right}
-use Rattle.tree_shape.specs.Tree.{Tree, leaf, inner, name, height, count}
-use Rattle.tree_shape.specs.Plan.{Plan, kept, made, erase, rows}
+use Rattle.std.proofs.Common.{◌≡◌, ℕ, ◌-◌, ◌≤◌, nat_lt, length, refl, ap, arith, length-append, append-nil}
+use Rattle.tree_shape.specs.Tree.{Tree, leaf, inner, height, count}
+use Rattle.tree_shape.specs.Plan.{erase, rows}
 use Rattle.tree_shape.specs.Removal.{touched}
 use Rattle.tree_shape.proofs.Bounds.{both_ways}
 

@@ -1,18 +1,17 @@
 -- What the root of a plan says of the plan, and what a double turn makes of it.
-use Rattle.std.proofs.Common.{◌≡◌, ℕ, ◌+◌, ◌-◌, ◌<◌, ◌≤◌, max, Bool, true, false, nat_le, cond, List, [], ◌∷◌, ◌++◌, length, refl, sym, ◌∙◌, ap, subst, arith, append_assoc, append-nil, length-append, ◌⊎◌, inl, inr}
-use Rattle.std.proofs.lemmas.Bool.{le-leb, lt-leb}
+use Rattle.std.proofs.Common.{◌≡◌, ℕ, ◌+◌, ◌≤◌, max, Bool, true, false, nat_le, cond, List, [], ◌∷◌, ◌++◌, refl, sym, ◌∙◌, ap, arith, append_assoc, append-nil, ◌⊎◌, inl, inr}
+use Rattle.std.proofs.lemmas.Bool.{le-leb}
 use Rattle.std.proofs.lemmas.List.{same_from_push}
-use Rattle.std.proofs.lemmas.Grind.{common_steps}
 use Rattle.tree_shape.specs.declared.node.Child.{Child}
-use Rattle.tree_shape.specs.declared.node.Child.TheVariants.{Leaf, Inner}
+use Rattle.tree_shape.specs.declared.node.Child.TheVariants.{Inner}
 use Rattle.tree_shape.specs.declared.node.Side.{Side}
 use Rattle.tree_shape.specs.declared.node.Side.TheVariants.{Left, Right}
 use Rattle.tree_shape.specs.declared.insertion.Way.{Way}
 use Rattle.tree_shape.specs.declared.insertion.Way.TheVariants.{Turned, Once, Twice}
 use Rattle.tree_shape.specs.declared.dirty.DirtyRow.{DirtyRow}
 use Rattle.tree_shape.specs.declared.insertion.Grown.{Grown}
-use Rattle.tree_shape.specs.Tree.{Tree, leaf, inner, name, height, count}
-use Rattle.tree_shape.specs.Plan.{Plan, kept, made, inner_on, erase, dirty_row, child_on, rows, below, same_side, other, turned, turned_once, turned_twice, turned_plan, leaned, over, way_of, way_through, IsPending, IsLeaning, FitsLean, IsTwice}
+use Rattle.tree_shape.specs.Tree.{Tree, name, height}
+use Rattle.tree_shape.specs.Plan.{Plan, kept, made, inner_on, erase, dirty_row, child_on, rows, below, same_side, other, turned, turned_plan, leaned, over, way_through, IsPending, IsLeaning}
 
 pub name_inner_on : (side : Side) (n : ℕ) (a b : Tree) → name (inner_on side n a b) ≡ Inner n
 name_inner_on Left n a b = refl

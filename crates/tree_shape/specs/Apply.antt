@@ -1,11 +1,11 @@
 -- What the rows of a change make of the arena.
-use Rattle.std.specs.Prelude.{◌≡◌, ℕ, ◌+◌, ◌-◌, ◌^◌, ◌<◌, ◌≤◌, max, eqb, cond, List, [], ◌∷◌, ◌++◌, length, Option, Some, None, slice_set}
+use Rattle.std.specs.Prelude.{ℕ, ◌+◌, ◌^◌, ◌<◌, max, eqb, cond, List, [], ◌∷◌, length, Option, Some, None, slice_set}
 use Rattle.std.specs.List.{slice_get}
 use Rattle.tree_shape.specs.declared.node.Child.{Child}
 use Rattle.tree_shape.specs.declared.node.Child.TheVariants.{Leaf, Inner}
 use Rattle.tree_shape.specs.declared.dirty.DirtyRow.{DirtyRow}
 use Rattle.tree_shape.specs.declared.node.Node.{Node}
-use Rattle.tree_shape.specs.Tree.{Tree, leaf, inner, name, height, count, Stands, stored_height}
+use Rattle.tree_shape.specs.Tree.{Tree, leaf, inner, Stands, stored_height}
 use Rattle.tree_shape.specs.Plan.{Plan, kept, made}
 
 abbrev pub leaves_in : Option Node → ℕ

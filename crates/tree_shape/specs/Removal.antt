@@ -1,5 +1,5 @@
 -- The tree without the leaf at a position.
-use Rattle.std.specs.Prelude.{◌≡◌, ◌<◌, ◌≤◌, ◌*◌, length, ℕ, ◌+◌, ◌-◌, Bool, nat_le, nat_lt, cond, List, [], ◌∷◌, ◌++◌, take, drop}
+use Rattle.std.specs.Prelude.{◌≡◌, ◌<◌, ◌≤◌, ◌*◌, length, ℕ, ◌+◌, ◌-◌, nat_le, nat_lt, cond, List, ◌++◌}
 use Rattle.tree_shape.specs.declared.node.Side.{Side}
 use Rattle.tree_shape.specs.declared.node.Side.TheVariants.{Left, Right}
 use Rattle.tree_shape.specs.declared.node.Child.{Child}

@@ -1,5 +1,5 @@
 -- What contracts see of a shape.
-use Rattle.std.specs.Prelude.{◌≡◌, ℕ, zero, suc, ◌+◌, ◌<◌, ◌≤◌, Bool, List, [], ◌∷◌, ◌++◌, length, Option, Some, None, refl}
+use Rattle.std.specs.Prelude.{◌≡◌, ℕ, zero, suc, ◌<◌, ◌≤◌, Bool, List, [], ◌∷◌, ◌++◌, Option, Some, None, refl}
 use Rattle.std.specs.Option.{option_map}
 use Rattle.std.specs.List.{slice_get}
 use Rattle.std.specs.Coded.{Coded, code_by, coded×, coded_ℕ, coded_list, coded_option, coded_bool}
@@ -10,7 +10,7 @@ use Rattle.tree_shape.specs.declared.node.Child.TheVariants.{Leaf, Inner}
 use Rattle.tree_shape.specs.declared.node.Node.{Node}
 use Rattle.tree_shape.specs.declared.dirty.DirtyRow.{DirtyRow}
 use Rattle.tree_shape.specs.Tree.{Tree, leaf, inner, name, height, count, leaves, inners, IsBalanced, Stands, stored_height}
-use Rattle.tree_shape.specs.Plan.{Plan, grown, erase, rows}
+use Rattle.tree_shape.specs.Plan.{grown, erase, rows}
 use Rattle.tree_shape.specs.Removal.{shrunk, gone, touched}
 use Rattle.tree_shape.specs.Numbers.{NumbersView, taken, given_back, IsCounted}
 use Rattle.tree_shape.specs.Apply.{times}

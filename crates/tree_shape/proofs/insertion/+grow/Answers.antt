@@ -1,16 +1,13 @@
-use Rattle.std.proofs.Common.{◌≡◌, ℕ, ◌+◌, ◌-◌, ◌<◌, ◌≤◌, max, nat_le, List, [], ◌∷◌, ◌++◌, length, length-append, arith, sym, ◌∙◌, ap, subst, cond, false}
-use Rattle.std.proofs.lemmas.Bool.{le-leb, lt-leb}
-use Rattle.tree_shape.specs.declared.node.Child.{Child}
-use Rattle.tree_shape.specs.declared.node.Child.TheVariants.{Leaf, Inner}
-use Rattle.tree_shape.specs.declared.node.Side.TheVariants.{Left, Right}
+use Rattle.std.proofs.Common.{◌≡◌, ℕ, ◌+◌, ◌-◌, ◌<◌, nat_le, List, ◌++◌, length, length-append, arith, sym, ◌∙◌, ap, false}
+use Rattle.std.proofs.lemmas.Bool.{lt-leb}
 use Rattle.tree_shape.specs.declared.node.Node.{Node}
 use Rattle.tree_shape.specs.declared.insertion.Grown.{Grown}
 use Rattle.tree_shape.specs.declared.dirty.DirtyRow.{DirtyRow}
-use Rattle.tree_shape.specs.Tree.{Tree, inner, name, height, count, Stands, row_of}
-use Rattle.tree_shape.specs.Plan.{Plan, leaned, grown, below, erase, IsPending, IsLeaning, FitsLean}
-use Rattle.tree_shape.proofs.Standing.{Opened, opened}
+use Rattle.tree_shape.specs.Tree.{Tree, name, height, count, row_of}
+use Rattle.tree_shape.specs.Plan.{grown, below, IsPending, FitsLean}
+use Rattle.tree_shape.proofs.Standing.{opened}
 use Rattle.tree_shape.proofs.Turning.{height_pending}
-use Rattle.tree_shape.proofs.Bounds.{grown_high, grown_listed, listed, plan_height}
+use Rattle.tree_shape.proofs.Bounds.{grown_high, grown_listed}
 use Rattle.tree_shape.proofs.insertion.+grow.Goals as goal
 
 left_is : {node : Node} (l r : Tree) → node ≡ row_of l r → node.left ≡ name l

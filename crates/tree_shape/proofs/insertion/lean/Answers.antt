@@ -1,11 +1,10 @@
-use Rattle.std.proofs.Common.{◌≡◌, ◌+◌, ◌<◌, ◌≤◌, max, ◌⊎◌, inl, inr, sym, ◌∙◌, ap, subst, arith, cond, true, false, nat_le, ℕ}
+use Rattle.std.proofs.Common.{◌≡◌, ◌+◌, ◌≤◌, ◌⊎◌, inl, inr, sym, ◌∙◌, arith, false, nat_le, ℕ}
 use Rattle.std.proofs.lemmas.Bool.{lt-leb}
-use Rattle.tree_shape.specs.Tree.{Tree, height}
-use Rattle.tree_shape.specs.Plan.{Plan, erase, leaned, IsLeaning, way_through}
+use Rattle.tree_shape.specs.Tree.{height}
+use Rattle.tree_shape.specs.Plan.{erase, way_through}
 use Rattle.tree_shape.specs.declared.node.Side.{Side}
-use Rattle.tree_shape.specs.declared.insertion.Way.{Way}
-use Rattle.tree_shape.specs.declared.insertion.Way.TheVariants.{Turned, Once, Twice}
-use Rattle.tree_shape.proofs.Turning.{height_pending, leaned_turned, leaned_is_over, way_over, way_over_turned, set_over, Leaves}
+use Rattle.tree_shape.specs.declared.insertion.Way.TheVariants.{Twice}
+use Rattle.tree_shape.proofs.Turning.{height_pending, leaned_turned, leaned_is_over, way_over, way_over_turned, set_over}
 use Rattle.tree_shape.proofs.insertion.lean.Goals as goal
 use Rattle.tree_shape.proofs.insertion.lean.Goals.{in-Twice+else-above-far_height, in_default, in-Turned, in_default-way}
 

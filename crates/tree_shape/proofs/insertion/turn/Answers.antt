@@ -1,5 +1,4 @@
-use Rattle.std.proofs.Common.{◌≡◌, sym, ◌∙◌, ap, subst, arith}
-use Rattle.std.proofs.lemmas.Grind.{common_steps}
+use Rattle.std.proofs.Common.{sym, ◌∙◌, ap}
 use Rattle.tree_shape.specs.Plan.{child_on}
 use Rattle.tree_shape.proofs.Turning.{two_steps, own_turn, other_turn}
 use Rattle.tree_shape.proofs.insertion.turn.Goals as goal

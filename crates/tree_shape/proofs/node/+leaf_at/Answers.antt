@@ -1,11 +1,11 @@
-use Rattle.std.proofs.Common.{rules, ◌≡◌, ℕ, ◌+◌, ◌<◌, ◌≤◌, length, get_or, ◌-◌, List, ◌∷◌, ◌++◌, arith, sym, ◌∙◌, ap, subst, Some, max}
+use Rattle.std.proofs.Common.{◌≡◌, ℕ, ◌<◌, ◌≤◌, ◌-◌, List, arith, sym, ◌∙◌, ap, Some}
 use Rattle.std.proofs.lemmas.Grind.{common_steps}
 use Rattle.std.specs.List.{slice_get}
 use Rattle.tree_shape.specs.declared.node.Child.{Child}
-use Rattle.tree_shape.specs.declared.node.Child.TheVariants.{Leaf, Inner}
+use Rattle.tree_shape.specs.declared.node.Child.TheVariants.{Inner}
 use Rattle.tree_shape.specs.declared.node.Node.{Node}
-use Rattle.tree_shape.specs.Tree.{Tree, leaf, inner, name, height, count, leaves, inners, Stands, IsTreeAt, HasLeafAt, stored_height, row_of}
-use Rattle.tree_shape.proofs.Standing.{Opened, opened, stored, length_leaves}
+use Rattle.tree_shape.specs.Tree.{Tree, name, height, count, Stands, HasLeafAt, stored_height}
+use Rattle.tree_shape.proofs.Standing.{opened, stored, length_leaves}
 use Rattle.tree_shape.proofs.node.+leaf_at.Goals as goal
 
 pub leaves_of-before-requires : goal.leaves_of-before-requires

@@ -1,15 +1,14 @@
-use Rattle.std.proofs.Common.{◌≡◌, ℕ, ◌+◌, ◌-◌, ◌*◌, ◌<◌, ◌≤◌, List, ◌++◌, arith, sym, ◌∙◌, ap, subst, refl, length, length-append, cond, false, nat_lt}
+use Rattle.std.proofs.Common.{◌≡◌, ℕ, ◌+◌, ◌-◌, ◌*◌, ◌<◌, ◌≤◌, List, ◌++◌, arith, sym, ◌∙◌, ap, subst, refl, length, length-append, false, nat_lt}
 use Rattle.std.proofs.lemmas.Bool.{le-ltb}
-use Rattle.tree_shape.specs.declared.node.Child.{Child}
-use Rattle.tree_shape.specs.declared.node.Child.TheVariants.{Leaf, Inner}
-use Rattle.tree_shape.specs.declared.node.Side.TheVariants.{Left, Right}
+use Rattle.tree_shape.specs.declared.node.Child.TheVariants.{Inner}
+use Rattle.tree_shape.specs.declared.node.Side.TheVariants.{Right}
 use Rattle.tree_shape.specs.declared.node.Node.{Node}
 use Rattle.tree_shape.specs.declared.dirty.DirtyRow.{DirtyRow}
-use Rattle.tree_shape.specs.Tree.{Tree, leaf, inner, name, height, count, Stands, IsBalanced}
-use Rattle.tree_shape.specs.Plan.{Plan, erase, rows}
-use Rattle.tree_shape.specs.Removal.{shrunk, HasRemoval, IsSinking, IsPart, sunk, without}
-use Rattle.tree_shape.proofs.Standing.{Opened, opened, stored}
-use Rattle.tree_shape.proofs.Shrinking.{listed_shrunk, low_shrunk, IsLow, Lower, as_high, one_lower}
+use Rattle.tree_shape.specs.Tree.{Tree, leaf, inner, name, height, count, IsBalanced}
+use Rattle.tree_shape.specs.Plan.{Plan, rows}
+use Rattle.tree_shape.specs.Removal.{shrunk, sunk, without}
+use Rattle.tree_shape.proofs.Standing.{opened, stored}
+use Rattle.tree_shape.proofs.Shrinking.{listed_shrunk, low_shrunk, Lower, as_high, one_lower}
 use Rattle.tree_shape.proofs.Bounds.{plan_height}
 use Rattle.tree_shape.proofs.removal.+shrink.Goals as goal
 

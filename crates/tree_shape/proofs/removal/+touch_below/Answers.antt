@@ -1,10 +1,10 @@
-use Rattle.std.proofs.Common.{◌≡◌, ℕ, ◌+◌, ◌-◌, ◌*◌, ◌<◌, ◌≤◌, List, ◌++◌, arith, sym, ◌∙◌, ap, length, length-append}
+use Rattle.std.proofs.Common.{◌≡◌, ℕ, ◌+◌, ◌*◌, ◌<◌, ◌≤◌, List, ◌++◌, arith, sym, ◌∙◌, ap, length, length-append}
 use Rattle.tree_shape.specs.declared.node.Node.{Node}
 use Rattle.tree_shape.specs.declared.dirty.DirtyRow.{DirtyRow}
-use Rattle.tree_shape.specs.Tree.{Tree, inner, name, height, count, Stands}
+use Rattle.tree_shape.specs.Tree.{Tree, height, count}
 use Rattle.tree_shape.specs.Plan.{rows}
-use Rattle.tree_shape.specs.Removal.{touched, HasRows}
-use Rattle.tree_shape.proofs.Standing.{Opened, opened, stored}
+use Rattle.tree_shape.specs.Removal.{touched}
+use Rattle.tree_shape.proofs.Standing.{opened, stored}
 use Rattle.tree_shape.proofs.Touching.{rows_most}
 use Rattle.tree_shape.proofs.removal.+touch_below.Goals as goal
 

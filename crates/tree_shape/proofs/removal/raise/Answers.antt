@@ -1,8 +1,6 @@
-use Rattle.std.proofs.Common.{◌≡◌, ℕ, ◌+◌, ◌<◌, ◌≤◌, List, arith, sym, ◌∙◌, ap}
-use Rattle.tree_shape.specs.declared.node.Child.TheVariants.{Leaf, Inner}
-use Rattle.tree_shape.specs.Tree.{Tree, inner, name, height}
-use Rattle.tree_shape.specs.Removal.{raised, raised_by, raised_once, raised_twice, IsSinking, IsRaising, beside, outer}
-use Rattle.tree_shape.proofs.Raising.{OpenedOn, opened_on, once_is, twice_is}
+use Rattle.std.proofs.Common.{arith, sym, ◌∙◌}
+use Rattle.tree_shape.specs.Removal.{beside, outer}
+use Rattle.tree_shape.proofs.Raising.{opened_on, once_is, twice_is}
 use Rattle.tree_shape.proofs.removal.raise.Goals as goal
 
 pub returns-then-b_height-o_height : goal.returns-then-b_height-o_height

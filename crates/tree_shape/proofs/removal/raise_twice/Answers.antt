@@ -1,11 +1,9 @@
-use Rattle.std.proofs.Common.{◌≡◌, ℕ, ◌+◌, max, List, [], ◌∷◌, ◌++◌, arith, sym, ◌∙◌, ap, append_assoc, append-nil}
-use Rattle.tree_shape.specs.declared.node.Child.TheVariants.{Leaf, Inner}
-use Rattle.tree_shape.specs.declared.dirty.DirtyRow.{DirtyRow}
-use Rattle.tree_shape.specs.Tree.{Tree, inner, name, height}
-use Rattle.tree_shape.specs.Plan.{Plan, erase, rows, inner_on, dirty_row}
-use Rattle.tree_shape.specs.Removal.{raised_twice, IsRaising, IsPart, beside, outer}
+use Rattle.std.proofs.Common.{◌≡◌, [], ◌∷◌, ◌++◌, arith, sym, ◌∙◌, append_assoc, append-nil}
+use Rattle.tree_shape.specs.Tree.{name}
+use Rattle.tree_shape.specs.Plan.{erase, rows, inner_on, dirty_row}
+use Rattle.tree_shape.specs.Removal.{beside, outer}
 use Rattle.tree_shape.proofs.Turning.{name_inner_on, height_inner_on}
-use Rattle.tree_shape.proofs.Raising.{OpenedOn, opened_on}
+use Rattle.tree_shape.proofs.Raising.{opened_on}
 use Rattle.tree_shape.proofs.removal.raise_twice.Goals as goal
 
 pub returns : goal.returns

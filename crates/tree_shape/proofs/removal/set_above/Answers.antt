@@ -1,9 +1,6 @@
-use Rattle.std.proofs.Common.{◌≡◌, ℕ, ◌+◌, max, List, [], ◌∷◌, ◌++◌, arith, sym, ◌∙◌, ap, append_assoc, append-nil}
-use Rattle.tree_shape.specs.declared.node.Child.TheVariants.{Leaf, Inner}
-use Rattle.tree_shape.specs.declared.dirty.DirtyRow.{DirtyRow}
-use Rattle.tree_shape.specs.Tree.{Tree, name, height}
-use Rattle.tree_shape.specs.Plan.{Plan, erase, rows, inner_on, dirty_row}
-use Rattle.tree_shape.specs.Removal.{IsSinking}
+use Rattle.std.proofs.Common.{◌≡◌, [], ◌∷◌, ◌++◌, arith, sym, ◌∙◌, append_assoc, append-nil}
+use Rattle.tree_shape.specs.Tree.{name}
+use Rattle.tree_shape.specs.Plan.{erase, rows, dirty_row}
 use Rattle.tree_shape.proofs.Turning.{name_inner_on, height_inner_on}
 use Rattle.tree_shape.proofs.removal.set_above.Goals as goal
 

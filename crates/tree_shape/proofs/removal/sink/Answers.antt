@@ -1,9 +1,6 @@
-use Rattle.std.proofs.Common.{◌≡◌, ℕ, ◌+◌, ◌<◌, ◌≤◌, List, arith, sym, ◌∙◌, ap}
-use Rattle.tree_shape.specs.declared.node.Child.{Child}
-use Rattle.tree_shape.specs.declared.node.Child.TheVariants.{Leaf, Inner}
-use Rattle.tree_shape.specs.Tree.{Tree, inner, name, height}
-use Rattle.tree_shape.specs.Plan.{Plan, erase}
-use Rattle.tree_shape.specs.Removal.{sunk, raised, IsSinking}
+use Rattle.std.proofs.Common.{◌≡◌, ◌+◌, ◌≤◌, arith, sym, ◌∙◌}
+use Rattle.tree_shape.specs.Tree.{height}
+use Rattle.tree_shape.specs.Plan.{erase}
 use Rattle.tree_shape.proofs.Raising.{no_inner, sunk_raised, sunk_over}
 use Rattle.tree_shape.proofs.removal.sink.Goals as goal
 use Rattle.tree_shape.proofs.removal.sink.Goals.{in-Inner+else-far_height-part, in_default}

@@ -1,6 +1,6 @@
 use Rattle.tree_shape.proofs.Reading.{stands_longer}
 use Rattle.tree_shape.specs.Tree.{Stands}
-use Rattle.std.proofs.Common.{◌≡◌, sym, subst}
+use Rattle.std.proofs.Common.{sym, subst}
 use Rattle.tree_shape.proofs.shape.add_row.Goals as goal
 
 pub returns-then-number-as_slice-clause-stands : goal.returns-then-number-as_slice-clause-stands

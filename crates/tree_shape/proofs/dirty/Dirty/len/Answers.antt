@@ -1,4 +1,4 @@
-use Rattle.std.proofs.Common.{◌≡◌, arith, length, take, sym, ◌∙◌, ap}
+use Rattle.std.proofs.Common.{arith, length, sym, ◌∙◌, ap}
 use Rattle.std.proofs.lemmas.List.{length-take-le}
 use Rattle.tree_shape.proofs.dirty.Dirty.len.Goals as goal
 

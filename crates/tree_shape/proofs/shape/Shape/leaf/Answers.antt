@@ -1,7 +1,7 @@
-use Rattle.std.proofs.Common.{◌≡◌, ◌<◌, sym, ◌∙◌, ap, subst, arith, rules, Some}
-use Rattle.tree_shape.specs.View.{ShapeView, count_of, leaves_of_tree}
-use Rattle.tree_shape.specs.Tree.{Stands, Tree}
-use Rattle.tree_shape.proofs.Reading.{rooted, Rooted}
+use Rattle.std.proofs.Common.{◌≡◌, ◌<◌, sym, ◌∙◌, ap, subst, Some}
+use Rattle.tree_shape.specs.View.{ShapeView, count_of}
+use Rattle.tree_shape.specs.Tree.{Stands}
+use Rattle.tree_shape.proofs.Reading.{rooted}
 use Rattle.tree_shape.proofs.shape.Shape.leaf.Goals as goal
 
 pub leaf_at-requires : goal.leaf_at-requires

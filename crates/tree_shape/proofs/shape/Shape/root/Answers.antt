@@ -1,8 +1,7 @@
-use Rattle.std.proofs.Common.{◌≡◌, ◌<◌, ◌≤◌, ℕ, sym, ◌∙◌, ap, subst, refl, arith, rules, Some, None, Option}
+use Rattle.std.proofs.Common.{◌∙◌, ap}
 use Rattle.std.specs.Option.{option_map}
-use Rattle.tree_shape.specs.View.{ShapeView, count_of, leaves_of_tree, height_of_tree, IsLawful}
-use Rattle.tree_shape.specs.Tree.{Stands, Tree, name, height, count, inner, row_of}
-use Rattle.tree_shape.proofs.Reading.{rooted, Rooted}
+use Rattle.tree_shape.specs.View.{ShapeView}
+use Rattle.tree_shape.specs.Tree.{name}
 use Rattle.tree_shape.proofs.Shapes.{root_name}
 use Rattle.tree_shape.proofs.shape.Shape.root.Goals as goal
 
