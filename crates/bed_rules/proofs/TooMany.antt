@@ -6,6 +6,7 @@ use Rattle.knit_base.specs.declared.profile.Profile.{Profile}
 use Rattle.knit_base.specs.declared.rule.Reason.{Reason}
 use Rattle.knit_base.specs.declared.rule.Rule.TheVariants.{TooManyLoops}
 use Rattle.knit_base.specs.declared.yarns.CarrierNo.{CarrierNo}
+use Rattle.knit_base.proofs.Reasons.{or_else-none}
 use Rattle.knit_base.specs.Reasons.{broken_if, or_else}
 use Rattle.carriage_model.specs.Rules.{too_many}
 use Rattle.carriage_model.specs.State.{State}
@@ -14,10 +15,6 @@ use Rattle.face_data.specs.Conditions.{size_of, unless, unmet_size}
 use Rattle.face_data.specs.RuleGroups.{tuck_too_many}
 use Rattle.face_data.proofs.Unmet.{broken-unless}
 use Rattle.bed_rules.specs.Beds.{first_unmet_size}
-
-or_else-end : (o : Option Reason) → or_else o None ≡ o
-or_else-end None = refl
-or_else-end (Some reason) = refl
 
 both_test : (hold loops total : ℕ) → total ≡ loops → nat_lt hold loops ≡ not (nat_le total hold)
 both_test hold loops total is = grind arith
@@ -56,4 +53,4 @@ tuck-unmet profile n (c ∷ cs) t some more = one-unmet profile n t some
 -- of a list with one condition, the first that isn't met is that one, if any
 pub one-asked : (before : List SizeAsk) (ask : SizeAsk) (after : List SizeAsk) (s : State) → before ≡ [] → after ≡ before ++ ask ∷ [] → first_unmet_size after s ≡ unmet_size ask s
 one-asked before ask after s none more =
-    ap (λ asks. first_unmet_size asks s) (more ∙ ap (λ (asks : List SizeAsk). asks ++ ask ∷ []) none) ∙ or_else-end (unmet_size ask s)
+    ap (λ asks. first_unmet_size asks s) (more ∙ ap (λ (asks : List SizeAsk). asks ++ ask ∷ []) none) ∙ or_else-none (unmet_size ask s)

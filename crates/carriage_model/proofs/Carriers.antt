@@ -1,9 +1,9 @@
 -- A run names declared carriers only.
-use Rattle.std.proofs.Common.{◌≡◌, ℕ, ◌+◌, ◌<◌, ◌^◌, List, [], ◌∷◌, All, Option, None, Some, IfSome, Bool, true, false, cond, nat_eq, sym, subst, arith, inl, inr}
-use Rattle.std.specs.Int.{w64, bit_at, bit_not}
+use Rattle.std.proofs.Common.{◌≡◌, ℕ, ◌+◌, ◌<◌, ◌^◌, List, [], ◌∷◌, All, bit_and, Option, None, Some, IfSome, Bool, true, false, cond, nat_eq, sym, subst, arith, inl, inr}
+use Rattle.std.specs.Int.{bit_at}
 use Rattle.std.specs.Option.{option_to_list}
 use Rattle.std.proofs.lemmas.Bool.{eqb-true, cases_lt}
-use Rattle.std.proofs.lemmas.Nat.{or_lt, and_le_l, pow_pos}
+use Rattle.std.proofs.lemmas.Nat.{or_lt, xor_lt, and_le_l, pow_pos}
 use Rattle.std.proofs.lemmas.Nat.Bits.{bit_at_above}
 use Rattle.std.proofs.lemmas.List.Elements.{All-nil, All-cons, All-head, All-tail, All-append}
 use Rattle.std.proofs.Math.Pow.{pow-lt}
@@ -36,7 +36,7 @@ with-below : (d set : ℕ) (cs : List CarrierNo) → set < 2 ^ d → All (λ c. 
 with-below d set cs below all = or_lt d set (mask_of cs) below (mask-below d cs all)
 
 without-below : (d set : ℕ) (cs : List CarrierNo) → set < 2 ^ d → without_carriers set cs < 2 ^ d
-without-below d set cs below = omega (arith, and_le_l set (bit_not w64 (mask_of cs)))
+without-below d set cs below = xor_lt d set (bit_and set (mask_of cs)) below (omega (arith, and_le_l set (mask_of cs)))
 
 -- both sets of the state are of declared carriers
 record Below (d : ℕ) (s : State) : Type 0 where

@@ -38,7 +38,7 @@ impl Machine {
                 Ok(())
             }
             Instr::CarryOut(yarns) | Instr::HookOut(yarns) => {
-                self.ins &= !yarns.mask();
+                self.ins ^= self.ins & yarns.mask();
                 Ok(())
             }
             Instr::ReleaseHook(_) => {

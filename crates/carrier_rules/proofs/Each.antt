@@ -8,6 +8,7 @@ use Rattle.knit_base.specs.declared.instr.Instr.TheVariants.{CarryIn, CarryOut, 
 use Rattle.knit_base.specs.declared.rule.Reason.{Reason}
 use Rattle.knit_base.specs.declared.rule.Rule.TheVariants.{HookBusy, HookOther}
 use Rattle.knit_base.specs.declared.yarns.CarrierNo.{CarrierNo}
+use Rattle.knit_base.proofs.Reasons.{or_else-none}
 use Rattle.knit_base.specs.Reasons.{broken_if, first_broken, or_else}
 use Rattle.knit_base.specs.Yarns.{contains_carrier, lacks_carrier, mask_of}
 use Rattle.carriage_model.specs.Rules.{carriers_in, carriers_out, carriers_hooked, hook_busy, hook_other}
@@ -68,20 +69,16 @@ each-broken of_each s at cs =
 hook_test : (hook : ℕ) → nat_lt 0 hook ≡ not (nat_eq hook 0)
 hook_test hook = grind arith
 
-or_else-end : (o : Option Reason) → or_else o None ≡ o
-or_else-end None = refl
-or_else-end (Some reason) = refl
-
 -- the hook is free, as one condition
 pub busy-unmet : (s : State) → hook_busy s ≡ first_unmet ((hook_reason HookBusy, HookFree) ∷ []) s
 busy-unmet s =
     let reason : Reason = hook_reason HookBusy in
-    ap (λ b. broken_if b HookBusy 0) (hook_test s.hook) ∙ broken-unless (nat_eq s.hook 0) HookBusy 0 ∙ sym (or_else-end (unless (nat_eq s.hook 0) reason))
+    ap (λ b. broken_if b HookBusy 0) (hook_test s.hook) ∙ broken-unless (nat_eq s.hook 0) HookBusy 0 ∙ sym (or_else-none (unless (nat_eq s.hook 0) reason))
 
 -- the hook holds these yarns, as one condition
 pub other-unmet : (s : State) (cs : List CarrierNo) → hook_other s cs ≡ first_unmet ((hook_reason HookOther, HookIs (mask_of cs)) ∷ []) s
 other-unmet s cs =
-    broken-unless (nat_eq s.hook (mask_of cs)) HookOther 0 ∙ sym (or_else-end (unless (nat_eq s.hook (mask_of cs)) (hook_reason HookOther)))
+    broken-unless (nat_eq s.hook (mask_of cs)) HookOther 0 ∙ sym (or_else-none (unless (nat_eq s.hook (mask_of cs)) (hook_reason HookOther)))
 
 -- two lists of conditions are two rules, one after the other
 pub both-broken : (cs ds : List (Reason × Cond)) (s : State) (first second : Option Reason) → first ≡ first_unmet cs s → second ≡ first_unmet ds s → or_else first second ≡ first_unmet (cs ++ ds) s

@@ -1,5 +1,5 @@
 //! What an instruction does to the rack, to carriers and to the hook.
-ghost use Rattle.std.specs.Prelude.{◌≡◌, ◌<◌, ◌^◌};
+ghost use Rattle.std.specs.Prelude.{◌≡◌};
 ghost use Rattle.carrier_rules.specs.Carriers.{effect_of};
 
 use face_data::Effect;
@@ -7,8 +7,7 @@ use knit_base::{Instr, Quarter};
 
 /// The effect of the instruction.
 pub fn effect_of(instr: &Instr) -> Effect
-    ensures is { result ≡ effect_of instr.now }
-    ensures few { result.went < 2 ^ 64 }
+    ensures { result ≡ effect_of instr.now }
 {
     match instr {
         Instr::CarryIn(yarns) => effect(None, yarns.mask(), 0, None),

@@ -4,14 +4,11 @@ use Rattle.knit_base.specs.declared.instr.Instr.{Instr}
 use Rattle.knit_base.specs.declared.instr.Instr.TheVariants.{CarryIn, CarryOut, HookIn, HookOut, ReleaseHook, Stitch, Pause, Extension, Rack, Knit, Tuck, Miss, Split, Xfer, Drop, Amiss}
 use Rattle.knit_base.specs.declared.profile.Profile.{Profile}
 use Rattle.knit_base.specs.declared.rule.Reason.{Reason}
+use Rattle.knit_base.proofs.Reasons.{or_else-none}
 use Rattle.knit_base.specs.Reasons.{or_else}
 use Rattle.carriage_model.specs.Rules.{broken_instr, carriers_in, carriers_out, carriers_hooked, hook_busy, hook_other, slider_holds}
 use Rattle.carriage_model.specs.State.{State}
 use Rattle.face_data.specs.RuleGroups.{broken_in_groups}
-
-pub or_else-none : (o : Option Reason) → or_else o None ≡ o
-or_else-none None = refl
-or_else-none (Some reason) = refl
 
 pub groups : (profile : Profile) (instr : Instr) (s : State) → broken_instr profile instr s ≡ broken_in_groups profile instr s
 groups profile (CarryIn cs) s = sym (or_else-none (carriers_in s 1 cs))

@@ -70,8 +70,8 @@ abbrev pub broken_in_groups : Profile → Instr → State → Option Reason
 broken_in_groups profile instr s =
     or_else (carrier_broken instr s) (or_else (rack_broken instr s) (or_else (slider_broken instr s) (size_broken profile instr s)))
 
--- the effect is what the instruction does to rack, carriers and hook, in a state whose carriers are numbered below 64
+-- the effect is what the instruction does to rack, carriers and hook
 pub record IsEffectOf (instr : Instr) (effect : Effect) : Type 0 where
   pub rack : (k : ℕ) (s : State) → rack_after effect.rack s.rack ≡ (step_instr k instr s).rack
-  pub ins : (k : ℕ) (s : State) → s.ins < 2 ^ 64 → ins_after effect s.ins ≡ (step_instr k instr s).ins
+  pub ins : (k : ℕ) (s : State) → ins_after effect s.ins ≡ (step_instr k instr s).ins
   pub hook : (k : ℕ) (s : State) → hook_after effect s.hook ≡ (step_instr k instr s).hook

@@ -1,7 +1,8 @@
 -- What a block does to the state at its entry.
-use Rattle.std.specs.Prelude.{ℕ, ◌+◌, ℤ, List, [], ◌∷◌, Option, None, Some, unwrap_or, bit_or, bit_and, bit_xor, if◌then◌else◌}
+use Rattle.std.specs.Prelude.{ℕ, ◌+◌, ℤ, List, [], ◌∷◌, Option, None, Some, unwrap_or, bit_or, if◌then◌else◌}
 use Rattle.knit_base.specs.declared.instr.Quarter.{Quarter}
 use Rattle.knit_base.specs.declared.rule.Fault.{Fault}
+use Rattle.knit_base.specs.Yarns.{without_set}
 use Rattle.carriage_model.specs.State.{State}
 use Rattle.face_data.specs.declared.face.Effect.{Effect}
 use Rattle.face_data.specs.declared.face.Ending.{Ending}
@@ -26,10 +27,6 @@ pub record Summary : Type 0 where
 abbrev pub first_fault : List Asked → State → Option Fault
 first_fault [] s = None
 first_fault (c ∷ cs) s = if holds c.ask s then first_fault cs s else Some c.fault
-
--- the carriers of the first set that aren't in the second
-abbrev pub without_set : ℕ → ℕ → ℕ
-without_set set other = bit_xor set (bit_and set other)
 
 -- the new rack, or the old one
 abbrev pub rack_after : Option Quarter → ℤ → ℤ

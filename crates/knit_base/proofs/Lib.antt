@@ -2,3 +2,4 @@ pub mod Buffers
 pub mod Masks
 pub mod Naming
 pub mod Places
+pub mod Reasons

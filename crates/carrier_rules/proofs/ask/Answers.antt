@@ -1,7 +1,6 @@
-use Rattle.std.proofs.Common.{◌∙◌, sym, ap, subst, ◌<◌, ◌^◌}
+use Rattle.std.proofs.Common.{◌∙◌, sym, ap, subst}
 use Rattle.face_data.specs.Conditions.{first_unmet}
 use Rattle.face_data.specs.RuleGroups.{IsEffectOf}
-use Rattle.face_data.specs.declared.face.Effect.{Effect}
 use Rattle.carrier_rules.proofs.Each.{conds-broken}
 use Rattle.carrier_rules.proofs.Effects.{effect-is}
 use Rattle.carrier_rules.proofs.ask.Goals as goal
@@ -11,5 +10,4 @@ returns-clause-broken c s = conds-broken c.args.instr.now s ∙ ap (λ conds. fi
 
 pub returns-clause-effect : goal.returns-clause-effect
 returns-clause-effect c =
-    let few = subst (λ (e : Effect). e.went < 2 ^ 64) c.effect_of.ensures.is c.effect_of.ensures.few in
-    subst (IsEffectOf c.args.instr.now) (sym c.effect_of.ensures.is) (effect-is c.args.instr.now few)
+    subst (IsEffectOf c.args.instr.now) (sym c.effect_of.ensures) (effect-is c.args.instr.now)
