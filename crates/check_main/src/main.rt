@@ -13,6 +13,8 @@ mod judge;
 mod outcome;
 mod plan;
 #[cfg(test)]
+mod rule_tests;
+#[cfg(test)]
 mod tests;
 mod top;
 
