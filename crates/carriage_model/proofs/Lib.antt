@@ -1,4 +1,5 @@
 pub mod Broken
+pub mod Carried
 pub mod Carriers
 pub mod Found
 pub mod Listed

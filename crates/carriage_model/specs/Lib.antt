@@ -1,3 +1,4 @@
+pub mod Carriage
 pub mod Loops
 pub mod Machine
 pub mod Rules

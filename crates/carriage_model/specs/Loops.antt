@@ -1,5 +1,5 @@
 -- The loops that a run makes.
-use Rattle.std.specs.Prelude.{ℕ, ◌+◌, List, [], ◌∷◌, ◌++◌, Option, None, Some, nat_eq, if◌then◌else◌}
+use Rattle.std.specs.Prelude.{ℕ, ◌+◌, List, [], ◌∷◌, ◌++◌, Option, None, Some, Bool, true, false, nat_eq, if◌then◌else◌}
 use Rattle.std.specs.Option.{option_to_list}
 use Rattle.knit_base.specs.declared.instr.Instr.{Instr}
 use Rattle.knit_base.specs.declared.instr.Instr.TheVariants.{CarryIn, CarryOut, HookIn, HookOut, ReleaseHook, Stitch, Pause, Extension, Rack, Knit, Tuck, Miss, Split, Xfer, Drop, Amiss}
@@ -61,3 +61,8 @@ loops_made profile s k (r ∷ rs) = made_on (broken profile r s) (fact_made k r 
 abbrev pub fact_of : ℕ → List LoopFact → Option LoopFact
 fact_of line [] = None
 fact_of line (fact ∷ facts) = if nat_eq fact.line line then Some fact else fact_of line facts
+
+-- the loops, where they are asked for
+abbrev pub loops_asked : Bool → List LoopFact → Option (List LoopFact)
+loops_asked false loops = None
+loops_asked true loops = Some loops

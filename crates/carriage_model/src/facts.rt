@@ -73,8 +73,8 @@ pub fn fact_plain(
 impl Machine {
     ghost use Rattle.carriage_model.specs.Machine.{Represents, stack_of};
 
-    // The loop that this line makes if it breaks no rule.
-    fn fact_made(&self, line: u32, read: &Read) -> Result<Option<LoopFact>, NoMemory>
+    /// The loop that this line makes if it breaks no rule.
+    pub fn fact_made(&self, line: u32, read: &Read) -> Result<Option<LoopFact>, NoMemory>
         ensures { IfOk result (λ fact. (s : State) → Represents self.now s → fact ≡ fact_made line read.now s) }
     {
         match read {
@@ -134,7 +134,8 @@ fn formed(
     }))
 }
 
-fn append(facts: &mut Facts, fact: Option<LoopFact>) -> Result<(), NoMemory>
+/// Appends a loop, if there is one.
+pub(crate) fn append(facts: &mut Facts, fact: Option<LoopFact>) -> Result<(), NoMemory>
     requires { length facts.old < 2 ^ 32 - 1 }
     ensures { OnOk result (facts.new ≡ facts.old ++ option_to_list fact) }
 {

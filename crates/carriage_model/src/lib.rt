@@ -7,6 +7,7 @@
 //! `specs/Machine` says which state the code's own `Machine` stands for. Below it stand std and `knit_base`.
 #![tactic(auto)]
 
+mod carriage;
 mod facts;
 mod machine;
 mod rules;
@@ -16,6 +17,7 @@ mod steps;
 mod tests;
 mod verdict;
 
+pub use carriage::Carriage;
 pub use facts::{fact_plain, facts_plain};
 pub use run::run_plain;
 pub use verdict::{Brief, Facts, Final, LoopFact, LoopLines, Stack, Stacks, Verdict};

@@ -43,8 +43,8 @@ pub fn run_plain(
     Ok(Verdict::Sound(last))
 }
 
-// How many loops the line makes if it breaks no rule.
-fn loops_of(read: &Read) -> u32
+/// How many loops the line makes if it breaks no rule.
+pub(crate) fn loops_of(read: &Read) -> u32
     ensures counts { (k : ℕ) (s : State) → result ≡ length (option_to_list (fact_made k read.now s)) }
     ensures one { result ≤ 1 }
 {

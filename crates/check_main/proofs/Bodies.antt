@@ -1,5 +1,5 @@
 -- How many lines stand behind a head, and what is made of them.
-use Rattle.std.proofs.Common.{◌≡◌, ℕ, suc, ◌+◌, ◌-◌, ◌<◌, ◌≤◌, ◌^◌, List, [], ◌∷◌, length, drop, Bool, ap, arith, ◌∙◌, subst, sym, refl}
+use Rattle.std.proofs.Common.{◌≡◌, ℕ, suc, ◌+◌, ◌-◌, ◌<◌, ◌≤◌, ◌^◌, List, [], ◌∷◌, ◌++◌, length, drop, slice_get, Some, Bool, ap, arith, ◌∙◌, subst, sym, refl}
 use Rattle.std.specs.List.{AllZip}
 use Rattle.std.proofs.lemmas.List.{length-drop}
 use Rattle.std.proofs.lemmas.List.Sums.{prefix_len-le-length}
@@ -9,14 +9,18 @@ use Rattle.knit_base.specs.declared.profile.Profile.{Profile}
 use Rattle.knitout_reader.specs.declared.head.Head.{Head}
 use Rattle.knitout_reader.specs.Head.{head_len, is_head_line, IsHead}
 use Rattle.knitout_reader.specs.Reads.{Reads}
+use Rattle.knitout_reader.proofs.ReadSoFar.{ReadSoFar, read-none, read-more, read-all}
+use Rattle.knit_base.specs.Lawful.{IsLawfulRead}
+use Rattle.carriage_model.specs.Carriage.{HasRun, IsRunning, TellsRun}
+use Rattle.carriage_model.specs.declared.carriage.Carriage.{Carriage}
 use Rattle.carriage_model.specs.declared.verdict.Verdict.{Verdict}
 use Rattle.carriage_model.specs.declared.verdict.LoopFact.{LoopFact}
 use Rattle.carriage_model.specs.State.{empty_state}
 use Rattle.carriage_model.specs.Run.{run}
-use Rattle.carriage_model.specs.Loops.{loops_made}
+use Rattle.carriage_model.specs.Loops.{loops_made, loops_asked}
 use Rattle.carriage_model.specs.Verdict.{IsVerdict}
 use Rattle.check_main.specs.declared.outcome.Status.{Status}
-use Rattle.check_main.specs.Due.{IsCheckReply, IsJudged, body_of, broken_line, first_of, loops_asked, report_of, status_of}
+use Rattle.check_main.specs.Due.{IsCheckReply, IsJudgedTelling, body_of, broken_line, first_of, report_of, status_of}
 
 pub head_len-le : (lines : List (List ℕ)) → head_len lines ≤ length lines
 head_len-le [] = omega arith
@@ -33,38 +37,78 @@ zip_len R [] (y ∷ ys) all = absurd all
 zip_len R (x ∷ xs) [] all = absurd all
 zip_len R (x ∷ xs) (y ∷ ys) all = ap suc (zip_len R xs ys all.1)
 
--- the readings are as many as the lines of the body
-pub readings_len : (profile : Profile) (names lines : List (List ℕ)) (head : ℕ) (reads : List Read) → head ≡ head_len lines
-    → AllZip (λ line r. Reads profile names line r) (drop head lines) reads → length reads ≡ length (body_of lines)
-readings_len profile names lines head reads is all =
-    sym (zip_len (λ line r. Reads profile names line r) (drop head lines) reads all) ∙ ap (λ h. length (drop h lines)) is
+-- a carriage has carried out the lines behind the head up to this place
+pub record Carried (profile : Profile) (telling : Bool) (names lines : List (List ℕ)) (from i : ℕ) (carriage : Carriage) : Type 0 where
+  pub readings : List Read
+  pub so_far : ReadSoFar (λ line r. Reads profile names line r) (IsLawfulRead profile (length names)) lines from i readings
+  pub run : HasRun profile telling (from + 1) readings carriage
 
--- a report of the verdict on the readings is the reply of `check`
-pub check_reply : (profile : Profile) (loops json : Bool) (lines : List (List ℕ)) (head : Head) (reads : List Read) (text broken : List ℕ)
-    (result : Verdict) (facts : Option (List LoopFact)) (made : Status) → IsHead lines head
-    → AllZip (λ line r. Reads profile head.declared line r) (drop head.lines lines) reads
-    → IsVerdict (length reads) result (run profile empty_state (head.lines + 1) reads) (loops_made profile empty_state (head.lines + 1) reads)
-    → facts ≡ loops_asked loops (loops_made profile empty_state (head.lines + 1) reads) → broken ≡ broken_line lines result
-    → text ≡ report_of json head.declared broken result facts → made ≡ status_of result
-    → IsCheckReply profile loops json head.declared lines text made
-check_reply profile loops json lines head reads text broken result facts made is all verdict is_facts is_broken is_text ended =
+-- a carriage over empty beds
+pub carried-none : (profile : Profile) (telling : Bool) (names lines : List (List ℕ)) (from : ℕ) (carriage : Carriage)
+    → HasRun profile telling (from + 1) [] carriage → Carried profile telling names lines from from carriage
+carried-none profile telling names lines from carriage new = record { readings = []; so_far = read-none _ _ lines from; run = new }
+
+-- the next line is read and carried out
+pub carried-more : (profile : Profile) (telling : Bool) (names lines : List (List ℕ)) (from i : ℕ) (old new : Carriage) (line : List ℕ) (r : Read)
+    → Carried profile telling names lines from i old → i < length lines → slice_get lines i ≡ Some line → Reads profile names line r → IsLawfulRead profile (length names) r
+    → ((p : Profile) (t : Bool) (first : ℕ) (reads : List Read) → HasRun p t first reads old → HasRun p t first (reads ++ r ∷ []) new)
+    → Carried profile telling names lines from (i + 1) new
+carried-more profile telling names lines from i old new line r here within found read lawful next = record {
+  readings = here.readings ++ r ∷ [];
+  so_far = read-more _ _ lines from i here.readings (here.readings ++ r ∷ []) line r here.so_far within found read lawful refl;
+  run = next profile telling (from + 1) here.readings here.run;
+}
+
+-- the carriage is ready for a line more
+pub carried-runs : (profile : Profile) (telling : Bool) (names lines : List (List ℕ)) (from i : ℕ) (carriage : Carriage)
+    → Carried profile telling names lines from i carriage → IsRunning carriage
+carried-runs profile telling names lines from i carriage here =
+    (telling, from + 1, here.readings, subst (λ p. HasRun p telling (from + 1) here.readings carriage) (sym here.run.same_profile) here.run)
+
+-- the number of the next line
+pub carried-next : (profile : Profile) (telling : Bool) (names lines : List (List ℕ)) (from i : ℕ) (carriage : Carriage)
+    → Carried profile telling names lines from i carriage → carriage.next ≡ i + 1
+carried-next profile telling names lines from i carriage here = omega (arith, here.run.next, here.so_far.counted)
+
+-- a carriage that carried out all lines behind the head tells what is made of the file
+pub carried-all : (profile : Profile) (telling : Bool) (lines : List (List ℕ)) (head : Head) (i : ℕ) (carriage : Carriage) (result : Verdict) (told : Option (List LoopFact))
+    → IsHead lines head → length lines ≤ i → (here : Carried profile telling head.declared lines head.lines i carriage)
+    → TellsRun profile telling (head.lines + 1) here.readings result told
+    → IsJudgedTelling telling profile head.declared lines result told
+carried-all profile telling lines head i carriage result told is past here tells =
+    let reads : List Read = here.readings in
+    let all : AllZip (λ line r. Reads profile head.declared line r) (drop head.lines lines) reads = (read-all _ _ lines head.lines i reads past here.so_far).0 in
     let first : head.lines + 1 ≡ first_of lines = ap (λ h. h + 1) is.len in
-    let count : length reads ≡ length (body_of lines) = readings_len profile head.declared lines head.lines reads is.len all in
-    record {
-      verdict_given = result;
-      made = loops_made profile empty_state (first_of lines) reads;
-      judged = record {
+    let body : drop head.lines lines ≡ body_of lines = ap (λ h. drop h lines) is.len in
+    let count : length reads ≡ length (body_of lines) = sym (zip_len (λ line r. Reads profile head.declared line r) (drop head.lines lines) reads all) ∙ ap length body in (
+      loops_made profile empty_state (first_of lines) reads,
+      record {
         readings = reads;
-        read = subst (λ h. AllZip (λ line r. Reads profile head.declared line r) (drop h lines) reads) is.len all;
+        read = subst (λ ls. AllZip (λ line r. Reads profile head.declared line r) ls reads) body all;
         made = refl;
         judged =
             subst (λ k. IsVerdict (length (body_of lines)) result (run profile empty_state k reads) (loops_made profile empty_state k reads)) first
-            (subst (λ n. IsVerdict n result (run profile empty_state (head.lines + 1) reads) (loops_made profile empty_state (head.lines + 1) reads)) count verdict);
-      };
-      reported =
-          is_text
-          ∙ ap (λ b. report_of json head.declared b result facts) is_broken
-          ∙ ap (λ f. report_of json head.declared (broken_line lines result) result f) is_facts
-          ∙ ap (λ k. report_of json head.declared (broken_line lines result) result (loops_asked loops (loops_made profile empty_state k reads))) first;
-      ended = ended;
-    }
+            (subst (λ n. IsVerdict n result (run profile empty_state (head.lines + 1) reads) (loops_made profile empty_state (head.lines + 1) reads)) count tells.verdict_is);
+      },
+      tells.told_is ∙ ap (λ k. loops_asked telling (loops_made profile empty_state k reads)) first,
+    )
+
+-- how many lines a carriage carried out
+pub carried-count : (profile : Profile) (telling : Bool) (names lines : List (List ℕ)) (from i all : ℕ) (carriage : Carriage) → from ≤ all
+    → i ≡ all → (here : Carried profile telling names lines from i carriage) → all - from ≡ length here.readings
+carried-count profile telling names lines from i all carriage within past here = omega (arith, here.so_far.counted)
+
+-- a report of what is made of the file is the reply of `check`
+pub check_reply : (profile : Profile) (loops json : Bool) (names lines : List (List ℕ)) (text broken : List ℕ) (result : Verdict) (told : Option (List LoopFact)) (made : Status)
+    → IsJudgedTelling loops profile names lines result told → broken ≡ broken_line lines result → text ≡ report_of json names broken result told → made ≡ status_of result
+    → IsCheckReply profile loops json names lines text made
+check_reply profile loops json names lines text broken result told made judged is_broken is_text ended = record {
+  verdict_given = result;
+  made = judged.0;
+  judged = judged.1;
+  reported =
+      is_text
+      ∙ ap (λ b. report_of json names b result told) is_broken
+      ∙ ap (λ t. report_of json names (broken_line lines result) result t) judged.2;
+  ended = ended;
+}

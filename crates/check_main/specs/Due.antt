@@ -18,7 +18,7 @@ use Rattle.carriage_model.specs.declared.verdict.Verdict.TheVariants as verdict
 use Rattle.carriage_model.specs.declared.verdict.LoopFact.{LoopFact}
 use Rattle.carriage_model.specs.State.{empty_state}
 use Rattle.carriage_model.specs.Run.{run}
-use Rattle.carriage_model.specs.Loops.{loops_made}
+use Rattle.carriage_model.specs.Loops.{loops_made, loops_asked}
 use Rattle.carriage_model.specs.Verdict.{IsVerdict}
 use Rattle.machine_profile.specs.declared.Chosen.{Chosen}
 use Rattle.command_words.specs.declared.command.Command.{Command}
@@ -55,10 +55,10 @@ abbrev pub broken_line : List (List ℕ) → Verdict → List ℕ
 broken_line lines (verdict.Sound final) = []
 broken_line lines (verdict.Broken fault) = numbered_line lines fault.line
 
--- the loops, where they were asked for
-abbrev pub loops_asked : Bool → List LoopFact → Option (List LoopFact)
-loops_asked false loops = None
-loops_asked true loops = Some loops
+-- the verdict, with the loops made, where these are asked for
+abbrev pub IsJudgedTelling : Bool → Profile → List (List ℕ) → List (List ℕ) → Verdict → Option (List LoopFact) → Type 0
+IsJudgedTelling telling profile names lines result told =
+    (loops : List LoopFact) × IsJudged profile names lines result loops × (told ≡ loops_asked telling loops)
 
 -- the report of a verdict, as text or as JSON
 abbrev pub report_of : Bool → List (List ℕ) → List ℕ → Verdict → Option (List LoopFact) → List ℕ

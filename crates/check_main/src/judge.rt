@@ -7,15 +7,15 @@ ghost use Rattle.line_cutter.specs.Cut.{IsGoodLine};
 ghost use Rattle.knitout_reader.specs.Head.{IsHead};
 ghost use Rattle.carriage_model.specs.State.{empty_state};
 ghost use Rattle.carriage_model.specs.Loops.{loops_made};
-ghost use Rattle.check_main.specs.Due.{IsCheckReply, body_of, broken_line, loops_asked, numbered_line, report_of, status_of};
+ghost use Rattle.check_main.specs.Due.{IsCheckReply, IsJudgedTelling, body_of, broken_line, numbered_line, report_of, status_of};
 
 use crate::answer::Reply;
 use crate::outcome::Status;
-use carriage_model::{Facts, Verdict, facts_plain, run_plain};
-use knit_base::{Declared, Lines, NoMemory, Profile, Reads};
-use knitout_reader::{Head, read_body};
+use carriage_model::{Carriage, Facts, Verdict};
+use knit_base::{Declared, Lines, NoMemory, Profile};
+use knitout_reader::{Head, read_line};
 use std::alloc::Global;
-use verdict_report::{report_json, report_text};
+use verdict_report::{json_of, text_of};
 
 /// Which report of a verdict is asked for: with the loops made, and as JSON.
 #[derive(Clone, Copy, Debug, PartialEq, Eq)]
@@ -39,37 +39,37 @@ pub fn judge(
     requires few { length (body_of lines.now) ≤ 1048576 }
     ensures { IfOk result (λ reply. IsCheckReply profile.now style.loops style.json head.now.declared lines.now reply.text.items reply.status) }
 {
-    let names = &head.declared;
-    let first = head.lines + 1;
-    let reads = read_body(alloc, lines, head.lines, profile, names)?;
-    let verdict = run_plain(alloc, profile, names, &reads, first)?;
-    let facts = facts_if(style.loops, alloc, profile, names, &reads, first)?;
+    let (verdict, told) = run_body(alloc, style.loops, profile, lines, head)?;
     let broken = line_of(lines, &verdict);
-    let text = report(alloc, style.json, &verdict, &facts, names, broken)?;
+    let text = report(alloc, style.json, &verdict, &told, &head.declared, broken)?;
     Ok(Reply {
         status: status_of(&verdict),
         text,
     })
 }
 
-// The loops that are made, where they are asked for.
-fn facts_if(
-    asked: bool,
+// What one carriage makes of the lines behind the head: the verdict, and the loops made, where these are asked for.
+fn run_body(
     alloc: Global,
+    telling: bool,
     profile: &Profile,
-    names: &Declared,
-    reads: &Reads,
-    first: u32,
-) -> Result<Option<Facts>, NoMemory>
+    lines: &Lines,
+    head: &Head,
+) -> Result<(Verdict, Option<Facts>), NoMemory>
     requires profile { IsLawfulProfile profile.now }
-    requires lawful { All (IsLawfulRead profile.now (length names.now)) reads.now }
-    requires lines { first + length reads.now < 2 ^ 32 }
-    ensures loops { IfOk result (λ facts. facts ≡ loops_asked asked (loops_made profile.now empty_state first reads.now)) }
+    requires good { All IsGoodLine lines.now }
+    requires head { IsHead lines.now head.now }
+    requires lines { length lines.now ≤ 16777217 }
+    ensures { IfOk result (λ ended. IsJudgedTelling telling profile.now head.now.declared lines.now ended.0 ended.1) }
 {
-    if !asked {
-        return Ok(None);
+    let mut carriage = Carriage::start(alloc, profile, head.lines + 1, telling)?;
+    for i in head.lines..lines.len() {
+        let Some(line) = lines.get(i) else {
+            unreachable!();
+        };
+        carriage.carry_out(&read_line(alloc, line, profile, &head.declared)?)?;
     }
-    Ok(Some(facts_plain(alloc, profile, names, reads, first)?))
+    carriage.finish(lines.len() - head.lines)
 }
 
 // The line at which the verdict is broken, or no text.
@@ -103,13 +103,11 @@ fn report(
 ) -> Result<Vec<u8>, NoMemory>
     ensures { IfOk result (λ text. text.items ≡ report_of json names.now broken.now verdict.now facts.now) }
 {
-    let mut text = Vec::new(alloc);
     if json {
-        report_json(alloc, verdict, facts.as_ref(), names, broken, &mut text)?;
-        return Ok(text);
+        json_of(alloc, verdict, facts.as_ref(), names, broken)
+    } else {
+        text_of(alloc, verdict, facts.as_ref(), names, broken)
     }
-    report_text(alloc, verdict, facts.as_ref(), names, broken, &mut text)?;
-    Ok(text)
 }
 
 fn status_of(verdict: &Verdict) -> Status

@@ -429,9 +429,23 @@ pub fn report_json(
     ensures ok { OnOk result (out.new.items ≡ out.old.items ++ verdict_json declared.now broken.now verdict.now (option_copied facts.entry)) }
     ensures err { OnErr result (out.new.items ≡ out.old.items) }
 {
+    let text = json_of(alloc, verdict, facts, declared, broken)?;
+    out.extend_from_slice(&text)?;
+    Ok(())
+}
+
+/// A verdict as JSON, as `report_json` appends it.
+pub fn json_of(
+    alloc: Global,
+    verdict: &Verdict,
+    facts: Option<&Facts>,
+    declared: &Declared,
+    broken: &str,
+) -> Result<Vec<u8>, NoMemory>
+    ensures { IfOk result (λ text. text.items ≡ verdict_json declared.now broken.now verdict.now (option_copied facts.entry)) }
+{
     let strings = quoted_names(alloc, declared)?;
     let mut text = Vec::new(alloc);
     append_json(alloc, verdict, facts, &strings, broken, &mut text)?;
-    out.extend_from_slice(&text)?;
-    Ok(())
+    Ok(text)
 }

@@ -13,6 +13,6 @@ mod refusal;
 mod tests;
 mod text;
 
-pub use as_json::report_json;
+pub use as_json::{json_of, report_json};
 pub use refusal::{Refusal, report_refusal};
-pub use text::report_text;
+pub use text::{report_text, text_of};

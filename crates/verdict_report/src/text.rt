@@ -1,5 +1,5 @@
 //! A verdict as text.
-ghost use Rattle.std.specs.Prelude.{◌≡◌, ◌++◌, ◌<◌, ◌^◌, [], length, codes, decimal, flat_map, OnOk, OnErr};
+ghost use Rattle.std.specs.Prelude.{◌≡◌, ◌++◌, ◌<◌, ◌^◌, [], length, codes, decimal, flat_map, IfOk, OnOk, OnErr};
 ghost use Rattle.std.specs.Option.{option_copied};
 ghost use Rattle.verdict_report.specs.VerdictText.{broken_brief, broken_text, end_text, held_of, labelled, line_word, lines_text, loop_text, loops_text, name_word, names_text, place_text, rule_word, set_text, sound_brief, sound_text, stack_text, verdict_text};
 
@@ -254,9 +254,23 @@ pub fn report_text(
     ensures ok { OnOk result (out.new.items ≡ out.old.items ++ verdict_text declared.now broken.now verdict.now (option_copied facts.entry)) }
     ensures err { OnErr result (out.new.items ≡ out.old.items) }
 {
+    let text = text_of(alloc, verdict, facts, declared, broken)?;
+    out.extend_from_slice(&text)?;
+    Ok(())
+}
+
+/// A verdict as text, as `report_text` appends it.
+pub fn text_of(
+    alloc: Global,
+    verdict: &Verdict,
+    facts: Option<&Facts>,
+    declared: &Declared,
+    broken: &str,
+) -> Result<Vec<u8>, NoMemory>
+    ensures { IfOk result (λ text. text.items ≡ verdict_text declared.now broken.now verdict.now (option_copied facts.entry)) }
+{
     let mut text = Vec::new(alloc);
     append_end(alloc, verdict, declared, broken, &mut text)?;
     append_made(facts, declared, &mut text)?;
-    out.extend_from_slice(&text)?;
-    Ok(())
+    Ok(text)
 }

@@ -1,0 +1,212 @@
+-- One line more of a run.
+use Rattle.std.proofs.Common.{◌≡◌, ℕ, ◌+◌, ◌≤◌, List, [], ◌∷◌, ◌++◌, length, Bool, true, false, Option, None, Some, IfSome, is_some, refl, ap, sym, subst, ◌∙◌, ◌<◌, arith, append_assoc, append-nil, length-append}
+use Rattle.std.proofs.lemmas.Bool.{true≢false}
+use Rattle.std.proofs.lemmas.Option.{none-some}
+use Rattle.std.specs.Option.{option_to_list}
+use Rattle.knit_base.specs.declared.profile.Profile.{Profile}
+use Rattle.knit_base.specs.declared.instr.Read.{Read}
+use Rattle.knit_base.specs.declared.rule.Reason.{Reason}
+use Rattle.carriage_model.specs.declared.carriage.Carriage.{Carriage}
+use Rattle.carriage_model.specs.declared.verdict.LoopFact.{LoopFact}
+use Rattle.carriage_model.specs.Carriage.{HasRun, StandsAfter, WentOver, told_with}
+use Rattle.carriage_model.specs.Machine.{Represents}
+use Rattle.carriage_model.specs.State.{State, empty_state}
+use Rattle.carriage_model.specs.Rules.{broken}
+use Rattle.carriage_model.specs.Steps.{step}
+use Rattle.carriage_model.specs.Run.{run, run_on, Ended, Ends, Stops}
+use Rattle.carriage_model.specs.Loops.{loops_made, loops_asked, made_on, fact_made}
+
+-- how the run ends with line k more, where it ended so before
+abbrev pub one_more : Profile → ℕ → Read → Ended → Ended
+one_more profile k r (Ends s) = run_on k (broken profile r s) s (Ends (step k r s))
+one_more profile k r (Stops s fault) = Stops s fault
+
+-- the loops that line k adds
+abbrev pub loops_more : Profile → ℕ → Read → Ended → List LoopFact
+loops_more profile k r (Ends s) = made_on (broken profile r s) (fact_made k r s) []
+loops_more profile k r (Stops s fault) = []
+
+more_on : (profile : Profile) (j k : ℕ) (r : Read) (b : Option Reason) (s : State) (rest : Ended)
+    → run_on k b s (one_more profile j r rest) ≡ one_more profile j r (run_on k b s rest)
+more_on profile j k r None s rest = refl
+more_on profile j k r (Some reason) s rest = refl
+
+pub run-more : (profile : Profile) (s : State) (k : ℕ) (rs : List Read) (r : Read)
+    → run profile s k (rs ++ r ∷ []) ≡ one_more profile (k + length rs) r (run profile s k rs)
+run-more profile s k [] r =
+    let here : k ≡ k + 0 = omega arith in
+    ap (λ j. one_more profile j r (Ends s)) here
+run-more profile s k (q ∷ rs) r =
+    let there : k + 1 + length rs ≡ k + length (q ∷ rs) = omega arith in
+    ap (run_on k (broken profile q s) s) (run-more profile (step k q s) (k + 1) rs r)
+    ∙ more_on profile (k + 1 + length rs) k r (broken profile q s) s (run profile (step k q s) (k + 1) rs)
+    ∙ ap (λ j. one_more profile j r (run profile s k (q ∷ rs))) there
+
+loops_on : (profile : Profile) (j k : ℕ) (r : Read) (b : Option Reason) (s : State) (rest : Ended) (fact : Option LoopFact) (later : List LoopFact)
+    → made_on b fact (later ++ loops_more profile j r rest) ≡ made_on b fact later ++ loops_more profile j r (run_on k b s rest)
+loops_on profile j k r None s rest fact later = sym (append_assoc (option_to_list fact) later (loops_more profile j r rest))
+loops_on profile j k r (Some reason) s rest fact later = refl
+
+pub loops-more : (profile : Profile) (s : State) (k : ℕ) (rs : List Read) (r : Read)
+    → loops_made profile s k (rs ++ r ∷ []) ≡ loops_made profile s k rs ++ loops_more profile (k + length rs) r (run profile s k rs)
+loops-more profile s k [] r =
+    let here : k ≡ k + 0 = omega arith in
+    ap (λ j. loops_more profile j r (Ends s)) here
+loops-more profile s k (q ∷ rs) r =
+    let there : k + 1 + length rs ≡ k + length (q ∷ rs) = omega arith in
+    ap (made_on (broken profile q s) (fact_made k q s)) (loops-more profile (step k q s) (k + 1) rs r)
+    ∙ loops_on profile (k + 1 + length rs) k r (broken profile q s) s (run profile (step k q s) (k + 1) rs) (fact_made k q s) (loops_made profile (step k q s) (k + 1) rs)
+    ∙ ap (λ j. loops_made profile s k (q ∷ rs) ++ loops_more profile j r (run profile s k (q ∷ rs))) there
+
+few_on : (b : Option Reason) (fact : Option LoopFact) (later : List LoopFact) → length (made_on b fact later) ≤ 1 + length later
+few_on None None later = omega arith
+few_on None (Some fact) later = omega arith
+few_on (Some reason) fact later = omega arith
+
+-- a line makes at most one loop
+pub loops-few : (profile : Profile) (s : State) (k : ℕ) (rs : List Read) → length (loops_made profile s k rs) ≤ length rs
+loops-few profile s k [] = omega arith
+loops-few profile s k (r ∷ rs) =
+    omega (arith, few_on (broken profile r s) (fact_made k r s) (loops_made profile (step k r s) (k + 1) rs), loops-few profile (step k r s) (k + 1) rs)
+
+-- where no fault stopped the carriage, it stands in a state
+pub record InState (profile : Profile) (first : ℕ) (reads : List Read) (carriage : Carriage) : Type 0 where
+  pub state : State
+  pub ends : run profile empty_state first reads ≡ Ends state
+  pub represented : Represents carriage.machine state
+
+in_state : (profile : Profile) (first : ℕ) (reads : List Read) (carriage : Carriage) (ended : Ended) → run profile empty_state first reads ≡ ended
+    → StandsAfter carriage ended → carriage.fault ≡ None → InState profile first reads carriage
+in_state profile first reads carriage (Ends s) is stands none = record { state = s; ends = is; represented = stands.1 }
+in_state profile first reads carriage (Stops s fault) is stands none = absurd (none-some fault (sym none ∙ stands))
+
+pub standing : (profile : Profile) (telling : Bool) (first : ℕ) (reads : List Read) (carriage : Carriage) → HasRun profile telling first reads carriage
+    → carriage.fault ≡ None → InState profile first reads carriage
+standing profile telling first reads carriage here none =
+    in_state profile first reads carriage (run profile empty_state first reads) refl here.stands none
+
+told-more : (telling : Bool) (loops : List LoopFact) (fact : Option LoopFact)
+    → told_with (loops_asked telling loops) fact ≡ loops_asked telling (loops ++ option_to_list fact)
+told-more true loops fact = refl
+told-more false loops fact = refl
+
+-- the loops with those of a line that breaks no rule
+sound-loops : (profile : Profile) (first : ℕ) (reads : List Read) (r : Read) (s : State) → run profile empty_state first reads ≡ Ends s → broken profile r s ≡ None
+    → loops_made profile empty_state first (reads ++ r ∷ []) ≡ loops_made profile empty_state first reads ++ option_to_list (fact_made (first + length reads) r s)
+sound-loops profile first reads r s ends sound =
+    loops-more profile empty_state first reads r
+    ∙ ap (λ ended. loops_made profile empty_state first reads ++ loops_more profile (first + length reads) r ended) ends
+    ∙ ap (λ b. loops_made profile empty_state first reads ++ made_on b (fact_made (first + length reads) r s) []) sound
+    ∙ ap (λ more. loops_made profile empty_state first reads ++ more) (append-nil (option_to_list (fact_made (first + length reads) r s)))
+
+-- a line that breaks no rule was carried out
+pub run-sound : (profile : Profile) (telling : Bool) (first : ℕ) (reads : List Read) (r : Read) (old mid new : Carriage) → HasRun profile telling first reads old
+    → mid ≡ record old { next = old.next + 1 } → old.fault ≡ None
+    → ((s : State) → Represents old.machine s → None ≡ broken old.profile r s)
+    → WentOver old.next r mid new
+    → HasRun profile telling first (reads ++ r ∷ []) new
+run-sound profile telling first reads r old mid new here is none sound over =
+    let at : InState profile first reads old = standing profile telling first reads old here none in
+    let s : State = at.state in
+    let k : ℕ = first + length reads in
+    let fits : broken profile r s ≡ None = ap (λ p. broken p r s) (sym here.same_profile) ∙ sym (sound s at.represented) in
+    let there : Represents mid.machine s = subst (λ (c : Carriage). Represents c.machine s) (sym is) at.represented in
+    let loops : loops_made profile empty_state first (reads ++ r ∷ []) ≡ loops_made profile empty_state first reads ++ option_to_list (fact_made k r s) =
+    sound-loops profile first reads r s at.ends fits in
+    let ends : run profile empty_state first (reads ++ r ∷ []) ≡ Ends (step k r s) =
+    run-more profile empty_state first reads r ∙ ap (one_more profile k r) at.ends ∙ ap (λ b. run_on k b s (Ends (step k r s))) fits in
+    record {
+      lawful = here.lawful;
+      same_profile = over.same_profile ∙ ap (λ (c : Carriage). c.profile) is ∙ here.same_profile;
+      next = omega (arith, over.next, ap (λ (c : Carriage). c.next) is, here.next, length-append reads (r ∷ []));
+      stands =
+          subst (StandsAfter new) (sym ends)
+          (over.fault ∙ ap (λ (c : Carriage). c.fault) is ∙ none, subst (λ j. Represents new.machine (step j r s)) here.next (over.machine s there));
+      made =
+          over.made s
+          ∙ ap (λ (c : Carriage). c.made + length (option_to_list (fact_made old.next r s))) is
+          ∙ ap (λ made. made + length (option_to_list (fact_made old.next r s))) here.made
+          ∙ ap (λ j. length (loops_made profile empty_state first reads) + length (option_to_list (fact_made j r s))) here.next
+          ∙ sym (length-append (loops_made profile empty_state first reads) (option_to_list (fact_made k r s)))
+          ∙ sym (ap length loops);
+      told =
+          over.told s there
+          ∙ ap (λ (c : Carriage). told_with c.told (fact_made old.next r s)) is
+          ∙ ap (λ told. told_with told (fact_made old.next r s)) here.told
+          ∙ ap (λ j. told_with (loops_asked telling (loops_made profile empty_state first reads)) (fact_made j r s)) here.next
+          ∙ told-more telling (loops_made profile empty_state first reads) (fact_made k r s)
+          ∙ sym (ap (loops_asked telling) loops);
+    }
+
+-- a line that breaks a rule stops the carriage
+pub run-broken : (profile : Profile) (telling : Bool) (first : ℕ) (reads : List Read) (r : Read) (old new : Carriage) (reason : Reason) → HasRun profile telling first reads old
+    → new ≡ record old { next = old.next + 1; fault = Some (record { line = old.next; reason = reason }) } → old.fault ≡ None
+    → ((s : State) → Represents old.machine s → Some reason ≡ broken old.profile r s)
+    → HasRun profile telling first (reads ++ r ∷ []) new
+run-broken profile telling first reads r old new reason here is none broke =
+    let at : InState profile first reads old = standing profile telling first reads old here none in
+    let s : State = at.state in
+    let k : ℕ = first + length reads in
+    let fails : broken profile r s ≡ Some reason = ap (λ p. broken p r s) (sym here.same_profile) ∙ sym (broke s at.represented) in
+    let loops : loops_made profile empty_state first (reads ++ r ∷ []) ≡ loops_made profile empty_state first reads =
+    loops-more profile empty_state first reads r
+    ∙ ap (λ ended. loops_made profile empty_state first reads ++ loops_more profile k r ended) at.ends
+    ∙ ap (λ b. loops_made profile empty_state first reads ++ made_on b (fact_made k r s) []) fails
+    ∙ append-nil (loops_made profile empty_state first reads) in
+    let stops : run profile empty_state first (reads ++ r ∷ []) ≡ Stops s (record { line = k; reason = reason }) =
+    run-more profile empty_state first reads r ∙ ap (one_more profile k r) at.ends ∙ ap (λ b. run_on k b s (Ends (step k r s))) fails in
+    record {
+      lawful = here.lawful;
+      same_profile = ap (λ (c : Carriage). c.profile) is ∙ here.same_profile;
+      next = omega (arith, ap (λ (c : Carriage). c.next) is, here.next, length-append reads (r ∷ []));
+      stands =
+          subst (StandsAfter new) (sym stops)
+          (ap (λ (c : Carriage). c.fault) is ∙ ap (λ line. Some (record { line = line; reason = reason })) here.next);
+      made = ap (λ (c : Carriage). c.made) is ∙ here.made ∙ sym (ap length loops);
+      told = ap (λ (c : Carriage). c.told) is ∙ here.told ∙ sym (ap (loops_asked telling) loops);
+    }
+
+stopped-after : (profile : Profile) (k : ℕ) (r : Read) (old new : Carriage) (ended : Ended) → StandsAfter old ended → is_some old.fault ≡ true → new.fault ≡ old.fault
+    → StandsAfter new (one_more profile k r ended)
+stopped-after profile k r old new (Ends s) stands some same = absurd (true≢false (sym some ∙ ap is_some stands.0))
+stopped-after profile k r old new (Stops s fault) stands some same = same ∙ stands
+
+stopped-loops : (profile : Profile) (k : ℕ) (r : Read) (old : Carriage) (ended : Ended) → StandsAfter old ended → is_some old.fault ≡ true → loops_more profile k r ended ≡ []
+stopped-loops profile k r old (Ends s) stands some = absurd (true≢false (sym some ∙ ap is_some stands.0))
+stopped-loops profile k r old (Stops s fault) stands some = refl
+
+-- a line behind the one that broke a rule is passed over
+pub run-stopped : (profile : Profile) (telling : Bool) (first : ℕ) (reads : List Read) (r : Read) (old new : Carriage) → HasRun profile telling first reads old
+    → new ≡ record old { next = old.next + 1 } → is_some old.fault ≡ true
+    → HasRun profile telling first (reads ++ r ∷ []) new
+run-stopped profile telling first reads r old new here is some =
+    let k : ℕ = first + length reads in
+    let loops : loops_made profile empty_state first (reads ++ r ∷ []) ≡ loops_made profile empty_state first reads =
+    loops-more profile empty_state first reads r
+    ∙ ap (λ more. loops_made profile empty_state first reads ++ more) (stopped-loops profile k r old (run profile empty_state first reads) here.stands some)
+    ∙ append-nil (loops_made profile empty_state first reads) in
+    record {
+      lawful = here.lawful;
+      same_profile = ap (λ (c : Carriage). c.profile) is ∙ here.same_profile;
+      next = omega (arith, ap (λ (c : Carriage). c.next) is, here.next, length-append reads (r ∷ []));
+      stands =
+          subst (StandsAfter new) (sym (run-more profile empty_state first reads r))
+          (stopped-after profile k r old new (run profile empty_state first reads) here.stands some (ap (λ (c : Carriage). c.fault) is));
+      made = ap (λ (c : Carriage). c.made) is ∙ here.made ∙ sym (ap length loops);
+      told = ap (λ (c : Carriage). c.told) is ∙ here.told ∙ sym (ap (loops_asked telling) loops);
+    }
+
+few_told : (telling : Bool) (loops : List LoopFact) (most : ℕ) → length loops + 1 < most → IfSome (loops_asked telling loops) (λ ls. length ls + 1 < most)
+few_told true loops most few = few
+few_told false loops most few = tt
+
+-- there is room for one loop more
+pub told-few : (profile : Profile) (telling : Bool) (first : ℕ) (reads : List Read) (carriage : Carriage) (most : ℕ) → HasRun profile telling first reads carriage
+    → carriage.next + 1 < most → IfSome carriage.told (λ loops. length loops + 1 < most)
+told-few profile telling first reads carriage most here few =
+    subst (λ told. IfSome told (λ (loops : List LoopFact). length loops + 1 < most)) (sym here.told)
+    (few_told telling (loops_made profile empty_state first reads) most (omega (arith, loops-few profile empty_state first reads, here.next)))
+
+pub made-few : (profile : Profile) (telling : Bool) (first : ℕ) (reads : List Read) (carriage : Carriage) → HasRun profile telling first reads carriage
+    → carriage.made ≤ carriage.next
+made-few profile telling first reads carriage here = omega (arith, here.made, here.next, loops-few profile empty_state first reads)
