@@ -4,4 +4,7 @@ pub mod Found
 pub mod Listed
 pub mod Machines
 pub mod Needs
+pub mod Places
 pub mod Reached
+pub mod Stacked
+pub mod Told

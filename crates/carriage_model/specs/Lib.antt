@@ -1,5 +1,7 @@
+pub mod Beds
 pub mod Loops
 pub mod Machine
+pub mod Places
 pub mod Rules
 pub mod Run
 pub mod State

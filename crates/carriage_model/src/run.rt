@@ -29,7 +29,7 @@ pub fn run_plain(
     ensures verdict { IfOk result (λ verdict. IsVerdict (length reads.now) verdict (run profile.now empty_state first reads.now) (loops_made profile.now empty_state first reads.now)) }
     ensures carriers { IfOk result (NamesDeclared (length declared.now)) }
 {
-    let mut machine = Machine::new(alloc);
+    let mut machine = Machine::new(alloc, profile)?;
     let mut made = 0;
     for (i, read) in reads.as_slice().iter().enumerate() {
         let line = first + i as u32;

@@ -1,7 +1,7 @@
 //! Each public call once with ample memory, on a carrier that comes in and a loop that it makes.
 ghost use Rattle.std.specs.Prelude.{◌∷◌, [], ◌≡◌, IfOk};
 
-use crate::{Verdict, fact_plain, facts_plain, run_plain};
+use crate::{Verdict, fact_plain, run_plain, run_telling};
 use knit_base::{
     Bed, CarrierNo, Declared, Dir, Instr, Needle, NoMemory, Profile, Read, Reads, Yarns,
 };
@@ -35,7 +35,7 @@ fn a_loop_by_its_line(rt: HostRuntime) -> Result<(), Fail> {
     let mut reads = Reads::new(alloc);
     reads.push(Read::Instr(Instr::CarryIn(first_carrier(alloc)?)))?;
     reads.push(Read::Instr(Instr::Tuck(Dir::Left, needle, first_carrier(alloc)?)))?;
-    let facts = facts_plain(alloc, &MACHINE, &declared, &reads, 3)?;
+    let (_, facts) = run_telling(alloc, &MACHINE, &declared, &reads, 3)?;
     assert_eq!(rt; facts.len(), 1);
     let none = fact_plain(alloc, &MACHINE, &declared, &reads, 3, 3)?;
     assert!(rt; none.is_none());

@@ -8,15 +8,21 @@ use Rattle.carriage_model.specs.Run.{run, Ended}
 use Rattle.carriage_model.specs.Loops.{loops_made}
 use Rattle.carriage_model.specs.Verdict.{IsVerdict, IsFinal}
 use Rattle.carriage_model.proofs.Carriers.{names-declared}
-use Rattle.carriage_model.proofs.Needs.{line_has-places, line_has-room, lawful-item}
+use Rattle.carriage_model.proofs.Needs.{line_has-needles, line_has-places, line_has-room, lawful-item}
 use Rattle.carriage_model.proofs.Reached.{Reached, reached-start, reached-next, reached-stop, reached-end, reached-count}
 use Rattle.carriage_model.proofs.run.run_plain.Goals as goal
 
 pub loop-i-init : goal.loop-i-init
-loop-i-init c = reached-start _ _ _ _ c.new-machine.ensures.empty c.new-machine.ensures.kept
+loop-i-init c = reached-start _ _ _ _ c.in_ok-machine.ensures.empty c.in_ok-machine.ensures.needles
 
-pub broken-requires : goal.broken-requires
-broken-requires c =
+pub broken-requires-clause-needles : goal.broken-requires-clause-needles
+broken-requires-clause-needles c =
+    let here : Reached c.args.profile.now c.as_slice-read-items.result.now c.args.first c.loop-i.i c.loop-i.machine c.loop-i.made = c.loop-i.invariant in
+    line_has-needles c.args.profile.now (length c.args.declared.now) _ _ here.needles
+    (lawful-item _ _ _ _ _ c.read-item.result c.as_slice-read-items.ensures.items c.requires.lawful c.loop-i-test.true c.read-item.is)
+
+pub broken-requires-clause-places : goal.broken-requires-clause-places
+broken-requires-clause-places c =
     line_has-places c.args.profile.now (length c.args.declared.now) _
     (lawful-item _ _ _ _ _ c.read-item.result c.as_slice-read-items.ensures.items c.requires.lawful c.loop-i-test.true c.read-item.is)
 
@@ -30,8 +36,14 @@ returns-in-Some-clause-verdict c =
     (sym (reached-stop _ _ _ _ c.read-item.result _ _ _ c.loop-i-test.true c.read-item.is here broke))
     refl)
 
-pub step-requires : goal.step-requires
-step-requires c =
+pub step-requires-clause-needles : goal.step-requires-clause-needles
+step-requires-clause-needles c =
+    let here : Reached c.args.profile.now c.as_slice-read-items.result.now c.args.first c.loop-i.i c.loop-i.machine c.loop-i.made = c.loop-i.invariant in
+    line_has-needles c.args.profile.now (length c.args.declared.now) _ _ here.needles
+    (lawful-item _ _ _ _ _ c.read-item.result c.as_slice-read-items.ensures.items c.requires.lawful c.loop-i-test.true c.read-item.is)
+
+pub step-requires-clause-room : goal.step-requires-clause-room
+step-requires-clause-room c =
     let here : Reached c.args.profile.now c.as_slice-read-items.result.now c.args.first c.loop-i.i c.loop-i.machine c.loop-i.made = c.loop-i.invariant in
     line_has-room c.args.profile.now (length c.args.declared.now) _ _ here.state c.requires.profile
     (lawful-item _ _ _ _ _ c.read-item.result c.as_slice-read-items.ensures.items c.requires.lawful c.loop-i-test.true c.read-item.is)
