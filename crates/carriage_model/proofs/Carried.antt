@@ -1,5 +1,5 @@
 -- One line more of a run.
-use Rattle.std.proofs.Common.{◌≡◌, ℕ, ◌+◌, ◌≤◌, List, [], ◌∷◌, ◌++◌, length, Bool, true, false, Option, None, Some, IfSome, is_some, refl, ap, sym, subst, ◌∙◌, ◌<◌, arith, append_assoc, append-nil, length-append}
+use Rattle.std.proofs.Common.{◌≡◌, ℕ, ◌+◌, ◌≤◌, List, [], ◌∷◌, ◌++◌, length, Bool, true, false, Option, None, Some, IfSome, is_some, unwrap_or, refl, ap, sym, subst, ◌∙◌, ◌<◌, arith, append_assoc, append-nil, length-append}
 use Rattle.std.proofs.lemmas.Bool.{true≢false}
 use Rattle.std.proofs.lemmas.Option.{none-some}
 use Rattle.std.specs.Option.{option_to_list}
@@ -8,8 +8,13 @@ use Rattle.knit_base.specs.declared.instr.Read.{Read}
 use Rattle.knit_base.specs.declared.rule.Reason.{Reason}
 use Rattle.carriage_model.specs.declared.carriage.Carriage.{Carriage}
 use Rattle.carriage_model.specs.declared.verdict.LoopFact.{LoopFact}
-use Rattle.carriage_model.specs.Carriage.{HasRun, StandsAfter, WentOver, told_with}
-use Rattle.carriage_model.specs.Machine.{Represents}
+use Rattle.carriage_model.specs.Carriage.{HasRun, StandsAfter, TellsRun, WentOver, told_with}
+use Rattle.carriage_model.specs.Verdict.{IsFinal, IsVerdict}
+use Rattle.carriage_model.specs.declared.verdict.Final.{Final}
+use Rattle.carriage_model.specs.declared.verdict.Verdict.TheVariants.{Broken, Sound}
+use Rattle.knit_base.specs.declared.rule.Fault.{Fault}
+use Rattle.carriage_model.specs.Machine.{HasNeedlesOf, Represents}
+use Rattle.carriage_model.proofs.Needs.{needles-kept}
 use Rattle.carriage_model.specs.State.{State, empty_state}
 use Rattle.carriage_model.specs.Rules.{broken}
 use Rattle.carriage_model.specs.Steps.{step}
@@ -118,6 +123,7 @@ run-sound profile telling first reads r old mid new here is none sound over =
     record {
       lawful = here.lawful;
       same_profile = over.same_profile ∙ ap (λ (c : Carriage). c.profile) is ∙ here.same_profile;
+      needles = needles-kept profile mid.machine new.machine (subst (λ (c : Carriage). HasNeedlesOf profile c.machine) (sym is) here.needles) over.beds;
       next = omega (arith, over.next, ap (λ (c : Carriage). c.next) is, here.next, length-append reads (r ∷ []));
       stands =
           subst (StandsAfter new) (sym ends)
@@ -158,6 +164,7 @@ run-broken profile telling first reads r old new reason here is none broke =
     record {
       lawful = here.lawful;
       same_profile = ap (λ (c : Carriage). c.profile) is ∙ here.same_profile;
+      needles = subst (λ (c : Carriage). HasNeedlesOf profile c.machine) (sym is) here.needles;
       next = omega (arith, ap (λ (c : Carriage). c.next) is, here.next, length-append reads (r ∷ []));
       stands =
           subst (StandsAfter new) (sym stops)
@@ -188,6 +195,7 @@ run-stopped profile telling first reads r old new here is some =
     record {
       lawful = here.lawful;
       same_profile = ap (λ (c : Carriage). c.profile) is ∙ here.same_profile;
+      needles = subst (λ (c : Carriage). HasNeedlesOf profile c.machine) (sym is) here.needles;
       next = omega (arith, ap (λ (c : Carriage). c.next) is, here.next, length-append reads (r ∷ []));
       stands =
           subst (StandsAfter new) (sym (run-more profile empty_state first reads r))
@@ -210,3 +218,30 @@ told-few profile telling first reads carriage most here few =
 pub made-few : (profile : Profile) (telling : Bool) (first : ℕ) (reads : List Read) (carriage : Carriage) → HasRun profile telling first reads carriage
     → carriage.made ≤ carriage.next
 made-few profile telling first reads carriage here = omega (arith, here.made, here.next, loops-few profile empty_state first reads)
+
+-- what a carriage tells that no fault stopped
+pub tells-sound : (profile : Profile) (telling : Bool) (first : ℕ) (reads : List Read) (carriage : Carriage) (lines : ℕ) (final : Final) → HasRun profile telling first reads carriage
+    → carriage.fault ≡ None → lines ≡ length reads
+    → ((s : State) (loops : List LoopFact) → Represents carriage.machine s → carriage.made ≡ length loops → IsFinal final lines s loops)
+    → TellsRun profile telling first reads (Sound final) carriage.told
+tells-sound profile telling first reads carriage lines final here none count is =
+    let at : InState profile first reads carriage = standing profile telling first reads carriage here none in
+    let loops : List LoopFact = loops_made profile empty_state first reads in
+    record {
+      verdict_is = subst (λ ended. IsVerdict (length reads) (Sound final) ended loops) (sym at.ends)
+          (subst (λ n. IsFinal final n at.state loops) count (is at.state loops at.represented here.made));
+      told_is = here.told;
+    }
+
+stops-broken : (lines : ℕ) (carriage : Carriage) (fault : Fault) (ended : Ended) (loops : List LoopFact) → StandsAfter carriage ended → carriage.fault ≡ Some fault
+    → IsVerdict lines (Broken fault) ended loops
+stops-broken lines carriage fault (Ends s) loops stands some = absurd (none-some fault (sym stands.0 ∙ some))
+stops-broken lines carriage fault (Stops s stopped) loops stands some = ap (λ o. unwrap_or o fault) (sym some ∙ stands)
+
+-- what a carriage tells that stopped at a fault
+pub tells-broken : (profile : Profile) (telling : Bool) (first : ℕ) (reads : List Read) (carriage : Carriage) (fault : Fault) → HasRun profile telling first reads carriage
+    → carriage.fault ≡ Some fault → TellsRun profile telling first reads (Broken fault) carriage.told
+tells-broken profile telling first reads carriage fault here some = record {
+  verdict_is = stops-broken (length reads) carriage fault (run profile empty_state first reads) (loops_made profile empty_state first reads) here.stands some;
+  told_is = here.told;
+}

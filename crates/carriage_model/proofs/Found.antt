@@ -13,7 +13,9 @@ use Rattle.carriage_model.specs.State.{State, empty_state}
 use Rattle.carriage_model.specs.Rules.{broken}
 use Rattle.carriage_model.specs.Steps.{step}
 use Rattle.carriage_model.specs.Loops.{loops_made, made_on, fact_made, fact_of}
-use Rattle.carriage_model.specs.Machine.{Represents}
+use Rattle.carriage_model.specs.Beds.{SameBeds}
+use Rattle.carriage_model.specs.Machine.{Represents, HasNeedlesOf}
+use Rattle.carriage_model.proofs.Needs.{needles-kept}
 use Rattle.carriage_model.proofs.Reached.{loops-next, loops-stop, loops-end}
 
 pub none_from_test : {A : Type 0} (o : Option A) → is_some o ≡ false → o ≡ None
@@ -53,21 +55,24 @@ later_lines profile s k line (r ∷ rs) later =
 pub record Seeks (profile : Profile) (reads : List Read) (first i : ℕ) (machine : Machine) (line : ℕ) : Type 0 where
   pub state : State
   pub represented : Represents machine state
+  pub needles : HasNeedlesOf profile machine
   pub found : fact_of line (loops_made profile empty_state first reads) ≡ fact_of line (loops_made profile state (first + i) (drop i reads))
 
-unfoldable pub seeks-start : (profile : Profile) (reads : List Read) (first : ℕ) (machine : Machine) (line : ℕ) → Represents machine empty_state → Seeks profile reads first 0 machine line
-seeks-start profile reads first machine line new =
+unfoldable pub seeks-start : (profile : Profile) (reads : List Read) (first : ℕ) (machine : Machine) (line : ℕ) → Represents machine empty_state → HasNeedlesOf profile machine → Seeks profile reads first 0 machine line
+seeks-start profile reads first machine line new has =
     let here : first ≡ first + 0 = omega arith in
-    record { state = empty_state; represented = new; found = ap (λ k. fact_of line (loops_made profile empty_state k reads)) here }
+    record { state = empty_state; represented = new; needles = has; found = ap (λ k. fact_of line (loops_made profile empty_state k reads)) here }
 
 unfoldable pub seeks-next : (profile : Profile) (reads : List Read) (first i : ℕ) (r : Read) (old new : Machine) (line : ℕ) → i < length reads → r ≡ get_or reads i r → first + i ≢ line
     → (here : Seeks profile reads first i old line)
     → broken profile r here.state ≡ None
     → Represents new (step (first + i) r here.state)
+    → SameBeds old.beds new.beds
     → Seeks profile reads first (i + 1) new line
-seeks-next profile reads first i r old new line within is apart here sound after = record {
+seeks-next profile reads first i r old new line within is apart here sound after same = record {
   state = step (first + i) r here.state;
   represented = after;
+  needles = needles-kept profile old new here.needles same;
   found = here.found ∙ ap (fact_of line) (loops-next profile reads first i r here.state within is sound)
       ∙ other_line (first + i) line (fact_made (first + i) r here.state) (loops_made profile (step (first + i) r here.state) (first + (i + 1)) (drop (i + 1) reads)) (fact_made-line (first + i) r here.state) apart;
 }
@@ -95,56 +100,3 @@ pub seeks-end : (profile : Profile) (reads : List Read) (first i : ℕ) (machine
     → (here : Seeks profile reads first i machine line)
     → fact_of line (loops_made profile empty_state first reads) ≡ None
 seeks-end profile reads first i machine line past here = here.found ∙ ap (fact_of line) (loops-end profile reads first i here.state past)
-
--- the machine stands for a state, and the loops of the whole are those made so far and those of the other lines
-pub record Gathers (profile : Profile) (reads : List Read) (first i : ℕ) (machine : Machine) (facts : List LoopFact) : Type 0 where
-  pub state : State
-  pub represented : Represents machine state
-  pub making : loops_made profile empty_state first reads ≡ facts ++ loops_made profile state (first + i) (drop i reads)
-  pub few : length facts ≤ i
-
-unfoldable pub gathers-start : (profile : Profile) (reads : List Read) (first : ℕ) (machine : Machine) (facts : List LoopFact) → Represents machine empty_state → facts ≡ [] → Gathers profile reads first 0 machine facts
-gathers-start profile reads first machine facts new none =
-    let here : first ≡ first + 0 = omega arith in
-    record {
-      state = empty_state;
-      represented = new;
-      making = ap (λ k. loops_made profile empty_state k reads) here ∙ sym (ap (λ (l : List LoopFact). l ++ loops_made profile empty_state (first + 0) reads) none);
-      few = omega (arith, ap length none);
-    }
-
-pub at_most-one : (fact : Option LoopFact) → length (option_to_list fact) ≤ 1
-at_most-one None = omega arith
-at_most-one (Some fact) = omega arith
-
-unfoldable pub gathers-next : (profile : Profile) (reads : List Read) (first i : ℕ) (r : Read) (old new : Machine) (facts more : List LoopFact) (fact : Option LoopFact) → i < length reads → r ≡ get_or reads i r
-    → (here : Gathers profile reads first i old facts)
-    → broken profile r here.state ≡ None
-    → fact ≡ fact_made (first + i) r here.state
-    → more ≡ facts ++ option_to_list fact
-    → Represents new (step (first + i) r here.state)
-    → Gathers profile reads first (i + 1) new more
-gathers-next profile reads first i r old new facts more fact within is here sound made grown after =
-    let later : List LoopFact = loops_made profile (step (first + i) r here.state) (first + (i + 1)) (drop (i + 1) reads) in
-    record {
-      state = step (first + i) r here.state;
-      represented = after;
-      making = here.making ∙ ap (λ (l : List LoopFact). facts ++ l) (loops-next profile reads first i r here.state within is sound)
-          ∙ ap (λ o. facts ++ (option_to_list o ++ later)) (sym made)
-          ∙ sym (append_assoc facts (option_to_list fact) later)
-          ∙ ap (λ (l : List LoopFact). l ++ later) (sym grown);
-      few = omega (arith, here.few, ap length grown, length-append facts (option_to_list fact), at_most-one fact);
-    }
-
-pub gathers-stop : (profile : Profile) (reads : List Read) (first i : ℕ) (r : Read) (machine : Machine) (facts : List LoopFact) → i < length reads → r ≡ get_or reads i r
-    → (here : Gathers profile reads first i machine facts)
-    → is_some (broken profile r here.state) ≡ true
-    → facts ≡ loops_made profile empty_state first reads
-gathers-stop profile reads first i r machine facts within is here broke =
-    sym (here.making ∙ ap (λ (l : List LoopFact). facts ++ l) (loops-stop profile reads first i r here.state within is broke) ∙ append-nil facts)
-
-pub gathers-end : (profile : Profile) (reads : List Read) (first i : ℕ) (machine : Machine) (facts : List LoopFact) → length reads ≤ i
-    → (here : Gathers profile reads first i machine facts)
-    → facts ≡ loops_made profile empty_state first reads
-gathers-end profile reads first i machine facts past here =
-    sym (here.making ∙ ap (λ (l : List LoopFact). facts ++ l) (loops-end profile reads first i here.state past) ∙ append-nil facts)

@@ -5,4 +5,6 @@ pub mod Found
 pub mod Listed
 pub mod Machines
 pub mod Needs
+pub mod Places
 pub mod Reached
+pub mod Stacked

@@ -1,40 +1,199 @@
--- The list of a map's entries has the stacks that the map has.
-use Rattle.std.proofs.Common.{◌≡◌, ℕ, ◌<◌, Bool, true, false, cond, List, [], ◌∷◌, length, get_or, map, unwrap_or, Option, Some, IfSome, refl, sym, ap, subst, ◌∙◌}
+-- The list of the needles that hold loops, of the stacks in the row.
+use Rattle.std.proofs.Common.{◌≡◌, ◌≢◌, ℕ, zero, suc, ◌+◌, ◌*◌, ◌<◌, ◌≤◌, ℤ, Bool, true, false, cond, List, [], ◌∷◌, ◌++◌, length, get_or, map, nat_eq, All, refl, sym, ap, subst, ◌∙◌, arith, add_assoc}
+use Rattle.std.specs.declared.cmp.Ordering.TheVariants.{Less}
+use Rattle.std.specs.List.{AllByRecursion, enumerate_from}
 use Rattle.std.specs.List.Sorted.{IsStrictlySortedBy}
-use Rattle.std.specs.Map.{lookup}
-use Rattle.std.specs.BTreeMap.{get, is_at, IsOrdered}
-use Rattle.std.proofs.lemmas.List.Elements.{All-map}
-use Rattle.std.proofs.lemmas.Option.{slice_get-get_or}
-use Rattle.std.proofs.lemmas.Map.Entries.{btree_map_get_place}
+use Rattle.std.proofs.lemmas.Bool.{true≢false, eqb-true}
+use Rattle.std.proofs.lemmas.List.Elements.{All-nil, All-cons}
+use Rattle.knit_base.proofs.Places.{by_test}
 use Rattle.knit_base.specs.declared.needle.Needle.{Needle}
-use Rattle.knit_base.specs.Needle.{needle_cmp, same_needle, needle_cmp_total}
+use Rattle.knit_base.specs.Needle.{needle_cmp, same_needle, same_needle-true}
 use Rattle.carriage_model.specs.declared.verdict.Stack.{Stack}
-use Rattle.carriage_model.specs.declared.machine.Machine.{Machine}
-use Rattle.carriage_model.specs.Machine.{Represents, stack_from}
-use Rattle.carriage_model.specs.State.{State}
+use Rattle.carriage_model.specs.Places.{Spans, is_spanned, place_in, needle_at, stack_in}
 use Rattle.carriage_model.specs.Verdict.{AreStacks, loops_on}
+use Rattle.carriage_model.proofs.Places.{needles-rise, needle_at-spans, needle_at-place, place-needle_at, spans, spanned, same_needle-false, same_needle-refl}
 
-needles_listed : (es : List (Needle × List ℕ)) → map (λ (stack : Stack). stack.needle) (map stack_from es) ≡ map (λ e. e.0) es
-needles_listed [] = refl
-needles_listed (e ∷ es) = ap (λ ns. e.0 ∷ ns) (needles_listed es)
+-- the needles of these stacks, of which the first stands at this place, that hold loops
+abbrev pub listed : ℤ → ℕ → ℕ → List (List ℕ) → List Stack
+listed low width p [] = []
+listed low width p ([] ∷ rest) = listed low width (p + 1) rest
+listed low width p ((line ∷ lines) ∷ rest) = record { needle = needle_at low width p; loops = line ∷ lines } ∷ listed low width (p + 1) rest
 
-found_or : (b : Bool) (loops rest : List ℕ) (found : Option (List ℕ)) → rest ≡ unwrap_or found [] → cond b loops rest ≡ unwrap_or (cond b (Some loops) found) []
-found_or true loops rest found is = refl
-found_or false loops rest found is = is
+abbrev needle_of : Stack → Needle
+needle_of stack = stack.needle
 
-loops_listed : (es : List (Needle × List ℕ)) (n : Needle) → loops_on (map stack_from es) n ≡ unwrap_or (lookup (is_at (needle_cmp n)) es) []
-loops_listed [] n = refl
-loops_listed (e ∷ es) n = found_or (same_needle n e.0) e.1 _ _ (loops_listed es n)
+pub few : (low : ℤ) (width p : ℕ) (stacks : List (List ℕ)) → length (listed low width p stacks) ≤ length stacks
+few low width p [] = omega arith
+few low width p ([] ∷ rest) = omega (arith, few low width (p + 1) rest)
+few low width p ((line ∷ lines) ∷ rest) = omega (arith, few low width (p + 1) rest)
 
-pub listed-stacks : (machine : Machine) (s : State) (list : List Stack) → Represents machine s → IsOrdered needle_cmp machine.stacks
-    → list ≡ map stack_from machine.stacks.entries → AreStacks list s.stacks
-listed-stacks machine s list here ordered is =
-    let es : List (Needle × List ℕ) = machine.stacks.entries in
-    subst (λ l. AreStacks l s.stacks) (sym is) (record {
-      in_order = subst (IsStrictlySortedBy needle_cmp) (sym (needles_listed es)) ordered;
-      nonempty = All-map (λ (stack : Stack). 0 < length stack.loops) stack_from es (λ k d within.
-          let e : Needle × List ℕ = get_or es k d in
-          let found : get needle_cmp machine.stacks e.0 ≡ Some e.1 = btree_map_get_place needle_cmp_total machine.stacks k e.0 e.1 ordered (slice_get-get_or es k d within) in
-          subst (λ f. IfSome f (λ loops. 0 < length loops)) found (here.nonempty e.0));
-      loops = λ n. loops_listed es n ∙ here.stacks n;
+all-after : (low : ℤ) (width p q : ℕ) (stacks : List (List ℕ)) → p < q → q + length stacks ≤ 4 * width
+    → AllByRecursion (λ n. needle_cmp (needle_at low width p) n ≡ Less) (map needle_of (listed low width q stacks))
+all-after low width p q [] less within = tt
+all-after low width p q ([] ∷ rest) less within =
+    let less1 : p < q + 1 = omega arith in
+    let within1 : q + 1 + length rest ≤ 4 * width = omega arith in
+    all-after low width p (q + 1) rest less1 within1
+all-after low width p q ((line ∷ lines) ∷ rest) less within =
+    let less1 : p < q + 1 = omega arith in
+    let within1 : q + 1 + length rest ≤ 4 * width = omega arith in
+    let here : q < 4 * width = omega arith in
+    (needles-rise low width p q less here, all-after low width p (q + 1) rest less1 within1)
+
+in_order : (low : ℤ) (width p : ℕ) (stacks : List (List ℕ)) → p + length stacks ≤ 4 * width → IsStrictlySortedBy needle_cmp (map needle_of (listed low width p stacks))
+unfolding IsStrictlySortedBy
+in_order low width p [] within = tt
+in_order low width p ([] ∷ rest) within =
+    let within1 : p + 1 + length rest ≤ 4 * width = omega arith in
+    in_order low width (p + 1) rest within1
+in_order low width p ((line ∷ lines) ∷ rest) within =
+    let less : p < p + 1 = omega arith in
+    let within1 : p + 1 + length rest ≤ 4 * width = omega arith in
+    (all-after low width p (p + 1) rest less within1, in_order low width (p + 1) rest within1)
+
+abbrev HoldsLoops : Stack → Type 0
+HoldsLoops stack = 0 < length stack.loops
+
+nonempty : (low : ℤ) (width p : ℕ) (stacks : List (List ℕ)) → All HoldsLoops (listed low width p stacks)
+nonempty low width p [] = All-nil HoldsLoops
+nonempty low width p ([] ∷ rest) = nonempty low width (p + 1) rest
+nonempty low width p ((line ∷ lines) ∷ rest) =
+    All-cons HoldsLoops (record { needle = needle_at low width p; loops = line ∷ lines }) (listed low width (p + 1) rest) (omega arith) (nonempty low width (p + 1) rest)
+
+-- none of the needles from this place on is this needle
+abbrev IsAway : ℤ → ℕ → ℕ → Needle → Type 0
+IsAway low width p n = (k : ℕ) → p ≤ k → k < 4 * width → same_needle n (needle_at low width k) ≡ false
+
+away-next : (low : ℤ) (width p : ℕ) (n : Needle) → IsAway low width p n → IsAway low width (p + 1) n
+away-next low width p n away k from below = away k (omega arith) below
+
+away-none : (low : ℤ) (width p : ℕ) (n : Needle) (stacks : List (List ℕ)) → p + length stacks ≤ 4 * width → IsAway low width p n → loops_on (listed low width p stacks) n ≡ []
+away-none low width p n [] within away = refl
+away-none low width p n ([] ∷ rest) within away =
+    let within1 : p + 1 + length rest ≤ 4 * width = omega arith in
+    away-none low width (p + 1) n rest within1 (away-next low width p n away)
+away-none low width p n ((line ∷ lines) ∷ rest) within away =
+    let within1 : p + 1 + length rest ≤ 4 * width = omega arith in
+    let here : p < 4 * width = omega arith in
+    let same : p ≤ p = omega arith in
+    ap (λ b. cond b (line ∷ lines) (loops_on (listed low width (p + 1) rest) n)) (away p same here) ∙ away-none low width (p + 1) n rest within1 (away-next low width p n away)
+
+-- a needle that the beds don't have is none of those at places
+off-away : (low : ℤ) (width : ℕ) (n : Needle) → is_spanned low width n.at ≡ false → IsAway low width 0 n
+off-away low width n off k from below =
+    same_needle-false n (needle_at low width k) (λ e. true≢false (sym (spanned low width (needle_at low width k).at (needle_at-spans low width k below)) ∙ ap (λ (m : Needle). is_spanned low width m.at) (sym e) ∙ off))
+
+-- two needles at two places are two
+other-place : (low : ℤ) (width k : ℕ) (n : Needle) → place_in low width n ≢ k → same_needle n (needle_at low width k) ≡ false
+other-place low width k n apart = same_needle-false n (needle_at low width k) (λ e. apart (ap (place_in low width) e ∙ place-needle_at low width k))
+
+own-place : (low : ℤ) (width k : ℕ) (n : Needle) → Spans low width n.at → place_in low width n ≡ k → same_needle n (needle_at low width k) ≡ true
+own-place low width k n on is = ap (same_needle n) (ap (needle_at low width) (sym is) ∙ needle_at-place low width n on) ∙ same_needle-refl n
+
+found : (low : ℤ) (width p j : ℕ) (n : Needle) (stacks : List (List ℕ)) → p + length stacks ≤ 4 * width → Spans low width n.at → place_in low width n ≡ p + j
+    → loops_on (listed low width p stacks) n ≡ get_or stacks j []
+found low width p j n [] within on is = refl
+found low width p zero n ([] ∷ rest) within on is =
+    let within1 : p + 1 + length rest ≤ 4 * width = omega arith in
+    away-none low width (p + 1) n rest within1 (λ k from below. other-place low width k n (λ e. omega arith))
+found low width p (suc j) n ([] ∷ rest) within on is =
+    let within1 : p + 1 + length rest ≤ 4 * width = omega arith in
+    found low width (p + 1) j n rest within1 on (omega arith)
+found low width p zero n ((line ∷ lines) ∷ rest) within on is =
+    ap (λ b. cond b (line ∷ lines) (loops_on (listed low width (p + 1) rest) n)) (own-place low width p n on (omega arith))
+found low width p (suc j) n ((line ∷ lines) ∷ rest) within on is =
+    let within1 : p + 1 + length rest ≤ 4 * width = omega arith in
+    ap (λ b. cond b (line ∷ lines) (loops_on (listed low width (p + 1) rest) n)) (other-place low width p n (λ e. omega arith))
+    ∙ found low width (p + 1) j n rest within1 on (omega arith)
+
+loops-by : (low : ℤ) (width : ℕ) (stacks : List (List ℕ)) (n : Needle) → length stacks ≤ 4 * width → (b : Bool) → is_spanned low width n.at ≡ b
+    → loops_on (listed low width 0 stacks) n ≡ cond b (get_or stacks (place_in low width n) []) []
+loops-by low width stacks n full true on = found low width 0 (place_in low width n) n stacks (omega arith) (spans low width n.at on) (omega arith)
+loops-by low width stacks n full false off = away-none low width 0 n stacks (omega arith) (off-away low width n off)
+
+-- the list of all stacks has what the needles hold
+pub listed-stacks : (low : ℤ) (width : ℕ) (stacks : List (List ℕ)) (list : List Stack) → length stacks ≡ 4 * width → list ≡ listed low width 0 stacks → AreStacks list (stack_in low width stacks)
+listed-stacks low width stacks list full is =
+    let within : length stacks ≤ 4 * width = omega arith in
+    let here : 0 + length stacks ≤ 4 * width = omega arith in
+    subst (λ l. AreStacks l (stack_in low width stacks)) (sym is) (record {
+      in_order = in_order low width 0 stacks here;
+      nonempty = nonempty low width 0 stacks;
+      loops = λ n. loops-by low width stacks n within (is_spanned low width n.at) refl;
     })
+
+pub listed-empty : (low : ℤ) (width p : ℕ) (stacks : List (List ℕ)) (loops : List ℕ) → length loops ≡ 0 → listed low width p (stacks ++ loops ∷ []) ≡ listed low width p stacks
+listed-empty low width p [] [] none = refl
+listed-empty low width p [] (line ∷ lines) none = absurd (omega arith)
+listed-empty low width p ([] ∷ rest) loops none = listed-empty low width (p + 1) rest loops none
+listed-empty low width p ((line ∷ lines) ∷ rest) loops none =
+    ap (λ l. record { needle = needle_at low width p; loops = line ∷ lines } ∷ l) (listed-empty low width (p + 1) rest loops none)
+
+pub listed-more : (low : ℤ) (width p q : ℕ) (stacks : List (List ℕ)) (loops : List ℕ) → 0 < length loops → q ≡ p + length stacks
+    → listed low width p (stacks ++ loops ∷ []) ≡ listed low width p stacks ++ record { needle = needle_at low width q; loops = loops } ∷ []
+listed-more low width p q [] [] some is = absurd (omega arith)
+listed-more low width p q [] (line ∷ lines) some is =
+    let here : p ≡ q = omega arith in
+    ap (λ k. record { needle = needle_at low width k; loops = line ∷ lines } ∷ []) here
+listed-more low width p q ([] ∷ rest) loops some is = listed-more low width (p + 1) q rest loops some (omega arith)
+listed-more low width p q ((line ∷ lines) ∷ rest) loops some is =
+    ap (λ l. record { needle = needle_at low width p; loops = line ∷ lines } ∷ l) (listed-more low width (p + 1) q rest loops some (omega arith))
+
+-- the stacks of numbered ones
+abbrev pub stacks_of : List (ℕ × List ℕ) → List (List ℕ)
+stacks_of = map (λ p. p.1)
+
+rewritten : (xs : List (ℕ × List ℕ)) → stacks_of (map (λ (p : ℕ × List ℕ). (p.0, p.1)) xs) ≡ stacks_of xs
+rewritten [] = refl
+rewritten (x ∷ xs) = ap (λ l. x.1 ∷ l) (rewritten xs)
+
+unnumbered : (i : ℕ) (stacks : List (List ℕ)) → stacks_of (enumerate_from i stacks) ≡ stacks
+unnumbered i [] = refl
+unnumbered i (loops ∷ stacks) = ap (λ l. loops ∷ l) (unnumbered (i + 1) stacks)
+
+-- all stacks were gone over
+pub all-stacks : (xs : List (ℕ × List ℕ)) (stacks : List (List ℕ)) → map (λ (p : ℕ × List ℕ). (p.0, p.1)) xs ≡ enumerate_from 0 stacks → stacks_of xs ≡ stacks
+all-stacks xs stacks e = sym (rewritten xs) ∙ ap stacks_of e ∙ unnumbered 0 stacks
+
+pub enumerate-length : (i : ℕ) (stacks : List (List ℕ)) → length (enumerate_from i stacks) ≡ length stacks
+enumerate-length i [] = refl
+enumerate-length i (loops ∷ stacks) = ap suc (enumerate-length (i + 1) stacks)
+
+-- a stack is numbered by its place
+pub numbered : (i j : ℕ) (stacks : List (List ℕ)) (p : ℕ × List ℕ) → j < length (enumerate_from i stacks) → p ≡ get_or (enumerate_from i stacks) j p → p.0 ≡ i + j
+numbered i j [] p within is = absurd (omega arith)
+numbered i zero (loops ∷ stacks) p within is = omega (arith, ap (λ (q : ℕ × List ℕ). q.0) is)
+numbered i (suc j) (loops ∷ stacks) p within is = omega (arith, numbered (i + 1) j stacks p (omega arith) is)
+
+pub stacks_of-length : (xs : List (ℕ × List ℕ)) → length (stacks_of xs) ≡ length xs
+stacks_of-length [] = refl
+stacks_of-length (x ∷ xs) = ap suc (stacks_of-length xs)
+
+stacks_of-more : (xs : List (ℕ × List ℕ)) (p : ℕ × List ℕ) → stacks_of (xs ++ p ∷ []) ≡ stacks_of xs ++ p.1 ∷ []
+stacks_of-more [] p = refl
+stacks_of-more (x ∷ xs) p = ap (λ l. x.1 ∷ l) (stacks_of-more xs p)
+
+-- a stack with loops came to the list
+pub list-grows : (low : ℤ) (width place : ℕ) (xs : List (ℕ × List ℕ)) (loops : List ℕ) (needle : Needle) (list new : List Stack)
+    → list ≡ listed low width 0 (stacks_of xs) → needle ≡ needle_at low width place → place ≡ length xs → 0 < length loops
+    → new ≡ list ++ record { needle = needle; loops = loops } ∷ []
+    → new ≡ listed low width 0 (stacks_of (xs ++ (place, loops) ∷ []))
+list-grows low width place xs loops needle list new before is there some pushed =
+    let here : place ≡ 0 + length (stacks_of xs) = omega (arith, there, stacks_of-length xs) in
+    pushed
+    ∙ ap (λ (l : List Stack). l ++ record { needle = needle; loops = loops } ∷ []) before
+    ∙ ap (λ (n : Needle). listed low width 0 (stacks_of xs) ++ record { needle = n; loops = loops } ∷ []) is
+    ∙ sym (ap (listed low width 0) (stacks_of-more xs (place, loops)) ∙ listed-more low width 0 place (stacks_of xs) loops some here)
+
+-- an empty stack was passed over
+pub list-stays : (low : ℤ) (width place : ℕ) (xs : List (ℕ × List ℕ)) (loops : List ℕ) (list : List Stack)
+    → list ≡ listed low width 0 (stacks_of xs) → length loops ≡ 0 → list ≡ listed low width 0 (stacks_of (xs ++ (place, loops) ∷ []))
+list-stays low width place xs loops list before none =
+    before ∙ sym (ap (listed low width 0) (stacks_of-more xs (place, loops)) ∙ listed-empty low width 0 (stacks_of xs) loops none)
+
+pub some_from_test : (loops : List ℕ) → nat_eq (length loops) 0 ≡ false → 0 < length loops
+some_from_test [] e = absurd (true≢false e)
+some_from_test (line ∷ lines) e = omega arith
+
+pub none_from_test : (loops : List ℕ) → nat_eq (length loops) 0 ≡ true → length loops ≡ 0
+none_from_test loops e = eqb-true (length loops) 0 e

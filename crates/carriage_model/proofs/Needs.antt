@@ -1,21 +1,24 @@
 -- What a lawful line that breaks no rule needs is there.
-use Rattle.std.proofs.Common.{◌≡◌, ℕ, ◌+◌, ◌<◌, ◌≤◌, Bool, true, false, nat_lt, List, [], ◌∷◌, length, Option, None, Some, is_some, All, get_or, subst, sym, ap, refl, arith}
+use Rattle.std.proofs.Common.{◌≡◌, ℕ, ◌+◌, ◌<◌, ◌≤◌, Bool, true, false, nat_lt, List, [], ◌∷◌, length, Option, None, Some, is_some, All, get_or, subst, sym, ap, refl, ◌∙◌, pos, ◌+ℤ◌, arith}
 use Rattle.std.proofs.lemmas.List.Elements.{All-get_or, All-same}
 use Rattle.std.proofs.lemmas.Bool.{true≢false, ltb-false}
-use Rattle.knit_base.specs.Lawful.{IsLawful, IsLawfulRead}
+use Rattle.std.proofs.lemmas.Int.{ints}
+use Rattle.knit_base.specs.Lawful.{IsLawful, IsLawfulRead, IsOnBed}
 use Rattle.knit_base.specs.Limits.{IsLawfulProfile}
 use Rattle.knit_base.specs.Reasons.{broken_if, or_else}
-use Rattle.knit_base.specs.declared.instr.Instr.TheVariants.{CarryIn, CarryOut, HookIn, HookOut, Knit, Tuck, Miss, Split, Xfer}
+use Rattle.knit_base.specs.declared.instr.Instr.TheVariants.{CarryIn, CarryOut, HookIn, HookOut, Knit, Tuck, Miss, Split, Xfer, Drop}
 use Rattle.knit_base.specs.declared.instr.Instr.{Instr}
 use Rattle.knit_base.specs.declared.instr.Read.{Read}
 use Rattle.knit_base.specs.declared.instr.Read.TheVariants as read
 use Rattle.knit_base.specs.declared.rule.Rule.{Rule}
 use Rattle.knit_base.specs.declared.rule.Reason.{Reason}
 use Rattle.knit_base.specs.declared.profile.Profile.{Profile}
+use Rattle.knit_base.specs.declared.needle.Needle.{Needle}
 use Rattle.carriage_model.specs.declared.machine.Machine.{Machine}
 use Rattle.carriage_model.specs.State.{State}
 use Rattle.carriage_model.specs.Rules.{broken, broken_instr, carriers_out, not_aligned, slider_holds, too_many}
-use Rattle.carriage_model.specs.Machine.{Represents, HasPlaces, HasPlacesInLine, HasRoom, HasRoomInLine}
+use Rattle.carriage_model.specs.Beds.{IsOn, SameBeds}
+use Rattle.carriage_model.specs.Machine.{Represents, HasNeedlesOf, HasNeedles, HasNeedlesInLine, HasPlaces, HasPlacesInLine, HasRoom, HasRoomInLine}
 
 instr_has-places : (profile : Profile) (d : ℕ) (i : Instr) → IsLawful profile d i → HasPlaces i
 instr_has-places profile d (CarryIn cs) lawful = lawful.places
@@ -31,6 +34,33 @@ instr_has-places profile d i lawful = tt
 pub line_has-places : (profile : Profile) (d : ℕ) (r : Read) → IsLawfulRead profile d r → HasPlacesInLine r
 line_has-places profile d (read.Instr i) lawful = instr_has-places profile d i lawful
 line_has-places profile d r lawful = tt
+
+-- a needle on the profile's beds is one of the machine's
+on_bed-is_on : (profile : Profile) (n : Needle) (machine : Machine) → HasNeedlesOf profile machine → IsOnBed profile n → IsOn machine.beds n.at
+on_bed-is_on profile n machine has on = record {
+  above = omega (arith, ints, has.low, on.above);
+  below = omega (arith, ints, has.low, has.width, on.below);
+}
+
+instr_has-needles : (profile : Profile) (d : ℕ) (i : Instr) (machine : Machine) → HasNeedlesOf profile machine → IsLawful profile d i → HasNeedles machine i
+instr_has-needles profile d (Knit dir n cs) machine has lawful = on_bed-is_on profile n machine has lawful.0
+instr_has-needles profile d (Tuck dir n cs) machine has lawful = on_bed-is_on profile n machine has lawful.0
+instr_has-needles profile d (Split dir n n2 cs) machine has lawful = (on_bed-is_on profile n machine has lawful.0, on_bed-is_on profile n2 machine has lawful.1)
+instr_has-needles profile d (Xfer n n2) machine has lawful = (on_bed-is_on profile n machine has lawful.0, on_bed-is_on profile n2 machine has lawful.1)
+instr_has-needles profile d (Drop n) machine has lawful = on_bed-is_on profile n machine has lawful
+instr_has-needles profile d i machine has lawful = tt
+
+-- a lawful line's needles are the machine's
+pub line_has-needles : (profile : Profile) (d : ℕ) (r : Read) (machine : Machine) → HasNeedlesOf profile machine → IsLawfulRead profile d r → HasNeedlesInLine machine r
+line_has-needles profile d (read.Instr i) machine has lawful = instr_has-needles profile d i machine has lawful
+line_has-needles profile d r machine has lawful = tt
+
+-- a step leaves the machine its needles
+pub needles-kept : (profile : Profile) (old new : Machine) → HasNeedlesOf profile old → SameBeds old.beds new.beds → HasNeedlesOf profile new
+needles-kept profile old new has same = record {
+  low = same.low ∙ has.low;
+  width = ap (λ w. profile.low +ℤ pos w) same.width ∙ has.width;
+}
 
 -- a reading of the list is lawful
 pub lawful-item : (profile : Profile) (d : ℕ) (items reads : List Read) (i : ℕ) (r : Read) → items ≡ reads → All (IsLawfulRead profile d) reads → i < length items → r ≡ get_or items i r

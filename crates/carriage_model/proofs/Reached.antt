@@ -2,7 +2,6 @@
 use Rattle.std.proofs.Common.{◌≡◌, ℕ, ◌+◌, ◌<◌, ◌≤◌, List, [], ◌∷◌, ◌++◌, drop, length, get_or, Option, None, Some, is_some, true, refl, ap, sym, ◌∙◌, arith, add_assoc, length-append}
 use Rattle.std.specs.Option.{option_to_list}
 use Rattle.std.proofs.lemmas.Bool.{true≢false}
-use Rattle.std.proofs.lemmas.Bool.{true≢false}
 use Rattle.std.proofs.lemmas.List.{drop_more, drop_all}
 use Rattle.knit_base.specs.declared.profile.Profile.{Profile}
 use Rattle.knit_base.specs.declared.instr.Read.{Read}
@@ -14,7 +13,9 @@ use Rattle.carriage_model.specs.Rules.{broken}
 use Rattle.carriage_model.specs.Steps.{step}
 use Rattle.carriage_model.specs.Run.{run, run_on, Stops, Ends}
 use Rattle.carriage_model.specs.Loops.{loops_made, made_on, fact_made}
-use Rattle.carriage_model.specs.Machine.{Represents, needles_kept}
+use Rattle.carriage_model.specs.Beds.{SameBeds}
+use Rattle.carriage_model.specs.Machine.{Represents, HasNeedlesOf}
+use Rattle.carriage_model.proofs.Needs.{needles-kept}
 
 unfold_reads : (reads : List Read) (i : ℕ) (r : Read) → i < length reads → r ≡ get_or reads i r → drop i reads ≡ r ∷ drop (i + 1) reads
 unfold_reads reads i r within is = drop_more reads i r within ∙ ap (λ x. x ∷ drop (i + 1) reads) (sym is)
@@ -63,23 +64,23 @@ pub record Reached (profile : Profile) (reads : List Read) (first i : ℕ) (mach
   pub goes_on : run profile empty_state first reads ≡ run profile state (first + i) (drop i reads)
   pub counted : length (loops_made profile empty_state first reads) ≡ made + length (loops_made profile state (first + i) (drop i reads))
   pub few : made ≤ i
-  pub kept : needles_kept machine ≤ i
+  pub needles : HasNeedlesOf profile machine
 
-unfoldable pub reached-start : (profile : Profile) (reads : List Read) (first : ℕ) (machine : Machine) → Represents machine empty_state → needles_kept machine ≡ 0 → Reached profile reads first 0 machine 0
-reached-start profile reads first machine new none = record {
+unfoldable pub reached-start : (profile : Profile) (reads : List Read) (first : ℕ) (machine : Machine) → Represents machine empty_state → HasNeedlesOf profile machine → Reached profile reads first 0 machine 0
+reached-start profile reads first machine new has = record {
   state = empty_state;
   represented = new;
   goes_on = ap (λ k. run profile empty_state k reads) (omega arith);
   counted = let here : first ≡ first + 0 = omega arith in omega (arith, ap (λ k. length (loops_made profile empty_state k reads)) here);
   few = omega arith;
-  kept = omega (arith, none);
+  needles = has;
 }
 
 unfoldable pub reached-next : (profile : Profile) (reads : List Read) (first i : ℕ) (r : Read) (old new : Machine) (made more : ℕ) → i < length reads → r ≡ get_or reads i r
     → (here : Reached profile reads first i old made)
     → broken profile r here.state ≡ None
     → Represents new (step (first + i) r here.state)
-    → needles_kept new ≤ needles_kept old + 1
+    → SameBeds old.beds new.beds
     → more ≡ length (option_to_list (fact_made (first + i) r here.state))
     → more ≤ 1
     → Reached profile reads first (i + 1) new (made + more)
@@ -96,7 +97,7 @@ reached-next profile reads first i r old new made more within is here sound afte
     length-append (option_to_list (fact_made (first + i) r here.state)) (loops_made profile (step (first + i) r here.state) (first + (i + 1)) (drop (i + 1) reads)),
   );
   few = omega (arith, here.few);
-  kept = omega (arith, here.kept);
+  needles = needles-kept profile old new here.needles kept;
 }
 
 pub reached-stop : (profile : Profile) (reads : List Read) (first i : ℕ) (r : Read) (machine : Machine) (made : ℕ) (reason : Reason) → i < length reads → r ≡ get_or reads i r

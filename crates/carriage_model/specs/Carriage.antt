@@ -7,9 +7,10 @@ use Rattle.knit_base.specs.declared.profile.Profile.{Profile}
 use Rattle.carriage_model.specs.declared.carriage.Carriage.{Carriage}
 use Rattle.carriage_model.specs.declared.verdict.LoopFact.{LoopFact}
 use Rattle.carriage_model.specs.declared.verdict.Verdict.{Verdict}
+use Rattle.carriage_model.specs.Beds.{SameBeds}
 use Rattle.carriage_model.specs.State.{State, empty_state}
 use Rattle.carriage_model.specs.Loops.{loops_made, loops_asked, fact_made}
-use Rattle.carriage_model.specs.Machine.{Represents}
+use Rattle.carriage_model.specs.Machine.{HasNeedlesOf, Represents}
 use Rattle.carriage_model.specs.Run.{run, Ended, Ends, Stops}
 use Rattle.carriage_model.specs.Steps.{step}
 use Rattle.carriage_model.specs.Verdict.{IsVerdict}
@@ -24,6 +25,7 @@ StandsAfter carriage (Stops s fault) = carriage.fault ≡ Some fault
 pub record HasRun (profile : Profile) (telling : Bool) (first : ℕ) (reads : List Read) (carriage : Carriage) : Type 0 where
   pub lawful : IsLawfulProfile profile
   pub same_profile : carriage.profile ≡ profile
+  pub needles : HasNeedlesOf profile carriage.machine
   pub next : carriage.next ≡ first + length reads
   pub stands : StandsAfter carriage (run profile empty_state first reads)
   pub made : carriage.made ≡ length (loops_made profile empty_state first reads)
@@ -43,16 +45,12 @@ abbrev pub told_with : Option (List LoopFact) → Option LoopFact → Option (Li
 told_with None fact = None
 told_with (Some loops) fact = Some (loops ++ option_to_list fact)
 
--- nothing but the loops told has changed: they have that of line k
-pub record Tells (k : ℕ) (r : Read) (old new : Carriage) : Type 0 where
-  pub rest : new ≡ record old { told = new.told }
-  pub told : (s : State) → Represents old.machine s → new.told ≡ told_with old.told (fact_made k r s)
-
 -- line k was carried out, which breaks no rule
 pub record WentOver (k : ℕ) (r : Read) (old new : Carriage) : Type 0 where
   pub same_profile : new.profile ≡ old.profile
   pub next : new.next ≡ old.next
   pub fault : new.fault ≡ old.fault
+  pub beds : SameBeds old.machine.beds new.machine.beds
   pub machine : (s : State) → Represents old.machine s → Represents new.machine (step k r s)
   pub made : (s : State) → new.made ≡ old.made + length (option_to_list (fact_made k r s))
   pub told : (s : State) → Represents old.machine s → new.told ≡ told_with old.told (fact_made k r s)

@@ -1,6 +1,8 @@
+pub mod Beds
 pub mod Carriage
 pub mod Loops
 pub mod Machine
+pub mod Places
 pub mod Rules
 pub mod Run
 pub mod State

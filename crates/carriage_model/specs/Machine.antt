@@ -1,32 +1,25 @@
 -- What the program keeps, and the state that it stands for.
-use Rattle.std.specs.Prelude.{◌≡◌, ◌≢◌, ℕ, ◌+◌, ◌<◌, ◌^◌, List, [], ◌∷◌, length, unwrap_or, IfSome}
-use Rattle.std.specs.BTreeMap.{get, btree_map_len}
+use Rattle.std.specs.Prelude.{◌≡◌, ◌≢◌, ℕ, ◌+◌, ◌<◌, ◌^◌, pos, ◌+ℤ◌, List, [], ◌∷◌, length}
 use Rattle.knit_base.specs.declared.instr.Instr.{Instr}
 use Rattle.knit_base.specs.declared.instr.Instr.TheVariants.{CarryIn, CarryOut, HookIn, HookOut, ReleaseHook, Stitch, Pause, Extension, Rack, Knit, Tuck, Miss, Split, Xfer, Drop, Amiss}
 use Rattle.knit_base.specs.declared.instr.Read.{Read}
 use Rattle.knit_base.specs.declared.instr.Read.TheVariants as read
 use Rattle.knit_base.specs.declared.needle.Needle.{Needle}
+use Rattle.knit_base.specs.declared.profile.Profile.{Profile}
 use Rattle.knit_base.specs.declared.yarns.CarrierNo.{CarrierNo}
-use Rattle.knit_base.specs.Needle.{needle_cmp, is_front}
+use Rattle.knit_base.specs.Needle.{is_front}
 use Rattle.carriage_model.specs.declared.machine.Machine.{Machine}
-use Rattle.carriage_model.specs.declared.verdict.Stack.{Stack}
 use Rattle.carriage_model.specs.State.{State}
+use Rattle.carriage_model.specs.Beds.{IsOn, loops_at}
 
 -- the loops that the machine keeps for a needle
 abbrev pub stack_of : Machine → Needle → List ℕ
-stack_of machine n = unwrap_or (get needle_cmp machine.stacks n) []
+stack_of machine = loops_at machine.beds
 
--- how many needles the machine keeps
-abbrev pub needles_kept : Machine → ℕ
-needles_kept machine = btree_map_len machine.stacks
-
--- no needle is kept without loops
-abbrev pub IsTidy : Machine → Type 0
-IsTidy machine = (n : Needle) → IfSome (get needle_cmp machine.stacks n) (λ loops. 0 < length loops)
-
--- an entry of the machine's map as a list has it
-abbrev pub stack_from : Needle × List ℕ → Stack
-stack_from entry = record { needle = entry.0; loops = entry.1 }
+-- the machine has the needles of the profile
+pub record HasNeedlesOf (profile : Profile) (machine : Machine) : Type 0 where
+  pub low : machine.beds.low ≡ profile.low
+  pub width : (profile.low +ℤ pos machine.beds.width) ≡ (profile.high +ℤ pos 1)
 
 -- the machine stands so
 pub record Represents (machine : Machine) (s : State) : Type 0 where
@@ -34,15 +27,6 @@ pub record Represents (machine : Machine) (s : State) : Type 0 where
   pub ins : machine.ins ≡ s.ins
   pub hook : machine.hook ≡ s.hook
   pub stacks : (n : Needle) → stack_of machine n ≡ s.stacks n
-  pub nonempty : IsTidy machine
-
--- the needles now hold these loops, and all else is as it was
-pub record Holds (old new : Machine) (stacks : Needle → List ℕ) : Type 0 where
-  pub rack : new.rack ≡ old.rack
-  pub ins : new.ins ≡ old.ins
-  pub hook : new.hook ≡ old.hook
-  pub stacks_are : (n : Needle) → stack_of new n ≡ stacks n
-  pub nonempty : IsTidy old → IsTidy new
 
 -- the places of these carriers' tokens, of which the first is at this place, fit in 16 bits
 abbrev pub FitsPlaces : ℕ → List CarrierNo → Type 0
@@ -73,6 +57,32 @@ HasPlacesInLine read.Blank = Unit {0}
 HasPlacesInLine read.Comment = Unit {0}
 HasPlacesInLine (read.Broken reason) = Unit {0}
 HasPlacesInLine (read.Instr i) = HasPlaces i
+
+-- the machine has the needles whose loops the instruction asks for or changes
+abbrev pub HasNeedles : Machine → Instr → Type 0
+HasNeedles machine (CarryIn cs) = Unit {0}
+HasNeedles machine (CarryOut cs) = Unit {0}
+HasNeedles machine (HookIn cs) = Unit {0}
+HasNeedles machine (HookOut cs) = Unit {0}
+HasNeedles machine (ReleaseHook cs) = Unit {0}
+HasNeedles machine Stitch = Unit {0}
+HasNeedles machine Pause = Unit {0}
+HasNeedles machine Extension = Unit {0}
+HasNeedles machine (Rack q) = Unit {0}
+HasNeedles machine (Knit dir n cs) = IsOn machine.beds n.at
+HasNeedles machine (Tuck dir n cs) = IsOn machine.beds n.at
+HasNeedles machine (Miss dir n cs) = Unit {0}
+HasNeedles machine (Split dir n n2 cs) = IsOn machine.beds n.at × IsOn machine.beds n2.at
+HasNeedles machine (Xfer n n2) = IsOn machine.beds n.at × IsOn machine.beds n2.at
+HasNeedles machine (Drop n) = IsOn machine.beds n.at
+HasNeedles machine (Amiss n) = Unit {0}
+
+-- the machine has the needles whose loops the line asks for or changes
+abbrev pub HasNeedlesInLine : Machine → Read → Type 0
+HasNeedlesInLine machine read.Blank = Unit {0}
+HasNeedlesInLine machine read.Comment = Unit {0}
+HasNeedlesInLine machine (read.Broken reason) = Unit {0}
+HasNeedlesInLine machine (read.Instr i) = HasNeedles machine i
 
 -- all loops of the first needle can go over to the second, on the other side
 pub record CanGoOver (machine : Machine) (n n2 : Needle) : Type 0 where

@@ -3,8 +3,8 @@ ghost use Rattle.std.specs.Prelude.{◌≡◌, ◌+◌, ◌<◌, ◌^◌, ℕ, B
 ghost use Rattle.knit_base.specs.declared.instr.Read.{Read};
 ghost use Rattle.knit_base.specs.Lawful.{IsLawfulRead};
 ghost use Rattle.knit_base.specs.Limits.{IsLawfulProfile};
-ghost use Rattle.carriage_model.specs.Carriage.{HasRun, IsRunning, Tells, TellsRun, WentOver};
-ghost use Rattle.carriage_model.specs.Machine.{HasRoomInLine};
+ghost use Rattle.carriage_model.specs.Carriage.{HasRun, IsRunning, TellsRun, WentOver};
+ghost use Rattle.carriage_model.specs.Machine.{HasNeedlesInLine, HasRoomInLine};
 
 use crate::facts::append;
 use crate::machine::Machine;
@@ -43,7 +43,7 @@ impl Carriage {
         };
         Ok(Carriage {
             profile: *profile,
-            machine: Machine::new(alloc),
+            machine: Machine::new(alloc, profile)?,
             next: first,
             made: 0,
             told,
@@ -75,26 +75,20 @@ impl Carriage {
 
     // Carries out a line that breaks no rule.
     fn go_over(&mut self, line: u32, read: &Read) -> Result<(), NoMemory>
+        requires needles { HasNeedlesInLine self.old.machine read.now }
         requires room { HasRoomInLine self.old.machine read.now }
         requires made { self.old.made + 1 < 2 ^ 32 }
         requires told { IfSome self.old.told (λ loops. length loops + 1 < 2 ^ 32) }
         ensures { OnOk result (WentOver line read.now self.old self.new) }
     {
-        self.tell(line, read)?;
         self.made += loops_of(read);
-        self.machine.step(line, read)
-    }
-
-    // Keeps the loop of a line that breaks no rule, where that is asked.
-    fn tell(&mut self, line: u32, read: &Read) -> Result<(), NoMemory>
-        requires { IfSome self.old.told (λ loops. length loops + 1 < 2 ^ 32) }
-        ensures { OnOk result (Tells line read.now self.old self.new) }
-    {
-        let Some(facts) = &mut self.told else {
-            return Ok(());
-        };
-        let fact = self.machine.fact_made(line, read)?;
-        append(facts, fact)
+        match &mut self.told {
+            None => self.machine.step(line, read),
+            Some(loops) => {
+                let made = self.machine.step_telling(line, read)?;
+                append(loops, made)
+            }
+        }
     }
 
     /// The verdict on the lines that were carried out, which are so many, and the loops that they made, if these were asked

@@ -5,41 +5,12 @@ ghost use Rattle.knit_base.specs.Lawful.{IsLawfulRead};
 ghost use Rattle.knit_base.specs.Limits.{IsLawfulProfile};
 ghost use Rattle.carriage_model.specs.State.{State, empty_state};
 ghost use Rattle.carriage_model.specs.Loops.{loops_made, fact_made, loop_of_instr, formed, fact_of};
-ghost use Rattle.carriage_model.specs.Verdict.{IsOfDeclared, AreOfDeclared};
+ghost use Rattle.carriage_model.specs.Verdict.{IsOfDeclared};
 
 use crate::machine::Machine;
 use crate::{Facts, LoopFact, LoopLines};
 use knit_base::{Declared, Dir, Instr, Needle, NoMemory, Profile, Read, Reads, Yarns};
 use std::alloc::Global;
-
-/// The loops that these readings make, the first of them that of the line `first`, up to the end or to the first fault. They
-/// stand in the order of their lines, and are found in one pass.
-pub fn facts_plain(
-    alloc: Global,
-    profile: &Profile,
-    declared: &Declared,
-    reads: &Reads,
-    first: u32,
-) -> Result<Facts, NoMemory>
-    requires profile { IsLawfulProfile profile.now }
-    requires lawful { All (IsLawfulRead profile.now (length declared.now)) reads.now }
-    requires lines { first + length reads.now < 2 ^ 32 }
-    ensures loops { IfOk result (λ facts. facts ≡ loops_made profile.now empty_state first reads.now) }
-    ensures carriers { IfOk result (AreOfDeclared (length declared.now)) }
-{
-    let mut machine = Machine::new(alloc);
-    let mut facts = Facts::new(alloc);
-    for (i, read) in reads.as_slice().iter().enumerate() {
-        let line = first + i as u32;
-        if machine.broken(profile, read).is_some() {
-            return Ok(facts);
-        }
-        let fact = machine.fact_made(line, read)?;
-        append(&mut facts, fact)?;
-        machine.step(line, read)?;
-    }
-    Ok(facts)
-}
 
 /// The loop that a line makes before the first fault. The first of the readings is that of the line `first`.
 pub fn fact_plain(
@@ -56,7 +27,7 @@ pub fn fact_plain(
     ensures fact { IfOk result (λ fact. fact ≡ fact_of line (loops_made profile.now empty_state first reads.now)) }
     ensures carriers { IfOk result (λ fact. IfSome fact (IsOfDeclared (length declared.now))) }
 {
-    let mut machine = Machine::new(alloc);
+    let mut machine = Machine::new(alloc, profile)?;
     for (i, read) in reads.as_slice().iter().enumerate() {
         let at = first + i as u32;
         if machine.broken(profile, read).is_some() {
@@ -71,10 +42,42 @@ pub fn fact_plain(
 }
 
 impl Machine {
-    ghost use Rattle.carriage_model.specs.Machine.{Represents, stack_of};
+    ghost use Rattle.carriage_model.specs.Steps.{step, step_knit};
+    ghost use Rattle.carriage_model.specs.Beds.{IsOn, SameBeds};
+    ghost use Rattle.carriage_model.specs.Machine.{Represents, HasNeedles, HasNeedlesInLine, HasRoomInLine, stack_of};
 
-    /// The loop that this line makes if it breaks no rule.
-    pub fn fact_made(&self, line: u32, read: &Read) -> Result<Option<LoopFact>, NoMemory>
+    /// Carries out this line, which breaks no rule, and tells the loop that it makes.
+    pub fn step_telling(&mut self, line: u32, read: &Read) -> Result<Option<LoopFact>, NoMemory>
+        requires needles { HasNeedlesInLine self.old read.now }
+        requires room { HasRoomInLine self.old read.now }
+        ensures fact { IfOk result (λ fact. (s : State) → Represents self.old s → fact ≡ fact_made line read.now s) }
+        ensures ok { OnOk result ((s : State) → Represents self.old s → Represents self.new (step line read.now s)) }
+        ensures kept { OnOk result (SameBeds self.old.beds self.new.beds) }
+    {
+        let Read::Instr(Instr::Knit(dir, n, yarns)) = read else {
+            let fact = self.fact_made(line, read)?;
+            self.step(line, read)?;
+            return Ok(fact);
+        };
+        let through = self.knit_taking(line, *n, yarns)?;
+        formed(line, *dir, *n, yarns, through)
+    }
+
+    // Knits, and gives the loops that the needle held.
+    fn knit_taking(&mut self, line: u32, n: Needle, yarns: &Yarns) -> Result<LoopLines, NoMemory>
+        requires { IsOn self.old.beds n.at }
+        ensures through { IfOk result (λ through. through ≡ stack_of self.old n) }
+        ensures ok { OnOk result ((s : State) → Represents self.old s → Represents self.new (step_knit line n yarns.now s)) }
+        ensures kept { OnOk result (SameBeds self.old.beds self.new.beds) }
+    {
+        let through = self.beds.take(n);
+        self.step_knit(line, n, yarns)?;
+        Ok(through)
+    }
+
+    // The loop that this line makes if it breaks no rule.
+    fn fact_made(&self, line: u32, read: &Read) -> Result<Option<LoopFact>, NoMemory>
+        requires { HasNeedlesInLine self.now read.now }
         ensures { IfOk result (λ fact. (s : State) → Represents self.now s → fact ≡ fact_made line read.now s) }
     {
         match read {
@@ -84,14 +87,15 @@ impl Machine {
     }
 
     fn loop_of_instr(&self, line: u32, instr: &Instr) -> Result<Option<LoopFact>, NoMemory>
+        requires { HasNeedles self.now instr.now }
         ensures { IfOk result (λ fact. (s : State) → Represents self.now s → fact ≡ loop_of_instr line instr.now s) }
     {
         match instr {
-            Instr::Knit(dir, n, yarns) => formed(line, *dir, *n, yarns, self.copied(*n)?),
+            Instr::Knit(dir, n, yarns) => formed(line, *dir, *n, yarns, self.beds.copied(*n)?),
             Instr::Tuck(dir, n, yarns) => {
-                formed(line, *dir, *n, yarns, LoopLines::new(self.alloc))
+                formed(line, *dir, *n, yarns, LoopLines::new(self.beds.alloc))
             }
-            Instr::Split(dir, n, _, yarns) => formed(line, *dir, *n, yarns, self.copied(*n)?),
+            Instr::Split(dir, n, _, yarns) => formed(line, *dir, *n, yarns, self.beds.copied(*n)?),
             Instr::CarryIn(_) | Instr::CarryOut(_) | Instr::HookIn(_) | Instr::HookOut(_) => {
                 Ok(None)
             }
@@ -99,17 +103,6 @@ impl Machine {
             Instr::Stitch | Instr::Pause | Instr::Extension => Ok(None),
             Instr::Xfer(_, _) | Instr::Drop(_) | Instr::Amiss(_) => Ok(None),
         }
-    }
-
-    // A copy of a needle's loops.
-    fn copied(&self, n: Needle) -> Result<LoopLines, NoMemory>
-        ensures { IfOk result (λ loops. loops ≡ stack_of self.now n) }
-    {
-        let mut copy = LoopLines::new(self.alloc);
-        if let Some(loops) = self.stacks.get(&n) {
-            copy.extend_from_slice(loops.as_slice())?;
-        }
-        Ok(copy)
     }
 }
 

@@ -1,12 +1,15 @@
 //! The machine that knits: its state, the rules that need it, and the run of a program from empty beds.
 //!
-//! Promises that `run_plain` gives the verdict on a program, that `facts_plain` lists the loops that it makes, and that
-//! `fact_plain` finds the loop of one line; each carrier that they name is declared.
+//! Promises that a `Carriage` that is given the lines of a program one by one gives the verdict on it, together with the loops
+//! that it makes where that is asked, that `run_plain` gives the verdict on a list of readings, and that `fact_plain` finds the
+//! loop of one line; each carrier that these two name is declared.
 //! Definitions: `specs/State` (where a machine stands), `specs/Rules` (which rule a line breaks there), `specs/Steps` (what
-//! a line does), `specs/Run` (lines one after the other), `specs/Loops` (the loops that they make) and `specs/Verdict`.
-//! `specs/Machine` says which state the code's own `Machine` stands for. Below it stand std and `knit_base`.
+//! a line does), `specs/Run` (lines one after the other), `specs/Loops` (the loops that they make), `specs/Verdict`, and
+//! `specs/Carriage` (which run a carriage stands for). `specs/Machine` says which state the code's own `Machine` stands for, `specs/Beds` and `specs/Places` how it keeps the
+//! loops. Below it stand std and `knit_base`.
 #![tactic(auto)]
 
+mod beds;
 mod carriage;
 mod facts;
 mod machine;
@@ -18,6 +21,6 @@ mod tests;
 mod verdict;
 
 pub use carriage::Carriage;
-pub use facts::{fact_plain, facts_plain};
+pub use facts::fact_plain;
 pub use run::run_plain;
 pub use verdict::{Brief, Facts, Final, LoopFact, LoopLines, Stack, Stacks, Verdict};

@@ -10,11 +10,13 @@ use crate::machine::Machine;
 use knit_base::{Bed, CarrierNo, Instr, Needle, Profile, Read, Reason, Rule, Yarns};
 
 impl Machine {
-    ghost use Rattle.carriage_model.specs.Machine.{Represents, HasPlaces, HasPlacesInLine, FitsPlaces, stack_of};
+    ghost use Rattle.carriage_model.specs.Machine.{Represents, HasPlaces, HasPlacesInLine, FitsPlaces, HasNeedles, HasNeedlesInLine, stack_of};
+    ghost use Rattle.carriage_model.specs.Beds.{IsOn};
 
     /// The first rule that the line breaks.
     pub fn broken(&self, profile: &Profile, read: &Read) -> Option<Reason>
-        requires { HasPlacesInLine read.now }
+        requires needles { HasNeedlesInLine self.now read.now }
+        requires places { HasPlacesInLine read.now }
         ensures { (s : State) → Represents self.now s → result ≡ broken profile.now read.now s }
     {
         match read {
@@ -25,7 +27,8 @@ impl Machine {
     }
 
     fn broken_instr(&self, profile: &Profile, instr: &Instr) -> Option<Reason>
-        requires { HasPlaces instr.now }
+        requires needles { HasNeedles self.now instr.now }
+        requires places { HasPlaces instr.now }
         ensures { (s : State) → Represents self.now s → result ≡ broken_instr profile.now instr.now s }
     {
         match instr {
@@ -52,7 +55,8 @@ impl Machine {
     }
 
     fn broken_knit(&self, n: Needle, yarns: &Yarns) -> Option<Reason>
-        requires { FitsPlaces 3 yarns.now }
+        requires on { IsOn self.now.beds n.at }
+        requires places { FitsPlaces 3 yarns.now }
         ensures { (s : State) → Represents self.now s → result ≡ broken_knit n yarns.now s }
     {
         if yarns.len() == 0 {
@@ -62,13 +66,14 @@ impl Machine {
     }
 
     fn broken_tuck(&self, profile: &Profile, n: Needle, yarns: &Yarns) -> Option<Reason>
-        requires { FitsPlaces 3 yarns.now }
+        requires on { IsOn self.now.beds n.at }
+        requires places { FitsPlaces 3 yarns.now }
         ensures { (s : State) → Represents self.now s → result ≡ broken_tuck profile.now n yarns.now s }
     {
         if yarns.len() == 0 {
             return None;
         }
-        let loops = u64::from(self.loops_on(n)) + 1;
+        let loops = u64::from(self.beds.loops_on(n)) + 1;
         let later = first_of(self.slider_holds(n), too_many(profile, loops, 2));
         first_of(self.carriers_out(3, yarns), later)
     }
@@ -80,7 +85,9 @@ impl Machine {
         n2: Needle,
         yarns: &Yarns,
     ) -> Option<Reason>
-        requires { FitsPlaces 4 yarns.now }
+        requires from { IsOn self.now.beds n.at }
+        requires to { IsOn self.now.beds n2.at }
+        requires places { FitsPlaces 4 yarns.now }
         ensures { (s : State) → Represents self.now s → result ≡ broken_split profile.now n n2 yarns.now s }
     {
         let together = self.too_many_together(profile, n, n2, 3);
@@ -147,16 +154,19 @@ impl Machine {
     }
 
     fn slider_holds(&self, n: Needle) -> Option<Reason>
+        requires { IsOn self.now.beds n.at }
         ensures { (s : State) → Represents self.now s → result ≡ slider_holds s n }
     {
-        rule_if(self.loops_on(own_slider(n)) > 0, Rule::SliderHolds, 2)
+        rule_if(self.beds.loops_on(own_slider(n)) > 0, Rule::SliderHolds, 2)
     }
 
     // The loops of both needles are too many for one.
     fn too_many_together(&self, profile: &Profile, n: Needle, n2: Needle, at: u16) -> Option<Reason>
+        requires from { IsOn self.now.beds n.at }
+        requires to { IsOn self.now.beds n2.at }
         ensures { (s : State) → Represents self.now s → result ≡ too_many profile.now (length (s.stacks n2) + length (s.stacks n)) at }
     {
-        let loops = u64::from(self.loops_on(n2)) + u64::from(self.loops_on(n));
+        let loops = u64::from(self.beds.loops_on(n2)) + u64::from(self.beds.loops_on(n));
         too_many(profile, loops, at)
     }
 }

@@ -10,9 +10,8 @@ ghost use Rattle.carriage_model.specs.Run.{run};
 ghost use Rattle.carriage_model.specs.Loops.{loops_made, fact_made, formed};
 ghost use Rattle.carriage_model.specs.Verdict.{IsVerdict, NamesDeclared};
 
-use crate::Verdict;
-use crate::machine::Machine;
-use knit_base::{Declared, Fault, Instr, NoMemory, Profile, Read, Reads, Yarns};
+use crate::{Carriage, Verdict};
+use knit_base::{Declared, Instr, NoMemory, Profile, Read, Reads, Yarns};
 use std::alloc::Global;
 
 /// The verdict on these readings, the first of them that of the line `first`.
@@ -29,18 +28,12 @@ pub fn run_plain(
     ensures verdict { IfOk result (λ verdict. IsVerdict (length reads.now) verdict (run profile.now empty_state first reads.now) (loops_made profile.now empty_state first reads.now)) }
     ensures carriers { IfOk result (NamesDeclared (length declared.now)) }
 {
-    let mut machine = Machine::new(alloc);
-    let mut made = 0;
-    for (i, read) in reads.as_slice().iter().enumerate() {
-        let line = first + i as u32;
-        if let Some(reason) = machine.broken(profile, read) {
-            return Ok(Verdict::Broken(Fault { line, reason }));
-        }
-        machine.step(line, read)?;
-        made += loops_of(read);
+    let mut carriage = Carriage::start(alloc, profile, first, false)?;
+    'running: for read in reads.as_slice() {
+        carriage.carry_out(read)?;
     }
-    let last = machine.finish(reads.len(), made)?;
-    Ok(Verdict::Sound(last))
+    let (verdict, _) = carriage.finish(reads.len())?;
+    Ok(verdict)
 }
 
 /// How many loops the line makes if it breaks no rule.

@@ -1,7 +1,7 @@
 //! Each public call once with ample memory, on a carrier that comes in and a loop that it makes.
 ghost use Rattle.std.specs.Prelude.{◌∷◌, [], ◌≡◌, IfOk};
 
-use crate::{Verdict, fact_plain, facts_plain, run_plain};
+use crate::{Carriage, Verdict, fact_plain, run_plain};
 use knit_base::{
     Bed, CarrierNo, Declared, Dir, Instr, Needle, NoMemory, Profile, Read, Reads, Yarns,
 };
@@ -35,8 +35,6 @@ fn a_loop_by_its_line(rt: HostRuntime) -> Result<(), Fail> {
     let mut reads = Reads::new(alloc);
     reads.push(Read::Instr(Instr::CarryIn(first_carrier(alloc)?)))?;
     reads.push(Read::Instr(Instr::Tuck(Dir::Left, needle, first_carrier(alloc)?)))?;
-    let facts = facts_plain(alloc, &MACHINE, &declared, &reads, 3)?;
-    assert_eq!(rt; facts.len(), 1);
     let none = fact_plain(alloc, &MACHINE, &declared, &reads, 3, 3)?;
     assert!(rt; none.is_none());
     let fact = fact_plain(alloc, &MACHINE, &declared, &reads, 3, 4)?;
@@ -46,5 +44,16 @@ fn a_loop_by_its_line(rt: HostRuntime) -> Result<(), Fail> {
         return Ok(());
     };
     assert_eq!(rt; end.made, 1);
+    Ok(())
+}
+
+#[test]
+fn the_loops_of_a_carriage(rt: HostRuntime) -> Result<(), Fail> {
+    let alloc = rt.alloc();
+    let mut carriage = Carriage::start(alloc, &MACHINE, 3, true)?;
+    carriage.carry_out(&Read::Instr(Instr::CarryIn(first_carrier(alloc)?)))?;
+    let (verdict, told) = carriage.finish(1)?;
+    assert!(rt; matches!(verdict, Verdict::Sound(_)));
+    assert_eq!(rt; told.map(|loops| loops.len()), Some(0));
     Ok(())
 }

@@ -20,7 +20,7 @@ use Rattle.carriage_model.specs.Run.{run}
 use Rattle.carriage_model.specs.Loops.{loops_made, loops_asked}
 use Rattle.carriage_model.specs.Verdict.{IsVerdict}
 use Rattle.check_main.specs.declared.outcome.Status.{Status}
-use Rattle.check_main.specs.Due.{IsCheckReply, IsJudgedTelling, body_of, broken_line, first_of, report_of, status_of}
+use Rattle.check_main.specs.Due.{CarriesOut, IsCheckReply, IsJudgedTelling, body_of, broken_line, first_of, report_of, status_of}
 
 pub head_len-le : (lines : List (List ℕ)) → head_len lines ≤ length lines
 head_len-le [] = omega arith
@@ -49,14 +49,13 @@ pub carried-none : (profile : Profile) (telling : Bool) (names lines : List (Lis
 carried-none profile telling names lines from carriage new = record { readings = []; so_far = read-none _ _ lines from; run = new }
 
 -- the next line is read and carried out
-pub carried-more : (profile : Profile) (telling : Bool) (names lines : List (List ℕ)) (from i : ℕ) (old new : Carriage) (line : List ℕ) (r : Read)
-    → Carried profile telling names lines from i old → i < length lines → slice_get lines i ≡ Some line → Reads profile names line r → IsLawfulRead profile (length names) r
-    → ((p : Profile) (t : Bool) (first : ℕ) (reads : List Read) → HasRun p t first reads old → HasRun p t first (reads ++ r ∷ []) new)
+pub carried-more : (profile : Profile) (telling : Bool) (names lines : List (List ℕ)) (from i : ℕ) (old new : Carriage) (line : List ℕ)
+    → Carried profile telling names lines from i old → i < length lines → slice_get lines i ≡ Some line → CarriesOut profile names line old new
     → Carried profile telling names lines from (i + 1) new
-carried-more profile telling names lines from i old new line r here within found read lawful next = record {
-  readings = here.readings ++ r ∷ [];
-  so_far = read-more _ _ lines from i here.readings (here.readings ++ r ∷ []) line r here.so_far within found read lawful refl;
-  run = next profile telling (from + 1) here.readings here.run;
+carried-more profile telling names lines from i old new line here within found next = record {
+  readings = here.readings ++ next.reading ∷ [];
+  so_far = read-more _ _ lines from i here.readings (here.readings ++ next.reading ∷ []) line next.reading here.so_far within found next.read next.lawful refl;
+  run = next.ran profile telling (from + 1) here.readings here.run;
 }
 
 -- the carriage is ready for a line more

@@ -1,8 +1,9 @@
 -- What is due for an input that was read whole: the text and the status.
-use Rattle.std.specs.Prelude.{◌≡◌, ◌⊎◌, ℕ, ◌+◌, ◌-◌, ◌/◌, ◌<◌, ◌≤◌, Bool, true, false, List, [], length, drop, Option, None, Some, All, unwrap_or, slice_get}
+use Rattle.std.specs.Prelude.{◌≡◌, ◌⊎◌, ℕ, ◌+◌, ◌-◌, ◌/◌, ◌<◌, ◌≤◌, Bool, true, false, List, [], ◌∷◌, ◌++◌, length, drop, Option, None, Some, All, unwrap_or, slice_get}
 use Rattle.std.specs.List.{AllZip}
 use Rattle.knit_base.specs.declared.instr.Read.{Read}
 use Rattle.knit_base.specs.declared.profile.Profile.{Profile}
+use Rattle.knit_base.specs.Lawful.{IsLawfulRead}
 use Rattle.knit_base.specs.Lines.{lines_of}
 use Rattle.line_cutter.specs.declared.fault.CutFault.{CutFault}
 use Rattle.line_cutter.specs.declared.fault.CutFault.TheVariants as cut
@@ -16,6 +17,8 @@ use Rattle.knitout_reader.specs.Reads.{Reads}
 use Rattle.carriage_model.specs.declared.verdict.Verdict.{Verdict}
 use Rattle.carriage_model.specs.declared.verdict.Verdict.TheVariants as verdict
 use Rattle.carriage_model.specs.declared.verdict.LoopFact.{LoopFact}
+use Rattle.carriage_model.specs.declared.carriage.Carriage.{Carriage}
+use Rattle.carriage_model.specs.Carriage.{HasRun}
 use Rattle.carriage_model.specs.State.{empty_state}
 use Rattle.carriage_model.specs.Run.{run}
 use Rattle.carriage_model.specs.Loops.{loops_made, loops_asked}
@@ -45,6 +48,13 @@ pub record IsJudged (profile : Profile) (names lines : List (List ℕ)) (result 
   pub read : AllZip (Reads profile names) (body_of lines) readings
   pub made : loops ≡ loops_made profile empty_state (first_of lines) readings
   pub judged : IsVerdict (length (body_of lines)) result (run profile empty_state (first_of lines) readings) loops
+
+-- the carriage carried out this line as one more of those that it had carried out
+pub record CarriesOut (profile : Profile) (names : List (List ℕ)) (line : List ℕ) (old new : Carriage) : Type 0 where
+  pub reading : Read
+  pub read : Reads profile names line reading
+  pub lawful : IsLawfulRead profile (length names) reading
+  pub ran : (p : Profile) (telling : Bool) (first : ℕ) (before : List Read) → HasRun p telling first before old → HasRun p telling first (before ++ reading ∷ []) new
 
 -- the line with this number
 abbrev pub numbered_line : List (List ℕ) → ℕ → List ℕ

@@ -1,13 +1,12 @@
 //! The verdict on a file, and its report.
-ghost use Rattle.std.specs.Prelude.{◌≡◌, ◌≤◌, ◌<◌, ◌+◌, ◌^◌, ◌-◌, drop, All, length, Some, None, Option, IfOk, List, ℕ, unwrap_or, slice_get};
+ghost use Rattle.std.specs.Prelude.{◌≡◌, ◌≤◌, ◌<◌, ◌+◌, ◌^◌, ◌-◌, drop, All, length, Some, None, Option, IfOk, List, ℕ, unwrap_or, slice_get, OnOk};
 ghost use Rattle.std.specs.Option.{option_copied};
 ghost use Rattle.knit_base.specs.Lawful.{IsLawfulRead};
 ghost use Rattle.knit_base.specs.Limits.{IsLawfulProfile};
 ghost use Rattle.line_cutter.specs.Cut.{IsGoodLine};
 ghost use Rattle.knitout_reader.specs.Head.{IsHead};
-ghost use Rattle.carriage_model.specs.State.{empty_state};
-ghost use Rattle.carriage_model.specs.Loops.{loops_made};
-ghost use Rattle.check_main.specs.Due.{IsCheckReply, IsJudgedTelling, body_of, broken_line, numbered_line, report_of, status_of};
+ghost use Rattle.carriage_model.specs.Carriage.{IsRunning};
+ghost use Rattle.check_main.specs.Due.{CarriesOut, IsCheckReply, IsJudgedTelling, body_of, broken_line, numbered_line, report_of, status_of};
 
 use crate::answer::Reply;
 use crate::outcome::Status;
@@ -67,9 +66,27 @@ fn run_body(
         let Some(line) = lines.get(i) else {
             unreachable!();
         };
-        carriage.carry_out(&read_line(alloc, line, profile, &head.declared)?)?;
+        carry_out(alloc, line, profile, &head.declared, &mut carriage)?;
     }
     carriage.finish(lines.len() - head.lines)
+}
+
+// Reads a line, and carries it out.
+fn carry_out(
+    alloc: Global,
+    line: &str,
+    profile: &Profile,
+    names: &Declared,
+    carriage: &mut Carriage,
+) -> Result<(), NoMemory>
+    requires short { length line.now < 2 ^ 16 }
+    requires running { IsRunning carriage.old }
+    requires profile { carriage.old.profile ≡ profile.now }
+    requires lines { carriage.old.next + 1 < 2 ^ 32 }
+    ensures { OnOk result (CarriesOut profile.now names.now line.now carriage.old carriage.new) }
+{
+    let read = read_line(alloc, line, profile, names)?;
+    carriage.carry_out(&read)
 }
 
 // The line at which the verdict is broken, or no text.

@@ -6,15 +6,21 @@ use Rattle.carriage_model.specs.State.{empty_state}
 use Rattle.carriage_model.specs.Rules.{broken}
 use Rattle.carriage_model.specs.Loops.{loops_made, fact_of}
 use Rattle.carriage_model.proofs.Carriers.{found-declared}
-use Rattle.carriage_model.proofs.Needs.{line_has-places, line_has-room, lawful-item}
+use Rattle.carriage_model.proofs.Needs.{line_has-needles, line_has-places, line_has-room, lawful-item}
 use Rattle.carriage_model.proofs.Found.{Seeks, seeks-start, seeks-next, seeks-here, seeks-stop, seeks-end, none_from_test}
 use Rattle.carriage_model.proofs.facts.fact_plain.Goals as goal
 
 pub loop-i-init : goal.loop-i-init
-loop-i-init c = seeks-start _ _ _ _ _ c.new-machine.ensures.empty
+loop-i-init c = seeks-start _ _ _ _ _ c.in_ok-machine.ensures.empty c.in_ok-machine.ensures.needles
 
-pub broken-requires : goal.broken-requires
-broken-requires c =
+pub broken-requires-clause-needles : goal.broken-requires-clause-needles
+broken-requires-clause-needles c =
+    let here : Seeks c.args.profile.now c.as_slice-read-items.result.now c.args.first c.loop-i.i c.loop-i.machine c.args.line = c.loop-i.invariant in
+    line_has-needles c.args.profile.now (length c.args.declared.now) _ _ here.needles
+    (lawful-item _ _ _ _ _ c.read-item.result c.as_slice-read-items.ensures.items c.requires.lawful c.loop-i-test.true c.read-item.is)
+
+pub broken-requires-clause-places : goal.broken-requires-clause-places
+broken-requires-clause-places c =
     line_has-places c.args.profile.now (length c.args.declared.now) _
     (lawful-item _ _ _ _ _ c.read-item.result c.as_slice-read-items.ensures.items c.requires.lawful c.loop-i-test.true c.read-item.is)
 
@@ -28,6 +34,12 @@ returns-then-is_some c =
           (sym (seeks-stop _ _ _ _ c.read-item.result _ _ c.loop-i-test.true c.read-item.is here broke));
       carriers = tt;
     }
+
+pub fact_made-requires : goal.fact_made-requires
+fact_made-requires c =
+    let here : Seeks c.args.profile.now c.as_slice-read-items.result.now c.args.first c.loop-i.i c.loop-i.machine c.args.line = c.loop-i.invariant in
+    line_has-needles c.args.profile.now (length c.args.declared.now) _ _ here.needles
+    (lawful-item _ _ _ _ _ c.read-item.result c.as_slice-read-items.ensures.items c.requires.lawful c.loop-i-test.true c.read-item.is)
 
 pub returns-then-at-line : goal.returns-then-at-line
 returns-then-at-line c =
@@ -43,8 +55,14 @@ returns-then-at-line c =
           (λ (fact : Option LoopFact) made. found-declared c.args.profile.now (length c.args.declared.now) c.args.first c.args.line _ fact c.requires.lawful (is fact made)) c.fact_made.ensures;
     }
 
-pub step-requires : goal.step-requires
-step-requires c =
+pub step-requires-clause-needles : goal.step-requires-clause-needles
+step-requires-clause-needles c =
+    let here : Seeks c.args.profile.now c.as_slice-read-items.result.now c.args.first c.loop-i.i c.loop-i.machine c.args.line = c.loop-i.invariant in
+    line_has-needles c.args.profile.now (length c.args.declared.now) _ _ here.needles
+    (lawful-item _ _ _ _ _ c.read-item.result c.as_slice-read-items.ensures.items c.requires.lawful c.loop-i-test.true c.read-item.is)
+
+pub step-requires-clause-room : goal.step-requires-clause-room
+step-requires-clause-room c =
     let here : Seeks c.args.profile.now c.as_slice-read-items.result.now c.args.first c.loop-i.i c.loop-i.machine c.args.line = c.loop-i.invariant in
     line_has-room c.args.profile.now (length c.args.declared.now) _ _ here.state c.requires.profile
     (lawful-item _ _ _ _ _ c.read-item.result c.as_slice-read-items.ensures.items c.requires.lawful c.loop-i-test.true c.read-item.is)
@@ -55,7 +73,7 @@ loop-i-preserved c =
     let here : Seeks c.args.profile.now c.as_slice-read-items.result.now c.args.first c.loop-i.i c.loop-i.machine c.args.line = c.loop-i.invariant in
     seeks-next _ _ _ _ c.read-item.result _ _ _ c.loop-i-test.true c.read-item.is c.if-at-line.false here
     (sym (c.broken.ensures here.state here.represented) ∙ none_from_test _ (sym c.is_some.ensures ∙ c.if-is_some.false))
-    (c.in_ok-step.ensures.ok here.state here.represented)
+    (c.in_ok-step.ensures.ok here.state here.represented) c.in_ok-step.ensures.kept
 
 pub returns : goal.returns
 returns c =

@@ -1,63 +1,37 @@
-use Rattle.std.proofs.Common.{◌≡◌, ap, sym, subst, ◌∙◌, refl, length, Some, ◌+◌, List}
+use Rattle.std.proofs.Common.{◌≡◌, ◌∙◌, sym, ap, subst, length, take, false, List, ◌++◌, ◌∷◌, [], arith}
+use Rattle.std.proofs.lemmas.List.{take_more, take_all}
+use Rattle.knit_base.specs.Lawful.{IsLawfulRead}
 use Rattle.knit_base.specs.declared.instr.Read.{Read}
-use Rattle.carriage_model.specs.declared.verdict.LoopFact.{LoopFact}
-use Rattle.carriage_model.specs.declared.verdict.Verdict.TheVariants.{Broken, Sound}
 use Rattle.carriage_model.specs.State.{empty_state}
-use Rattle.carriage_model.specs.Rules.{broken}
-use Rattle.carriage_model.specs.Run.{run, Ended}
+use Rattle.carriage_model.specs.Run.{run}
 use Rattle.carriage_model.specs.Loops.{loops_made}
-use Rattle.carriage_model.specs.Verdict.{IsVerdict, IsFinal}
+use Rattle.carriage_model.specs.Carriage.{HasRun, TellsRun}
+use Rattle.carriage_model.specs.Verdict.{IsVerdict}
 use Rattle.carriage_model.proofs.Carriers.{names-declared}
-use Rattle.carriage_model.proofs.Needs.{line_has-places, line_has-room, lawful-item}
-use Rattle.carriage_model.proofs.Reached.{Reached, reached-start, reached-next, reached-stop, reached-end, reached-count}
+use Rattle.carriage_model.proofs.Needs.{lawful-item}
 use Rattle.carriage_model.proofs.run.run_plain.Goals as goal
 
-pub loop-i-init : goal.loop-i-init
-loop-i-init c = reached-start _ _ _ _ c.new-machine.ensures.empty c.new-machine.ensures.kept
+pub carry_out-requires-clause-lawful : goal.carry_out-requires-clause-lawful
+carry_out-requires-clause-lawful c = (
+  length c.args.declared.now,
+  subst (λ p. IsLawfulRead p (length c.args.declared.now) c.read-item.result) (sym c.running.invariant.same_profile)
+      (lawful-item _ _ _ _ _ c.read-item.result c.as_slice-read-items.ensures.items c.requires.lawful c.running-test.true c.read-item.is),
+)
 
-pub broken-requires : goal.broken-requires
-broken-requires c =
-    line_has-places c.args.profile.now (length c.args.declared.now) _
-    (lawful-item _ _ _ _ _ c.read-item.result c.as_slice-read-items.ensures.items c.requires.lawful c.loop-i-test.true c.read-item.is)
-
-pub returns-in-Some-clause-verdict : goal.returns-in-Some-clause-verdict
-returns-in-Some-clause-verdict c =
-    let here : Reached c.args.profile.now c.as_slice-read-items.result.now c.args.first c.loop-i.i c.loop-i.machine c.loop-i.made = c.loop-i.invariant in
-    let broke : broken c.args.profile.now c.read-item.result here.state ≡ Some c.in-Some.reason = sym (c.broken.ensures here.state here.represented) ∙ c.in-Some.is in
-    subst (λ (reads : List Read). IsVerdict (length reads) (Broken (record { line = c.args.first + c.loop-i.i; reason = c.in-Some.reason })) (run c.args.profile.now empty_state c.args.first reads) (loops_made c.args.profile.now empty_state c.args.first reads))
-    c.as_slice-read-items.ensures.items
-    (subst (λ (ended : Ended). IsVerdict (length c.as_slice-read-items.result.now) (Broken (record { line = c.args.first + c.loop-i.i; reason = c.in-Some.reason })) ended (loops_made c.args.profile.now empty_state c.args.first c.as_slice-read-items.result.now))
-    (sym (reached-stop _ _ _ _ c.read-item.result _ _ _ c.loop-i-test.true c.read-item.is here broke))
-    refl)
-
-pub step-requires : goal.step-requires
-step-requires c =
-    let here : Reached c.args.profile.now c.as_slice-read-items.result.now c.args.first c.loop-i.i c.loop-i.machine c.loop-i.made = c.loop-i.invariant in
-    line_has-room c.args.profile.now (length c.args.declared.now) _ _ here.state c.requires.profile
-    (lawful-item _ _ _ _ _ c.read-item.result c.as_slice-read-items.ensures.items c.requires.lawful c.loop-i-test.true c.read-item.is)
-    here.represented (sym (c.broken.ensures here.state here.represented) ∙ c.in_default.is)
-
-pub loop-i-preserved : goal.loop-i-preserved
-loop-i-preserved c =
-    let here : Reached c.args.profile.now c.as_slice-read-items.result.now c.args.first c.loop-i.i c.loop-i.machine c.loop-i.made = c.loop-i.invariant in
-    reached-next _ _ _ _ c.read-item.result _ _ _ _ c.loop-i-test.true c.read-item.is here
-    (sym (c.broken.ensures here.state here.represented) ∙ c.in_default.is)
-    (c.in_ok-step.ensures.ok here.state here.represented)
-    c.in_ok-step.ensures.kept (c.loops_of-made.ensures.counts _ here.state) c.loops_of-made.ensures.one
+pub running-preserved : goal.running-preserved
+running-preserved c =
+    let items : List Read = c.as_slice-read-items.result.now in
+    subst (λ rs. HasRun c.args.profile.now false c.args.first rs c.carry_out.new.self)
+    (sym (take_more items c.running.read-index c.read-item.result c.running-test.true ∙ ap (λ r. take c.running.read-index items ++ r ∷ []) (sym c.read-item.is)))
+    (c.in_ok-carry_out.ensures c.args.profile.now false c.args.first (take c.running.read-index items) c.running.invariant)
 
 pub returns : goal.returns
 returns c =
-    let here : Reached c.args.profile.now c.as_slice-read-items.result.now c.args.first c.loop-i.i c.loop-i.machine c.loop-i.made = c.loop-i.invariant in
     let items : List Read = c.as_slice-read-items.result.now in
-    let loops : List LoopFact = loops_made c.args.profile.now empty_state c.args.first items in
-    let final : IsFinal c.in_ok-last.last c.len.result here.state loops = c.in_ok-last.ensures here.state loops here.represented (reached-count _ _ _ _ _ _ c.loop-i-test.false here) in
-    let judged : IsVerdict (length c.args.reads.now) (Sound c.in_ok-last.last) (run c.args.profile.now empty_state c.args.first c.args.reads.now) (loops_made c.args.profile.now empty_state c.args.first c.args.reads.now) =
-    subst (λ (reads : List Read). IsVerdict (length reads) (Sound c.in_ok-last.last) (run c.args.profile.now empty_state c.args.first reads) (loops_made c.args.profile.now empty_state c.args.first reads))
-    c.as_slice-read-items.ensures.items
-    (subst (λ (ended : Ended). IsVerdict (length items) (Sound c.in_ok-last.last) ended loops)
-    (sym (reached-end _ _ _ _ _ _ c.loop-i-test.false here))
-    (subst (λ lines. IsFinal c.in_ok-last.last lines here.state loops) (c.len.ensures ∙ sym (ap length c.as_slice-read-items.ensures.items)) final)) in
+    let whole : take c.running.read-index items ≡ c.args.reads.now = take_all c.running.read-index items (omega (arith, c.running-test.false)) ∙ c.as_slice-read-items.ensures.items in
+    let here : HasRun c.args.profile.now false c.args.first c.args.reads.now c.running.carriage = subst (λ rs. HasRun c.args.profile.now false c.args.first rs c.running.carriage) whole c.running.invariant in
+    let tells : TellsRun c.args.profile.now false c.args.first c.args.reads.now c.in_ok-verdict.verdict _ = c.in_ok-verdict.ensures c.args.profile.now false c.args.first c.args.reads.now here c.len.ensures in
     record {
-      verdict = judged;
-      carriers = names-declared c.args.profile.now (length c.args.declared.now) c.args.first (length c.args.reads.now) _ (Sound c.in_ok-last.last) c.requires.lawful judged;
+      verdict = tells.verdict_is;
+      carriers = names-declared c.args.profile.now (length c.args.declared.now) c.args.first (length c.args.reads.now) _ c.in_ok-verdict.verdict c.requires.lawful tells.verdict_is;
     }

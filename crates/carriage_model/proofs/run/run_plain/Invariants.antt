@@ -1,5 +1,6 @@
-use Rattle.carriage_model.proofs.Reached.{Reached}
+use Rattle.std.proofs.Common.{take, false}
+use Rattle.carriage_model.specs.Carriage.{HasRun}
 use Rattle.carriage_model.proofs.run.run_plain.Given as goal
 
-abbrev pub invariant-loop-i : goal.invariant-loop-i
-invariant-loop-i l = Reached l.profile l.read-items l.first l.i l.machine l.made
+abbrev pub invariant-running : goal.invariant-running
+invariant-running l = HasRun l.profile false l.first (take l.read-index l.read-items) l.carriage

@@ -4,7 +4,7 @@ use Rattle.knit_base.specs.declared.instr.Read.{Read}
 use Rattle.carriage_model.specs.Carriage.{HasRun}
 use Rattle.carriage_model.proofs.Carried.{InState, standing, run-sound, run-broken, run-stopped, told-few, made-few}
 use Rattle.carriage_model.proofs.Found.{none_from_test}
-use Rattle.carriage_model.proofs.Needs.{line_has-room}
+use Rattle.carriage_model.proofs.Needs.{line_has-needles, line_has-places, line_has-room}
 use Rattle.carriage_model.proofs.carriage.Carriage.carry_out.Goals as goal
 
 pub returns-then-is_some : goal.returns-then-is_some
@@ -15,6 +15,17 @@ pub returns-in-Some : goal.returns-in-Some
 returns-in-Some c profile telling first reads here =
     run-broken profile telling first reads c.args.read.now c.args.self.now _ c.in-Some.reason here refl (none_from_test _ (sym c.is_some.ensures ∙ c.if-is_some.false))
     (λ s represented. sym c.in-Some.is ∙ c.broken.ensures s represented)
+
+pub broken-requires-clause-needles : goal.broken-requires-clause-needles
+broken-requires-clause-needles c =
+    line_has-needles c.args.self.now.profile c.requires.lawful.0 _ _ c.requires.running.3.needles c.requires.lawful.1
+
+pub broken-requires-clause-places : goal.broken-requires-clause-places
+broken-requires-clause-places c = line_has-places c.args.self.now.profile c.requires.lawful.0 _ c.requires.lawful.1
+
+pub go_over-requires-clause-needles : goal.go_over-requires-clause-needles
+go_over-requires-clause-needles c =
+    line_has-needles c.args.self.now.profile c.requires.lawful.0 _ _ c.requires.running.3.needles c.requires.lawful.1
 
 pub go_over-requires-clause-room : goal.go_over-requires-clause-room
 go_over-requires-clause-room c =

@@ -4,7 +4,7 @@ use Rattle.json.specs.Print.{quoted}
 use Rattle.verdict_report.specs.JsonText.{json_line}
 use Rattle.verdict_report.specs.VerdictJson.{verdict_json}
 use Rattle.verdict_report.proofs.Written.{line_is}
-use Rattle.verdict_report.proofs.as_json.report_json.Goals as goal
+use Rattle.verdict_report.proofs.as_json.json_of.Goals as goal
 
 pub append_json-requires : goal.append_json-requires
 append_json-requires c =
@@ -12,13 +12,10 @@ append_json-requires c =
     let P : ℕ → Type 0 = λ n. n ≤ 64 in
     subst P (ap length (sym c.deref.ensures.value)) few
 
-pub returns-clause-ok : goal.returns-clause-ok
-returns-clause-ok c =
+pub returns : goal.returns
+returns c =
     let strings : map string_bytes c.deref.result.now ≡ map quoted c.args.declared.now = ap (map string_bytes) c.deref.ensures.value ∙ c.in_ok-strings.ensures.strings in
-    let line : c.append_json.new.out.items ≡ verdict_json c.args.declared.now c.args.broken.now c.args.verdict.now (option_copied c.args.facts) =
     c.in_ok-append_json.ensures
     ∙ ap (λ start. start ++ json_line (map string_bytes c.deref.result.now) c.args.broken.now c.args.verdict.now (option_copied c.args.facts)) c.new-text.ensures.items
     ∙ ap (λ names. json_line names c.args.broken.now c.args.verdict.now (option_copied c.args.facts)) strings
-    ∙ line_is c.args.declared.now c.args.broken.now c.args.verdict.now (option_copied c.args.facts) in
-    let end : c.extend_from_slice.new.self.items ≡ c.args.out.now.items ++ c.append_json.new.out.items = search rules in
-    end ∙ ap (λ text. c.args.out.now.items ++ text) line
+    ∙ line_is c.args.declared.now c.args.broken.now c.args.verdict.now (option_copied c.args.facts)

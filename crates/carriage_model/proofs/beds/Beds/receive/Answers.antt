@@ -1,0 +1,9 @@
+use Rattle.std.proofs.Common.{refl, ◌∙◌, ap, ◌++◌, List, ℕ}
+use Rattle.std.proofs.lemmas.Result.{IfOk-weaker}
+use Rattle.carriage_model.proofs.Stacked.{set-holds, read-stack}
+use Rattle.carriage_model.proofs.beds.Beds.receive.Goals as goal
+
+pub returns : goal.returns
+returns c =
+    IfOk-weaker c.extend_from_slice.result _ _ (λ _ extended. set-holds _ _ _ _ _ _ c.requires.on c.place-place.ensures.is refl refl refl
+    (extended ∙ ap (λ (l : List ℕ). l ++ c.args.loops.now) (read-stack c.args.self.now _ _ _ c.requires.on c.place-place.ensures.is c.index_mut.ensures.value))) c.extend_from_slice.ensures.ok

@@ -1,0 +1,32 @@
+use Rattle.std.proofs.Common.{◌≡◌, ◌<◌, ◌+◌, ◌++◌, [], List, ℕ, length, ap, sym, ◌∙◌, arith}
+use Rattle.carriage_model.specs.Beds.{Holds, loops_at}
+use Rattle.carriage_model.specs.State.{with_stack}
+use Rattle.carriage_model.proofs.Stacked.{exchange-transfers, moved-transfers, other_stack, still-on, nil_from_test}
+use Rattle.carriage_model.proofs.beds.Beds.transfer.Goals as goal
+
+pub returns-then-loops_on-eq0 : goal.returns-then-loops_on-eq0
+returns-then-loops_on-eq0 c =
+    exchange-transfers c.args.self.now c.exchange.new.self c.args.n c.args.n2 c.requires.sides (nil_from_test (loops_at c.args.self.now c.args.n2) c.loops_on.result c.loops_on.ensures c.if-loops_on-eq0.true) c.exchange.ensures
+
+pub receive-requires-clause-on : goal.receive-requires-clause-on
+receive-requires-clause-on c = still-on c.args.self.now c.take-moved.new.self c.args.n2.at c.take-moved.ensures.left.same c.requires.to
+
+pub receive-requires-clause-room : goal.receive-requires-clause-room
+receive-requires-clause-room c =
+    omega (
+      arith,
+      c.requires.room,
+      ap length (other_stack c.args.self.now c.take-moved.new.self c.args.n c.args.n2 c.requires.sides c.take-moved.ensures.left),
+      ap length c.as_slice.ensures.items,
+      ap length c.take-moved.ensures.loops,
+    )
+
+pub give_room-requires : goal.give_room-requires
+give_room-requires c =
+    let received : Holds c.take-moved.new.self c.receive.new.self _ = c.in_ok-receive.ensures in
+    still-on c.take-moved.new.self c.receive.new.self c.args.n.at received.same (still-on c.args.self.now c.take-moved.new.self c.args.n.at c.take-moved.ensures.left.same c.requires.from)
+
+pub returns : goal.returns
+returns c =
+    moved-transfers c.args.self.now c.take-moved.new.self c.receive.new.self c.give_room.new.self c.args.n c.args.n2 c.as_slice.result.now c.requires.sides
+    c.take-moved.ensures.left (c.as_slice.ensures.items ∙ c.take-moved.ensures.loops) c.in_ok-receive.ensures c.give_room.ensures

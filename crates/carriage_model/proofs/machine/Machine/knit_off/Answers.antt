@@ -1,9 +1,0 @@
-use Rattle.std.proofs.Common.{refl, ◌∙◌, ap, ◌++◌, ◌∷◌, [], ◌<◌, ◌≡◌, List, ℕ, length, arith}
-use Rattle.carriage_model.proofs.Machines.{put-holds}
-use Rattle.carriage_model.proofs.machine.Machine.knit_off.Goals as goal
-
-pub returns-clause-ok : goal.returns-clause-ok
-returns-clause-ok c =
-    let loops : c.push.new.self ≡ c.args.line ∷ [] = c.in_ok-push.ensures.ok ∙ ap (λ (l : List ℕ). l ++ c.args.line ∷ []) c.clear.ensures in
-    let some : 0 < length c.push.new.self = omega (arith, ap length loops) in
-    put-holds _ _ _ _ _ _ c.take-loops.ensures.left loops some c.in_ok-insert.ensures.updates.0 refl refl refl

@@ -1,0 +1,244 @@
+//! The loops on the needles of the beds, found by one index.
+ghost use Rattle.std.specs.Prelude.{◌≡◌, ◌≢◌, ◌+◌, ◌*◌, ◌<◌, ◌≤◌, ◌^◌, ℕ, pos, ◌≤ℤ◌, ◌+ℤ◌, length, [], ◌∷◌, ◌++◌, IfOk, OnOk, slice_index_or};
+ghost use Rattle.knit_base.specs.Needle.{is_front};
+ghost use Rattle.carriage_model.specs.Places.{place_in, stack_in, first_of_bed, bed_at, needle_at};
+ghost use Rattle.carriage_model.specs.Verdict.{AreStacks};
+
+use crate::{LoopLines, Stack, Stacks};
+use knit_base::{Bed, Needle, NoMemory};
+use std::alloc::Global;
+use std::mem;
+
+/// The loops on the needles: one bed after the other in the order of `Bed`, each from its lowest needle on. An emptied
+/// needle keeps its room, so that most stitches ask for no memory.
+#[derive(Drop)]
+pub struct Beds {
+    pub alloc: Global,
+    low: i16,
+    width: usize,
+    stacks: Vec<LoopLines>,
+    ghost full: { length stacks.items ≡ 4 * width },
+    ghost reach: { (low +ℤ pos width) ≤ℤ pos 32768 },
+}
+
+impl Beds {
+    ghost use Rattle.carriage_model.specs.State.{with_stack, transferred};
+    ghost use Rattle.carriage_model.specs.Beds.{Holds, IsOn, loops_at};
+
+    /// The beds with no loop on them, from the lowest needle to the highest.
+    pub fn new(alloc: Global, low: i16, high: i16) -> Result<Self, NoMemory>
+        requires { low ≤ℤ high }
+        ensures low { IfOk result (λ beds. beds.low ≡ low) }
+        ensures width { IfOk result (λ beds. (low +ℤ pos beds.width) ≡ (high +ℤ pos 1)) }
+        ensures bare { IfOk result (λ beds. (n : Needle) → loops_at beds n ≡ []) }
+    {
+        let width = (i32::from(high) - i32::from(low) + 1) as usize;
+        let stacks = empty_stacks(alloc, 4 * width)?;
+        Ok(Beds {
+            alloc,
+            low,
+            width,
+            stacks,
+        })
+    }
+
+    /// How many loops a needle holds.
+    pub fn loops_on(&self, n: Needle) -> u32
+        requires { IsOn self.now n.at }
+        ensures { result ≡ length (loops_at self.now n) }
+    {
+        self.stacks[self.place(n)].len()
+    }
+
+    /// A copy of a needle's loops.
+    pub fn copied(&self, n: Needle) -> Result<LoopLines, NoMemory>
+        requires { IsOn self.now n.at }
+        ensures { IfOk result (λ loops. loops ≡ loops_at self.now n) }
+    {
+        let loops = self.stacks[self.place(n)].as_slice();
+        let mut copy = LoopLines::new(self.alloc);
+        copy.extend_from_slice(loops)?;
+        Ok(copy)
+    }
+
+    /// The needle holds no loop.
+    pub fn empty(&mut self, n: Needle)
+        requires { IsOn self.old n.at }
+        ensures { Holds self.old self.new (with_stack (loops_at self.old) n []) }
+    {
+        let place = self.place(n);
+        self.stacks[place].clear();
+    }
+
+    /// The needle holds a new loop alone.
+    pub fn knit_off(&mut self, line: u32, n: Needle) -> Result<(), NoMemory>
+        requires { IsOn self.old n.at }
+        ensures { OnOk result (Holds self.old self.new (with_stack (loops_at self.old) n (line ∷ []))) }
+    {
+        let place = self.place(n);
+        self.stacks[place].clear();
+        self.stacks[place].push(line)
+    }
+
+    /// A new loop joins those of the needle.
+    pub fn join(&mut self, line: u32, n: Needle) -> Result<(), NoMemory>
+        requires on { IsOn self.old n.at }
+        requires room { length (loops_at self.old n) + 1 < 2 ^ 32 }
+        ensures { OnOk result (Holds self.old self.new (with_stack (loops_at self.old) n (loops_at self.old n ++ line ∷ []))) }
+    {
+        let place = self.place(n);
+        self.stacks[place].push(line)
+    }
+
+    /// All loops of a needle go over behind those of another.
+    pub fn transfer(&mut self, n: Needle, n2: Needle) -> Result<(), NoMemory>
+        requires from { IsOn self.old n.at }
+        requires to { IsOn self.old n2.at }
+        requires sides { is_front n.bed ≢ is_front n2.bed }
+        requires room { length (loops_at self.old n2) + length (loops_at self.old n) < 2 ^ 32 }
+        ensures { OnOk result (Holds self.old self.new (transferred n n2 [] (loops_at self.old))) }
+    {
+        if self.loops_on(n2) == 0 {
+            self.exchange(n, n2);
+            return Ok(());
+        }
+        let moved = self.take(n);
+        self.receive(n2, moved.as_slice())?;
+        self.give_room(n, moved);
+        Ok(())
+    }
+
+    /// The loops of a needle, which then holds none.
+    pub fn take(&mut self, n: Needle) -> LoopLines
+        requires { IsOn self.old n.at }
+        ensures loops { result ≡ loops_at self.old n }
+        ensures left { Holds self.old self.new (with_stack (loops_at self.old) n []) }
+    {
+        let place = self.place(n);
+        mem::replace(&mut self.stacks[place], LoopLines::new(self.alloc))
+    }
+
+    // Each of two needles gets the other's loops.
+    fn exchange(&mut self, n: Needle, n2: Needle)
+        requires from { IsOn self.old n.at }
+        requires to { IsOn self.old n2.at }
+        ensures { Holds self.old self.new (with_stack (with_stack (loops_at self.old) n (loops_at self.old n2)) n2 (loops_at self.old n)) }
+    {
+        let from = self.place(n);
+        let to = self.place(n2);
+        self.stacks.swap(from, to);
+    }
+
+    // The loops come behind those of the needle.
+    fn receive(&mut self, n: Needle, loops: &[u32]) -> Result<(), NoMemory>
+        requires on { IsOn self.old n.at }
+        requires room { length (loops_at self.old n) + length loops.now < 2 ^ 32 }
+        ensures { OnOk result (Holds self.old self.new (with_stack (loops_at self.old) n (loops_at self.old n ++ loops.now))) }
+    {
+        let place = self.place(n);
+        self.stacks[place].extend_from_slice(loops)
+    }
+
+    // The needle holds no loop, in the room of a stack that is done with.
+    fn give_room(&mut self, n: Needle, done: LoopLines)
+        requires { IsOn self.old n.at }
+        ensures { Holds self.old self.new (with_stack (loops_at self.old) n []) }
+    {
+        let place = self.place(n);
+        let mut room = done;
+        room.clear();
+        self.stacks[place] = room;
+    }
+
+    /// The needles that hold loops, in order, with their loops.
+    pub fn list(self) -> Result<Stacks, NoMemory>
+        ensures { IfOk result (λ list. AreStacks list (loops_at self)) }
+    {
+        list_stacks(self.alloc, self.low, self.width, self.stacks)
+    }
+
+    // Where the needle's stack stands.
+    fn place(&self, n: Needle) -> usize
+        requires { IsOn self.now n.at }
+        ensures is { result ≡ place_in self.now.low self.now.width n }
+        ensures within { result < length self.now.stacks.items }
+    {
+        let above = (i32::from(n.at) - i32::from(self.low)) as usize;
+        first_of_bed(self.width, n.bed) + above
+    }
+}
+
+// The needles that hold loops, in order, with their loops.
+fn list_stacks(
+    alloc: Global,
+    low: i16,
+    width: usize,
+    stacks: Vec<LoopLines>,
+) -> Result<Stacks, NoMemory>
+    requires full { length stacks.items ≡ 4 * width }
+    requires reach { (low +ℤ pos width) ≤ℤ pos 32768 }
+    ensures { IfOk result (λ list. AreStacks list (stack_in low width stacks.items)) }
+{
+    let mut list = Stacks::new(alloc);
+    for (place, loops) in stacks.into_iter().enumerate() {
+        if !loops.is_empty() {
+            let needle = needle_at(low, width, place);
+            list.push(Stack { needle, loops })?;
+        }
+    }
+    Ok(list)
+}
+
+// The place of the lowest needle of a bed.
+fn first_of_bed(width: usize, bed: Bed) -> usize
+    requires { width ≤ 65536 }
+    ensures { result ≡ first_of_bed width bed }
+{
+    match bed {
+        Bed::Front => 0,
+        Bed::FrontSlider => width,
+        Bed::Back => 2 * width,
+        Bed::BackSlider => 3 * width,
+    }
+}
+
+// The needle whose stack stands at this place.
+fn needle_at(low: i16, width: usize, place: usize) -> Needle
+    requires within { place < 4 * width }
+    requires reach { (low +ℤ pos width) ≤ℤ pos 32768 }
+    ensures { result ≡ needle_at low width place }
+{
+    let bed = bed_at(width, place);
+    let above = place - first_of_bed(width, bed);
+    let at = (i32::from(low) + above as i32) as i16;
+    Needle { bed, at }
+}
+
+fn bed_at(width: usize, place: usize) -> Bed
+    requires { width ≤ 65536 }
+    ensures { result ≡ bed_at width place }
+{
+    if place < width {
+        return Bed::Front;
+    }
+    if place < 2 * width {
+        return Bed::FrontSlider;
+    }
+    if place < 3 * width {
+        return Bed::Back;
+    }
+    Bed::BackSlider
+}
+
+// So many empty stacks, which take no memory of their own.
+fn empty_stacks(alloc: Global, count: usize) -> Result<Vec<LoopLines>, NoMemory>
+    requires { count ≤ 262144 }
+    ensures length { IfOk result (λ stacks. length stacks.items ≡ count) }
+    ensures bare { IfOk result (λ stacks. (k : ℕ) → slice_index_or stacks.items k [] ≡ []) }
+{
+    let mut stacks = Vec::with_capacity(alloc, count)?;
+    for _ in 0..count {
+        stacks.push(LoopLines::new(alloc))?;
+    }
+    Ok(stacks)
+}
