@@ -1,5 +1,6 @@
 pub mod Broken
 pub mod Carriers
+pub mod Few
 pub mod Found
 pub mod Listed
 pub mod Machines

@@ -6,7 +6,7 @@ ghost use Rattle.knit_base.specs.Limits.{IsLawfulProfile};
 ghost use Rattle.carriage_model.specs.State.{State, empty_state};
 ghost use Rattle.carriage_model.specs.Loops.{loops_made, fact_made, loop_of_instr, formed, fact_of};
 ghost use Rattle.carriage_model.specs.Run.{run};
-ghost use Rattle.carriage_model.specs.Verdict.{IsVerdict, NamesDeclared, IsOfDeclared, AreOfDeclared};
+ghost use Rattle.carriage_model.specs.Verdict.{IsVerdict, NamesDeclared, HoldsFew, IsOfDeclared, AreOfDeclared};
 
 use crate::machine::Machine;
 use crate::{Facts, LoopFact, LoopLines, Verdict};
@@ -27,6 +27,7 @@ pub fn run_telling(
     requires lines { first + length reads.now < 2 ^ 32 }
     ensures verdict { IfOk result (λ told. IsVerdict (length reads.now) told.0 (run profile.now empty_state first reads.now) (loops_made profile.now empty_state first reads.now)) }
     ensures carriers { IfOk result (λ told. NamesDeclared (length declared.now) told.0) }
+    ensures few { IfOk result (λ told. HoldsFew told.0) }
     ensures loops { IfOk result (λ told. told.1 ≡ loops_made profile.now empty_state first reads.now) }
     ensures yarns { IfOk result (λ told. AreOfDeclared (length declared.now) told.1) }
 {

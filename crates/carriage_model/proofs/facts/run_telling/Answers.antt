@@ -8,6 +8,7 @@ use Rattle.carriage_model.specs.Run.{run, Ended}
 use Rattle.carriage_model.specs.Loops.{loops_made}
 use Rattle.carriage_model.specs.Verdict.{IsVerdict, IsFinal, AreOfDeclared}
 use Rattle.carriage_model.proofs.Carriers.{names-declared, loops_made-declared}
+use Rattle.carriage_model.proofs.Few.{holds-few}
 use Rattle.carriage_model.proofs.Needs.{line_has-needles, line_has-places, line_has-room, lawful-item}
 use Rattle.carriage_model.proofs.Told.{Tells, tells-start, tells-next, tells-stop, tells-stop-loops, tells-end, tells-end-loops}
 use Rattle.carriage_model.proofs.facts.run_telling.Goals as goal
@@ -40,6 +41,7 @@ returns-in-Some c =
           (sym (tells-stop _ _ _ _ c.read-item.result _ _ _ c.loop-i-test.true c.read-item.is here broke))
           refl);
       carriers = tt;
+      few = tt;
       loops = made;
       yarns = subst (AreOfDeclared (length c.args.declared.now)) (sym made) (loops_made-declared c.args.profile.now (length c.args.declared.now) empty_state c.args.first c.args.reads.now c.requires.lawful);
     }
@@ -75,7 +77,7 @@ returns c =
     let told : c.loop-i.facts ≡ loops = tells-end-loops _ _ _ _ _ _ c.loop-i-test.false here in
     let made : c.loop-i.facts ≡ loops_made c.args.profile.now empty_state c.args.first c.args.reads.now =
     subst (λ (reads : List Read). c.loop-i.facts ≡ loops_made c.args.profile.now empty_state c.args.first reads) c.as_slice-read-items.ensures.items told in
-    let final : IsFinal c.in_ok-last.last c.len.result here.state loops = c.in_ok-last.ensures here.state loops here.represented (c.len-2.ensures ∙ ap length told) in
+    let final : IsFinal c.in_ok-last.last c.len.result here.state loops = c.in_ok-last.ensures.is here.state loops here.represented (c.len-2.ensures ∙ ap length told) in
     let judged : IsVerdict (length c.args.reads.now) (Sound c.in_ok-last.last) (run c.args.profile.now empty_state c.args.first c.args.reads.now) (loops_made c.args.profile.now empty_state c.args.first c.args.reads.now) =
     subst (λ (reads : List Read). IsVerdict (length reads) (Sound c.in_ok-last.last) (run c.args.profile.now empty_state c.args.first reads) (loops_made c.args.profile.now empty_state c.args.first reads))
     c.as_slice-read-items.ensures.items
@@ -85,6 +87,7 @@ returns c =
     record {
       verdict = judged;
       carriers = names-declared c.args.profile.now (length c.args.declared.now) c.args.first (length c.args.reads.now) _ (Sound c.in_ok-last.last) c.requires.lawful judged;
+      few = holds-few c.args.profile.now c.args.first (length c.args.reads.now) c.args.reads.now (Sound c.in_ok-last.last) c.requires.profile judged c.in_ok-last.ensures.few;
       loops = made;
       yarns = subst (AreOfDeclared (length c.args.declared.now)) (sym made) (loops_made-declared c.args.profile.now (length c.args.declared.now) empty_state c.args.first c.args.reads.now c.requires.lawful);
     }

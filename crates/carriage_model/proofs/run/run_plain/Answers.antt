@@ -8,6 +8,7 @@ use Rattle.carriage_model.specs.Run.{run, Ended}
 use Rattle.carriage_model.specs.Loops.{loops_made}
 use Rattle.carriage_model.specs.Verdict.{IsVerdict, IsFinal}
 use Rattle.carriage_model.proofs.Carriers.{names-declared}
+use Rattle.carriage_model.proofs.Few.{holds-few}
 use Rattle.carriage_model.proofs.Needs.{line_has-needles, line_has-places, line_has-room, lawful-item}
 use Rattle.carriage_model.proofs.Reached.{Reached, reached-start, reached-next, reached-stop, reached-end, reached-count}
 use Rattle.carriage_model.proofs.run.run_plain.Goals as goal
@@ -62,7 +63,7 @@ returns c =
     let here : Reached c.args.profile.now c.as_slice-read-items.result.now c.args.first c.loop-i.i c.loop-i.machine c.loop-i.made = c.loop-i.invariant in
     let items : List Read = c.as_slice-read-items.result.now in
     let loops : List LoopFact = loops_made c.args.profile.now empty_state c.args.first items in
-    let final : IsFinal c.in_ok-last.last c.len.result here.state loops = c.in_ok-last.ensures here.state loops here.represented (reached-count _ _ _ _ _ _ c.loop-i-test.false here) in
+    let final : IsFinal c.in_ok-last.last c.len.result here.state loops = c.in_ok-last.ensures.is here.state loops here.represented (reached-count _ _ _ _ _ _ c.loop-i-test.false here) in
     let judged : IsVerdict (length c.args.reads.now) (Sound c.in_ok-last.last) (run c.args.profile.now empty_state c.args.first c.args.reads.now) (loops_made c.args.profile.now empty_state c.args.first c.args.reads.now) =
     subst (λ (reads : List Read). IsVerdict (length reads) (Sound c.in_ok-last.last) (run c.args.profile.now empty_state c.args.first reads) (loops_made c.args.profile.now empty_state c.args.first reads))
     c.as_slice-read-items.ensures.items
@@ -72,4 +73,5 @@ returns c =
     record {
       verdict = judged;
       carriers = names-declared c.args.profile.now (length c.args.declared.now) c.args.first (length c.args.reads.now) _ (Sound c.in_ok-last.last) c.requires.lawful judged;
+      few = holds-few c.args.profile.now c.args.first (length c.args.reads.now) c.args.reads.now (Sound c.in_ok-last.last) c.requires.profile judged c.in_ok-last.ensures.few;
     }
