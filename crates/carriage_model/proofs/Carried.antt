@@ -14,6 +14,7 @@ use Rattle.carriage_model.specs.declared.verdict.Final.{Final}
 use Rattle.carriage_model.specs.declared.verdict.Verdict.TheVariants.{Broken, Sound}
 use Rattle.knit_base.specs.declared.rule.Fault.{Fault}
 use Rattle.carriage_model.specs.Machine.{HasNeedlesOf, Represents}
+use Rattle.carriage_model.proofs.Few.{holds-few}
 use Rattle.carriage_model.proofs.Needs.{needles-kept}
 use Rattle.carriage_model.specs.State.{State, empty_state}
 use Rattle.carriage_model.specs.Rules.{broken}
@@ -223,14 +224,17 @@ made-few profile telling first reads carriage here = omega (arith, here.made, he
 pub tells-sound : (profile : Profile) (telling : Bool) (first : ℕ) (reads : List Read) (carriage : Carriage) (lines : ℕ) (final : Final) → HasRun profile telling first reads carriage
     → carriage.fault ≡ None → lines ≡ length reads
     → ((s : State) (loops : List LoopFact) → Represents carriage.machine s → carriage.made ≡ length loops → IsFinal final lines s loops)
+    → length final.stacks ≤ 262144
     → TellsRun profile telling first reads (Sound final) carriage.told
-tells-sound profile telling first reads carriage lines final here none count is =
+tells-sound profile telling first reads carriage lines final here none count is short =
     let at : InState profile first reads carriage = standing profile telling first reads carriage here none in
     let loops : List LoopFact = loops_made profile empty_state first reads in
+    let judged : IsVerdict (length reads) (Sound final) (run profile empty_state first reads) loops =
+    subst (λ ended. IsVerdict (length reads) (Sound final) ended loops) (sym at.ends) (subst (λ n. IsFinal final n at.state loops) count (is at.state loops at.represented here.made)) in
     record {
-      verdict_is = subst (λ ended. IsVerdict (length reads) (Sound final) ended loops) (sym at.ends)
-          (subst (λ n. IsFinal final n at.state loops) count (is at.state loops at.represented here.made));
+      verdict_is = judged;
       told_is = here.told;
+      few = holds-few profile first (length reads) reads (Sound final) here.lawful judged short;
     }
 
 stops-broken : (lines : ℕ) (carriage : Carriage) (fault : Fault) (ended : Ended) (loops : List LoopFact) → StandsAfter carriage ended → carriage.fault ≡ Some fault
@@ -244,4 +248,5 @@ pub tells-broken : (profile : Profile) (telling : Bool) (first : ℕ) (reads : L
 tells-broken profile telling first reads carriage fault here some = record {
   verdict_is = stops-broken (length reads) carriage fault (run profile empty_state first reads) (loops_made profile empty_state first reads) here.stands some;
   told_is = here.told;
+  few = tt;
 }

@@ -1,6 +1,7 @@
 pub mod Broken
 pub mod Carried
 pub mod Carriers
+pub mod Few
 pub mod Found
 pub mod Listed
 pub mod Machines

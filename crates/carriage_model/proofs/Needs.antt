@@ -68,7 +68,7 @@ pub lawful-item : (profile : Profile) (d : ℕ) (items reads : List Read) (i : �
 lawful-item profile d items reads i r same lawful within is =
     subst (IsLawfulRead profile d) (sym is) (All-get_or (IsLawfulRead profile d) items i r within (All-same (IsLawfulRead profile d) items reads same lawful))
 
-second-none : (first second : Option Reason) → or_else first second ≡ None → second ≡ None
+pub second-none : (first second : Option Reason) → or_else first second ≡ None → second ≡ None
 second-none None second e = e
 second-none (Some reason) second e = absurd (true≢false (ap is_some e))
 
@@ -76,7 +76,8 @@ test-none : (test : Bool) (rule : Rule) (at : ℕ) → broken_if test rule at �
 test-none true rule at e = absurd (true≢false (ap is_some e))
 test-none false rule at e = refl
 
-few : (profile : Profile) (loops at : ℕ) → IsLawfulProfile profile → too_many profile loops at ≡ None → loops ≤ 64
+-- loops that are not too many are at most 64
+pub few : (profile : Profile) (loops at : ℕ) → IsLawfulProfile profile → too_many profile loops at ≡ None → loops ≤ 64
 few profile loops at limits sound = omega (arith, limits.hold, ltb-false profile.hold loops (test-none (nat_lt profile.hold loops) _ at sound))
 
 instr_has-room : (profile : Profile) (d : ℕ) (i : Instr) (machine : Machine) (s : State) → IsLawfulProfile profile → IsLawful profile d i → Represents machine s → broken_instr profile i s ≡ None

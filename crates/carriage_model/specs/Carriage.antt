@@ -13,7 +13,7 @@ use Rattle.carriage_model.specs.Loops.{loops_made, loops_asked, fact_made}
 use Rattle.carriage_model.specs.Machine.{HasNeedlesOf, Represents}
 use Rattle.carriage_model.specs.Run.{run, Ended, Ends, Stops}
 use Rattle.carriage_model.specs.Steps.{step}
-use Rattle.carriage_model.specs.Verdict.{IsVerdict}
+use Rattle.carriage_model.specs.Verdict.{HoldsFew, IsVerdict}
 
 -- the carriage stands where a run ended: in its last state, or before the line that broke a rule
 abbrev pub StandsAfter : Carriage → Ended → Type 0
@@ -39,6 +39,7 @@ IsRunning carriage = (telling : Bool) × (first : ℕ) × (reads : List Read) ×
 pub record TellsRun (profile : Profile) (telling : Bool) (first : ℕ) (reads : List Read) (verdict : Verdict) (told : Option (List LoopFact)) : Type 0 where
   pub verdict_is : IsVerdict (length reads) verdict (run profile empty_state first reads) (loops_made profile empty_state first reads)
   pub told_is : told ≡ loops_asked telling (loops_made profile empty_state first reads)
+  pub few : HoldsFew verdict
 
 -- the loops told, with the loop of one line more
 abbrev pub told_with : Option (List LoopFact) → Option LoopFact → Option (List LoopFact)

@@ -1,5 +1,6 @@
 -- What a verdict says of a run.
-use Rattle.std.specs.Prelude.{◌≡◌, ℕ, ◌<◌, true, List, [], ◌∷◌, length, if◌then◌else◌, All, map}
+use Rattle.std.specs.Prelude.{◌≡◌, ℕ, ◌<◌, ◌^◌, true, List, [], ◌∷◌, length, if◌then◌else◌, All, map}
+use Rattle.std.specs.List.{sum_by}
 use Rattle.std.specs.List.Sorted.{IsStrictlySortedBy}
 use Rattle.knit_base.specs.declared.needle.Needle.{Needle}
 use Rattle.knit_base.specs.declared.yarns.CarrierNo.{CarrierNo}
@@ -8,6 +9,8 @@ use Rattle.knit_base.specs.Yarns.{contains_carrier}
 use Rattle.carriage_model.specs.declared.verdict.LoopFact.{LoopFact}
 use Rattle.carriage_model.specs.declared.verdict.Stack.{Stack}
 use Rattle.carriage_model.specs.declared.verdict.Final.{Final}
+use Rattle.carriage_model.specs.declared.verdict.Brief.{Brief}
+use Rattle.carriage_model.specs.declared.verdict.Brief.TheVariants as brief
 use Rattle.carriage_model.specs.declared.verdict.Verdict.{Verdict}
 use Rattle.carriage_model.specs.declared.verdict.Verdict.TheVariants as verdict
 use Rattle.carriage_model.specs.State.{State}
@@ -56,3 +59,17 @@ IsOfDeclared declared fact = All (λ c. c.0 < declared) fact.yarns
 -- each yarn of each loop is one of so many declared carriers
 abbrev pub AreOfDeclared : ℕ → List LoopFact → Type 0
 AreOfDeclared declared = All (IsOfDeclared declared)
+
+-- how many loops the needles of the list hold together
+abbrev pub held_on : List Stack → ℕ
+held_on = sum_by (λ stack. length stack.loops)
+
+-- the loops that the verdict's needles hold can be counted in 32 bits
+abbrev pub HoldsFew : Verdict → Type 0
+HoldsFew (verdict.Sound final) = held_on final.stacks < 2 ^ 32
+HoldsFew (verdict.Broken fault) = Unit {0}
+
+-- a verdict in short: of a sound one the lines, the loops made, the loops held and the rack, and else the fault
+abbrev pub brief_of : Verdict → Brief
+brief_of (verdict.Sound final) = brief.Sound final.lines final.made (held_on final.stacks) final.rack
+brief_of (verdict.Broken fault) = brief.Broken fault

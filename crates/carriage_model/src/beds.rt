@@ -152,7 +152,8 @@ impl Beds {
 
     /// The needles that hold loops, in order, with their loops.
     pub fn list(self) -> Result<Stacks, NoMemory>
-        ensures { IfOk result (λ list. AreStacks list (loops_at self)) }
+        ensures listed { IfOk result (λ list. AreStacks list (loops_at self)) }
+        ensures few { IfOk result (λ list. length list ≤ 262144) }
     {
         list_stacks(self.alloc, self.low, self.width, self.stacks)
     }
@@ -177,7 +178,8 @@ fn list_stacks(
 ) -> Result<Stacks, NoMemory>
     requires full { length stacks.items ≡ 4 * width }
     requires reach { (low +ℤ pos width) ≤ℤ pos 32768 }
-    ensures { IfOk result (λ list. AreStacks list (stack_in low width stacks.items)) }
+    ensures listed { IfOk result (λ list. AreStacks list (stack_in low width stacks.items)) }
+    ensures few { IfOk result (λ list. length list ≤ 262144) }
 {
     let mut list = Stacks::new(alloc);
     for (place, loops) in stacks.into_iter().enumerate() {

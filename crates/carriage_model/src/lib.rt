@@ -2,11 +2,11 @@
 //!
 //! Promises that a `Carriage` that is given the lines of a program one by one gives the verdict on it, together with the loops
 //! that it makes where that is asked, that `run_plain` gives the verdict on a list of readings, and that `fact_plain` finds the
-//! loop of one line; each carrier that these two name is declared.
+//! loop of one line, where each carrier that these two name is declared. `Verdict::brief` keeps the counts of a verdict.
 //! Definitions: `specs/State` (where a machine stands), `specs/Rules` (which rule a line breaks there), `specs/Steps` (what
 //! a line does), `specs/Run` (lines one after the other), `specs/Loops` (the loops that they make), `specs/Verdict`, and
-//! `specs/Carriage` (which run a carriage stands for). `specs/Machine` says which state the code's own `Machine` stands for, `specs/Beds` and `specs/Places` how it keeps the
-//! loops. Below it stand std and `knit_base`.
+//! `specs/Carriage` (which run a carriage stands for). `specs/Machine` says which state the code's own `Machine` stands for,
+//! `specs/Beds` and `specs/Places` how it keeps the loops. Below it stand std and `knit_base`.
 #![tactic(auto)]
 
 mod beds;

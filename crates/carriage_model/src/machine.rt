@@ -1,5 +1,5 @@
 //! The state of the machine as the program keeps it.
-ghost use Rattle.std.specs.Prelude.{◌≡◌, ◌≤ℤ◌, length, IfOk, List};
+ghost use Rattle.std.specs.Prelude.{◌≡◌, ◌≤◌, ◌≤ℤ◌, length, IfOk, List};
 ghost use Rattle.carriage_model.specs.declared.verdict.LoopFact.{LoopFact};
 ghost use Rattle.carriage_model.specs.State.{State, empty_state};
 ghost use Rattle.carriage_model.specs.Verdict.{IsFinal};
@@ -36,7 +36,8 @@ impl Machine {
 
     /// What a program of so many lines leaves that made so many loops.
     pub fn finish(self, lines: u32, made: u32) -> Result<Final, NoMemory>
-        ensures { IfOk result (λ final. (s : State) (loops : List LoopFact) → Represents self s → made ≡ length loops → IsFinal final lines s loops) }
+        ensures is { IfOk result (λ final. (s : State) (loops : List LoopFact) → Represents self s → made ≡ length loops → IsFinal final lines s loops) }
+        ensures few { IfOk result (λ final. length final.stacks ≤ 262144) }
     {
         Ok(Final {
             lines,

@@ -8,7 +8,7 @@ ghost use Rattle.knit_base.specs.Limits.{IsLawfulProfile};
 ghost use Rattle.carriage_model.specs.State.{State, empty_state};
 ghost use Rattle.carriage_model.specs.Run.{run};
 ghost use Rattle.carriage_model.specs.Loops.{loops_made, fact_made, formed};
-ghost use Rattle.carriage_model.specs.Verdict.{IsVerdict, NamesDeclared};
+ghost use Rattle.carriage_model.specs.Verdict.{IsVerdict, NamesDeclared, HoldsFew};
 
 use crate::{Carriage, Verdict};
 use knit_base::{Declared, Instr, NoMemory, Profile, Read, Reads, Yarns};
@@ -27,6 +27,7 @@ pub fn run_plain(
     requires lines { first + length reads.now < 2 ^ 32 }
     ensures verdict { IfOk result (λ verdict. IsVerdict (length reads.now) verdict (run profile.now empty_state first reads.now) (loops_made profile.now empty_state first reads.now)) }
     ensures carriers { IfOk result (NamesDeclared (length declared.now)) }
+    ensures few { IfOk result HoldsFew }
 {
     let mut carriage = Carriage::start(alloc, profile, first, false)?;
     'running: for read in reads.as_slice() {

@@ -1,9 +1,9 @@
 //! Each public call once with ample memory, on a carrier that comes in and a loop that it makes.
 ghost use Rattle.std.specs.Prelude.{◌∷◌, [], ◌≡◌, IfOk};
 
-use crate::{Carriage, Verdict, fact_plain, run_plain};
+use crate::{Brief, Carriage, Verdict, fact_plain, run_plain};
 use knit_base::{
-    Bed, CarrierNo, Declared, Dir, Instr, Needle, NoMemory, Profile, Read, Reads, Yarns,
+    Bed, CarrierNo, Declared, Dir, Instr, Needle, NoMemory, Profile, Quarter, Read, Reads, Yarns,
 };
 use std::alloc::Global;
 use std::test::Fail;
@@ -39,11 +39,14 @@ fn a_loop_by_its_line(rt: HostRuntime) -> Result<(), Fail> {
     assert!(rt; none.is_none());
     let fact = fact_plain(alloc, &MACHINE, &declared, &reads, 3, 4)?;
     assert_eq!(rt; fact.map(|f| f.needle), Some(needle));
-    let Verdict::Sound(end) = run_plain(alloc, &MACHINE, &declared, &reads, 3)? else {
-        assert!(rt; false);
-        return Ok(());
+    let brief = run_plain(alloc, &MACHINE, &declared, &reads, 3)?.brief();
+    let sound = Brief::Sound {
+        lines: 2,
+        made: 1,
+        held: 1,
+        rack: Quarter(0),
     };
-    assert_eq!(rt; end.made, 1);
+    assert_eq!(rt; brief, sound);
     Ok(())
 }
 

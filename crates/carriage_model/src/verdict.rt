@@ -1,4 +1,7 @@
 //! What a run gives: a verdict, and the loops that it made.
+ghost use Rattle.std.specs.Prelude.{◌≡◌, ◌<◌, ◌^◌};
+ghost use Rattle.carriage_model.specs.Verdict.{brief_of, held_on, HoldsFew};
+
 use knit_base::{Dir, Fault, ListOf, Needle, Quarter, Yarns};
 
 /// Loops, each named by the line that made it.
@@ -31,6 +34,36 @@ pub struct Final {
 pub enum Verdict {
     Sound(Final),
     Broken(Fault),
+}
+
+impl Verdict {
+    /// The verdict in short. Each verdict on a program holds few loops.
+    pub fn brief(&self) -> Brief
+        requires { HoldsFew self.now }
+        ensures { result ≡ brief_of self.now }
+    {
+        match self {
+            Verdict::Sound(last) => Brief::Sound {
+                lines: last.lines,
+                made: last.made,
+                held: held_on(&last.stacks),
+                rack: last.rack,
+            },
+            Verdict::Broken(fault) => Brief::Broken(*fault),
+        }
+    }
+}
+
+// How many loops the needles of the list hold together.
+fn held_on(stacks: &Stacks) -> u32
+    requires { held_on stacks.now < 2 ^ 32 }
+    ensures { result ≡ held_on stacks.now }
+{
+    stacks
+        .as_slice()
+        .iter()
+        .map(|stack| stack.loops.len())
+        .sum()
 }
 
 /// A verdict in short. `held` counts the loops on needles at the end.

@@ -36,8 +36,24 @@ loop-place-preserved c =
     list-stays (to_z w16 (of_z w16 c.args.low)) c.args.width c.in-Some.place c.loop-place.yielded c.in-Some.loops c.loop-place.list c.loop-place.invariant
     (none_from_test c.in-Some.loops (sym c.is_empty.ensures ∙ c.if-not-is_empty.false))
 
-pub returns : goal.returns
-returns c =
+pub returns-clause-listed : goal.returns-clause-listed
+returns-clause-listed c =
     let t = YieldsList-end (YieldsList-from_enumerate {s = c.into_iter-place-iterator.result} (YieldsList-from_vec {s = c.into_iter-place-iterator.result.iter} c.args.stacks.items (cc) (cc)) (cc)) c.loop-place.yielded c.loop-place.place-iterator c.loop-place.yielded_by _ c.next.new.self c.in-None.is c.next.ensures.steps in
     listed-stacks c.args.low c.args.width c.args.stacks.items c.loop-place.list c.requires.full
     (c.loop-place.invariant ∙ ap (λ low. listed low c.args.width 0 (stacks_of c.loop-place.yielded)) (to_z-of_z w16 c.args.low c.ranges.low) ∙ ap (listed c.args.low c.args.width 0) (all-stacks c.loop-place.yielded c.args.stacks.items t.0))
+
+pub returns-clause-few : goal.returns-clause-few
+returns-clause-few c =
+    let t = YieldsList-end (YieldsList-from_enumerate {s = c.into_iter-place-iterator.result} (YieldsList-from_vec {s = c.into_iter-place-iterator.result.iter} c.args.stacks.items (cc) (cc)) (cc)) c.loop-place.yielded c.loop-place.place-iterator c.loop-place.yielded_by _ c.next.new.self c.in-None.is c.next.ensures.steps in
+    omega (
+      arith,
+      ints,
+      t.1,
+      enumerate-length 0 c.args.stacks.items,
+      stacks_of-length c.loop-place.yielded,
+      ap length c.loop-place.invariant,
+      few (to_z w16 (of_z w16 c.args.low)) c.args.width 0 (stacks_of c.loop-place.yielded),
+      c.requires.full,
+      c.requires.reach,
+      c.ranges.low,
+    )

@@ -34,4 +34,5 @@ returns c =
     record {
       verdict = tells.verdict_is;
       carriers = names-declared c.args.profile.now (length c.args.declared.now) c.args.first (length c.args.reads.now) _ c.in_ok-verdict.verdict c.requires.lawful tells.verdict_is;
+      few = tells.few;
     }
