@@ -1,10 +1,9 @@
 -- The text and the names of a header.
-use Rattle.std.proofs.Common.{◌≡◌, ◌≢◌, ℕ, zero, suc, ◌+◌, ◌<◌, ◌≤◌, ◌⊎◌, ⊎_elim, ◌↔◌, Bool, true, false, ◌||◌, not, nat_eq, ◌==◌, nat_lt, List, [], ◌∷◌, ◌++◌, length, take, drop, get_or, filter, All, Option, None, Some, IsSome, IsErrOf, Result, Ok, Err, MatchResult, MatchOption, IfSome, is_ok, is_some, take-append-drop, append-nil, position, ap, sym, subst, ◌∙◌, refl, arith, length-append, length-drop}
-use Rattle.std.specs.List.{slice_split, onto_first, position_or_len, list_any, sum_by}
+use Rattle.std.proofs.Common.{◌≡◌, ◌≢◌, ℕ, zero, suc, ◌+◌, ◌<◌, ◌≤◌, ⊎_elim, ◌↔◌, Bool, true, false, ◌||◌, not, nat_eq, ◌==◌, nat_lt, List, [], ◌∷◌, ◌++◌, length, take, drop, get_or, filter, All, Option, None, Some, IsSome, IsErrOf, Result, Ok, Err, MatchResult, MatchOption, IfSome, is_ok, is_some, take-append-drop, append-nil, position, ap, sym, subst, ◌∙◌, refl, arith, length-append, length-drop}
+use Rattle.std.specs.List.{slice_split, onto_first, position_or_len, list_any}
 use Rattle.std.specs.Str.{bytes_eq, IsUtf8}
 use Rattle.std.specs.Option.{option_map}
 use Rattle.std.proofs.lemmas.Bool.{eq-eqb, cond-true, cond-false, ltb-true, eqb-true, cases_lt, false≢true}
-use Rattle.std.proofs.lemmas.Bool.Decides.{Decides-eqb}
 use Rattle.std.proofs.Math.Bool.{or-true}
 use Rattle.std.proofs.lemmas.List.{length-take, get_or-take}
 use Rattle.std.proofs.lemmas.List.Elements.{All-nil, All-cons, All-head, All-tail, All-drop}
@@ -12,7 +11,7 @@ use Rattle.std.proofs.lemmas.List.Folds.{list_any_at, list_any-append}
 use Rattle.std.proofs.lemmas.List.Quantifiers.{position-Some}
 use Rattle.std.proofs.lemmas.List.Splits.{slice_split_first, slice_split_none, slice_split-cons_yes, slice_split-cons_no, length-slice_split}
 use Rattle.std.proofs.lemmas.List.Sums.{prefix_len_stops, fails_before_first, sum_by-append, sum_by-cons}
-use Rattle.std.proofs.lemmas.Slice.Eq.{bytes_eq-Decides, starts_is}
+use Rattle.std.proofs.lemmas.Slice.Eq.{bytes_eq-Decides}
 use Rattle.std.proofs.lemmas.Str.{IsUtf8-from_is_utf8, is_utf8-from_IsUtf8, IsUtf8-drop, IsUtf8-take, IsCharBoundary-before_ascii, IsCharBoundary-after_ascii}
 use denote.Ref.{Bor}
 use Rattle.knit_base.specs.declared.declared.AddName.{AddName}

@@ -1,5 +1,5 @@
 -- The word of a line tells which kind of shape it can have.
-use Rattle.std.proofs.Common.{◌≡◌, ℕ, ◌+◌, ◌*◌, ◌<◌, ℤ, Bool, true, false, nat_eq, List, [], ◌∷◌, ◌++◌, length, get_or, drop, Option, codes, ap, sym, subst, ◌∙◌, refl, inl, if◌then◌else◌}
+use Rattle.std.proofs.Common.{◌≡◌, ℕ, ◌+◌, ◌*◌, ◌<◌, ℤ, Bool, true, nat_eq, List, [], ◌∷◌, length, get_or, drop, Option, codes, ap, sym, subst, ◌∙◌, refl, inl, if◌then◌else◌}
 use Rattle.std.proofs.lemmas.Bool.{false≢true}
 use Rattle.knit_base.specs.declared.instr.Instr.TheVariants as instr
 use Rattle.knit_base.specs.declared.instr.Read.{Read}
@@ -21,7 +21,7 @@ use Rattle.knitout_reader.specs.declared.words.Operation.TheVariants as operatio
 use Rattle.knitout_reader.specs.Carriers.{carrier_rule, carriers_of}
 use Rattle.knitout_reader.specs.Operations.{IsNotingWord, IsWordOf, carrying_word, carrying_instr, forming_word, forming_instr, forming_slider, naming_word, naming_instr}
 use Rattle.knitout_reader.specs.Reads.{ReadsTokens, needle_on, off_bed, reading_or}
-use Rattle.knitout_reader.specs.Shapes.{Shape, Spells, AreCarried, IsFormed, IsDivided, IsMoved, IsNamed, IsRacked, CarryInShape, CarryOutShape, HookInShape, HookOutShape, ReleaseHookShape, StitchShape, PauseShape, ExtensionShape, RackShape, KnitShape, TuckShape, MissShape, SplitShape, XferShape, DropShape, AmissShape}
+use Rattle.knitout_reader.specs.Shapes.{Shape, Spells, IsFormed, IsDivided, IsMoved, IsNamed, IsRacked, CarryInShape, CarryOutShape, HookInShape, HookOutShape, ReleaseHookShape, StitchShape, PauseShape, ExtensionShape, RackShape, KnitShape, TuckShape, MissShape, SplitShape, XferShape, DropShape, AmissShape}
 
 -- A number that differs between the words of any two kinds: 0 where the second byte is a `-`, else of the first byte and the
 -- length.

@@ -1,5 +1,5 @@
 -- The tokens of a line have one shape at most, and a line one reading.
-use Rattle.std.proofs.Common.{◌≡◌, ◌⊎◌, ⊎_elim, ℕ, ◌+◌, ◌*◌, ◌/◌, ◌^◌, ◌<◌, ℤ, Bool, false, true, nat_eq, List, [], ◌∷◌, ◌++◌, length, drop, Option, None, Some, ap, sym, subst, ◌∙◌, refl, arith, codes}
+use Rattle.std.proofs.Common.{◌≡◌, ⊎_elim, ℕ, ◌/◌, ◌^◌, ◌<◌, ℤ, Bool, true, nat_eq, List, [], ◌∷◌, ◌++◌, length, drop, Option, None, Some, ap, sym, subst, ◌∙◌, refl, arith, codes}
 use Rattle.std.proofs.lemmas.Bool.{false≢true}
 use Rattle.std.proofs.Math.Nat.{mul-div_cancel, one-le-pow}
 use Rattle.knit_base.specs.declared.instr.Read.{Read}
@@ -8,7 +8,7 @@ use Rattle.knit_base.specs.declared.needle.Bed.{Bed}
 use Rattle.knit_base.specs.declared.needle.Dir.{Dir}
 use Rattle.knit_base.specs.declared.needle.Dir.TheVariants.{Right, Left}
 use Rattle.knit_base.specs.Spelling.{dir_word}
-use Rattle.knitout_reader.specs.Numbers.{IsNeedle, IsRack, IsQuarter, number_of}
+use Rattle.knitout_reader.specs.Numbers.{IsNeedle, IsRack, IsQuarter}
 use Rattle.knitout_reader.specs.Reads.{ReadsTokens, ReadsCode, reading_of, unreadable}
 use Rattle.knitout_reader.specs.Shapes.{Shape, Spells, AreCarried, AreQuarters, BeginsWithNeedle, IsFormed, IsDivided, IsMoved, IsNamed, IsRacked, CarryInShape, CarryOutShape, HookInShape, HookOutShape, ReleaseHookShape, StitchShape, PauseShape, ExtensionShape, RackShape, KnitShape, TuckShape, MissShape, SplitShape, XferShape, DropShape, AmissShape}
 use Rattle.knitout_reader.proofs.Marks.{mark, mark_of, marks-agree, first_word, other_words}

@@ -1,5 +1,5 @@
 -- The lines of a body, read so far.
-use Rattle.std.proofs.Common.{◌≡◌, ℕ, ◌+◌, ◌-◌, ◌<◌, ◌≤◌, List, [], ◌∷◌, ◌++◌, length, take, drop, get_or, All, Some, sym, ap, subst, ◌∙◌, arith, length-drop, slice_get}
+use Rattle.std.proofs.Common.{◌≡◌, ℕ, ◌+◌, ◌<◌, ◌≤◌, List, [], ◌∷◌, ◌++◌, length, take, drop, get_or, All, Some, sym, ap, subst, ◌∙◌, arith, length-drop, slice_get}
 use Rattle.std.specs.List.{AllZip}
 use Rattle.std.proofs.lemmas.List.{take_more, take_all, length_push, get_or-drop}
 use Rattle.std.proofs.lemmas.Option.{get_or_from_slice_get}

@@ -1,5 +1,5 @@
 -- What holds of a shape that breaks no rule.
-use Rattle.std.proofs.Common.{◌≡◌, ◌≢◌, ◌⊎◌, ⊎_elim, inl, inr, ℕ, ◌+◌, ◌<◌, ◌≤◌, ◌^◌, ℤ, ◌≤ℤ◌, int_lt, Bool, true, false, not, ◌||◌, ◌&&◌, List, [], ◌∷◌, length, get_or, All, Option, None, Some, position, ap, sym, subst, ◌∙◌, refl, arith, if◌then◌else◌}
+use Rattle.std.proofs.Common.{◌≡◌, ◌≢◌, ◌⊎◌, ⊎_elim, inl, inr, ℕ, ◌+◌, ◌<◌, ◌≤◌, ◌^◌, ℤ, ◌≤ℤ◌, int_lt, Bool, true, false, not, ◌||◌, ◌&&◌, List, [], ◌∷◌, length, All, Option, None, Some, position, ap, sym, subst, refl, arith, if◌then◌else◌}
 use Rattle.std.proofs.lemmas.Bool.{false≢true}
 use Rattle.std.proofs.lemmas.Int.{ints}
 use Rattle.std.proofs.lemmas.List.Elements.{All-cons}
@@ -19,7 +19,7 @@ use Rattle.knit_base.specs.Names.{carrier_of}
 use Rattle.knit_base.specs.Needle.{is_front, is_slider}
 use Rattle.knit_base.specs.Reasons.{broken_if, or_else}
 use Rattle.knitout_reader.specs.Carriers.{carriers_of}
-use Rattle.knitout_reader.specs.Reads.{ReadsTokens, are_one_side, are_sliders, instr_of, is_off_bed, needle_on, not_opposite, off_bed, reading_of, reading_or, slider_form, static_rule, unreadable}
+use Rattle.knitout_reader.specs.Reads.{ReadsTokens, are_one_side, are_sliders, instr_of, needle_on, not_opposite, off_bed, reading_or, slider_form, static_rule}
 use Rattle.knitout_reader.specs.Shapes.{Shape, Spells, CarryInShape, CarryOutShape, HookInShape, HookOutShape, ReleaseHookShape, StitchShape, PauseShape, ExtensionShape, RackShape, KnitShape, TuckShape, MissShape, SplitShape, XferShape, DropShape, AmissShape}
 use Rattle.knitout_reader.proofs.OneShape.{Fits, FitsNone}
 

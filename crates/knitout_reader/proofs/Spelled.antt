@@ -1,5 +1,5 @@
 -- What operands say of the shape of a line.
-use Rattle.std.proofs.Common.{◌≡◌, ℕ, ◌<◌, ℤ, Bool, List, [], ◌∷◌, length, Option, codes, ap, sym, subst, ◌∙◌, refl, arith}
+use Rattle.std.proofs.Common.{◌≡◌, ℕ, ℤ, Bool, List, [], ◌∷◌, codes, sym, subst, ◌∙◌}
 use Rattle.knit_base.specs.declared.needle.Bed.{Bed}
 use Rattle.knit_base.specs.declared.needle.Dir.{Dir}
 use Rattle.knit_base.specs.Spelling.{dir_word}
@@ -7,7 +7,7 @@ use Rattle.knitout_reader.specs.declared.words.Forming.{Forming}
 use Rattle.knitout_reader.specs.declared.words.Naming.{Naming}
 use Rattle.knitout_reader.specs.Numbers.{IsNeedle, IsRack}
 use Rattle.knitout_reader.specs.Operations.{forming_word, naming_word}
-use Rattle.knitout_reader.specs.Shapes.{Shape, Spells, BeginsWithNeedle, IsFormed, IsDivided, IsMoved, IsNamed, IsRacked}
+use Rattle.knitout_reader.specs.Shapes.{Shape, Spells, BeginsWithNeedle}
 use Rattle.knitout_reader.proofs.Marks.{first_word, other_words, not_formed, not_named, not_divided, not_moved, not_racked}
 
 -- the tokens begin with no needle

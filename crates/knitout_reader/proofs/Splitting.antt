@@ -1,9 +1,11 @@
 -- The first token of a text, and how many tokens there can be.
-use Rattle.std.proofs.Common.{◌≡◌, ℕ, ◌+◌, ◌-◌, ◌*◌, ◌<◌, ◌≤◌, Bool, true, false, List, [], ◌∷◌, ◌++◌, length, take, drop, get_or, filter, nat_lt, All, ap, sym, subst, ◌∙◌, refl, arith, ⊎_elim, append-nil, take-append-drop, length-drop}
-use Rattle.std.specs.List.{slice_split, onto_first, position_or_len}
+use Rattle.std.proofs.Common.{◌≡◌, ℕ, ◌+◌, ◌-◌, ◌*◌, ◌<◌, ◌≤◌, Bool, true, false, List, [], ◌∷◌, ◌++◌, length, take, drop, get_or, filter, nat_lt, All, ap, sym, subst, ◌∙◌, refl, arith, ⊎_elim, append-nil, take-append-drop, length-drop, Option, None, Some, position}
+use Rattle.std.specs.List.{slice_split, onto_first, position_or_len, list_any}
 use Rattle.std.proofs.lemmas.List.{drop_all, length-take, get_or-drop, take_rest}
 use Rattle.std.proofs.lemmas.Bool.{cond-true, cond-false, lt-ltb, ltb-true, false≢true, cases_lt}
 use Rattle.std.proofs.lemmas.List.Elements.{All-head, All-tail}
+use Rattle.std.proofs.lemmas.List.Folds.{list_any_at}
+use Rattle.std.proofs.lemmas.List.Quantifiers.{position-Some}
 use Rattle.std.proofs.lemmas.List.Splits.{slice_split-cons_yes, slice_split-cons_no, slice_split_none, slice_split_at, length-slice_split}
 use Rattle.knit_base.proofs.Places.{by_test}
 use Rattle.knitout_reader.specs.Tokens.{tokens_of, before_comment, is_blank, is_semicolon, IsToken}
@@ -135,3 +137,13 @@ few_tokens code = omega (arith, two_each (slice_split is_blank code), split_len 
 -- what stands before the comment is no longer than the line
 pub short_code : (line : List ℕ) → length (before_comment line) ≤ length line
 short_code line = omega (arith, length-take (position_or_len is_semicolon line) line)
+
+no_place : (line : List ℕ) (place : Option ℕ) → list_any is_semicolon line ≡ false → position is_semicolon line ≡ place → None ≡ place
+no_place line None none is = refl
+no_place line (Some i) none is =
+    let found = position-Some is_semicolon line i 0 is in
+    absurd (false≢true (sym none ∙ list_any_at is_semicolon line i 0 found.0 found.1))
+
+-- where no byte is a `;`, no comment begins
+pub no_semicolon : (line : List ℕ) → list_any is_semicolon line ≡ false → None ≡ position is_semicolon line
+no_semicolon line none = no_place line (position is_semicolon line) none refl

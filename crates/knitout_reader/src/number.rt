@@ -1,5 +1,5 @@
 //! Numbers and needles, as tokens spell them.
-ghost use Rattle.std.specs.Prelude.{◌≡◌, ◌+◌, ◌-◌, ◌*◌, ◌<◌, ◌≤◌, min, length, fold, take, All, MatchOption, List, ℕ, ◌≢◌, ◌++◌};
+ghost use Rattle.std.specs.Prelude.{◌≡◌, ◌+◌, ◌-◌, ◌*◌, ◌<◌, ◌≤◌, min, length, fold, take, All, MatchOption, List, ℕ, ◌≢◌, ◌∷◌};
 ghost use Rattle.std.specs.Prelude.{ℤ, pos, ◌-ℤ◌, ◌≤ℤ◌};
 ghost use Rattle.knitout_reader.specs.Numbers.{AreDigits, IsDigit, IsNear, IsNeedle, IsSigned, number_of};
 ghost use Rattle.knit_base.specs.declared.needle.Bed.{Bed};
@@ -21,26 +21,29 @@ pub(crate) struct Written {
 pub(crate) fn needle(token: &[u8]) -> Option<Written>
     ensures { MatchOption result ((bed : Bed) (z : ℤ) → IsNeedle token.now bed z → ⊥) (λ n. (z : ℤ) × IsNeedle token.now n.bed z × IsNear 100000 n.at z) }
 {
-    if let Some(number) = after(token, b"fs") {
-        return on_bed(Bed::FrontSlider, number);
+    if let Some(text) = after(token, b'f') {
+        return match after(text, b's') {
+            Some(number) => on_bed(Bed::FrontSlider, number),
+            None => on_bed(Bed::Front, text),
+        };
     }
-    if let Some(number) = after(token, b"bs") {
-        return on_bed(Bed::BackSlider, number);
-    }
-    if let Some(number) = after(token, b"f") {
-        return on_bed(Bed::Front, number);
-    }
-    if let Some(number) = after(token, b"b") {
-        return on_bed(Bed::Back, number);
+    if let Some(text) = after(token, b'b') {
+        return match after(text, b's') {
+            Some(number) => on_bed(Bed::BackSlider, number),
+            None => on_bed(Bed::Back, text),
+        };
     }
     None
 }
 
-// What follows a word at the front of a text.
-pub(crate) fn after<'a>(text: &'a [u8], word: &[u8]) -> Option<&'a [u8]>
-    ensures { MatchOption result ((rest : List ℕ) → text.now ≢ word.now ++ rest) (λ rest. text.now ≡ word.now ++ rest.now) }
+// What follows a byte at the front of a text.
+pub(crate) fn after(text: &[u8], byte: u8) -> Option<&[u8]>
+    ensures { MatchOption result ((rest : List ℕ) → text.now ≢ byte ∷ rest) (λ rest. text.now ≡ byte ∷ rest.now) }
 {
-    text.strip_prefix(word)
+    match text {
+        [first, rest @ ..] if *first == byte => Some(rest),
+        _ => None,
+    }
 }
 
 // A needle of this bed, with this number.

@@ -23,10 +23,10 @@ pub(crate) fn rack(token: &[u8]) -> Option<WrittenRack>
         (λ r. (whole : List ℕ) × (fraction : List ℕ) × IsRack token.now r.negative whole fraction × (r.whole ≡ min (number_of whole) 100000)
         × MatchOption r.quarter ((q : ℕ) → IsQuarter fraction q → ⊥) (λ q. IsQuarter fraction q)) }
 {
-    if let Some(text) = after(token, b"-") {
+    if let Some(text) = after(token, b'-') {
         return unsigned(true, text);
     }
-    if let Some(text) = after(token, b"+") {
+    if let Some(text) = after(token, b'+') {
         return unsigned(false, text);
     }
     unsigned(false, token)

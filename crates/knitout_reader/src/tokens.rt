@@ -6,6 +6,10 @@ ghost use Rattle.knitout_reader.specs.Tokens.{tokens_of, before_comment, is_blan
 pub fn comment_at(line: &[u8]) -> Option<usize>
     ensures { result ≡ position is_semicolon line.now }
 {
+    // Most lines have none, which is seen at once.
+    if !line.contains(&b';') {
+        return None;
+    }
     line.iter().position(|byte| *byte == b';')
 }
 

@@ -60,100 +60,34 @@ pub(crate) enum Operation {
 pub(crate) fn operation_of(word: &[u8]) -> Option<Operation>
     ensures { MatchOption result ((operation : Operation) → IsWordOf operation word.now → ⊥) (λ operation. IsWordOf operation word.now) }
 {
-    if let Some(forming) = forming_of(word) {
-        return Some(Operation::Form(forming));
+    match word {
+        b"knit" => Some(Operation::Form(Forming::Knit)),
+        b"tuck" => Some(Operation::Form(Forming::Tuck)),
+        b"miss" => Some(Operation::Form(Forming::Miss)),
+        b"xfer" => Some(Operation::Xfer),
+        b"split" => Some(Operation::Split),
+        b"drop" => Some(Operation::Name(Naming::Drop)),
+        b"amiss" => Some(Operation::Name(Naming::Amiss)),
+        b"rack" => Some(Operation::Rack),
+        b"in" => Some(Operation::Carry(Carrying::In)),
+        b"out" => Some(Operation::Carry(Carrying::Out)),
+        b"inhook" => Some(Operation::Carry(Carrying::HookIn)),
+        b"outhook" => Some(Operation::Carry(Carrying::HookOut)),
+        b"releasehook" => Some(Operation::Carry(Carrying::ReleaseHook)),
+        b"stitch" => Some(Operation::Note(Noting::Stitch)),
+        b"pause" => Some(Operation::Note(Noting::Pause)),
+        [b'x', b'-', ..] => Some(Operation::Note(Noting::Extension)),
+        _ => None,
     }
-    if word == b"xfer".as_slice() {
-        return Some(Operation::Xfer);
-    }
-    if word == b"split".as_slice() {
-        return Some(Operation::Split);
-    }
-    if let Some(naming) = naming_of(word) {
-        return Some(Operation::Name(naming));
-    }
-    if word == b"rack".as_slice() {
-        return Some(Operation::Rack);
-    }
-    if let Some(carrying) = carrying_of(word) {
-        return Some(Operation::Carry(carrying));
-    }
-    let noting = noting_of(word)?;
-    Some(Operation::Note(noting))
-}
-
-fn forming_of(word: &[u8]) -> Option<Forming>
-    ensures { MatchOption result ((forming : Forming) → word.now ≢ forming_word forming) (λ forming. word.now ≡ forming_word forming) }
-{
-    if word == b"knit".as_slice() {
-        return Some(Forming::Knit);
-    }
-    if word == b"tuck".as_slice() {
-        return Some(Forming::Tuck);
-    }
-    if word == b"miss".as_slice() {
-        return Some(Forming::Miss);
-    }
-    None
-}
-
-fn naming_of(word: &[u8]) -> Option<Naming>
-    ensures { MatchOption result ((naming : Naming) → word.now ≢ naming_word naming) (λ naming. word.now ≡ naming_word naming) }
-{
-    if word == b"drop".as_slice() {
-        return Some(Naming::Drop);
-    }
-    if word == b"amiss".as_slice() {
-        return Some(Naming::Amiss);
-    }
-    None
-}
-
-fn carrying_of(word: &[u8]) -> Option<Carrying>
-    ensures { MatchOption result ((carrying : Carrying) → word.now ≢ carrying_word carrying) (λ carrying. word.now ≡ carrying_word carrying) }
-{
-    if word == b"in".as_slice() {
-        return Some(Carrying::In);
-    }
-    if word == b"out".as_slice() {
-        return Some(Carrying::Out);
-    }
-    if word == b"inhook".as_slice() {
-        return Some(Carrying::HookIn);
-    }
-    if word == b"outhook".as_slice() {
-        return Some(Carrying::HookOut);
-    }
-    if word == b"releasehook".as_slice() {
-        return Some(Carrying::ReleaseHook);
-    }
-    None
-}
-
-fn noting_of(word: &[u8]) -> Option<Noting>
-    ensures { MatchOption result ((noting : Noting) → IsNotingWord noting word.now → ⊥) (λ noting. IsNotingWord noting word.now) }
-{
-    if word == b"stitch".as_slice() {
-        return Some(Noting::Stitch);
-    }
-    if word == b"pause".as_slice() {
-        return Some(Noting::Pause);
-    }
-    if word.starts_with(b"x-") {
-        return Some(Noting::Extension);
-    }
-    None
 }
 
 /// The direction that a token names.
 pub(crate) fn direction(token: &[u8]) -> Option<Dir>
     ensures { MatchOption result ((dir : Dir) → token.now ≢ dir_word dir) (λ dir. token.now ≡ dir_word dir) }
 {
-    if token == b"+".as_slice() {
-        return Some(Dir::Right);
+    match token {
+        b"+" => Some(Dir::Right),
+        b"-" => Some(Dir::Left),
+        _ => None,
     }
-    if token == b"-".as_slice() {
-        return Some(Dir::Left);
-    }
-    None
 }

@@ -1,14 +1,12 @@
 //! Lines in their canonical spelling.
-ghost use Rattle.std.specs.Prelude.{◌≡◌, ◌∷◌, ◌++◌, [], OnOk, OnErr, codes};
+ghost use Rattle.std.specs.Prelude.{◌≡◌, ◌∷◌, ◌++◌, [], OnOk, OnErr, codes, decimal};
 ghost use Rattle.knit_base.specs.declared.profile.Profile.{Profile};
 ghost use Rattle.knit_base.specs.Limits.{IsLawfulProfile};
-ghost use Rattle.knit_base.specs.Spelling.{dir_word, needle_text, rack_text};
-ghost use Rattle.knitout_reader.specs.Tokens.{tokens_of};
+ghost use Rattle.knit_base.specs.Spelling.{bed_word, dir_word, needle_text, rack_text};
+ghost use Rattle.knitout_reader.specs.Tokens.{before_comment, tokens_of};
 ghost use Rattle.knitout_writer.specs.Canonical.{IsSettled, canonical, canonical_tokens, carrier_names, comment_of, comment_behind, spaced, each_spaced};
 
-use knit_base::{
-    Declared, Dir, Instr, Needle, NoMemory, Quarter, Read, Yarns, append_needle, append_rack,
-};
+use knit_base::{Bed, Declared, Dir, Instr, Needle, NoMemory, Quarter, Read, Yarns, append_rack};
 use knitout_reader::{code_of, comment_at, next_token};
 use std::alloc::Global;
 
@@ -46,7 +44,7 @@ pub(crate) fn append_line(
         Read::Blank => Ok(()),
         Read::Comment => append(comment_of(raw), out),
         Read::Instr(instr) => {
-            append_instr(instr, code_of(raw), declared, out)?;
+            append_instr(instr, raw, declared, out)?;
             append_comment(comment_of(raw), out)
         }
         Read::Broken(_) => append(raw, out),
@@ -88,14 +86,14 @@ fn append_token(token: &[u8], out: &mut Vec<u8>) -> Result<(), NoMemory>
     append(token, out)
 }
 
-// Appends the tokens of an instruction, where its line has this code before the comment.
+// Appends the tokens of an instruction, without the comment of its line.
 fn append_instr(
     instr: &Instr,
-    code: &[u8],
+    raw: &[u8],
     declared: &Declared,
     out: &mut Vec<u8>,
 ) -> Result<(), NoMemory>
-    ensures { OnOk result (out.new.items ≡ out.old.items ++ spaced (canonical_tokens declared.now instr.now (tokens_of code.now))) }
+    ensures { OnOk result (out.new.items ≡ out.old.items ++ spaced (canonical_tokens declared.now instr.now (tokens_of (before_comment raw.now)))) }
 {
     match instr {
         Instr::CarryIn(carriers) => append_carrying(b"in", carriers, declared, out),
@@ -103,9 +101,9 @@ fn append_instr(
         Instr::HookIn(carriers) => append_carrying(b"inhook", carriers, declared, out),
         Instr::HookOut(carriers) => append_carrying(b"outhook", carriers, declared, out),
         Instr::ReleaseHook(carriers) => append_carrying(b"releasehook", carriers, declared, out),
-        Instr::Stitch => append_tokens(code, out),
-        Instr::Pause => append_tokens(code, out),
-        Instr::Extension => append_tokens(code, out),
+        Instr::Stitch => append_tokens(code_of(raw), out),
+        Instr::Pause => append_tokens(code_of(raw), out),
+        Instr::Extension => append_tokens(code_of(raw), out),
         Instr::Rack(rack) => append_racking(*rack, out),
         Instr::Knit(dir, n, carriers) => append_forming(b"knit", *dir, *n, carriers, declared, out),
         Instr::Tuck(dir, n, carriers) => append_forming(b"tuck", *dir, *n, carriers, declared, out),
@@ -166,7 +164,7 @@ fn append_racking(rack: Quarter, out: &mut Vec<u8>) -> Result<(), NoMemory>
 
 // Appends an operation with a direction, a needle and carriers.
 fn append_forming(
-    word: &[u8],
+    word: &[u8; 4],
     dir: Dir,
     n: Needle,
     carriers: &Yarns,
@@ -176,7 +174,7 @@ fn append_forming(
     ensures { OnOk result (out.new.items ≡ out.old.items ++ spaced (word.now ∷ dir_word dir ∷ needle_text n ∷ carrier_names declared.now carriers.now)) }
 {
     append(word, out)?;
-    append_token(dir_word(dir), out)?;
+    append(dir_word(dir), out)?;
     append_needle_token(n, out)?;
     append_carriers(carriers, declared, out)
 }
@@ -192,7 +190,7 @@ fn append_split(
     ensures { OnOk result (out.new.items ≡ out.old.items ++ spaced (codes "split" ∷ dir_word dir ∷ needle_text n ∷ needle_text n2 ∷ carrier_names declared.now carriers.now)) }
 {
     append(b"split", out)?;
-    append_token(dir_word(dir), out)?;
+    append(dir_word(dir), out)?;
     append_needle_token(n, out)?;
     append_needle_token(n2, out)?;
     append_carriers(carriers, declared, out)
@@ -214,19 +212,47 @@ fn append_naming(word: &[u8], n: Needle, out: &mut Vec<u8>) -> Result<(), NoMemo
     append_needle_token(n, out)
 }
 
-// Appends a space and the needle.
+// Appends a space and the needle, whose number has few digits.
 fn append_needle_token(n: Needle, out: &mut Vec<u8>) -> Result<(), NoMemory>
     ensures { OnOk result (out.new.items ≡ out.old.items ++ 32 ∷ needle_text n) }
 {
-    out.push(b' ')?;
-    append_needle(n, out)
+    append(bed_word(n.bed), out)?;
+    if n.at < 0 {
+        out.push(b'-')?;
+    }
+    append_digits(n.at.unsigned_abs(), out)
 }
 
-fn dir_word(dir: Dir) -> &'static [u8]
-    ensures { result.now ≡ dir_word dir }
+fn append_digits(number: u16, out: &mut Vec<u8>) -> Result<(), NoMemory>
+    ensures { OnOk result (out.new.items ≡ out.old.items ++ decimal number) }
+{
+    if number < 10 {
+        out.push(b'0' + number as u8)?;
+        return Ok(());
+    }
+    append_digits(number / 10, out)?;
+    out.push(b'0' + (number % 10) as u8)?;
+    Ok(())
+}
+
+// The letters of a bed, with a space before them.
+fn bed_word(bed: Bed) -> &'static [u8]
+    ensures { result.now ≡ 32 ∷ bed_word bed }
+{
+    match bed {
+        Bed::Front => b" f",
+        Bed::FrontSlider => b" fs",
+        Bed::Back => b" b",
+        Bed::BackSlider => b" bs",
+    }
+}
+
+// The word of a direction, with a space before it.
+fn dir_word(dir: Dir) -> &'static [u8; 2]
+    ensures { result.now ≡ 32 ∷ dir_word dir }
 {
     match dir {
-        Dir::Right => b"+",
-        Dir::Left => b"-",
+        Dir::Right => b" +",
+        Dir::Left => b" -",
     }
 }

@@ -1,5 +1,5 @@
 //! Whole files in their canonical spelling.
-ghost use Rattle.std.specs.Prelude.{◌≡◌, ◌<◌, ◌≤◌, ◌^◌, ◌++◌, [], length, take, drop, slice_index_or, OnOk, OnErr, List, ℕ};
+ghost use Rattle.std.specs.Prelude.{◌≡◌, ◌<◌, ◌≤◌, ◌^◌, ◌++◌, [], length, take, drop, slice_index_or, IfOk, OnOk, OnErr, List, ℕ};
 ghost use Rattle.std.specs.List.{AllZip};
 ghost use Rattle.knitout_reader.specs.Head.{IsHead};
 ghost use Rattle.knitout_writer.specs.Canonical.{IsCanonicalText, IsCanonicalLine, with_line_feeds};
@@ -9,10 +9,26 @@ use knit_base::{Declared, Lines, NoMemory, Profile};
 use knitout_reader::{Head, read_line};
 use std::alloc::Global;
 
-/// Appends the canonical text of the file with these lines: the lines of its head as they are, and each line of its body in its
-/// canonical spelling, each with a line feed.
+/// The canonical text of the file with these lines: the lines of its head as they are, and each line of its body in its canonical
+/// spelling, each with a line feed.
 ///
 /// The head of what is written may be longer than `head`: a body line that is blanks and a comment is written from its `;` on.
+pub fn canonical_text(
+    alloc: Global,
+    lines: &Lines,
+    head: &Head,
+    profile: &Profile,
+) -> Result<Vec<u8>, NoMemory>
+    requires { IsHead lines.now head.now }
+    ensures { IfOk result (λ text. IsCanonicalText profile.now head.now lines.now text.items) }
+{
+    let mut text = Vec::with_capacity(alloc, len_with_line_feeds(lines))?;
+    append_head(lines, head.lines, &mut text)?;
+    append_body(alloc, lines, head, profile, &mut text)?;
+    Ok(text)
+}
+
+/// Appends the canonical text of the file with these lines.
 pub fn write_text(
     alloc: Global,
     lines: &Lines,
@@ -24,11 +40,20 @@ pub fn write_text(
     ensures ok { OnOk result ((text : List ℕ) × IsCanonicalText profile.now head.now lines.now text × (out.new.items ≡ out.old.items ++ text)) }
     ensures err { OnErr result (out.new.items ≡ out.old.items) }
 {
-    let mut text = Vec::new(alloc);
-    append_head(lines, head.lines, &mut text)?;
-    append_body(alloc, lines, head, profile, &mut text)?;
+    let text = canonical_text(alloc, lines, head, profile)?;
     out.extend_from_slice(&text)?;
     Ok(())
+}
+
+// The bytes of the lines, with a line feed for each. Their canonical text has about as many.
+fn len_with_line_feeds(lines: &Lines) -> usize
+    ensures { result ≡ length (with_line_feeds lines.now) }
+{
+    let mut len = 0;
+    for i in 0..lines.len() {
+        len += line_at(lines, i).len() + 1;
+    }
+    len
 }
 
 fn line_at(lines: &Lines, i: u32) -> &str

@@ -1,4 +1,4 @@
-use Rattle.std.proofs.Common.{◌≡◌, ◌==◌, not, Bool, true, false, sym, subst, ◌∙◌, ap, arith}
+use Rattle.std.proofs.Common.{◌==◌, sym, ◌∙◌, ap, arith}
 use Rattle.std.specs.List.{list_any}
 use Rattle.std.proofs.lemmas.Str.{is_utf8-from_IsUtf8}
 use Rattle.knitout_reader.proofs.Heads.{no_line_feed, not_true}

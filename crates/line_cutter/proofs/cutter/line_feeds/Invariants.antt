@@ -1,0 +1,10 @@
+use Rattle.std.proofs.Common.{◌≡◌, ◌+◌, ◌≤◌, length}
+use Rattle.std.specs.Slice.Iter.{chunks_rest, chunks_size}
+use Rattle.line_cutter.proofs.cutter.line_feeds.Given as goal
+
+abbrev pub invariant-loop-chunk : goal.invariant-loop-chunk
+invariant-loop-chunk l =
+    (goal.iterator-loop-chunk).can_next l.chunk-iterator
+    × (goal.iterator-loop-chunk).is_finite l.chunk-iterator
+    × (chunks_size l.chunk-iterator ≡ 255)
+    × (l.count + length (chunks_rest l.chunk-iterator) ≤ length l.text)
