@@ -1,0 +1,1 @@
+//! Whole answers for some instructions.
