@@ -1,0 +1,16 @@
+use Rattle.std.proofs.Common.{◌+◌, ap, ◌∙◌}
+use Rattle.carriage_model.specs.Rules.{broken}
+use Rattle.carriage_model.specs.Steps.{step}
+use Rattle.block_summary.proofs.line_ask.ask_line.Goals as goal
+
+pub returns-in_ok-ask_instr-in-Instr-clause-broken :
+    goal.returns-in_ok-ask_instr-in-Instr-clause-broken
+returns-in_ok-ask_instr-in-Instr-clause-broken c s t first read =
+    ap (λ line. broken c.args.profile.now line t) c.in-Instr.is
+    ∙ c.in_ok-ask_instr-in-Instr.ensures.broken s t first read
+
+pub returns-in_ok-ask_instr-in-Instr-clause-step :
+    goal.returns-in_ok-ask_instr-in-Instr-clause-step
+returns-in_ok-ask_instr-in-Instr-clause-step c s t first offset read =
+    ap (λ line. step (first + offset) line t) c.in-Instr.is
+    ∙ c.in_ok-ask_instr-in-Instr.ensures.step s t first offset read
