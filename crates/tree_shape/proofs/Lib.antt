@@ -11,3 +11,4 @@ pub mod Raising
 pub mod Counting
 pub mod Reading
 pub mod Shapes
+pub mod Listing

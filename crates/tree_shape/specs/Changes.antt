@@ -1,5 +1,5 @@
 -- What a list of rows says of a tree before and after a change.
-use Rattle.std.specs.Prelude.{◌≡◌, ℕ, zero, suc, ◌+◌, ◌≤◌, ◌⊎◌, List, [], ◌∷◌, ◌++◌, Option, Some, None}
+use Rattle.std.specs.Prelude.{◌≡◌, ℕ, zero, suc, ◌+◌, ◌<◌, ◌≤◌, ◌⊎◌, List, [], ◌∷◌, ◌++◌, Option, Some, None}
 use Rattle.tree_shape.specs.declared.node.Child.{Child}
 use Rattle.tree_shape.specs.declared.node.Child.TheVariants.{Leaf, Inner}
 use Rattle.tree_shape.specs.declared.dirty.DirtyRow.{DirtyRow}
@@ -43,6 +43,19 @@ IsNotListed (Inner k) rows = times_listed k rows ≡ 0
 abbrev pub IsOrdered : List DirtyRow → Type 0
 IsOrdered [] = Unit {0}
 IsOrdered (row ∷ rest) = IsNotListed row.left (row ∷ rest) × IsNotListed row.right (row ∷ rest) × IsOrdered rest
+
+-- a part of a tree, with so many of the tree's leaves before it
+abbrev pub IsPartAt : Tree → ℕ → Tree → Type 0
+IsPartAt part before (leaf n) = (part ≡ leaf n) × (before ≡ 0)
+IsPartAt part before (inner n l r) = ((part ≡ inner n l r) × (before ≡ 0)) ⊎ (IsPartAt part before l ⊎ ((rest : ℕ) × (before ≡ count l + rest) × IsPartAt part rest r))
+
+abbrev pub IsPartOfAt : Tree → ℕ → Option Tree → Type 0
+IsPartOfAt part before None = ⊥
+IsPartOfAt part before (Some t) = IsPartAt part before t
+
+-- the number is an inner node's, and the leaf at that position is below it
+abbrev pub IsOver : Option Tree → ℕ → ℕ → Type 0
+IsOver tree at n = (l : Tree) × (r : Tree) × (before : ℕ) × IsPartOfAt (inner n l r) before tree × (before ≤ at) × (at < before + count (inner n l r))
 
 -- no balanced tree of so many leaves is higher
 abbrev pub BoundsHeight : ℕ → ℕ → Type 0
