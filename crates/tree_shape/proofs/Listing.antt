@@ -7,15 +7,15 @@ use Rattle.tree_shape.specs.declared.node.Child.TheVariants.{Leaf, Inner}
 use Rattle.tree_shape.specs.declared.node.Side.{Side}
 use Rattle.tree_shape.specs.declared.node.Side.TheVariants.{Left, Right}
 use Rattle.tree_shape.specs.declared.dirty.DirtyRow.{DirtyRow}
-use Rattle.tree_shape.specs.Tree.{Tree, leaf, inner, name, count}
-use Rattle.tree_shape.proofs.Bounds.{both_ways}
+use Rattle.tree_shape.specs.Tree.{Tree, leaf, inner, name, height, count, IsBalanced}
+use Rattle.tree_shape.proofs.Bounds.{both_ways, rows_most, grown_listed}
 use Rattle.tree_shape.specs.Plan.{Plan, kept, made, inner_on, erase, dirty_row, rows, grown}
 use Rattle.tree_shape.specs.Removal.{shrunk, touched}
 use Rattle.tree_shape.specs.Apply.{mark, times, times_made, KeptBy}
-use Rattle.tree_shape.specs.Changes.{IsPart, times_listed, HasChildren, LeavesOthers, IsNotListed, IsOrdered}
-use Rattle.tree_shape.proofs.Growing.{GoesDown, kept_by_grown}
-use Rattle.tree_shape.proofs.Shrinking.{kept_by_shrunk}
-use Rattle.tree_shape.proofs.Touching.{erase_touched}
+use Rattle.tree_shape.specs.Changes.{IsPart, times_listed, HasChildren, LeavesOthers, IsNotListed, IsOrdered, BoundsHeight}
+use Rattle.tree_shape.proofs.Growing.{GoesDown, kept_by_grown, well_grown, same_height, one_higher}
+use Rattle.tree_shape.proofs.Shrinking.{kept_by_shrunk, listed_shrunk}
+use Rattle.tree_shape.proofs.Touching.{erase_touched, rows_most as touched_most}
 use Rattle.tree_shape.proofs.Applied.{one, one_same, node_of_row, made_within, times_inner_on}
 
 -- How often a node is listed.
@@ -185,3 +185,18 @@ listing_touched t at once =
     let same = erase_touched at t in
     subst (λ v. IsListing (Some t) (Some v) (rows (touched at t))) same
     (listing_of t (touched at t) (kept_touched t at t (λ k l r p. p)) (λ k. omega (arith, once k, ap (times k) same)))
+
+-- How many rows there are.
+
+pub few_grown : (t : Tree) (at new number high : ℕ) → IsBalanced t → BoundsHeight (count (erase (grown at new number t))) high → length (rows (grown at new number t)) ≤ 3 * (high + 2)
+few_grown t at new number high b bounds =
+    let w = well_grown at new number t b in
+    let low = bounds (erase (grown at new number t)) w.balanced refl in
+    let rises : height t ≤ height (erase (grown at new number t)) = elim w.height [ same_height e ↦ omega arith | one_higher e g ↦ omega arith ] in
+    omega (arith, rows_most (grown at new number t), grown_listed at new number t)
+
+pub few_shrunk : (t : Tree) (at high : ℕ) → IsBalanced t → BoundsHeight (count t) high → length (rows (shrunk at t)) ≤ 3 * (high + 2)
+few_shrunk t at high b bounds = omega (arith, listed_shrunk at t, bounds t b refl)
+
+pub few_touched : (t : Tree) (at high : ℕ) → IsBalanced t → BoundsHeight (count t) high → length (rows (touched at t)) ≤ high
+few_touched t at high b bounds = omega (arith, touched_most at t, bounds t b refl)

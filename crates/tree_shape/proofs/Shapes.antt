@@ -1,5 +1,5 @@
 -- A shape after one change: its root, and the numbers of its leaves and inner nodes.
-use Rattle.std.proofs.Common.{◌≡◌, ℕ, zero, suc, ◌+◌, ◌<◌, ◌≤◌, List, [], ◌∷◌, ◌++◌, length, take, drop, Option, Some, None, refl, sym, ◌∙◌, ap, subst, arith, length-append, inl, inr, add-one}
+use Rattle.std.proofs.Common.{◌≡◌, ℕ, zero, suc, ◌+◌, ◌*◌, ◌<◌, ◌≤◌, List, [], ◌∷◌, ◌++◌, length, take, drop, Option, Some, None, refl, sym, ◌∙◌, ap, subst, arith, length-append, inl, inr, add-one}
 use Rattle.std.specs.Prelude.{slice_index}
 use Rattle.std.specs.Option.{option_map}
 use Rattle.std.proofs.Common.{Bool, true, false, ◌&&◌, nat_lt}
@@ -8,8 +8,9 @@ use Rattle.tree_shape.specs.declared.node.Child.{Child}
 use Rattle.tree_shape.specs.declared.node.Child.TheVariants.{Leaf, Inner}
 use Rattle.tree_shape.specs.declared.node.Node.{Node}
 use Rattle.tree_shape.specs.Tree.{Tree, leaf, inner, name, count, leaves, inners, IsBalanced, Stands}
-use Rattle.tree_shape.specs.Changes.{IsPart, IsPartOf, numbers_below}
-use Rattle.tree_shape.specs.Plan.{grown, erase}
+use Rattle.tree_shape.specs.Changes.{IsPart, IsPartOf, BoundsHeight, numbers_below}
+use Rattle.tree_shape.specs.declared.dirty.DirtyRow.{DirtyRow}
+use Rattle.tree_shape.specs.Plan.{grown, erase, rows}
 use Rattle.tree_shape.specs.Apply.{mark, times}
 use Rattle.tree_shape.specs.Removal.{shrunk, gone}
 use Rattle.tree_shape.specs.Fewest.{inserted, removed}
@@ -18,6 +19,7 @@ use Rattle.tree_shape.specs.View.{ShapeView, tree_at, count_of, leaves_of_tree, 
 use Rattle.tree_shape.proofs.Standing.{length_leaves}
 use Rattle.tree_shape.proofs.Growing.{times_grown, leaves_grown}
 use Rattle.tree_shape.proofs.Shrinking.{leaves_shrunk, IsInner}
+use Rattle.tree_shape.proofs.Listing.{IsListing, listing_grown, listing_shrunk, few_grown}
 use Rattle.tree_shape.proofs.Reading.{sound_read, count_grown, count_shrunk, shrunk_times, sound_leaf}
 use Rattle.tree_shape.proofs.Counting.{times_in-append, counted_taken, counted_back, counted_none, fresh, comes, drawn_new, free_again}
 
@@ -191,3 +193,16 @@ pub leaves_built : (new old : Option Tree) (n x : ℕ) → leaves_of_tree new �
 leaves_built new old n x e before many same =
     let list : leaves_of_tree new ≡ leaves_of_tree old ++ x ∷ [] = e ∙ appended n x (leaves_of_tree old) (length_tree old ∙ many) in
     (list ∙ cc (before, same), omega (arith, ap length list, length-append (leaves_of_tree old) (x ∷ []), length_tree new, length_tree old))
+
+-- What is listed, of the trees that are read off the arena.
+
+pub listing_put : (nodes : List Node) (child : Child) (t : Tree) (at new number : ℕ) (old : Option Tree) (xs : List DirtyRow) → IsSound nodes child (erase (grown at new number t)) → old ≡ Some t → xs ≡ rows (grown at new number t) → IsListing old (Some (tree_at nodes child)) xs
+listing_put nodes child t at new number old xs s e l = rw (e, l, sound_read nodes child (erase (grown at new number t)) s) (listing_grown t at new number s.once)
+
+pub few_put : (nodes : List Node) (child : Child) (t : Tree) (at new number : ℕ) (xs : List DirtyRow) → IsSound nodes child (erase (grown at new number t)) → IsBalanced t → xs ≡ rows (grown at new number t)
+    → (high : ℕ) → BoundsHeight (count (tree_at nodes child)) high → length xs ≤ 3 * (high + 2)
+few_put nodes child t at new number xs s b l high bounds =
+    rw l (few_grown t at new number high b (subst (λ v. BoundsHeight (count v) high) (sound_read nodes child (erase (grown at new number t)) s) bounds))
+
+pub listing_taken : (nodes : List Node) (child : Child) (t : Tree) (at : ℕ) (old : Option Tree) (xs : List DirtyRow) → IsSound nodes child (erase (shrunk at t)) → old ≡ Some t → xs ≡ rows (shrunk at t) → IsListing old (Some (tree_at nodes child)) xs
+listing_taken nodes child t at old xs s e l = rw (e, l, sound_read nodes child (erase (shrunk at t)) s) (listing_shrunk t at s.once)

@@ -9,7 +9,7 @@ ghost use Rattle.tree_shape.specs.Apply.{times};
 ghost use Rattle.tree_shape.specs.Removal.{shrunk};
 ghost use Rattle.tree_shape.specs.Numbers.{NumbersView, next_number, taken, given_back};
 ghost use Rattle.tree_shape.specs.View.{ShapeView, count_of, leaves_of_tree, height_of_tree, IsSound, HasPlace, HasSoundLeaf, IsLawful, IsSameShape, tree_with, rows_with, inners_with, tree_without, rows_without, inners_without, rows_above};
-ghost use Rattle.tree_shape.specs.Changes.{HasBelow, HasInner, HasChildren, LeavesOthers, IsOrdered, BoundsHeight, numbers_below};
+ghost use Rattle.tree_shape.specs.Changes.{HasBelow, HasInner, times_listed, HasChildren, LeavesOthers, IsOrdered, BoundsHeight, IsOver, numbers_below};
 ghost use Rattle.tree_shape.specs.Fewest.{inserted, removed};
 
 use crate::arena::apply;
@@ -160,6 +160,11 @@ impl Shape {
         ensures leaf_numbers { self.new.leaf_numbers ≡ taken self.old.leaf_numbers }
         ensures inner_numbers { self.new.inner_numbers ≡ inners_with self.old.tree self.old.inner_numbers }
         ensures listed { dirty.new ≡ rows_with at (next_number self.old.leaf_numbers) (next_number self.old.inner_numbers) self.old.tree }
+        ensures children { All (HasChildren self.new.tree) dirty.new }
+        ensures others { LeavesOthers self.old.tree self.new.tree dirty.new }
+        ensures ordered { IsOrdered dirty.new }
+        ensures once { (k : ℕ) → times_listed k dirty.new ≤ 1 }
+        ensures few { (high : ℕ) → BoundsHeight (count_of self.new.tree) high → length dirty.new ≤ 3 * (high + 2) }
     {
         dirty.clear();
         let new = self.leaves.draw();
