@@ -19,7 +19,7 @@ use Rattle.tree_shape.specs.View.{ShapeView, tree_at, count_of, leaves_of_tree, 
 use Rattle.tree_shape.proofs.Standing.{length_leaves}
 use Rattle.tree_shape.proofs.Growing.{times_grown, leaves_grown}
 use Rattle.tree_shape.proofs.Shrinking.{leaves_shrunk, IsInner}
-use Rattle.tree_shape.proofs.Listing.{IsListing, listing_grown, listing_shrunk, few_grown}
+use Rattle.tree_shape.proofs.Listing.{IsListing, listing_grown, listing_shrunk, few_grown, few_shrunk}
 use Rattle.tree_shape.proofs.Reading.{sound_read, count_grown, count_shrunk, shrunk_times, sound_leaf}
 use Rattle.tree_shape.proofs.Counting.{times_in-append, counted_taken, counted_back, counted_none, fresh, comes, drawn_new, free_again}
 
@@ -206,3 +206,6 @@ few_put nodes child t at new number xs s b l high bounds =
 
 pub listing_taken : (nodes : List Node) (child : Child) (t : Tree) (at : ℕ) (old : Option Tree) (xs : List DirtyRow) → IsSound nodes child (erase (shrunk at t)) → old ≡ Some t → xs ≡ rows (shrunk at t) → IsListing old (Some (tree_at nodes child)) xs
 listing_taken nodes child t at old xs s e l = rw (e, l, sound_read nodes child (erase (shrunk at t)) s) (listing_shrunk t at s.once)
+
+pub few_taken : (t : Tree) (at : ℕ) (old : Option Tree) (xs : List DirtyRow) → IsBalanced t → old ≡ Some t → xs ≡ rows (shrunk at t) → (high : ℕ) → BoundsHeight (count_of old) high → length xs ≤ 3 * (high + 2)
+few_taken t at old xs b e l high bounds = rw l (few_shrunk t at high b (subst (λ v. BoundsHeight (count_of v) high) e bounds))

@@ -207,6 +207,11 @@ impl Shape {
         ensures leaf_numbers { self.new.leaf_numbers ≡ given_back (slice_index (leaves_of_tree self.old.tree) at) self.old.leaf_numbers }
         ensures inner_numbers { self.new.inner_numbers ≡ inners_without at self.old.tree self.old.inner_numbers }
         ensures listed { dirty.new ≡ rows_without at self.old.tree }
+        ensures children { All (HasChildren self.new.tree) dirty.new }
+        ensures others { LeavesOthers self.old.tree self.new.tree dirty.new }
+        ensures ordered { IsOrdered dirty.new }
+        ensures once { (k : ℕ) → times_listed k dirty.new ≤ 1 }
+        ensures few { (high : ℕ) → BoundsHeight (count_of self.old.tree) high → length dirty.new ≤ 3 * (high + 2) }
     {
         dirty.clear();
         match self.root {
