@@ -8,11 +8,13 @@ use Rattle.tree_shape.specs.declared.node.Side.{Side}
 use Rattle.tree_shape.specs.declared.node.Side.TheVariants.{Left, Right}
 use Rattle.tree_shape.specs.declared.dirty.DirtyRow.{DirtyRow}
 use Rattle.tree_shape.specs.Tree.{Tree, leaf, inner, name, height, count, IsBalanced}
-use Rattle.tree_shape.proofs.Bounds.{both_ways, rows_most, grown_listed}
+use Rattle.tree_shape.proofs.Bounds.{both_ways, both_ways_by, rows_most, grown_listed}
+use Rattle.tree_shape.specs.View.{count_of}
+use Rattle.std.proofs.lemmas.Bool.{ltb-true, ltb-false}
 use Rattle.tree_shape.specs.Plan.{Plan, kept, made, inner_on, erase, dirty_row, rows, grown}
 use Rattle.tree_shape.specs.Removal.{shrunk, touched}
 use Rattle.tree_shape.specs.Apply.{mark, times, times_made, KeptBy}
-use Rattle.tree_shape.specs.Changes.{IsPart, times_listed, HasChildren, LeavesOthers, IsNotListed, IsOrdered, BoundsHeight}
+use Rattle.tree_shape.specs.Changes.{IsPart, times_listed, HasChildren, LeavesOthers, IsNotListed, IsOrdered, IsPartAt, IsOver, BoundsHeight}
 use Rattle.tree_shape.proofs.Growing.{GoesDown, kept_by_grown, well_grown, same_height, one_higher}
 use Rattle.tree_shape.proofs.Shrinking.{kept_by_shrunk, listed_shrunk}
 use Rattle.tree_shape.proofs.Touching.{erase_touched, rows_most as touched_most}
@@ -200,3 +202,58 @@ few_shrunk t at high b bounds = omega (arith, listed_shrunk at t, bounds t b ref
 
 pub few_touched : (t : Tree) (at high : ℕ) → IsBalanced t → BoundsHeight (count t) high → length (rows (touched at t)) ≤ high
 few_touched t at high b bounds = omega (arith, touched_most at t, bounds t b refl)
+
+-- The inner nodes above a leaf.
+
+part_within : (part : Tree) (before : ℕ) (t : Tree) → IsPartAt part before t → before + count part ≤ count t
+part_within part before (leaf n) p = omega (arith, ap count p.0, p.1)
+part_within part before (inner n l r) (inl p) = omega (arith, ap count p.0, p.1)
+part_within part before (inner n l r) (inr (inl p)) = omega (arith, part_within part before l p)
+part_within part before (inner n l r) (inr (inr p)) = omega (arith, p.1, part_within part p.0 r p.2)
+
+above_listed : (at n : ℕ) (l r : Tree) (before : ℕ) (t : Tree) → IsPartAt (inner n l r) before t → before ≤ at → at < before + count (inner n l r) → 1 ≤ times_made n (touched at t)
+above_listed at n l r before (leaf m) p low high = absurd (no_part_of_leaf n l r m p.0)
+above_listed at n l r before (inner m a b) (inl p) low high =
+    let same : n ≡ m = cc (p.0) in
+    both_ways (λ v. 1 ≤ times_made n v) (nat_lt at (count a)) _ _ (omega (arith, one_same n, ap (mark n) same)) (omega (arith, one_same n, ap (mark n) same))
+above_listed at n l r before (inner m a b) (inr (inl p)) low high =
+    both_ways_by (λ v. 1 ≤ times_made n v) (nat_lt at (count a)) _ _
+    (λ e. omega (arith, above_listed at n l r before a p low high))
+    (λ e. absurd (omega (arith, ltb-false _ _ e, part_within (inner n l r) before a p)))
+above_listed at n l r before (inner m a b) (inr (inr p)) low high =
+    both_ways_by (λ v. 1 ≤ times_made n v) (nat_lt at (count a)) _ _
+    (λ e. absurd (omega (arith, ltb-true _ _ e, p.1)))
+    (λ e. omega (arith, above_listed (at - count a) n l r p.0 b p.2 (omega (arith, p.1)) (omega (arith, p.1, ltb-false _ _ e))))
+
+listed_above : (at n : ℕ) (t : Tree) → at < count t → 1 ≤ times_made n (touched at t) → IsOver (Some t) at n
+listed_above at n (leaf m) place = λ h. absurd (omega arith)
+listed_above at n (inner m a b) place =
+    both_ways_by (λ v. 1 ≤ times_made n v → IsOver (Some (inner m a b)) at n) (nat_lt at (count a)) _ _
+    (λ e h. elim (one n m) [
+      | inl w ↦ (a, b, 0, inl (ap (λ v. inner v a b) w.0, refl), omega arith, omega arith)
+      | inr w ↦ let o = listed_above at n a (ltb-true _ _ e) (omega (arith, w.1)) in (o.0, o.1, o.2, inr (inl o.3), o.4, o.5)
+    ])
+    (λ e h. elim (one n m) [
+      | inl w ↦ (a, b, 0, inl (ap (λ v. inner v a b) w.0, refl), omega arith, omega arith)
+      | inr w ↦
+          let within = ltb-false _ _ e in
+          let o = listed_above (at - count a) n b (omega arith) (omega (arith, w.1)) in
+          (o.0, o.1, count a + o.2, inr (inr (o.2, refl, o.3)), omega (arith, o.4), omega (arith, o.5))
+    ])
+
+-- what a list says of the nodes above a leaf
+pub record IsTouching (t : Option Tree) (at : ℕ) (xs : List DirtyRow) : Type 0 where
+  pub listing : IsListing t t xs
+  pub above : (n : ℕ) → IsOver t at n → times_listed n xs ≡ 1
+  pub no_other : (n : ℕ) → 1 ≤ times_listed n xs → IsOver t at n
+  pub few : (high : ℕ) → BoundsHeight (count_of t) high → length xs ≤ high
+
+pub touching : (t : Tree) (at : ℕ) (old : Option Tree) (xs : List DirtyRow) → ((k : ℕ) → times k t ≤ 1) → IsBalanced t → at < count t → old ≡ Some t → xs ≡ rows (touched at t) → IsTouching old at xs
+touching t at old xs once balanced place seen list =
+    let told = listing_touched t at once in
+    rw (seen, list) (record {
+      listing = told;
+      above = λ n o. omega (arith, told.once n, times_rows n (touched at t), above_listed at n o.0 o.1 o.2 t o.3 o.4 o.5);
+      no_other = λ n h. listed_above at n t place (omega (arith, times_rows n (touched at t)));
+      few = λ high bounds. few_touched t at high balanced bounds;
+    })

@@ -237,7 +237,12 @@ impl Shape {
     /// Lists the inner nodes above the leaf at a position, children before parents.
     pub fn touch(&self, at: u32, dirty: &mut Dirty)
         requires { at < count_of self.now.tree }
-        ensures { dirty.new ≡ rows_above at self.now.tree }
+        ensures listed { dirty.new ≡ rows_above at self.now.tree }
+        ensures above { (n : ℕ) → IsOver self.now.tree at n → times_listed n dirty.new ≡ 1 }
+        ensures no_other { (n : ℕ) → 1 ≤ times_listed n dirty.new → IsOver self.now.tree at n }
+        ensures children { All (HasChildren self.now.tree) dirty.new }
+        ensures ordered { IsOrdered dirty.new }
+        ensures few { (high : ℕ) → BoundsHeight (count_of self.now.tree) high → length dirty.new ≤ high }
     {
         dirty.clear();
         match self.root {
