@@ -15,7 +15,7 @@ use Rattle.tree_shape.specs.Apply.{mark, times}
 use Rattle.tree_shape.specs.Removal.{shrunk, gone}
 use Rattle.tree_shape.specs.Fewest.{inserted, removed}
 use Rattle.tree_shape.specs.Numbers.{NumbersView, times_in, next_number, taken, given_back, IsCounted}
-use Rattle.tree_shape.specs.View.{ShapeView, tree_at, count_of, leaves_of_tree, inners_of_tree, IsBalancedTree, IsSound, IsRoot, IsShape, IsLawful, tree_without, inners_without}
+use Rattle.tree_shape.specs.View.{ShapeView, tree_at, count_of, leaves_of_tree, inners_of_tree, IsBalancedTree, IsSound, IsRoot, IsShape, IsLawful, IsSameShape, tree_without, inners_without}
 use Rattle.tree_shape.proofs.Standing.{length_leaves}
 use Rattle.tree_shape.proofs.Growing.{times_grown, leaves_grown}
 use Rattle.tree_shape.proofs.Shrinking.{leaves_shrunk, IsInner}
@@ -186,13 +186,28 @@ appended n x [] e = ap (λ k. inserted k x []) (sym e)
 appended zero x (y ∷ ys) e = absurd (omega arith)
 appended (suc n) x (y ∷ ys) e = ap (λ v. y ∷ v) (appended n x ys (omega arith))
 
-pub next_built : (v : NumbersView) (n : ℕ) → v ≡ record { free = []; drawn = n } → (next_number v ≡ n) × (taken v ≡ record { free = []; drawn = n + 1 })
-next_built v n e = (ap next_number e, ap taken e)
+-- a shape with so many leaves, numbered in order, where no number was given back
+pub record IsBuilt (n : ℕ) (shape : ShapeView) : Type 0 where
+  pub leaves : leaves_of_tree shape.tree ≡ numbers_below n
+  pub leaf_numbers : shape.leaf_numbers ≡ record { free = []; drawn = n }
+  pub count : count_of shape.tree ≡ n
 
-pub leaves_built : (new old : Option Tree) (n x : ℕ) → leaves_of_tree new ≡ inserted n x (leaves_of_tree old) → leaves_of_tree old ≡ numbers_below n → count_of old ≡ n → x ≡ n → (leaves_of_tree new ≡ numbers_below (suc n)) × (count_of new ≡ n + 1)
-leaves_built new old n x e before many same =
-    let list : leaves_of_tree new ≡ leaves_of_tree old ++ x ∷ [] = e ∙ appended n x (leaves_of_tree old) (length_tree old ∙ many) in
-    (list ∙ cc (before, same), omega (arith, ap length list, length-append (leaves_of_tree old) (x ∷ []), length_tree new, length_tree old))
+pub built_none : (shape : ShapeView) → shape.tree ≡ None → shape.leaf_numbers ≡ record { free = []; drawn = 0 } → IsBuilt 0 shape
+built_none shape e f = record { leaves = ap leaves_of_tree e; leaf_numbers = f; count = ap count_of e }
+
+pub built_more : (n : ℕ) (shape roomy larger : ShapeView) (x : ℕ) → IsBuilt n shape → IsSameShape shape roomy → x ≡ next_number roomy.leaf_numbers → leaves_of_tree larger.tree ≡ inserted n x (leaves_of_tree roomy.tree)
+    → larger.leaf_numbers ≡ taken roomy.leaf_numbers → IsBuilt (n + 1) larger
+built_more n shape roomy larger x b same number list numbers =
+    let before : roomy.leaf_numbers ≡ record { free = []; drawn = n } = same.leaf_numbers ∙ b.leaf_numbers in
+    let old : leaves_of_tree roomy.tree ≡ numbers_below n = ap leaves_of_tree same.tree ∙ b.leaves in
+    let many : length (leaves_of_tree roomy.tree) ≡ n = length_tree roomy.tree ∙ (ap count_of same.tree ∙ b.count) in
+    let fresh : x ≡ n = number ∙ ap next_number before in
+    let whole : leaves_of_tree larger.tree ≡ leaves_of_tree roomy.tree ++ x ∷ [] = list ∙ appended n x (leaves_of_tree roomy.tree) many in
+    record {
+      leaves = whole ∙ (cc (old, fresh) ∙ ap numbers_below (sym (add-one n)));
+      leaf_numbers = numbers ∙ ap taken before;
+      count = omega (arith, ap length whole, length-append (leaves_of_tree roomy.tree) (x ∷ []), length_tree larger.tree, many);
+    }
 
 -- What is listed, of the trees that are read off the arena.
 

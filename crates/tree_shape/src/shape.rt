@@ -62,6 +62,21 @@ impl Shape {
         }
     }
 
+    /// A shape whose leaves are numbered in order from 0.
+    pub fn build(alloc: Global, leaves: u32) -> Result<Shape, NoMemory>
+        requires { leaves ≤ 65536 }
+        ensures leaves { IfOk result (λ shape. leaves_of_tree shape.tree ≡ numbers_below leaves) }
+        ensures leaf_numbers { IfOk result (λ shape. shape.leaf_numbers ≡ record { free = []; drawn = leaves }) }
+    {
+        let mut shape = Shape::new(alloc);
+        let mut dirty = Dirty::new();
+        for at in 0..leaves {
+            shape.reserve_one()?;
+            shape.insert(at, &mut dirty);
+        }
+        Ok(shape)
+    }
+
     /// The number of leaves.
     pub fn len(&self) -> u32
         ensures leaves { result ≡ count_of self.now.tree }
