@@ -12,7 +12,7 @@ pub returns-then-above-far_height : goal.returns-then-above-far_height
 returns-then-above-far_height c = λ p before f l.
     let high = height_pending _ p l.pending in
     let tall : nat_le (height (erase p)) (height f + 1) ≡ false = lt-leb _ _ (omega (arith, l.high)) in
-    rw (leaned_turned c.args.side c.args.m p f tall) (c.turn.ensures p before f l)
+    rw (leaned_turned c.args.side c.args.node p f tall) (c.turn.ensures p before f l)
 
 pub returns : goal.returns
 returns c = λ p before f l.
@@ -27,4 +27,4 @@ returns c = λ p before f l.
       | in-Turned w ↦ w.way'-is ∙ sym (way_over_turned _ p l.pending w.in-Turned.is)
       | in_default-way w ↦ w.way'-is ∙ sym (way_over _ p l.pending w.in_default-way.not-Turned)
     ] in
-    rw (leaned_is_over c.args.part c.args.side c.args.m p f l.pending low) (set_over _ _ _ p before _ _ _ _ f _ _ _ l c.row_on.ensures c.push.ensures c.above-2.ensures way)
+    rw (leaned_is_over c.args.part c.args.side c.args.node p f l.pending low) (set_over _ _ _ p before _ _ _ _ f _ _ _ l c.row_on.ensures c.push.ensures c.above-2.ensures way)
