@@ -31,6 +31,15 @@ pub(crate) struct Grown {
     pub way: Way,
 }
 
+/// An inner node without the part that changed: its side, its number, and the part that stayed beside it.
+#[derive(Clone, Copy)]
+struct Half {
+    side: Side,
+    node: u32,
+    part: Child,
+    height: u8,
+}
+
 fn same(a: Side, b: Side) -> bool
     ensures { result ≡ same_side a b }
 {
@@ -56,15 +65,6 @@ fn part_on(side: Side, row: DirtyRow) -> Child
         Side::Left => row.left,
         Side::Right => row.right,
     }
-}
-
-/// One of the two nodes that a double turn sets side by side: its side, its number, and the part that stays with it.
-#[derive(Clone, Copy)]
-struct Half {
-    side: Side,
-    node: u32,
-    part: Child,
-    height: u8,
 }
 
 /// The parts of the lower node go to the two nodes that it is set above.
@@ -99,93 +99,77 @@ fn share(
 
 /// The lower node, listed last, takes the place of both nodes above it.
 fn turn_twice(
-    side: Side,
-    node: u32,
+    upper: Half,
     part: Grown,
     lower_side: Side,
     lower_near: u8,
     lower_far: u8,
-    far: Child,
-    far_height: u8,
     dirty: &mut Dirty,
 ) -> Grown
-    requires fits { FitsLean part far_height dirty.old }
+    requires fits { FitsLean part upper.height dirty.old }
     requires heights { (lower_near < 254) × (lower_far < 254) }
     requires two { IsTwice part.way lower_side lower_near lower_far }
-    requires across { same_side part.side side ≡ false }
-    requires part { (plan : Plan) × (before : List DirtyRow) × (beside : Tree) × IsLeaning part dirty.old far far_height plan before beside }
-    ensures { (plan : Plan) (before : List DirtyRow) (beside : Tree) → IsLeaning part dirty.old far far_height plan before beside → IsPending result (turned_plan side node plan beside) × (dirty.new ≡ before ++ below (turned_plan side node plan beside)) }
+    requires across { same_side part.side upper.side ≡ false }
+    requires part { (plan : Plan) × (before : List DirtyRow) × (beside : Tree) × IsLeaning part dirty.old upper.part upper.height plan before beside }
+    ensures { (plan : Plan) (before : List DirtyRow) (beside : Tree) → IsLeaning part dirty.old upper.part upper.height plan before beside → IsPending result (turned_plan upper.side upper.node plan beside) × (dirty.new ≡ before ++ below (turned_plan upper.side upper.node plan beside)) }
 {
     let lower = dirty.pop();
-    let upper_half = Half {
-        side,
-        node,
-        part: far,
-        height: far_height,
-    };
-    let part_half = Half {
-        side: opposite(side),
+    let middle = Half {
+        side: opposite(upper.side),
         node: part.node,
         part: part.far,
         height: part.far_height,
     };
-    if same(lower_side, side) {
+    if same(lower_side, upper.side) {
         share(
-            lower, lower_side, lower_near, lower_far, part_half, upper_half, dirty,
+            lower, lower_side, lower_near, lower_far, middle, upper, dirty,
         )
     } else {
         share(
-            lower, lower_side, lower_near, lower_far, upper_half, part_half, dirty,
+            lower, lower_side, lower_near, lower_far, upper, middle, dirty,
         )
     }
 }
 
 /// The two ways to turn a node above a part that is too high.
 fn turn(
-    side: Side,
-    node: u32,
+    upper: Half,
     part: Grown,
     lower_side: Side,
     lower_near: u8,
     lower_far: u8,
-    far: Child,
-    far_height: u8,
     dirty: &mut Dirty,
 ) -> Grown
-    requires fits { FitsLean part far_height dirty.old }
+    requires fits { FitsLean part upper.height dirty.old }
     requires heights { (lower_near < 254) × (lower_far < 254) }
     requires two { IsTwice part.way lower_side lower_near lower_far }
-    requires part { (plan : Plan) × (before : List DirtyRow) × (beside : Tree) × IsLeaning part dirty.old far far_height plan before beside }
-    ensures { (plan : Plan) (before : List DirtyRow) (beside : Tree) → IsLeaning part dirty.old far far_height plan before beside → IsPending result (turned_plan side node plan beside) × (dirty.new ≡ before ++ below (turned_plan side node plan beside)) }
+    requires part { (plan : Plan) × (before : List DirtyRow) × (beside : Tree) × IsLeaning part dirty.old upper.part upper.height plan before beside }
+    ensures { (plan : Plan) (before : List DirtyRow) (beside : Tree) → IsLeaning part dirty.old upper.part upper.height plan before beside → IsPending result (turned_plan upper.side upper.node plan beside) × (dirty.new ≡ before ++ below (turned_plan upper.side upper.node plan beside)) }
 {
-    if same(part.side, side) {
-        dirty.push(row_on(side, node, part.far, far));
+    if same(part.side, upper.side) {
+        dirty.push(row_on(upper.side, upper.node, part.far, upper.part));
         return Grown {
             node: part.node,
-            side,
+            side: upper.side,
             near: part.near,
-            far: Child::Inner(node),
+            far: Child::Inner(upper.node),
             near_height: part.near_height,
-            far_height: above(part.far_height, far_height),
+            far_height: above(part.far_height, upper.height),
             way: Way::Turned,
         };
     }
-    turn_twice(
-        side, node, part, lower_side, lower_near, lower_far, far, far_height, dirty,
-    )
+    turn_twice(upper, part, lower_side, lower_near, lower_far, dirty)
 }
 
 /// A node above a part that an insertion changed, turned where that part is too high.
-fn lean(side: Side, node: u32, part: Grown, far: Child, far_height: u8, dirty: &mut Dirty) -> Grown
-    requires fits { FitsLean part far_height dirty.old }
-    requires part { (plan : Plan) × (before : List DirtyRow) × (beside : Tree) × IsLeaning part dirty.old far far_height plan before beside }
-    ensures { (plan : Plan) (before : List DirtyRow) (beside : Tree) → IsLeaning part dirty.old far far_height plan before beside → IsPending result (leaned side node plan beside) × (dirty.new ≡ before ++ below (leaned side node plan beside)) }
+fn lean(upper: Half, part: Grown, dirty: &mut Dirty) -> Grown
+    requires fits { FitsLean part upper.height dirty.old }
+    requires part { (plan : Plan) × (before : List DirtyRow) × (beside : Tree) × IsLeaning part dirty.old upper.part upper.height plan before beside }
+    ensures { (plan : Plan) (before : List DirtyRow) (beside : Tree) → IsLeaning part dirty.old upper.part upper.height plan before beside → IsPending result (leaned upper.side upper.node plan beside) × (dirty.new ≡ before ++ below (leaned upper.side upper.node plan beside)) }
 {
     if let Way::Twice(lower_side, lower_near, lower_far) = part.way {
-        if above(part.near_height, part.far_height) > far_height + 1 {
-            return turn(
-                side, node, part, lower_side, lower_near, lower_far, far, far_height, dirty,
-            );
+        if above(part.near_height, part.far_height) > upper.height + 1 {
+            return turn(upper, part, lower_side, lower_near, lower_far, dirty);
         }
     }
     dirty.push(row_on(part.side, part.node, part.near, part.far));
@@ -194,12 +178,12 @@ fn lean(side: Side, node: u32, part: Grown, far: Child, far_height: u8, dirty: &
         _ => Way::Twice(part.side, part.near_height, part.far_height),
     };
     Grown {
-        node,
-        side,
+        node: upper.node,
+        side: upper.side,
         near: Child::Inner(part.node),
-        far,
+        far: upper.part,
         near_height: above(part.near_height, part.far_height),
-        far_height,
+        far_height: upper.height,
         way,
     }
 }
@@ -237,12 +221,22 @@ pub(crate) fn grow(
             let before = leaves_of(nodes, node.left);
             if at <= before {
                 let part = grow(nodes, node.left, at, new, number, dirty);
-                let high = height_of(nodes, node.right);
-                lean(Side::Left, inner, part, node.right, high, dirty)
+                let upper = Half {
+                    side: Side::Left,
+                    node: inner,
+                    part: node.right,
+                    height: height_of(nodes, node.right),
+                };
+                lean(upper, part, dirty)
             } else {
                 let part = grow(nodes, node.right, at - before, new, number, dirty);
-                let high = height_of(nodes, node.left);
-                lean(Side::Right, inner, part, node.left, high, dirty)
+                let upper = Half {
+                    side: Side::Right,
+                    node: inner,
+                    part: node.left,
+                    height: height_of(nodes, node.left),
+                };
+                lean(upper, part, dirty)
             }
         }
     }
