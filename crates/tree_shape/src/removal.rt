@@ -1,6 +1,6 @@
 // Taking a leaf out, and the nodes above a leaf.
 ghost use Rattle.std.specs.Prelude.{◌≡◌, ℕ, ◌+◌, ◌-◌, ◌<◌, ◌≤◌, max, List, [], ◌∷◌, ◌++◌, length};
-ghost use Rattle.tree_shape.specs.Tree.{Tree, name, height, count, Stands};
+ghost use Rattle.tree_shape.specs.Tree.{Tree, name, height, Stands, IsTreeAt};
 ghost use Rattle.tree_shape.specs.Plan.{Plan, erase, rows, over};
 ghost use Rattle.tree_shape.specs.Removal.{HasRows, HasRemoval, IsAbove, gone, touched, IsSinking, HasSinking, IsPart, raised, raised_once, raised_twice, IsRaising, HasRaising, sunk, raised_by, shrunk, beside_child, outer_child};
 ghost use Rattle.tree_shape.specs.declared.dirty.DirtyRow.{DirtyRow};
@@ -38,6 +38,18 @@ pub(crate) struct Part {
     pub height: u8,
 }
 
+/// A part that stayed.
+fn part_of(nodes: &[Node], child: Child) -> Part
+    requires { IsTreeAt nodes.now child }
+    ensures child { result.child ≡ child }
+    ensures high { (t : Tree) → child ≡ name t → Stands nodes.now t → result.height ≡ height t }
+{
+    Part {
+        child,
+        height: height_of(nodes, child),
+    }
+}
+
 fn beside_of(side: Side, node: Node) -> Child
     ensures { result ≡ beside_child side node }
 {
@@ -62,21 +74,19 @@ fn raise_once(
     node: u32,
     part: Part,
     far: u32,
-    beside: Child,
-    beside_height: u8,
-    outer: Child,
-    outer_height: u8,
+    beside: Part,
+    outer: Part,
     dirty: &mut Dirty,
 ) -> Part
     requires room { length dirty.old + 3 ≤ 72 }
-    requires low { (part.height < 250) × (beside_height < 250) × (outer_height < 250) }
-    ensures { (nodes : List Node) (plan : Plan) (before : List DirtyRow) (near_tree far_tree : Tree) → IsRaising nodes part dirty.old beside outer outer_height plan before near_tree far_tree → beside_height ≡ height near_tree → IsPart result (raised_once side node plan far near_tree far_tree) × (dirty.new ≡ before ++ rows (raised_once side node plan far near_tree far_tree)) }
+    requires low { (part.height < 250) × (beside.height < 250) × (outer.height < 250) }
+    ensures { (nodes : List Node) (plan : Plan) (before : List DirtyRow) (near_tree far_tree : Tree) → IsRaising nodes part dirty.old beside.child outer.child outer.height plan before near_tree far_tree → beside.height ≡ height near_tree → IsPart result (raised_once side node plan far near_tree far_tree) × (dirty.new ≡ before ++ rows (raised_once side node plan far near_tree far_tree)) }
 {
-    dirty.push(row_on(side, node, part.child, beside));
-    dirty.push(row_on(side, far, Child::Inner(node), outer));
+    dirty.push(row_on(side, node, part.child, beside.child));
+    dirty.push(row_on(side, far, Child::Inner(node), outer.child));
     Part {
         child: Child::Inner(far),
-        height: above(above(part.height, beside_height), outer_height),
+        height: above(above(part.height, beside.height), outer.height),
     }
 }
 
@@ -88,26 +98,23 @@ fn raise_twice(
     part: Part,
     far: u32,
     lower: u32,
-    outer: Child,
-    outer_height: u8,
+    outer: Part,
     dirty: &mut Dirty,
 ) -> Part
-    requires { HasRaising nodes.now part dirty.old (Inner lower) outer outer_height }
-    ensures { (plan : Plan) (before : List DirtyRow) (near_tree far_tree : Tree) → IsRaising nodes.now part dirty.old (Inner lower) outer outer_height plan before near_tree far_tree → IsPart result (raised_twice side node plan far near_tree far_tree) × (dirty.new ≡ before ++ rows (raised_twice side node plan far near_tree far_tree)) }
+    requires { HasRaising nodes.now part dirty.old (Inner lower) outer.child outer.height }
+    ensures { (plan : Plan) (before : List DirtyRow) (near_tree far_tree : Tree) → IsRaising nodes.now part dirty.old (Inner lower) outer.child outer.height plan before near_tree far_tree → IsPart result (raised_twice side node plan far near_tree far_tree) × (dirty.new ≡ before ++ rows (raised_twice side node plan far near_tree far_tree)) }
 {
     let split = row(nodes, lower);
-    let first = beside_of(side, split);
-    let second = outer_of(side, split);
-    let first_height = height_of(nodes, first);
-    let second_height = height_of(nodes, second);
-    dirty.push(row_on(side, node, part.child, first));
-    dirty.push(row_on(side, far, second, outer));
+    let first = part_of(nodes, beside_of(side, split));
+    let second = part_of(nodes, outer_of(side, split));
+    dirty.push(row_on(side, node, part.child, first.child));
+    dirty.push(row_on(side, far, second.child, outer.child));
     dirty.push(row_on(side, lower, Child::Inner(node), Child::Inner(far)));
     Part {
         child: Child::Inner(lower),
         height: above(
-            above(part.height, first_height),
-            above(second_height, outer_height),
+            above(part.height, first.height),
+            above(second.height, outer.height),
         ),
     }
 }
@@ -118,48 +125,14 @@ fn raise(nodes: &[Node], side: Side, node: u32, part: Part, far: u32, dirty: &mu
     ensures { (plan : Plan) (before : List DirtyRow) (far_tree : Tree) → IsSinking nodes.now part dirty.old (Inner far) plan before far_tree → IsPart result (raised side node plan far_tree) × (dirty.new ≡ before ++ rows (raised side node plan far_tree)) }
 {
     let high = row(nodes, far);
-    let beside = beside_of(side, high);
-    let outer = outer_of(side, high);
-    let beside_height = height_of(nodes, beside);
-    let outer_height = height_of(nodes, outer);
-    if beside_height <= outer_height {
-        return raise_once(
-            side,
-            node,
-            part,
-            far,
-            beside,
-            beside_height,
-            outer,
-            outer_height,
-            dirty,
-        );
+    let beside = part_of(nodes, beside_of(side, high));
+    let outer = part_of(nodes, outer_of(side, high));
+    if beside.height <= outer.height {
+        return raise_once(side, node, part, far, beside, outer, dirty);
     }
-    match beside {
-        Child::Leaf(_) => raise_once(
-            side,
-            node,
-            part,
-            far,
-            beside,
-            beside_height,
-            outer,
-            outer_height,
-            dirty,
-        ),
-        Child::Inner(lower) => {
-            raise_twice(
-                nodes,
-                side,
-                node,
-                part,
-                far,
-                lower,
-                outer,
-                outer_height,
-                dirty,
-            )
-        }
+    match beside.child {
+        Child::Leaf(_) => raise_once(side, node, part, far, beside, outer, dirty),
+        Child::Inner(lower) => raise_twice(nodes, side, node, part, far, lower, outer, dirty),
     }
 }
 
