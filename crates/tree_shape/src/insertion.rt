@@ -1,10 +1,10 @@
 //! Inserting a leaf: the inner nodes written above it, turned where a part is too high.
-ghost use Rattle.std.specs.Prelude.{◌≡◌, ℕ, ◌+◌, ◌<◌, ◌≤◌, max, false, nat_le, if◌then◌else◌, List, [], ◌∷◌, ◌++◌, length};
+ghost use Rattle.std.specs.Prelude.{◌≡◌, ◌+◌, ◌<◌, ◌≤◌, max, false, nat_le, if◌then◌else◌, List, [], ◌∷◌, ◌++◌, length};
 ghost use Rattle.tree_shape.specs.declared.dirty.DirtyRow.{DirtyRow};
 ghost use Rattle.tree_shape.specs.declared.node.Side.TheVariants.{Left, Right};
 ghost use Rattle.tree_shape.specs.declared.node.Child.TheVariants.{Inner};
 ghost use Rattle.tree_shape.specs.declared.insertion.Way.TheVariants.{Turned};
-ghost use Rattle.tree_shape.specs.Tree.{Tree, name, Stands};
+ghost use Rattle.tree_shape.specs.Tree.{Tree, name, height, Stands, IsTreeAt};
 ghost use Rattle.tree_shape.specs.Plan.{Plan, same_side, other, dirty_row, leaned, grown, turned_plan, below, child_on, IsPending, IsLeaning, IsTwice, FitsLean, HasPlaceAt};
 
 use crate::dirty::{Dirty, DirtyRow, row_on};
@@ -188,6 +188,21 @@ fn lean(upper: Half, part: Grown, dirty: &mut Dirty) -> Grown
     }
 }
 
+fn half_of(nodes: &[Node], side: Side, node: u32, part: Child) -> Half
+    requires { IsTreeAt nodes.now part }
+    ensures side { result.side ≡ side }
+    ensures node { result.node ≡ node }
+    ensures part { result.part ≡ part }
+    ensures high { (t : Tree) → part ≡ name t → Stands nodes.now t → result.height ≡ height t }
+{
+    Half {
+        side,
+        node,
+        part,
+        height: height_of(nodes, part),
+    }
+}
+
 fn side_at(at: u32) -> Side
     ensures { result ≡ (if nat_le at 0 then Left else Right) }
 {
@@ -221,21 +236,11 @@ pub(crate) fn grow(
             let before = leaves_of(nodes, node.left);
             if at <= before {
                 let part = grow(nodes, node.left, at, new, number, dirty);
-                let upper = Half {
-                    side: Side::Left,
-                    node: inner,
-                    part: node.right,
-                    height: height_of(nodes, node.right),
-                };
+                let upper = half_of(nodes, Side::Left, inner, node.right);
                 lean(upper, part, dirty)
             } else {
                 let part = grow(nodes, node.right, at - before, new, number, dirty);
-                let upper = Half {
-                    side: Side::Right,
-                    node: inner,
-                    part: node.left,
-                    height: height_of(nodes, node.left),
-                };
+                let upper = half_of(nodes, Side::Right, inner, node.left);
                 lean(upper, part, dirty)
             }
         }

@@ -1,8 +1,8 @@
 // Taking a leaf out, and the nodes above a leaf.
-ghost use Rattle.std.specs.Prelude.{◌≡◌, ℕ, ◌+◌, ◌-◌, ◌<◌, ◌≤◌, max, List, [], ◌∷◌, ◌++◌, length};
+ghost use Rattle.std.specs.Prelude.{◌≡◌, ◌+◌, ◌-◌, ◌<◌, ◌≤◌, List, ◌++◌, length};
 ghost use Rattle.tree_shape.specs.Tree.{Tree, name, height, Stands, IsTreeAt};
-ghost use Rattle.tree_shape.specs.Plan.{Plan, erase, rows, over};
-ghost use Rattle.tree_shape.specs.Removal.{HasRows, HasRemoval, IsAbove, gone, touched, IsSinking, HasSinking, IsPart, raised, raised_once, raised_twice, IsRaising, HasRaising, sunk, raised_by, shrunk, beside_child, outer_child};
+ghost use Rattle.tree_shape.specs.Plan.{Plan, rows, over};
+ghost use Rattle.tree_shape.specs.Removal.{HasRows, HasRemoval, IsAbove, gone, touched, IsSinking, HasSinking, IsPart, raised, raised_once, raised_twice, IsRaising, HasRaising, sunk, shrunk, beside_child, outer_child};
 ghost use Rattle.tree_shape.specs.declared.dirty.DirtyRow.{DirtyRow};
 ghost use Rattle.tree_shape.specs.declared.node.Node.{Node};
 ghost use Rattle.tree_shape.specs.declared.node.Child.TheVariants.{Leaf, Inner};

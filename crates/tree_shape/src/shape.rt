@@ -1,5 +1,5 @@
 //! The tree by positions: an arena of inner nodes, its root and the numbers of its leaves and its inner nodes.
-ghost use Rattle.std.specs.Prelude.{◌≡◌, ℕ, ◌+◌, ◌-◌, ◌*◌, ◌^◌, ◌<◌, ◌≤◌, max, List, [], ◌∷◌, ◌++◌, length, Option, Some, None, true, IfOk, IfErr, OnOk, MatchResult, nat_lt, slice_index, vec_len, vec_capacity};
+ghost use Rattle.std.specs.Prelude.{◌≡◌, ℕ, ◌+◌, ◌-◌, ◌*◌, ◌<◌, ◌≤◌, max, [], length, Option, Some, None, true, IfOk, OnOk, nat_lt, slice_index, vec_len, vec_capacity};
 ghost use Rattle.std.specs.List.{All};
 ghost use Rattle.std.specs.Option.{option_map};
 ghost use Rattle.tree_shape.specs.declared.node.Child.TheVariants.{Inner};
@@ -7,7 +7,7 @@ ghost use Rattle.tree_shape.specs.Tree.{Tree, name, height, count, Stands};
 ghost use Rattle.tree_shape.specs.Plan.{grown, erase, rows};
 ghost use Rattle.tree_shape.specs.Apply.{times};
 ghost use Rattle.tree_shape.specs.Removal.{shrunk};
-ghost use Rattle.tree_shape.specs.Numbers.{NumbersView, next_number, taken, given_back};
+ghost use Rattle.tree_shape.specs.Numbers.{next_number, taken, given_back};
 ghost use Rattle.tree_shape.specs.View.{ShapeView, count_of, leaves_of_tree, height_of_tree, IsSound, HasPlace, HasSoundLeaf, IsLawful, IsSameShape, tree_with, rows_with, inners_with, tree_without, rows_without, inners_without, rows_above};
 ghost use Rattle.tree_shape.specs.Changes.{HasBelow, HasInner, times_listed, HasChildren, LeavesOthers, IsOrdered, BoundsHeight, IsOver, numbers_below};
 ghost use Rattle.tree_shape.specs.Fewest.{inserted, removed};
