@@ -1,4 +1,4 @@
-use Rattle.std.proofs.Common.{◌≡◌, ◌<◌, ◌≤◌, [], ◌∙◌, ap, arith}
+use Rattle.std.proofs.Common.{◌≡◌, [], ◌∙◌, ap, arith}
 use Rattle.tree_shape.specs.Changes.{numbers_below}
 use Rattle.tree_shape.specs.View.{count_of}
 use Rattle.tree_shape.proofs.Shapes.{built_none, built_more}
