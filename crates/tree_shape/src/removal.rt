@@ -2,7 +2,7 @@
 ghost use Rattle.std.specs.Prelude.{◌≡◌, ◌+◌, ◌-◌, ◌<◌, ◌≤◌, List, ◌++◌, length};
 ghost use Rattle.tree_shape.specs.Tree.{Tree, name, height, Stands, IsTreeAt};
 ghost use Rattle.tree_shape.specs.Plan.{Plan, rows, over};
-ghost use Rattle.tree_shape.specs.Removal.{HasRows, HasRemoval, IsAbove, gone, touched, IsSinking, HasSinking, IsPart, raised, raised_once, raised_twice, IsRaising, HasRaising, sunk, shrunk, beside_child, outer_child};
+ghost use Rattle.tree_shape.specs.Removal.{HasRows, HasRemoval, IsAbove, gone, touched, IsSinking, HasSinking, IsPartAfter, raised, raised_once, raised_twice, IsRaising, HasRaising, sunk, shrunk, beside_child, outer_child};
 ghost use Rattle.tree_shape.specs.declared.dirty.DirtyRow.{DirtyRow};
 ghost use Rattle.tree_shape.specs.declared.node.Node.{Node};
 ghost use Rattle.tree_shape.specs.declared.node.Child.TheVariants.{Leaf, Inner};
@@ -80,7 +80,7 @@ fn raise_once(
 ) -> Part
     requires room { length dirty.old + 3 ≤ 72 }
     requires low { (part.height < 250) × (beside.height < 250) × (outer.height < 250) }
-    ensures { (nodes : List Node) (plan : Plan) (before : List DirtyRow) (near_tree far_tree : Tree) → IsRaising nodes part dirty.old beside.child outer.child outer.height plan before near_tree far_tree → beside.height ≡ height near_tree → IsPart result (raised_once side node plan far near_tree far_tree) × (dirty.new ≡ before ++ rows (raised_once side node plan far near_tree far_tree)) }
+    ensures { (nodes : List Node) (plan : Plan) (before : List DirtyRow) (near_tree far_tree : Tree) → IsRaising nodes part dirty.old beside.child outer.child outer.height plan before near_tree far_tree → beside.height ≡ height near_tree → IsPartAfter result (raised_once side node plan far near_tree far_tree) × (dirty.new ≡ before ++ rows (raised_once side node plan far near_tree far_tree)) }
 {
     dirty.push(row_on(side, node, part.child, beside.child));
     dirty.push(row_on(side, far, Child::Inner(node), outer.child));
@@ -102,7 +102,7 @@ fn raise_twice(
     dirty: &mut Dirty,
 ) -> Part
     requires { HasRaising nodes.now part dirty.old (Inner lower) outer.child outer.height }
-    ensures { (plan : Plan) (before : List DirtyRow) (near_tree far_tree : Tree) → IsRaising nodes.now part dirty.old (Inner lower) outer.child outer.height plan before near_tree far_tree → IsPart result (raised_twice side node plan far near_tree far_tree) × (dirty.new ≡ before ++ rows (raised_twice side node plan far near_tree far_tree)) }
+    ensures { (plan : Plan) (before : List DirtyRow) (near_tree far_tree : Tree) → IsRaising nodes.now part dirty.old (Inner lower) outer.child outer.height plan before near_tree far_tree → IsPartAfter result (raised_twice side node plan far near_tree far_tree) × (dirty.new ≡ before ++ rows (raised_twice side node plan far near_tree far_tree)) }
 {
     let split = row(nodes, lower);
     let first = part_of(nodes, beside_of(side, split));
@@ -122,7 +122,7 @@ fn raise_twice(
 /// The two ways to turn a node whose other part is too high.
 fn raise(nodes: &[Node], side: Side, node: u32, part: Part, far: u32, dirty: &mut Dirty) -> Part
     requires { HasSinking nodes.now part dirty.old (Inner far) }
-    ensures { (plan : Plan) (before : List DirtyRow) (far_tree : Tree) → IsSinking nodes.now part dirty.old (Inner far) plan before far_tree → IsPart result (raised side node plan far_tree) × (dirty.new ≡ before ++ rows (raised side node plan far_tree)) }
+    ensures { (plan : Plan) (before : List DirtyRow) (far_tree : Tree) → IsSinking nodes.now part dirty.old (Inner far) plan before far_tree → IsPartAfter result (raised side node plan far_tree) × (dirty.new ≡ before ++ rows (raised side node plan far_tree)) }
 {
     let high = row(nodes, far);
     let beside = part_of(nodes, beside_of(side, high));
@@ -139,7 +139,7 @@ fn raise(nodes: &[Node], side: Side, node: u32, part: Part, far: u32, dirty: &mu
 /// A node above a part that a removal changed, turned where the other part is too high.
 fn sink(nodes: &[Node], side: Side, node: u32, part: Part, far: Child, dirty: &mut Dirty) -> Part
     requires { HasSinking nodes.now part dirty.old far }
-    ensures { (plan : Plan) (before : List DirtyRow) (far_tree : Tree) → IsSinking nodes.now part dirty.old far plan before far_tree → IsPart result (sunk side node plan far_tree) × (dirty.new ≡ before ++ rows (sunk side node plan far_tree)) }
+    ensures { (plan : Plan) (before : List DirtyRow) (far_tree : Tree) → IsSinking nodes.now part dirty.old far plan before far_tree → IsPartAfter result (sunk side node plan far_tree) × (dirty.new ≡ before ++ rows (sunk side node plan far_tree)) }
 {
     let far_height = height_of(nodes, far);
     if let Child::Inner(inner) = far {
@@ -160,7 +160,7 @@ fn set_above(
 ) -> Part
     requires room { length dirty.old < 72 }
     requires low { (part.height < 250) × (far_height < 250) }
-    ensures { (nodes : List Node) (plan : Plan) (before : List DirtyRow) (far_tree : Tree) → IsSinking nodes part dirty.old far plan before far_tree → far_height ≡ height far_tree → IsPart result (over side node plan far_tree) × (dirty.new ≡ before ++ rows (over side node plan far_tree)) }
+    ensures { (nodes : List Node) (plan : Plan) (before : List DirtyRow) (far_tree : Tree) → IsSinking nodes part dirty.old far plan before far_tree → far_height ≡ height far_tree → IsPartAfter result (over side node plan far_tree) × (dirty.new ≡ before ++ rows (over side node plan far_tree)) }
 {
     dirty.push(row_on(side, node, part.child, far));
     Part {
@@ -172,7 +172,7 @@ fn set_above(
 /// The tree below an inner node without the leaf at a position: lists all inner nodes written.
 pub(crate) fn shrink(nodes: &[Node], child: Child, at: u32, dirty: &mut Dirty) -> Part
     requires { HasRemoval nodes.now child at (length dirty.old) }
-    ensures { (t : Tree) → child ≡ name t → Stands nodes.now t → IsPart result (shrunk at t) × (dirty.new ≡ dirty.old ++ rows (shrunk at t)) }
+    ensures { (t : Tree) → child ≡ name t → Stands nodes.now t → IsPartAfter result (shrunk at t) × (dirty.new ≡ dirty.old ++ rows (shrunk at t)) }
 {
     match child {
         Child::Leaf(_) => Part { child, height: 0 },
