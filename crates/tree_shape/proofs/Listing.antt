@@ -1,6 +1,6 @@
 -- What the rows of a plan say of the tree before the change and of the tree after it.
-use Rattle.std.proofs.Common.{◌≡◌, ℕ, ◌+◌, ◌-◌, ◌*◌, ◌<◌, nat_lt, ◌≤◌, List, [], ◌∷◌, ◌++◌, length, Option, Some, refl, sym, ◌∙◌, ap, subst, arith, inl, inr}
-use Rattle.std.specs.List.{All}
+use Rattle.std.proofs.Common.{◌≡◌, ℕ, zero, suc, ◌+◌, ◌-◌, ◌*◌, ◌<◌, nat_lt, ◌≤◌, List, [], ◌∷◌, ◌++◌, length, Option, Some, refl, sym, ◌∙◌, ap, subst, arith, inl, inr}
+use Rattle.std.specs.List.{All, slice_get}
 use Rattle.std.proofs.lemmas.List.Elements.{All-nil, All-tail, All-head, All-append, All-push, All-weaker}
 use Rattle.tree_shape.specs.declared.node.Child.{Child}
 use Rattle.tree_shape.specs.declared.node.Child.TheVariants.{Leaf, Inner}
@@ -14,7 +14,7 @@ use Rattle.std.proofs.lemmas.Bool.{ltb-true, ltb-false}
 use Rattle.tree_shape.specs.Plan.{Plan, kept, made, inner_on, erase, dirty_row, rows, grown}
 use Rattle.tree_shape.specs.Removal.{shrunk, touched}
 use Rattle.tree_shape.specs.Apply.{mark, times, times_made, KeptBy}
-use Rattle.tree_shape.specs.Changes.{IsPart, times_listed, HasChildren, LeavesOthers, IsNotListed, IsOrdered, IsPartAt, IsOver, BoundsHeight}
+use Rattle.tree_shape.specs.Changes.{HasInner, IsPart, times_listed, HasChildren, LeavesOthers, IsNotListed, IsOrdered, IsPartAt, IsOver, BoundsHeight}
 use Rattle.tree_shape.proofs.Growing.{GoesDown, kept_by_grown, well_grown, same_height, one_higher}
 use Rattle.tree_shape.proofs.Shrinking.{kept_by_shrunk, listed_shrunk}
 use Rattle.tree_shape.proofs.Touching.{erase_touched, rows_most as touched_most}
@@ -257,3 +257,12 @@ touching t at old xs once balanced place seen list =
       no_other = λ n h. listed_above at n t place (omega (arith, times_rows n (touched at t)));
       few = λ high bounds. few_touched t at high balanced bounds;
     })
+
+-- a listed node is one of the tree's
+pub listed_inner : (tree : Option Tree) (xs : List DirtyRow) (i : ℕ) (row : DirtyRow) → All (HasChildren tree) xs → slice_get xs i ≡ Some row → HasInner tree row.node
+listed_inner tree [] i row all e = cc
+listed_inner tree (x ∷ xs) zero row all e =
+    let same : x ≡ row = cc in
+    let here = All-head (HasChildren tree) x xs all in
+    subst (λ (v : DirtyRow). HasInner tree v.node) same (here.0, here.1, here.2)
+listed_inner tree (x ∷ xs) (suc i) row all e = listed_inner tree xs i row (All-tail (HasChildren tree) x xs all) e

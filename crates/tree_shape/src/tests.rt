@@ -156,3 +156,53 @@ fn a_removal_turns_what_leans(rt: HostRuntime) -> Result<(), Fail> {
     }
     Ok(())
 }
+
+fn planned_cut(shape: &Shape, at: u32, dirty: &mut Dirty) -> Option<u32> {
+    if at < shape.len() {
+        Some(shape.plan_remove(at, dirty))
+    } else {
+        None
+    }
+}
+
+#[test]
+fn a_copy_is_left_as_it_was(rt: HostRuntime) -> Result<(), Fail> {
+    let mut dirty = Dirty::new();
+    let mut shape = Shape::build(rt.alloc(), 3)?;
+    let copy = shape.try_clone()?;
+    assert_eq!(rt; cut(&mut shape, 1, &mut dirty), Some(1));
+    assert_eq!(rt; leaf(&shape, 1), Some(2));
+    assert_eq!(rt; leaf(&copy, 1), Some(1));
+    assert_eq!(rt; planned_cut(&copy, 1, &mut dirty), Some(1));
+    assert_eq!(rt; leaf(&copy, 1), Some(1));
+    Ok(())
+}
+
+/// The children of the lowest inner node above a leaf.
+fn beside(shape: &Shape, at: u32, dirty: &mut Dirty) -> Option<(Child, Child)> {
+    if at >= shape.len() {
+        return None;
+    }
+    shape.touch(at, dirty);
+    match dirty.get(0) {
+        None => None,
+        Some(row) => Some(shape.children(row.node)),
+    }
+}
+
+#[test]
+fn room_is_made_for_one_leaf(rt: HostRuntime) -> Result<(), Fail> {
+    let mut dirty = Dirty::new();
+    let mut shape = Shape::new(rt.alloc());
+    assert!(rt; !shape.has_room());
+    four(&mut shape, &mut dirty)?;
+    shape.reserve_one()?;
+    assert!(rt; shape.has_room());
+    assert!(rt;
+        matches!(
+            beside(&shape, 3, &mut dirty),
+            Some((Child::Leaf(2), Child::Leaf(1)))
+        )
+    );
+    Ok(())
+}
