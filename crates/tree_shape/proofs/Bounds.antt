@@ -51,7 +51,7 @@ leaned_high side m p far =
 abbrev pub listed : Plan → ℕ
 listed p = length (below p)
 
-rows_most : (p : Plan) → length (rows p) ≤ listed p + 1
+pub rows_most : (p : Plan) → length (rows p) ≤ listed p + 1
 rows_most (kept t) = omega arith
 rows_most (made side n near far) = omega (arith, length-append (rows near ++ rows far) (dirty_row side n (name (erase near)) (name (erase far)) ∷ []))
 

@@ -10,4 +10,5 @@ pub mod Touching
 pub mod Raising
 pub mod Counting
 pub mod Reading
+pub mod Listing
 pub mod Shapes

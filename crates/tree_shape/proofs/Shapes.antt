@@ -1,5 +1,5 @@
 -- A shape after one change: its root, and the numbers of its leaves and inner nodes.
-use Rattle.std.proofs.Common.{◌≡◌, ℕ, zero, suc, ◌+◌, ◌<◌, ◌≤◌, List, [], ◌∷◌, ◌++◌, length, take, drop, Option, Some, None, refl, sym, ◌∙◌, ap, subst, arith, length-append, inl, inr, add-one}
+use Rattle.std.proofs.Common.{◌≡◌, ℕ, zero, suc, ◌+◌, ◌*◌, ◌<◌, ◌≤◌, List, [], ◌∷◌, ◌++◌, length, take, drop, Option, Some, None, refl, sym, ◌∙◌, ap, subst, arith, length-append, inl, inr, add-one}
 use Rattle.std.specs.Prelude.{slice_index}
 use Rattle.std.specs.Option.{option_map}
 use Rattle.std.proofs.Common.{Bool, true, false, ◌&&◌, nat_lt}
@@ -8,16 +8,18 @@ use Rattle.tree_shape.specs.declared.node.Child.{Child}
 use Rattle.tree_shape.specs.declared.node.Child.TheVariants.{Leaf, Inner}
 use Rattle.tree_shape.specs.declared.node.Node.{Node}
 use Rattle.tree_shape.specs.Tree.{Tree, leaf, inner, name, count, leaves, inners, IsBalanced, Stands}
-use Rattle.tree_shape.specs.Changes.{IsPart, IsPartOf, numbers_below}
-use Rattle.tree_shape.specs.Plan.{grown, erase}
+use Rattle.tree_shape.specs.Changes.{IsPart, IsPartOf, BoundsHeight, numbers_below}
+use Rattle.tree_shape.specs.declared.dirty.DirtyRow.{DirtyRow}
+use Rattle.tree_shape.specs.Plan.{grown, erase, rows}
 use Rattle.tree_shape.specs.Apply.{mark, times}
 use Rattle.tree_shape.specs.Removal.{shrunk, gone}
 use Rattle.tree_shape.specs.Fewest.{inserted, removed}
 use Rattle.tree_shape.specs.Numbers.{NumbersView, times_in, next_number, taken, given_back, IsCounted}
-use Rattle.tree_shape.specs.View.{ShapeView, tree_at, count_of, leaves_of_tree, inners_of_tree, IsBalancedTree, IsSound, IsRoot, IsShape, IsLawful, tree_without, inners_without}
+use Rattle.tree_shape.specs.View.{ShapeView, tree_at, count_of, leaves_of_tree, inners_of_tree, IsBalancedTree, IsSound, IsRoot, IsShape, IsLawful, IsSameShape, tree_without, inners_without}
 use Rattle.tree_shape.proofs.Standing.{length_leaves}
 use Rattle.tree_shape.proofs.Growing.{times_grown, leaves_grown}
 use Rattle.tree_shape.proofs.Shrinking.{leaves_shrunk, IsInner}
+use Rattle.tree_shape.proofs.Listing.{IsListing, listing_grown, listing_shrunk, few_grown, few_shrunk}
 use Rattle.tree_shape.proofs.Reading.{sound_read, count_grown, count_shrunk, shrunk_times, sound_leaf}
 use Rattle.tree_shape.proofs.Counting.{times_in-append, counted_taken, counted_back, counted_none, fresh, comes, drawn_new, free_again}
 
@@ -184,10 +186,41 @@ appended n x [] e = ap (λ k. inserted k x []) (sym e)
 appended zero x (y ∷ ys) e = absurd (omega arith)
 appended (suc n) x (y ∷ ys) e = ap (λ v. y ∷ v) (appended n x ys (omega arith))
 
-pub next_built : (v : NumbersView) (n : ℕ) → v ≡ record { free = []; drawn = n } → (next_number v ≡ n) × (taken v ≡ record { free = []; drawn = n + 1 })
-next_built v n e = (ap next_number e, ap taken e)
+-- a shape with so many leaves, numbered in order, where no number was given back
+pub record IsBuilt (n : ℕ) (shape : ShapeView) : Type 0 where
+  pub leaves : leaves_of_tree shape.tree ≡ numbers_below n
+  pub leaf_numbers : shape.leaf_numbers ≡ record { free = []; drawn = n }
+  pub count : count_of shape.tree ≡ n
 
-pub leaves_built : (new old : Option Tree) (n x : ℕ) → leaves_of_tree new ≡ inserted n x (leaves_of_tree old) → leaves_of_tree old ≡ numbers_below n → count_of old ≡ n → x ≡ n → (leaves_of_tree new ≡ numbers_below (suc n)) × (count_of new ≡ n + 1)
-leaves_built new old n x e before many same =
-    let list : leaves_of_tree new ≡ leaves_of_tree old ++ x ∷ [] = e ∙ appended n x (leaves_of_tree old) (length_tree old ∙ many) in
-    (list ∙ cc (before, same), omega (arith, ap length list, length-append (leaves_of_tree old) (x ∷ []), length_tree new, length_tree old))
+pub built_none : (shape : ShapeView) → shape.tree ≡ None → shape.leaf_numbers ≡ record { free = []; drawn = 0 } → IsBuilt 0 shape
+built_none shape e f = record { leaves = ap leaves_of_tree e; leaf_numbers = f; count = ap count_of e }
+
+pub built_more : (n : ℕ) (shape roomy larger : ShapeView) (x : ℕ) → IsBuilt n shape → IsSameShape shape roomy → x ≡ next_number roomy.leaf_numbers → leaves_of_tree larger.tree ≡ inserted n x (leaves_of_tree roomy.tree)
+    → larger.leaf_numbers ≡ taken roomy.leaf_numbers → IsBuilt (n + 1) larger
+built_more n shape roomy larger x b same number list numbers =
+    let before : roomy.leaf_numbers ≡ record { free = []; drawn = n } = same.leaf_numbers ∙ b.leaf_numbers in
+    let old : leaves_of_tree roomy.tree ≡ numbers_below n = ap leaves_of_tree same.tree ∙ b.leaves in
+    let many : length (leaves_of_tree roomy.tree) ≡ n = length_tree roomy.tree ∙ (ap count_of same.tree ∙ b.count) in
+    let fresh : x ≡ n = number ∙ ap next_number before in
+    let whole : leaves_of_tree larger.tree ≡ leaves_of_tree roomy.tree ++ x ∷ [] = list ∙ appended n x (leaves_of_tree roomy.tree) many in
+    record {
+      leaves = whole ∙ (cc (old, fresh) ∙ ap numbers_below (sym (add-one n)));
+      leaf_numbers = numbers ∙ ap taken before;
+      count = omega (arith, ap length whole, length-append (leaves_of_tree roomy.tree) (x ∷ []), length_tree larger.tree, many);
+    }
+
+-- What is listed, of the trees that are read off the arena.
+
+pub listing_put : (nodes : List Node) (child : Child) (t : Tree) (at new number : ℕ) (old : Option Tree) (xs : List DirtyRow) → IsSound nodes child (erase (grown at new number t)) → old ≡ Some t → xs ≡ rows (grown at new number t) → IsListing old (Some (tree_at nodes child)) xs
+listing_put nodes child t at new number old xs s e l = rw (e, l, sound_read nodes child (erase (grown at new number t)) s) (listing_grown t at new number s.once)
+
+pub few_put : (nodes : List Node) (child : Child) (t : Tree) (at new number : ℕ) (xs : List DirtyRow) → IsSound nodes child (erase (grown at new number t)) → IsBalanced t → xs ≡ rows (grown at new number t)
+    → (high : ℕ) → BoundsHeight (count (tree_at nodes child)) high → length xs ≤ 3 * (high + 2)
+few_put nodes child t at new number xs s b l high bounds =
+    rw l (few_grown t at new number high b (subst (λ v. BoundsHeight (count v) high) (sound_read nodes child (erase (grown at new number t)) s) bounds))
+
+pub listing_taken : (nodes : List Node) (child : Child) (t : Tree) (at : ℕ) (old : Option Tree) (xs : List DirtyRow) → IsSound nodes child (erase (shrunk at t)) → old ≡ Some t → xs ≡ rows (shrunk at t) → IsListing old (Some (tree_at nodes child)) xs
+listing_taken nodes child t at old xs s e l = rw (e, l, sound_read nodes child (erase (shrunk at t)) s) (listing_shrunk t at s.once)
+
+pub few_taken : (t : Tree) (at : ℕ) (old : Option Tree) (xs : List DirtyRow) → IsBalanced t → old ≡ Some t → xs ≡ rows (shrunk at t) → (high : ℕ) → BoundsHeight (count_of old) high → length xs ≤ 3 * (high + 2)
+few_taken t at old xs b e l high bounds = rw l (few_shrunk t at high b (subst (λ v. BoundsHeight (count_of v) high) e bounds))

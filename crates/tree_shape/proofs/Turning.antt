@@ -99,6 +99,10 @@ pub row_number : (side : Side) (n : ℕ) (a b : Child) → (dirty_row side n a b
 row_number Left n a b = refl
 row_number Right n a b = refl
 
+pub back_again : (side back : Side) → back ≡ other side → other back ≡ side
+back_again Left back e = ap other e
+back_again Right back e = ap other e
+
 -- what a double turn leaves
 abbrev pub Leaves : Grown → List DirtyRow → List DirtyRow → Plan → Type 0
 Leaves r dirty before p = IsPending r p × (dirty ≡ before ++ below p)

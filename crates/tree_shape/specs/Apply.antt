@@ -8,10 +8,12 @@ use Rattle.tree_shape.specs.declared.node.Node.{Node}
 use Rattle.tree_shape.specs.Tree.{Tree, leaf, inner, Stands, stored_height}
 use Rattle.tree_shape.specs.Plan.{Plan, kept, made}
 
+-- the leaves that the arena counts below a node
 abbrev pub leaves_in : Option Node → ℕ
 leaves_in None = 0
 leaves_in (Some node) = node.leaves
 
+-- the leaves that the arena counts below a child
 abbrev pub stored_leaves : List Node → Child → ℕ
 stored_leaves rows (Leaf n) = 1
 stored_leaves rows (Inner n) = leaves_in (slice_get rows n)
@@ -20,6 +22,7 @@ stored_leaves rows (Inner n) = leaves_in (slice_get rows n)
 abbrev pub node_from : List Node → Child → Child → Node
 node_from rows left right = record { left = left; right = right; height = 1 + max (stored_height rows left) (stored_height rows right); leaves = stored_leaves rows left + stored_leaves rows right }
 
+-- the arena with the row written at its number
 abbrev pub written : List Node → DirtyRow → List Node
 written rows row = slice_set rows row.node (node_from rows row.left row.right)
 
@@ -28,6 +31,7 @@ abbrev pub applied : List Node → List DirtyRow → List Node
 applied rows [] = rows
 applied rows (row ∷ rest) = applied (written rows row) rest
 
+-- the child has a row, if it is no leaf
 abbrev pub IsIn : List Node → Child → Type 0
 IsIn rows (Leaf n) = Unit {0}
 IsIn rows (Inner n) = n < length rows
@@ -40,6 +44,7 @@ pub record FitsRow (rows : List Node) (row : DirtyRow) : Type 0 where
   pub low : (stored_height rows row.left < 255) × (stored_height rows row.right < 255)
   pub few : stored_leaves rows row.left + stored_leaves rows row.right < 2 ^ 32
 
+-- each row fits the arena as it then is
 abbrev pub FitRows : List Node → List DirtyRow → Type 0
 FitRows rows [] = Unit {0}
 FitRows rows (row ∷ rest) = FitsRow rows row × FitRows (written rows row) rest

@@ -1,5 +1,5 @@
 -- What a list of rows says of a tree before and after a change.
-use Rattle.std.specs.Prelude.{◌≡◌, ℕ, zero, suc, ◌+◌, ◌≤◌, ◌⊎◌, List, [], ◌∷◌, ◌++◌, Option, Some, None}
+use Rattle.std.specs.Prelude.{◌≡◌, ℕ, zero, suc, ◌+◌, ◌<◌, ◌≤◌, ◌⊎◌, List, [], ◌∷◌, ◌++◌, Option, Some, None}
 use Rattle.tree_shape.specs.declared.node.Child.{Child}
 use Rattle.tree_shape.specs.declared.node.Child.TheVariants.{Leaf, Inner}
 use Rattle.tree_shape.specs.declared.dirty.DirtyRow.{DirtyRow}
@@ -11,6 +11,7 @@ abbrev pub IsPart : Tree → Tree → Type 0
 IsPart part (leaf n) = part ≡ leaf n
 IsPart part (inner n l r) = (part ≡ inner n l r) ⊎ (IsPart part l ⊎ IsPart part r)
 
+-- the same, of a tree that may have no leaf
 abbrev pub IsPartOf : Tree → Option Tree → Type 0
 IsPartOf part None = ⊥
 IsPartOf part (Some t) = IsPart part t
@@ -19,6 +20,7 @@ IsPartOf part (Some t) = IsPart part t
 abbrev pub HasBelow : Option Tree → ℕ → Tree → Tree → Type 0
 HasBelow tree n l r = IsPartOf (inner n l r) tree
 
+-- the number is an inner node's
 abbrev pub HasInner : Option Tree → ℕ → Type 0
 HasInner tree n = (l : Tree) × (r : Tree) × HasBelow tree n l r
 
@@ -35,6 +37,7 @@ HasChildren tree row = (l : Tree) × (r : Tree) × IsPartOf (inner row.node l r)
 abbrev pub LeavesOthers : Option Tree → Option Tree → List DirtyRow → Type 0
 LeavesOthers old new rows = (k : ℕ) (l r : Tree) → IsPartOf (inner k l r) new → times_listed k rows ≡ 0 → IsPartOf (inner k l r) old
 
+-- the child is no inner node among the rows
 abbrev pub IsNotListed : Child → List DirtyRow → Type 0
 IsNotListed (Leaf n) rows = Unit {0}
 IsNotListed (Inner k) rows = times_listed k rows ≡ 0
@@ -43,6 +46,20 @@ IsNotListed (Inner k) rows = times_listed k rows ≡ 0
 abbrev pub IsOrdered : List DirtyRow → Type 0
 IsOrdered [] = Unit {0}
 IsOrdered (row ∷ rest) = IsNotListed row.left (row ∷ rest) × IsNotListed row.right (row ∷ rest) × IsOrdered rest
+
+-- a part of a tree, with so many of the tree's leaves before it
+abbrev pub IsPartAt : Tree → ℕ → Tree → Type 0
+IsPartAt part before (leaf n) = (part ≡ leaf n) × (before ≡ 0)
+IsPartAt part before (inner n l r) = ((part ≡ inner n l r) × (before ≡ 0)) ⊎ (IsPartAt part before l ⊎ ((rest : ℕ) × (before ≡ count l + rest) × IsPartAt part rest r))
+
+-- the same, of a tree that may have no leaf
+abbrev pub IsPartOfAt : Tree → ℕ → Option Tree → Type 0
+IsPartOfAt part before None = ⊥
+IsPartOfAt part before (Some t) = IsPartAt part before t
+
+-- the number is an inner node's, and the leaf at that position is below it
+abbrev pub IsOver : Option Tree → ℕ → ℕ → Type 0
+IsOver tree at n = (l : Tree) × (r : Tree) × (before : ℕ) × IsPartOfAt (inner n l r) before tree × (before ≤ at) × (at < before + count (inner n l r))
 
 -- no balanced tree of so many leaves is higher
 abbrev pub BoundsHeight : ℕ → ℕ → Type 0

@@ -8,6 +8,7 @@ pub record NumbersView : Type 0 where
   pub free : List ℕ
   pub drawn : ℕ
 
+-- what the code keeps, as a value
 abbrev pub numbers_of : Numbers → NumbersView
 numbers_of n = record { free = n.free.items; drawn = n.drawn }
 
@@ -25,6 +26,7 @@ last_or other (n ∷ ns) = last_or n ns
 abbrev pub next_number : NumbersView → ℕ
 next_number v = last_or v.drawn v.free
 
+-- the free ones without the last, or else one more drawn
 abbrev pub taken_from : List ℕ → ℕ → NumbersView
 taken_from [] drawn = record { free = []; drawn = drawn + 1 }
 taken_from (n ∷ ns) drawn = record { free = take (length ns) (n ∷ ns); drawn = drawn }

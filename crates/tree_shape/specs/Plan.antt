@@ -25,10 +25,12 @@ abbrev pub erase : Plan → Tree
 erase (kept t) = t
 erase (made side n near far) = inner_on side n (erase near) (erase far)
 
+-- the row of an inner node by its near and its far child
 abbrev pub dirty_row : Side → ℕ → Child → Child → DirtyRow
 dirty_row Left n near far = record { node = n; left = near; right = far }
 dirty_row Right n near far = record { node = n; left = far; right = near }
 
+-- the row's child on a side
 abbrev pub child_on : Side → DirtyRow → Child
 child_on Left row = row.left
 child_on Right row = row.right
@@ -43,62 +45,71 @@ abbrev pub below : Plan → List DirtyRow
 below (kept t) = []
 below (made side n near far) = rows near ++ rows far
 
+-- whether two sides are the same
 abbrev pub same_side : Side → Side → Bool
 same_side Left Left = true
 same_side Left Right = false
 same_side Right Left = false
 same_side Right Right = true
 
+-- the side across
 abbrev pub other : Side → Side
 other Left = Right
 other Right = Left
 
--- the three ways to set a node above a changed part that has grown
+-- A node set above a part that has grown, in three ways. From the top its nodes are the upper one, with the part beside
+-- the change, the middle one and the lower one, each with the part on its far side.
+
+-- as it stood before
 abbrev pub over : Side → ℕ → Plan → Tree → Plan
-over side m near far = made side m near (kept far)
+over side upper part beside = made side upper part (kept beside)
 
+-- the middle node takes the upper one's place
 abbrev pub turned_once : Side → ℕ → ℕ → Plan → Tree → Tree → Plan
-turned_once side m p near f far = made side p near (made side m (kept f) (kept far))
+turned_once side upper middle near middle_far beside = made side middle near (made side upper (kept middle_far) (kept beside))
 
--- q's near part on the node's own side, or on the other
+-- the lower node takes the place of both, and its near part goes to the node on that side
 abbrev pub turned_twice : Side → ℕ → ℕ → ℕ → Side → Plan → Tree → Tree → Tree → Plan
-turned_twice side m p q third near b f far =
-    cond (same_side third side)
-    (made side q (made (other side) p near (kept f)) (made side m (kept b) (kept far)))
-    (made (other side) q (made side m near (kept far)) (made (other side) p (kept b) (kept f)))
+turned_twice side upper middle lower lower_side near lower_far middle_far beside =
+    cond (same_side lower_side side)
+    (made side lower (made (other side) middle near (kept middle_far)) (made side upper (kept lower_far) (kept beside)))
+    (made (other side) lower (made side upper near (kept beside)) (made (other side) middle (kept lower_far) (kept middle_far)))
 
+-- once where the change went the same way at the upper and the middle node, else twice
 abbrev pub turned : Side → ℕ → Side → ℕ → Side → ℕ → Plan → Tree → Tree → Tree → Plan
-turned side m second p third q near b f far =
-    cond (same_side second side)
-    (turned_once side m p (made third q near (kept b)) f far)
-    (turned_twice side m p q third near b f far)
+turned side upper middle_side middle lower_side lower near lower_far middle_far beside =
+    cond (same_side middle_side side)
+    (turned_once side upper middle (made lower_side lower near (kept lower_far)) middle_far beside)
+    (turned_twice side upper middle lower lower_side near lower_far middle_far beside)
 
 -- turned, where the part has two nodes to turn by
 abbrev pub turned_through : Side → ℕ → Side → ℕ → Plan → Tree → Tree → Plan
-turned_through side m second p (made third q near (kept b)) f far = turned side m second p third q near b f far
-turned_through side m second p part f far = over side m (made second p part (kept f)) far
+turned_through side upper middle_side middle (made lower_side lower near (kept lower_far)) middle_far beside = turned side upper middle_side middle lower_side lower near lower_far middle_far beside
+turned_through side upper middle_side middle near middle_far beside = over side upper (made middle_side middle near (kept middle_far)) beside
 
+-- turned, where the part's far part stayed
 abbrev pub turned_plan : Side → ℕ → Plan → Tree → Plan
-turned_plan side m (made second p near (kept f)) far = turned_through side m second p near f far
-turned_plan side m part far = over side m part far
+turned_plan side upper (made middle_side middle near (kept middle_far)) beside = turned_through side upper middle_side middle near middle_far beside
+turned_plan side upper part beside = over side upper part beside
 
 -- a node above a part that was changed by an insertion, turned where the part is too high
 abbrev pub leaned : Side → ℕ → Plan → Tree → Plan
-leaned side m part far = cond (nat_le (height (erase part)) (height far + 1)) (over side m part far) (turned_plan side m part far)
+leaned side upper part beside = cond (nat_le (height (erase part)) (height beside + 1)) (over side upper part beside) (turned_plan side upper part beside)
 
 -- the tree with a new leaf at a position, below a new inner node
 abbrev pub grown : ℕ → ℕ → ℕ → Tree → Plan
 grown at new number (leaf old) = made (cond (nat_le at 0) Left Right) number (kept (leaf new)) (kept (leaf old))
-grown at new number (inner m l r) =
-    cond (nat_le at (count l)) (leaned Left m (grown at new number l) r) (leaned Right m (grown (at - count l) new number r) l)
+grown at new number (inner n l r) =
+    cond (nat_le at (count l)) (leaned Left n (grown at new number l) r) (leaned Right n (grown (at - count l) new number r) l)
 
--- what the change did at a plan's root
+-- whether the change went through the near part's root as well
 abbrev pub way_through : Plan → Way
-way_through (made third q near (kept b)) = Twice third (height (erase near)) (height b)
+way_through (made side n near (kept beside)) = Twice side (height (erase near)) (height beside)
 way_through part = Once
 
+-- what the change did at a plan's root
 abbrev pub way_of : Plan → Way
-way_of (made second p near (kept f)) = way_through near
+way_of (made side n near (kept beside)) = way_through near
 way_of part = Turned
 
 -- the root of a plan, as the code knows it
@@ -128,6 +139,7 @@ pub record FitsLean (g : Grown) (far_height : ℕ) (dirty : List DirtyRow) : Typ
   pub beside : far_height < 254
   pub room : length dirty < 71
 
+-- the change went through the near part's root too: its near side, and the heights of its parts
 abbrev pub IsTwice : Way → Side → ℕ → ℕ → Type 0
 IsTwice way third near far = way ≡ Twice third near far
 

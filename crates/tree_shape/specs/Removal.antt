@@ -10,55 +10,64 @@ use Rattle.tree_shape.specs.declared.removal.Part.{Part}
 use Rattle.tree_shape.specs.Tree.{Tree, leaf, inner, name, height, count, Stands, IsBalanced}
 use Rattle.tree_shape.specs.Plan.{Plan, kept, made, erase, over, rows}
 
--- of an inner node on the far side, the part beside the near one, and the outer part
+-- of an inner node on the far side, the part beside the near one
 abbrev pub beside : Side → Tree → Tree → Tree
 beside Left l r = l
 beside Right l r = r
 
+-- and the outer part
 abbrev pub outer : Side → Tree → Tree → Tree
 outer Left l r = r
 outer Right l r = l
 
+-- A node whose far part is too high, with the far part's root and its two parts, the inward one beside the near part.
+
+-- the far part's root takes the node's place
 abbrev pub raised_once : Side → ℕ → Plan → ℕ → Tree → Tree → Plan
-raised_once side m p k b o = made side k (made side m p (kept b)) (kept o)
+raised_once side node part far inward outward = made side far (made side node part (kept inward)) (kept outward)
 
+-- the inward part's root takes the place of both
 abbrev pub raised_twice : Side → ℕ → Plan → ℕ → Tree → Tree → Plan
-raised_twice side m p k (leaf n) o = raised_once side m p k (leaf n) o
-raised_twice side m p k (inner q l r) o = made side q (made side m p (kept (beside side l r))) (made side k (kept (outer side l r)) (kept o))
+raised_twice side node part far (leaf n) outward = raised_once side node part far (leaf n) outward
+raised_twice side node part far (inner lower l r) outward = made side lower (made side node part (kept (beside side l r))) (made side far (kept (outer side l r)) (kept outward))
 
+-- twice where the inward part is the higher one
 abbrev pub raised_by : Side → ℕ → Plan → ℕ → Tree → Tree → Plan
-raised_by side m p k b o = cond (nat_le (height b) (height o)) (raised_once side m p k b o) (raised_twice side m p k b o)
+raised_by side node part far inward outward = cond (nat_le (height inward) (height outward)) (raised_once side node part far inward outward) (raised_twice side node part far inward outward)
 
+-- turned by the far part's root
 abbrev pub raised : Side → ℕ → Plan → Tree → Plan
-raised side m p (leaf n) = over side m p (leaf n)
-raised side m p (inner k l r) = raised_by side m p k (beside side l r) (outer side l r)
+raised side node part (leaf n) = over side node part (leaf n)
+raised side node part (inner far l r) = raised_by side node part far (beside side l r) (outer side l r)
 
 -- a node above a part that a removal changed, turned where the other part is too high
 abbrev pub sunk : Side → ℕ → Plan → Tree → Plan
-sunk side m p far = cond (nat_le (height far) (height (erase p) + 1)) (over side m p far) (raised side m p far)
+sunk side node part far = cond (nat_le (height far) (height (erase part) + 1)) (over side node part far) (raised side node part far)
 
 -- where the near part was the leaf alone, the far part takes the node's place
 abbrev pub without : Side → ℕ → Tree → Plan → Tree → Plan
-without side m (leaf n) p far = kept far
-without side m (inner k l r) p far = sunk side m p far
+without side node (leaf n) part far = kept far
+without side node (inner k l r) part far = sunk side node part far
 
+-- the tree without the leaf at a position, below an inner node
 abbrev pub shrunk : ℕ → Tree → Plan
 shrunk at (leaf n) = kept (leaf n)
-shrunk at (inner m l r) = cond (nat_lt at (count l)) (without Left m l (shrunk at l) r) (without Right m r (shrunk (at - count l) r) l)
+shrunk at (inner n l r) = cond (nat_lt at (count l)) (without Left n l (shrunk at l) r) (without Right n r (shrunk (at - count l) r) l)
 
--- the inner node that goes
+-- the node itself where the part with the leaf is that leaf, else one below it
 abbrev pub gone_in : ℕ → Tree → ℕ → ℕ
-gone_in m (leaf n) deeper = m
-gone_in m (inner k l r) deeper = deeper
+gone_in node (leaf n) deeper = node
+gone_in node (inner k l r) deeper = deeper
 
+-- the inner node that goes: the one right above the leaf
 abbrev pub gone : ℕ → Tree → ℕ
 gone at (leaf n) = 0
-gone at (inner m l r) = cond (nat_lt at (count l)) (gone_in m l (gone at l)) (gone_in m r (gone (at - count l) r))
+gone at (inner n l r) = cond (nat_lt at (count l)) (gone_in n l (gone at l)) (gone_in n r (gone (at - count l) r))
 
 -- the nodes above a leaf, with the parts that they have
 abbrev pub touched : ℕ → Tree → Plan
 touched at (leaf n) = kept (leaf n)
-touched at (inner m l r) = cond (nat_lt at (count l)) (made Left m (touched at l) (kept r)) (made Right m (touched (at - count l) r) (kept l))
+touched at (inner n l r) = cond (nat_lt at (count l)) (made Left n (touched at l) (kept r)) (made Right n (touched (at - count l) r) (kept l))
 
 -- the arena's node has a tree with that leaf, and the list has room for so many rows a level
 abbrev pub HasRows : ℕ → List Node → Child → ℕ → ℕ → Type 0
@@ -72,13 +81,16 @@ pub record IsSinking (nodes : List Node) (part : Part) (dirty : List DirtyRow) (
   pub named : far ≡ name f
   pub stands : Stands nodes f
 
-abbrev pub IsPart : Part → Plan → Type 0
-IsPart part p = (part.child ≡ name (erase p)) × (part.height ≡ height (erase p))
+-- the part as it is after the change
+abbrev pub IsPartAfter : Part → Plan → Type 0
+IsPartAfter part p = (part.child ≡ name (erase p)) × (part.height ≡ height (erase p))
 
+-- the children of a far node's row, by the same names
 abbrev pub beside_child : Side → Node → Child
 beside_child Left node = node.left
 beside_child Right node = node.right
 
+-- the outer one
 abbrev pub outer_child : Side → Node → Child
 outer_child Left node = node.right
 outer_child Right node = node.left
@@ -97,6 +109,7 @@ pub record IsRaising (nodes : List Node) (part : Part) (dirty : List DirtyRow) (
   pub named_outer : o ≡ name ot
   pub high_outer : o_height ≡ height ot
 
+-- those two parts, low enough, and a list with room for three rows
 abbrev pub HasRaising : List Node → Part → List DirtyRow → Child → Child → ℕ → Type 0
 HasRaising nodes part dirty b o o_height = (p : Plan) × (before : List DirtyRow) × (bt : Tree) × (ot : Tree) × IsRaising nodes part dirty b o o_height p before bt ot × (height bt < 250) × (o_height < 250) × (part.height < 250) × (length dirty + 3 ≤ 72)
 

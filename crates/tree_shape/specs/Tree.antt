@@ -15,6 +15,7 @@ abbrev pub name : Tree → Child
 name (leaf n) = Leaf n
 name (inner n l r) = Inner n
 
+-- the inner nodes on the longest way down
 abbrev pub height : Tree → ℕ
 height (leaf n) = 0
 height (inner n l r) = 1 + max (height l) (height r)
@@ -57,6 +58,7 @@ abbrev pub height_in : Option Node → ℕ
 height_in None = 0
 height_in (Some node) = node.height
 
+-- the same by child, 0 for a leaf
 abbrev pub stored_height : List Node → Child → ℕ
 stored_height rows (Leaf n) = 0
 stored_height rows (Inner n) = height_in (slice_get rows n)

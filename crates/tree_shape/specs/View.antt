@@ -22,18 +22,22 @@ push_tree (suc k) n [] = []
 push_tree (suc k) n (r ∷ []) = []
 push_tree (suc k) n (r ∷ (l ∷ stack)) = inner n l r ∷ stack
 
+-- the trees that are left when all words are read
 abbrev pub read_trees : List (ℕ × ℕ) → List Tree → List Tree
 read_trees [] stack = stack
 read_trees (p ∷ rest) stack = read_trees rest (push_tree p.0 p.1 stack)
 
+-- the words of a tree: whether it is an inner node, and its number
 abbrev pub words_of : Tree → List (ℕ × ℕ)
 words_of (leaf n) = (0, n) ∷ []
 words_of (inner n l r) = words_of l ++ (words_of r ++ (1, n) ∷ [])
 
+-- the topmost of a stack
 abbrev pub first_tree : List Tree → Tree
 first_tree [] = leaf 0
 first_tree (t ∷ stack) = t
 
+-- the tree of its words
 abbrev pub tree_from : List (ℕ × ℕ) → Tree
 tree_from words = first_tree (read_trees words [])
 
@@ -49,9 +53,11 @@ no_rest : (ws : List (ℕ × ℕ)) → ws ≡ ws ++ []
 no_rest [] = refl
 no_rest (w ∷ ws) = ap (λ v. w ∷ v) (no_rest ws)
 
+-- a tree is read back from its words
 pub tree_back : (t : Tree) → tree_from (words_of t) ≡ t
 tree_back t = ap (λ w. first_tree (read_trees w [])) (no_rest (words_of t)) ∙ ap first_tree (read_words t [] [])
 
+-- how a tree is stored in a value
 abbrev pub tree_code : Coded Tree
 tree_code = code_by (List (ℕ × ℕ)) (coded_list (coded× coded_ℕ coded_ℕ)) words_of tree_from tree_back
 
@@ -62,9 +68,11 @@ pub record ShapeView : Type 0 where
   pub inner_numbers : NumbersView
   pub room : Bool
 
+-- how the numbers are stored in a value
 abbrev pub numbers_code : Coded NumbersView
 numbers_code = code_by (List ℕ × ℕ) (coded× (coded_list coded_ℕ) coded_ℕ) (λ v. (v.free, v.drawn)) (λ p. record { free = p.0; drawn = p.1 }) (λ _. refl)
 
+-- how a shape's value is stored
 abbrev pub shape_code : Coded ShapeView
 shape_code = code_by (Option Tree × (NumbersView × (NumbersView × Bool))) (coded× (coded_option tree_code) (coded× numbers_code (coded× numbers_code coded_bool)))
     (λ v. (v.tree, (v.leaf_numbers, (v.inner_numbers, v.room)))) (λ p. record { tree = p.0; leaf_numbers = p.1.0; inner_numbers = p.1.1.0; room = p.1.1.1 }) (λ _. refl)
@@ -75,6 +83,7 @@ unfolded f nodes (Leaf n) = leaf n
 unfolded zero nodes (Inner n) = leaf n
 unfolded (suc f) nodes (Inner n) = elim (slice_get nodes n) [ None ↦ leaf n | Some node ↦ inner n (unfolded f nodes node.left) (unfolded f nodes node.right) ]
 
+-- the tree of a child, by the height that is stored for it
 abbrev pub tree_at : List Node → Child → Tree
 tree_at nodes child = unfolded (stored_height nodes child) nodes child
 
@@ -86,35 +95,42 @@ pub record IsSound (nodes : List Node) (child : Child) (t : Tree) : Type 0 where
   pub once : (k : ℕ) → times k t ≤ 1
   pub few : count t ≤ 65536
 
+-- the root, if there is one, has a sound tree
 abbrev pub IsRoot : List Node → Option Child → Type 0
 IsRoot nodes None = Unit {0}
 IsRoot nodes (Some child) = (t : Tree) × IsSound nodes child t
 
+-- the number of leaves
 abbrev pub count_of : Option Tree → ℕ
 count_of None = 0
 count_of (Some t) = count t
 
+-- the leaves' numbers, from left to right
 abbrev pub leaves_of_tree : Option Tree → List ℕ
 leaves_of_tree None = []
 leaves_of_tree (Some t) = leaves t
 
+-- the inner nodes' numbers
 abbrev pub inners_of_tree : Option Tree → List ℕ
 inners_of_tree None = []
 inners_of_tree (Some t) = inners t
 
+-- the height, 0 for no leaf
 abbrev pub height_of_tree : Option Tree → ℕ
 height_of_tree None = 0
 height_of_tree (Some t) = height t
 
+-- the tree, if there is one, is balanced
 abbrev pub IsBalancedTree : Option Tree → Type 0
 IsBalancedTree None = Unit {0}
 IsBalancedTree (Some t) = IsBalanced t
 
--- the tree and the rows after an insertion of a leaf, below a new inner node where there was a leaf already
+-- the tree after an insertion of a leaf, below a new inner node where there was a leaf already
 abbrev pub tree_with : ℕ → ℕ → ℕ → Option Tree → Tree
 tree_with at new number None = leaf new
 tree_with at new number (Some t) = erase (grown at new number t)
 
+-- the rows that it lists
 abbrev pub rows_with : ℕ → ℕ → ℕ → Option Tree → List DirtyRow
 rows_with at new number None = []
 rows_with at new number (Some t) = rows (grown at new number t)
@@ -124,12 +140,13 @@ abbrev pub inners_with : Option Tree → NumbersView → NumbersView
 inners_with None v = v
 inners_with (Some t) v = taken v
 
--- the tree and the rows after a removal
+-- the tree after a removal
 abbrev pub tree_without : ℕ → Option Tree → Option Tree
 tree_without at None = None
 tree_without at (Some (leaf n)) = None
 tree_without at (Some (inner n l r)) = Some (erase (shrunk at (inner n l r)))
 
+-- the rows that it lists
 abbrev pub rows_without : ℕ → Option Tree → List DirtyRow
 rows_without at None = []
 rows_without at (Some t) = rows (shrunk at t)

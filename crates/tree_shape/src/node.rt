@@ -1,5 +1,5 @@
 //! Inner nodes and their parts, and reading a tree off them.
-ghost use Rattle.std.specs.Prelude.{◌≡◌, ℕ, ◌+◌, ◌<◌, max, Some, slice_index, slice_get};
+ghost use Rattle.std.specs.Prelude.{◌≡◌, ◌+◌, ◌<◌, max, Some, slice_index, slice_get};
 ghost use Rattle.tree_shape.specs.declared.node.Child.TheVariants.{Inner};
 ghost use Rattle.tree_shape.specs.Tree.{Tree, name, height, count, leaves, Stands, IsTreeAt, HasLeafAt};
 

@@ -1,5 +1,5 @@
 //! The numbers of leaves or of inner nodes.
-ghost use Rattle.std.specs.Prelude.{◌≡◌, ◌+◌, ◌<◌, ◌≤◌, [], length, IfOk, OnOk, nat_lt, vec_len, vec_capacity};
+ghost use Rattle.std.specs.Prelude.{◌≡◌, ◌+◌, ◌<◌, ◌≤◌, [], length, IfOk, OnOk, nat_lt, vec_capacity};
 ghost use Rattle.tree_shape.specs.Numbers.{numbers_of, next_number, taken, given_back};
 
 use knit_base::NoMemory;

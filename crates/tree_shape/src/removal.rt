@@ -1,8 +1,8 @@
 // Taking a leaf out, and the nodes above a leaf.
-ghost use Rattle.std.specs.Prelude.{◌≡◌, ℕ, ◌+◌, ◌-◌, ◌<◌, ◌≤◌, max, List, [], ◌∷◌, ◌++◌, length};
-ghost use Rattle.tree_shape.specs.Tree.{Tree, name, height, count, Stands};
-ghost use Rattle.tree_shape.specs.Plan.{Plan, erase, rows, over};
-ghost use Rattle.tree_shape.specs.Removal.{HasRows, HasRemoval, IsAbove, gone, touched, IsSinking, HasSinking, IsPart, raised, raised_once, raised_twice, IsRaising, HasRaising, sunk, raised_by, shrunk, beside_child, outer_child, beside, outer};
+ghost use Rattle.std.specs.Prelude.{◌≡◌, ◌+◌, ◌-◌, ◌<◌, ◌≤◌, List, ◌++◌, length};
+ghost use Rattle.tree_shape.specs.Tree.{Tree, name, height, Stands, IsTreeAt};
+ghost use Rattle.tree_shape.specs.Plan.{Plan, rows, over};
+ghost use Rattle.tree_shape.specs.Removal.{HasRows, HasRemoval, IsAbove, gone, touched, IsSinking, HasSinking, IsPartAfter, raised, raised_once, raised_twice, IsRaising, HasRaising, sunk, shrunk, beside_child, outer_child};
 ghost use Rattle.tree_shape.specs.declared.dirty.DirtyRow.{DirtyRow};
 ghost use Rattle.tree_shape.specs.declared.node.Node.{Node};
 ghost use Rattle.tree_shape.specs.declared.node.Child.TheVariants.{Leaf, Inner};
@@ -17,15 +17,15 @@ pub(crate) fn touch_below(nodes: &[Node], child: Child, at: u32, dirty: &mut Dir
 {
     match child {
         Child::Leaf(_) => {}
-        Child::Inner(n) => {
-            let node = row(nodes, n);
+        Child::Inner(inner) => {
+            let node = row(nodes, inner);
             let before = leaves_of(nodes, node.left);
             if at < before {
                 touch_below(nodes, node.left, at, dirty);
-                dirty.push(row_on(Side::Left, n, node.left, node.right));
+                dirty.push(row_on(Side::Left, inner, node.left, node.right));
             } else {
                 touch_below(nodes, node.right, at - before, dirty);
-                dirty.push(row_on(Side::Right, n, node.right, node.left));
+                dirty.push(row_on(Side::Right, inner, node.right, node.left));
             }
         }
     }
@@ -36,6 +36,18 @@ pub(crate) fn touch_below(nodes: &[Node], child: Child, at: u32, dirty: &mut Dir
 pub(crate) struct Part {
     pub child: Child,
     pub height: u8,
+}
+
+/// A part that stayed.
+fn part_of(nodes: &[Node], child: Child) -> Part
+    requires { IsTreeAt nodes.now child }
+    ensures child { result.child ≡ child }
+    ensures high { (t : Tree) → child ≡ name t → Stands nodes.now t → result.height ≡ height t }
+{
+    Part {
+        child,
+        height: height_of(nodes, child),
+    }
 }
 
 fn beside_of(side: Side, node: Node) -> Child
@@ -59,24 +71,22 @@ fn outer_of(side: Side, node: Node) -> Child
 /// The near part of the other part goes below the node.
 fn raise_once(
     side: Side,
-    m: u32,
+    node: u32,
     part: Part,
-    k: u32,
-    b: Child,
-    b_height: u8,
-    o: Child,
-    o_height: u8,
+    far: u32,
+    beside: Part,
+    outer: Part,
     dirty: &mut Dirty,
 ) -> Part
     requires room { length dirty.old + 3 ≤ 72 }
-    requires low { (part.height < 250) × (b_height < 250) × (o_height < 250) }
-    ensures { (nodes : List Node) (p : Plan) (before : List DirtyRow) (bt ot : Tree) → IsRaising nodes part dirty.old b o o_height p before bt ot → b_height ≡ height bt → IsPart result (raised_once side m p k bt ot) × (dirty.new ≡ before ++ rows (raised_once side m p k bt ot)) }
+    requires low { (part.height < 250) × (beside.height < 250) × (outer.height < 250) }
+    ensures { (nodes : List Node) (plan : Plan) (before : List DirtyRow) (near_tree far_tree : Tree) → IsRaising nodes part dirty.old beside.child outer.child outer.height plan before near_tree far_tree → beside.height ≡ height near_tree → IsPartAfter result (raised_once side node plan far near_tree far_tree) × (dirty.new ≡ before ++ rows (raised_once side node plan far near_tree far_tree)) }
 {
-    dirty.push(row_on(side, m, part.child, b));
-    dirty.push(row_on(side, k, Child::Inner(m), o));
+    dirty.push(row_on(side, node, part.child, beside.child));
+    dirty.push(row_on(side, far, Child::Inner(node), outer.child));
     Part {
-        child: Child::Inner(k),
-        height: above(above(part.height, b_height), o_height),
+        child: Child::Inner(far),
+        height: above(above(part.height, beside.height), outer.height),
     }
 }
 
@@ -84,72 +94,77 @@ fn raise_once(
 fn raise_twice(
     nodes: &[Node],
     side: Side,
-    m: u32,
+    node: u32,
     part: Part,
-    k: u32,
-    q: u32,
-    o: Child,
-    o_height: u8,
+    far: u32,
+    lower: u32,
+    outer: Part,
     dirty: &mut Dirty,
 ) -> Part
-    requires { HasRaising nodes.now part dirty.old (Inner q) o o_height }
-    ensures { (p : Plan) (before : List DirtyRow) (bt ot : Tree) → IsRaising nodes.now part dirty.old (Inner q) o o_height p before bt ot → IsPart result (raised_twice side m p k bt ot) × (dirty.new ≡ before ++ rows (raised_twice side m p k bt ot)) }
+    requires { HasRaising nodes.now part dirty.old (Inner lower) outer.child outer.height }
+    ensures { (plan : Plan) (before : List DirtyRow) (near_tree far_tree : Tree) → IsRaising nodes.now part dirty.old (Inner lower) outer.child outer.height plan before near_tree far_tree → IsPartAfter result (raised_twice side node plan far near_tree far_tree) × (dirty.new ≡ before ++ rows (raised_twice side node plan far near_tree far_tree)) }
 {
-    let node = row(nodes, q);
-    let e = beside_of(side, node);
-    let g = outer_of(side, node);
-    let e_height = height_of(nodes, e);
-    let g_height = height_of(nodes, g);
-    dirty.push(row_on(side, m, part.child, e));
-    dirty.push(row_on(side, k, g, o));
-    dirty.push(row_on(side, q, Child::Inner(m), Child::Inner(k)));
+    let split = row(nodes, lower);
+    let first = part_of(nodes, beside_of(side, split));
+    let second = part_of(nodes, outer_of(side, split));
+    dirty.push(row_on(side, node, part.child, first.child));
+    dirty.push(row_on(side, far, second.child, outer.child));
+    dirty.push(row_on(side, lower, Child::Inner(node), Child::Inner(far)));
     Part {
-        child: Child::Inner(q),
-        height: above(above(part.height, e_height), above(g_height, o_height)),
+        child: Child::Inner(lower),
+        height: above(
+            above(part.height, first.height),
+            above(second.height, outer.height),
+        ),
     }
 }
 
 /// The two ways to turn a node whose other part is too high.
-fn raise(nodes: &[Node], side: Side, m: u32, part: Part, k: u32, dirty: &mut Dirty) -> Part
-    requires { HasSinking nodes.now part dirty.old (Inner k) }
-    ensures { (p : Plan) (before : List DirtyRow) (f : Tree) → IsSinking nodes.now part dirty.old (Inner k) p before f → IsPart result (raised side m p f) × (dirty.new ≡ before ++ rows (raised side m p f)) }
+fn raise(nodes: &[Node], side: Side, node: u32, part: Part, far: u32, dirty: &mut Dirty) -> Part
+    requires { HasSinking nodes.now part dirty.old (Inner far) }
+    ensures { (plan : Plan) (before : List DirtyRow) (far_tree : Tree) → IsSinking nodes.now part dirty.old (Inner far) plan before far_tree → IsPartAfter result (raised side node plan far_tree) × (dirty.new ≡ before ++ rows (raised side node plan far_tree)) }
 {
-    let node = row(nodes, k);
-    let b = beside_of(side, node);
-    let o = outer_of(side, node);
-    let b_height = height_of(nodes, b);
-    let o_height = height_of(nodes, o);
-    if b_height <= o_height {
-        return raise_once(side, m, part, k, b, b_height, o, o_height, dirty);
+    let high = row(nodes, far);
+    let beside = part_of(nodes, beside_of(side, high));
+    let outer = part_of(nodes, outer_of(side, high));
+    if beside.height <= outer.height {
+        return raise_once(side, node, part, far, beside, outer, dirty);
     }
-    match b {
-        Child::Leaf(_) => raise_once(side, m, part, k, b, b_height, o, o_height, dirty),
-        Child::Inner(q) => raise_twice(nodes, side, m, part, k, q, o, o_height, dirty),
+    match beside.child {
+        Child::Leaf(_) => raise_once(side, node, part, far, beside, outer, dirty),
+        Child::Inner(lower) => raise_twice(nodes, side, node, part, far, lower, outer, dirty),
     }
 }
 
 /// A node above a part that a removal changed, turned where the other part is too high.
-fn sink(nodes: &[Node], side: Side, m: u32, part: Part, far: Child, dirty: &mut Dirty) -> Part
+fn sink(nodes: &[Node], side: Side, node: u32, part: Part, far: Child, dirty: &mut Dirty) -> Part
     requires { HasSinking nodes.now part dirty.old far }
-    ensures { (p : Plan) (before : List DirtyRow) (f : Tree) → IsSinking nodes.now part dirty.old far p before f → IsPart result (sunk side m p f) × (dirty.new ≡ before ++ rows (sunk side m p f)) }
+    ensures { (plan : Plan) (before : List DirtyRow) (far_tree : Tree) → IsSinking nodes.now part dirty.old far plan before far_tree → IsPartAfter result (sunk side node plan far_tree) × (dirty.new ≡ before ++ rows (sunk side node plan far_tree)) }
 {
     let far_height = height_of(nodes, far);
-    if let Child::Inner(k) = far {
+    if let Child::Inner(inner) = far {
         if far_height > part.height + 1 {
-            return raise(nodes, side, m, part, k, dirty);
+            return raise(nodes, side, node, part, inner, dirty);
         }
     }
-    set_above(side, m, part, far, far_height, dirty)
+    set_above(side, node, part, far, far_height, dirty)
 }
 
-fn set_above(side: Side, m: u32, part: Part, far: Child, far_height: u8, dirty: &mut Dirty) -> Part
+fn set_above(
+    side: Side,
+    node: u32,
+    part: Part,
+    far: Child,
+    far_height: u8,
+    dirty: &mut Dirty,
+) -> Part
     requires room { length dirty.old < 72 }
     requires low { (part.height < 250) × (far_height < 250) }
-    ensures { (nodes : List Node) (p : Plan) (before : List DirtyRow) (f : Tree) → IsSinking nodes part dirty.old far p before f → far_height ≡ height f → IsPart result (over side m p f) × (dirty.new ≡ before ++ rows (over side m p f)) }
+    ensures { (nodes : List Node) (plan : Plan) (before : List DirtyRow) (far_tree : Tree) → IsSinking nodes part dirty.old far plan before far_tree → far_height ≡ height far_tree → IsPartAfter result (over side node plan far_tree) × (dirty.new ≡ before ++ rows (over side node plan far_tree)) }
 {
-    dirty.push(row_on(side, m, part.child, far));
+    dirty.push(row_on(side, node, part.child, far));
     Part {
-        child: Child::Inner(m),
+        child: Child::Inner(node),
         height: above(part.height, far_height),
     }
 }
@@ -157,12 +172,12 @@ fn set_above(side: Side, m: u32, part: Part, far: Child, far_height: u8, dirty: 
 /// The tree below an inner node without the leaf at a position: lists all inner nodes written.
 pub(crate) fn shrink(nodes: &[Node], child: Child, at: u32, dirty: &mut Dirty) -> Part
     requires { HasRemoval nodes.now child at (length dirty.old) }
-    ensures { (t : Tree) → child ≡ name t → Stands nodes.now t → IsPart result (shrunk at t) × (dirty.new ≡ dirty.old ++ rows (shrunk at t)) }
+    ensures { (t : Tree) → child ≡ name t → Stands nodes.now t → IsPartAfter result (shrunk at t) × (dirty.new ≡ dirty.old ++ rows (shrunk at t)) }
 {
     match child {
         Child::Leaf(_) => Part { child, height: 0 },
-        Child::Inner(n) => {
-            let node = row(nodes, n);
+        Child::Inner(inner) => {
+            let node = row(nodes, inner);
             let before = leaves_of(nodes, node.left);
             if at < before {
                 match node.left {
@@ -172,7 +187,7 @@ pub(crate) fn shrink(nodes: &[Node], child: Child, at: u32, dirty: &mut Dirty) -
                     },
                     Child::Inner(_) => {
                         let part = shrink(nodes, node.left, at, dirty);
-                        sink(nodes, Side::Left, n, part, node.right, dirty)
+                        sink(nodes, Side::Left, inner, part, node.right, dirty)
                     }
                 }
             } else {
@@ -183,7 +198,7 @@ pub(crate) fn shrink(nodes: &[Node], child: Child, at: u32, dirty: &mut Dirty) -
                     },
                     Child::Inner(_) => {
                         let part = shrink(nodes, node.right, at - before, dirty);
-                        sink(nodes, Side::Right, n, part, node.left, dirty)
+                        sink(nodes, Side::Right, inner, part, node.left, dirty)
                     }
                 }
             }

@@ -1,5 +1,5 @@
 //! The tree by positions: an arena of inner nodes, its root and the numbers of its leaves and its inner nodes.
-ghost use Rattle.std.specs.Prelude.{◌≡◌, ℕ, ◌+◌, ◌-◌, ◌*◌, ◌^◌, ◌<◌, ◌≤◌, max, List, [], ◌∷◌, ◌++◌, length, Option, Some, None, true, IfOk, IfErr, OnOk, MatchResult, nat_lt, slice_index, vec_len, vec_capacity};
+ghost use Rattle.std.specs.Prelude.{◌≡◌, ℕ, ◌+◌, ◌-◌, ◌*◌, ◌<◌, ◌≤◌, max, [], length, Option, Some, None, true, IfOk, OnOk, nat_lt, slice_index, vec_len, vec_capacity};
 ghost use Rattle.std.specs.List.{All};
 ghost use Rattle.std.specs.Option.{option_map};
 ghost use Rattle.tree_shape.specs.declared.node.Child.TheVariants.{Inner};
@@ -7,9 +7,9 @@ ghost use Rattle.tree_shape.specs.Tree.{Tree, name, height, count, Stands};
 ghost use Rattle.tree_shape.specs.Plan.{grown, erase, rows};
 ghost use Rattle.tree_shape.specs.Apply.{times};
 ghost use Rattle.tree_shape.specs.Removal.{shrunk};
-ghost use Rattle.tree_shape.specs.Numbers.{NumbersView, next_number, taken, given_back};
+ghost use Rattle.tree_shape.specs.Numbers.{next_number, taken, given_back};
 ghost use Rattle.tree_shape.specs.View.{ShapeView, count_of, leaves_of_tree, height_of_tree, IsSound, HasPlace, HasSoundLeaf, IsLawful, IsSameShape, tree_with, rows_with, inners_with, tree_without, rows_without, inners_without, rows_above};
-ghost use Rattle.tree_shape.specs.Changes.{HasBelow, HasInner, HasChildren, LeavesOthers, IsOrdered, BoundsHeight, numbers_below};
+ghost use Rattle.tree_shape.specs.Changes.{HasBelow, HasInner, times_listed, HasChildren, LeavesOthers, IsOrdered, BoundsHeight, IsOver, numbers_below};
 ghost use Rattle.tree_shape.specs.Fewest.{inserted, removed};
 
 use crate::arena::apply;
@@ -60,6 +60,21 @@ impl Shape {
             leaves: Numbers::new(alloc),
             inners: Numbers::new(alloc),
         }
+    }
+
+    /// A shape whose leaves are numbered in order from 0.
+    pub fn build(alloc: Global, leaves: u32) -> Result<Shape, NoMemory>
+        requires { leaves ≤ 65536 }
+        ensures leaves { IfOk result (λ shape. leaves_of_tree shape.tree ≡ numbers_below leaves) }
+        ensures leaf_numbers { IfOk result (λ shape. shape.leaf_numbers ≡ record { free = []; drawn = leaves }) }
+    {
+        let mut shape = Shape::new(alloc);
+        let mut dirty = Dirty::new();
+        for at in 0..leaves {
+            shape.reserve_one()?;
+            shape.insert(at, &mut dirty);
+        }
+        Ok(shape)
     }
 
     /// The number of leaves.
@@ -160,6 +175,11 @@ impl Shape {
         ensures leaf_numbers { self.new.leaf_numbers ≡ taken self.old.leaf_numbers }
         ensures inner_numbers { self.new.inner_numbers ≡ inners_with self.old.tree self.old.inner_numbers }
         ensures listed { dirty.new ≡ rows_with at (next_number self.old.leaf_numbers) (next_number self.old.inner_numbers) self.old.tree }
+        ensures children { All (HasChildren self.new.tree) dirty.new }
+        ensures others { LeavesOthers self.old.tree self.new.tree dirty.new }
+        ensures ordered { IsOrdered dirty.new }
+        ensures once { (k : ℕ) → times_listed k dirty.new ≤ 1 }
+        ensures few { (high : ℕ) → BoundsHeight (count_of self.new.tree) high → length dirty.new ≤ 3 * (high + 2) }
     {
         dirty.clear();
         let new = self.leaves.draw();
@@ -202,6 +222,11 @@ impl Shape {
         ensures leaf_numbers { self.new.leaf_numbers ≡ given_back (slice_index (leaves_of_tree self.old.tree) at) self.old.leaf_numbers }
         ensures inner_numbers { self.new.inner_numbers ≡ inners_without at self.old.tree self.old.inner_numbers }
         ensures listed { dirty.new ≡ rows_without at self.old.tree }
+        ensures children { All (HasChildren self.new.tree) dirty.new }
+        ensures others { LeavesOthers self.old.tree self.new.tree dirty.new }
+        ensures ordered { IsOrdered dirty.new }
+        ensures once { (k : ℕ) → times_listed k dirty.new ≤ 1 }
+        ensures few { (high : ℕ) → BoundsHeight (count_of self.old.tree) high → length dirty.new ≤ 3 * (high + 2) }
     {
         dirty.clear();
         match self.root {
@@ -227,7 +252,12 @@ impl Shape {
     /// Lists the inner nodes above the leaf at a position, children before parents.
     pub fn touch(&self, at: u32, dirty: &mut Dirty)
         requires { at < count_of self.now.tree }
-        ensures { dirty.new ≡ rows_above at self.now.tree }
+        ensures listed { dirty.new ≡ rows_above at self.now.tree }
+        ensures above { (n : ℕ) → IsOver self.now.tree at n → times_listed n dirty.new ≡ 1 }
+        ensures no_other { (n : ℕ) → 1 ≤ times_listed n dirty.new → IsOver self.now.tree at n }
+        ensures children { All (HasChildren self.now.tree) dirty.new }
+        ensures ordered { IsOrdered dirty.new }
+        ensures few { (high : ℕ) → BoundsHeight (count_of self.now.tree) high → length dirty.new ≤ high }
     {
         dirty.clear();
         match self.root {

@@ -89,3 +89,120 @@ fn a_second_leaf_lists_one_row(rt: HostRuntime) -> Result<(), Fail> {
     }
     Ok(())
 }
+
+/// Four leaves in a height-balanced tree all stand two below the root.
+#[test]
+fn a_built_shape_is_read_in_order(rt: HostRuntime) -> Result<(), Fail> {
+    let shape = Shape::build(rt.alloc(), 4)?;
+    assert_eq!(rt; shape.len(), 4);
+    assert_eq!(rt; shape.height(), 2);
+    assert_eq!(rt; leaf(&shape, 0), Some(0));
+    assert_eq!(rt; leaf(&shape, 1), Some(1));
+    assert_eq!(rt; leaf(&shape, 2), Some(2));
+    assert_eq!(rt; leaf(&shape, 3), Some(3));
+    Ok(())
+}
+
+fn above(shape: &Shape, at: u32, dirty: &mut Dirty) -> bool {
+    if at < shape.len() {
+        shape.touch(at, dirty);
+        true
+    } else {
+        false
+    }
+}
+
+#[test]
+fn the_nodes_above_a_leaf_are_listed(rt: HostRuntime) -> Result<(), Fail> {
+    let mut dirty = Dirty::new();
+    let shape = Shape::build(rt.alloc(), 4)?;
+    assert!(rt; above(&shape, 2, &mut dirty));
+    assert_eq!(rt; dirty.len(), 2);
+    if let (Some(low), Some(top)) = (dirty.get(0), dirty.get(1)) {
+        assert!(rt; matches!((low.left, low.right), (Child::Leaf(2), Child::Leaf(3))));
+        assert!(rt; is_inner(top.right, low.node));
+        assert!(rt; is_inner(top_of(&shape), top.node));
+    }
+    Ok(())
+}
+
+fn is_inner(child: Child, node: u32) -> bool {
+    match child {
+        Child::Leaf(_) => false,
+        Child::Inner(number) => number == node,
+    }
+}
+
+fn top_of(shape: &Shape) -> Child {
+    match shape.root() {
+        None => Child::Leaf(0),
+        Some(child) => child,
+    }
+}
+
+/// Of five leaves in order the last two are the lowest, so without the first the root's two parts are turned.
+#[test]
+fn a_removal_turns_what_leans(rt: HostRuntime) -> Result<(), Fail> {
+    let mut dirty = Dirty::new();
+    let mut shape = Shape::build(rt.alloc(), 5)?;
+    assert_eq!(rt; shape.height(), 3);
+    assert_eq!(rt; cut(&mut shape, 0, &mut dirty), Some(0));
+    assert_eq!(rt; shape.height(), 2);
+    assert_eq!(rt; dirty.len(), 2);
+    if let (Some(low), Some(top)) = (dirty.get(0), dirty.get(1)) {
+        assert!(rt; matches!((low.left, low.right), (Child::Leaf(1), Child::Leaf(2))));
+        assert!(rt; is_inner(top.left, low.node));
+        assert!(rt; is_inner(top_of(&shape), top.node));
+    }
+    Ok(())
+}
+
+fn planned_cut(shape: &Shape, at: u32, dirty: &mut Dirty) -> Option<u32> {
+    if at < shape.len() {
+        Some(shape.plan_remove(at, dirty))
+    } else {
+        None
+    }
+}
+
+#[test]
+fn a_copy_is_left_as_it_was(rt: HostRuntime) -> Result<(), Fail> {
+    let mut dirty = Dirty::new();
+    let mut shape = Shape::build(rt.alloc(), 3)?;
+    let copy = shape.try_clone()?;
+    assert_eq!(rt; cut(&mut shape, 1, &mut dirty), Some(1));
+    assert_eq!(rt; leaf(&shape, 1), Some(2));
+    assert_eq!(rt; leaf(&copy, 1), Some(1));
+    assert_eq!(rt; planned_cut(&copy, 1, &mut dirty), Some(1));
+    assert_eq!(rt; leaf(&copy, 1), Some(1));
+    Ok(())
+}
+
+/// The children of the lowest inner node above a leaf.
+fn beside(shape: &Shape, at: u32, dirty: &mut Dirty) -> Option<(Child, Child)> {
+    if at >= shape.len() {
+        return None;
+    }
+    shape.touch(at, dirty);
+    match dirty.get(0) {
+        None => None,
+        Some(row) => Some(shape.children(row.node)),
+    }
+}
+
+#[test]
+fn room_is_made_for_one_leaf(rt: HostRuntime) -> Result<(), Fail> {
+    let mut dirty = Dirty::new();
+    let mut shape = Shape::new(rt.alloc());
+    assert!(rt; !shape.has_room());
+    four(&mut shape, &mut dirty)?;
+    shape.reserve_one()?;
+    assert!(rt; shape.has_room());
+    assert!(rt;
+        matches!(
+            beside(&shape, 3, &mut dirty),
+            Some((Child::Leaf(2), Child::Leaf(1)))
+        )
+    );
+    Ok(())
+}

@@ -29,7 +29,7 @@ pub lean-requires-clause-fits : goal.lean-requires-clause-fits
 lean-requires-clause-fits t c =
     let o = opened _ _ c.requires.0 c.row-node.result (sym c.in-Inner.is ∙ c.requires.1) c.requires.2 c.row-node.ensures in
     let told = c.grow-part.ensures o.left (left_is _ _ o.node_is) o.stands_left in
-    let high = c.height_of-high.ensures o.right (right_is _ _ o.node_is) o.stands_right in
+    let high = c.half_of-upper.ensures.high o.right (right_is _ _ o.node_is) o.stands_right in
     let up = ap height o.is in
     fits _ _ _ _ _ _ _ o.left o.right told.0 told.1 high (omega (arith, c.requires.4)) (omega (arith, c.requires.4))
 
@@ -37,10 +37,10 @@ pub lean-requires-clause-part : goal.lean-requires-clause-part
 lean-requires-clause-part t c =
     let o = opened _ _ c.requires.0 c.row-node.result (sym c.in-Inner.is ∙ c.requires.1) c.requires.2 c.row-node.ensures in
     let told = c.grow-part.ensures o.left (left_is _ _ o.node_is) o.stands_left in
-    (grown c.args.at c.args.new c.args.number o.left, c.args.dirty.now, o.right, record { pending = told.0; listed = told.1; named = right_is _ _ o.node_is; high = c.height_of-high.ensures o.right (right_is _ _ o.node_is) o.stands_right })
+    (grown c.args.at c.args.new c.args.number o.left, c.args.dirty.now, o.right, record { pending = told.0; listed = told.1; named = c.half_of-upper.ensures.part ∙ right_is _ _ o.node_is; high = c.half_of-upper.ensures.high o.right (right_is _ _ o.node_is) o.stands_right })
 
-pub height_of-high-requires-else-at-before : goal.height_of-high-requires-else-at-before
-height_of-high-requires-else-at-before t c =
+pub half_of-upper-requires-else-at-before : goal.half_of-upper-requires-else-at-before
+half_of-upper-requires-else-at-before t c =
     let o = opened _ _ c.requires.0 c.row-node.result (sym c.in-Inner.is ∙ c.requires.1) c.requires.2 c.row-node.ensures in
     (o.left, left_is _ _ o.node_is, o.stands_left)
 
@@ -48,7 +48,7 @@ pub lean-requires-else-at-before-clause-fits : goal.lean-requires-else-at-before
 lean-requires-else-at-before-clause-fits t c =
     let o = opened _ _ c.requires.0 c.row-node.result (sym c.in-Inner.is ∙ c.requires.1) c.requires.2 c.row-node.ensures in
     let told = c.grow-part-else-at-before.ensures o.right (right_is _ _ o.node_is) o.stands_right in
-    let high = c.height_of-high-else-at-before.ensures o.left (left_is _ _ o.node_is) o.stands_left in
+    let high = c.half_of-upper-else-at-before.ensures.high o.left (left_is _ _ o.node_is) o.stands_left in
     let up = ap height o.is in
     fits _ _ _ _ _ _ _ o.right o.left told.0 told.1 high (omega (arith, c.requires.4)) (omega (arith, c.requires.4))
 
@@ -56,14 +56,14 @@ pub lean-requires-else-at-before-clause-part : goal.lean-requires-else-at-before
 lean-requires-else-at-before-clause-part t c =
     let o = opened _ _ c.requires.0 c.row-node.result (sym c.in-Inner.is ∙ c.requires.1) c.requires.2 c.row-node.ensures in
     let told = c.grow-part-else-at-before.ensures o.right (right_is _ _ o.node_is) o.stands_right in
-    (grown (c.args.at - c.leaves_of-before.result) c.args.new c.args.number o.right, c.args.dirty.now, o.left, record { pending = told.0; listed = told.1; named = left_is _ _ o.node_is; high = c.height_of-high-else-at-before.ensures o.left (left_is _ _ o.node_is) o.stands_left })
+    (grown (c.args.at - c.leaves_of-before.result) c.args.new c.args.number o.right, c.args.dirty.now, o.left, record { pending = told.0; listed = told.1; named = c.half_of-upper-else-at-before.ensures.part ∙ left_is _ _ o.node_is; high = c.half_of-upper-else-at-before.ensures.high o.left (left_is _ _ o.node_is) o.stands_left })
 
 pub returns-else-at-before : goal.returns-else-at-before
 returns-else-at-before t c = λ u e s.
     let o = opened _ _ u c.row-node.result (sym c.in-Inner.is ∙ e) s c.row-node.ensures in
     let told = c.grow-part-else-at-before.ensures o.right (right_is _ _ o.node_is) o.stands_right in
-    let high = c.height_of-high-else-at-before.ensures o.left (left_is _ _ o.node_is) o.stands_left in
+    let high = c.half_of-upper-else-at-before.ensures.high o.left (left_is _ _ o.node_is) o.stands_left in
     let many = c.leaves_of-before.ensures o.left (left_is _ _ o.node_is) o.stands_left in
-    let l = c.lean-else-at-before.ensures (grown (c.args.at - c.leaves_of-before.result) c.args.new c.args.number o.right) c.args.dirty.now o.left (record { pending = told.0; listed = told.1; named = left_is _ _ o.node_is; high = high }) in
+    let l = c.lean-else-at-before.ensures (grown (c.args.at - c.leaves_of-before.result) c.args.new c.args.number o.right) c.args.dirty.now o.left (record { pending = told.0; listed = told.1; named = c.half_of-upper-else-at-before.ensures.part ∙ left_is _ _ o.node_is; high = high }) in
     let past : nat_le c.args.at (count o.left) ≡ false = lt-leb _ _ (omega arith) in
-    rw (o.is, past, ← many) l
+    rw (o.is, past, ← many) (rw (c.half_of-upper-else-at-before.ensures.side, c.half_of-upper-else-at-before.ensures.node) at l)

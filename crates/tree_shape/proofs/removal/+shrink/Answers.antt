@@ -91,4 +91,4 @@ returns-in-Inner-right t c = λ u e s.
     let at = c.args.at - c.leaves_of-before.result in
     let past : nat_lt c.args.at (count o.left) ≡ false = le-ltb _ _ (omega arith) in
     let l = c.sink-in-Inner-right.ensures (shrunk at o.right) c.args.dirty.now o.left (record { child = told.0.0; high = told.0.1; listed = told.1; named = left; stands = o.stands_left }) in
-    rw (o.is, past, ← many, sunk_below Right c.in-Inner.n o.right (shrunk at o.right) o.left c.in-Inner-right.field-0 (sym c.in-Inner-right.is ∙ right)) l
+    rw (o.is, past, ← many, sunk_below Right c.in-Inner.inner o.right (shrunk at o.right) o.left c.in-Inner-right.field-0 (sym c.in-Inner-right.is ∙ right)) l

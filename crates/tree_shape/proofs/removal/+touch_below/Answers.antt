@@ -1,7 +1,7 @@
 use Rattle.std.proofs.Common.{◌≡◌, ℕ, ◌+◌, ◌*◌, ◌<◌, ◌≤◌, List, ◌++◌, arith, sym, ◌∙◌, ap, length, length-append}
 use Rattle.tree_shape.specs.declared.node.Node.{Node}
 use Rattle.tree_shape.specs.declared.dirty.DirtyRow.{DirtyRow}
-use Rattle.tree_shape.specs.Tree.{Tree, height, count}
+use Rattle.tree_shape.specs.Tree.{Tree, inner, height, count}
 use Rattle.tree_shape.specs.Plan.{rows}
 use Rattle.tree_shape.specs.Removal.{touched}
 use Rattle.tree_shape.proofs.Standing.{opened, stored}
@@ -12,10 +12,16 @@ use Rattle.tree_shape.proofs.removal.+touch_below.Goals as goal
 room : (before dirty : List DirtyRow) (at : ℕ) (t : Tree) (h : ℕ) → dirty ≡ before ++ rows (touched at t) → height t < h → length before + 1 * h ≤ 72 → length dirty < 72
 room before dirty at t h e low fits = omega (arith, ap length e, length-append before (rows (touched at t)), rows_most at t)
 
+left_lower : {n : ℕ} {t l r : Tree} → t ≡ inner n l r → height l < height t
+left_lower e = omega (arith, ap height e)
+
+right_lower : {n : ℕ} {t l r : Tree} → t ≡ inner n l r → height r < height t
+right_lower e = omega (arith, ap height e)
+
 pub push-requires : goal.push-requires
 push-requires t c =
     let o = opened _ _ c.requires.0 c.row-node.result (sym c.in-Inner.is ∙ c.requires.1) c.requires.2 c.row-node.ensures in
-    room _ _ c.args.at o.left (height c.requires.0) (c.touch_below.ensures o.left (ap (λ (v : Node). v.left) o.node_is) o.stands_left) (omega (arith, ap height o.is)) c.requires.4
+    room _ _ c.args.at o.left (height c.requires.0) (c.touch_below.ensures o.left (ap (λ (v : Node). v.left) o.node_is) o.stands_left) (left_lower o.is) c.requires.4
 
 pub touch_below-requires-else-at-before : goal.touch_below-requires-else-at-before
 touch_below-requires-else-at-before t c =
@@ -31,4 +37,4 @@ touch_below-requires-else-at-before t c =
 pub push-requires-else-at-before : goal.push-requires-else-at-before
 push-requires-else-at-before t c =
     let o = opened _ _ c.requires.0 c.row-node.result (sym c.in-Inner.is ∙ c.requires.1) c.requires.2 c.row-node.ensures in
-    room _ _ _ o.right (height c.requires.0) (c.touch_below-else-at-before.ensures o.right (ap (λ (v : Node). v.right) o.node_is) o.stands_right) (omega (arith, ap height o.is)) c.requires.4
+    room _ _ _ o.right (height c.requires.0) (c.touch_below-else-at-before.ensures o.right (ap (λ (v : Node). v.right) o.node_is) o.stands_right) (right_lower o.is) c.requires.4

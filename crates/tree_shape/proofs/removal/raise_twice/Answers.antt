@@ -8,15 +8,15 @@ use Rattle.tree_shape.proofs.removal.raise_twice.Goals as goal
 
 pub returns : goal.returns
 returns c = λ p before bt ot r.
-    let v = opened_on _ c.args.side _ bt c.row-node.result r.named r.stands c.row-node.ensures in
+    let v = opened_on _ c.args.side _ bt c.row-split.result r.named r.stands c.row-split.ensures in
     let e = beside c.args.side v.left v.right in
     let g = outer c.args.side v.left v.right in
-    let eb = c.beside_of-e.ensures ∙ v.beside_is in
-    let og = c.outer_of-g.ensures ∙ v.outer_is in
-    let he = c.height_of-e_height.ensures e eb v.stands_beside in
-    let hg = c.height_of-g_height.ensures g og v.stands_outer in
-    let low = inner_on c.args.side c.args.m (erase p) e in
-    let side_node = inner_on c.args.side c.args.k g ot in
-    let list : c.push-3.new.self ≡ (((before ++ rows p) ++ dirty_row c.args.side c.args.m (name (erase p)) (name e) ∷ []) ++ dirty_row c.args.side c.args.k (name g) (name ot) ∷ []) ++ dirty_row c.args.side c.args.q (name low) (name side_node) ∷ [] =
-    c.push-3.ensures ∙ cc (c.push-2.ensures, c.push.ensures, c.row_on.ensures, c.row_on-2.ensures, c.row_on-3.ensures, r.listed, r.child, eb, og, r.named_outer, name_inner_on c.args.side c.args.m (erase p) e, name_inner_on c.args.side c.args.k g ot) in
-    rw v.is ((sym (name_inner_on c.args.side c.args.q low side_node), omega (arith, he, hg, height_inner_on c.args.side c.args.q low side_node, height_inner_on c.args.side c.args.m (erase p) e, height_inner_on c.args.side c.args.k g ot, r.high, r.high_outer)), list ∙ simp (append_assoc, append-nil))
+    let eb = c.beside_of.ensures ∙ v.beside_is in
+    let og = c.outer_of.ensures ∙ v.outer_is in
+    let he = c.part_of-first.ensures.high e eb v.stands_beside in
+    let hg = c.part_of-second.ensures.high g og v.stands_outer in
+    let low = inner_on c.args.side c.args.node (erase p) e in
+    let side_node = inner_on c.args.side c.args.far g ot in
+    let list : c.push-3.new.self ≡ (((before ++ rows p) ++ dirty_row c.args.side c.args.node (name (erase p)) (name e) ∷ []) ++ dirty_row c.args.side c.args.far (name g) (name ot) ∷ []) ++ dirty_row c.args.side c.args.lower (name low) (name side_node) ∷ [] =
+    c.push-3.ensures ∙ cc (c.push-2.ensures, c.push.ensures, c.row_on.ensures, c.row_on-2.ensures, c.row_on-3.ensures, r.listed, r.child, c.part_of-first.ensures.child, c.part_of-second.ensures.child, eb, og, r.named_outer, name_inner_on c.args.side c.args.node (erase p) e, name_inner_on c.args.side c.args.far g ot) in
+    rw v.is ((sym (name_inner_on c.args.side c.args.lower low side_node), omega (arith, he, hg, height_inner_on c.args.side c.args.lower low side_node, height_inner_on c.args.side c.args.node (erase p) e, height_inner_on c.args.side c.args.far g ot, r.high, r.high_outer)), list ∙ simp (append_assoc, append-nil))

@@ -8,7 +8,7 @@ use Rattle.tree_shape.proofs.removal.sink.Goals.{in-Inner+else-far_height-part, 
 pub returns-then-far_height-part : goal.returns-then-far_height-part
 returns-then-far_height-part c = λ p before f l.
     let hf = c.height_of-far_height.ensures f l.named l.stands in
-    rw (sunk_raised c.args.side c.args.m p f (omega (arith, l.high)))
+    rw (sunk_raised c.args.side c.args.node p f (omega (arith, l.high)))
     (c.raise.ensures p before f (record { child = l.child; high = l.high; listed = l.listed; named = sym c.in-Inner.is ∙ l.named; stands = l.stands }))
 
 pub returns : goal.returns
@@ -19,5 +19,5 @@ returns c = λ p before f l.
       | in-Inner+else-far_height-part w ↦ omega (arith, l.high)
       | in_default w ↦ omega (arith, no_inner f (λ k e. w.in_default.not-Inner k (l.named ∙ e)))
     ] in
-    rw (sunk_over c.args.side c.args.m p f low)
+    rw (sunk_over c.args.side c.args.node p f low)
     (c.set_above.ensures c.args.nodes.now p before f (record { child = l.child; high = l.high; listed = l.listed; named = same ∙ l.named; stands = l.stands }) hf)

@@ -6,7 +6,7 @@ use Rattle.tree_shape.specs.Numbers.{NumbersView, numbers_of, next_number}
 use Rattle.tree_shape.specs.View.{ShapeView, IsShape, IsSound, count_of}
 use Rattle.tree_shape.proofs.Counting.{next_place}
 use Rattle.tree_shape.proofs.Reading.{rooted, sound_read, leaves_with}
-use Rattle.tree_shape.proofs.Shapes.{rooms, taken_drawn, shape_at, shape_first, shape_grown, next_free, counted_inners}
+use Rattle.tree_shape.proofs.Shapes.{rooms, taken_drawn, shape_at, shape_first, shape_grown, next_free, counted_inners, listing_put, few_put}
 use Rattle.tree_shape.proofs.shape.Shape.insert.Goals as goal
 
 pub invariant_of-self : goal.invariant_of-self
@@ -90,3 +90,58 @@ returns-in-Some-clause-listed c =
     let fresh_leaf : c.args.self.now.leaf_numbers ≡ numbers_of c.self.inside.leaves = ap (λ (v : ShapeView). v.leaf_numbers) (sym c.self.view_is) in
     let fresh_inner : c.args.self.now.inner_numbers ≡ numbers_of c.self.inside.inners = ap (λ (v : ShapeView). v.inner_numbers) (sym c.self.view_is) in
     rw (seen, fresh_leaf, fresh_inner, ← c.draw-new.ensures.number, ← c.draw-number.ensures.number) (c.put.ensures.listed r.t r.sound)
+
+pub returns-in-Some-clause-children : goal.returns-in-Some-clause-children
+returns-in-Some-clause-children c =
+    let r = rooted _ _ c.in-Some.child c.in-Some.is c.self.invariant.0.sound in
+    let seen : c.args.self.now.tree ≡ Some r.t = ap (λ (v : ShapeView). v.tree) (sym c.self.view_is) ∙ r.seen in
+    let shape = shape_at c.self.inside.nodes.items c.self.inside.root c.in-Some.child (numbers_of c.self.inside.leaves) (numbers_of c.self.inside.inners) c.in-Some.is c.self.invariant.0 in
+    let place = subst (λ v. c.args.at ≤ count_of v) seen c.requires.place in
+    let few = subst (λ v. count_of v < 65536) seen c.requires.few in
+    let free : times c.draw-number.result r.t ≡ 0 = rw c.draw-number.ensures.number (next_free _ _ r.t _ _ shape r.sound) in
+    let after = c.put.ensures.sound r.t r.sound place few free in
+    (listing_put _ _ r.t c.args.at c.draw-new.result c.draw-number.result c.args.self.now.tree c.put.new.dirty after seen (c.put.ensures.listed r.t r.sound)).children
+
+pub returns-in-Some-clause-others : goal.returns-in-Some-clause-others
+returns-in-Some-clause-others c =
+    let r = rooted _ _ c.in-Some.child c.in-Some.is c.self.invariant.0.sound in
+    let seen : c.args.self.now.tree ≡ Some r.t = ap (λ (v : ShapeView). v.tree) (sym c.self.view_is) ∙ r.seen in
+    let shape = shape_at c.self.inside.nodes.items c.self.inside.root c.in-Some.child (numbers_of c.self.inside.leaves) (numbers_of c.self.inside.inners) c.in-Some.is c.self.invariant.0 in
+    let place = subst (λ v. c.args.at ≤ count_of v) seen c.requires.place in
+    let few = subst (λ v. count_of v < 65536) seen c.requires.few in
+    let free : times c.draw-number.result r.t ≡ 0 = rw c.draw-number.ensures.number (next_free _ _ r.t _ _ shape r.sound) in
+    let after = c.put.ensures.sound r.t r.sound place few free in
+    (listing_put _ _ r.t c.args.at c.draw-new.result c.draw-number.result c.args.self.now.tree c.put.new.dirty after seen (c.put.ensures.listed r.t r.sound)).others
+
+pub returns-in-Some-clause-ordered : goal.returns-in-Some-clause-ordered
+returns-in-Some-clause-ordered c =
+    let r = rooted _ _ c.in-Some.child c.in-Some.is c.self.invariant.0.sound in
+    let seen : c.args.self.now.tree ≡ Some r.t = ap (λ (v : ShapeView). v.tree) (sym c.self.view_is) ∙ r.seen in
+    let shape = shape_at c.self.inside.nodes.items c.self.inside.root c.in-Some.child (numbers_of c.self.inside.leaves) (numbers_of c.self.inside.inners) c.in-Some.is c.self.invariant.0 in
+    let place = subst (λ v. c.args.at ≤ count_of v) seen c.requires.place in
+    let few = subst (λ v. count_of v < 65536) seen c.requires.few in
+    let free : times c.draw-number.result r.t ≡ 0 = rw c.draw-number.ensures.number (next_free _ _ r.t _ _ shape r.sound) in
+    let after = c.put.ensures.sound r.t r.sound place few free in
+    (listing_put _ _ r.t c.args.at c.draw-new.result c.draw-number.result c.args.self.now.tree c.put.new.dirty after seen (c.put.ensures.listed r.t r.sound)).ordered
+
+pub returns-in-Some-clause-once : goal.returns-in-Some-clause-once
+returns-in-Some-clause-once c =
+    let r = rooted _ _ c.in-Some.child c.in-Some.is c.self.invariant.0.sound in
+    let seen : c.args.self.now.tree ≡ Some r.t = ap (λ (v : ShapeView). v.tree) (sym c.self.view_is) ∙ r.seen in
+    let shape = shape_at c.self.inside.nodes.items c.self.inside.root c.in-Some.child (numbers_of c.self.inside.leaves) (numbers_of c.self.inside.inners) c.in-Some.is c.self.invariant.0 in
+    let place = subst (λ v. c.args.at ≤ count_of v) seen c.requires.place in
+    let few = subst (λ v. count_of v < 65536) seen c.requires.few in
+    let free : times c.draw-number.result r.t ≡ 0 = rw c.draw-number.ensures.number (next_free _ _ r.t _ _ shape r.sound) in
+    let after = c.put.ensures.sound r.t r.sound place few free in
+    (listing_put _ _ r.t c.args.at c.draw-new.result c.draw-number.result c.args.self.now.tree c.put.new.dirty after seen (c.put.ensures.listed r.t r.sound)).once
+
+pub returns-in-Some-clause-few : goal.returns-in-Some-clause-few
+returns-in-Some-clause-few c =
+    let r = rooted _ _ c.in-Some.child c.in-Some.is c.self.invariant.0.sound in
+    let seen : c.args.self.now.tree ≡ Some r.t = ap (λ (v : ShapeView). v.tree) (sym c.self.view_is) ∙ r.seen in
+    let shape = shape_at c.self.inside.nodes.items c.self.inside.root c.in-Some.child (numbers_of c.self.inside.leaves) (numbers_of c.self.inside.inners) c.in-Some.is c.self.invariant.0 in
+    let place = subst (λ v. c.args.at ≤ count_of v) seen c.requires.place in
+    let few = subst (λ v. count_of v < 65536) seen c.requires.few in
+    let free : times c.draw-number.result r.t ≡ 0 = rw c.draw-number.ensures.number (next_free _ _ r.t _ _ shape r.sound) in
+    let after = c.put.ensures.sound r.t r.sound place few free in
+    few_put _ _ r.t c.args.at c.draw-new.result c.draw-number.result c.put.new.dirty after r.sound.balanced (c.put.ensures.listed r.t r.sound)

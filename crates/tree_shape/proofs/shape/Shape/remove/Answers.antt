@@ -6,7 +6,7 @@ use Rattle.tree_shape.specs.View.{ShapeView, count_of}
 use Rattle.tree_shape.proofs.Reading.{rooted, sound_read}
 use Rattle.tree_shape.proofs.Shapes.{shape_at, shape_shrunk, shape_emptied}
 use Rattle.tree_shape.proofs.Shrinking.{leaves_shrunk}
-use Rattle.tree_shape.proofs.Shapes.{inside, leaf_room, inner_room, tree_without_inner, inners_without_inner}
+use Rattle.tree_shape.proofs.Shapes.{inside, leaf_room, inner_room, tree_without_inner, inners_without_inner, listing_taken, few_taken}
 use Rattle.tree_shape.proofs.shape.Shape.remove.Goals as goal
 
 pub invariant_of-self : goal.invariant_of-self
@@ -155,3 +155,43 @@ returns-in-Inner-clause-listed c =
     let within = inside c.in-Inner.top r.t r.sound.named in
     let shape = shape_at c.self.inside.nodes.items c.self.inside.root (Inner c.in-Inner.top) (numbers_of c.self.inside.leaves) (numbers_of c.self.inside.inners) top c.self.invariant.0 in
     rw seen (c.take.ensures.listed r.t r.sound)
+
+pub returns-in-Inner-clause-children : goal.returns-in-Inner-clause-children
+returns-in-Inner-clause-children c =
+    let top : c.self.inside.root ≡ Some (Inner c.in-Inner.top) = c.in-Some.is ∙ ap (λ v. Some v) c.in-Inner.is in
+    let r = rooted _ _ (Inner c.in-Inner.top) top c.self.invariant.0.sound in
+    let seen : c.args.self.now.tree ≡ Some r.t = ap (λ (v : ShapeView). v.tree) (sym c.self.view_is) ∙ r.seen in
+    let place : c.args.at < count r.t = subst (λ v. c.args.at < count_of v) seen c.requires in
+    (listing_taken _ _ r.t c.args.at c.args.self.now.tree c.take.new.dirty (c.take.ensures.sound r.t r.sound place) seen (c.take.ensures.listed r.t r.sound)).children
+
+pub returns-in-Inner-clause-others : goal.returns-in-Inner-clause-others
+returns-in-Inner-clause-others c =
+    let top : c.self.inside.root ≡ Some (Inner c.in-Inner.top) = c.in-Some.is ∙ ap (λ v. Some v) c.in-Inner.is in
+    let r = rooted _ _ (Inner c.in-Inner.top) top c.self.invariant.0.sound in
+    let seen : c.args.self.now.tree ≡ Some r.t = ap (λ (v : ShapeView). v.tree) (sym c.self.view_is) ∙ r.seen in
+    let place : c.args.at < count r.t = subst (λ v. c.args.at < count_of v) seen c.requires in
+    (listing_taken _ _ r.t c.args.at c.args.self.now.tree c.take.new.dirty (c.take.ensures.sound r.t r.sound place) seen (c.take.ensures.listed r.t r.sound)).others
+
+pub returns-in-Inner-clause-ordered : goal.returns-in-Inner-clause-ordered
+returns-in-Inner-clause-ordered c =
+    let top : c.self.inside.root ≡ Some (Inner c.in-Inner.top) = c.in-Some.is ∙ ap (λ v. Some v) c.in-Inner.is in
+    let r = rooted _ _ (Inner c.in-Inner.top) top c.self.invariant.0.sound in
+    let seen : c.args.self.now.tree ≡ Some r.t = ap (λ (v : ShapeView). v.tree) (sym c.self.view_is) ∙ r.seen in
+    let place : c.args.at < count r.t = subst (λ v. c.args.at < count_of v) seen c.requires in
+    (listing_taken _ _ r.t c.args.at c.args.self.now.tree c.take.new.dirty (c.take.ensures.sound r.t r.sound place) seen (c.take.ensures.listed r.t r.sound)).ordered
+
+pub returns-in-Inner-clause-once : goal.returns-in-Inner-clause-once
+returns-in-Inner-clause-once c =
+    let top : c.self.inside.root ≡ Some (Inner c.in-Inner.top) = c.in-Some.is ∙ ap (λ v. Some v) c.in-Inner.is in
+    let r = rooted _ _ (Inner c.in-Inner.top) top c.self.invariant.0.sound in
+    let seen : c.args.self.now.tree ≡ Some r.t = ap (λ (v : ShapeView). v.tree) (sym c.self.view_is) ∙ r.seen in
+    let place : c.args.at < count r.t = subst (λ v. c.args.at < count_of v) seen c.requires in
+    (listing_taken _ _ r.t c.args.at c.args.self.now.tree c.take.new.dirty (c.take.ensures.sound r.t r.sound place) seen (c.take.ensures.listed r.t r.sound)).once
+
+pub returns-in-Inner-clause-few : goal.returns-in-Inner-clause-few
+returns-in-Inner-clause-few c =
+    let top : c.self.inside.root ≡ Some (Inner c.in-Inner.top) = c.in-Some.is ∙ ap (λ v. Some v) c.in-Inner.is in
+    let r = rooted _ _ (Inner c.in-Inner.top) top c.self.invariant.0.sound in
+    let seen : c.args.self.now.tree ≡ Some r.t = ap (λ (v : ShapeView). v.tree) (sym c.self.view_is) ∙ r.seen in
+    let place : c.args.at < count r.t = subst (λ v. c.args.at < count_of v) seen c.requires in
+    few_taken r.t c.args.at c.args.self.now.tree c.take.new.dirty r.sound.balanced seen (c.take.ensures.listed r.t r.sound)

@@ -1,0 +1,6 @@
+use Rattle.std.proofs.Common.{Some, sym, ◌∙◌}
+use Rattle.tree_shape.proofs.Listing.{listed_inner}
+use Rattle.tree_shape.proofs.tests.beside.Goals as goal
+
+pub children-requires : goal.children-requires
+children-requires c = listed_inner _ _ 0 _ c.touch.ensures.children (sym c.get.ensures ∙ c.in-Some.is)
