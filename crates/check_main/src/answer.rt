@@ -15,7 +15,7 @@ use crate::plan::Plan;
 use command_words::Command;
 use knit_base::{Lines, NoMemory};
 use knitout_reader::{Head, HeadFault, read_head};
-use knitout_writer::write_text;
+use knitout_writer::canonical_text;
 use line_cutter::{CutFault, cut_buffer};
 use machine_profile::Chosen;
 use std::alloc::Global;
@@ -72,7 +72,7 @@ fn answer_command(alloc: Global, plan: &Plan, lines: &Lines, head: &Head) -> Res
     let chosen = &plan.chosen;
     match plan.command {
         Command::Check { loops, json } => check(alloc, Style { loops, json }, chosen, lines, head),
-        Command::Text => canonical_text(alloc, chosen, lines, head),
+        Command::Text => normalise(alloc, chosen, lines, head),
         Command::Passes | Command::Live | Command::Make { .. } => unreachable!(),
     }
 }
@@ -98,20 +98,14 @@ fn check(
 }
 
 // The canonical text of a file with these lines and this head.
-fn canonical_text(
-    alloc: Global,
-    chosen: &Chosen,
-    lines: &Lines,
-    head: &Head,
-) -> Result<Reply, NoMemory>
+fn normalise(alloc: Global, chosen: &Chosen, lines: &Lines, head: &Head) -> Result<Reply, NoMemory>
     requires good { All IsGoodLine lines.now }
     requires head { IsHead lines.now head.now }
     requires lawful { IsLawfulChosen chosen.now }
     ensures { IfOk result (λ reply. (input : List ℕ) → lines.now ≡ lines_of input
         → Due Command.Text chosen.now input reply.text.items reply.status) }
 {
-    let mut text = Vec::new(alloc);
-    write_text(alloc, lines, head, &chosen.profile, &mut text)?;
+    let text = canonical_text(alloc, lines, head, &chosen.profile)?;
     Ok(Reply {
         status: Status::Done,
         text,

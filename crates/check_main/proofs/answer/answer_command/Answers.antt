@@ -12,6 +12,6 @@ returns-in-Check c =
 
 pub returns-in-Text : goal.returns-in-Text
 returns-in-Text c =
-    IfOk-weaker c.canonical_text.result _ _
+    IfOk-weaker c.normalise.result _ _
     (λ reply due input are. due-for c.args.plan.now.command Text c.args.plan.now.chosen input reply.text.items reply.status c.in-Text.is (due input are))
-    c.canonical_text.ensures
+    c.normalise.ensures
