@@ -216,11 +216,23 @@ fn append_naming(word: &[u8], n: Needle, out: &mut Vec<u8>) -> Result<(), NoMemo
 fn append_needle_token(n: Needle, out: &mut Vec<u8>) -> Result<(), NoMemory>
     ensures { OnOk result (out.new.items ≡ out.old.items ++ 32 ∷ needle_text n) }
 {
-    append(bed_word(n.bed), out)?;
+    append_bed_token(n.bed, out)?;
     if n.at < 0 {
         out.push(b'-')?;
     }
     append_digits(n.at.unsigned_abs(), out)
+}
+
+// Appends a space and the letters of a bed.
+fn append_bed_token(bed: Bed, out: &mut Vec<u8>) -> Result<(), NoMemory>
+    ensures { OnOk result (out.new.items ≡ out.old.items ++ 32 ∷ bed_word bed) }
+{
+    match bed {
+        Bed::Front => append(b" f", out),
+        Bed::FrontSlider => append(b" fs", out),
+        Bed::Back => append(b" b", out),
+        Bed::BackSlider => append(b" bs", out),
+    }
 }
 
 fn append_digits(number: u16, out: &mut Vec<u8>) -> Result<(), NoMemory>
@@ -233,18 +245,6 @@ fn append_digits(number: u16, out: &mut Vec<u8>) -> Result<(), NoMemory>
     append_digits(number / 10, out)?;
     out.push(b'0' + (number % 10) as u8)?;
     Ok(())
-}
-
-// The letters of a bed, with a space before them.
-fn bed_word(bed: Bed) -> &'static [u8]
-    ensures { result.now ≡ 32 ∷ bed_word bed }
-{
-    match bed {
-        Bed::Front => b" f",
-        Bed::FrontSlider => b" fs",
-        Bed::Back => b" b",
-        Bed::BackSlider => b" bs",
-    }
 }
 
 // The word of a direction, with a space before it.
