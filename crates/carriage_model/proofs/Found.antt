@@ -1,5 +1,5 @@
 -- The loop of one line among those that a run makes.
-use Rattle.std.proofs.Common.{◌≡◌, ◌≢◌, ℕ, ◌+◌, ◌<◌, List, [], ◌∷◌, ◌++◌, drop, length, get_or, Option, None, Some, IfSome, is_some, cond, subst, append_assoc, append-nil, length-append, ◌≤◌, true, false, ap, sym, ◌∙◌, refl, arith}
+use Rattle.std.proofs.Common.{◌≡◌, ◌≢◌, ℕ, ◌+◌, ◌<◌, List, [], ◌∷◌, ◌++◌, drop, length, get_or, Option, None, Some, IfSome, is_some, cond, subst, ◌≤◌, true, false, ap, sym, ◌∙◌, refl, arith}
 use Rattle.std.specs.Option.{option_to_list}
 use Rattle.std.proofs.lemmas.Bool.{eq-eqb, ne_eqb, true≢false}
 use Rattle.knit_base.specs.declared.instr.Instr.TheVariants.{Knit, Tuck, Split}

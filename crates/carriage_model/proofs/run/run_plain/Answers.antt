@@ -2,11 +2,7 @@ use Rattle.std.proofs.Common.{◌≡◌, ◌∙◌, sym, ap, subst, length, take
 use Rattle.std.proofs.lemmas.List.{take_more, take_all}
 use Rattle.knit_base.specs.Lawful.{IsLawfulRead}
 use Rattle.knit_base.specs.declared.instr.Read.{Read}
-use Rattle.carriage_model.specs.State.{empty_state}
-use Rattle.carriage_model.specs.Run.{run}
-use Rattle.carriage_model.specs.Loops.{loops_made}
 use Rattle.carriage_model.specs.Carriage.{HasRun, TellsRun}
-use Rattle.carriage_model.specs.Verdict.{IsVerdict}
 use Rattle.carriage_model.proofs.Carriers.{names-declared}
 use Rattle.carriage_model.proofs.Needs.{lawful-item}
 use Rattle.carriage_model.proofs.run.run_plain.Goals as goal

@@ -1,6 +1,5 @@
-use Rattle.std.proofs.Common.{◌≡◌, ap, arith}
+use Rattle.std.proofs.Common.{arith}
 use Rattle.std.proofs.lemmas.Int.{ints}
-use Rattle.std.specs.Int.RustNames.{unsigned_abs}
 use Rattle.carriage_model.proofs.Places.{place-within}
 use Rattle.carriage_model.proofs.beds.Beds.place.Goals as goal
 

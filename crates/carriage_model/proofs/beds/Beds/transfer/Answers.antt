@@ -1,6 +1,5 @@
-use Rattle.std.proofs.Common.{◌≡◌, ◌<◌, ◌+◌, ◌++◌, [], List, ℕ, length, ap, sym, ◌∙◌, arith}
+use Rattle.std.proofs.Common.{length, ap, ◌∙◌, arith}
 use Rattle.carriage_model.specs.Beds.{Holds, loops_at}
-use Rattle.carriage_model.specs.State.{with_stack}
 use Rattle.carriage_model.proofs.Stacked.{exchange-transfers, moved-transfers, other_stack, still-on, nil_from_test}
 use Rattle.carriage_model.proofs.beds.Beds.transfer.Goals as goal
 

@@ -1,6 +1,5 @@
-use Rattle.std.proofs.Common.{◌≡◌, ◌∙◌, ℕ, sym, ap, refl, List, arith}
+use Rattle.std.proofs.Common.{◌∙◌, sym, refl, arith}
 use Rattle.std.proofs.lemmas.Result.{on_ok_weaker}
-use Rattle.knit_base.specs.declared.instr.Read.{Read}
 use Rattle.carriage_model.specs.Carriage.{HasRun}
 use Rattle.carriage_model.proofs.Carried.{InState, standing, run-sound, run-broken, run-stopped, told-few, made-few}
 use Rattle.carriage_model.proofs.Found.{none_from_test}
