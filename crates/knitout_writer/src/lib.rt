@@ -9,7 +9,7 @@ mod line;
 mod text;
 
 pub use line::write_line;
-pub use text::write_text;
+pub use text::{canonical_text, write_text};
 
 #[cfg(test)]
 mod tests;
