@@ -46,8 +46,7 @@ pub fn next_token<'a>(code: &'a [u8]) -> Option<(&'a [u8], &'a [u8])>
 fn is_blank(byte: u8) -> bool
     ensures { result ≡ is_blank byte }
 {
-    // Most bytes of a token are greater than both.
-    byte <= b' ' && (byte == b' ' || byte == b'\t')
+    byte == b' ' || byte == b'\t'
 }
 
 // The blanks in front.

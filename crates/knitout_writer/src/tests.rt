@@ -2,7 +2,7 @@
 ghost use Rattle.std.specs.Prelude.{◌<◌, length, All, IfOk, IsTrue};
 ghost use Rattle.knit_base.specs.Lines.{IsLine};
 
-use crate::{write_line, write_text};
+use crate::{canonical_text, write_line, write_text};
 use knit_base::{Lines, NoMemory, Profile};
 use knitout_reader::{read_head, read_line};
 use std::alloc::Global;
@@ -55,9 +55,10 @@ fn lines_of(alloc: Global, texts: &[&str]) -> Result<Lines, NoMemory>
 fn is_text(alloc: Global, texts: &[&str], want: &[u8]) -> Option<bool> {
     let lines = lines_of(alloc, texts).ok()?;
     let head = read_head(alloc, &lines).ok()?;
+    let text = canonical_text(alloc, &lines, &head, &PROFILE).ok()?;
     let mut out = Vec::new(alloc);
     write_text(alloc, &lines, &head, &PROFILE, &mut out).ok()?;
-    Some(out.as_slice() == want)
+    Some(text.as_slice() == want && out.as_slice() == want)
 }
 
 // Whether a line of a file whose carriers are A and B has this canonical spelling.

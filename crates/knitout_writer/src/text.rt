@@ -105,8 +105,6 @@ fn append_body_line(
     requires { length line.now < 2 ^ 16 }
     ensures { OnOk result ((text : List ℕ) × IsCanonicalLine profile.now declared.now line.now text × (out.new.items ≡ out.old.items ++ text)) }
 {
-    match &read_line(alloc, line, profile, declared) {
-        Ok(read) => append_line(read, line.as_bytes(), declared, out),
-        Err(fault) => Err(*fault),
-    }
+    let read = read_line(alloc, line, profile, declared)?;
+    append_line(&read, line.as_bytes(), declared, out)
 }
