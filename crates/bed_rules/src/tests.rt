@@ -61,3 +61,21 @@ fn a_tuck_needs_room_for_one_more(rt: HostRuntime) -> Result<(), Fail> {
     }
     Ok(())
 }
+
+#[test]
+fn a_knit_without_carriers_drops_the_loops(rt: HostRuntime) -> Result<(), Fail> {
+    let knit = Instr::Knit(Dir::Right, FRONT, Yarns::new(rt.alloc()));
+    let contents = Symbols::new(rt.alloc());
+    let asked = ask(rt.alloc(), &knit, &PROFILE, &contents)?;
+    assert!(rt; asked.sizes.is_empty());
+    assert_eq!(rt; asked.makes, None);
+    assert_eq!(rt; asked.changed.len(), 1);
+    match asked.changed.get(0) {
+        Some((needle, segs)) => {
+            assert_eq!(rt; *needle, FRONT);
+            assert!(rt; segs.is_empty());
+        }
+        None => assert!(rt; false),
+    }
+    Ok(())
+}

@@ -1,5 +1,5 @@
 -- The loop that an instruction forms, by what the needles hold so far.
-use Rattle.std.proofs.Common.{ℕ, ◌+◌, List, [], ◌∷◌, None, Some, refl}
+use Rattle.std.proofs.Common.{ℕ, ◌+◌, List, [], ◌∷◌, refl}
 use Rattle.knit_base.specs.declared.instr.Instr.{Instr}
 use Rattle.knit_base.specs.declared.instr.Instr.TheVariants.{Knit, Tuck, Split}
 use Rattle.carriage_model.specs.Loops.{loop_of_instr}

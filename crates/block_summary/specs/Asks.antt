@@ -1,5 +1,5 @@
 -- What lines ask and change, told of the states in which they come.
-use Rattle.std.specs.Prelude.{◌≡◌, ℕ, ◌+◌, List, [], Option, None, Some}
+use Rattle.std.specs.Prelude.{◌≡◌, ℕ, List, [], Option, None, Some}
 use Rattle.knit_base.specs.declared.instr.Instr.{Instr}
 use Rattle.knit_base.specs.declared.instr.Instr.TheVariants.{Tuck}
 use Rattle.knit_base.specs.declared.needle.Needle.{Needle}
