@@ -1,4 +1,4 @@
-use Rattle.std.proofs.Common.{Some, sym, ◌∙◌}
+use Rattle.std.proofs.Common.{sym, ◌∙◌}
 use Rattle.tree_shape.proofs.Listing.{listed_inner}
 use Rattle.tree_shape.proofs.tests.beside.Goals as goal
 
