@@ -247,3 +247,16 @@ fn each_instruction(rt: HostRuntime) -> Result<(), Fail> {
     assert_eq!(rt; other, None);
     Ok(())
 }
+
+const PARENTS: [Row; 1] = [(
+    "in 1\ntuck + f1 1\ntuck + f1 1\nsplit + f1 b1 1\n",
+    "sound lines 4 made 3 held 3 rack 0\nin: 1\nhook:\nf1: 6\nb1: 4 5\nloop 4 on f1 + with 1 through\nloop 5 on f1 + with 1 through\nloop 6 on f1 + with 1 through 4 5\n",
+)];
+
+#[test]
+fn parents_in_the_order_of_their_arrival(rt: HostRuntime) -> Result<(), Fail> {
+    let words = ["check", "--loops"];
+    let other = first_other(rt.alloc(), &words, &PARENTS, Status::Done)?;
+    assert_eq!(rt; other, None);
+    Ok(())
+}

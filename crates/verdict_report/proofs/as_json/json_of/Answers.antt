@@ -1,8 +1,7 @@
-use Rattle.std.proofs.Common.{rules, ◌≡◌, ◌∙◌, ◌≤◌, ◌++◌, length, map, string_bytes, ap, subst, sym, ℕ}
+use Rattle.std.proofs.Common.{◌≡◌, ◌∙◌, ◌≤◌, ◌++◌, length, map, string_bytes, ap, subst, sym, ℕ}
 use Rattle.std.specs.Option.{option_copied}
 use Rattle.json.specs.Print.{quoted}
 use Rattle.verdict_report.specs.JsonText.{json_line}
-use Rattle.verdict_report.specs.VerdictJson.{verdict_json}
 use Rattle.verdict_report.proofs.Written.{line_is}
 use Rattle.verdict_report.proofs.as_json.json_of.Goals as goal
 
