@@ -1,5 +1,5 @@
 -- What the program did, from what its parts did.
-use Rattle.std.proofs.Common.{◌≡◌, ◌⊎◌, ⊎_elim, inl, inr, refl, None, Some, ℕ, List}
+use Rattle.std.proofs.Common.{⊎_elim, inl, inr, refl, None, Some, ℕ, List}
 use Rattle.std.specs.Io.KnownBytes.{Keeps}
 use Rattle.std.specs.declared.option.Option.{Option}
 use Rattle.machine_profile.specs.declared.Chosen.{Chosen}

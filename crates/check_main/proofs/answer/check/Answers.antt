@@ -1,4 +1,4 @@
-use Rattle.std.proofs.Common.{◌≤◌, length, arith, subst}
+use Rattle.std.proofs.Common.{arith, subst}
 use Rattle.check_main.specs.Due.{Fits}
 use Rattle.std.proofs.lemmas.Result.{IfOk-weaker}
 use Rattle.check_main.proofs.Bodies.{head_len-le, body_len}

@@ -1,6 +1,6 @@
 use Rattle.std.proofs.Common.{◌≡◌, ◌+◌, ◌<◌, ◌≤◌, length, sym, arith}
 use Rattle.std.proofs.lemmas.Result.{IfOk-weaker}
-use Rattle.check_main.proofs.Bodies.{Carried, carried-more, carried-next, carried-count, carried-all, head_len-le}
+use Rattle.check_main.proofs.Bodies.{Carried, carried-more, carried-count, carried-all, head_len-le}
 use Rattle.check_main.proofs.judge.run_body.Goals as goal
 
 pub overflow_add-head : goal.overflow_add-head

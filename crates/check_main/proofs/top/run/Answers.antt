@@ -1,8 +1,8 @@
-use Rattle.std.proofs.Common.{◌≡◌, ◌⊎◌, ⊎_elim, ◌+◌, ◌≤◌, ◌<◌, length, refl, inl, inr, arith, sym, Err, ap, ◌∙◌, List, ℕ}
+use Rattle.std.proofs.Common.{◌≡◌, ⊎_elim, ◌+◌, ◌≤◌, ◌<◌, length, refl, inl, inr, arith, sym, Err, ap, ◌∙◌}
 use Rattle.std.proofs.lemmas.Bool.{cases_lt}
 use Rattle.knit_ports.specs.declared.limit.TheConstants.{INPUT_LIMIT}
 use Rattle.check_main.proofs.Calls.{keeps-same, ran-said, ran-responds}
-use Rattle.check_main.specs.Top.{Ran, unbuilt, whole, large, broke, unbuilt_text}
+use Rattle.check_main.specs.Top.{unbuilt, whole, large, broke, unbuilt_text}
 use Rattle.check_main.specs.declared.outcome.Status.TheVariants.{Unbuilt, ReadFault, TooLarge}
 use Rattle.check_main.proofs.top.run.Goals as goal
 

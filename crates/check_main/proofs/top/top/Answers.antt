@@ -1,4 +1,4 @@
-use Rattle.std.proofs.Common.{◌≡◌, ◌∙◌, ap, Err, refl}
+use Rattle.std.proofs.Common.{◌∙◌, ap, Err, refl}
 use Rattle.check_main.proofs.Calls.{ran-said}
 use Rattle.check_main.specs.Top.{usage}
 use Rattle.check_main.specs.declared.outcome.Status.TheVariants.{Usage}
