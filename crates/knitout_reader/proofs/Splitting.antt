@@ -3,7 +3,7 @@ use Rattle.std.proofs.Common.{◌≡◌, ℕ, ◌+◌, ◌-◌, ◌*◌, ◌<◌
 use Rattle.std.specs.List.{slice_split, onto_first, position_or_len, list_any}
 use Rattle.std.proofs.lemmas.List.{drop_all, length-take, get_or-drop, take_rest}
 use Rattle.std.proofs.lemmas.Bool.{cond-true, cond-false, lt-ltb, ltb-true, false≢true, cases_lt}
-use Rattle.std.proofs.lemmas.List.Elements.{All-head, All-tail}
+use Rattle.std.proofs.lemmas.List.Elements.{All-cons, All-head, All-nil, All-tail}
 use Rattle.std.proofs.lemmas.List.Folds.{list_any_at}
 use Rattle.std.proofs.lemmas.List.Quantifiers.{position-Some}
 use Rattle.std.proofs.lemmas.List.Splits.{slice_split-cons_yes, slice_split-cons_no, slice_split_none, slice_split_at, length-slice_split}
@@ -47,6 +47,12 @@ pub tokens_of-token : (token text : List ℕ) → 0 < length token → All Plain
     → tokens_of (token ++ text) ≡ token ∷ tokens_of text
 tokens_of-token token [] some are ends = ap tokens_of (append-nil token) ∙ tokens_of-last token some are
 tokens_of-token token (b ∷ text) some are ends = tokens_of-before token b text some are (ends (omega arith))
+
+-- a token with a space behind it
+pub tokens_of-spaced : (token text : List ℕ) → 0 < length token → All Plain token → tokens_of (token ++ 32 ∷ text) ≡ token ∷ tokens_of text
+tokens_of-spaced token text some are =
+    tokens_of-before token 32 text some are refl
+    ∙ ap (λ ts. token ∷ ts) (tokens_of-blanks (32 ∷ []) text (All-cons Blank 32 [] refl (All-nil Blank)))
 
 -- what the first token of a text is, and what stands behind it
 pub record IsFirstToken (code token behind : List ℕ) : Type 0 where

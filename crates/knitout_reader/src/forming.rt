@@ -4,6 +4,7 @@ ghost use Rattle.knitout_reader.specs.Carriers.{carrier_rule, carriers_of};
 ghost use Rattle.knitout_reader.specs.Numbers.{IsNear};
 ghost use Rattle.knitout_reader.specs.Operations.{forming_instr, forming_slider, forming_word};
 ghost use Rattle.knit_base.specs.Reasons.{or_else};
+ghost use Rattle.knit_base.specs.Spelling.{dir_word};
 ghost use Rattle.knitout_reader.specs.Reads.{ReadsTokens, needle_on, off_bed, reading_or, slider_form};
 ghost use Rattle.knitout_reader.specs.Tokens.{tokens_of};
 
@@ -30,6 +31,22 @@ pub(crate) fn read_forming(
     let Some((dir, operands)) = next_direction(code) else {
         return Ok(no_shape());
     };
+    read_formed(alloc, forming, dir, operands, profile, declared)
+}
+
+/// What `knit`, `tuck` or `miss` says with this direction and the operands behind it.
+#[inline(always)]
+pub(crate) fn read_formed(
+    alloc: Global,
+    forming: Forming,
+    dir: Dir,
+    operands: &[u8],
+    profile: &Profile,
+    declared: &Declared,
+) -> Result<Read, NoMemory>
+    requires { 3 + length (tokens_of operands.now) < 2 ^ 16 }
+    ensures { IfOk result (λ r. ReadsTokens profile.now declared.now (forming_word forming ∷ dir_word dir ∷ tokens_of operands.now) r) }
+{
     let Some((needle, names)) = next_needle(operands) else {
         return Ok(no_shape());
     };

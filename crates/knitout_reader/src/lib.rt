@@ -12,6 +12,7 @@ mod body;
 mod carriers;
 mod carrying;
 mod forming;
+mod front;
 mod head;
 #[cfg(test)]
 mod line_tests;

@@ -9,7 +9,8 @@ ghost use Rattle.knitout_reader.specs.Tokens.{tokens_of};
 
 use crate::answers::no_shape;
 use crate::carrying::read_carrying;
-use crate::forming::read_forming;
+use crate::forming::{read_formed, read_forming};
+use crate::front::usual_front;
 use crate::moving::{read_naming, read_split, read_xfer};
 use crate::racking::read_rack;
 use crate::tokens::{code_of, comment_at, next_token};
@@ -35,7 +36,11 @@ pub fn read_line(
     ensures lawful { IfOk result (λ r. IsLawfulRead profile.now (length declared.now) r) }
 {
     let bytes = line.as_bytes();
-    if let Some((word, operands)) = next_token(code_of(bytes)) {
+    let code = code_of(bytes);
+    if let Some((forming, dir, operands)) = usual_front(code) {
+        return read_formed(alloc, forming, dir, operands, profile, declared);
+    }
+    if let Some((word, operands)) = next_token(code) {
         return read_tokens(alloc, word, operands, profile, declared);
     }
     Ok(match comment_at(bytes) {
