@@ -98,9 +98,14 @@ fn limits_by_options(rt: HostRuntime) -> Result<(), Fail> {
 const HEADED: &[u8] =
     b";!knitout-2\r\n;;Machine: SWG091N2\r\n;;Gauge: 15\r\n;;Carriers: 1 2 3 4 5 6 7 8 9 10\r\n;;Position: Center\r\n\r\nx-stitch-number 60\r\nstitch 10 5\r\ninhook 6\r\ntuck - f3 6 ; cast on\r\ntuck - b2 6\r\ntuck - f1 6\r\nknit + f1 6\r\nknit + b2 6\r\nreleasehook 6\r\nknit + f3 6\r\nouthook 6";
 
+const HEADED_BY_LINE_FEEDS: &[u8] =
+    b";!knitout-2\n;;Machine: SWG091N2\n;;Gauge: 15\n;;Carriers: 1 2 3 4 5 6 7 8 9 10\n;;Position: Center\n\nx-stitch-number 60\nstitch 10 5\ninhook 6\ntuck - f3 6 ; cast on\ntuck - b2 6\ntuck - f1 6\nknit + f1 6\nknit + b2 6\nreleasehook 6\nknit + f3 6\nouthook 6\n";
+
 #[test]
 fn a_file_with_headers_and_carriage_returns(rt: HostRuntime) -> Result<(), Fail> {
     let verdict = "sound lines 11 made 6 held 3 rack 0\nin:\nhook:\nf1: 13\nf3: 16\nb2: 14\n";
+    let plain = said(rt.alloc(), &["check"], HEADED_BY_LINE_FEEDS)?;
+    assert!(rt; is(&plain, Status::Done, verdict));
     let said = said(rt.alloc(), &["check"], HEADED)?;
     assert!(rt; is(&said, Status::Done, verdict));
     Ok(())
