@@ -1,13 +1,12 @@
 -- The rule on sizes is a condition on the sizes of needles.
-use Rattle.std.proofs.Common.{◌≡◌, ℕ, ◌+◌, ◌-◌, ◌≤◌, not, nat_lt, nat_le, List, [], ◌∷◌, ◌++◌, length, Option, None, Some, refl, ap, ◌∙◌, arith}
+use Rattle.std.proofs.Common.{◌≡◌, ℕ, ◌+◌, ◌-◌, ◌≤◌, not, nat_lt, nat_le, List, [], ◌∷◌, ◌++◌, length, ap, ◌∙◌, arith}
 use Rattle.std.proofs.lemmas.List.Sums.{sum_by-cons}
 use Rattle.knit_base.specs.declared.needle.Needle.{Needle}
 use Rattle.knit_base.specs.declared.profile.Profile.{Profile}
-use Rattle.knit_base.specs.declared.rule.Reason.{Reason}
 use Rattle.knit_base.specs.declared.rule.Rule.TheVariants.{TooManyLoops}
 use Rattle.knit_base.specs.declared.yarns.CarrierNo.{CarrierNo}
 use Rattle.knit_base.proofs.Reasons.{or_else-none}
-use Rattle.knit_base.specs.Reasons.{broken_if, or_else}
+use Rattle.knit_base.specs.Reasons.{broken_if}
 use Rattle.carriage_model.specs.Rules.{too_many}
 use Rattle.carriage_model.specs.State.{State}
 use Rattle.face_data.specs.declared.sizes.SizeAsk.{SizeAsk}

@@ -1,9 +1,8 @@
 -- The first rule that an instruction breaks, group by group.
-use Rattle.std.proofs.Common.{◌≡◌, [], ◌∷◌, Option, None, Some, refl, sym, ap}
+use Rattle.std.proofs.Common.{◌≡◌, [], ◌∷◌, refl, sym, ap}
 use Rattle.knit_base.specs.declared.instr.Instr.{Instr}
 use Rattle.knit_base.specs.declared.instr.Instr.TheVariants.{CarryIn, CarryOut, HookIn, HookOut, ReleaseHook, Stitch, Pause, Extension, Rack, Knit, Tuck, Miss, Split, Xfer, Drop, Amiss}
 use Rattle.knit_base.specs.declared.profile.Profile.{Profile}
-use Rattle.knit_base.specs.declared.rule.Reason.{Reason}
 use Rattle.knit_base.proofs.Reasons.{or_else-none}
 use Rattle.knit_base.specs.Reasons.{or_else}
 use Rattle.carriage_model.specs.Rules.{broken_instr, carriers_in, carriers_out, carriers_hooked, hook_busy, hook_other, slider_holds}

@@ -1,6 +1,7 @@
 pub mod Bearings
 pub mod Conditions
 pub mod Goodness
+pub mod Kept
 pub mod RuleGroups
 pub mod Segments
 pub mod Sets

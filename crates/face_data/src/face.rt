@@ -1,5 +1,6 @@
 //! The lists of a face, and what stands in them.
-use knit_base::{CarrierNo, Fault, ListOf, Needle, Quarter, Reason};
+use crate::ShortList;
+use knit_base::{CarrierNo, Fault, Needle, Quarter, Reason};
 
 /// A piece of a stack: all loops that a needle held at the block's entry, or the loop that a line of the block makes. Lines
 /// are counted from 0, the block's first.
@@ -10,7 +11,7 @@ pub enum Seg {
 }
 
 /// Pieces of a stack, the oldest loops first.
-pub type Segs = ListOf<Seg>;
+pub type Segs = ShortList<Seg>;
 
 /// So many items of a list, from this place on.
 #[derive(Clone, Copy, Debug, PartialEq, Eq)]
@@ -33,7 +34,7 @@ pub enum Cond {
 }
 
 /// Conditions, each with the reason that is given where it fails. None of them is a `SizeAtMost`.
-pub type CondList = ListOf<(Reason, Cond)>;
+pub type CondList = ShortList<(Reason, Cond)>;
 
 /// A condition, and the fault where it fails. The fault's line is counted from 0, the block's first.
 #[derive(Clone, Copy, Debug, PartialEq, Eq)]

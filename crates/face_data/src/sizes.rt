@@ -4,9 +4,12 @@ ghost use Rattle.std.specs.Option.{option_copied};
 ghost use Rattle.face_data.specs.Segments.{entries_of, new_of, segs_or_own};
 ghost use Rattle.face_data.specs.Sizes.{IsSizeAsk};
 
-use crate::{Seg, Segs, Symbols};
-use knit_base::{ListOf, Needle, NeedleList, NoMemory, Reason};
+use crate::{Seg, Segs, ShortList, Symbols};
+use knit_base::{Needle, NoMemory, Reason};
 use std::alloc::Global;
+
+/// Needles, the first four of them kept in place: an instruction asks of few.
+pub type NeedleList = ShortList<Needle>;
 
 /// A condition on a block's entry: these needles hold together at most `max` loops then. A negative `max` can't be met. The
 /// reason is given where it fails.
@@ -18,7 +21,7 @@ pub struct SizeAsk {
 }
 
 /// Conditions on how many loops needles hold.
-pub type SizeAsks = ListOf<SizeAsk>;
+pub type SizeAsks = ShortList<SizeAsk>;
 
 /// The condition on the block's entry under which these needles hold together at most `most` loops now.
 pub fn ask_size(

@@ -6,14 +6,14 @@ ghost use Rattle.knit_base.specs.Needle.{same_needle};
 ghost use Rattle.face_data.specs.Goodness.{IsInOrder};
 ghost use Rattle.face_data.specs.Segments.{change_at};
 
-use crate::Segs;
-use knit_base::{ListOf, Needle, NoMemory};
+use crate::{Segs, ShortList};
+use knit_base::{Needle, NoMemory};
 use std::alloc::Global;
 use std::collections::BTreeMap;
 use std::marker::Model;
 
 /// Needles, each with the segments that it holds.
-pub type SymbolList = ListOf<(Needle, Segs)>;
+pub type SymbolList = ShortList<(Needle, Segs)>;
 
 /// The needles that were touched, in the order of needles, each with the segments that it holds. A needle that wasn't touched
 /// holds its own entry.

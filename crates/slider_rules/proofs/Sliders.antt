@@ -1,9 +1,7 @@
 -- The rule on sliders is a condition on the size of one needle.
-use Rattle.std.proofs.Common.{◌≡◌, ℕ, Bool, not, nat_lt, nat_le, List, [], ◌∷◌, length, Option, None, Some, refl, sym, ap, ◌∙◌, arith}
-use Rattle.std.specs.List.{sum_by}
+use Rattle.std.proofs.Common.{◌≡◌, ℕ, not, nat_lt, nat_le, [], ◌∷◌, length, ap, ◌∙◌, arith}
 use Rattle.std.proofs.lemmas.List.Sums.{sum_by-cons}
 use Rattle.knit_base.specs.declared.needle.Needle.{Needle}
-use Rattle.knit_base.specs.declared.rule.Reason.{Reason}
 use Rattle.knit_base.specs.declared.rule.Rule.TheVariants.{SliderHolds}
 use Rattle.knit_base.specs.Needle.{own_slider}
 use Rattle.knit_base.specs.Reasons.{broken_if}

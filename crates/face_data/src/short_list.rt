@@ -1,0 +1,89 @@
+//! Lists that are mostly short.
+ghost use Rattle.std.specs.Prelude.{◌≡◌, ◌==◌, ◌+◌, ◌<◌, ◌≤◌, ◌^◌, ◌-◌, [], ◌∷◌, ◌++◌, length, OnOk, OnErr, IsOk, slice_get};
+ghost use Rattle.std.specs.Option.{option_copied};
+
+use crate::kept::Kept;
+use knit_base::NoMemory;
+use std::alloc::Global;
+use std::marker::Model;
+
+/// A list that grows at its end, whose first four items lie in the value itself and take no other memory. It has fewer than
+/// 2 ^ 32 items, so that a `u32` counts them.
+#[derive(Drop)]
+pub struct ShortList<T> {
+    alloc: Global,
+    kept: Kept<T>,
+}
+
+impl<T> Model for ShortList<T> {
+    ghost use Rattle.std.specs.Prelude.{List, ◌<◌, ◌^◌, length};
+    ghost use Rattle.face_data.specs.Kept.{items_in, IsNear};
+
+    ghost Value = { List T };
+
+    ghost view = { λ l. items_in l.kept };
+
+    ghost invariant = { λ l. (length (items_in l.kept) < 2 ^ 32) × IsNear l.kept };
+}
+
+impl<T: Drop> ShortList<T> {
+    /// The empty list.
+    pub fn new(alloc: Global) -> Self
+        ensures { result ≡ [] }
+    {
+        ShortList {
+            alloc,
+            kept: Kept::Nothing,
+        }
+    }
+
+    /// Appends an item.
+    pub fn push(&mut self, item: T) -> Result<(), NoMemory>
+        requires { length self.old < 2 ^ 32 - 1 }
+        ensures ok { OnOk result (self.new ≡ self.old ++ item ∷ []) }
+        ensures err { OnErr result (self.new ≡ self.old) }
+        ensures in_place { length self.old < 4 → IsOk result }
+    {
+        let alloc = self.alloc;
+        self.kept.push(alloc, item)
+    }
+
+    pub fn len(&self) -> u32
+        ensures { result ≡ length self.now }
+    {
+        self.as_slice().len() as u32
+    }
+
+    pub fn is_empty(&self) -> bool
+        ensures { result ≡ (length self.now == 0) }
+    {
+        self.as_slice().is_empty()
+    }
+
+    /// The item at this place, from 0.
+    pub fn get(&self, i: u32) -> Option<&T>
+        ensures { option_copied result ≡ slice_get self.now i }
+    {
+        self.as_slice().get(i as usize)
+    }
+
+    pub fn as_slice(&self) -> &[T]
+        ensures items { result.now ≡ self.now }
+        ensures small { length self.now < 2 ^ 32 }
+    {
+        self.kept.as_slice()
+    }
+}
+
+impl<T: Copy + Drop> ShortList<T> {
+    /// Appends a copy of each item.
+    pub fn extend_from_slice(&mut self, more: &[T]) -> Result<(), NoMemory>
+        requires { length self.old + length more.now < 2 ^ 32 }
+        ensures ok { OnOk result (self.new ≡ self.old ++ more.now) }
+        ensures err { OnErr result (self.new ≡ self.old) }
+        ensures in_place { length self.old + length more.now ≤ 4 → IsOk result }
+    {
+        let alloc = self.alloc;
+        self.kept.extend_from_slice(alloc, more)
+    }
+}
