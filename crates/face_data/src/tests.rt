@@ -45,6 +45,23 @@ fn new_loops_take_room(rt: HostRuntime) -> Result<(), Fail> {
 }
 
 #[test]
+fn a_list_outgrows_its_places(rt: HostRuntime) -> Result<(), Fail> {
+    let mut segs = Segs::new(rt.alloc());
+    segs.extend_from_slice(&[Seg::New(0), Seg::New(1)])?;
+    segs.push(Seg::New(2))?;
+    segs.push(Seg::New(3))?;
+    assert_eq!(rt; segs.len(), 4);
+    segs.push(Seg::New(4))?;
+    segs.extend_from_slice(&[Seg::New(5)])?;
+    assert_eq!(rt; segs.len(), 6);
+    assert_eq!(rt; segs.get(0).copied(), Some(Seg::New(0)));
+    assert_eq!(rt; segs.get(3).copied(), Some(Seg::New(3)));
+    assert_eq!(rt; segs.get(5).copied(), Some(Seg::New(5)));
+    assert!(rt; segs.get(6).is_none());
+    Ok(())
+}
+
+#[test]
 fn a_transfer_forms_no_loop(rt: HostRuntime) -> Result<(), Fail> {
     let profile = Profile {
         low: 0,
