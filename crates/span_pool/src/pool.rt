@@ -1,5 +1,5 @@
 //! The pool: one shelf for each class.
-ghost use Rattle.std.specs.Prelude.{◌≡◌, ℕ, ◌<◌, ◌≤◌, ◌^◌, ◌↔◌, [], length, None, OnOk, OnErr, IfOk, IsErr, vec_len};
+ghost use Rattle.std.specs.Prelude.{◌≡◌, ℕ, ◌<◌, ◌≤◌, ◌^◌, ◌↔◌, [], length, None, OnOk, OnErr, IfOk, IsOk, IsErr, vec_len};
 ghost use Rattle.span_pool.specs.Class.{IsClassOf};
 ghost use Rattle.span_pool.specs.Pool.{PoolView, held, spare_of, Holds, IsOfPool, KeepsOthers, KeepsOtherClasses, KeepsSpare, OneFewer, OneMore, AreBare};
 
@@ -57,9 +57,25 @@ impl<T: Copy> Pool<T> {
         }
     }
 
-    /// Makes at least `n` spans of the class spare. A class has fewer than 2 to the power 32 spans; more of them are want of
-    /// memory.
+    /// Makes at least `n` spans of the class spare. Where so many are spare already, it takes no memory and is `Ok`. A class has
+    /// fewer than 2 to the power 32 spans; more of them are want of memory.
     pub fn reserve(&mut self, class: u8, n: u32) -> Result<(), NoMemory>
+        requires { class ≤ 62 }
+        ensures ok { OnOk result (n ≤ spare_of self.new class) }
+        ensures met { n ≤ spare_of self.old class → IsOk result }
+        ensures never_lower { spare_of self.old class ≤ spare_of self.new class }
+        ensures other_classes { KeepsOtherClasses self.old self.new class }
+        ensures spans { (number : ℕ) → held self.new number ≡ held self.old number }
+        ensures err { OnErr result (self.new ≡ self.old) }
+    {
+        if n <= self.spare(class) {
+            return Ok(());
+        }
+        self.add_spare(class, n)
+    }
+
+    // Reserves where fewer are spare. The first call makes a shelf for each class.
+    fn add_spare(&mut self, class: u8, n: u32) -> Result<(), NoMemory>
         requires { class ≤ 62 }
         ensures ok { OnOk result (n ≤ spare_of self.new class) }
         ensures never_lower { spare_of self.old class ≤ spare_of self.new class }

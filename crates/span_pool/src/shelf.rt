@@ -1,5 +1,5 @@
 //! The spans of one class.
-ghost use Rattle.std.specs.Prelude.{◌≡◌, ◌+◌, ◌-◌, ◌<◌, ◌≤◌, [], length, Option, Some, None, OnOk, OnErr, IsSome, IfSome, IsNone, vec_len, vec_capacity, ◌↔◌};
+ghost use Rattle.std.specs.Prelude.{◌≡◌, ◌+◌, ◌-◌, ◌<◌, ◌≤◌, [], length, Option, Some, None, OnOk, OnErr, IsOk, IsSome, IfSome, IsNone, vec_len, vec_capacity, ◌↔◌};
 ghost use Rattle.std.specs.List.{All};
 ghost use Rattle.span_pool.specs.Shelf.{ShelfView, list_at, Changes};
 
@@ -79,6 +79,7 @@ impl<T: Copy> Shelf<T> {
     /// Makes at least so many spans spare. A shelf has fewer than 2 to the power 32 spans; more of them are want of memory.
     pub fn reserve(&mut self, alloc: Global, n: u32) -> Result<(), NoMemory>
         ensures ok { OnOk result (n ≤ self.new.spare) }
+        ensures met { n ≤ self.old.spare → IsOk result }
         ensures kept { self.old.spare ≤ self.new.spare }
         ensures lists { self.new.lists ≡ self.old.lists }
         ensures room { self.new.room ≡ self.old.room }

@@ -2,7 +2,7 @@ use Rattle.std.proofs.Common.{◌≡◌, arith, refl, sym, ap, ◌∙◌, subst,
 use Rattle.std.proofs.lemmas.Bool.Decides.{nat_tests}
 use Rattle.span_pool.specs.Pool.{PoolView, held, spare_of}
 use Rattle.span_pool.proofs.Spans.{read_here, spare_past, bare_spare, bare_out, nothing_bare, spare_here, spare_others, spare_seen, same_held}
-use Rattle.span_pool.proofs.pool.Pool.reserve.Goals as goal
+use Rattle.span_pool.proofs.pool.Pool.add_spare.Goals as goal
 
 pub returns-then-is_empty-clause-ok : goal.returns-then-is_empty-clause-ok
 returns-then-is_empty-clause-ok g c =
