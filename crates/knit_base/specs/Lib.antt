@@ -5,4 +5,5 @@ pub mod Names
 pub mod Needle
 pub mod Reasons
 pub mod Spelling
+pub mod Usual
 pub mod Yarns

@@ -4,10 +4,11 @@
 //! bytes, `Lines` as a list of texts, `Yarns` and every other list type as a list, `Declared` as the list of its names.
 //! Definitions: `specs/Needle` (order, beds, sliders), `specs/Spelling` (how needles, racks and rules are written),
 //! `specs/Yarns` (sets of carriers as bits), `specs/Names` (look-up by name), `specs/Reasons` (which rule is broken first),
-//! `specs/Lines` (the lines of bytes) and `specs/Limits` (lawful profiles). Below it stand std, `indexmap`, `itoa` and
+//! `specs/Lines` (the lines of bytes), `specs/Usual` (what most lines say) and `specs/Limits` (lawful profiles). Below it stand std, `indexmap`, `itoa` and
 //! `smallvec`.
 #![tactic(auto)]
 
+mod block_text;
 mod declared;
 mod instr;
 mod lines;
@@ -22,8 +23,10 @@ mod steps;
 #[cfg(test)]
 mod tests;
 mod text;
+mod usual;
 mod yarns;
 
+pub use block_text::BlockText;
 pub use declared::{AddName, Declared};
 pub use instr::{Instr, Quarter, Read, Reads};
 pub use lines::{Lines, Span};
@@ -36,4 +39,5 @@ pub use setting::Setting;
 pub use spelling::{append_needle, append_number, append_rack};
 pub use steps::Steps;
 pub use text::Text;
+pub use usual::Usual;
 pub use yarns::{CarrierNo, Yarns};

@@ -1,5 +1,5 @@
 //! Lines of text, kept in one buffer.
-ghost use Rattle.std.specs.Prelude.{◌≡◌, ◌<◌, ◌≤◌, ◌^◌, [], ◌∷◌, ◌++◌, All, length, map, OnOk, OnErr, IfSome, slice_get};
+ghost use Rattle.std.specs.Prelude.{◌≡◌, ◌<◌, ◌≤◌, ◌^◌, [], ◌∷◌, ◌++◌, All, length, map, OnOk, OnErr, IfOk, IfSome, slice_get};
 ghost use Rattle.std.specs.Option.{option_copied};
 ghost use Rattle.knit_base.specs.Lines.{HasNoLineEnd, IsLine, IsWithin, piece};
 
@@ -86,5 +86,15 @@ impl Lines {
         let end = self.bytes.len();
         self.spans.push(Span { start, end })?;
         Ok(())
+    }
+
+    /// Equal lines.
+    pub fn try_clone(&self) -> Result<Self, NoMemory>
+        ensures { IfOk result (λ lines. lines ≡ self.now) }
+    {
+        Ok(Lines {
+            bytes: self.bytes.clone()?,
+            spans: self.spans.clone()?,
+        })
     }
 }
