@@ -9,6 +9,7 @@
 #![tactic(auto)]
 
 mod calm;
+mod count_gate;
 mod gate;
 mod limit;
 mod memory_sink;
@@ -19,6 +20,7 @@ mod whole;
 mod writer;
 
 pub use calm::CalmSource;
+pub use count_gate::CountGate;
 pub use gate::{Gate, IdleGate};
 pub use limit::INPUT_LIMIT;
 pub use memory_sink::MemorySink;

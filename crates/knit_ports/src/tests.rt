@@ -2,7 +2,7 @@
 ghost use Rattle.std.specs.Prelude.{◌<◌};
 
 use crate::{
-    CalmSource, Failed, Gate, IdleGate, InputFault, MemorySink, MemorySource, ReaderSource, Sink,
+    CalmSource, CountGate, Failed, Gate, IdleGate, InputFault, MemorySink, MemorySource, ReaderSource, Sink,
     Source, WriterSink, read_input, write_report,
 };
 use std::test::Fail;
@@ -92,4 +92,24 @@ fn an_idle_gate_holds_nobody(rt: HostRuntime) {
     let gate = IdleGate;
     gate.before(&rt, 0, 1);
     gate.after(&rt, 0, 1);
+}
+
+#[test]
+fn a_command_is_held_until_a_reply_is_in(rt: HostRuntime) {
+    let gate = CountGate::of((0, 1), (1, 0), 3);
+    gate.before(&rt, 0, 0);
+    gate.before(&rt, 1, 1);
+    assert!(rt; !gate.gave_up());
+    gate.after(&rt, 1, 0);
+    gate.before(&rt, 0, 1);
+    assert!(rt; !gate.gave_up());
+}
+
+#[test]
+fn a_gate_gives_up(rt: HostRuntime) {
+    let gate = CountGate::of((0, 1), (1, 0), 3);
+    gate.after(&rt, 0, 1);
+    gate.after(&rt, 1, 1);
+    gate.before(&rt, 0, 1);
+    assert!(rt; gate.gave_up());
 }
