@@ -1,2 +1,2 @@
-mod TooMany
-mod Stacks
+pub mod TooMany
+pub mod Stacks

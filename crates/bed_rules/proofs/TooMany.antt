@@ -1,5 +1,5 @@
 -- The rule on sizes is a condition on the sizes of needles.
-use Rattle.std.proofs.Common.{◌≡◌, ℕ, ◌+◌, ◌-◌, ◌≤◌, not, nat_lt, nat_le, List, [], ◌∷◌, ◌++◌, length, ap, ◌∙◌, arith}
+use Rattle.std.proofs.Common.{◌≡◌, ℕ, ◌+◌, ◌-◌, ◌≤◌, not, nat_lt, nat_le, List, [], ◌∷◌, ◌++◌, length, refl, ap, ◌∙◌, arith}
 use Rattle.std.proofs.lemmas.List.Sums.{sum_by-cons}
 use Rattle.knit_base.specs.declared.needle.Needle.{Needle}
 use Rattle.knit_base.specs.declared.profile.Profile.{Profile}
@@ -12,8 +12,10 @@ use Rattle.carriage_model.specs.State.{State}
 use Rattle.face_data.specs.declared.sizes.SizeAsk.{SizeAsk}
 use Rattle.face_data.specs.Conditions.{size_of, unless, unmet_size}
 use Rattle.face_data.specs.RuleGroups.{tuck_too_many}
+use Rattle.face_data.specs.Segments.{Changed}
+use Rattle.face_data.specs.Sizes.{SizeRule, size_ask, size_asks}
 use Rattle.face_data.proofs.Unmet.{broken-unless}
-use Rattle.bed_rules.specs.Beds.{first_unmet_size}
+use Rattle.bed_rules.specs.Beds.{first_unmet_size, crowded, tuck_rules}
 
 both_test : (hold loops total : ℕ) → total ≡ loops → nat_lt hold loops ≡ not (nat_le total hold)
 both_test hold loops total is = grind arith
@@ -53,3 +55,18 @@ tuck-unmet profile n (c ∷ cs) t some more = one-unmet profile n t some
 pub one-asked : (before : List SizeAsk) (ask : SizeAsk) (after : List SizeAsk) (s : State) → before ≡ [] → after ≡ before ++ ask ∷ [] → first_unmet_size after s ≡ unmet_size ask s
 one-asked before ask after s none more =
     ap (λ asks. first_unmet_size asks s) (more ∙ ap (λ (asks : List SizeAsk). asks ++ ask ∷ []) none) ∙ or_else-none (unmet_size ask s)
+
+-- a list with one condition is that of one rule
+pub one-listed : (before : List SizeAsk) (ask : SizeAsk) (after : List SizeAsk) (changes : List Changed) (rule wanted : SizeRule) → before ≡ [] → after ≡ before ++ ask ∷ []
+    → ask ≡ size_ask changes rule → rule ≡ wanted → after ≡ size_asks changes (wanted ∷ [])
+one-listed before ask after changes rule wanted none more is same =
+    more ∙ ap (λ (asks : List SizeAsk). asks ++ ask ∷ []) none ∙ ap (λ (a : SizeAsk). a ∷ []) (is ∙ ap (size_ask changes) same)
+
+-- the same of a tuck
+pub tuck-listed : (profile : Profile) (n : Needle) (cs : List CarrierNo) → 1 ≤ length cs → crowded 2 (n ∷ []) (profile.hold - 1) ∷ [] ≡ tuck_rules profile n cs
+tuck-listed profile n [] more = absurd (omega arith)
+tuck-listed profile n (c ∷ cs) more = refl
+
+pub tuck-unlisted : (profile : Profile) (n : Needle) (cs : List CarrierNo) → length cs ≡ 0 → [] ≡ tuck_rules profile n cs
+tuck-unlisted profile n [] none = refl
+tuck-unlisted profile n (c ∷ cs) none = absurd (omega arith)

@@ -1,9 +1,12 @@
 -- What an instruction makes of needles whose contents are known.
-use Rattle.std.specs.Prelude.{◌≡◌, ℕ, List, [], ◌∷◌, ◌++◌, Option, None, Some, unwrap_or, if◌then◌else◌}
+use Rattle.std.specs.Prelude.{◌≡◌, ℕ, ◌-◌, List, [], ◌∷◌, ◌++◌, Option, None, Some, unwrap_or, if◌then◌else◌}
 use Rattle.knit_base.specs.declared.instr.Instr.{Instr}
-use Rattle.knit_base.specs.declared.instr.Instr.TheVariants.{Knit, Split, Xfer, Drop}
+use Rattle.knit_base.specs.declared.instr.Instr.TheVariants.{Knit, Tuck, Split, Xfer, Drop}
 use Rattle.knit_base.specs.declared.needle.Needle.{Needle}
+use Rattle.knit_base.specs.declared.profile.Profile.{Profile}
 use Rattle.knit_base.specs.declared.rule.Reason.{Reason}
+use Rattle.knit_base.specs.declared.rule.Rule.TheVariants.{TooManyLoops}
+use Rattle.knit_base.specs.declared.yarns.CarrierNo.{CarrierNo}
 use Rattle.knit_base.specs.Needle.{same_needle}
 use Rattle.knit_base.specs.Reasons.{or_else}
 use Rattle.carriage_model.specs.State.{State}
@@ -12,6 +15,7 @@ use Rattle.face_data.specs.declared.face.Seg.TheVariants.{New}
 use Rattle.face_data.specs.declared.sizes.SizeAsk.{SizeAsk}
 use Rattle.face_data.specs.Conditions.{unmet_size}
 use Rattle.face_data.specs.Segments.{Changed, change_at, contents_of, read_segs}
+use Rattle.face_data.specs.Sizes.{SizeRule}
 
 -- the reason of the first condition on sizes that isn't met
 abbrev pub first_unmet_size : List SizeAsk → State → Option Reason
@@ -42,3 +46,19 @@ changes_of (Split dir n n2 cs) contents = moved contents n n2
 changes_of (Xfer n n2) contents = moved contents n n2
 changes_of (Drop n) contents = (n, []) ∷ []
 changes_of instr contents = []
+
+-- these needles hold too many loops together; the token that is named
+abbrev pub crowded : ℕ → List Needle → ℕ → SizeRule
+crowded at needles most = record { reason = record { rule = TooManyLoops; at = at }; needles = needles; most = most }
+
+-- a tuck with carriers puts one more loop on the needle
+abbrev pub tuck_rules : Profile → Needle → List CarrierNo → List SizeRule
+tuck_rules profile n [] = []
+tuck_rules profile n (c ∷ cs) = crowded 2 (n ∷ []) (profile.hold - 1) ∷ []
+
+-- what the instruction asks of sizes: loops that go over come together on the second needle
+abbrev pub size_rules : Profile → Instr → List SizeRule
+size_rules profile (Tuck dir n cs) = tuck_rules profile n cs
+size_rules profile (Split dir n n2 cs) = crowded 3 (n2 ∷ n ∷ []) profile.hold ∷ []
+size_rules profile (Xfer n n2) = crowded 2 (n2 ∷ n ∷ []) profile.hold ∷ []
+size_rules profile instr = []

@@ -17,7 +17,8 @@ ghost use Rattle.carriage_model.specs.State.{State};
 ghost use Rattle.carriage_model.specs.Steps.{step_instr};
 ghost use Rattle.face_data.specs.RuleGroups.{size_broken, forming_needle};
 ghost use Rattle.face_data.specs.Segments.{AreRead};
-ghost use Rattle.bed_rules.specs.Beds.{first_unmet_size, AreReadAfter};
+ghost use Rattle.face_data.specs.Sizes.{size_asks};
+ghost use Rattle.bed_rules.specs.Beds.{first_unmet_size, AreReadAfter, changes_of, size_rules};
 
 use face_data::{SizeAsks, SymbolList, Symbols, forming_needle};
 use knit_base::{Instr, Needle, NoMemory, Profile};
@@ -41,6 +42,8 @@ pub fn ask(
 ) -> Result<BedAsk, NoMemory>
     requires { IsLawfulProfile profile.now }
     ensures broken { IfOk result (λ ask. (s t : State) (first : ℕ) → AreRead contents.now s first t.stacks → size_broken profile.now instr.now t ≡ first_unmet_size ask.sizes s) }
+    ensures sizes { IfOk result (λ ask. ask.sizes ≡ size_asks contents.now (size_rules profile.now instr.now)) }
+    ensures changes { IfOk result (λ ask. ask.changed ≡ changes_of instr.now contents.now) }
     ensures changed { IfOk result (λ ask. (s t : State) (first offset : ℕ) → AreRead contents.now s first t.stacks → AreReadAfter contents.now ask.changed ask.makes s first offset (step_instr (first + offset) instr.now t).stacks) }
     ensures makes { IfOk result (λ ask. ask.makes ≡ forming_needle instr.now) }
 {

@@ -1,12 +1,13 @@
 //! What an instruction asks of the sizes of needles.
-ghost use Rattle.std.specs.Prelude.{◌≡◌, ◌+◌, ◌≤◌, ℕ, length, IfOk};
+ghost use Rattle.std.specs.Prelude.{◌≡◌, ◌+◌, ◌≤◌, ℕ, [], ◌∷◌, length, IfOk};
 ghost use Rattle.knit_base.specs.declared.rule.Rule.TheVariants.{TooManyLoops};
 ghost use Rattle.knit_base.specs.Limits.{IsLawfulProfile};
 ghost use Rattle.carriage_model.specs.Rules.{too_many};
 ghost use Rattle.carriage_model.specs.State.{State};
 ghost use Rattle.face_data.specs.RuleGroups.{size_broken, tuck_too_many};
 ghost use Rattle.face_data.specs.Segments.{AreRead};
-ghost use Rattle.bed_rules.specs.Beds.{first_unmet_size};
+ghost use Rattle.face_data.specs.Sizes.{size_asks};
+ghost use Rattle.bed_rules.specs.Beds.{first_unmet_size, size_rules, tuck_rules, crowded};
 
 use face_data::{SizeAsks, Symbols, ask_size};
 use knit_base::{Instr, Needle, NoMemory, Profile, Reason, Rule, Yarns};
@@ -20,7 +21,8 @@ pub fn sizes_of(
     contents: &Symbols,
 ) -> Result<SizeAsks, NoMemory>
     requires { IsLawfulProfile profile.now }
-    ensures { IfOk result (λ asks. (s t : State) (first : ℕ) → AreRead contents.now s first t.stacks → size_broken profile.now instr.now t ≡ first_unmet_size asks s) }
+    ensures rules { IfOk result (λ asks. asks ≡ size_asks contents.now (size_rules profile.now instr.now)) }
+    ensures broken { IfOk result (λ asks. (s t : State) (first : ℕ) → AreRead contents.now s first t.stacks → size_broken profile.now instr.now t ≡ first_unmet_size asks s) }
 {
     match instr {
         Instr::Tuck(_, n, yarns) => room_for_one(alloc, profile, *n, yarns, contents),
@@ -44,7 +46,8 @@ fn room_for_one(
     contents: &Symbols,
 ) -> Result<SizeAsks, NoMemory>
     requires { 1 ≤ profile.now.hold }
-    ensures { IfOk result (λ asks. (s t : State) (first : ℕ) → AreRead contents.now s first t.stacks → tuck_too_many profile.now n yarns.now t ≡ first_unmet_size asks s) }
+    ensures rules { IfOk result (λ asks. asks ≡ size_asks contents.now (tuck_rules profile.now n yarns.now)) }
+    ensures broken { IfOk result (λ asks. (s t : State) (first : ℕ) → AreRead contents.now s first t.stacks → tuck_too_many profile.now n yarns.now t ≡ first_unmet_size asks s) }
 {
     let mut asks = SizeAsks::new(alloc);
     if yarns.len() == 0 {
@@ -63,7 +66,8 @@ fn room_for_both(
     at: u16,
     contents: &Symbols,
 ) -> Result<SizeAsks, NoMemory>
-    ensures { IfOk result (λ asks. (s t : State) (first : ℕ) → AreRead contents.now s first t.stacks → too_many profile.now (length (t.stacks n2) + length (t.stacks n)) at ≡ first_unmet_size asks s) }
+    ensures rules { IfOk result (λ asks. asks ≡ size_asks contents.now (crowded at (n2 ∷ n ∷ []) profile.now.hold ∷ [])) }
+    ensures broken { IfOk result (λ asks. (s t : State) (first : ℕ) → AreRead contents.now s first t.stacks → too_many profile.now (length (t.stacks n2) + length (t.stacks n)) at ≡ first_unmet_size asks s) }
 {
     let mut asks = SizeAsks::new(alloc);
     asks.push(ask_size(alloc, too_many_at(at), profile.hold, &[n2, n], contents)?)?;

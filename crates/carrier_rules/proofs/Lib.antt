@@ -1,2 +1,2 @@
-mod Effects
-mod Each
+pub mod Effects
+pub mod Each

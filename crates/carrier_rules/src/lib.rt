@@ -16,6 +16,7 @@ ghost use Rattle.carriage_model.specs.Machine.{HasPlaces};
 ghost use Rattle.carriage_model.specs.State.{State};
 ghost use Rattle.face_data.specs.Conditions.{first_unmet};
 ghost use Rattle.face_data.specs.RuleGroups.{carrier_broken, IsEffectOf};
+ghost use Rattle.carrier_rules.specs.Carriers.{conds_of, effect_of};
 
 use face_data::{CondList, Effect};
 use knit_base::{Instr, NoMemory};
@@ -33,6 +34,8 @@ pub struct CarrierAsk {
 pub fn ask(alloc: Global, instr: &Instr) -> Result<CarrierAsk, NoMemory>
     requires { HasPlaces instr.now }
     ensures broken { IfOk result (λ ask. (s : State) → carrier_broken instr.now s ≡ first_unmet ask.conds s) }
+    ensures conds { IfOk result (λ ask. ask.conds ≡ conds_of instr.now) }
+    ensures change { IfOk result (λ ask. ask.effect ≡ effect_of instr.now) }
     ensures effect { IfOk result (λ ask. IsEffectOf instr.now ask.effect) }
 {
     Ok(CarrierAsk {

@@ -1,4 +1,29 @@
+pub mod Answers
+pub mod Bound
+pub mod Canonical
+pub mod Carriers
+pub mod Chains
+pub mod Composed
+pub mod Digests
+pub mod Drafts
+pub mod Effects
 mod Examples
-mod Groups
-mod Held
+pub mod Front
+pub mod Gathered
+pub mod Good
+pub mod Groups
+pub mod Held
+pub mod Items
+pub mod Known
+pub mod Marks
+pub mod Members
+pub mod Merged
+pub mod Ordered
+pub mod Owed
+pub mod Placed
+pub mod Owners
+pub mod Parts
+pub mod Stands
+pub mod Through
+pub mod Told
 pub mod Unmet

@@ -12,6 +12,7 @@ pub broken-unless : (met : Bool) (rule : Rule) (at : ℕ) → broken_if (not met
 broken-unless true rule at = refl
 broken-unless false rule at = refl
 
+-- three reasons, one after the other
 pub or_else-assoc : (x y z : Option Reason) → or_else (or_else x y) z ≡ or_else x (or_else y z)
 or_else-assoc None y z = refl
 or_else-assoc (Some reason) y z = refl

@@ -12,7 +12,7 @@ use Rattle.face_data.specs.declared.face.Ending.{Ending}
 use Rattle.face_data.specs.declared.face.Ending.TheVariants.{Through, Broken}
 use Rattle.face_data.specs.declared.face.Seg.TheVariants.{New}
 use Rattle.face_data.specs.Bearings.{bearing}
-use Rattle.face_data.specs.Bearings.Bearing.{silent}
+use Rattle.face_data.specs.declared.bearing.Bearing.TheVariants.{Silent}
 use Rattle.face_data.specs.Conditions.{Ask}
 use Rattle.face_data.specs.Conditions.Ask.{rack_is, carrier_in, carrier_out, hook_free, hook_is, hook_lacks, size_at_most}
 use Rattle.face_data.specs.Segments.{Changed, contents_of, entries_of, new_of}
@@ -39,7 +39,7 @@ LiesIn changes xs = ((m : Needle) × IsWithin xs (held changes m)) ⊎ ((m : Nee
 -- no condition says anything of a later one: neither that it holds nor that it doesn't
 abbrev pub IsIrredundant : List Asked → Type 0
 IsIrredundant [] = Unit {0}
-IsIrredundant (c ∷ cs) = ((d : Asked) → Contains cs d → bearing c.ask d.ask ≡ silent) × IsIrredundant cs
+IsIrredundant (c ∷ cs) = ((d : Asked) → Contains cs d → bearing c.ask d.ask ≡ Silent) × IsIrredundant cs
 
 -- the sizes that the needles are given at entry meet a condition on sizes; other conditions ask nothing of sizes
 abbrev pub MeetsSize : Ask → (Needle → ℕ) → Type 0
@@ -114,6 +114,19 @@ pub record IsGood (carriers limit : ℕ) (known : List Needle) (summary : Summar
   pub within : (c : Asked) → Contains summary.checks c → c.fault.line < summary.lines
   pub in_turn : NeverFalls summary.checks
   pub irredundant : IsIrredundant summary.checks
+  pub nested : (c d : Asked) → Contains summary.checks c → Contains summary.checks d → NestedOrApart (names_in c.ask) (names_in d.ask)
+  pub in_order : IsInOrder summary.changes
+  pub changes_fit : (c : Changed) → Contains summary.changes c → ChangeFits summary.lines known c
+  pub owns : OwnsOnce summary.changes
+  pub sizes : (size : Needle → ℕ) → ((n : Needle) → size n ≤ limit) → MeetsSizes summary.checks size → (m : Needle) → size_after summary.changes size m ≤ limit
+  pub ending : EndingFits carriers summary summary.ending
+
+-- the same of a summary some of whose conditions may say something of later ones
+pub record IsFair (carriers limit : ℕ) (known : List Needle) (summary : Summary) : Type 0 where
+  pub made : summary.made ≤ summary.lines
+  pub asks_fit : (c : Asked) → Contains summary.checks c → AskFits carriers limit known c.ask
+  pub within : (c : Asked) → Contains summary.checks c → c.fault.line < summary.lines
+  pub in_turn : NeverFalls summary.checks
   pub nested : (c d : Asked) → Contains summary.checks c → Contains summary.checks d → NestedOrApart (names_in c.ask) (names_in d.ask)
   pub in_order : IsInOrder summary.changes
   pub changes_fit : (c : Changed) → Contains summary.changes c → ChangeFits summary.lines known c

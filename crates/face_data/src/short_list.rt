@@ -37,6 +37,16 @@ impl<T: Drop> ShortList<T> {
         }
     }
 
+    /// The list of this item alone.
+    pub fn one(alloc: Global, item: T) -> Self
+        ensures { result ≡ item ∷ [] }
+    {
+        ShortList {
+            alloc,
+            kept: Kept::One([item]),
+        }
+    }
+
     /// Appends an item.
     pub fn push(&mut self, item: T) -> Result<(), NoMemory>
         requires { length self.old < 2 ^ 32 - 1 }

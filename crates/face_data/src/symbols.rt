@@ -1,35 +1,45 @@
 //! What the needles hold after some lines of a block.
-ghost use Rattle.std.specs.Prelude.{◌≡◌, [], Some, OnOk, OnErr, if◌then◌else◌};
+ghost use Rattle.std.specs.Prelude.{◌≡◌, ◌+◌, ◌≤◌, ◌<◌, [], ◌∷◌, Some, None, IfOk, IfErr, OnOk, OnErr, length, take, drop, if◌then◌else◌};
 ghost use Rattle.std.specs.Option.{option_copied};
 ghost use Rattle.knit_base.specs.declared.needle.Needle.{Needle};
 ghost use Rattle.knit_base.specs.Needle.{same_needle};
+ghost use Rattle.face_data.specs.Composition.{merged};
 ghost use Rattle.face_data.specs.Goodness.{IsInOrder};
+ghost use Rattle.face_data.specs.Places.{StandsAt, GoesAt};
 ghost use Rattle.face_data.specs.Segments.{change_at};
 
 use crate::{Segs, ShortList};
 use knit_base::{Needle, NoMemory};
 use std::alloc::Global;
-use std::collections::BTreeMap;
+use std::cmp::Ordering;
 use std::marker::Model;
+use std::mem;
 
 /// Needles, each with the segments that it holds.
 pub type SymbolList = ShortList<(Needle, Segs)>;
 
 /// The needles that were touched, in the order of needles, each with the segments that it holds. A needle that wasn't touched
 /// holds its own entry.
+///
+/// A needle is looked for first where the last one of its number and side was found. `places` has 32 guesses a side; a wrong
+/// one costs a search.
 #[derive(Drop)]
 pub struct Symbols {
-    needles: BTreeMap<Needle, Segs>,
+    held: Vec<(Needle, Segs)>,
+    places: [u16; 64],
 }
 
 impl Model for Symbols {
     ghost use Rattle.std.specs.Prelude.{List};
     ghost use Rattle.knit_base.specs.declared.needle.Needle.{Needle};
     ghost use Rattle.face_data.specs.declared.face.Seg.{Seg};
+    ghost use Rattle.face_data.specs.Goodness.{IsInOrder};
 
     ghost Value = { List (Needle × List Seg) };
 
-    ghost view = { λ s. s.needles.entries };
+    ghost view = { λ s. s.held.items };
+
+    ghost invariant = { λ s. IsInOrder s.held.items };
 }
 
 impl Symbols {
@@ -38,7 +48,8 @@ impl Symbols {
         ensures { result ≡ [] }
     {
         Symbols {
-            needles: BTreeMap::new(alloc),
+            held: Vec::new(alloc),
+            places: [0; 64],
         }
     }
 
@@ -46,7 +57,31 @@ impl Symbols {
     pub fn of(&self, n: Needle) -> Option<&Segs>
         ensures { option_copied result ≡ change_at self.now n }
     {
-        self.needles.get(&n)
+        match find(&self.held, self.places[guess_of(n)], n) {
+            Ok(i) => Some(&self.held[i].1),
+            Err(_) => None,
+        }
+    }
+
+    /// Gives the needle these segments, and answers with those that it held, where it was touched.
+    pub fn swap(&mut self, n: Needle, segs: Segs) -> Result<Option<Segs>, NoMemory>
+        ensures ok { OnOk result (self.new ≡ merged self.old ((n, segs) ∷ [])) }
+        ensures was { IfOk result (λ was. was ≡ change_at self.old n) }
+        ensures rising { IsInOrder self.new }
+        ensures err { OnErr result (self.new ≡ self.old) }
+    {
+        match find(&self.held, self.places[guess_of(n)], n) {
+            Ok(i) => {
+                self.places[guess_of(n)] = (i % 65536) as u16;
+                let place = &mut self.held[i];
+                Ok(Some(mem::replace(&mut place.1, segs)))
+            }
+            Err(i) => {
+                self.places[guess_of(n)] = (i % 65536) as u16;
+                self.held.insert(i, (n, segs))?;
+                Ok(None)
+            }
+        }
     }
 
     /// Gives the needle these segments, whether it was touched or not, and leaves all others.
@@ -55,7 +90,61 @@ impl Symbols {
         ensures rising { IsInOrder self.new }
         ensures err { OnErr result (self.new ≡ self.old) }
     {
-        self.needles.insert(n, segs)?;
+        self.swap(n, segs)?;
         Ok(())
     }
+
+    /// The needles that were touched, each with what it holds.
+    pub fn as_slice(&self) -> &[(Needle, Segs)]
+        ensures items { result.now ≡ self.now }
+        ensures rising { IsInOrder self.now }
+    {
+        &self.held
+    }
+
+    /// No needle was touched any more. The room is kept.
+    pub fn clear(&mut self)
+        ensures { self.new ≡ [] }
+    {
+        self.held.clear();
+    }
+}
+
+// Which guess is that of the needle.
+fn guess_of(n: Needle) -> usize
+    ensures { result < 64 }
+{
+    let side = if n.bed.is_front() { 0 } else { 32 };
+    (n.at.unsigned_abs() % 32) as usize + side
+}
+
+// The place of the needle, or else the place where it would stand.
+fn find(held: &[(Needle, Segs)], guess: u16, n: Needle) -> Result<usize, usize>
+    requires { IsInOrder held.now }
+    ensures found { IfOk result (StandsAt held.now n) }
+    ensures gap { IfErr result (GoesAt held.now n) }
+{
+    let i = guess as usize;
+    if i < held.len() && held[i].0 == n {
+        return Ok(i);
+    }
+    search(held, n)
+}
+
+fn search(held: &[(Needle, Segs)], n: Needle) -> Result<usize, usize>
+    requires { IsInOrder held.now }
+    ensures found { IfOk result (StandsAt held.now n) }
+    ensures gap { IfErr result (GoesAt held.now n) }
+{
+    let mut low = 0;
+    let mut high = held.len();
+    while low < high {
+        let middle = low + (high - low) / 2;
+        match held[middle].0.cmp(&n) {
+            Ordering::Less => low = middle + 1,
+            Ordering::Equal => return Ok(middle),
+            Ordering::Greater => high = middle,
+        }
+    }
+    Err(low)
 }

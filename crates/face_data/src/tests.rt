@@ -1,6 +1,8 @@
 //! Each public call once, with ample memory.
-use crate::{Seg, Segs, Symbols, ask_size, forming_needle, rules_in_groups};
-use knit_base::{Bed, Instr, Needle, Profile, Reason, Rule};
+use crate::{
+    Bearing, Cond, Digest, Effect, Seg, Segs, Symbols, ask_size, forming_needle, rules_in_groups,
+};
+use knit_base::{Bed, CarrierNo, Instr, Needle, Profile, Quarter, Reason, Rule};
 use std::test::Fail;
 
 const FRONT: Needle = Needle {
@@ -72,5 +74,58 @@ fn a_transfer_forms_no_loop(rt: HostRuntime) -> Result<(), Fail> {
     let transfer = Instr::Xfer(FRONT, BACK);
     rules_in_groups(&profile, &transfer);
     assert_eq!(rt; forming_needle(&transfer), None);
+    Ok(())
+}
+
+#[test]
+fn a_digest_tells_what_is_kept(rt: HostRuntime) -> Result<(), Fail> {
+    let mut digest = Digest::blank();
+    assert_eq!(rt; digest.told(Cond::HookFree), Bearing::Silent);
+    digest.note(Cond::CarrierIn(CarrierNo(3)));
+    digest.note(Cond::HookFree);
+    digest.note(Cond::RackIs(Quarter(4)));
+    assert_eq!(rt;
+        digest.told(Cond::CarrierIn(CarrierNo(3))),
+        Bearing::Implied
+    );
+    assert_eq!(rt;
+        digest.told(Cond::CarrierOut(CarrierNo(3))),
+        Bearing::Refuted
+    );
+    assert_eq!(rt; digest.told(Cond::CarrierIn(CarrierNo(4))), Bearing::Silent);
+    assert_eq!(rt; digest.told(Cond::HookIs(0)), Bearing::Implied);
+    assert_eq!(rt;
+        digest.told(Cond::HookLacks(CarrierNo(63))),
+        Bearing::Implied
+    );
+    assert_eq!(rt; digest.told(Cond::RackIs(Quarter(0))), Bearing::Refuted);
+    Ok(())
+}
+
+#[test]
+fn who_came_may_go(rt: HostRuntime) -> Result<(), Fail> {
+    let first = Effect {
+        rack: Some(Quarter(4)),
+        came: 3,
+        went: 4,
+        hook: None,
+    };
+    let second = Effect {
+        rack: None,
+        came: 4,
+        went: 1,
+        hook: Some(2),
+    };
+    let both = Effect {
+        rack: Some(Quarter(4)),
+        came: 6,
+        went: 1,
+        hook: Some(2),
+    };
+    assert_eq!(rt; first.then(&second), both);
+    assert_eq!(rt; both.told(Cond::CarrierIn(CarrierNo(1))), Bearing::Implied);
+    assert_eq!(rt; both.told(Cond::CarrierIn(CarrierNo(0))), Bearing::Refuted);
+    assert_eq!(rt; both.told(Cond::CarrierIn(CarrierNo(5))), Bearing::Silent);
+    assert_eq!(rt; both.told(Cond::HookLacks(CarrierNo(1))), Bearing::Refuted);
     Ok(())
 }

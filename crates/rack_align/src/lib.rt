@@ -11,7 +11,7 @@ ghost use Rattle.carriage_model.specs.Rules.{rack_facing, not_aligned};
 ghost use Rattle.carriage_model.specs.State.{State};
 ghost use Rattle.face_data.specs.Conditions.{unmet_rack};
 ghost use Rattle.face_data.specs.RuleGroups.{rack_broken};
-ghost use Rattle.rack_align.specs.Moves.{moves_loops};
+ghost use Rattle.rack_align.specs.Moves.{moves_loops, facing, rack_ask};
 
 use knit_base::{Instr, Needle, Quarter, Reason, Rule};
 
@@ -22,6 +22,7 @@ mod tests;
 /// another. `None` exactly where the instruction is neither.
 pub fn ask(instr: &Instr) -> Option<(Reason, Quarter)>
     ensures broken { (s : State) → rack_broken instr.now s ≡ unmet_rack result s }
+    ensures is { result ≡ rack_ask instr.now }
     ensures none { is_none result ≡ not (moves_loops instr.now) }
 {
     match instr {
@@ -36,7 +37,8 @@ pub fn ask(instr: &Instr) -> Option<(Reason, Quarter)>
 
 // The rack at which the needles face each other. The second is named at this token.
 fn facing(n: Needle, n2: Needle, at: u16) -> (Reason, Quarter)
-    ensures { (s : State) → not_aligned s n n2 at ≡ unmet_rack (Some result) s }
+    ensures is { result ≡ facing n n2 at }
+    ensures broken { (s : State) → not_aligned s n n2 at ≡ unmet_rack (Some result) s }
 {
     let reason = Reason {
         rule: Rule::NotAligned,

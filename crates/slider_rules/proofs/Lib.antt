@@ -1,1 +1,1 @@
-mod Sliders
+pub mod Sliders

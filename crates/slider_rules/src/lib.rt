@@ -6,12 +6,14 @@
 #![tactic(auto)]
 
 ghost use Rattle.std.specs.Prelude.{◌≡◌, ℕ, IfOk};
-ghost use Rattle.std.specs.Option.{is_none};
+ghost use Rattle.std.specs.Option.{is_none, option_map};
 ghost use Rattle.knit_base.specs.Needle.{own_slider};
 ghost use Rattle.carriage_model.specs.State.{State};
 ghost use Rattle.face_data.specs.Conditions.{unmet_size_if_any};
 ghost use Rattle.face_data.specs.RuleGroups.{slider_broken, forming_needle};
 ghost use Rattle.face_data.specs.Segments.{AreRead};
+ghost use Rattle.face_data.specs.Sizes.{size_ask};
+ghost use Rattle.slider_rules.specs.Sliders.{slider_rule};
 
 use face_data::{SizeAsk, Symbols, ask_size, forming_needle};
 use knit_base::{Bed, Instr, Needle, NoMemory, Reason, Rule};
@@ -24,6 +26,7 @@ mod tests;
 /// entry of a block after which the needles hold these segments. `None` exactly where the instruction forms no loop.
 pub fn ask(alloc: Global, instr: &Instr, contents: &Symbols) -> Result<Option<SizeAsk>, NoMemory>
     ensures broken { IfOk result (λ ask. (s t : State) (first : ℕ) → AreRead contents.now s first t.stacks → slider_broken instr.now t ≡ unmet_size_if_any ask s) }
+    ensures is { IfOk result (λ ask. ask ≡ option_map (size_ask contents.now) (slider_rule instr.now)) }
     ensures none { IfOk result (λ ask. is_none ask ≡ is_none (forming_needle instr.now)) }
 {
     let Some(n) = forming_needle(instr) else {

@@ -6,7 +6,7 @@ use Rattle.face_data.specs.Conditions.{unless}
 use Rattle.face_data.proofs.Unmet.{broken-unless}
 use Rattle.rack_align.proofs.facing.Goals as goal
 
-pub returns : goal.returns
-returns c s =
+pub returns-clause-broken : goal.returns-clause-broken
+returns-clause-broken c s =
     broken-unless (int_eq s.rack (rack_facing c.args.n c.args.n2)) NotAligned c.args.at
     ∙ ap (λ q. unless (int_eq s.rack q) (record { rule = NotAligned; at = c.args.at })) (sym c.rack_facing.ensures)

@@ -1,4 +1,4 @@
-use Rattle.std.proofs.Common.{rules, ◌≡◌, ◌+◌, ◌-◌, ◌∙◌, ap, take, w16}
+use Rattle.std.proofs.Common.{rules, ◌≡◌, ◌+◌, ◌-◌, pos, ◌-ℤ◌, ◌∙◌, ap, take, w16}
 use Rattle.std.proofs.lemmas.Int.{to_z-of_z}
 use Rattle.std.proofs.lemmas.List.{take_all}
 use Rattle.face_data.specs.Segments.{names_through, new_through}
@@ -12,6 +12,7 @@ returns c =
     let room : c.loop-n.room ≡ (c.args.most + 1) - new_through c.args.contents.now c.args.needles.now =
     c.loop-n.invariant.room ∙ ap (λ ns. (c.args.most + 1) - new_through c.args.contents.now ns) all in
     record {
+      is = λ i. record { reason = c.args.reason; entries = entries i; max = (to_z-of_z w16 c.max_of.result (search rules) ∙ c.max_of.ensures ∙ ap (λ n. pos n -ℤ pos 1) room) i };
       entries = entries;
       unmet = λ s t first read. unmet-now c.args.contents.now s t first c.args.needles.now c.loop-n.entries c.args.most c.loop-n.room _ c.args.reason read entries room (to_z-of_z w16 c.max_of.result (search rules) ∙ c.max_of.ensures);
     }

@@ -1,8 +1,7 @@
-use Rattle.std.proofs.Common.{Some, ◌∙◌, ap, cond}
-use Rattle.knit_base.specs.Needle.{same_needle}
+use Rattle.std.proofs.Common.{ap, ◌∙◌}
 use Rattle.face_data.specs.Segments.{change_at}
+use Rattle.face_data.proofs.Placed.{change_at-put}
 use Rattle.face_data.proofs.symbols.Symbols.set.Goals as goal
 
 pub returns-clause-ok : goal.returns-clause-ok
-returns-clause-ok c m =
-    c.in_ok-insert.ensures.updates.0 m ∙ ap (λ es. cond (same_needle c.args.n m) (Some c.args.segs) (change_at es m)) c.self.view_is
+returns-clause-ok c m = ap (λ changes. change_at changes m) c.in_ok-swap.ensures.ok ∙ change_at-put c.args.self.now c.args.n m c.args.segs

@@ -1,0 +1,54 @@
+-- Conditions on sizes that are kept, found by a needle that they name.
+use Rattle.std.specs.Prelude.{ℕ, Bool, ◌&&◌, nat_le, List, [], ◌∷◌, length, if◌then◌else◌}
+use Rattle.std.specs.List.{flat_map, list_any}
+use Rattle.knit_base.specs.declared.needle.Needle.{Needle}
+use Rattle.knit_base.specs.Needle.{same_needle}
+use Rattle.face_data.specs.declared.bearing.Bearing.{Bearing}
+use Rattle.face_data.specs.declared.bearing.Bearing.TheVariants.{Implied, Silent}
+use Rattle.face_data.specs.declared.digest.Digest.{Digest}
+use Rattle.face_data.specs.Answers.{Answer}
+use Rattle.face_data.specs.Answers.Answer.{yes_it_does, no_it_does_not, asks}
+use Rattle.face_data.specs.Bearings.{if_so}
+use Rattle.face_data.specs.Composition.{from_bearing}
+use Rattle.face_data.specs.Digests.{told}
+use Rattle.face_data.specs.Conditions.{Ask}
+use Rattle.face_data.specs.Conditions.Ask.{size_at_most}
+use Rattle.face_data.specs.Summaries.{Asked}
+
+-- a condition on sizes, by how many needles it names and how many loops it allows them
+pub record SizeMark : Type 0 where
+  pub len : ℕ
+  pub most : ℕ
+
+-- the mark of a condition that names the needle
+abbrev pub marks_in : Needle → Ask → List SizeMark
+marks_in n (size_at_most names most) = if list_any (same_needle n) names then record { len = length names; most = most } ∷ [] else []
+marks_in n ask = []
+
+-- the marks of all conditions that name the needle, in the order of the conditions
+abbrev pub chain_at : List Asked → Needle → List SizeMark
+chain_at kept n = flat_map (λ (c : Asked). marks_in n c.ask) kept
+
+-- a condition of at least so many needles allows at most so many loops
+abbrev pub covers : ℕ → ℕ → SizeMark → Bool
+covers len most mark = nat_le len mark.len && nat_le mark.most most
+
+-- some condition of the chain does
+abbrev pub is_covered : List SizeMark → ℕ → ℕ → Bool
+is_covered chain len most = list_any (covers len most) chain
+
+-- what the chain of the first needle says of a condition on sizes
+abbrev pub size_told : (Needle → List SizeMark) → List Needle → ℕ → Bearing
+size_told chains [] most = Silent
+size_told chains (n ∷ names) most = if_so (is_covered (chains n) (length (n ∷ names)) most) Implied
+
+-- what a digest and chains say of a condition
+abbrev pub known_of : Digest → (Needle → List SizeMark) → Ask → Answer
+known_of digest chains (size_at_most names most) = from_bearing (size_told chains names most) (asks (size_at_most names most))
+known_of digest chains ask = from_bearing (told digest ask) (asks ask)
+
+-- the same of an answer: only a condition is left to ask
+abbrev pub answer_known : Digest → (Needle → List SizeMark) → Answer → Answer
+answer_known digest chains yes_it_does = yes_it_does
+answer_known digest chains no_it_does_not = no_it_does_not
+answer_known digest chains (asks ask) = known_of digest chains ask

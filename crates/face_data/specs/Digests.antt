@@ -1,0 +1,70 @@
+-- What conditions that are kept ask of the rack, of carriers and of the hook.
+use Rattle.std.specs.Prelude.{◌<◌, ◌^◌, nat_eq, List, Option, Some, None, bit_or, fold, if◌then◌else◌}
+use Rattle.std.specs.Ordering.{int_eq}
+use Rattle.knit_base.specs.Yarns.{contains_carrier, lacks_carrier}
+use Rattle.face_data.specs.declared.bearing.Bearing.{Bearing}
+use Rattle.face_data.specs.declared.bearing.Bearing.TheVariants.{Implied, Refuted, Silent}
+use Rattle.face_data.specs.declared.digest.Digest.{Digest}
+use Rattle.face_data.specs.declared.face.Effect.{Effect}
+use Rattle.face_data.specs.declared.face.Cond.{Cond}
+use Rattle.face_data.specs.declared.face.Cond.TheVariants.{CarrierIn, CarrierOut, HookLacks}
+use Rattle.face_data.specs.Bearings.{if_so, same_or_not}
+use Rattle.face_data.specs.Conditions.{Ask}
+use Rattle.face_data.specs.Conditions.Ask.{rack_is, carrier_in, carrier_out, hook_free, hook_is, hook_lacks, size_at_most}
+use Rattle.face_data.specs.Summaries.{Asked}
+
+-- nothing is asked
+abbrev pub blank : Digest
+blank = record { rack = None; ins = 0; outs = 0; hook = None; lacks = 0 }
+
+-- the digest, and one more condition, of which it says nothing
+unfoldable pub noted : Digest → Ask → Digest
+noted digest (rack_is q) = record digest { rack = Some (record { 0 = q }) }
+noted digest (carrier_in c) = record digest { ins = bit_or digest.ins (2 ^ c.0) }
+noted digest (carrier_out c) = record digest { outs = bit_or digest.outs (2 ^ c.0) }
+noted digest hook_free = record digest { hook = Some 0 }
+noted digest (hook_is set) = record digest { hook = Some set }
+noted digest (hook_lacks c) = record digest { lacks = bit_or digest.lacks (2 ^ c.0) }
+noted digest (size_at_most names most) = digest
+
+-- the digest of conditions in their order
+abbrev pub digest_of : List Asked → Digest
+digest_of kept = fold (λ digest (c : Asked). noted digest c.ask) blank kept
+
+-- what a value that is known says
+abbrev pub told_by : {X : Type 0} → Option X → (X → Bearing) → Bearing
+told_by None says = Silent
+told_by (Some x) says = says x
+
+-- what the digest says of a condition that isn't on sizes
+unfoldable pub told : Digest → Ask → Bearing
+told digest (rack_is q) = told_by digest.rack (λ p. same_or_not (int_eq p.0 q))
+told digest (carrier_in c) = if contains_carrier digest.ins c then Implied else if_so (contains_carrier digest.outs c) Refuted
+told digest (carrier_out c) = if contains_carrier digest.outs c then Implied else if_so (contains_carrier digest.ins c) Refuted
+told digest hook_free = told_by digest.hook (λ held. same_or_not (nat_eq held 0))
+told digest (hook_is set) = told_by digest.hook (λ held. same_or_not (nat_eq held set))
+told digest (hook_lacks c) =
+    if contains_carrier digest.lacks c then Implied else told_by digest.hook (λ held. if_so (lacks_carrier held c) Implied)
+told digest (size_at_most names most) = Silent
+
+-- what is known, after a block of this effect, of a condition that isn't on sizes
+unfoldable pub effect_told : Effect → Ask → Bearing
+effect_told effect (rack_is q) = told_by effect.rack (λ p. same_or_not (int_eq p.0 q))
+effect_told effect (carrier_in c) = if contains_carrier effect.came c then Implied else if_so (contains_carrier effect.went c) Refuted
+effect_told effect (carrier_out c) = if contains_carrier effect.came c then Refuted else if_so (contains_carrier effect.went c) Implied
+effect_told effect hook_free = told_by effect.hook (λ held. same_or_not (nat_eq held 0))
+effect_told effect (hook_is set) = told_by effect.hook (λ held. same_or_not (nat_eq held set))
+effect_told effect (hook_lacks c) = told_by effect.hook (λ held. same_or_not (lacks_carrier held c))
+effect_told effect (size_at_most names most) = Silent
+
+-- the condition isn't on sizes
+abbrev pub IsPlainCondition : Ask → Type 0
+IsPlainCondition (size_at_most names most) = ⊥
+IsPlainCondition ask = Unit {0}
+
+-- the carrier of a condition is one of 64
+abbrev pub CarrierFits : Cond → Type 0
+CarrierFits (CarrierIn c) = c.0 < 64
+CarrierFits (CarrierOut c) = c.0 < 64
+CarrierFits (HookLacks c) = c.0 < 64
+CarrierFits cond = Unit {0}
