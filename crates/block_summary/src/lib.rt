@@ -7,10 +7,12 @@
 //! std, `knit_base`, `carriage_model`, `face_data` and the crates of the four groups of rules.
 #![tactic(auto)]
 
+mod draft;
 mod instr_ask;
 mod line_ask;
 #[cfg(test)]
 mod tests;
 
+pub use draft::Draft;
 pub use instr_ask::{InstrAsk, ask_instr};
 pub use line_ask::{LineAsk, ask_line};

@@ -1,0 +1,60 @@
+-- A line whose conditions are all known to hold, after a draft.
+use Rattle.std.proofs.Common.{◌≡◌, ℕ, ◌+◌, ◌≤◌, List, [], ◌∷◌, ◌++◌, length, refl, ap, ◌∙◌, arith}
+use Rattle.std.specs.List.{Contains}
+use Rattle.knit_base.specs.declared.instr.Instr.TheVariants.{Knit, Tuck}
+use Rattle.knit_base.specs.declared.instr.Read.{Read}
+use Rattle.knit_base.specs.declared.instr.Read.TheVariants as read
+use Rattle.knit_base.specs.declared.needle.Dir.{Dir}
+use Rattle.knit_base.specs.declared.needle.Needle.{Needle}
+use Rattle.knit_base.specs.declared.profile.Profile.{Profile}
+use Rattle.knit_base.specs.declared.yarns.CarrierNo.{CarrierNo}
+use Rattle.knit_base.specs.Lawful.{IsLawfulRead}
+use Rattle.face_data.specs.declared.face.Effect.{Effect}
+use Rattle.face_data.specs.declared.face.Ending.TheVariants.{Through}
+use Rattle.face_data.specs.declared.face.Seg.{Seg}
+use Rattle.face_data.specs.declared.face.Seg.TheVariants.{New}
+use Rattle.face_data.specs.Composition.{composed, merged}
+use Rattle.face_data.specs.Drafts.{no_effect}
+use Rattle.face_data.specs.Items.{items, most_items}
+use Rattle.face_data.specs.Segments.{contents_of}
+use Rattle.face_data.specs.Summaries.{Summary}
+use Rattle.face_data.proofs.Front.{AllHold, composed-hold, effect-idle}
+use Rattle.face_data.proofs.Items.{items_bound}
+use Rattle.block_summary.specs.LineSummaries.{asked_by, line_summary, block_summary_of, NeedlesKnownInLine}
+use Rattle.block_summary.proofs.LineFair.{block_good}
+
+-- a draft, and a line that makes a loop and changes one needle
+abbrev pub with_loop : Summary → Needle → List Seg → Effect → Summary
+with_loop draft n segs e = record {
+  lines = draft.lines + 1;
+  made = draft.made + 1;
+  checks = draft.checks;
+  changes = merged draft.changes ((n, segs) ∷ []);
+  ending = Through e;
+}
+
+held_here : (lines : ℕ) (segs : List Seg) → segs ++ New (lines + 0) ∷ [] ≡ segs ++ New lines ∷ []
+held_here lines segs = ap (λ offset. segs ++ New offset ∷ []) (let same : lines + 0 ≡ lines = omega arith in same)
+
+-- A knit whose conditions are known to hold leaves its new loop alone on the needle.
+pub front_knit : (hold : ℕ) (draft : Summary) (e : Effect) (dir : Dir) (n : Needle) (c : CarrierNo) (cs : List CarrierNo) → draft.ending ≡ Through e →
+    AllHold e draft.changes draft.checks (asked_by hold (Knit dir n (c ∷ cs))) →
+    composed draft (line_summary hold (read.Instr (Knit dir n (c ∷ cs)))) ≡ with_loop draft n (New draft.lines ∷ []) e
+front_knit hold draft e dir n c cs goes known =
+    composed-hold draft (line_summary hold (read.Instr (Knit dir n (c ∷ cs)))) e no_effect goes refl known
+    ∙ (λ i. with_loop draft n (held_here draft.lines [] i) (effect-idle e i))
+
+-- A tuck puts it behind what the needle holds.
+pub front_tuck : (hold : ℕ) (draft : Summary) (e : Effect) (dir : Dir) (n : Needle) (c : CarrierNo) (cs : List CarrierNo) → draft.ending ≡ Through e →
+    AllHold e draft.changes draft.checks (asked_by hold (Tuck dir n (c ∷ cs))) →
+    composed draft (line_summary hold (read.Instr (Tuck dir n (c ∷ cs)))) ≡ with_loop draft n (contents_of draft.changes n ++ New draft.lines ∷ []) e
+front_tuck hold draft e dir n c cs goes known =
+    composed-hold draft (line_summary hold (read.Instr (Tuck dir n (c ∷ cs)))) e no_effect goes refl known
+    ∙ (λ i. with_loop draft n (held_here draft.lines (contents_of draft.changes n) i) (effect-idle e i))
+
+-- The summary of a block has at most so many items.
+pub block_items : (profile : Profile) (carriers : ℕ) (known : List Needle) (rs : List Read) → 1 ≤ profile.hold →
+    ((r : Read) → Contains rs r → IsLawfulRead profile carriers r) → ((r : Read) → Contains rs r → NeedlesKnownInLine known r) →
+    items (block_summary_of profile.hold rs) ≤ most_items carriers profile.hold (length known)
+block_items profile carriers known rs some lawful knows =
+    items_bound carriers profile.hold known (block_summary_of profile.hold rs) (block_good profile carriers known rs some lawful knows)

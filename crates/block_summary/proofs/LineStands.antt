@@ -1,0 +1,261 @@
+-- The summary of a line stands for it.
+use Rattle.std.proofs.Common.{◌≡◌, ℕ, ◌+◌, ◌-◌, ◌≤◌, Bool, true, false, cond, List, [], ◌∷◌, ◌++◌, length, map, Option, None, Some, unwrap_or, refl, sym, ap, ◌∙◌, arith}
+use Rattle.std.specs.Option.{option_map, option_to_list}
+use Rattle.std.specs.List.Sorted.{IsStrictlySortedBy}
+use Rattle.std.proofs.lemmas.List.{append-nil}
+use Rattle.knit_base.specs.declared.instr.Instr.{Instr}
+use Rattle.knit_base.specs.declared.instr.Instr.TheVariants.{CarryIn, CarryOut, HookIn, HookOut, ReleaseHook, Stitch, Pause, Extension, Rack, Knit, Tuck, Miss, Split, Xfer, Drop, Amiss}
+use Rattle.knit_base.specs.declared.instr.Read.{Read}
+use Rattle.knit_base.specs.declared.instr.Read.TheVariants as read
+use Rattle.knit_base.specs.declared.needle.Needle.{Needle}
+use Rattle.knit_base.specs.declared.needle.Dir.{Dir}
+use Rattle.knit_base.specs.declared.profile.Profile.{Profile}
+use Rattle.knit_base.specs.declared.rule.Fault.{Fault}
+use Rattle.knit_base.specs.declared.rule.Reason.{Reason}
+use Rattle.knit_base.specs.declared.rule.Rule.TheVariants.{NotAligned, SliderHolds, TooManyLoops}
+use Rattle.knit_base.specs.declared.yarns.CarrierNo.{CarrierNo}
+use Rattle.knit_base.specs.Needle.{same_needle, same_needle-true, own_slider}
+use Rattle.knit_base.specs.Reasons.{or_else}
+use Rattle.std.specs.Ordering.{int_eq}
+use Rattle.carriage_model.specs.declared.verdict.LoopFact.{LoopFact}
+use Rattle.carriage_model.specs.Loops.{formed, loop_of_instr, made_on}
+use Rattle.carriage_model.specs.Rules.{broken_instr, rack_facing}
+use Rattle.carriage_model.specs.Run.{Ended, run_on}
+use Rattle.carriage_model.specs.Run.Ended.{Ends}
+use Rattle.carriage_model.specs.State.{State}
+use Rattle.carriage_model.specs.Steps.{step_instr}
+use Rattle.face_data.specs.declared.face.Cond.{Cond}
+use Rattle.face_data.specs.declared.face.Ending.TheVariants.{Through}
+use Rattle.face_data.specs.declared.face.Seg.{Seg}
+use Rattle.face_data.specs.declared.face.Seg.TheVariants.{Entry, New}
+use Rattle.face_data.specs.Conditions.{Ask, ask_of, holds, unless, first_unmet}
+use Rattle.face_data.specs.Conditions.Ask.{rack_is, size_at_most}
+use Rattle.face_data.specs.Items.{set_items}
+use Rattle.face_data.specs.RuleGroups.{carrier_broken, rack_broken, slider_broken_on, slider_broken, size_broken, tuck_too_many, forming_needle, formed_on}
+use Rattle.face_data.specs.Segments.{contents_of, read_segs, AreRead}
+use Rattle.face_data.specs.Stands.{StandsFor, outcome_of_run}
+use Rattle.face_data.specs.Summaries.{Asked, first_fault, after, outcome_of, raised}
+use Rattle.face_data.specs.Summaries.Outcome.{went_on, faulted}
+use Rattle.face_data.proofs.Drafts.{no_lines-applied}
+use Rattle.face_data.proofs.Gathered.{or_else as fault_or_else, first_fault-append}
+use Rattle.face_data.proofs.Groups.{groups}
+use Rattle.face_data.proofs.Merged.{or_change, change_at-merged}
+use Rattle.face_data.proofs.Unmet.{broken-unless}
+use Rattle.carrier_rules.specs.Carriers.{conds_of, effect_of}
+use Rattle.carrier_rules.proofs.Each.{conds-broken}
+use Rattle.carrier_rules.proofs.Effects.{effect-is}
+use Rattle.slider_rules.proofs.Sliders.{slider-unmet}
+use Rattle.bed_rules.specs.Beds.{changes_of, contents_after}
+use Rattle.bed_rules.proofs.Stacks.{changed-read}
+use Rattle.bed_rules.proofs.TooMany.{both-unmet, one-unmet}
+use Rattle.block_summary.specs.LineSummaries.{asked_for, plainly_asked, rack_asked, slider_asked, room_asked, sizes_asked, asked_by, gone_over, line_changes, line_summary}
+
+-- the fault of a line that is broken for this reason
+abbrev at_line : Option Reason → Option Fault
+at_line o = option_map (λ reason. record { line = 0; reason = reason }) o
+
+later_at_line : (met : Bool) (reason : Reason) (rest : Option Fault) (more : Option Reason) → rest ≡ at_line more →
+    (cond met rest (Some (record { line = 0; reason = reason }))) ≡ at_line (or_else (unless met reason) more)
+later_at_line true reason rest more is = is
+later_at_line false reason rest more is = refl
+
+-- one condition
+alone_at_line : (ask : Ask) (reason : Reason) (s : State) → first_fault (asked_for reason ask ∷ []) s ≡ at_line (unless (holds ask s) reason)
+alone_at_line ask reason s = go (holds ask s)
+  where
+    go : (met : Bool) → cond met None (Some (record { line = 0; reason = reason })) ≡ at_line (unless met reason)
+    go true = refl
+    go false = refl
+
+-- the conditions on carriers and the hook
+plain_faults : (conds : List (Reason × Cond)) (s : State) → first_fault (map plainly_asked conds) s ≡ at_line (first_unmet conds s)
+plain_faults [] s = refl
+plain_faults (c ∷ cs) s = later_at_line (holds (ask_of [] c.1) s) c.0 (first_fault (map plainly_asked cs) s) (first_unmet cs s) (plain_faults cs s)
+
+-- two lists of conditions for two reasons
+both_at_line : (xs ys : List Asked) (first second : Option Reason) (s : State) → first_fault xs s ≡ at_line first → first_fault ys s ≡ at_line second →
+    first_fault (xs ++ ys) s ≡ at_line (or_else first second)
+both_at_line xs ys first second s one two = first_fault-append xs ys s ∙ (λ i. fault_or_else (one i) (two i)) ∙ join first
+  where
+    join : (o : Option Reason) → fault_or_else (at_line o) (at_line second) ≡ at_line (or_else o second)
+    join None = refl
+    join (Some reason) = refl
+
+rack_faults : (instr : Instr) (s : State) → first_fault (rack_asked instr) s ≡ at_line (rack_broken instr s)
+rack_faults (Split dir n n2 cs) s =
+    alone_at_line (rack_is (rack_facing n n2)) (record { rule = NotAligned; at = 3 }) s ∙ ap at_line (sym (broken-unless (int_eq s.rack (rack_facing n n2)) NotAligned 3))
+rack_faults (Xfer n n2) s =
+    alone_at_line (rack_is (rack_facing n n2)) (record { rule = NotAligned; at = 2 }) s ∙ ap at_line (sym (broken-unless (int_eq s.rack (rack_facing n n2)) NotAligned 2))
+rack_faults (CarryIn cs) s = refl
+rack_faults (CarryOut cs) s = refl
+rack_faults (HookIn cs) s = refl
+rack_faults (HookOut cs) s = refl
+rack_faults (ReleaseHook cs) s = refl
+rack_faults Stitch s = refl
+rack_faults Pause s = refl
+rack_faults Extension s = refl
+rack_faults (Rack q) s = refl
+rack_faults (Knit dir n cs) s = refl
+rack_faults (Tuck dir n cs) s = refl
+rack_faults (Miss dir n cs) s = refl
+rack_faults (Drop n) s = refl
+rack_faults (Amiss n) s = refl
+
+slider_faults : (on : Option Needle) (s : State) → first_fault (slider_asked on) s ≡ at_line (slider_broken_on on s)
+slider_faults None s = refl
+slider_faults (Some n) s = alone_at_line (size_at_most (own_slider n ∷ []) 0) (record { rule = SliderHolds; at = 2 }) s ∙ ap at_line (sym (slider-unmet n s))
+
+room_faults : (profile : Profile) (n : Needle) (cs : List CarrierNo) (s : State) → 1 ≤ profile.hold →
+    first_fault (room_asked profile.hold n cs) s ≡ at_line (tuck_too_many profile n cs s)
+room_faults profile n [] s some = refl
+room_faults profile n (c ∷ cs) s some = alone_at_line (size_at_most (n ∷ []) (profile.hold - 1)) (record { rule = TooManyLoops; at = 2 }) s ∙ ap at_line (sym (one-unmet profile n s some))
+
+size_faults : (profile : Profile) (instr : Instr) (s : State) → 1 ≤ profile.hold → first_fault (sizes_asked profile.hold instr) s ≡ at_line (size_broken profile instr s)
+size_faults profile (Tuck dir n cs) s some = room_faults profile n cs s some
+size_faults profile (Split dir n n2 cs) s some = alone_at_line (size_at_most (n2 ∷ n ∷ []) profile.hold) (record { rule = TooManyLoops; at = 3 }) s ∙ ap at_line (sym (both-unmet profile n n2 3 s))
+size_faults profile (Xfer n n2) s some = alone_at_line (size_at_most (n2 ∷ n ∷ []) profile.hold) (record { rule = TooManyLoops; at = 2 }) s ∙ ap at_line (sym (both-unmet profile n n2 2 s))
+size_faults profile (CarryIn cs) s some = refl
+size_faults profile (CarryOut cs) s some = refl
+size_faults profile (HookIn cs) s some = refl
+size_faults profile (HookOut cs) s some = refl
+size_faults profile (ReleaseHook cs) s some = refl
+size_faults profile Stitch s some = refl
+size_faults profile Pause s some = refl
+size_faults profile Extension s some = refl
+size_faults profile (Rack q) s some = refl
+size_faults profile (Knit dir n cs) s some = refl
+size_faults profile (Miss dir n cs) s some = refl
+size_faults profile (Drop n) s some = refl
+size_faults profile (Amiss n) s some = refl
+
+-- The first condition of the line that doesn't hold is the first rule that the line breaks.
+pub line_faults : (profile : Profile) (instr : Instr) (s : State) → 1 ≤ profile.hold → first_fault (asked_by profile.hold instr) s ≡ at_line (broken_instr profile instr s)
+line_faults profile instr s some =
+    both_at_line (map plainly_asked (conds_of instr)) (rack_asked instr ++ (slider_asked (forming_needle instr) ++ sizes_asked profile.hold instr))
+    (carrier_broken instr s) (or_else (rack_broken instr s) (or_else (slider_broken instr s) (size_broken profile instr s))) s
+    (plain_faults (conds_of instr) s ∙ ap at_line (sym (conds-broken instr s)))
+    (both_at_line (rack_asked instr) (slider_asked (forming_needle instr) ++ sizes_asked profile.hold instr)
+    (rack_broken instr s) (or_else (slider_broken instr s) (size_broken profile instr s)) s
+    (rack_faults instr s)
+    (both_at_line (slider_asked (forming_needle instr)) (sizes_asked profile.hold instr) (slider_broken instr s) (size_broken profile instr s) s
+    (slider_faults (forming_needle instr) s) (size_faults profile instr s some)))
+    ∙ ap at_line (sym (groups profile instr s))
+
+-- what a needle holds after the line, as the rules on needles have it
+knit_held : (here : Bool) (own : List Seg) → unwrap_or (cond here (Some (New 0 ∷ [])) None) own ≡ cond here (unwrap_or (cond here (Some []) None) own ++ New 0 ∷ []) (unwrap_or (cond here (Some []) None) own)
+knit_held true own = refl
+knit_held false own = refl
+
+tuck_held : (n m : Needle) (here : Bool) → same_needle m n ≡ here → unwrap_or (cond here (Some (Entry n ∷ New 0 ∷ [])) None) (Entry m ∷ []) ≡ cond here (Entry m ∷ New 0 ∷ []) (Entry m ∷ [])
+tuck_held n m true same = ap (λ q. Entry q ∷ New 0 ∷ []) (sym (same_needle-true m n same))
+tuck_held n m false other = refl
+
+over_held : (here there : Bool) (left both own : List Seg) → unwrap_or (or_change (cond here (Some left) None) (cond there (Some both) None)) own ≡ unwrap_or (cond here (Some left) (cond there (Some both) None)) own
+over_held true there left both own = refl
+over_held false there left both own = refl
+
+split_held : (here there : Bool) (both own : List Seg) → unwrap_or (cond here (Some (New 0 ∷ [])) (cond there (Some both) None)) own
+    ≡ cond here (unwrap_or (cond here (Some []) (cond there (Some both) None)) own ++ New 0 ∷ []) (unwrap_or (cond here (Some []) (cond there (Some both) None)) own)
+split_held true there both own = refl
+split_held false there both own = refl
+
+-- what a needle holds after loops went over
+pub gone_over-contents : (n n2 m : Needle) (left : List Seg) →
+    contents_of (gone_over n n2 left) m ≡ unwrap_or (cond (same_needle m n) (Some left) (cond (same_needle m n2) (Some (Entry n2 ∷ Entry n ∷ [])) None)) (Entry m ∷ [])
+unfolding IsStrictlySortedBy
+gone_over-contents n n2 m left =
+    ap (λ o. unwrap_or o (Entry m ∷ [])) (change_at-merged ((n2, Entry n2 ∷ Entry n ∷ []) ∷ []) ((n, left) ∷ []) m (tt, tt))
+    ∙ over_held (same_needle m n) (same_needle m n2) left (Entry n2 ∷ Entry n ∷ []) (Entry m ∷ [])
+
+line_held : (instr : Instr) (m : Needle) → contents_of (line_changes instr) m ≡ contents_after [] (changes_of instr []) (forming_needle instr) 0 m
+line_held (Knit dir n []) m = refl
+line_held (Knit dir n (c ∷ cs)) m = knit_held (same_needle m n) (Entry m ∷ [])
+line_held (Tuck dir n []) m = refl
+line_held (Tuck dir n (c ∷ cs)) m = tuck_held n m (same_needle m n) refl
+line_held (Split dir n n2 []) m = gone_over-contents n n2 m []
+line_held (Split dir n n2 (c ∷ cs)) m =
+    gone_over-contents n n2 m (New 0 ∷ []) ∙ split_held (same_needle m n) (same_needle m n2) (Entry n2 ∷ Entry n ∷ []) (Entry m ∷ [])
+line_held (Xfer n n2) m = gone_over-contents n n2 m []
+line_held (Drop n) m = refl
+line_held (CarryIn cs) m = refl
+line_held (CarryOut cs) m = refl
+line_held (HookIn cs) m = refl
+line_held (HookOut cs) m = refl
+line_held (ReleaseHook cs) m = refl
+line_held Stitch m = refl
+line_held Pause m = refl
+line_held Extension m = refl
+line_held (Rack q) m = refl
+line_held (Miss dir n cs) m = refl
+line_held (Amiss n) m = refl
+
+own_read : (s : State) (first : ℕ) → AreRead [] s first s.stacks
+own_read s first n = sym (append-nil (s.stacks n))
+
+-- the state that the line makes
+pub line_after : (instr : Instr) (s : State) (first : ℕ) → after (effect_of instr) (line_changes instr) s first ≡ step_instr first instr s
+line_after instr s first =
+    let effect = effect-is instr in
+    let stacks : (m : Needle) → read_segs s first (contents_of (line_changes instr) m) ≡ (step_instr first instr s).stacks m
+    = λ m. ap (read_segs s first) (line_held instr m) ∙ sym (changed-read [] instr s s first 0 (own_read s first) m)
+    ∙ ap (λ k. (step_instr k instr s).stacks m) (let e : first + 0 ≡ first = omega arith in e) in
+    λ i. record {
+      rack = effect.rack first s i;
+      ins = effect.ins first s i;
+      hook = effect.hook first s i;
+      stacks = λ m. stacks m i;
+    }
+
+fault_here : (first : ℕ) (reason : Reason) → raised first (record { line = 0; reason = reason }) ≡ record { line = first; reason = reason }
+fault_here first reason = let same : first + 0 ≡ first = omega arith in λ i. record { line = same i; reason = reason }
+
+instr_outcome : (o : Option Reason) (instr : Instr) (s : State) (first : ℕ) →
+    outcome_of (at_line o) (Through (effect_of instr)) (line_changes instr) s first ≡ outcome_of_run (run_on first o s (Ends (step_instr first instr s)))
+instr_outcome None instr s first = ap went_on (line_after instr s first)
+instr_outcome (Some reason) instr s first = ap faulted (fault_here first reason)
+
+made_if_none : (o : Option Reason) (fact : Option LoopFact) (count first : ℕ) (s t : State) (rest : Ended) → run_on first o s rest ≡ Ends t →
+    length (option_to_list fact) ≡ count → length (made_on o fact []) ≡ count
+made_if_none None fact count first s t rest ends is = ap length (append-nil (option_to_list fact)) ∙ is
+made_if_none (Some reason) fact count first s t rest ends is = absurd (cc)
+
+formed_items : (k : ℕ) (dir : Dir) (n : Needle) (cs : List CarrierNo) (through : List ℕ) → length (option_to_list (formed k dir n cs through)) ≡ set_items (formed_on n cs)
+formed_items k dir n [] through = refl
+formed_items k dir n (c ∷ cs) through = refl
+
+loop_items : (instr : Instr) (k : ℕ) (s : State) → length (option_to_list (loop_of_instr k instr s)) ≡ set_items (forming_needle instr)
+loop_items (Knit dir n cs) k s = formed_items k dir n cs (s.stacks n)
+loop_items (Tuck dir n cs) k s = formed_items k dir n cs []
+loop_items (Split dir n n2 cs) k s = formed_items k dir n cs (s.stacks n)
+loop_items (Xfer n n2) k s = refl
+loop_items (Drop n) k s = refl
+loop_items (CarryIn cs) k s = refl
+loop_items (CarryOut cs) k s = refl
+loop_items (HookIn cs) k s = refl
+loop_items (HookOut cs) k s = refl
+loop_items (ReleaseHook cs) k s = refl
+loop_items Stitch k s = refl
+loop_items Pause k s = refl
+loop_items Extension k s = refl
+loop_items (Rack q) k s = refl
+loop_items (Miss dir n cs) k s = refl
+loop_items (Amiss n) k s = refl
+
+-- The summary of a line stands for it.
+pub line_stands : (profile : Profile) (r : Read) → 1 ≤ profile.hold → StandsFor profile (line_summary profile.hold r) (r ∷ [])
+line_stands profile read.Blank some = record { lines_are = refl; outcome = λ s first. no_lines-applied s first; made_are = λ s t first ends. refl }
+line_stands profile read.Comment some = record { lines_are = refl; outcome = λ s first. no_lines-applied s first; made_are = λ s t first ends. refl }
+line_stands profile (read.Broken reason) some = record {
+  lines_are = refl;
+  outcome = λ s first. ap faulted (fault_here first reason);
+  made_are = λ s t first ends. absurd (cc);
+}
+line_stands profile (read.Instr instr) some = record {
+  lines_are = refl;
+  outcome = λ s first.
+      ap (λ o. outcome_of o (Through (effect_of instr)) (line_changes instr) s first) (line_faults profile instr s some)
+      ∙ instr_outcome (broken_instr profile instr s) instr s first;
+  made_are = λ s t first ends.
+      made_if_none (broken_instr profile instr s) (loop_of_instr first instr s) (set_items (forming_needle instr)) first s t (Ends (step_instr first instr s)) ends
+      (loop_items instr first s);
+}
