@@ -1,0 +1,183 @@
+-- What the digest and the notes know of a condition is what the kept conditions say of it.
+use Rattle.std.proofs.Common.{subst, ◌≡◌, ℕ, ◌-◌, Bool, true, false, List, [], ◌∷◌, Option, Some, None, length, map, refl, sym, ap, ◌∙◌}
+use Rattle.std.specs.Prelude.{nat_lt, nat_le, ◌&&◌, ◌||◌, if◌then◌else◌}
+use Rattle.std.specs.List.{list_any}
+use Rattle.std.proofs.Math.Path.{ap₂}
+use Rattle.std.proofs.lemmas.Bool.{true≢false}
+use Rattle.std.proofs.lemmas.List.Folds.{list_any-append}
+use Rattle.knit_base.specs.declared.needle.Needle.{Needle}
+use Rattle.knit_base.specs.declared.rule.Fault.{Fault}
+use Rattle.knit_base.specs.Needle.{same_needle, same_needle-true}
+use Rattle.knit_base.specs.Yarns.{contains_carrier, lacks_carrier}
+use Rattle.face_data.specs.declared.bearing.Bearing.TheVariants.{Implied, Refuted}
+use Rattle.face_data.specs.declared.digest.Digest.{Digest}
+use Rattle.face_data.specs.declared.face.Effect.{Effect}
+use Rattle.face_data.specs.Answers.{Answer, answer_of, where_known, size_left, size_answer, read_answer}
+use Rattle.face_data.specs.Answers.Answer.{yes_it_does, no_it_does_not, asks}
+use Rattle.face_data.specs.Bearings.{if_so, same_or_not}
+use Rattle.face_data.specs.Chains.{SizeMark, marks_in, chain_at, covers, is_covered, known_of, answer_known}
+use Rattle.face_data.specs.Composition.{from_bearing, against_kept, next, reads, Gathered}
+use Rattle.face_data.specs.declared.face.Cond.{Cond}
+use Rattle.face_data.specs.declared.face.Cond.TheVariants.{RackIs, CarrierIn, CarrierOut, HookFree, HookIs, HookLacks, SizeAtMost}
+use Rattle.face_data.specs.declared.face.Part.{Part}
+use Rattle.face_data.specs.Conditions.{Ask, ask_of, part_of}
+use Rattle.face_data.specs.Conditions.Ask.{rack_is, carrier_in, carrier_out, hook_free, hook_is, hook_lacks, size_at_most}
+use Rattle.face_data.specs.Digests.{told, told_by, IsPlainCondition}
+use Rattle.face_data.specs.Segments.{Changed, names_through, new_through}
+use Rattle.face_data.specs.Summaries.{Asked, raised}
+use Rattle.face_data.proofs.Members.{same_needle_same}
+use Rattle.summary_compose.specs.Known.{IsPlainCond, Knows, StepIs, notes_in, notes_of, noted_answer, noted_left, read_plain}
+use Rattle.summary_compose.specs.Tables.{Note, suits}
+
+test_known : (d : Digest) (chains : Needle → List SizeMark) (b : Bool) (rest : Answer) → answer_known d chains (answer_of b) ≡ from_bearing (same_or_not b) rest
+test_known d chains true rest = refl
+test_known d chains false rest = refl
+
+where_is : {X : Type 0} (d : Digest) (chains : Needle → List SizeMark) (o : Option X) (test : X → Bool) (q : Ask) → known_of d chains q ≡ from_bearing (told d q) (asks q) →
+    answer_known d chains (where_known o test q) ≡ from_bearing (told_by o (λ x. same_or_not (test x))) (from_bearing (told d q) (asks q))
+where_is d chains None test q e = e
+where_is d chains (Some x) test q e = test_known d chains (test x) (from_bearing (told d q) (asks q))
+
+in_is : (d : Digest) (chains : Needle → List SizeMark) (came went : Bool) (q : Ask) → known_of d chains q ≡ from_bearing (told d q) (asks q) →
+    answer_known d chains (if came then yes_it_does else (if went then no_it_does_not else asks q)) ≡ from_bearing (if came then Implied else if_so went Refuted) (from_bearing (told d q) (asks q))
+in_is d chains true went q e = refl
+in_is d chains false true q e = refl
+in_is d chains false false q e = e
+
+out_is : (d : Digest) (chains : Needle → List SizeMark) (came went : Bool) (q : Ask) → known_of d chains q ≡ from_bearing (told d q) (asks q) →
+    answer_known d chains (if came then no_it_does_not else (if went then yes_it_does else asks q)) ≡ from_bearing (if came then Refuted else if_so went Implied) (from_bearing (told d q) (asks q))
+out_is d chains true went q e = refl
+out_is d chains false true q e = refl
+out_is d chains false false q e = e
+
+-- a condition that isn't on sizes
+pub answer-plain : (d : Digest) (chains : Needle → List SizeMark) (effect : Effect) (changes : List Changed) (q : Ask) → IsPlainCondition q →
+    answer_known d chains (read_answer effect changes q) ≡ from_bearing (read_plain effect q) (from_bearing (told d q) (asks q))
+unfolding read_answer read_plain
+answer-plain d chains effect changes (rack_is q) plain = where_is d chains effect.rack _ (rack_is q) refl
+answer-plain d chains effect changes (carrier_in c) plain = in_is d chains (contains_carrier effect.came c) (contains_carrier effect.went c) (carrier_in c) refl
+answer-plain d chains effect changes (carrier_out c) plain = out_is d chains (contains_carrier effect.came c) (contains_carrier effect.went c) (carrier_out c) refl
+answer-plain d chains effect changes hook_free plain = where_is d chains effect.hook _ hook_free refl
+answer-plain d chains effect changes (hook_is set) plain = where_is d chains effect.hook _ (hook_is set) refl
+answer-plain d chains effect changes (hook_lacks c) plain = where_is d chains effect.hook (λ held. lacks_carrier held c) (hook_lacks c) refl
+answer-plain d chains effect changes (size_at_most names most) plain = absurd plain
+
+-- two needles one way round and the other
+other_way_on : (n m : Needle) (b c : Bool) → same_needle n m ≡ b → same_needle m n ≡ c → b ≡ c
+other_way_on n m true true e f = refl
+other_way_on n m false false e f = refl
+other_way_on n m true false e f = absurd (true≢false (sym (same_needle_same m n (sym (same_needle-true n m e))) ∙ f))
+other_way_on n m false true e f = absurd (true≢false (sym (same_needle_same n m (sym (same_needle-true m n f))) ∙ e))
+
+other_way : (n m : Needle) → same_needle n m ≡ same_needle m n
+other_way n m = other_way_on n m (same_needle n m) (same_needle m n) refl refl
+
+both_or : (x y z : Bool) → ((x && z) || (y && z)) ≡ ((x || y) && z)
+both_or true true true = refl
+both_or true true false = refl
+both_or true false true = refl
+both_or true false false = refl
+both_or false y z = refl
+
+notes_any : (n : Needle) (len most total k : ℕ) (xs : List Needle) →
+    list_any (suits n len most) (map (λ m. record { needle = m; len = total; most = k }) xs) ≡ (list_any (same_needle n) xs && (nat_le len total && nat_le k most))
+notes_any n len most total k [] = refl
+notes_any n len most total k (x ∷ xs) =
+    ap₂ (λ (a b : Bool). (a && (nat_le len total && nat_le k most)) || b) (other_way x n) (notes_any n len most total k xs)
+    ∙ both_or (same_needle n x) (list_any (same_needle n) xs) (nat_le len total && nat_le k most)
+
+mark_any : (len most total k : ℕ) (there : Bool) → (there && (nat_le len total && nat_le k most)) ≡ list_any (covers len most) (if there then record { len = total; most = k } ∷ [] else [])
+mark_any len most total k true = or_false (nat_le len total && nat_le k most)
+  where
+    or_false : (x : Bool) → x ≡ (x || false)
+    or_false true = refl
+    or_false false = refl
+mark_any len most total k false = refl
+
+notes_marks : (n : Needle) (len most : ℕ) (q : Ask) → list_any (suits n len most) (notes_in q) ≡ list_any (covers len most) (marks_in n q)
+notes_marks n len most (size_at_most names k) = notes_any n len most (length names) k names ∙ mark_any len most (length names) k (list_any (same_needle n) names)
+notes_marks n len most (rack_is q) = refl
+notes_marks n len most (carrier_in c) = refl
+notes_marks n len most (carrier_out c) = refl
+notes_marks n len most hook_free = refl
+notes_marks n len most (hook_is set) = refl
+notes_marks n len most (hook_lacks c) = refl
+
+-- the notes of the kept conditions are the chains of their needles
+pub notes_covered : (n : Needle) (len most : ℕ) (kept : List Asked) → list_any (suits n len most) (notes_of kept) ≡ is_covered (chain_at kept n) len most
+notes_covered n len most [] = refl
+notes_covered n len most (c ∷ cs) =
+    list_any-append (suits n len most) (notes_in c.ask) (notes_of cs)
+    ∙ ap₂ (λ (a b : Bool). a || b) (notes_marks n len most c.ask) (notes_covered n len most cs)
+    ∙ sym (list_any-append (covers len most) (marks_in n c.ask) (chain_at cs n))
+
+left_known : (d : Digest) (notes : List Note) (kept : List Asked) (names : List Needle) (left : ℕ) (answer : Answer) → Knows d notes kept →
+    answer ≡ answer_known d (chain_at kept) (size_left names left) → answer ≡ noted_left notes names left
+left_known d notes kept [] left answer h e = e
+left_known d notes kept (n ∷ ns) left answer h e =
+    e ∙ ap (λ b. from_bearing (if_so b Implied) (asks (size_at_most (n ∷ ns) left)))
+    (sym (notes_covered n (length (n ∷ ns)) left kept) ∙ ap (list_any (suits n (length (n ∷ ns)) left)) (sym h.notes_are))
+
+sized_on : (d : Digest) (notes : List Note) (kept : List Asked) (names : List Needle) (new most : ℕ) (over : Bool) → Knows d notes kept →
+    answer_known d (chain_at kept) (if over then no_it_does_not else size_left names (most - new)) ≡ (if over then no_it_does_not else noted_left notes names (most - new))
+sized_on d notes kept names new most true h = refl
+sized_on d notes kept names new most false h = left_known d notes kept names (most - new) (answer_known d (chain_at kept) (size_left names (most - new))) h refl
+
+-- a condition on sizes
+pub answer-sized : (d : Digest) (notes : List Note) (kept : List Asked) (effect : Effect) (changes : List Changed) (needles : List Needle) (most : ℕ) → Knows d notes kept →
+    answer_known d (chain_at kept) (read_answer effect changes (size_at_most needles most)) ≡ noted_answer notes (names_through changes needles) (new_through changes needles) most
+unfolding read_answer size_answer noted_answer
+answer-sized d notes kept effect changes needles most h =
+    sized_on d notes kept (names_through changes needles) (new_through changes needles) most (nat_lt most (new_through changes needles)) h
+
+next_step : (answer : Answer) (kept now : List Asked) (fault : Fault) (goes_on : Bool) (go : List Asked → Gathered) → StepIs answer kept fault goes_on now →
+    next answer kept fault go ≡ (if goes_on then go now else record { checks = now; stop = Some fault })
+next_step yes_it_does kept now fault true go h = ap go (sym h.1)
+next_step yes_it_does kept now fault false go h = absurd (true≢false (sym h.0))
+next_step no_it_does_not kept now fault true go h = absurd (true≢false h.0)
+next_step no_it_does_not kept now fault false go h = λ i. record { checks = sym h.1 i; stop = Some fault }
+next_step (asks q) kept now fault true go h = ap go (sym h.1)
+next_step (asks q) kept now fault false go h = absurd (true≢false (sym h.0))
+
+-- one condition of the second block read
+pub reads_step : (effect : Effect) (changes : List Changed) (lines : ℕ) (kept now rest : List Asked) (c : Asked) (goes_on : Bool) →
+    StepIs (against_kept kept (read_answer effect changes c.ask)) kept (raised lines c.fault) goes_on now →
+    reads effect changes lines kept (c ∷ rest) ≡ (if goes_on then reads effect changes lines now rest else record { checks = now; stop = Some (raised lines c.fault) })
+unfolding reads
+reads_step effect changes lines kept now rest c goes_on h =
+    next_step (against_kept kept (read_answer effect changes c.ask)) kept now (raised lines c.fault) goes_on (λ ks. reads effect changes lines ks rest) h
+
+plain_ask : (names : List Needle) (c : Cond) → IsPlainCond c → ask_of names c ≡ ask_of [] c
+plain_ask names (SizeAtMost p most) plain = absurd plain
+plain_ask names (RackIs q) plain = refl
+plain_ask names (CarrierIn c) plain = refl
+plain_ask names (CarrierOut c) plain = refl
+plain_ask names HookFree plain = refl
+plain_ask names (HookIs set) plain = refl
+plain_ask names (HookLacks c) plain = refl
+
+plain_condition : (c : Cond) → IsPlainCond c → IsPlainCondition (ask_of [] c)
+plain_condition (SizeAtMost p most) plain = absurd plain
+plain_condition (RackIs q) plain = tt
+plain_condition (CarrierIn c) plain = tt
+plain_condition (CarrierOut c) plain = tt
+plain_condition HookFree plain = tt
+plain_condition (HookIs set) plain = tt
+plain_condition (HookLacks c) plain = tt
+
+-- what the code knows is what is known
+pub plain_step : (d : Digest) (chains : Needle → List SizeMark) (effect : Effect) (changes : List Changed) (names : List Needle) (c : Cond) (kept now : List Asked) (fault : Fault) (goes_on : Bool) → IsPlainCond c →
+    StepIs (from_bearing (read_plain effect (ask_of [] c)) (from_bearing (told d (ask_of [] c)) (asks (ask_of [] c)))) kept fault goes_on now →
+    StepIs (answer_known d chains (read_answer effect changes (ask_of names c))) kept fault goes_on now
+plain_step d chains effect changes names c kept now fault goes_on plain h =
+    subst (λ answer. StepIs answer kept fault goes_on now)
+    (sym (ap (λ q. answer_known d chains (read_answer effect changes q)) (plain_ask names c plain) ∙ answer-plain d chains effect changes (ask_of [] c) (plain_condition c plain))) h
+
+pub sized_step : (d : Digest) (notes : List Note) (effect : Effect) (changes : List Changed) (names needles : List Needle) (c : Cond) (p : Part) (most : ℕ) (kept now : List Asked) (fault : Fault) (goes_on : Bool) →
+    Knows d notes kept → c ≡ SizeAtMost p most → needles ≡ part_of names p →
+    StepIs (noted_answer notes (names_through changes needles) (new_through changes needles) most) kept fault goes_on now →
+    StepIs (answer_known d (chain_at kept) (read_answer effect changes (ask_of names c))) kept fault goes_on now
+sized_step d notes effect changes names needles c p most kept now fault goes_on known is read h =
+    subst (λ answer. StepIs answer kept fault goes_on now)
+    (sym (answer-sized d notes kept effect changes needles most known) ∙ ap (λ q. answer_known d (chain_at kept) (read_answer effect changes q))
+    (ap (λ ns. size_at_most ns most) read ∙ ap (ask_of names) (sym is))) h

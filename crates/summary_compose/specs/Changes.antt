@@ -1,0 +1,53 @@
+-- Changes whose segments stand in one list.
+use Rattle.std.specs.Prelude.{◌≡◌, ℕ, ◌+◌, ◌≤◌, ◌<◌, ◌^◌, List, length, map, All}
+use Rattle.std.specs.List.{flat_map, sum_by}
+use Rattle.knit_base.specs.declared.needle.Needle.{Needle}
+use Rattle.face_data.specs.declared.face.Change.{Change}
+use Rattle.face_data.specs.declared.face.Seg.{Seg}
+use Rattle.face_data.specs.declared.face.Seg.TheVariants.{Entry, New}
+use Rattle.face_data.specs.Conditions.{part_of}
+use Rattle.face_data.specs.declared.face.FaceView.{FaceView}
+use Rattle.face_data.specs.Composition.{merged}
+use Rattle.face_data.specs.Segments.{Changed}
+use Rattle.face_data.specs.Through.{changes_through}
+use Rattle.face_data.specs.View.{changed_of}
+
+-- the needles of changes
+abbrev pub changed_needles : List Change → List Needle
+changed_needles changes = map (λ (c : Change). c.needle) changes
+
+-- the part of each change lies in the list of segments
+abbrev pub PartsFit : List Seg → List Change → Type 0
+PartsFit segs changes = All (λ (c : Change). c.part.start + c.part.len ≤ length segs) changes
+
+-- and the parts make up the list
+pub record ArePacked (segs : List Seg) (changes : List Change) : Type 0 where
+  pub fit : PartsFit segs changes
+  pub whole : flat_map (λ (c : Change). part_of segs c.part) changes ≡ segs
+
+-- raising the line of a new loop stays within the numbers of lines
+abbrev pub OffsetFits : ℕ → Seg → Type 0
+OffsetFits lines (Entry n) = Unit {0}
+OffsetFits lines (New offset) = lines + offset < 2 ^ 32
+
+-- how many segments changes have together
+abbrev pub segs_in : List Changed → ℕ
+segs_in changes = sum_by (λ (c : Changed). length c.1) changes
+
+-- the lines of the new loops in the segments of each change can be raised
+abbrev pub HaveOffsets : ℕ → List Seg → List Change → Type 0
+HaveOffsets lines segs changes = All (λ (c : Change). All (OffsetFits lines) (part_of segs c.part)) changes
+
+-- the changes of a face with their segments written out
+abbrev pub changes_of : FaceView → List Changed
+changes_of face = map (changed_of face.segs.now) face.changes.now
+
+-- the changes of both faces, those of the second read through the first
+abbrev pub merged_of : FaceView → FaceView → List Changed
+merged_of a b = merged (changes_of a) (changes_through (changes_of a) a.lines (changes_of b))
+
+-- what contracts see of changes in the making: the changes, and for how many of them and of their segments there is room
+pub record LaidView : Type 0 where
+  pub changes : List Changed
+  pub change_room : ℕ
+  pub seg_room : ℕ

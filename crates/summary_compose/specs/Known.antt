@@ -1,0 +1,130 @@
+-- What is known while conditions are read and kept.
+use Rattle.std.specs.Prelude.{◌≤◌, ◌<◌, ◌^◌, ◌≡◌, ℕ, ◌-◌, nat_lt, All, List, [], ◌∷◌, length, map, not, nat_eq, if◌then◌else◌, ◌++◌, Bool, true, false}
+use Rattle.std.specs.List.{flat_map, list_any, sum_by}
+use Rattle.std.specs.Ordering.{int_eq}
+use Rattle.knit_base.specs.declared.needle.Needle.{Needle}
+use Rattle.knit_base.specs.declared.rule.Fault.{Fault}
+use Rattle.knit_base.specs.Yarns.{contains_carrier}
+use Rattle.face_data.specs.declared.bearing.Bearing.{Bearing}
+use Rattle.face_data.specs.declared.bearing.Bearing.TheVariants.{Implied, Refuted, Silent}
+use Rattle.face_data.specs.declared.face.Cond.{Cond}
+use Rattle.face_data.specs.declared.face.Cond.TheVariants.{SizeAtMost}
+use Rattle.face_data.specs.declared.face.Effect.{Effect}
+use Rattle.face_data.specs.declared.digest.Digest.{Digest}
+use Rattle.face_data.specs.Bearings.{if_so, same_or_not}
+use Rattle.face_data.specs.Conditions.{Ask}
+use Rattle.face_data.specs.Conditions.Ask.{rack_is, carrier_in, carrier_out, hook_free, hook_is, hook_lacks, size_at_most}
+use Rattle.face_data.specs.Digests.{CarrierFits, digest_of, told_by}
+use Rattle.face_data.specs.Segments.{Changed, names_through, new_through}
+use Rattle.face_data.specs.Goodness.{IsGood, names_in}
+use Rattle.face_data.specs.Summaries.{Asked}
+use Rattle.face_data.specs.declared.face.Check.{Check}
+use Rattle.face_data.specs.declared.face.FaceView.{FaceView}
+use Rattle.summary_compose.specs.Changes.{changes_of}
+use Rattle.face_data.specs.Answers.{Answer}
+use Rattle.face_data.specs.Answers.Answer.{yes_it_does, no_it_does_not, asks}
+use Rattle.face_data.specs.Composition.{from_bearing}
+use Rattle.face_data.specs.View.{asked_of, summary_of, CondFits, names_of}
+use Rattle.summary_compose.specs.Spots.{IsNumbered}
+use Rattle.summary_compose.specs.Tables.{Note, suits}
+use Rattle.summary_compose.specs.declared.sizes.SizeWord.{SizeWord}
+use Rattle.summary_compose.specs.declared.sizes.SizeWord.TheVariants.{Holds, Fails, Asks}
+
+-- the condition isn't on sizes
+abbrev pub IsPlainCond : Cond → Type 0
+IsPlainCond (SizeAtMost p most) = ⊥
+IsPlainCond cond = Unit {0}
+
+-- what an effect says of a condition that isn't on sizes
+unfoldable pub read_plain : Effect → Ask → Bearing
+read_plain effect (rack_is q) = told_by effect.rack (λ r. same_or_not (int_eq r.0 q))
+read_plain effect (carrier_in c) = if contains_carrier effect.came c then Implied else if_so (contains_carrier effect.went c) Refuted
+read_plain effect (carrier_out c) = if contains_carrier effect.came c then Refuted else if_so (contains_carrier effect.went c) Implied
+read_plain effect hook_free = told_by effect.hook (λ held. same_or_not (nat_eq held 0))
+read_plain effect (hook_is set) = told_by effect.hook (λ held. same_or_not (nat_eq held set))
+read_plain effect (hook_lacks c) = told_by effect.hook (λ held. same_or_not (not (contains_carrier held c)))
+read_plain effect (size_at_most names most) = Silent
+
+-- a note for each needle of a condition on sizes
+abbrev pub notes_in : Ask → List Note
+notes_in (size_at_most names most) = map (λ n. record { needle = n; len = length names; most = most }) names
+notes_in ask = []
+
+-- the notes of all conditions, in their order
+abbrev pub notes_of : List Asked → List Note
+notes_of kept = flat_map (λ (c : Asked). notes_in c.ask) kept
+
+-- the digest and the notes are those of the kept conditions
+pub record Knows (digest : Digest) (notes : List Note) (kept : List Asked) : Type 0 where
+  pub digest_is : digest ≡ digest_of kept
+  pub notes_are : notes ≡ notes_of kept
+
+-- what the notes say of so many loops on these needles
+abbrev pub noted_left : List Note → List Needle → ℕ → Answer
+noted_left notes [] left = yes_it_does
+noted_left notes (n ∷ ns) left = from_bearing (if_so (list_any (suits n (length (n ∷ ns)) left) notes) Implied) (asks (size_at_most (n ∷ ns) left))
+
+-- what they say of these needles and so many new loops together
+unfoldable pub noted_answer : List Note → List Needle → ℕ → ℕ → Answer
+noted_answer notes names new most = if nat_lt most new then no_it_does_not else noted_left notes names (most - new)
+
+-- what the code knows of a condition on the sizes of these needles
+abbrev pub answer_in : List Needle → SizeWord → Answer
+answer_in names Holds = yes_it_does
+answer_in names Fails = no_it_does_not
+answer_in names (Asks left) = asks (size_at_most names left)
+
+-- the parts of the conditions lie in the list of names, and make it up
+pub record AreNamed (names : List Needle) (checks : List Check) : Type 0 where
+  pub fit : All (λ (c : Check). CondFits names c.cond) checks
+  pub whole : flat_map (λ (c : Check). names_of names c.cond) checks ≡ names
+
+-- how many needles the conditions name
+abbrev pub names_count : List Asked → ℕ
+names_count kept = sum_by (λ (c : Asked). length (names_in c.ask)) kept
+
+-- how many needles the conditions name when they are read through the changes
+abbrev pub names_read_count : List Changed → List Asked → ℕ
+names_read_count changes more = sum_by (λ (c : Asked). length (names_through changes (names_in c.ask))) more
+
+-- what contracts see of conditions that are kept: the conditions, and for how many of them and of their needles there is room
+pub record KeptView : Type 0 where
+  pub checks : List Asked
+  pub check_room : ℕ
+  pub name_room : ℕ
+
+-- What becomes of the kept conditions by one more with this answer and this fault: whether the reading goes on, and what is kept
+-- then.
+abbrev pub StepIs : Answer → List Asked → Fault → Bool → List Asked → Type 0
+StepIs yes_it_does kept fault goes_on now = (goes_on ≡ true) × (now ≡ kept)
+StepIs no_it_does_not kept fault goes_on now = (goes_on ≡ false) × (now ≡ kept)
+StepIs (asks ask) kept fault goes_on now = (goes_on ≡ true) × (now ≡ kept ++ record { fault = fault; ask = ask } ∷ [])
+
+-- the needles of the condition, read through the face, are few, and so are the new loops on them
+pub record IsFewThrough (a : FaceView) (needles : List Needle) : Type 0 where
+  pub names : length (names_through (changes_of a) needles) < 2 ^ 32
+  pub new : new_through (changes_of a) needles < 2 ^ 64
+
+-- the condition, whose needles stand in the list of names, can be read through the face
+pub record IsReadable (a : FaceView) (names : List Needle) (c : Cond) : Type 0 where
+  pub fit : CondFits names c
+  pub carrier : CarrierFits c
+  pub few : IsFewThrough a (names_of names c)
+
+-- the conditions of a face with their needles written out
+abbrev pub checks_of : FaceView → List Asked
+checks_of face = map (asked_of face.names.now) face.checks.now
+
+-- Both faces are good for the same number of carriers, of which there are at most 64, and the same limit on loops, of 8 bits. The
+-- numbers of the known needles have 16 bits.
+pub record AreGood (a b : FaceView) : Type 0 where
+  pub carriers : ℕ
+  pub limit : ℕ
+  pub first_known : List Needle
+  pub second_known : List Needle
+  pub few : carriers ≤ 64
+  pub few_loops : limit < 2 ^ 8
+  pub first_numbers : All IsNumbered first_known
+  pub second_numbers : All IsNumbered second_known
+  pub first : IsGood carriers limit first_known (summary_of a)
+  pub second : IsGood carriers limit second_known (summary_of b)

@@ -1,0 +1,6 @@
+pub mod Changes
+pub mod Composing
+pub mod Known
+pub mod Rooms
+pub mod Spots
+pub mod Tables

@@ -1,0 +1,41 @@
+-- Room for faces, and for one of two texts.
+use Rattle.std.specs.Prelude.{ℕ, ◌+◌, ◌*◌, ◌^◌, ◌≤◌, nat_lt, length, if◌then◌else◌}
+use Rattle.face_data.specs.declared.face.FaceView.{FaceView}
+use Rattle.face_data.specs.Segments.{entries_of}
+use Rattle.summary_compose.specs.declared.room.Room.{Room}
+
+-- the number, where there can be so much room, and one past all room where there can't
+abbrev pub capped : ℕ → ℕ
+capped n = if nat_lt (2 ^ 62) n then 2 ^ 62 + 1 else n
+
+-- the items of a face's lists
+abbrev pub room_of : FaceView → Room
+room_of face = record {
+  checks = length face.checks.now;
+  names = length face.names.now;
+  changes = length face.changes.now;
+  segs = length face.segs.now;
+  entries = length (entries_of face.segs.now);
+}
+
+-- Room for the composition of a face with this room and one with the next: a condition of the second may name, beside its own
+-- needles, each needle whose entry stands in the first one's segments.
+abbrev pub room_after : Room → Room → Room
+room_after room next = record {
+  checks = capped (room.checks + next.checks);
+  names = capped (capped (room.names + next.names) + capped (next.checks * room.entries));
+  changes = capped (room.changes + next.changes);
+  segs = capped (room.segs + next.segs);
+  entries = capped (room.entries + next.entries);
+}
+
+-- room for the composition of both faces
+abbrev pub room_of_both : FaceView → FaceView → Room
+room_of_both a b = room_after (room_of a) (room_of b)
+
+-- there can be so much room
+pub record CanBeMade (room : Room) : Type 0 where
+  pub checks : room.checks ≤ 2 ^ 62
+  pub names : room.names ≤ 2 ^ 62
+  pub changes : room.changes ≤ 2 ^ 62
+  pub segs : room.segs ≤ 2 ^ 62

@@ -1,0 +1,102 @@
+//! Composition.
+ghost use Rattle.std.specs.Prelude.{◌≡◌, ◌<◌, ◌≤◌, ◌+◌, ◌^◌, [], length};
+ghost use Rattle.face_data.specs.Composition.{composed, composed_at, reads, closed};
+ghost use Rattle.face_data.specs.View.{summary_of};
+ghost use Rattle.summary_compose.specs.Changes.{changed_needles, changes_of, merged_of, segs_in};
+ghost use Rattle.summary_compose.specs.Composing.{Composes, FindsRoom, Holds, KeepsRooms, made_in};
+ghost use Rattle.summary_compose.specs.Known.{checks_of, names_count, names_read_count};
+ghost use Rattle.summary_compose.specs.Tables.{Tells};
+ghost use Rattle.summary_compose.specs.declared.room.Room.{Room};
+
+use crate::index::Index;
+use crate::kept::Kept;
+use crate::making::Making;
+use crate::merging::merge;
+use crate::noting::note_all;
+use crate::places::Places;
+use crate::reading::read_checks;
+use face_data::{Digest, Effect, Ending, FaceView};
+use knit_base::Fault;
+
+// Gathers the conditions of both faces. Answers the fault of one that can't hold.
+fn gather(
+    kept: &mut Kept,
+    index: &mut Index,
+    places: &Places,
+    a: &FaceView,
+    effect: &Effect,
+    b: &FaceView,
+) -> Option<Fault>
+    requires composes { Composes a.now b.now }
+    requires through { a.now.ending ≡ Ending.Through effect.now }
+    requires begun { kept.old.checks ≡ checks_of a.now }
+    requires check_room { length a.now.checks.now + length b.now.checks.now ≤ kept.old.check_room }
+    requires name_room { names_count (checks_of a.now) + names_read_count (changes_of a.now) (checks_of b.now) ≤ kept.old.name_room }
+    requires index_room { names_count (checks_of a.now) + names_read_count (changes_of a.now) (checks_of b.now) ≤ index.old.room }
+    requires noted { Tells places.now.table.entries.items (changed_needles a.now.changes.now) }
+    ensures read { reads effect.now (changes_of a.now) a.now.lines (checks_of a.now) (checks_of b.now) ≡ record { checks = kept.new.checks; stop = result } }
+    ensures check_room { kept.new.check_room ≡ kept.old.check_room }
+    ensures name_room { kept.new.name_room ≡ kept.old.name_room }
+    ensures index_room { index.new.room ≡ index.old.room }
+{
+    index.clear();
+    let mut digest = Digest::blank();
+    note_all(a, index, &mut digest);
+    read_checks(kept, index, &mut digest, places, a, effect, b)
+}
+
+/// Makes the face of the first face's text followed by the second's.
+pub fn put_together(a: &FaceView, b: &FaceView, making: &mut Making)
+    requires composes { Composes a.now b.now }
+    requires room { (room : Room) × FindsRoom a.now b.now room × Holds making.old room }
+    ensures made { made_in making.new ≡ composed (summary_of a.now) (summary_of b.now) }
+    ensures keeps { KeepsRooms making.old making.new }
+{
+    making.laid.clear();
+    making.kept.begin(a);
+    making.lines = a.lines + b.lines;
+    making.made = 0;
+    making.ending = a.ending;
+    if let Ending::Through(effect) = a.ending {
+        go_on(a, &effect, b, making);
+    }
+}
+
+// The same after a face that ends with this effect.
+fn go_on(a: &FaceView, effect: &Effect, b: &FaceView, making: &mut Making)
+    requires composes { Composes a.now b.now }
+    requires through { a.now.ending ≡ Ending.Through effect.now }
+    requires room { (room : Room) × FindsRoom a.now b.now room × Holds making.old room }
+    requires begun { making.old.kept.checks ≡ checks_of a.now }
+    requires none { making.old.laid.changes ≡ [] }
+    requires lines { making.old.lines ≡ a.now.lines + b.now.lines }
+    requires made { making.old.made ≡ 0 }
+    ensures made { made_in making.new ≡ closed (reads effect.now (changes_of a.now) a.now.lines (checks_of a.now) (checks_of b.now)) effect.now (summary_of a.now) (summary_of b.now) }
+    ensures keeps { KeepsRooms making.old making.new }
+{
+    making.places.note(a.changes);
+    if let Some(fault) = gather(
+        &mut making.kept,
+        &mut making.index,
+        &making.places,
+        a,
+        effect,
+        b,
+    ) {
+        making.ending = Ending::Broken(fault);
+        return;
+    }
+    match b.ending {
+        Ending::Broken(fault) => {
+            making.ending = Ending::Broken(Fault {
+                line: a.lines + fault.line,
+                reason: fault.reason,
+            });
+        }
+        Ending::Through(more) => {
+            making.made = a.made + b.made;
+            making.ending = Ending::Through(effect.then(&more));
+            merge(&mut making.laid, a, b, &making.places);
+        }
+    }
+}

@@ -1,0 +1,155 @@
+//! Conditions that are kept, with the needles that they name.
+ghost use Rattle.std.specs.Prelude.{◌≡◌, ℕ, ◌<◌, ◌≤◌, ◌+◌, ◌^◌, [], ◌∷◌, ◌++◌, length, map, OnOk, vec_len, vec_capacity};
+ghost use Rattle.knit_base.specs.declared.needle.Needle.{Needle};
+ghost use Rattle.face_data.specs.Conditions.{ask_of};
+ghost use Rattle.face_data.specs.Conditions.Ask.{size_at_most};
+ghost use Rattle.face_data.specs.Goodness.{IsInOrder};
+ghost use Rattle.face_data.specs.Segments.{names_through, new_through};
+ghost use Rattle.face_data.specs.View.{asked_of};
+ghost use Rattle.summary_compose.specs.Changes.{changed_needles, changes_of, PartsFit};
+ghost use Rattle.summary_compose.specs.Known.{AreNamed, IsPlainCond, answer_in, checks_of, names_count, noted_answer, notes_in};
+ghost use Rattle.summary_compose.specs.Tables.{Tells};
+
+use crate::index::Index;
+use crate::names::read_names;
+use crate::places::Places;
+use crate::sizes::{SizeWord, note_each, word_on};
+use face_data::{Check, Cond, FaceView, Part};
+use knit_base::{Fault, Needle, NoMemory};
+use std::alloc::Global;
+use std::marker::Model;
+
+/// Conditions that are kept. The needles of those on sizes stand in one list.
+#[derive(Drop)]
+pub struct Kept {
+    checks: Vec<Check>,
+    names: Vec<Needle>,
+}
+
+impl Model for Kept {
+    ghost use Rattle.std.specs.Prelude.{map, vec_capacity};
+    ghost use Rattle.face_data.specs.View.{asked_of};
+    ghost use Rattle.summary_compose.specs.Known.{KeptView, AreNamed};
+
+    ghost Value = { KeptView };
+
+    ghost view = { λ k. record { checks = map (asked_of k.names.items) k.checks.items; check_room = vec_capacity k.checks; name_room = vec_capacity k.names } };
+
+    ghost invariant = { λ k. AreNamed k.names.items k.checks.items };
+}
+
+// Appends items where there is room.
+fn append<T: Copy>(items: &[T], list: &mut Vec<T>)
+    requires { vec_len list.old + length items.now ≤ vec_capacity list.old }
+    ensures items { list.new.items ≡ list.old.items ++ items.now }
+    ensures capacity { vec_capacity list.old ≤ vec_capacity list.new }
+{
+    let _ = list.extend_from_slice(items);
+}
+
+impl Kept {
+    /// No conditions, and no room, which takes no memory.
+    pub fn new(alloc: Global) -> Self
+        ensures { result.checks ≡ [] }
+    {
+        Kept {
+            checks: Vec::new(alloc),
+            names: Vec::new(alloc),
+        }
+    }
+
+    /// Makes room, and takes all conditions out.
+    pub fn reserve(&mut self, checks: u64, names: u64) -> Result<(), NoMemory>
+        ensures checks { self.new.checks ≡ [] }
+        ensures check_room { OnOk result (checks ≤ self.new.check_room) }
+        ensures name_room { OnOk result (names ≤ self.new.name_room) }
+        ensures keeps { (self.old.check_room ≤ self.new.check_room) × (self.old.name_room ≤ self.new.name_room) }
+    {
+        self.checks.clear();
+        self.names.clear();
+        self.checks.reserve(checks as usize)?;
+        self.names.reserve(names as usize)?;
+        Ok(())
+    }
+
+    /// Keeps the conditions of this face, and no others.
+    pub fn begin(&mut self, face: &FaceView)
+        requires named { AreNamed face.now.names.now face.now.checks.now }
+        requires check_room { length face.now.checks.now ≤ self.old.check_room }
+        requires name_room { length face.now.names.now ≤ self.old.name_room }
+        ensures checks { self.new.checks ≡ checks_of face.now }
+        ensures check_room { self.old.check_room ≤ self.new.check_room }
+        ensures name_room { self.old.name_room ≤ self.new.name_room }
+    {
+        self.checks.clear();
+        self.names.clear();
+        append(face.checks, &mut self.checks);
+        append(face.names, &mut self.names);
+    }
+
+    /// The conditions, and the names in which their needles stand.
+    pub fn lists(&self) -> (&[Check], &[Needle])
+        ensures checks { map (asked_of result.1.now) result.0.now ≡ self.now.checks }
+        ensures named { AreNamed result.1.now result.0.now }
+    {
+        (&self.checks, &self.names)
+    }
+
+    /// Keeps a condition that isn't on sizes.
+    #[inline(always)]
+    pub fn keep_plain(&mut self, fault: Fault, cond: Cond)
+        requires room { length self.old.checks < self.old.check_room }
+        requires plain { IsPlainCond cond }
+        ensures checks { self.new.checks ≡ self.old.checks ++ record { fault = fault; ask = ask_of [] cond } ∷ [] }
+        ensures check_room { self.new.check_room ≡ self.old.check_room }
+        ensures name_room { self.new.name_room ≡ self.old.name_room }
+    {
+        self.checks.push_reserved(Check { fault, cond });
+    }
+
+    /// Asks that these needles hold at most so many loops after the face: keeps what that comes to at its entry where the kept
+    /// conditions don't settle it. Answers what is known.
+    #[inline(always)]
+    pub fn ask_size(
+        &mut self,
+        index: &mut Index,
+        a: &FaceView,
+        places: &Places,
+        needles: &[Needle],
+        most: u8,
+        fault: Fault,
+    ) -> SizeWord
+        requires check_room { length self.old.checks < self.old.check_room }
+        requires name_room { names_count self.old.checks + length (names_through (changes_of a.now) needles.now) ≤ self.old.name_room }
+        requires index_room { length index.old.notes + length (names_through (changes_of a.now) needles.now) ≤ index.old.room }
+        requires few { length (names_through (changes_of a.now) needles.now) < 2 ^ 32 }
+        requires new_few { new_through (changes_of a.now) needles.now < 2 ^ 64 }
+        requires noted { Tells places.now.table.entries.items (changed_needles a.now.changes.now) }
+        requires fit { PartsFit a.now.segs.now a.now.changes.now }
+        requires order { IsInOrder (changes_of a.now) }
+        ensures word { noted_answer index.old.notes (names_through (changes_of a.now) needles.now) (new_through (changes_of a.now) needles.now) most ≡ answer_in (names_through (changes_of a.now) needles.now) result }
+        ensures asks { (left : ℕ) → result ≡ SizeWord.Asks left → self.new.checks ≡ self.old.checks ++ record { fault = fault; ask = size_at_most (names_through (changes_of a.now) needles.now) left } ∷ [] }
+        ensures notes { (left : ℕ) → result ≡ SizeWord.Asks left → index.new.notes ≡ index.old.notes ++ notes_in (size_at_most (names_through (changes_of a.now) needles.now) left) }
+        ensures holds { result ≡ SizeWord.Holds → (self.new.checks ≡ self.old.checks) × (index.new.notes ≡ index.old.notes) }
+        ensures fails { result ≡ SizeWord.Fails → self.new.checks ≡ self.old.checks }
+        ensures rooms { (self.new.check_room ≡ self.old.check_room) × (self.new.name_room ≡ self.old.name_room) × (index.new.room ≡ index.old.room) }
+    {
+        let start = self.names.len();
+        let new = read_names(needles, a, places, &mut self.names);
+        let word = word_on(index, &self.names[start..], new, most);
+        match word {
+            SizeWord::Holds => self.names.truncate(start),
+            SizeWord::Fails => self.names.truncate(start),
+            SizeWord::Asks(left) => {
+                note_each(&self.names[start..], left, index);
+                let part = Part {
+                    start: start as u64,
+                    len: (self.names.len() - start) as u32,
+                };
+                let cond = Cond::SizeAtMost(part, left);
+                self.checks.push_reserved(Check { fault, cond });
+            }
+        }
+        word
+    }
+}

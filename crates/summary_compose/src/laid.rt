@@ -1,0 +1,170 @@
+//! Changes of two faces, laid into one list.
+ghost use Rattle.std.specs.Prelude.{◌≡◌, ◌<◌, ◌≤◌, ◌+◌, ◌^◌, [], ◌∷◌, ◌++◌, All, drop, length, map, vec_len, vec_capacity, OnOk};
+ghost use Rattle.face_data.specs.Conditions.{part_of};
+ghost use Rattle.face_data.specs.Goodness.{IsInOrder};
+ghost use Rattle.face_data.specs.Segments.{entries_of, new_of};
+ghost use Rattle.face_data.specs.Through.{piece, through, change_through, changes_through};
+ghost use Rattle.face_data.specs.Composition.{merged};
+ghost use Rattle.face_data.specs.View.{changed_of};
+ghost use Rattle.summary_compose.specs.Changes.{changed_needles, ArePacked, PartsFit, OffsetFits, segs_in};
+ghost use Rattle.summary_compose.specs.Tables.{Tells};
+
+use crate::places::Places;
+use face_data::{Change, FaceView, Part, Seg};
+use knit_base::{Needle, NoMemory};
+use std::alloc::Global;
+use std::marker::Model;
+
+/// Changes in the making, with their segments.
+#[derive(Drop)]
+pub struct Laid {
+    changes: Vec<Change>,
+    segs: Vec<Seg>,
+}
+
+impl Model for Laid {
+    ghost use Rattle.std.specs.Prelude.{map, vec_capacity};
+    ghost use Rattle.face_data.specs.View.{changed_of};
+    ghost use Rattle.summary_compose.specs.Changes.{LaidView, ArePacked};
+
+    ghost Value = { LaidView };
+
+    ghost view = { λ l. record { changes = map (changed_of l.segs.items) l.changes.items; change_room = vec_capacity l.changes; seg_room = vec_capacity l.segs } };
+
+    ghost invariant = { λ l. ArePacked l.segs.items l.changes.items };
+}
+
+impl Laid {
+    /// No changes, and no room, which takes no memory.
+    pub fn new(alloc: Global) -> Self
+        ensures { result.changes ≡ [] }
+    {
+        Laid {
+            changes: Vec::new(alloc),
+            segs: Vec::new(alloc),
+        }
+    }
+
+    /// Takes all changes out.
+    pub fn clear(&mut self)
+        ensures changes { self.new.changes ≡ [] }
+        ensures change_room { self.new.change_room ≡ self.old.change_room }
+        ensures seg_room { self.new.seg_room ≡ self.old.seg_room }
+    {
+        self.changes.clear();
+        self.segs.clear();
+    }
+
+    /// Makes room, and takes all changes out.
+    pub fn reserve(&mut self, changes: u64, segs: u64) -> Result<(), NoMemory>
+        ensures changes { self.new.changes ≡ [] }
+        ensures change_room { OnOk result (changes ≤ self.new.change_room) }
+        ensures seg_room { OnOk result (segs ≤ self.new.seg_room) }
+        ensures keeps { (self.old.change_room ≤ self.new.change_room) × (self.old.seg_room ≤ self.new.seg_room) }
+    {
+        self.changes.clear();
+        self.segs.clear();
+        self.changes.reserve(changes as usize)?;
+        self.segs.reserve(segs as usize)?;
+        Ok(())
+    }
+
+    /// The changes, and the list in which their segments stand.
+    pub fn lists(&self) -> (&[Change], &[Seg])
+        ensures changes { map (changed_of result.1.now) result.0.now ≡ self.now.changes }
+        ensures packed { ArePacked result.1.now result.0.now }
+    {
+        (&self.changes, &self.segs)
+    }
+
+    /// Appends a change as it is.
+    #[inline(always)]
+    pub fn lay_old(&mut self, needle: Needle, segs: &[Seg])
+        requires room { length self.old.changes < self.old.change_room }
+        requires seg_room { segs_in self.old.changes + length segs.now ≤ self.old.seg_room }
+        requires few { length segs.now < 2 ^ 32 }
+        ensures changes { self.new.changes ≡ self.old.changes ++ (needle, segs.now) ∷ [] }
+        ensures change_room { self.new.change_room ≡ self.old.change_room }
+        ensures seg_room { self.new.seg_room ≡ self.old.seg_room }
+    {
+        let start = self.segs.len();
+        push_all(segs, &mut self.segs);
+        let len = (self.segs.len() - start) as u32;
+        let part = Part {
+            start: start as u64,
+            len,
+        };
+        self.changes.push_reserved(Change { needle, part });
+    }
+
+    /// Appends a change of a second face, its segments read through the first.
+    #[inline(always)]
+    pub fn lay_read(&mut self, needle: Needle, segs: &[Seg], a: &FaceView, places: &Places)
+        requires room { length self.old.changes < self.old.change_room }
+        requires seg_room { segs_in self.old.changes + length (through (map (changed_of a.now.segs.now) a.now.changes.now) a.now.lines segs.now) ≤ self.old.seg_room }
+        requires few { length (through (map (changed_of a.now.segs.now) a.now.changes.now) a.now.lines segs.now) < 2 ^ 32 }
+        requires offsets { All (OffsetFits a.now.lines) segs.now }
+        requires noted { Tells places.now.table.entries.items (changed_needles a.now.changes.now) }
+        requires fit { PartsFit a.now.segs.now a.now.changes.now }
+        requires order { IsInOrder (map (changed_of a.now.segs.now) a.now.changes.now) }
+        ensures changes { self.new.changes ≡ self.old.changes ++ (needle, through (map (changed_of a.now.segs.now) a.now.changes.now) a.now.lines segs.now) ∷ [] }
+        ensures change_room { self.new.change_room ≡ self.old.change_room }
+        ensures seg_room { self.new.seg_room ≡ self.old.seg_room }
+    {
+        let start = self.segs.len();
+        read_segs(segs, a, places, &mut self.segs);
+        let len = (self.segs.len() - start) as u32;
+        let part = Part {
+            start: start as u64,
+            len,
+        };
+        self.changes.push_reserved(Change { needle, part });
+    }
+}
+
+// Appends segments where there is room.
+#[inline(always)]
+fn push_all(more: &[Seg], segs: &mut Vec<Seg>)
+    requires { vec_len segs.old + length more.now ≤ vec_capacity segs.old }
+    ensures items { segs.new.items ≡ segs.old.items ++ more.now }
+    ensures capacity { vec_capacity segs.new ≡ vec_capacity segs.old }
+{
+    for seg in more {
+        segs.push_reserved(*seg);
+    }
+}
+
+// Appends what a second face's segments are in terms of the first face's entry.
+#[inline(always)]
+fn read_segs(more: &[Seg], a: &FaceView, places: &Places, segs: &mut Vec<Seg>)
+    requires room { vec_len segs.old + length (through (map (changed_of a.now.segs.now) a.now.changes.now) a.now.lines more.now) ≤ vec_capacity segs.old }
+    requires offsets { All (OffsetFits a.now.lines) more.now }
+    requires noted { Tells places.now.table.entries.items (changed_needles a.now.changes.now) }
+    requires fit { PartsFit a.now.segs.now a.now.changes.now }
+    requires order { IsInOrder (map (changed_of a.now.segs.now) a.now.changes.now) }
+    ensures items { segs.new.items ≡ segs.old.items ++ through (map (changed_of a.now.segs.now) a.now.changes.now) a.now.lines more.now }
+    ensures capacity { vec_capacity segs.new ≡ vec_capacity segs.old }
+{
+    for seg in more {
+        read_seg(*seg, a, places, segs);
+    }
+}
+
+#[inline(always)]
+fn read_seg(seg: Seg, a: &FaceView, places: &Places, segs: &mut Vec<Seg>)
+    requires room { vec_len segs.old + length (piece (map (changed_of a.now.segs.now) a.now.changes.now) a.now.lines seg) ≤ vec_capacity segs.old }
+    requires offset { OffsetFits a.now.lines seg }
+    requires noted { Tells places.now.table.entries.items (changed_needles a.now.changes.now) }
+    requires fit { PartsFit a.now.segs.now a.now.changes.now }
+    requires order { IsInOrder (map (changed_of a.now.segs.now) a.now.changes.now) }
+    ensures items { segs.new.items ≡ segs.old.items ++ piece (map (changed_of a.now.segs.now) a.now.changes.now) a.now.lines seg }
+    ensures capacity { vec_capacity segs.new ≡ vec_capacity segs.old }
+{
+    match seg {
+        Seg::New(offset) => segs.push_reserved(Seg::New(a.lines + offset)),
+        Seg::Entry(n) => match places.contents_of(a, n) {
+            Some(held) => push_all(held, segs),
+            None => segs.push_reserved(seg),
+        },
+    }
+}

@@ -1,0 +1,98 @@
+//! The changes of two faces in the order of needles.
+ghost use Rattle.std.specs.Prelude.{◌≡◌, ◌<◌, ◌≤◌, ◌+◌, ◌^◌, ◌⊎◌, [], ◌++◌, All, length, map, slice_index_or};
+ghost use Rattle.knit_base.specs.Needle.{needle_cmp};
+ghost use Rattle.face_data.specs.declared.face.Change.{Change};
+ghost use Rattle.face_data.specs.Conditions.{part_of};
+ghost use Rattle.face_data.specs.Goodness.{IsInOrder};
+ghost use Rattle.face_data.specs.View.{changed_of};
+ghost use Rattle.summary_compose.specs.Changes.{changed_needles, PartsFit, HaveOffsets, segs_in, changes_of, merged_of};
+ghost use Rattle.summary_compose.specs.Tables.{Tells};
+
+use crate::laid::Laid;
+use crate::places::Places;
+use face_data::{Change, FaceView, Seg};
+use std::cmp::Ordering;
+
+/// Whose change comes next: that of the first face, that of the second, or the second's in the place of the first's.
+#[derive(Clone, Copy, Debug, PartialEq, Eq)]
+pub enum Turn {
+    First,
+    Second,
+    Both,
+}
+
+// Whose change comes next, where `i` and `j` are the places up to which the changes are laid.
+#[inline(always)]
+fn whose_turn(a: &[Change], b: &[Change], i: usize, j: usize) -> Turn
+    requires { (i < length a.now) ⊎ (j < length b.now) }
+    ensures first { result ≡ Turn.First → (i < length a.now) }
+    ensures less { result ≡ Turn.First → (d : Change) → j < length b.now → needle_cmp (slice_index_or a.now i d).needle (slice_index_or b.now j d).needle ≡ Ordering.Less }
+    ensures second { result ≡ Turn.Second → (j < length b.now) }
+    ensures greater { result ≡ Turn.Second → (d : Change) → i < length a.now → needle_cmp (slice_index_or a.now i d).needle (slice_index_or b.now j d).needle ≡ Ordering.Greater }
+    ensures both_first { result ≡ Turn.Both → (i < length a.now) }
+    ensures both_second { result ≡ Turn.Both → (j < length b.now) }
+    ensures equal { result ≡ Turn.Both → (d : Change) → needle_cmp (slice_index_or a.now i d).needle (slice_index_or b.now j d).needle ≡ Ordering.Equal }
+{
+    if j >= b.len() {
+        return Turn::First;
+    }
+    if i >= a.len() {
+        return Turn::Second;
+    }
+    match a[i].needle.cmp(&b[j].needle) {
+        Ordering::Less => Turn::First,
+        Ordering::Equal => Turn::Both,
+        Ordering::Greater => Turn::Second,
+    }
+}
+
+// The segments of a change.
+#[inline(always)]
+fn segs_of<'a>(segs: &'a [Seg], change: Change) -> &'a [Seg]
+    requires { change.part.start + change.part.len ≤ length segs.now }
+    ensures segs { result.now ≡ part_of segs.now change.part }
+    ensures few { length result.now < 2 ^ 32 }
+{
+    let start = change.part.start as usize;
+    let end = start + change.part.len as usize;
+    &segs[start..end]
+}
+
+/// Lays the changes of both faces in the order of needles, those of the second read through the first.
+pub fn merge(laid: &mut Laid, a: &FaceView, b: &FaceView, places: &Places)
+    requires none { laid.old.changes ≡ [] }
+    requires room { length (merged_of a.now b.now) ≤ laid.old.change_room }
+    requires seg_room { segs_in (merged_of a.now b.now) ≤ laid.old.seg_room }
+    requires few { segs_in (merged_of a.now b.now) < 2 ^ 32 }
+    requires noted { Tells places.now.table.entries.items (changed_needles a.now.changes.now) }
+    requires fit { PartsFit a.now.segs.now a.now.changes.now }
+    requires order { IsInOrder (map (changed_of a.now.segs.now) a.now.changes.now) }
+    requires second_fit { PartsFit b.now.segs.now b.now.changes.now }
+    requires offsets { HaveOffsets a.now.lines b.now.segs.now b.now.changes.now }
+    ensures changes { laid.new.changes ≡ merged_of a.now b.now }
+    ensures change_room { laid.new.change_room ≡ laid.old.change_room }
+    ensures seg_room { laid.new.seg_room ≡ laid.old.seg_room }
+{
+    let mut i = 0;
+    let mut j = 0;
+    while i < a.changes.len() || j < b.changes.len() {
+        match whose_turn(a.changes, b.changes, i, j) {
+            Turn::First => {
+                let change = a.changes[i];
+                laid.lay_old(change.needle, segs_of(a.segs, change));
+                i += 1;
+            }
+            Turn::Second => {
+                let change = b.changes[j];
+                laid.lay_read(change.needle, segs_of(b.segs, change), a, places);
+                j += 1;
+            }
+            Turn::Both => {
+                let change = b.changes[j];
+                laid.lay_read(change.needle, segs_of(b.segs, change), a, places);
+                i += 1;
+                j += 1;
+            }
+        }
+    }
+}

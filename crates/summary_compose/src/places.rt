@@ -1,0 +1,92 @@
+//! What needles hold after a face.
+ghost use Rattle.std.specs.Prelude.{◌≡◌, ◌<◌, ◌+◌, ◌^◌, [], ◌∷◌, length, map, IfNone, IfSome};
+ghost use Rattle.face_data.specs.declared.face.Change.{Change};
+ghost use Rattle.face_data.specs.declared.face.Seg.TheVariants.{Entry};
+ghost use Rattle.face_data.specs.Goodness.{IsInOrder};
+ghost use Rattle.face_data.specs.Segments.{contents_of};
+ghost use Rattle.face_data.specs.View.{changed_of};
+ghost use Rattle.summary_compose.specs.Changes.{changed_needles, PartsFit};
+ghost use Rattle.summary_compose.specs.Tables.{Leads, Tells};
+
+use crate::spots::{Table, is_same};
+use face_data::{Change, FaceView, Seg};
+use knit_base::{Needle, NoMemory};
+use std::alloc::Global;
+
+/// The places of a face's changes by needle. Nothing is taken out of the table again.
+#[derive(Drop)]
+pub struct Places {
+    pub table: Table,
+}
+
+impl Places {
+    /// Without a table, which takes no memory.
+    pub fn new(alloc: Global) -> Self {
+        Places {
+            table: Table::new(alloc),
+        }
+    }
+
+    /// Makes the table.
+    pub fn reserve(&mut self) -> Result<(), NoMemory> {
+        self.table.reserve()
+    }
+
+    /// Notes the places of all changes.
+    pub fn note(&mut self, changes: &[Change])
+        ensures { Tells self.new.table.entries.items (changed_needles changes.now) }
+    {
+        for (place, change) in changes.iter().enumerate() {
+            self.table.set(change.needle, place);
+        }
+    }
+
+    /// What the needle holds after the face whose changes were noted, where that isn't its own entry alone.
+    #[inline(always)]
+    pub fn contents_of<'a>(&self, face: &FaceView<'a>, n: Needle) -> Option<&'a [Seg]>
+        requires noted { Tells self.now.table.entries.items (changed_needles face.now.changes.now) }
+        requires fit { PartsFit face.now.segs.now face.now.changes.now }
+        requires order { IsInOrder (map (changed_of face.now.segs.now) face.now.changes.now) }
+        ensures own { IfNone result (contents_of (map (changed_of face.now.segs.now) face.now.changes.now) n ≡ Entry n ∷ []) }
+        ensures some { IfSome result (λ held. held.now ≡ contents_of (map (changed_of face.now.segs.now) face.now.changes.now) n) }
+    {
+        let changes = face.changes;
+        let place = place_of(&self.table, changes, n);
+        if place >= changes.len() {
+            return None;
+        }
+        let change = changes[place];
+        if !is_same(change.needle, n) {
+            return None;
+        }
+        let start = change.part.start as usize;
+        let end = start + change.part.len as usize;
+        Some(&face.segs[start..end])
+    }
+}
+
+// Where the needle's change stands, if there is one.
+#[inline(always)]
+fn place_of(table: &Table, changes: &[Change], n: Needle) -> usize
+    requires { Tells table.now.entries.items (changed_needles changes.now) }
+    ensures { Leads (changed_needles changes.now) n result }
+{
+    match table.get(n) {
+        Some(place) => place,
+        None => seek(changes, n),
+    }
+}
+
+// The same without a table.
+#[cold]
+fn seek(changes: &[Change], n: Needle) -> usize
+    ensures { Leads (changed_needles changes.now) n result }
+{
+    let mut last = 0;
+    for (place, change) in changes.iter().enumerate() {
+        if is_same(change.needle, n) {
+            last = place;
+        }
+    }
+    last
+}

@@ -1,0 +1,133 @@
+//! Room for faces, as numbers of items.
+ghost use Rattle.std.specs.Prelude.{◌≡◌, ◌↔◌, ◌+◌, ◌*◌, IsTrue, length, false};
+ghost use Rattle.face_data.specs.Segments.{entries_of};
+ghost use Rattle.summary_compose.specs.Composing.{IsNoGreater};
+ghost use Rattle.summary_compose.specs.Rooms.{CanBeMade, capped, room_after, room_of, room_of_both};
+
+use face_data::{FaceView, Seg};
+
+/// How many items the lists of a face may have, and how many of its segments may be entries.
+#[derive(Clone, Copy, Debug, PartialEq, Eq)]
+pub struct Room {
+    pub checks: u64,
+    pub names: u64,
+    pub changes: u64,
+    pub segs: u64,
+    pub entries: u64,
+}
+
+/// The greatest room that can be made.
+const GREATEST: u64 = 1 << 62;
+
+#[inline(always)]
+fn kept(n: u64) -> u64
+    ensures { result ≡ capped n }
+{
+    if n > GREATEST { GREATEST + 1 } else { n }
+}
+
+fn sum(a: u64, b: u64) -> u64
+    ensures { result ≡ capped (a + b) }
+{
+    kept(a.saturating_add(b))
+}
+
+fn product(a: u64, b: u64) -> u64
+    ensures { result ≡ capped (a * b) }
+{
+    kept(a.saturating_mul(b))
+}
+
+impl Room {
+    /// No room.
+    pub const NONE: Room = Room {
+        checks: 0,
+        names: 0,
+        changes: 0,
+        segs: 0,
+        entries: 0,
+    };
+
+    /// Whether this room is in each field no greater than the other.
+    pub fn is_within(&self, other: &Room) -> bool
+        ensures { IsTrue result ↔ IsNoGreater self.now other.now }
+    {
+        self.checks <= other.checks
+            && self.names <= other.names
+            && self.changes <= other.changes
+            && self.segs <= other.segs
+            && self.entries <= other.entries
+    }
+
+    /// The greater of both in each field.
+    pub fn max(&self, other: &Room) -> Room
+        ensures first { IsNoGreater self.now result }
+        ensures second { IsNoGreater other.now result }
+    {
+        Room {
+            checks: self.checks.max(other.checks),
+            names: self.names.max(other.names),
+            changes: self.changes.max(other.changes),
+            segs: self.segs.max(other.segs),
+            entries: self.entries.max(other.entries),
+        }
+    }
+
+    /// Whether a field is past what can be made.
+    pub fn is_past_all(&self) -> bool
+        ensures { result ≡ false → CanBeMade self.now }
+    {
+        self.checks > GREATEST
+            || self.names > GREATEST
+            || self.changes > GREATEST
+            || self.segs > GREATEST
+    }
+
+    /// The room that the face takes.
+    pub fn of(face: &FaceView) -> Room
+        ensures { result ≡ room_of face.now }
+    {
+        Room {
+            checks: face.checks.len() as u64,
+            names: face.names.len() as u64,
+            changes: face.changes.len() as u64,
+            segs: face.segs.len() as u64,
+            entries: entries_in(face.segs),
+        }
+    }
+
+    /// Room for the composition of a face with this room and one with the next.
+    pub fn after(&self, next: &Room) -> Room
+        ensures { result ≡ room_after self.now next.now }
+    {
+        Room {
+            checks: sum(self.checks, next.checks),
+            names: sum(
+                sum(self.names, next.names),
+                product(next.checks, self.entries),
+            ),
+            changes: sum(self.changes, next.changes),
+            segs: sum(self.segs, next.segs),
+            entries: sum(self.entries, next.entries),
+        }
+    }
+}
+
+fn entries_in(segs: &[Seg]) -> u64
+    ensures { result ≡ length (entries_of segs.now) }
+{
+    let mut entries = 0u64;
+    for seg in segs {
+        if let Seg::Entry(_) = *seg {
+            entries += 1;
+        }
+    }
+    entries
+}
+
+/// Room for the composition of the two faces.
+pub fn room_for(a: &FaceView, b: &FaceView) -> Room
+    ensures { result ≡ room_of_both a.now b.now }
+{
+    Room::of(a).after(&Room::of(b))
+}

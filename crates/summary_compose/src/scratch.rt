@@ -1,0 +1,104 @@
+//! Composition, and where a face is made.
+ghost use Rattle.std.specs.Prelude.{◌≡◌, ◌↔◌, ℕ, ◌<◌, ◌≤◌, ◌+◌, ◌^◌, List, ◌++◌, IsTrue, OnErr, OnOk};
+ghost use Rattle.carriage_model.specs.State.{State};
+ghost use Rattle.knit_base.specs.declared.needle.Needle.{Needle};
+ghost use Rattle.face_data.specs.Composition.{and_then, composed};
+ghost use Rattle.face_data.specs.Goodness.{IsGood};
+ghost use Rattle.face_data.specs.Items.{items};
+ghost use Rattle.face_data.specs.Summaries.{applied};
+ghost use Rattle.face_data.specs.View.{IsPacked, summary_of};
+ghost use Rattle.summary_compose.specs.Composing.{IsNoGreater};
+ghost use Rattle.summary_compose.specs.Known.{AreGood};
+ghost use Rattle.summary_compose.specs.Rooms.{room_of_both};
+
+use crate::charging::charge;
+use crate::compose::put_together;
+use crate::making::Making;
+use crate::room::Room;
+use face_data::FaceView;
+use knit_base::{NoMemory, Steps};
+use std::alloc::Global;
+use std::marker::Model;
+use std::sync::ledger::Ledger;
+
+/// Where faces are made, with room for them.
+#[derive(Drop)]
+pub struct Scratch {
+    making: Making,
+    room: Room,
+}
+
+impl Model for Scratch {
+    ghost use Rattle.summary_compose.specs.Composing.{made_in, Holds, ScratchView};
+    ghost use Rattle.summary_compose.specs.Rooms.{CanBeMade};
+
+    ghost Value = { ScratchView };
+
+    ghost view = { λ s. record { summary = made_in s.making; room = s.room } };
+
+    ghost invariant = { λ s. Holds s.making s.room × CanBeMade s.room };
+}
+
+impl Scratch {
+    /// A scratch without room, which takes no memory.
+    pub fn new(alloc: Global) -> Self {
+        Scratch {
+            making: Making::new(alloc),
+            room: Room::NONE,
+        }
+    }
+
+    /// Makes room. What was composed before is gone.
+    pub fn reserve(&mut self, room: &Room) -> Result<(), NoMemory>
+        ensures has { OnOk result (IsNoGreater room.now self.new.room) }
+        ensures keeps { IsNoGreater self.old.room self.new.room }
+        ensures refused { OnErr result (self.new.room ≡ self.old.room) }
+    {
+        let more = self.room.max(room);
+        if more.is_past_all() {
+            return Err(NoMemory);
+        }
+        self.making.reserve(&more)?;
+        self.room = more;
+        Ok(())
+    }
+
+    /// Whether there is this room.
+    pub fn meets(&self, room: &Room) -> bool
+        ensures { IsTrue result ↔ IsNoGreater room.now self.now.room }
+    {
+        room.is_within(&self.room)
+    }
+
+    /// The face last composed.
+    pub fn view(&self) -> FaceView<'_>
+        ensures summary { summary_of result ≡ self.now.summary }
+        ensures packed { IsPacked result }
+    {
+        self.making.view()
+    }
+}
+
+/// Leaves in the scratch the face of the first face's text followed by the second's.
+pub fn compose_into<L: Ledger>(
+    a: &FaceView,
+    b: &FaceView,
+    scratch: &mut Scratch,
+    steps: &mut Steps<L>,
+)
+    requires good { AreGood a.now b.now }
+    requires packed { IsPacked a.now }
+    requires second_packed { IsPacked b.now }
+    requires lines { a.now.lines + b.now.lines < 2 ^ 32 }
+    requires room { IsNoGreater (room_of_both a.now b.now) scratch.old.room }
+    ensures composed { scratch.new.summary ≡ composed (summary_of a.now) (summary_of b.now) }
+    ensures runs_both { (s : State) (first : ℕ) → applied (scratch.new.summary) s first ≡ and_then (applied (summary_of a.now) s first) (λ t. applied (summary_of b.now) t (first + a.now.lines)) }
+    ensures good { (carriers limit : ℕ) (first second : List Needle) → IsGood carriers limit first (summary_of a.now) → IsGood carriers limit second (summary_of b.now) → IsGood carriers limit (first ++ second) (scratch.new.summary) }
+    ensures room { scratch.new.room ≡ scratch.old.room }
+    ensures steps { steps.new ≡ steps.old + items (summary_of a.now) + items (summary_of b.now) + items (scratch.new.summary) }
+{
+    charge(a, steps);
+    charge(b, steps);
+    put_together(a, b, &mut scratch.making);
+    charge(&scratch.making.view(), steps);
+}
