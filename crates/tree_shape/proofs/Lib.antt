@@ -12,3 +12,9 @@ pub mod Counting
 pub mod Reading
 pub mod Listing
 pub mod Shapes
+pub mod Refreshing
+pub mod Keeping
+pub mod Fitting
+pub mod Replacing
+pub mod Finding
+pub mod Highest

@@ -6,3 +6,5 @@ pub mod View
 pub mod Removal
 pub mod Numbers
 pub mod Changes
+pub mod Values
+pub mod Composing

@@ -64,8 +64,10 @@ impl Dirty {
         }
     }
 
+    /// How many rows there are, 72 at most.
     pub fn len(&self) -> u32
-        ensures { result ≡ length self.now }
+        ensures len { result ≡ length self.now }
+        ensures few { result ≤ 72 }
     {
         self.len as u32
     }

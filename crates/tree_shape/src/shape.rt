@@ -9,7 +9,7 @@ ghost use Rattle.tree_shape.specs.Apply.{times};
 ghost use Rattle.tree_shape.specs.Removal.{shrunk};
 ghost use Rattle.tree_shape.specs.Numbers.{next_number, taken, given_back};
 ghost use Rattle.tree_shape.specs.View.{ShapeView, count_of, leaves_of_tree, height_of_tree, IsSound, HasPlace, HasSoundLeaf, IsLawful, IsSameShape, tree_with, rows_with, inners_with, tree_without, rows_without, inners_without, rows_above};
-ghost use Rattle.tree_shape.specs.Changes.{HasBelow, HasInner, times_listed, HasChildren, LeavesOthers, IsOrdered, BoundsHeight, IsOver, numbers_below};
+ghost use Rattle.tree_shape.specs.Changes.{IsPartOf, HasBelow, HasInner, times_listed, HasChildren, LeavesOthers, IsOrdered, BoundsHeight, IsOver, numbers_below};
 ghost use Rattle.tree_shape.specs.Fewest.{inserted, removed};
 
 use crate::arena::apply;
@@ -88,6 +88,28 @@ impl Shape {
         }
     }
 
+    /// How many numbers of leaves were drawn so far: each leaf's number is below it.
+    pub fn leaf_numbers(&self) -> u32
+        ensures { result ≡ self.now.leaf_numbers.drawn }
+    {
+        self.leaves.drawn
+    }
+
+    /// How many numbers of inner nodes were drawn so far: each inner node's number is below it.
+    pub fn inner_numbers(&self) -> u32
+        ensures { result ≡ self.now.inner_numbers.drawn }
+    {
+        self.inners.drawn
+    }
+
+    /// The number that the next inner node gets. It is not in the tree; right after a removal below an inner node it is the
+    /// number of the node that went.
+    pub fn next_inner(&self) -> u32
+        ensures { result ≡ next_number self.now.inner_numbers }
+    {
+        self.inners.next()
+    }
+
     /// The height: 0 for no leaf and for one, and at most 22.
     pub fn height(&self) -> u32
         ensures height { result ≡ height_of_tree self.now.tree }
@@ -113,6 +135,14 @@ impl Shape {
     {
         let node = row(self.nodes.as_slice(), inner);
         (node.left, node.right)
+    }
+
+    /// The number of leaves below a leaf or an inner node of the tree.
+    pub fn leaves_below(&self, child: Child) -> u32
+        requires { (t : Tree) × (child ≡ name t) × IsPartOf t self.now.tree }
+        ensures { (t : Tree) → child ≡ name t → IsPartOf t self.now.tree → result ≡ count t }
+    {
+        leaves_of(self.nodes.as_slice(), child)
     }
 
     /// The number of the leaf at a position.
