@@ -1,0 +1,96 @@
+-- Documents: what an opening and a journal give, version by version.
+use Rattle.std.specs.Prelude.{◌≡◌, ℕ, zero, suc, ◌+◌, ◌<◌, ◌==◌, if◌then◌else◌, List, [], ◌∷◌, length, map, find, Option, Some, None, IsSome, option_map, option_and_then}
+use Rattle.std.specs.List.{flat_map, slice_get}
+use Rattle.knit_base.specs.declared.setting.Setting.{Setting}
+use Rattle.edit_journal.specs.declared.edit.Anchor.{Anchor}
+use Rattle.edit_journal.specs.declared.edit.Anchor.TheVariants.{Start, After}
+use Rattle.edit_journal.specs.declared.edit.Edit.{Edit}
+use Rattle.edit_journal.specs.declared.edit.Edit.TheVariants.{Put, Add, Cut}
+use Rattle.edit_journal.specs.declared.edit.Entry.{Entry}
+use Rattle.edit_journal.specs.declared.opening.Opening.{Opening}
+use Rattle.edit_journal.specs.Entries.{text_for}
+
+-- a block: its id, the number of the entry that gave it its lines, 0 for an opening block, and the lines
+pub record Block : Type 0 where
+  pub id : ℕ
+  pub stamp : ℕ
+  pub lines : List (List ℕ)
+
+-- the blocks in their order, and how many ids were drawn
+pub record Document : Type 0 where
+  pub blocks : List Block
+  pub drawn : ℕ
+
+-- blocks of these texts, the first with this id
+abbrev pub opened_from : ℕ → List (List (List ℕ)) → List Block
+opened_from id [] = []
+opened_from id (text ∷ texts) = record { id = id; stamp = 0; lines = text } ∷ opened_from (id + 1) texts
+
+-- the document that an opening gives: ids 0, 1, 2 and so on
+abbrev pub opened : Opening → Document
+opened opening = record { blocks = opened_from 0 opening.texts; drawn = length opening.texts }
+
+-- the block with this id
+abbrev pub block_of : List Block → ℕ → Option Block
+block_of blocks id = find (λ b. b.id == id) blocks
+
+abbrev pub stamp_at : List Block → ℕ → Option ℕ
+stamp_at blocks id = option_map (λ b. b.stamp) (block_of blocks id)
+
+-- the block with this id has another text and stamp
+abbrev pub with_text : ℕ → ℕ → List (List ℕ) → List Block → List Block
+with_text id stamp text [] = []
+with_text id stamp text (b ∷ bs) = if b.id == id then record { id = id; stamp = stamp; lines = text } ∷ bs else b ∷ with_text id stamp text bs
+
+-- the block with this id is out
+abbrev pub without : ℕ → List Block → List Block
+without id [] = []
+without id (b ∷ bs) = if b.id == id then bs else b ∷ without id bs
+
+-- a new block directly after the one with this id
+abbrev pub with_after : ℕ → Block → List Block → List Block
+with_after id new [] = []
+with_after id new (b ∷ bs) = if b.id == id then b ∷ new ∷ bs else b ∷ with_after id new bs
+
+-- a new block where the anchor says
+abbrev pub with_new : Anchor → Block → List Block → List Block
+with_new Start new blocks = new ∷ blocks
+with_new (After id) new blocks = with_after id new blocks
+
+-- the document after entry i; where the edit doesn't fit, this says nothing
+abbrev pub after : Document → ℕ → Edit → Document
+after d i (Put block seen text) = record { blocks = with_text block i text d.blocks; drawn = d.drawn }
+after d i (Add anchor block text) = record { blocks = with_new anchor (record { id = block; stamp = i; lines = text }) d.blocks; drawn = d.drawn + 1 }
+after d i (Cut block seen) = record { blocks = without block d.blocks; drawn = d.drawn }
+
+-- the document after these entries, the first of which has number i
+abbrev pub after_all : Document → ℕ → List Entry → Document
+after_all d i [] = d
+after_all d i (e ∷ es) = after_all (after d i e.edit) (i + 1) es
+
+-- The document of an opening and a journal. That of version v is the one of the journal's first v entries.
+abbrev pub doc : Opening → List Entry → Document
+doc opening journal = after_all (opened opening) 1 journal
+
+-- the lines of these blocks, one block after the other
+abbrev pub lines_in : List Block → List (List ℕ)
+lines_in blocks = flat_map (λ b. b.lines) blocks
+
+abbrev pub body : Document → List (List ℕ)
+body d = lines_in d.blocks
+
+-- the anchor is in the document
+abbrev pub HasAnchor : Document → Anchor → Type 0
+HasAnchor d Start = Unit {0}
+HasAnchor d (After id) = IsSome (block_of d.blocks id)
+
+-- the edit fits the document: a put or a cut has seen the block's stamp, and a new block has the next id and an anchor that is there
+abbrev pub Fits : Document → Edit → Type 0
+Fits d (Put block seen text) = stamp_at d.blocks block ≡ Some seen
+Fits d (Add anchor block text) = (block ≡ d.drawn) × HasAnchor d anchor
+Fits d (Cut block seen) = stamp_at d.blocks block ≡ Some seen
+
+-- the text that a block got from the entry with this number, or its opening text for 0
+abbrev pub text_at : Opening → List Entry → ℕ → ℕ → Option (List (List ℕ))
+text_at opening journal id zero = slice_get opening.texts id
+text_at opening journal id (suc i) = option_and_then (text_for id) (slice_get journal i)

@@ -1,0 +1,29 @@
+-- The entries of a journal.
+use Rattle.std.specs.Prelude.{ℕ, zero, suc, ◌==◌, Bool, List, Option, Some, None, option_and_then, if◌then◌else◌}
+use Rattle.std.specs.List.{slice_get}
+use Rattle.edit_journal.specs.declared.edit.Edit.{Edit}
+use Rattle.edit_journal.specs.declared.edit.Edit.TheVariants.{Put, Add, Cut}
+use Rattle.edit_journal.specs.declared.edit.Entry.{Entry}
+
+-- a journal has at most so many entries
+abbrev pub entry_limit : ℕ
+entry_limit = 1048576
+
+-- the entries of a journal, and whether there is room for one more
+pub record JournalView : Type 0 where
+  pub entries : List Entry
+  pub room : Bool
+
+-- the entry with this number, from 1
+abbrev pub entry_at : List Entry → ℕ → Option Entry
+entry_at entries zero = None
+entry_at entries (suc i) = slice_get entries i
+
+-- the text that an edit gives to a block, if it gives it one
+abbrev pub text_in : ℕ → Edit → Option (List (List ℕ))
+text_in id (Put block seen text) = if block == id then Some text else None
+text_in id (Add anchor block text) = if block == id then Some text else None
+text_in id (Cut block seen) = None
+
+abbrev pub text_for : ℕ → Entry → Option (List (List ℕ))
+text_for id entry = text_in id entry.edit

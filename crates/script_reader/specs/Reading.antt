@@ -1,0 +1,122 @@
+-- The script of a list of lines, or its refusal, as a walk from the first line to the last. The proofs alone speak of it.
+use Rattle.std.specs.Prelude.{◌≡◌, ℕ, ◌+◌, ◌-◌, List, [], ◌∷◌, ◌++◌, length, drop, Option, Some, None, Result, Ok, Err, if◌then◌else◌}
+use Rattle.script_reader.specs.Script.{cause_of, takes_text}
+use Rattle.script_reader.specs.Statements.{Statement, Nothing, Text, Session, Command, Nonsense, is_live, kind_of, statement_of}
+use Rattle.script_reader.specs.declared.command.Command as declared
+use Rattle.script_reader.specs.declared.command.Command.TheVariants as command
+use Rattle.script_reader.specs.declared.command.Script.{Script}
+use Rattle.script_reader.specs.declared.fault.Cause.{Cause}
+use Rattle.script_reader.specs.declared.fault.Cause.TheVariants.{NoLive}
+use Rattle.script_reader.specs.declared.fault.ScriptFault.{ScriptFault}
+use Rattle.script_reader.specs.declared.fault.ScriptFault.TheVariants.{At, NoMemory}
+use Rattle.script_reader.specs.declared.line.Head.{Head}
+use Rattle.script_reader.specs.declared.line.Head.TheVariants as head
+use Rattle.script_reader.specs.declared.line.Kind.{Kind}
+use Rattle.script_reader.specs.declared.line.Kind.TheVariants as kind
+
+-- the command of a line and a text; a command that takes none has none
+abbrev pub command_of : Head → List (List ℕ) → declared.Command
+command_of (head.Look name) text = command.Look name
+command_of (head.Put name) text = command.Put name text
+command_of (head.Add place) text = command.Add place text
+command_of (head.Cut name) text = command.Cut name
+command_of (head.LoopAt line) text = command.LoopAt line
+command_of head.Verdict text = command.Verdict
+
+-- with one more line of text
+abbrev pub longer : List ℕ → declared.Command → declared.Command
+longer line (command.Look name) = command.Look name
+longer line (command.Put name text) = command.Put name (text ++ line ∷ [])
+longer line (command.Add place text) = command.Add place (text ++ line ∷ [])
+longer line (command.Cut name) = command.Cut name
+longer line (command.LoopAt at) = command.LoopAt at
+longer line command.Verdict = command.Verdict
+
+abbrev pub on_last : {A : Type 0} → (A → A) → List A → List A
+on_last f [] = []
+on_last f (x ∷ []) = f x ∷ []
+on_last f (x ∷ y ∷ ys) = x ∷ on_last f (y ∷ ys)
+
+abbrev pub script_of : List (List ℕ) → List (List declared.Command) → Script
+script_of text sessions = record { text = text; sessions = sessions }
+
+-- with one more line of the opening text, or of the last command's
+abbrev pub with_text : List (List ℕ) → List (List declared.Command) → List ℕ → Script
+with_text text [] line = script_of (text ++ line ∷ []) []
+with_text text (session ∷ sessions) line = script_of text (on_last (on_last (longer line)) (session ∷ sessions))
+
+-- what one more line makes of a script behind whose lines it may stand
+abbrev pub with_statement : Script → Statement → Script
+with_statement script Nothing = script
+with_statement script (Text line) = with_text script.text script.sessions line
+with_statement script Session = script_of script.text (script.sessions ++ [] ∷ [])
+with_statement script (Command head) = script_of script.text (on_last (λ commands. commands ++ command_of head [] ∷ []) script.sessions)
+with_statement script Nonsense = script
+
+-- refused at the line with this number, if there is a cause
+abbrev pub unless : Option Cause → ℕ → Result Script ScriptFault → Result Script ScriptFault
+unless None number result = result
+unless (Some cause) number result = Err (At number cause)
+
+-- The lines are the last of so many.
+abbrev pub walk : ℕ → Script → List (List ℕ) → Result Script ScriptFault
+walk count script [] = Ok script
+walk count script (line ∷ lines) = unless (cause_of script (statement_of line)) (count - length lines) (walk count (with_statement script (statement_of line)) lines)
+
+abbrev pub reading : List (List ℕ) → Result Script ScriptFault
+reading [] = Err (At 1 NoLive)
+reading (first ∷ lines) = if is_live first then walk (length lines + 1) (script_of [] []) lines else Err (At 1 NoLive)
+
+-- the refusal that this answer is; want of memory may come with any
+abbrev pub IsErr : Result Script ScriptFault → ScriptFault → Type 0
+IsErr answer (At number cause) = answer ≡ Err (At number cause)
+IsErr answer NoMemory = Unit {0}
+
+-- the texts in front: those of the text lines up to the first line that says anything else
+abbrev pub text_before : Kind → List ℕ → List (List ℕ) → List (List ℕ)
+text_before kind.Skipped line texts = texts
+text_before kind.Text line texts = drop 1 line ∷ texts
+text_before kind.Session line texts = []
+text_before (kind.Command head) line texts = []
+text_before kind.Other line texts = []
+
+abbrev pub texts_in_front : List (List ℕ) → List (List ℕ)
+texts_in_front [] = []
+texts_in_front (line ∷ lines) = text_before (kind_of line) line (texts_in_front lines)
+
+-- and what stands behind them
+abbrev pub rest_from : Kind → List (List ℕ) → List (List ℕ) → List (List ℕ)
+rest_from kind.Skipped here rest = rest
+rest_from kind.Text here rest = rest
+rest_from kind.Session here rest = here
+rest_from (kind.Command head) here rest = here
+rest_from kind.Other here rest = here
+
+abbrev pub behind_texts : List (List ℕ) → List (List ℕ)
+behind_texts [] = []
+behind_texts (line ∷ lines) = rest_from (kind_of line) (line ∷ lines) (behind_texts lines)
+
+-- the command whose line stands before these lines, and what stands behind it
+abbrev pub command_in_front : Head → List (List ℕ) → declared.Command
+command_in_front head lines = command_of head (if takes_text head then texts_in_front lines else [])
+
+abbrev pub behind_command : Head → List (List ℕ) → List (List ℕ)
+behind_command head lines = if takes_text head then behind_texts lines else lines
+
+-- the line is neither a text nor skipped
+abbrev pub IsHeading : Kind → Type 0
+IsHeading kind.Skipped = ⊥
+IsHeading kind.Text = ⊥
+IsHeading kind.Session = Unit {0}
+IsHeading (kind.Command head) = Unit {0}
+IsHeading kind.Other = Unit {0}
+
+-- the first of the lines, if there is one, is neither
+abbrev pub BeginWithHeading : List (List ℕ) → Type 0
+BeginWithHeading [] = Unit {0}
+BeginWithHeading (line ∷ lines) = IsHeading (kind_of line)
+
+-- the first of the lines, if there is one, begins a session
+abbrev pub BeginWithSession : List (List ℕ) → Type 0
+BeginWithSession [] = Unit {0}
+BeginWithSession (line ∷ lines) = kind_of line ≡ kind.Session

@@ -1,0 +1,175 @@
+-- Which script the lines of a file spell.
+--
+-- A script is the line `live 1`, the text lines of its opening text, and its sessions. A session is the line `session` and its
+-- commands. A command is its line and, behind `put` and `add`, its text lines. Lines that say nothing are as if they weren't there.
+use Rattle.std.specs.Prelude.{◌≡◌, ◌⊎◌, ℕ, ◌+◌, ◌<◌, ◌≤◌, Bool, true, false, ◌&&◌, nat_le, nat_lt, List, [], ◌∷◌, ◌++◌, length, take, map, filter, Option, Some, None, if◌then◌else◌}
+use Rattle.std.specs.List.{flat_map, list_all, sum_by}
+use Rattle.edit_journal.specs.declared.edit.BlockName.{BlockName}
+use Rattle.edit_journal.specs.declared.edit.BlockName.TheVariants.{Id, Own}
+use Rattle.script_reader.specs.Statements.{Statement, Nothing, Text, Session, Command, Nonsense, is_live, statement_of}
+use Rattle.script_reader.specs.declared.command.Command as declared
+use Rattle.script_reader.specs.declared.command.Command.TheVariants as command
+use Rattle.script_reader.specs.declared.command.Place.{Place}
+use Rattle.script_reader.specs.declared.command.Place.TheVariants.{Start, After}
+use Rattle.script_reader.specs.declared.command.Script.{Script}
+use Rattle.script_reader.specs.declared.fault.Cause.{Cause}
+use Rattle.script_reader.specs.declared.fault.Cause.TheVariants.{NoLive, BadLine, ManySessions, NoOwn}
+use Rattle.script_reader.specs.declared.fault.ScriptFault.{ScriptFault}
+use Rattle.script_reader.specs.declared.fault.ScriptFault.TheVariants.{At, NoMemory}
+use Rattle.script_reader.specs.declared.line.Head.{Head}
+use Rattle.script_reader.specs.declared.line.Head.TheVariants as head
+
+-- the line of a command
+abbrev pub head_in : declared.Command → Head
+head_in (command.Look name) = head.Look name
+head_in (command.Put name text) = head.Put name
+head_in (command.Add place text) = head.Add place
+head_in (command.Cut name) = head.Cut name
+head_in (command.LoopAt line) = head.LoopAt line
+head_in command.Verdict = head.Verdict
+
+-- and its text
+abbrev pub text_in : declared.Command → List (List ℕ)
+text_in (command.Look name) = []
+text_in (command.Put name text) = text
+text_in (command.Add place text) = text
+text_in (command.Cut name) = []
+text_in (command.LoopAt line) = []
+text_in command.Verdict = []
+
+-- a command is its line, and the lines of its text
+abbrev pub command_statements : declared.Command → List Statement
+command_statements command = Command (head_in command) ∷ map Text (text_in command)
+
+-- a session is the line `session`, and its commands
+abbrev pub session_statements : List declared.Command → List Statement
+session_statements commands = Session ∷ flat_map command_statements commands
+
+-- what the lines behind the first one say: the opening text, and the sessions
+abbrev pub statements : Script → List Statement
+statements script = map Text script.text ++ flat_map session_statements script.sessions
+
+abbrev pub says_something : Statement → Bool
+says_something Nothing = false
+says_something (Text text) = true
+says_something Session = true
+says_something (Command head) = true
+says_something Nonsense = true
+
+-- the name is an id, or that of an add command among so many
+abbrev pub is_known : ℕ → BlockName → Bool
+is_known adds (Id id) = true
+is_known adds (Own n) = nat_le 1 n && nat_le n adds
+
+abbrev pub is_known_place : ℕ → Place → Bool
+is_known_place adds Start = true
+is_known_place adds (After name) = is_known adds name
+
+-- the command names a block that can have been made, behind so many add commands of its session
+abbrev pub names_known : ℕ → Head → Bool
+names_known adds (head.Look name) = is_known adds name
+names_known adds (head.Put name) = is_known adds name
+names_known adds (head.Add place) = is_known_place adds place
+names_known adds (head.Cut name) = is_known adds name
+names_known adds (head.LoopAt line) = true
+names_known adds head.Verdict = true
+
+-- one for an add command
+abbrev pub adds_of : Head → ℕ
+adds_of (head.Look name) = 0
+adds_of (head.Put name) = 0
+adds_of (head.Add place) = 1
+adds_of (head.Cut name) = 0
+adds_of (head.LoopAt line) = 0
+adds_of head.Verdict = 0
+
+-- how many add commands there are
+abbrev pub adds_in : List declared.Command → ℕ
+adds_in commands = sum_by (λ command. adds_of (head_in command)) commands
+
+-- each command names blocks of add commands before it
+abbrev pub all_known : ℕ → List declared.Command → Bool
+all_known adds [] = true
+all_known adds (command ∷ commands) = names_known adds (head_in command) && all_known (adds + adds_of (head_in command)) commands
+
+-- the lines spell this script
+pub record Spells (first : List ℕ) (lines : List (List ℕ)) (script : Script) : Type 0 where
+  pub live : is_live first ≡ true
+  pub said : filter says_something (map statement_of lines) ≡ statements script
+  pub few : length script.sessions ≤ 64
+  pub known : list_all (all_known 0) script.sessions ≡ true
+
+-- these are the lines of this script
+abbrev pub IsScript : List (List ℕ) → Script → Type 0
+IsScript [] script = ⊥
+IsScript (first ∷ lines) script = Spells first lines script
+
+-- text lines may stand behind the command
+abbrev pub takes_text : Head → Bool
+takes_text (head.Look name) = false
+takes_text (head.Put name) = true
+takes_text (head.Add place) = true
+takes_text (head.Cut name) = false
+takes_text (head.LoopAt line) = false
+takes_text head.Verdict = false
+
+-- behind the last of the commands
+abbrev pub last_takes_text : List declared.Command → Bool
+last_takes_text [] = false
+last_takes_text (command ∷ []) = takes_text (head_in command)
+last_takes_text (command ∷ next ∷ commands) = last_takes_text (next ∷ commands)
+
+abbrev pub last_session : List (List declared.Command) → List declared.Command
+last_session [] = []
+last_session (session ∷ []) = session
+last_session (session ∷ next ∷ sessions) = last_session (next ∷ sessions)
+
+-- why a text can't stand behind the lines of these sessions: the last command takes none
+abbrev pub text_cause : List (List declared.Command) → Option Cause
+text_cause [] = None
+text_cause (session ∷ sessions) = if last_takes_text (last_session (session ∷ sessions)) then None else Some BadLine
+
+-- why a session can't begin there: 64 are there
+abbrev pub session_cause : List (List declared.Command) → Option Cause
+session_cause sessions = if nat_lt (length sessions) 64 then None else Some ManySessions
+
+-- why a command can't stand there: there is no session, or the name is that of an add command to come
+abbrev pub command_cause : List (List declared.Command) → Head → Option Cause
+command_cause [] head = Some BadLine
+command_cause (session ∷ sessions) head = if names_known (adds_in (last_session (session ∷ sessions))) head then None else Some NoOwn
+
+-- why a line that says this can't stand behind the lines of the script
+abbrev pub cause_of : Script → Statement → Option Cause
+cause_of script Nothing = None
+cause_of script (Text text) = text_cause script.sessions
+cause_of script Session = session_cause script.sessions
+cause_of script (Command head) = command_cause script.sessions head
+cause_of script Nonsense = Some BadLine
+
+-- no script begins with these lines
+abbrev pub BeginNoScript : List (List ℕ) → Type 0
+BeginNoScript lines = (more : List (List ℕ)) (script : Script) → ¬ IsScript (lines ++ more) script
+
+-- the line with this number is the first outside the grammar: it can't stand behind the script that the lines before it spell, for this cause
+pub record IsFirstOutside (lines : List (List ℕ)) (number : ℕ) (cause : Cause) : Type 0 where
+  pub before : List (List ℕ)
+  pub line : List ℕ
+  pub after : List (List ℕ)
+  pub lines_are : lines ≡ before ++ line ∷ after
+  pub counted : number ≡ length before + 1
+  pub script : Script
+  pub good_before : IsScript before script
+  pub is_cause : cause_of script (statement_of line) ≡ Some cause
+  pub ends : BeginNoScript (before ++ line ∷ [])
+
+-- the first line isn't that of a script, or there is none
+pub record HasNoLive (lines : List (List ℕ)) (number : ℕ) (cause : Cause) : Type 0 where
+  pub first : number ≡ 1
+  pub is_cause : cause ≡ NoLive
+  pub none : (script : Script) → ¬ IsScript lines script
+  pub ends : 0 < length lines → BeginNoScript (take 1 lines)
+
+-- the refusal names the first line outside the grammar, and its cause; want of memory says nothing of the lines
+abbrev pub IsRefusal : List (List ℕ) → ScriptFault → Type 0
+IsRefusal lines (At number cause) = HasNoLive lines number cause ⊎ IsFirstOutside lines number cause
+IsRefusal lines NoMemory = Unit {0}

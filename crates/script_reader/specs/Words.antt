@@ -1,0 +1,31 @@
+-- Numbers and names of blocks, as the words of a script spell them.
+use Rattle.std.specs.Prelude.{ℕ, Bool, ◌&&◌, ◌==◌, nat_le, nat_lt, List, [], ◌∷◌, length, codes, Option, Some, None, if◌then◌else◌}
+use Rattle.std.specs.List.{list_all}
+use Rattle.std.specs.Option.{option_map}
+use Rattle.std.specs.Str.{bytes_eq}
+use Rattle.edit_journal.specs.declared.edit.BlockName.{BlockName}
+use Rattle.edit_journal.specs.declared.edit.BlockName.TheVariants.{Id, Own}
+use Rattle.knitout_reader.specs.Numbers.{number_of}
+use Rattle.script_reader.specs.declared.command.Place.{Place}
+use Rattle.script_reader.specs.declared.command.Place.TheVariants.{Start, After}
+
+-- 0 to 9
+abbrev pub is_digit : ℕ → Bool
+is_digit byte = nat_le 48 byte && nat_le byte 57
+
+-- 1 to 10 digits, of a value that fits 32 bits
+abbrev pub is_number : List ℕ → Bool
+is_number word = nat_lt 0 (length word) && nat_le (length word) 10 && list_all is_digit word && nat_lt (number_of word) 4294967296
+
+-- the number that a word spells
+abbrev pub number_in : List ℕ → Option ℕ
+number_in word = if is_number word then Some (number_of word) else None
+
+-- the block that a word names: an id, or `@` and the number of an add command
+abbrev pub name_in : List ℕ → Option BlockName
+name_in [] = None
+name_in (byte ∷ bytes) = if byte == 64 then option_map Own (number_in bytes) else option_map Id (number_in (byte ∷ bytes))
+
+-- the place that a word names: `start`, or behind a block
+abbrev pub place_in : List ℕ → Option Place
+place_in word = if bytes_eq word (codes "start") then Some Start else option_map After (name_in word)

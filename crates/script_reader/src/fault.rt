@@ -1,0 +1,39 @@
+//! Why lines are no script.
+ghost use Rattle.std.specs.Prelude.{◌≡◌};
+ghost use Rattle.script_reader.specs.declared.fault.ScriptFault.TheVariants as refused;
+
+use knit_base::NoMemory;
+use thiserror::Error;
+
+/// What is wrong with the first line outside the grammar.
+#[derive(Clone, Copy, Debug, PartialEq, Eq)]
+pub enum Cause {
+    /// The first line isn't `live 1`, or there is none.
+    NoLive,
+    /// The line says nothing that may stand here.
+    BadLine,
+    /// The line would begin session 64.
+    ManySessions,
+    /// The line names the block of an add command that doesn't stand before it in its session.
+    NoOwn,
+}
+
+/// Why lines are no script.
+#[derive(Clone, Copy, Debug, PartialEq, Eq, Error)]
+pub enum ScriptFault {
+    /// This line, counted from 1, is the first outside the grammar.
+    #[error("script line {line} is outside the grammar")]
+    At { line: u32, cause: Cause },
+
+    /// Memory ran out.
+    #[error("out of memory")]
+    NoMemory,
+}
+
+impl From<NoMemory> for ScriptFault {
+    ghost from_gives = { λ _ e. e ≡ refused.NoMemory };
+
+    fn from(_: NoMemory) -> Self {
+        ScriptFault::NoMemory
+    }
+}

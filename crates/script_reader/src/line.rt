@@ -1,0 +1,154 @@
+//! What a line of a script says by itself.
+ghost use Rattle.std.specs.Prelude.{◌≡◌, true, drop};
+ghost use Rattle.std.specs.List.{list_all};
+ghost use Rattle.knit_base.specs.Lines.{IsLine};
+ghost use Rattle.knitout_reader.specs.Tokens.{is_blank, tokens_of};
+ghost use Rattle.script_reader.specs.Statements.{is_live, is_skipped, is_text_line, kind_of, kind_of_one, kind_of_two, head_of};
+
+use crate::command::Place;
+use crate::words::{name, number, place};
+use edit_journal::BlockName;
+use knitout_reader::next_token;
+
+const LIVE: &[u8] = b"live";
+
+const FORM: &[u8] = b"1";
+
+const SESSION: &[u8] = b"session";
+
+const LOOK: &[u8] = b"look";
+
+const PUT: &[u8] = b"put";
+
+const ADD: &[u8] = b"add";
+
+const CUT: &[u8] = b"cut";
+
+const LOOP: &[u8] = b"loop";
+
+const VERDICT: &[u8] = b"verdict";
+
+/// A command without its text.
+#[derive(Clone, Copy, Debug, PartialEq, Eq)]
+pub(crate) enum Head {
+    Look(BlockName),
+    Put(BlockName),
+    Add(Place),
+    Cut(BlockName),
+    LoopAt(u32),
+    Verdict,
+}
+
+/// What a line is.
+#[derive(Clone, Copy, Debug, PartialEq, Eq)]
+pub(crate) enum Kind {
+    /// It is blank, or begins with `#`.
+    Skipped,
+    /// It is `|` and a text.
+    Text,
+    /// It begins a session.
+    Session,
+    /// It is a command line.
+    Command(Head),
+    /// It is none of these.
+    Other,
+}
+
+/// Whether a first line is that of a script.
+pub(crate) fn is_live(line: &[u8]) -> bool
+    ensures { result ≡ is_live line.now }
+{
+    let Some((word, rest)) = next_token(line) else {
+        return false;
+    };
+    let Some((form, rest)) = next_token(rest) else {
+        return false;
+    };
+    word == LIVE && form == FORM && next_token(rest).is_none()
+}
+
+/// What a line behind the first one is.
+pub(crate) fn kind_of(line: &[u8]) -> Kind
+    ensures { result ≡ kind_of line.now }
+{
+    if is_skipped(line) {
+        return Kind::Skipped;
+    }
+    if line.starts_with(b"|") {
+        return Kind::Text;
+    }
+    let Some((word, rest)) = next_token(line) else {
+        return Kind::Other;
+    };
+    let Some((operand, rest)) = next_token(rest) else {
+        return one_word(word);
+    };
+    if next_token(rest).is_some() {
+        return Kind::Other;
+    }
+    two_words(word, operand)
+}
+
+/// The text of a text line.
+pub(crate) fn text_of(line: &str) -> &str
+    requires line { IsLine line.now }
+    requires text { is_text_line line.now ≡ true }
+    ensures text { result.now ≡ drop 1 line.now }
+    ensures line { IsLine result.now }
+{
+    &line[1..]
+}
+
+fn is_skipped(line: &[u8]) -> bool
+    ensures { result ≡ is_skipped line.now }
+{
+    line.starts_with(b"#") || is_blank_text(line)
+}
+
+fn is_blank_text(text: &[u8]) -> bool
+    ensures { result ≡ list_all is_blank text.now }
+{
+    text.iter().all(|byte| *byte == b' ' || *byte == b'\t')
+}
+
+fn one_word(word: &[u8]) -> Kind
+    ensures { result ≡ kind_of_one word.now }
+{
+    if word == SESSION {
+        return Kind::Session;
+    }
+    if word == VERDICT {
+        return Kind::Command(Head::Verdict);
+    }
+    Kind::Other
+}
+
+fn two_words(word: &[u8], operand: &[u8]) -> Kind
+    ensures { result ≡ kind_of_two word.now operand.now }
+{
+    match head_of(word, operand) {
+        Some(head) => Kind::Command(head),
+        None => Kind::Other,
+    }
+}
+
+fn head_of(word: &[u8], operand: &[u8]) -> Option<Head>
+    ensures { result ≡ head_of word.now operand.now }
+{
+    if word == LOOK {
+        return Some(Head::Look(name(operand)?));
+    }
+    if word == PUT {
+        return Some(Head::Put(name(operand)?));
+    }
+    if word == ADD {
+        return Some(Head::Add(place(operand)?));
+    }
+    if word == CUT {
+        return Some(Head::Cut(name(operand)?));
+    }
+    if word == LOOP {
+        return Some(Head::LoopAt(number(operand)?));
+    }
+    None
+}

@@ -1,0 +1,199 @@
+//! A script, read from its first line to its last.
+ghost use Rattle.std.specs.Prelude.{◌≡◌, ◌⊎◌, ◌+◌, ◌<◌, ◌≤◌, false, List, ℕ, [], ◌∷◌, ◌++◌, length, drop, IfOk, IfErr, Ok, slice_index_or};
+ghost use Rattle.knit_base.specs.Lines.{IsLine};
+ghost use Rattle.script_reader.specs.Script.{IsScript, IsRefusal, adds_in, adds_of, is_known, last_takes_text, names_known};
+ghost use Rattle.script_reader.specs.Reading.{BeginWithHeading, BeginWithSession, IsErr, behind_command, behind_texts, command_in_front, reading, script_of, texts_in_front, walk};
+ghost use Rattle.script_reader.specs.declared.command.Command.{Command};
+ghost use Rattle.script_reader.specs.declared.command.Script.{Script};
+
+use crate::command::{Command, CommandList, Place, Script, SessionScripts};
+use crate::fault::{Cause, ScriptFault};
+use crate::line::{Head, Kind, is_live, kind_of, text_of};
+use edit_journal::BlockName;
+use knit_base::{Lines, ListOf, NoMemory};
+use std::alloc::Global;
+
+/// How many sessions a script has at most.
+const SESSION_LIMIT: u32 = 64;
+
+/// Reads a script.
+///
+/// A line that is blank or begins with `#` is as if it weren't there. The first line outside the grammar is refused, with its
+/// number, from 1, and its cause.
+pub fn read_script(alloc: Global, lines: &Lines) -> Result<Script, ScriptFault>
+    ensures script { IfOk result (IsScript lines.now) }
+    ensures only { IfOk result (λ script. (other : Script) → IsScript lines.now other → other ≡ script) }
+    ensures fault { IfErr result (IsRefusal lines.now) }
+{
+    read(alloc, lines)
+}
+
+fn read(alloc: Global, lines: &Lines) -> Result<Script, ScriptFault>
+    ensures script { IfOk result (λ script. reading lines.now ≡ Ok script) }
+    ensures fault { IfErr result (IsErr (reading lines.now)) }
+{
+    if lines.len() == 0 || !is_live(line_at(lines, 0).as_bytes()) {
+        return Err(ScriptFault::At {
+            line: 1,
+            cause: Cause::NoLive,
+        });
+    }
+    let (text, next) = read_text(alloc, lines, 1)?;
+    let sessions = read_sessions(alloc, lines, next)?;
+    Ok(Script { text, sessions })
+}
+
+fn line_at(lines: &Lines, i: u32) -> &str
+    requires { i < length lines.now }
+    ensures text { result.now ≡ slice_index_or lines.now i [] }
+    ensures line { IsLine result.now }
+{
+    lines.get(i).unwrap()
+}
+
+// The sessions from here on, up to the end.
+fn read_sessions(alloc: Global, lines: &Lines, start: u32) -> Result<SessionScripts, ScriptFault>
+    requires start { start ≤ length lines.now }
+    requires heading { BeginWithHeading (drop start lines.now) }
+    ensures sessions { IfOk result (λ sessions. (text : List (List ℕ)) → walk (length lines.now) (script_of text []) (drop start lines.now) ≡ Ok (script_of text sessions)) }
+    ensures fault { IfErr result (λ fault. (text : List (List ℕ)) → IsErr (walk (length lines.now) (script_of text []) (drop start lines.now)) fault) }
+{
+    let mut sessions = ListOf::new(alloc);
+    let mut at = start;
+    while at < lines.len() {
+        let Kind::Session = kind_of(line_at(lines, at).as_bytes()) else {
+            return Err(ScriptFault::At {
+                line: at + 1,
+                cause: Cause::BadLine,
+            });
+        };
+        if sessions.len() == SESSION_LIMIT {
+            return Err(ScriptFault::At {
+                line: at + 1,
+                cause: Cause::ManySessions,
+            });
+        }
+        let (commands, next) = read_commands(alloc, lines, at + 1)?;
+        sessions.push(commands)?;
+        at = next;
+    }
+    Ok(sessions)
+}
+
+// The commands of a session from here on, and the place of the line behind them.
+fn read_commands(
+    alloc: Global,
+    lines: &Lines,
+    start: u32,
+) -> Result<(CommandList, u32), ScriptFault>
+    requires start { start ≤ length lines.now }
+    ensures within { IfOk result (λ read. (start ≤ read.1) × (read.1 ≤ length lines.now)) }
+    ensures session { IfOk result (λ read. BeginWithSession (drop read.1 lines.now)) }
+    ensures commands { IfOk result (λ read. (text : List (List ℕ)) (done : List (List Command)) → walk (length lines.now) (script_of text (done ++ [] ∷ [])) (drop start lines.now) ≡ walk (length lines.now) (script_of text (done ++ read.0 ∷ [])) (drop read.1 lines.now)) }
+    ensures fault { IfErr result (λ fault. (text : List (List ℕ)) (done : List (List Command)) → IsErr (walk (length lines.now) (script_of text (done ++ [] ∷ [])) (drop start lines.now)) fault) }
+{
+    let mut commands = ListOf::new(alloc);
+    let mut adds = 0;
+    let mut at = start;
+    while at < lines.len() {
+        match kind_of(line_at(lines, at).as_bytes()) {
+            Kind::Skipped => at += 1,
+            Kind::Session => return Ok((commands, at)),
+            Kind::Command(head) => {
+                if !names_known(adds, head) {
+                    return Err(ScriptFault::At {
+                        line: at + 1,
+                        cause: Cause::NoOwn,
+                    });
+                }
+                let (command, next) = read_command(alloc, head, lines, at + 1)?;
+                commands.push(command)?;
+                adds += adds_of(head);
+                at = next;
+            }
+            Kind::Text | Kind::Other => {
+                return Err(ScriptFault::At {
+                    line: at + 1,
+                    cause: Cause::BadLine,
+                });
+            }
+        }
+    }
+    Ok((commands, at))
+}
+
+// The command with this line, whose text, if it takes one, begins here, and the place of the line behind it.
+fn read_command(
+    alloc: Global,
+    head: Head,
+    lines: &Lines,
+    start: u32,
+) -> Result<(Command, u32), NoMemory>
+    requires start { start ≤ length lines.now }
+    ensures within { IfOk result (λ read. (start ≤ read.1) × (read.1 ≤ length lines.now)) }
+    ensures command { IfOk result (λ read. read.0 ≡ command_in_front head (drop start lines.now)) }
+    ensures behind { IfOk result (λ read. drop read.1 lines.now ≡ behind_command head (drop start lines.now)) }
+{
+    match head {
+        Head::Look(name) => Ok((Command::Look(name), start)),
+        Head::Put(name) => {
+            let (text, next) = read_text(alloc, lines, start)?;
+            Ok((Command::Put(name, text), next))
+        }
+        Head::Add(place) => {
+            let (text, next) = read_text(alloc, lines, start)?;
+            Ok((Command::Add(place, text), next))
+        }
+        Head::Cut(name) => Ok((Command::Cut(name), start)),
+        Head::LoopAt(line) => Ok((Command::LoopAt(line), start)),
+        Head::Verdict => Ok((Command::Verdict, start)),
+    }
+}
+
+// The texts of the text lines from here on, and the place of the line behind them.
+fn read_text(alloc: Global, lines: &Lines, start: u32) -> Result<(Lines, u32), NoMemory>
+    requires start { start ≤ length lines.now }
+    ensures within { IfOk result (λ read. (start ≤ read.1) × (read.1 ≤ length lines.now)) }
+    ensures texts { IfOk result (λ read. read.0 ≡ texts_in_front (drop start lines.now)) }
+    ensures behind { IfOk result (λ read. drop read.1 lines.now ≡ behind_texts (drop start lines.now)) }
+{
+    let mut text = Lines::new(alloc);
+    for i in start..lines.len() {
+        let line = line_at(lines, i);
+        match kind_of(line.as_bytes()) {
+            Kind::Skipped => {}
+            Kind::Text => text.push(text_of(line))?,
+            _ => return Ok((text, i)),
+        }
+    }
+    Ok((text, lines.len()))
+}
+
+// Whether a command names blocks that can have been made, behind so many add commands of its session.
+fn names_known(adds: u32, head: Head) -> bool
+    ensures { result ≡ names_known adds head }
+{
+    match head {
+        Head::Look(name) | Head::Put(name) | Head::Cut(name) => is_known(adds, name),
+        Head::Add(Place::After(name)) => is_known(adds, name),
+        Head::Add(Place::Start) | Head::LoopAt(_) | Head::Verdict => true,
+    }
+}
+
+fn is_known(adds: u32, name: BlockName) -> bool
+    ensures { result ≡ is_known adds name }
+{
+    match name {
+        BlockName::Id(_) => true,
+        BlockName::Own(n) => 1 <= n && n <= adds,
+    }
+}
+
+fn adds_of(head: Head) -> u32
+    ensures { result ≡ adds_of head }
+{
+    match head {
+        Head::Add(_) => 1,
+        _ => 0,
+    }
+}
