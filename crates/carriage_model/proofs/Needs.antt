@@ -5,6 +5,7 @@ use Rattle.std.proofs.lemmas.Bool.{true≢false, ltb-false}
 use Rattle.std.proofs.lemmas.Int.{ints}
 use Rattle.knit_base.specs.Lawful.{IsLawful, IsLawfulRead, IsOnBed}
 use Rattle.knit_base.specs.Limits.{IsLawfulProfile}
+use Rattle.knit_base.specs.Usual.{usual_read}
 use Rattle.knit_base.specs.Reasons.{broken_if, or_else}
 use Rattle.knit_base.specs.declared.instr.Instr.TheVariants.{CarryIn, CarryOut, HookIn, HookOut, Knit, Tuck, Miss, Split, Xfer, Drop}
 use Rattle.knit_base.specs.declared.instr.Instr.{Instr}
@@ -14,11 +15,13 @@ use Rattle.knit_base.specs.declared.rule.Rule.{Rule}
 use Rattle.knit_base.specs.declared.rule.Reason.{Reason}
 use Rattle.knit_base.specs.declared.profile.Profile.{Profile}
 use Rattle.knit_base.specs.declared.needle.Needle.{Needle}
+use Rattle.knit_base.specs.declared.usual.Usual.{Usual}
+use Rattle.knit_base.specs.declared.usual.Usual.TheVariants as usual
 use Rattle.carriage_model.specs.declared.machine.Machine.{Machine}
 use Rattle.carriage_model.specs.State.{State}
 use Rattle.carriage_model.specs.Rules.{broken, broken_instr, carriers_out, not_aligned, slider_holds, too_many}
 use Rattle.carriage_model.specs.Beds.{IsOn, SameBeds}
-use Rattle.carriage_model.specs.Machine.{Represents, HasNeedlesOf, HasNeedles, HasNeedlesInLine, HasPlaces, HasPlacesInLine, HasRoom, HasRoomInLine}
+use Rattle.carriage_model.specs.Machine.{Represents, HasNeedlesOf, HasNeedles, HasNeedlesInLine, HasPlaces, HasPlacesInLine, HasRoom, HasRoomInLine, HasCarrierInSet}
 
 instr_has-places : (profile : Profile) (d : ℕ) (i : Instr) → IsLawful profile d i → HasPlaces i
 instr_has-places profile d (CarryIn cs) lawful = lawful.places
@@ -112,3 +115,9 @@ pub line_has-room : (profile : Profile) (d : ℕ) (r : Read) (machine : Machine)
     → HasRoomInLine machine r
 line_has-room profile d (read.Instr i) machine s limits lawful here sound = instr_has-room profile d i machine s limits lawful here sound
 line_has-room profile d r machine s limits lawful here sound = tt
+
+-- the line's carrier is one of the 64 that a set has bits for
+pub usual_has-carrier : (profile : Profile) (d : ℕ) (u : Usual) → d ≤ 64 → IsLawfulRead profile d (usual_read u) → HasCarrierInSet u
+usual_has-carrier profile d (usual.Knit dir n c) few lawful = omega (arith, few, lawful.2.each 0 c (omega arith))
+usual_has-carrier profile d (usual.Tuck dir n c) few lawful = omega (arith, few, lawful.2.each 0 c (omega arith))
+usual_has-carrier profile d (usual.Xfer n n2) few lawful = tt

@@ -6,8 +6,11 @@ use Rattle.knit_base.specs.declared.instr.Read.{Read}
 use Rattle.knit_base.specs.declared.instr.Read.TheVariants as read
 use Rattle.knit_base.specs.declared.needle.Needle.{Needle}
 use Rattle.knit_base.specs.declared.profile.Profile.{Profile}
+use Rattle.knit_base.specs.declared.usual.Usual.{Usual}
+use Rattle.knit_base.specs.declared.usual.Usual.TheVariants as usual
 use Rattle.knit_base.specs.declared.yarns.CarrierNo.{CarrierNo}
 use Rattle.knit_base.specs.Needle.{is_front}
+use Rattle.knit_base.specs.Yarns.{IsCarrier}
 use Rattle.carriage_model.specs.declared.machine.Machine.{Machine}
 use Rattle.carriage_model.specs.State.{State}
 use Rattle.carriage_model.specs.Beds.{IsOn, loops_at}
@@ -119,3 +122,9 @@ HasRoomInLine machine read.Blank = Unit {0}
 HasRoomInLine machine read.Comment = Unit {0}
 HasRoomInLine machine (read.Broken reason) = Unit {0}
 HasRoomInLine machine (read.Instr i) = HasRoom machine i
+
+-- the number of the line's carrier, where it has one, is the place of a bit in a set
+abbrev pub HasCarrierInSet : Usual → Type 0
+HasCarrierInSet (usual.Knit dir n c) = IsCarrier c
+HasCarrierInSet (usual.Tuck dir n c) = IsCarrier c
+HasCarrierInSet (usual.Xfer n n2) = Unit {0}

@@ -43,6 +43,7 @@ impl Beds {
     }
 
     /// How many loops a needle holds.
+    #[inline(always)]
     pub fn loops_on(&self, n: Needle) -> u32
         requires { IsOn self.now n.at }
         ensures { result ≡ length (loops_at self.now n) }
@@ -71,6 +72,7 @@ impl Beds {
     }
 
     /// The needle holds a new loop alone.
+    #[inline(always)]
     pub fn knit_off(&mut self, line: u32, n: Needle) -> Result<(), NoMemory>
         requires { IsOn self.old n.at }
         ensures { OnOk result (Holds self.old self.new (with_stack (loops_at self.old) n (line ∷ []))) }
@@ -159,6 +161,7 @@ impl Beds {
     }
 
     // Where the needle's stack stands.
+    #[inline(always)]
     fn place(&self, n: Needle) -> usize
         requires { IsOn self.now n.at }
         ensures is { result ≡ place_in self.now.low self.now.width n }
@@ -192,15 +195,25 @@ fn list_stacks(
 }
 
 // The place of the lowest needle of a bed.
+#[inline(always)]
 fn first_of_bed(width: usize, bed: Bed) -> usize
     requires { width ≤ 65536 }
     ensures { result ≡ first_of_bed width bed }
 {
+    rank(bed) * width
+}
+
+// How many beds come before this one.
+#[inline(always)]
+fn rank(bed: Bed) -> usize
+    ensures few { result ≤ 3 }
+    ensures beds { (width : ℕ) → result * width ≡ first_of_bed width bed }
+{
     match bed {
         Bed::Front => 0,
-        Bed::FrontSlider => width,
-        Bed::Back => 2 * width,
-        Bed::BackSlider => 3 * width,
+        Bed::FrontSlider => 1,
+        Bed::Back => 2,
+        Bed::BackSlider => 3,
     }
 }
 

@@ -1,16 +1,17 @@
 //! The rules that need the machine's state.
-ghost use Rattle.std.specs.Prelude.{◌≡◌, ◌+◌, ◌<◌, ◌^◌, length, position};
+ghost use Rattle.std.specs.Prelude.{◌≡◌, ◌+◌, ◌<◌, ◌^◌, [], ◌∷◌, true, None, length, position};
 ghost use Rattle.knit_base.specs.Needle.{own_slider};
 ghost use Rattle.knit_base.specs.Reasons.{broken_if, first_broken, or_else};
-ghost use Rattle.knit_base.specs.Yarns.{contains_carrier, lacks_carrier, AreCarriers};
+ghost use Rattle.knit_base.specs.Usual.{usual_read};
+ghost use Rattle.knit_base.specs.Yarns.{contains_carrier, lacks_carrier, AreCarriers, IsCarrier};
 ghost use Rattle.carriage_model.specs.State.{State};
 ghost use Rattle.carriage_model.specs.Rules.{broken, broken_instr, broken_knit, broken_tuck, broken_split, carriers_out, carriers_in, carriers_hooked, hook_busy, hook_other, not_aligned, slider_holds, too_many, rack_facing};
 
 use crate::machine::Machine;
-use knit_base::{Bed, CarrierNo, Instr, Needle, Profile, Read, Reason, Rule, Yarns};
+use knit_base::{Bed, CarrierNo, Instr, Needle, Profile, Read, Reason, Rule, Usual, Yarns};
 
 impl Machine {
-    ghost use Rattle.carriage_model.specs.Machine.{Represents, HasPlaces, HasPlacesInLine, FitsPlaces, HasNeedles, HasNeedlesInLine, stack_of};
+    ghost use Rattle.carriage_model.specs.Machine.{Represents, HasPlaces, HasPlacesInLine, FitsPlaces, HasNeedles, HasNeedlesInLine, HasCarrierInSet, stack_of};
     ghost use Rattle.carriage_model.specs.Beds.{IsOn};
 
     /// The first rule that the line breaks.
@@ -24,6 +25,59 @@ impl Machine {
             Read::Broken(reason) => Some(*reason),
             Read::Blank | Read::Comment => None,
         }
+    }
+
+    /// Whether the line breaks no rule.
+    #[inline(always)]
+    pub fn allows(&self, profile: &Profile, usual: Usual) -> bool
+        requires needles { HasNeedlesInLine self.now (usual_read usual) }
+        requires carrier { HasCarrierInSet usual }
+        ensures { result ≡ true → (s : State) → Represents self.now s → broken profile.now (usual_read usual) s ≡ None }
+    {
+        match usual {
+            Usual::Knit(_, n, c) => self.allows_loop(n, c),
+            Usual::Tuck(_, n, c) => self.allows_loop(n, c) && self.has_room_on(profile, n),
+            Usual::Xfer(n, n2) => self.is_aligned(n, n2) && self.has_room_together(profile, n, n2),
+        }
+    }
+
+    // Whether the carrier is in action and the needle's own slider holds no loop.
+    #[inline(always)]
+    fn allows_loop(&self, n: Needle, c: CarrierNo) -> bool
+        requires on { IsOn self.now.beds n.at }
+        requires carrier { IsCarrier c }
+        ensures carrier { result ≡ true → (s : State) → Represents self.now s → carriers_out s 3 (c ∷ []) ≡ None }
+        ensures slider { result ≡ true → (s : State) → Represents self.now s → slider_holds s n ≡ None }
+    {
+        (self.ins >> c.0) % 2 == 1 && self.beds.loops_on(own_slider(n)) == 0
+    }
+
+    // Whether the needle can hold one loop more.
+    #[inline(always)]
+    fn has_room_on(&self, profile: &Profile, n: Needle) -> bool
+        requires { IsOn self.now.beds n.at }
+        ensures { result ≡ true → (s : State) → Represents self.now s → too_many profile.now (length (s.stacks n) + 1) 2 ≡ None }
+    {
+        self.beds.loops_on(n) < u32::from(profile.hold)
+    }
+
+    // Whether the two needles face each other.
+    #[inline(always)]
+    fn is_aligned(&self, n: Needle, n2: Needle) -> bool
+        ensures { result ≡ true → (s : State) → Represents self.now s → not_aligned s n n2 2 ≡ None }
+    {
+        self.rack.0 == rack_facing(n, n2)
+    }
+
+    // Whether the second needle can hold the loops of both.
+    #[inline(always)]
+    fn has_room_together(&self, profile: &Profile, n: Needle, n2: Needle) -> bool
+        requires from { IsOn self.now.beds n.at }
+        requires to { IsOn self.now.beds n2.at }
+        ensures { result ≡ true → (s : State) → Represents self.now s → too_many profile.now (length (s.stacks n2) + length (s.stacks n)) 2 ≡ None }
+    {
+        let loops = u64::from(self.beds.loops_on(n2)) + u64::from(self.beds.loops_on(n));
+        loops <= u64::from(profile.hold)
     }
 
     fn broken_instr(&self, profile: &Profile, instr: &Instr) -> Option<Reason>

@@ -1,3 +1,5 @@
 pub mod Bodies
 pub mod Calls
 pub mod Dues
+pub mod Fronts
+pub mod TextRuns

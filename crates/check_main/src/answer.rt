@@ -9,6 +9,7 @@ ghost use Rattle.verdict_report.specs.Refusals.{refusal_text};
 ghost use Rattle.check_main.specs.Asked.{IsLawfulChosen, is_built};
 ghost use Rattle.check_main.specs.Due.{Due, Fits, IsSizeRefusal, body_of, blocks_of, cut_refusal, head_refusal};
 
+use crate::in_text::check_text;
 use crate::judge::{Style, judge};
 use crate::outcome::Status;
 use crate::plan::Plan;
@@ -33,13 +34,19 @@ pub struct Reply {
     pub text: Vec<u8>,
 }
 
-/// What is due for an input that was read whole: its lines are cut, its head is read, and then its body is judged.
+/// What is due for an input that was read whole: its lines are cut, its head is read, and then its body is judged. Where all
+/// is well, a check finds the lines one by one instead, and keeps none.
 pub fn answer(alloc: Global, plan: &Plan, input: Vec<u8>) -> Result<Reply, NoMemory>
     requires size { length input.items ≤ 16777216 }
     requires lawful { IsLawfulChosen plan.now.chosen }
     requires built { is_built plan.now.command ≡ true }
     ensures { IfOk result (λ reply. Due plan.now.command plan.now.chosen input.items reply.text.items reply.status) }
 {
+    if let Command::Check { loops, json } = plan.command {
+        if let Some(reply) = check_text(alloc, Style { loops, json }, &plan.chosen, &input)? {
+            return Ok(reply);
+        }
+    }
     match cut_buffer(alloc, input) {
         Ok(lines) => answer_lines(alloc, plan, &lines),
         Err(fault) => refuse(alloc, said_of_lines(fault)?, Status::BadInput),
@@ -112,8 +119,8 @@ fn normalise(alloc: Global, chosen: &Chosen, lines: &Lines, head: &Head) -> Resu
     })
 }
 
-// What is said of a body with so many lines, where these are too many, or too many blocks of this size.
-fn said_of_size(lines: u32, block: u32) -> Option<Refusal>
+/// What is said of a body with so many lines, where these are too many, or too many blocks of this size.
+pub(crate) fn said_of_size(lines: u32, block: u32) -> Option<Refusal>
     requires { IsBlockSize block }
     ensures { MatchOption result (Fits block lines) (λ refusal. IsSizeRefusal block lines refusal) }
 {
@@ -151,8 +158,8 @@ fn said_of_head(fault: HeadFault) -> Result<Refusal, NoMemory>
     }
 }
 
-// The line of a refusal, and this status.
-fn refuse(alloc: Global, refusal: Refusal, status: Status) -> Result<Reply, NoMemory>
+/// The line of a refusal, and this status.
+pub(crate) fn refuse(alloc: Global, refusal: Refusal, status: Status) -> Result<Reply, NoMemory>
     ensures { IfOk result (λ reply. (reply.text.items ≡ refusal_text refusal) × (reply.status ≡ status)) }
 {
     let mut text = Vec::new(alloc);

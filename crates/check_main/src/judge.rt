@@ -71,8 +71,8 @@ fn run_body(
     carriage.finish(lines.len() - head.lines)
 }
 
-// Reads a line, and carries it out.
-fn carry_out(
+/// Reads a line, and carries it out.
+pub(crate) fn carry_out(
     alloc: Global,
     line: &str,
     profile: &Profile,
@@ -109,8 +109,8 @@ fn numbered_line(lines: &Lines, number: u32) -> &str
     }
 }
 
-// The report, as text or as JSON.
-fn report(
+/// The report, as text or as JSON.
+pub(crate) fn report(
     alloc: Global,
     json: bool,
     verdict: &Verdict,
@@ -127,7 +127,7 @@ fn report(
     }
 }
 
-fn status_of(verdict: &Verdict) -> Status
+pub(crate) fn status_of(verdict: &Verdict) -> Status
     ensures { result ≡ status_of verdict.now }
 {
     match verdict {

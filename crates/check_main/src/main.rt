@@ -9,6 +9,8 @@
 mod answer;
 #[cfg(test)]
 mod example_tests;
+mod front;
+mod in_text;
 mod judge;
 mod outcome;
 mod plan;

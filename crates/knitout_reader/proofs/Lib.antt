@@ -1,5 +1,6 @@
 pub mod Decimals
 pub mod Digits
+pub mod FrontHeads
 pub mod Heads
 pub mod Marks
 pub mod Named
@@ -7,7 +8,10 @@ pub mod OneShape
 pub mod Quarters
 pub mod ReadSoFar
 pub mod Rules
+pub mod ShortDigits
 pub mod Signs
 pub mod Spelled
 pub mod Splitting
+pub mod Total
 pub mod Unique
+pub mod UsualLines

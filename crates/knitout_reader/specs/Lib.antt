@@ -4,4 +4,6 @@ pub mod Numbers
 pub mod Operations
 pub mod Reads
 pub mod Shapes
+pub mod Spelt
 pub mod Tokens
+pub mod Usual

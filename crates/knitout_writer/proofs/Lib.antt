@@ -2,4 +2,5 @@ pub mod Bodies
 pub mod Numerals
 pub mod Settling
 pub mod Spacing
+pub mod SpeltLines
 pub mod Words

@@ -48,7 +48,7 @@ tokens-each (token ∷ tokens) rest are starts =
     ∙ tokens_of-token token (each_spaced tokens ++ rest) word.some (plain_of token word) (starts_each tokens rest starts)
     ∙ ap (λ ts. token ∷ ts) (tokens-each tokens rest (All-tail IsWord token tokens are) starts)
 
-tokens-spaced : (token : List ℕ) (tokens : List (List ℕ)) (rest : List ℕ) → All IsWord (token ∷ tokens) → Starts rest
+pub tokens-spaced : (token : List ℕ) (tokens : List (List ℕ)) (rest : List ℕ) → All IsWord (token ∷ tokens) → Starts rest
     → tokens_of (spaced (token ∷ tokens) ++ rest) ≡ token ∷ (tokens ++ tokens_of rest)
 tokens-spaced token tokens rest are starts =
     let word : IsWord token = All-head IsWord token tokens are in
@@ -63,7 +63,7 @@ clear-each (token ∷ tokens) are =
     (All-cons (λ byte. is_semicolon byte ≡ false) 32 token refl (clear_of token (All-head IsWord token tokens are)))
     (clear-each tokens (All-tail IsWord token tokens are))
 
-clear-spaced : (token : List ℕ) (tokens : List (List ℕ)) → All IsWord (token ∷ tokens) → Clear (spaced (token ∷ tokens))
+pub clear-spaced : (token : List ℕ) (tokens : List (List ℕ)) → All IsWord (token ∷ tokens) → Clear (spaced (token ∷ tokens))
 clear-spaced token tokens are =
     All-append (λ byte. is_semicolon byte ≡ false) token (each_spaced tokens) (clear_of token (All-head IsWord token tokens are)) (clear-each tokens (All-tail IsWord token tokens are))
 

@@ -6,7 +6,7 @@ ghost use Rattle.knitout_writer.specs.Canonical.{IsCanonicalText, IsCanonicalLin
 
 use crate::line::append_line;
 use knit_base::{Declared, Lines, NoMemory, Profile};
-use knitout_reader::{Head, read_line};
+use knitout_reader::{Head, is_spelt_line, read_line};
 use std::alloc::Global;
 
 /// The canonical text of the file with these lines: the lines of its head as they are, and each line of its body in its canonical
@@ -94,8 +94,29 @@ fn append_body(
     Ok(())
 }
 
-// Reads a line, and appends its canonical spelling.
+// Appends the canonical spelling of a line.
+#[inline(always)]
 fn append_body_line(
+    alloc: Global,
+    line: &str,
+    profile: &Profile,
+    declared: &Declared,
+    out: &mut Vec<u8>,
+) -> Result<(), NoMemory>
+    requires { length line.now < 2 ^ 16 }
+    ensures { OnOk result ((text : List ℕ) × IsCanonicalLine profile.now declared.now line.now text × (out.new.items ≡ out.old.items ++ text)) }
+{
+    let bytes = line.as_bytes();
+    if is_spelt_line(bytes) {
+        out.extend_from_slice(bytes)?;
+        return Ok(());
+    }
+    append_read_line(alloc, line, profile, declared, out)
+}
+
+// Reads a line, and appends its canonical spelling.
+#[inline(never)]
+fn append_read_line(
     alloc: Global,
     line: &str,
     profile: &Profile,

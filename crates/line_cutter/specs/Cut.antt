@@ -1,5 +1,5 @@
 -- Good lines, and the first bad one.
-use Rattle.std.specs.Prelude.{◌≡◌, ℕ, ◌+◌, ◌<◌, ◌≤◌, true, false, List, ◌∷◌, ◌++◌, length, drop, map, All}
+use Rattle.std.specs.Prelude.{◌≡◌, ℕ, ◌+◌, ◌<◌, ◌≤◌, true, false, List, ◌∷◌, ◌++◌, length, take, drop, map, All}
 use Rattle.std.specs.Str.{is_utf8}
 use Rattle.knit_base.specs.declared.lines.Span.{Span}
 use Rattle.knit_base.specs.Lines.{AreLines, HasNoLineEnd, IsWithin, lines_of, piece}
@@ -65,3 +65,17 @@ pub record IsNextRefused (text : List ℕ) (start number : ℕ) (fault : CutFaul
   pub later : List (List ℕ)
   pub first : lines_of (drop start text) ≡ line ∷ later
   pub refused : IsRefused line number fault
+
+-- a good line begins here, and the next one there
+pub record StandsAt (text : List ℕ) (start : ℕ) (line : List ℕ) (next : ℕ) : Type 0 where
+  pub further : start < next
+  pub first : lines_of (drop start text) ≡ line ∷ lines_of (drop next text)
+  pub good : IsGoodLine line
+
+-- So many lines stand before this place, and they are good.
+pub record IsBehind (text : List ℕ) (count start : ℕ) : Type 0 where
+  pub left : drop count (lines_of text) ≡ lines_of (drop start text)
+  pub within : count ≤ length (lines_of text)
+  pub few : count ≤ start
+  pub fit : count ≤ length text
+  pub good : All IsGoodLine (take count (lines_of text))

@@ -9,10 +9,12 @@
 mod cutter;
 mod fault;
 mod line;
+mod places;
 
 pub use cutter::{cut, cut_buffer};
 pub use fault::CutFault;
 pub use line::LINE_LIMIT;
+pub use places::{line_at, place_behind};
 
 #[cfg(test)]
 mod tests;

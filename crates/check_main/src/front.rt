@@ -1,0 +1,46 @@
+//! The head of a text, from its front alone.
+ghost use Rattle.std.specs.Prelude.{◌≡◌, ◌⊎◌, ◌≤◌, ◌-◌, length, slice_index, IfOk, IfSome};
+ghost use Rattle.knit_base.specs.Lines.{lines_of};
+ghost use Rattle.knitout_reader.specs.Head.{IsHead};
+
+use knit_base::NoMemory;
+use knitout_reader::{Head, read_head};
+use line_cutter::cut;
+use std::alloc::Global;
+
+// Most heads are shorter than this.
+const FRONT_LEN: usize = 8_192;
+
+/// The head of a text, where it ends within the front. `None` says nothing.
+pub fn front_head(alloc: Global, text: &[u8]) -> Result<Option<Head>, NoMemory>
+    requires { length text.now ≤ 16777216 }
+    ensures { IfOk result (λ found. IfSome found (λ head. IsHead (lines_of text.now) head)) }
+{
+    let len = front_len(text);
+    let Ok(lines) = cut(alloc, &text[..len]) else {
+        return Ok(None);
+    };
+    let Ok(head) = read_head(alloc, &lines) else {
+        return Ok(None);
+    };
+    // A head that fills the front may go on behind it.
+    if head.lines >= lines.len() {
+        return Ok(None);
+    }
+    Ok(Some(head))
+}
+
+// How many bytes the whole lines take that stand in the front.
+fn front_len(text: &[u8]) -> usize
+    ensures within { result ≤ length text.now }
+    ensures whole { (result ≡ 0) ⊎ (slice_index text.now (result - 1) ≡ 10) }
+{
+    let mut len = text.len().min(FRONT_LEN);
+    while len > 0 {
+        if text[len - 1] == b'\n' {
+            return len;
+        }
+        len -= 1;
+    }
+    0
+}

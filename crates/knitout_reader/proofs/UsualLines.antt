@@ -1,0 +1,382 @@
+-- Lines whose tokens have one space between two, and what they read as.
+use Rattle.std.proofs.Common.{◌≡◌, ◌≢◌, ℕ, ◌+◌, ◌-◌, ◌*◌, ◌<◌, ◌≤◌, ◌^◌, ℤ, pos, ◌≤ℤ◌, int_lt, Bool, true, false, not, ◌||◌, ◌&&◌, is_none, List, [], ◌∷◌, ◌++◌, length, take, drop, slice_index, All, Option, None, Some, position, codes, ap, sym, subst, ◌∙◌, refl, inl, arith, lit<, append_assoc, append-nil, length-append, if◌then◌else◌}
+use Rattle.std.specs.List.{cons_option, position_or_len}
+use Rattle.std.specs.Option.{option_map}
+use Rattle.std.specs.Str.{is_utf8}
+use Rattle.std.proofs.lemmas.Int.{ints}
+use Rattle.std.proofs.lemmas.List.{take_all}
+use Rattle.std.proofs.lemmas.List.Elements.{All-append, All-cons, All-head, All-nil, All-tail}
+use Rattle.std.proofs.lemmas.List.Sums.{position_or_len_is}
+use Rattle.std.proofs.lemmas.Str.{IsUtf8-from_ascii, is_utf8-from_IsUtf8}
+use Rattle.std.proofs.lemmas.Str.Ascii.{IsAscii-from_all}
+use Rattle.std.proofs.Math.Seq.{drop-append-add}
+use Rattle.knit_base.specs.declared.instr.Instr.{Instr}
+use Rattle.knit_base.specs.declared.instr.Instr.TheVariants as instr
+use Rattle.knit_base.specs.declared.instr.Read.{Read}
+use Rattle.knit_base.specs.declared.instr.Read.TheVariants as read
+use Rattle.knit_base.specs.declared.needle.Bed.{Bed}
+use Rattle.knit_base.specs.declared.needle.Bed.TheVariants.{Front, FrontSlider, Back, BackSlider}
+use Rattle.knit_base.specs.declared.needle.Dir.{Dir}
+use Rattle.knit_base.specs.declared.needle.Dir.TheVariants.{Right, Left}
+use Rattle.knit_base.specs.declared.needle.Needle.{Needle}
+use Rattle.knit_base.specs.declared.profile.Profile.{Profile}
+use Rattle.knit_base.specs.declared.rule.Reason.{Reason}
+use Rattle.knit_base.specs.declared.rule.Rule.TheVariants.{NoCarrier, OffBed, SameBed, SliderForm, TwoSliders}
+use Rattle.knit_base.specs.declared.usual.Usual.{Usual}
+use Rattle.knit_base.specs.declared.usual.Usual.TheVariants.{Knit, Tuck, Xfer}
+use Rattle.knit_base.specs.declared.yarns.CarrierNo.{CarrierNo}
+use Rattle.knit_base.specs.Lawful.{IsLawfulRead, IsOnBed}
+use Rattle.knit_base.specs.Lines.{lines_of}
+use Rattle.knit_base.specs.Names.{carrier_of}
+use Rattle.knit_base.specs.Needle.{is_front, is_slider}
+use Rattle.knit_base.specs.Reasons.{broken_if, or_else}
+use Rattle.knit_base.specs.Spelling.{bed_word, dir_word}
+use Rattle.knit_base.specs.Usual.{usual_read}
+use Rattle.knit_base.proofs.FirstLine.{IsInLine, lines_of-line}
+use Rattle.knitout_reader.specs.declared.byte_names.ByteNames.{ByteNames}
+use Rattle.knitout_reader.specs.declared.words.Forming.{Forming}
+use Rattle.knitout_reader.specs.declared.words.Forming.TheVariants as forming
+use Rattle.knitout_reader.specs.Carriers.{carrier_rule, carrier_twice, carriers_of}
+use Rattle.knitout_reader.specs.Numbers.{AreDigits, IsDigit, IsNeedle, number_of}
+use Rattle.knitout_reader.specs.Operations.{forming_instr, forming_slider, forming_word}
+use Rattle.knitout_reader.specs.Reads.{Reads, ReadsCode, ReadsTokens, needle_on, not_opposite, off_bed, reading_or, slider_form}
+use Rattle.knitout_reader.specs.Shapes.{BeginsWithNeedle, IsFormed, IsMoved, XferShape}
+use Rattle.knitout_reader.specs.Tokens.{before_comment, has_comment, is_blank, is_semicolon, tokens_of}
+use Rattle.knitout_reader.specs.Usual.{AreByteNames, BeginsWithUsual, BeginsWithUsualNeedle, BeginsWithUsualNeedles, BeginsWithUsualNumber, BeginsWithUsualOperands, IsTokenByte}
+use Rattle.knitout_reader.proofs.Marks.{formed-read}
+use Rattle.knitout_reader.proofs.Rules.{tokens-lawful}
+use Rattle.knitout_reader.proofs.Splitting.{tokens_of-spaced, tokens_of-token}
+
+-- numbers of one to three digits
+pub one_digit : (text rest : List ℕ) (a end : ℕ) (at : ℤ) → IsDigit a → text ≡ a ∷ end ∷ rest → at ≡ pos (a - 48) → BeginsWithUsualNumber text at end rest
+one_digit text rest a end at is text_is at_is = record {
+  digits = a ∷ [];
+  are = (omega arith, All-cons IsDigit a [] is (All-nil IsDigit));
+  few = omega arith;
+  at_is = at_is ∙ ap pos (omega arith);
+  text_is = text_is;
+}
+
+pub two_digits : (text rest : List ℕ) (a b end : ℕ) (at : ℤ) → IsDigit a → IsDigit b → text ≡ a ∷ b ∷ end ∷ rest → at ≡ pos (10 * (a - 48) + (b - 48))
+    → BeginsWithUsualNumber text at end rest
+two_digits text rest a b end at is is_b text_is at_is = record {
+  digits = a ∷ b ∷ [];
+  are = (omega arith, All-cons IsDigit a (b ∷ []) is (All-cons IsDigit b [] is_b (All-nil IsDigit)));
+  few = omega arith;
+  at_is = at_is ∙ ap pos (omega arith);
+  text_is = text_is;
+}
+
+pub three_digits : (text rest : List ℕ) (a b c end : ℕ) (at : ℤ) → IsDigit a → IsDigit b → IsDigit c → text ≡ a ∷ b ∷ c ∷ end ∷ rest
+    → at ≡ pos (100 * (a - 48) + 10 * (b - 48) + (c - 48)) → BeginsWithUsualNumber text at end rest
+three_digits text rest a b c end at is is_b is_c text_is at_is = record {
+  digits = a ∷ b ∷ c ∷ [];
+  are = (omega arith, All-cons IsDigit a (b ∷ c ∷ []) is (All-cons IsDigit b (c ∷ []) is_b (All-cons IsDigit c [] is_c (All-nil IsDigit))));
+  few = omega arith;
+  at_is = at_is ∙ ap pos (omega arith);
+  text_is = text_is;
+}
+
+letter : (byte : ℕ) → 59 < byte → byte < 128 → IsTokenByte byte
+letter byte low high = record {
+  ascii = high;
+  plain = grind arith;
+  comment = λ e. omega arith;
+  feed = λ e. omega arith;
+  back = λ e. omega arith;
+}
+
+sign : (byte : ℕ) → 32 < byte → byte < 59 → IsTokenByte byte
+sign byte low high = record {
+  ascii = omega arith;
+  plain = grind arith;
+  comment = λ e. omega arith;
+  feed = λ e. omega arith;
+  back = λ e. omega arith;
+}
+
+-- a token that can stand in a line that is read at once
+pub record IsPlainToken (token : List ℕ) : Type 0 where
+  pub some : 0 < length token
+  pub bytes : All IsTokenByte token
+
+-- the tokens, with one space between two
+abbrev pub spaced : List (List ℕ) → List ℕ
+spaced [] = []
+spaced (token ∷ []) = token
+spaced (token ∷ next ∷ tokens) = token ++ 32 ∷ spaced (next ∷ tokens)
+
+plain_bytes : (token : List ℕ) → All IsTokenByte token → All (λ byte. is_blank byte ≡ false) token
+plain_bytes token are = λ k d below. (are k d below).plain
+
+tokens-spaced : (tokens : List (List ℕ)) → All IsPlainToken tokens → tokens_of (spaced tokens) ≡ tokens
+tokens-spaced [] are = refl
+tokens-spaced (token ∷ []) are =
+    let here : IsPlainToken token = All-head IsPlainToken token [] are in
+    ap tokens_of (sym (append-nil token)) ∙ tokens_of-token token [] here.some (plain_bytes token here.bytes) (λ more. absurd (omega arith))
+tokens-spaced (token ∷ next ∷ tokens) are =
+    let here : IsPlainToken token = All-head IsPlainToken token (next ∷ tokens) are in
+    tokens_of-spaced token (spaced (next ∷ tokens)) here.some (plain_bytes token here.bytes)
+    ∙ ap (λ ts. token ∷ ts) (tokens-spaced (next ∷ tokens) (All-tail IsPlainToken token (next ∷ tokens) are))
+
+-- a byte of such a line
+pub record IsLineByte (byte : ℕ) : Type 0 where
+  pub ascii : byte < 128
+  pub comment : byte ≢ 59
+  pub feed : byte ≢ 10
+  pub back : byte ≢ 13
+
+in_line : (token : List ℕ) → All IsTokenByte token → All IsLineByte token
+in_line token are = λ k d below. let here = are k d below in record { ascii = here.ascii; comment = here.comment; feed = here.feed; back = here.back }
+
+space : IsLineByte 32
+space = record { ascii = lit< tt; comment = λ e. omega arith; feed = λ e. omega arith; back = λ e. omega arith }
+
+bytes-spaced : (tokens : List (List ℕ)) → All IsPlainToken tokens → All IsLineByte (spaced tokens)
+bytes-spaced [] are = All-nil IsLineByte
+bytes-spaced (token ∷ []) are = in_line token (All-head IsPlainToken token [] are).bytes
+bytes-spaced (token ∷ next ∷ tokens) are =
+    All-append IsLineByte token (32 ∷ spaced (next ∷ tokens)) (in_line token (All-head IsPlainToken token (next ∷ tokens) are).bytes)
+    (All-cons IsLineByte 32 (spaced (next ∷ tokens)) space (bytes-spaced (next ∷ tokens) (All-tail IsPlainToken token (next ∷ tokens) are)))
+
+no_semicolon : (byte : ℕ) → byte ≢ 59 → is_semicolon byte ≡ false
+no_semicolon byte other = grind arith
+
+no_comment : (line : List ℕ) → All IsLineByte line → before_comment line ≡ line
+no_comment line are =
+    let none : position_or_len is_semicolon line ≡ length line =
+    position_or_len_is is_semicolon line (length line) 0 (omega arith) (λ k below. no_semicolon _ (are k 0 below).comment) (λ within. absurd (omega arith)) in
+    ap (λ n. take n line) none ∙ take_all (length line) line (omega arith)
+
+reads_line : (profile : Profile) (names : List (List ℕ)) (line word : List ℕ) (rest : List (List ℕ)) (r : Read) → tokens_of (before_comment line) ≡ word ∷ rest
+    → ReadsTokens profile names (word ∷ rest) r → Reads profile names line r
+reads_line profile names line word rest r is reads = subst (λ ts. ReadsCode profile names ts (has_comment line) r) (sym is) reads
+
+-- a line of such tokens begins the text
+pub begins : (profile : Profile) (names : List (List ℕ)) (text rest word : List ℕ) (tokens : List (List ℕ)) (usual : Usual)
+    → text ≡ spaced (word ∷ tokens) ++ 10 ∷ rest → All IsPlainToken (word ∷ tokens) → length (spaced (word ∷ tokens)) ≤ 32 → length tokens ≤ 3 → length names ≤ 64
+    → ReadsTokens profile names (word ∷ tokens) (usual_read usual)
+    → BeginsWithUsual profile names text usual (length text - length rest)
+begins profile names text rest word tokens usual is are short few carriers reads =
+    let line : List ℕ = spaced (word ∷ tokens) in
+    let bytes : All IsLineByte (spaced (word ∷ tokens)) = bytes-spaced (word ∷ tokens) are in
+    let all : length text ≡ length (spaced (word ∷ tokens)) + (length rest + 1) = ap length is ∙ length-append (spaced (word ∷ tokens)) (10 ∷ rest) ∙ omega arith in
+    let behind : drop (length text - length rest) text ≡ rest =
+    ap (λ n. drop n text) (omega arith) ∙ ap (drop (length (spaced (word ∷ tokens)) + 1)) is ∙ drop-append-add (spaced (word ∷ tokens)) (10 ∷ rest) 1 in
+    record {
+      line = line;
+      some = omega arith;
+      within = omega arith;
+      lines = ap lines_of is
+          ∙ lines_of-line (spaced (word ∷ tokens)) rest (λ k d below. record { feed = (bytes k d below).feed; back = (bytes k d below).back })
+          ∙ ap (λ l. spaced (word ∷ tokens) ∷ lines_of l) (sym behind);
+      utf8 = is_utf8-from_IsUtf8 line (IsUtf8-from_ascii line (IsAscii-from_all line (λ k d below. (bytes k d below).ascii)));
+      short = short;
+      read = reads_line profile names line word tokens (usual_read usual) (ap tokens_of (no_comment line bytes) ∙ tokens-spaced (word ∷ tokens) are) reads;
+      lawful = tokens-lawful profile names word tokens (usual_read usual) (omega arith) reads;
+      few = carriers;
+    }
+
+digit_bytes : (digits : List ℕ) → All IsDigit digits → All IsTokenByte digits
+digit_bytes digits are = λ k d below. let here = are k d below in sign _ (omega (arith, here.0)) (omega (arith, here.1))
+
+bed_bytes : (bed : Bed) → All IsTokenByte (bed_word bed)
+bed_bytes Front = All-cons IsTokenByte 102 [] (letter 102 (lit< tt) (lit< tt)) (All-nil IsTokenByte)
+bed_bytes FrontSlider = All-cons IsTokenByte 102 (115 ∷ []) (letter 102 (lit< tt) (lit< tt)) (All-cons IsTokenByte 115 [] (letter 115 (lit< tt) (lit< tt)) (All-nil IsTokenByte))
+bed_bytes Back = All-cons IsTokenByte 98 [] (letter 98 (lit< tt) (lit< tt)) (All-nil IsTokenByte)
+bed_bytes BackSlider = All-cons IsTokenByte 98 (115 ∷ []) (letter 98 (lit< tt) (lit< tt)) (All-cons IsTokenByte 115 [] (letter 115 (lit< tt) (lit< tt)) (All-nil IsTokenByte))
+
+bed_len : (bed : Bed) → length (bed_word bed) ≤ 2
+bed_len Front = omega arith
+bed_len FrontSlider = omega arith
+bed_len Back = omega arith
+bed_len BackSlider = omega arith
+
+dir_token : (dir : Dir) → IsPlainToken (dir_word dir)
+dir_token Right = record { some = omega arith; bytes = All-cons IsTokenByte 43 [] (sign 43 (lit< tt) (lit< tt)) (All-nil IsTokenByte) }
+dir_token Left = record { some = omega arith; bytes = All-cons IsTokenByte 45 [] (sign 45 (lit< tt) (lit< tt)) (All-nil IsTokenByte) }
+
+dir_len : (dir : Dir) → length (dir_word dir) ≡ 1
+dir_len Right = refl
+dir_len Left = refl
+
+word_token : (a b c d : ℕ) → IsTokenByte a → IsTokenByte b → IsTokenByte c → IsTokenByte d → IsPlainToken (a ∷ b ∷ c ∷ d ∷ [])
+word_token a b c d is_a is_b is_c is_d = record {
+  some = omega arith;
+  bytes = All-cons IsTokenByte a (b ∷ c ∷ d ∷ []) is_a (All-cons IsTokenByte b (c ∷ d ∷ []) is_b (All-cons IsTokenByte c (d ∷ []) is_c (All-cons IsTokenByte d [] is_d (All-nil IsTokenByte))));
+}
+
+needle_token : (bed : Bed) (digits : List ℕ) → AreDigits digits → IsPlainToken (bed_word bed ++ digits)
+needle_token bed digits are = record {
+  some = omega (arith, are.0, length-append (bed_word bed) digits);
+  bytes = All-append IsTokenByte (bed_word bed) digits (bed_bytes bed) (digit_bytes digits are.1);
+}
+
+not_off : (a b : ℤ) → b ≤ℤ a → int_lt a b ≡ false
+not_off a b h = grind (arith, ints)
+
+on_bed : (profile : Profile) (n : Needle) (place : ℕ) → IsOnBed profile n → off_bed profile place n.at ≡ None
+on_bed profile n place on =
+    let low : int_lt n.at profile.low ≡ false = not_off _ _ on.above in
+    let high : int_lt profile.high n.at ≡ false = not_off _ _ on.below in
+    ap (λ b. broken_if (b || int_lt profile.high n.at) OffBed place) low ∙ ap (λ b. broken_if b OffBed place) high
+
+is_needle : (bed : Bed) (digits : List ℕ) (at : ℤ) → AreDigits digits → at ≡ pos (number_of digits) → IsNeedle (bed_word bed ++ digits) bed at
+is_needle bed digits at are is = (digits, refl, (digits, are, inl (refl, is)))
+
+-- the rule of one carrier, by what its name finds
+abbrev rule_on : ℕ → Option CarrierNo → Option Reason
+rule_on at found = or_else (option_map (λ i. record { rule = NoCarrier; at = at + i }) (position (λ (t : List ℕ). is_none found) ([] ∷ []))) (carrier_twice at (cons_option found []))
+
+one_carrier : (names : List (List ℕ)) (token : List ℕ) (c : CarrierNo) → carrier_of names token ≡ Some c → carrier_rule names 3 (token ∷ []) ≡ None
+one_carrier names token c named = ap (rule_on 3) named
+
+one_named : (names : List (List ℕ)) (token : List ℕ) (c : CarrierNo) → carrier_of names token ≡ Some c → carriers_of names (token ∷ []) ≡ c ∷ []
+one_named names token c named = ap (λ found. cons_option found []) named
+
+-- a name of one byte
+name_token : (names : List (List ℕ)) (table : ByteNames) (name : ℕ) → AreByteNames names table → name < 256 → slice_index table.numbers name ≢ 255 → IsPlainToken (name ∷ [])
+name_token names table name are byte some =
+    record { some = omega arith; bytes = All-cons IsTokenByte name [] (are.each name some byte).token (All-nil IsTokenByte) }
+
+three_plain : (a b c : List ℕ) → IsPlainToken a → IsPlainToken b → IsPlainToken c → All IsPlainToken (a ∷ b ∷ c ∷ [])
+three_plain a b c is_a is_b is_c =
+    All-cons IsPlainToken a (b ∷ c ∷ []) is_a (All-cons IsPlainToken b (c ∷ []) is_b (All-cons IsPlainToken c [] is_c (All-nil IsPlainToken)))
+
+-- a line that forms a loop of one carrier
+formed : (profile : Profile) (names : List (List ℕ)) (table : ByteNames) (text operands rest : List ℕ) (which : Forming) (dir : Dir) (n : Needle) (c : CarrierNo) (usual : Usual)
+    → AreByteNames names table → IsPlainToken (forming_word which) → length (forming_word which) ≡ 4
+    → ((bed : Bed) (token : List ℕ) → is_slider bed ≡ false → forming_slider which bed (token ∷ []) ≡ None)
+    → usual_read usual ≡ read.Instr (forming_instr which dir n (c ∷ []))
+    → text ≡ forming_word which ++ operands → BeginsWithUsualOperands profile table operands dir n c rest
+    → BeginsWithUsual profile names text usual (length text - length rest)
+formed profile names table text operands rest which dir n c usual are word long hook said text_is front =
+    let name : ℕ = front.name in
+    let digits : List ℕ = front.needle.number.digits in
+    let token : List ℕ = bed_word n.bed ++ digits in
+    let byte = are.each name front.some front.byte in
+    let named : carrier_of names (name ∷ []) ≡ Some c = byte.named ∙ ap (λ k. Some (record { 0 = k })) (sym front.carrier) in
+    let tokens : List (List ℕ) = dir_word dir ∷ token ∷ (name ∷ []) ∷ [] in
+    let plain : All IsPlainToken (forming_word which ∷ tokens) =
+    All-cons IsPlainToken (forming_word which) tokens word
+    (three_plain (dir_word dir) token (name ∷ []) (dir_token dir) (needle_token n.bed digits front.needle.number.are) (name_token names table name are front.byte front.some)) in
+    let last : (token ++ 32 ∷ name ∷ []) ++ 10 ∷ rest ≡ front.behind =
+    append_assoc token (32 ∷ name ∷ []) (10 ∷ rest) ∙ append_assoc (bed_word n.bed) digits (32 ∷ name ∷ 10 ∷ rest)
+    ∙ ap (λ (l : List ℕ). bed_word n.bed ++ l) (sym front.needle.number.text_is) ∙ sym front.needle.text_is in
+    let line : text ≡ spaced (forming_word which ∷ tokens) ++ 10 ∷ rest =
+    text_is ∙ ap (λ (l : List ℕ). forming_word which ++ l) (front.text_is ∙ ap (λ (l : List ℕ). 32 ∷ (dir_word dir ++ 32 ∷ l)) (sym last)
+    ∙ ap (λ (l : List ℕ). 32 ∷ l) (sym (append_assoc (dir_word dir) (32 ∷ (token ++ 32 ∷ name ∷ [])) (10 ∷ rest))))
+    ∙ sym (append_assoc (forming_word which) (32 ∷ (dir_word dir ++ 32 ∷ (token ++ 32 ∷ name ∷ []))) (10 ∷ rest)) in
+    let short : length (spaced (forming_word which ∷ tokens)) ≤ 32 =
+    omega (
+      arith,
+      long,
+      dir_len dir,
+      bed_len n.bed,
+      front.needle.number.few,
+      length-append (forming_word which) (32 ∷ (dir_word dir ++ 32 ∷ (token ++ 32 ∷ name ∷ []))),
+      length-append (dir_word dir) (32 ∷ (token ++ 32 ∷ name ∷ [])),
+      length-append token (32 ∷ name ∷ []),
+      length-append (bed_word n.bed) digits,
+    ) in
+    let shape : IsFormed (forming_word which) (forming_word which ∷ tokens) dir n.bed n.at ((name ∷ []) ∷ []) = record {
+      operands = token ∷ (name ∷ []) ∷ [];
+      spelled = refl;
+      first = record { needle = token; spelled = refl; named = is_needle n.bed digits n.at front.needle.number.are front.needle.number.at_is };
+    } in
+    let unbroken : or_else (off_bed profile 2 n.at) (or_else (forming_slider which n.bed ((name ∷ []) ∷ [])) (carrier_rule names 3 ((name ∷ []) ∷ []))) ≡ None =
+    ap (λ o. or_else o (or_else (forming_slider which n.bed ((name ∷ []) ∷ [])) (carrier_rule names 3 ((name ∷ []) ∷ [])))) (on_bed profile n 2 front.needle.on)
+    ∙ ap (λ o. or_else o (carrier_rule names 3 ((name ∷ []) ∷ []))) (hook n.bed (name ∷ []) front.needle.hook)
+    ∙ one_carrier names (name ∷ []) c named in
+    let is : usual_read usual
+    ≡ reading_or (or_else (off_bed profile 2 n.at) (or_else (forming_slider which n.bed ((name ∷ []) ∷ [])) (carrier_rule names 3 ((name ∷ []) ∷ []))))
+    (forming_instr which dir (needle_on n.bed n.at) (carriers_of names ((name ∷ []) ∷ []))) =
+    said
+    ∙ ap (λ cs. read.Instr (forming_instr which dir n cs)) (sym (one_named names (name ∷ []) c named))
+    ∙ ap (λ o. reading_or o (forming_instr which dir n (carriers_of names ((name ∷ []) ∷ [])))) (sym unbroken) in
+    begins profile names text rest (forming_word which) tokens usual line plain short (omega arith) are.few
+    (formed-read profile names which tokens dir n.bed n.at ((name ∷ []) ∷ []) (usual_read usual) shape is)
+
+knit_token : IsPlainToken (codes "knit")
+knit_token = word_token 107 110 105 116 (letter 107 (lit< tt) (lit< tt)) (letter 110 (lit< tt) (lit< tt)) (letter 105 (lit< tt) (lit< tt)) (letter 116 (lit< tt) (lit< tt))
+
+tuck_token : IsPlainToken (codes "tuck")
+tuck_token = word_token 116 117 99 107 (letter 116 (lit< tt) (lit< tt)) (letter 117 (lit< tt) (lit< tt)) (letter 99 (lit< tt) (lit< tt)) (letter 107 (lit< tt) (lit< tt))
+
+xfer_token : IsPlainToken (codes "xfer")
+xfer_token = word_token 120 102 101 114 (letter 120 (lit< tt) (lit< tt)) (letter 102 (lit< tt) (lit< tt)) (letter 101 (lit< tt) (lit< tt)) (letter 114 (lit< tt) (lit< tt))
+
+no_slider : (bed : Bed) (token : List ℕ) → is_slider bed ≡ false → slider_form bed (token ∷ []) ≡ None
+no_slider bed token hook = ap (λ b. broken_if b SliderForm 2) hook
+
+pub knit-begins : (profile : Profile) (names : List (List ℕ)) (table : ByteNames) (text operands rest : List ℕ) (dir : Dir) (n : Needle) (c : CarrierNo)
+    → AreByteNames names table → text ≡ codes "knit" ++ operands → BeginsWithUsualOperands profile table operands dir n c rest
+    → BeginsWithUsual profile names text (Knit dir n c) (length text - length rest)
+knit-begins profile names table text operands rest dir n c are is front =
+    formed profile names table text operands rest forming.Knit dir n c (Knit dir n c) are knit_token refl no_slider refl is front
+
+pub tuck-begins : (profile : Profile) (names : List (List ℕ)) (table : ByteNames) (text operands rest : List ℕ) (dir : Dir) (n : Needle) (c : CarrierNo)
+    → AreByteNames names table → text ≡ codes "tuck" ++ operands → BeginsWithUsualOperands profile table operands dir n c rest
+    → BeginsWithUsual profile names text (Tuck dir n c) (length text - length rest)
+tuck-begins profile names table text operands rest dir n c are is front =
+    formed profile names table text operands rest forming.Tuck dir n c (Tuck dir n c) are tuck_token refl no_slider refl is front
+
+sides_apart : (a b : Bool) → a ≢ b → (if a then b else not b) ≡ false
+sides_apart true true differ = absurd (differ refl)
+sides_apart true false differ = refl
+sides_apart false true differ = refl
+sides_apart false false differ = absurd (differ refl)
+
+opposite : (bed bed2 : Bed) → is_slider bed ≡ false → is_front bed ≢ is_front bed2 → not_opposite bed bed2 2 ≡ None
+opposite bed bed2 hook differ =
+    ap (λ b. or_else (broken_if b SameBed 2) (broken_if (is_slider bed && is_slider bed2) TwoSliders 2)) (sides_apart (is_front bed) (is_front bed2) differ)
+    ∙ ap (λ b. broken_if (b && is_slider bed2) TwoSliders 2) hook
+
+-- a line that transfers loops
+pub xfer-begins : (profile : Profile) (names : List (List ℕ)) (text operands rest : List ℕ) (n n2 : Needle) → length names ≤ 64
+    → text ≡ codes "xfer" ++ operands → BeginsWithUsualNeedles profile operands n n2 rest
+    → BeginsWithUsual profile names text (Xfer n n2) (length text - length rest)
+xfer-begins profile names text operands rest n n2 few text_is front =
+    let digits : List ℕ = front.needle.number.digits in
+    let digits2 : List ℕ = front.needle2.number.digits in
+    let token : List ℕ = bed_word n.bed ++ digits in
+    let token2 : List ℕ = bed_word n2.bed ++ digits2 in
+    let tokens : List (List ℕ) = token ∷ token2 ∷ [] in
+    let plain : All IsPlainToken (codes "xfer" ∷ tokens) =
+    three_plain (codes "xfer") token token2 xfer_token (needle_token n.bed digits front.needle.number.are) (needle_token n2.bed digits2 front.needle2.number.are) in
+    let second : token2 ++ 10 ∷ rest ≡ front.behind2 =
+    append_assoc (bed_word n2.bed) digits2 (10 ∷ rest) ∙ ap (λ (l : List ℕ). bed_word n2.bed ++ l) (sym front.needle2.number.text_is) ∙ sym front.needle2.text_is in
+    let first : token ++ 32 ∷ front.behind2 ≡ front.behind =
+    append_assoc (bed_word n.bed) digits (32 ∷ front.behind2) ∙ ap (λ (l : List ℕ). bed_word n.bed ++ l) (sym front.needle.number.text_is) ∙ sym front.needle.text_is in
+    let line : text ≡ spaced (codes "xfer" ∷ tokens) ++ 10 ∷ rest =
+    text_is
+    ∙ ap (λ (l : List ℕ). codes "xfer" ++ l) (front.text_is ∙ ap (λ (l : List ℕ). 32 ∷ l) (sym first) ∙ ap (λ (l : List ℕ). 32 ∷ (token ++ 32 ∷ l)) (sym second)
+    ∙ ap (λ (l : List ℕ). 32 ∷ l) (sym (append_assoc token (32 ∷ token2) (10 ∷ rest)))) in
+    let short : length (spaced (codes "xfer" ∷ tokens)) ≤ 32 =
+    omega (
+      arith,
+      bed_len n.bed,
+      bed_len n2.bed,
+      front.needle.number.few,
+      front.needle2.number.few,
+      length-append (codes "xfer") (32 ∷ (token ++ 32 ∷ token2)),
+      length-append token (32 ∷ token2),
+      length-append (bed_word n.bed) digits,
+      length-append (bed_word n2.bed) digits2,
+    ) in
+    let unbroken : or_else (off_bed profile 1 n.at) (or_else (off_bed profile 2 n2.at) (not_opposite n.bed n2.bed 2)) ≡ None =
+    ap (λ o. or_else o (or_else (off_bed profile 2 n2.at) (not_opposite n.bed n2.bed 2))) (on_bed profile n 1 front.needle.on)
+    ∙ ap (λ o. or_else o (not_opposite n.bed n2.bed 2)) (on_bed profile n2 2 front.needle2.on)
+    ∙ opposite n.bed n2.bed front.needle.hook front.sides in
+    begins profile names text rest (codes "xfer") tokens (Xfer n n2) line plain short (omega arith) few
+    (inl (
+      XferShape n.bed n.at n2.bed n2.at,
+      record {
+        operands = tokens;
+        others = token2 ∷ [];
+        spelled = refl;
+        first = record { needle = token; spelled = refl; named = is_needle n.bed digits n.at front.needle.number.are front.needle.number.at_is };
+        second = record { needle = token2; spelled = refl; named = is_needle n2.bed digits2 n2.at front.needle2.number.are front.needle2.number.at_is };
+      },
+      ap (λ o. reading_or o (instr.Xfer n n2)) (sym unbroken),
+    ))

@@ -1,0 +1,85 @@
+-- Lines in the spelling that most lines have.
+use Rattle.std.specs.Prelude.{◌≡◌, ◌≢◌, ℕ, ◌<◌, ◌≤◌, ℤ, pos, true, false, List, [], ◌∷◌, ◌++◌, length, drop, slice_index, Some, codes}
+use Rattle.std.specs.Str.{is_utf8}
+use Rattle.knit_base.specs.declared.needle.Bed.{Bed}
+use Rattle.knit_base.specs.declared.needle.Dir.{Dir}
+use Rattle.knit_base.specs.declared.needle.Needle.{Needle}
+use Rattle.knit_base.specs.declared.profile.Profile.{Profile}
+use Rattle.knit_base.specs.declared.usual.Usual.{Usual}
+use Rattle.knit_base.specs.declared.yarns.CarrierNo.{CarrierNo}
+use Rattle.knit_base.specs.Lawful.{IsLawfulRead, IsOnBed}
+use Rattle.knit_base.specs.Lines.{lines_of}
+use Rattle.knit_base.specs.Names.{carrier_of}
+use Rattle.knit_base.specs.Needle.{is_front, is_slider}
+use Rattle.knit_base.specs.Spelling.{bed_word, dir_word}
+use Rattle.knit_base.specs.Usual.{usual_read}
+use Rattle.knitout_reader.specs.declared.byte_names.ByteNames.{ByteNames}
+use Rattle.knitout_reader.specs.Numbers.{AreDigits, number_of}
+use Rattle.knitout_reader.specs.Reads.{Reads}
+use Rattle.knitout_reader.specs.Tokens.{is_blank}
+
+-- an ASCII byte that is a token alone: it ends no token and no line, and begins no comment
+pub record IsTokenByte (byte : ℕ) : Type 0 where
+  pub ascii : byte < 128
+  pub plain : is_blank byte ≡ false
+  pub comment : byte ≢ 59
+  pub feed : byte ≢ 10
+  pub back : byte ≢ 13
+
+-- the byte alone is the name of this carrier
+pub record IsByteName (names : List (List ℕ)) (byte number : ℕ) : Type 0 where
+  pub token : IsTokenByte byte
+  pub named : carrier_of names (byte ∷ []) ≡ Some (record { 0 = number })
+  pub declared : number < length names
+
+-- the table has carriers whose names are one byte; 255 stands for none
+pub record AreByteNames (names : List (List ℕ)) (table : ByteNames) : Type 0 where
+  pub few : length names ≤ 64
+  pub each : (byte : ℕ) → slice_index table.numbers byte ≢ 255 → byte < 256 → IsByteName names byte (slice_index table.numbers byte)
+
+-- the text begins with a number of one to three digits, and this byte
+pub record BeginsWithUsualNumber (text : List ℕ) (at : ℤ) (end : ℕ) (rest : List ℕ) : Type 0 where
+  pub digits : List ℕ
+  pub are : AreDigits digits
+  pub few : length digits ≤ 3
+  pub at_is : at ≡ pos (number_of digits)
+  pub text_is : text ≡ digits ++ end ∷ rest
+
+-- the text begins with a needle on a hook of the bed that is spelt with such a number, and this byte
+pub record BeginsWithUsualNeedle (profile : Profile) (text : List ℕ) (n : Needle) (end : ℕ) (rest : List ℕ) : Type 0 where
+  pub behind : List ℕ
+  pub number : BeginsWithUsualNumber behind n.at end rest
+  pub on : IsOnBed profile n
+  pub hook : is_slider n.bed ≡ false
+  pub text_is : text ≡ bed_word n.bed ++ behind
+
+-- the text begins with a direction, such a needle, a carrier's name of one byte and a line feed, with one space before each
+pub record BeginsWithUsualOperands (profile : Profile) (table : ByteNames) (text : List ℕ) (dir : Dir) (n : Needle) (c : CarrierNo) (rest : List ℕ) : Type 0 where
+  pub behind : List ℕ
+  pub name : ℕ
+  pub text_is : text ≡ 32 ∷ (dir_word dir ++ 32 ∷ behind)
+  pub needle : BeginsWithUsualNeedle profile behind n 32 (name ∷ 10 ∷ rest)
+  pub byte : name < 256
+  pub some : slice_index table.numbers name ≢ 255
+  pub carrier : c.0 ≡ slice_index table.numbers name
+
+-- the text begins with two such needles on different sides, one space before each, and a line feed
+pub record BeginsWithUsualNeedles (profile : Profile) (text : List ℕ) (n n2 : Needle) (rest : List ℕ) : Type 0 where
+  pub behind : List ℕ
+  pub behind2 : List ℕ
+  pub text_is : text ≡ 32 ∷ behind
+  pub needle : BeginsWithUsualNeedle profile behind n 32 behind2
+  pub needle2 : BeginsWithUsualNeedle profile behind2 n2 10 rest
+  pub sides : is_front n.bed ≢ is_front n2.bed
+
+-- a short ASCII line begins the text and takes so many bytes with its line feed, and this is its reading
+pub record BeginsWithUsual (profile : Profile) (names : List (List ℕ)) (text : List ℕ) (usual : Usual) (len : ℕ) : Type 0 where
+  pub line : List ℕ
+  pub some : 0 < len
+  pub within : len ≤ length text
+  pub lines : lines_of text ≡ line ∷ lines_of (drop len text)
+  pub utf8 : is_utf8 line ≡ true
+  pub short : length line ≤ 32
+  pub read : Reads profile names line (usual_read usual)
+  pub lawful : IsLawfulRead profile (length names) (usual_read usual)
+  pub few : length names ≤ 64
