@@ -1,7 +1,5 @@
 //! Each public call once, with ample memory.
-use crate::{
-    Bearing, Cond, Digest, Effect, Seg, Segs, Symbols, ask_size, forming_needle,
-};
+use crate::{Bearing, Cond, Digest, Effect, Seg, Segs, Symbols, ask_size, forming_needle};
 use knit_base::{Bed, CarrierNo, Instr, Needle, Quarter, Reason, Rule};
 use std::test::Fail;
 
