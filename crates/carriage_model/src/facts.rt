@@ -13,7 +13,12 @@ use crate::{Facts, LoopFact, LoopLines};
 use knit_base::{Declared, Dir, Instr, Needle, NoMemory, Profile, Read, Reads, Usual, Yarns};
 use std::alloc::Global;
 
-/// The loop that a line makes before the first fault. The first of the readings is that of the line `first`.
+/// The loop that the line with the number `line` makes, where the first of the readings is that of the line `first`. `None`
+/// where it makes none: it forms no loop, it is none of these lines, or it is the first that breaks a rule or comes behind that
+/// one.
+///
+/// It runs all lines before that one, from empty beds. What reads loops from a table can be held against it. `NoMemory` says that
+/// memory ran out, and nothing of the loop.
 pub fn fact_plain(
     alloc: Global,
     profile: &Profile,

@@ -11,7 +11,11 @@ use crate::{Carriage, Verdict};
 use knit_base::{Declared, NoMemory, Profile, Reads};
 use std::alloc::Global;
 
-/// The verdict on these readings, the first of them that of the line `first`.
+/// The verdict on these readings, the first of them that of the line `first`, run from empty beds. A fault names its line by
+/// that count, and the final state's `lines` is how many readings there are.
+///
+/// What a program calls is a `Carriage`, which needs no list of readings; this is the same run told in one piece. `NoMemory`
+/// says that memory ran out, and nothing of the verdict.
 pub fn run_plain(
     alloc: Global,
     profile: &Profile,
