@@ -1,6 +1,6 @@
 //! What an instruction makes of the segments on needles.
 ghost use Rattle.std.specs.Prelude.{◌≡◌, [], ◌∷◌, ◌++◌, IfOk, OnOk};
-ghost use Rattle.face_data.specs.Segments.{contents_of};
+ghost use Rattle.face_data.specs.Segments.{segments_on};
 ghost use Rattle.bed_rules.specs.Beds.{changes_of, moved};
 
 use face_data::{Seg, Segs, SymbolList, Symbols};
@@ -8,14 +8,14 @@ use knit_base::{Instr, Needle, NoMemory};
 use std::alloc::Global;
 
 /// The needles that change their segments, but for the loop that the instruction forms.
-pub fn changes_of(alloc: Global, instr: &Instr, contents: &Symbols) -> Result<SymbolList, NoMemory>
-    ensures { IfOk result (λ changed. changed ≡ changes_of instr.now contents.now) }
+pub fn changes_of(alloc: Global, instr: &Instr, segments: &Symbols) -> Result<SymbolList, NoMemory>
+    ensures { IfOk result (λ changed. changed ≡ changes_of instr.now segments.now) }
 {
     match instr {
         Instr::Knit(_, n, _) => emptied(alloc, *n),
         Instr::Drop(n) => emptied(alloc, *n),
-        Instr::Split(_, n, n2, _) => moved(alloc, *n, *n2, contents),
-        Instr::Xfer(n, n2) => moved(alloc, *n, *n2, contents),
+        Instr::Split(_, n, n2, _) => moved(alloc, *n, *n2, segments),
+        Instr::Xfer(n, n2) => moved(alloc, *n, *n2, segments),
         Instr::CarryIn(_) | Instr::CarryOut(_) => Ok(SymbolList::new(alloc)),
         Instr::HookIn(_) | Instr::HookOut(_) => Ok(SymbolList::new(alloc)),
         Instr::ReleaseHook(_) | Instr::Rack(_) => Ok(SymbolList::new(alloc)),
@@ -35,22 +35,22 @@ fn emptied(alloc: Global, n: Needle) -> Result<SymbolList, NoMemory>
 }
 
 // All segments of the first needle go over behind those of the second.
-fn moved(alloc: Global, n: Needle, n2: Needle, contents: &Symbols) -> Result<SymbolList, NoMemory>
-    ensures { IfOk result (λ changed. changed ≡ moved contents.now n n2) }
+fn moved(alloc: Global, n: Needle, n2: Needle, segments: &Symbols) -> Result<SymbolList, NoMemory>
+    ensures { IfOk result (λ changed. changed ≡ moved segments.now n n2) }
 {
     let mut both = Segs::new(alloc);
-    append_contents(&mut both, contents, n2)?;
-    append_contents(&mut both, contents, n)?;
+    append_segments(&mut both, segments, n2)?;
+    append_segments(&mut both, segments, n)?;
     let mut changed = emptied(alloc, n)?;
     changed.push((n2, both))?;
     Ok(changed)
 }
 
 // Appends what the needle holds.
-fn append_contents(segs: &mut Segs, contents: &Symbols, n: Needle) -> Result<(), NoMemory>
-    ensures { OnOk result (segs.new ≡ segs.old ++ contents_of contents.now n) }
+fn append_segments(segs: &mut Segs, segments: &Symbols, n: Needle) -> Result<(), NoMemory>
+    ensures { OnOk result (segs.new ≡ segs.old ++ segments_on segments.now n) }
 {
-    match contents.of(n) {
+    match segments.of(n) {
         Some(more) => append_segs(segs, more.as_slice()),
         None => append_segs(segs, &[Seg::Entry(n)]),
     }

@@ -32,22 +32,22 @@ use Rattle.face_data.specs.Conditions.{Ask, ask_of, holds, unless, first_unmet}
 use Rattle.face_data.specs.Conditions.Ask.{rack_is, size_at_most}
 use Rattle.face_data.specs.Items.{set_items}
 use Rattle.face_data.specs.RuleGroups.{carrier_broken, rack_broken, slider_broken_on, slider_broken, size_broken, tuck_too_many, forming_needle, formed_on}
-use Rattle.face_data.specs.Segments.{contents_of, read_segs, AreRead}
+use Rattle.face_data.specs.Segments.{segments_on, read_segs, AreRead}
 use Rattle.face_data.specs.Stands.{StandsFor, outcome_of_run}
 use Rattle.face_data.specs.Summaries.{Asked, first_fault, after, outcome_of, raised}
 use Rattle.face_data.specs.Summaries.Outcome.{went_on, faulted}
 use Rattle.face_data.proofs.Drafts.{no_lines-applied}
-use Rattle.face_data.proofs.Gathered.{or_else as fault_or_else, first_fault-append}
+use Rattle.face_data.proofs.Gathering.{or_else as fault_or_else, first_fault-append}
 use Rattle.face_data.proofs.Groups.{groups}
-use Rattle.face_data.proofs.Merged.{or_change, change_at-merged}
-use Rattle.face_data.proofs.Unmet.{broken-unless}
+use Rattle.face_data.proofs.ChangeLists.{or_change, change_at-merged}
+use Rattle.face_data.proofs.Conditions.{broken-unless}
 use Rattle.carrier_rules.specs.Carriers.{conds_of, effect_of}
-use Rattle.carrier_rules.proofs.Each.{conds-broken}
+use Rattle.carrier_rules.proofs.EachCarrier.{conds-broken}
 use Rattle.carrier_rules.proofs.Effects.{effect-is}
 use Rattle.slider_rules.proofs.Sliders.{slider-unmet}
-use Rattle.bed_rules.specs.Beds.{changes_of, contents_after}
+use Rattle.bed_rules.specs.Beds.{changes_of, segments_after}
 use Rattle.bed_rules.proofs.Stacks.{changed-read}
-use Rattle.bed_rules.proofs.TooMany.{both-unmet, one-unmet}
+use Rattle.bed_rules.proofs.SizeRules.{both-unmet, one-unmet}
 use Rattle.block_summary.specs.LineSummaries.{asked_for, plainly_asked, rack_asked, slider_asked, room_asked, sizes_asked, asked_by, gone_over, line_changes, line_summary}
 
 -- the fault of a line that is broken for this reason
@@ -160,22 +160,22 @@ split_held true there both own = refl
 split_held false there both own = refl
 
 -- what a needle holds after loops went over
-pub gone_over-contents : (n n2 m : Needle) (left : List Seg) →
-    contents_of (gone_over n n2 left) m ≡ unwrap_or (cond (same_needle m n) (Some left) (cond (same_needle m n2) (Some (Entry n2 ∷ Entry n ∷ [])) None)) (Entry m ∷ [])
+pub gone_over-segments : (n n2 m : Needle) (left : List Seg) →
+    segments_on (gone_over n n2 left) m ≡ unwrap_or (cond (same_needle m n) (Some left) (cond (same_needle m n2) (Some (Entry n2 ∷ Entry n ∷ [])) None)) (Entry m ∷ [])
 unfolding IsStrictlySortedBy
-gone_over-contents n n2 m left =
+gone_over-segments n n2 m left =
     ap (λ o. unwrap_or o (Entry m ∷ [])) (change_at-merged ((n2, Entry n2 ∷ Entry n ∷ []) ∷ []) ((n, left) ∷ []) m (tt, tt))
     ∙ over_held (same_needle m n) (same_needle m n2) left (Entry n2 ∷ Entry n ∷ []) (Entry m ∷ [])
 
-line_held : (instr : Instr) (m : Needle) → contents_of (line_changes instr) m ≡ contents_after [] (changes_of instr []) (forming_needle instr) 0 m
+line_held : (instr : Instr) (m : Needle) → segments_on (line_changes instr) m ≡ segments_after [] (changes_of instr []) (forming_needle instr) 0 m
 line_held (Knit dir n []) m = refl
 line_held (Knit dir n (c ∷ cs)) m = knit_held (same_needle m n) (Entry m ∷ [])
 line_held (Tuck dir n []) m = refl
 line_held (Tuck dir n (c ∷ cs)) m = tuck_held n m (same_needle m n) refl
-line_held (Split dir n n2 []) m = gone_over-contents n n2 m []
+line_held (Split dir n n2 []) m = gone_over-segments n n2 m []
 line_held (Split dir n n2 (c ∷ cs)) m =
-    gone_over-contents n n2 m (New 0 ∷ []) ∙ split_held (same_needle m n) (same_needle m n2) (Entry n2 ∷ Entry n ∷ []) (Entry m ∷ [])
-line_held (Xfer n n2) m = gone_over-contents n n2 m []
+    gone_over-segments n n2 m (New 0 ∷ []) ∙ split_held (same_needle m n) (same_needle m n2) (Entry n2 ∷ Entry n ∷ []) (Entry m ∷ [])
+line_held (Xfer n n2) m = gone_over-segments n n2 m []
 line_held (Drop n) m = refl
 line_held (CarryIn cs) m = refl
 line_held (CarryOut cs) m = refl
@@ -196,7 +196,7 @@ own_read s first n = sym (append-nil (s.stacks n))
 pub line_after : (instr : Instr) (s : State) (first : ℕ) → after (effect_of instr) (line_changes instr) s first ≡ step_instr first instr s
 line_after instr s first =
     let effect = effect-is instr in
-    let stacks : (m : Needle) → read_segs s first (contents_of (line_changes instr) m) ≡ (step_instr first instr s).stacks m
+    let stacks : (m : Needle) → read_segs s first (segments_on (line_changes instr) m) ≡ (step_instr first instr s).stacks m
     = λ m. ap (read_segs s first) (line_held instr m) ∙ sym (changed-read [] instr s s first 0 (own_read s first) m)
     ∙ ap (λ k. (step_instr k instr s).stacks m) (let e : first + 0 ≡ first = omega arith in e) in
     λ i. record {

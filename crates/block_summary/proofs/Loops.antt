@@ -8,12 +8,12 @@ use Rattle.face_data.specs.RuleGroups.{forming_needle}
 use Rattle.face_data.specs.Segments.{Changed, AreRead}
 use Rattle.block_summary.specs.Asks.{loops_through, IsLoopOn}
 
-pub loop-formed : (contents : List Changed) (instr : Instr) (s t : State) (first offset : ℕ) → AreRead contents s first t.stacks
-    → IsLoopOn (forming_needle instr) (first + offset) (loops_through instr contents s first) (loop_of_instr (first + offset) instr t)
-loop-formed contents (Knit dir n []) s t first offset read = refl
-loop-formed contents (Knit dir n (c ∷ cs)) s t first offset read = record { line_is = refl; needle_is = refl; through_are = read n }
-loop-formed contents (Tuck dir n []) s t first offset read = refl
-loop-formed contents (Tuck dir n (c ∷ cs)) s t first offset read = record { line_is = refl; needle_is = refl; through_are = refl }
-loop-formed contents (Split dir n n2 []) s t first offset read = refl
-loop-formed contents (Split dir n n2 (c ∷ cs)) s t first offset read = record { line_is = refl; needle_is = refl; through_are = read n }
-loop-formed contents instr s t first offset read = refl
+pub loop-formed : (segments : List Changed) (instr : Instr) (s t : State) (first offset : ℕ) → AreRead segments s first t.stacks
+    → IsLoopOn (forming_needle instr) (first + offset) (loops_through instr segments s first) (loop_of_instr (first + offset) instr t)
+loop-formed segments (Knit dir n []) s t first offset read = refl
+loop-formed segments (Knit dir n (c ∷ cs)) s t first offset read = record { line_is = refl; needle_is = refl; through_are = read n }
+loop-formed segments (Tuck dir n []) s t first offset read = refl
+loop-formed segments (Tuck dir n (c ∷ cs)) s t first offset read = record { line_is = refl; needle_is = refl; through_are = refl }
+loop-formed segments (Split dir n n2 []) s t first offset read = refl
+loop-formed segments (Split dir n n2 (c ∷ cs)) s t first offset read = record { line_is = refl; needle_is = refl; through_are = read n }
+loop-formed segments instr s t first offset read = refl

@@ -1,4 +1,4 @@
--- What lines ask and change, told of the states in which they come.
+-- What lines ask and change, digest_bearing of the states in which they come.
 use Rattle.std.specs.Prelude.{◌≡◌, ℕ, List, [], Option, None, Some}
 use Rattle.knit_base.specs.declared.instr.Instr.{Instr}
 use Rattle.knit_base.specs.declared.instr.Instr.TheVariants.{Tuck}
@@ -7,10 +7,10 @@ use Rattle.knit_base.specs.declared.rule.Reason.{Reason}
 use Rattle.knit_base.specs.Reasons.{or_else}
 use Rattle.carriage_model.specs.declared.verdict.LoopFact.{LoopFact}
 use Rattle.carriage_model.specs.State.{State}
-use Rattle.face_data.specs.Conditions.{first_unmet, unmet_rack, unmet_size_if_any}
-use Rattle.face_data.specs.Segments.{Changed, contents_of, read_segs}
+use Rattle.face_data.specs.Conditions.{first_unmet, unmet_rack, unmet_size_if_any, first_unmet_size}
+use Rattle.face_data.specs.Segments.{Changed, segments_on, read_segs}
 use Rattle.face_data.specs.Summaries.{rack_after, ins_after, hook_after}
-use Rattle.bed_rules.specs.Beds.{first_unmet_size, contents_after}
+use Rattle.bed_rules.specs.Beds.{segments_after}
 use Rattle.block_summary.specs.declared.instr_ask.InstrAsk.{InstrAsk}
 use Rattle.block_summary.specs.declared.line_ask.LineAsk.{LineAsk}
 use Rattle.block_summary.specs.declared.line_ask.LineAsk.TheVariants.{Nothing, Ends, Asks}
@@ -24,20 +24,20 @@ first_unmet_of ask s t =
     (or_else (unmet_size_if_any ask.slider s) (first_unmet_size ask.sizes s)))
 
 -- The state t as the changes leave it, in a block that was entered in state s at line `first` and in which the needles held
--- these contents so far: rack, carriers and hook as the effect says, and on each needle what its segments stand for, the loop of
+-- these segments so far: rack, carriers and hook as the effect says, and on each needle what its segments stand for, the loop of
 -- the line with this offset among them.
 abbrev pub state_after : InstrAsk → List Changed → State → State → ℕ → ℕ → State
-state_after ask contents s t first offset = record {
+state_after ask segments s t first offset = record {
   rack = rack_after ask.effect.rack t.rack;
   ins = ins_after ask.effect t.ins;
   hook = hook_after ask.effect t.hook;
-  stacks = λ n. read_segs s first (contents_after contents ask.changed ask.makes offset n);
+  stacks = λ n. read_segs s first (segments_after segments ask.changed ask.makes offset n);
 }
 
 -- the loops through which a loop on this needle is drawn: all that the needle holds so far, but a tuck draws it through none
 abbrev pub loops_through : Instr → List Changed → State → ℕ → Needle → List ℕ
-loops_through (Tuck dir n cs) contents s first on = []
-loops_through instr contents s first on = read_segs s first (contents_of contents on)
+loops_through (Tuck dir n cs) segments s first on = []
+loops_through instr segments s first on = read_segs s first (segments_on segments on)
 
 -- the fact is of a loop of this line, on this needle, drawn through these loops
 pub record IsLoop (line : ℕ) (n : Needle) (through : List ℕ) (fact : LoopFact) : Type 0 where
@@ -59,6 +59,6 @@ first_unmet_in_line (Asks ask) s t = first_unmet_of ask s t
 
 -- the state t as a line's changes leave it
 abbrev pub state_after_line : LineAsk → List Changed → State → State → ℕ → ℕ → State
-state_after_line Nothing contents s t first offset = t
-state_after_line (Ends reason) contents s t first offset = t
-state_after_line (Asks ask) contents s t first offset = state_after ask contents s t first offset
+state_after_line Nothing segments s t first offset = t
+state_after_line (Ends reason) segments s t first offset = t
+state_after_line (Asks ask) segments s t first offset = state_after ask segments s t first offset

@@ -13,9 +13,9 @@ ghost use Rattle.face_data.specs.Composition.{composed, against_kept, from_beari
 ghost use Rattle.face_data.specs.Conditions.{ask_of};
 ghost use Rattle.face_data.specs.Digests.{CarrierFits, IsPlainCondition};
 ghost use Rattle.face_data.specs.Conditions.Ask.{carrier_in, size_at_most};
-ghost use Rattle.face_data.specs.Segments.{contents_of};
+ghost use Rattle.face_data.specs.Segments.{segments_on};
 ghost use Rattle.face_data.specs.Drafts.{no_lines};
-ghost use Rattle.block_summary.specs.Drafting.{HoldsAfter, HasAsked, effect_in};
+ghost use Rattle.block_summary.specs.DraftKnowledge.{HoldsAfter, HasAsked, effect_in};
 ghost use Rattle.block_summary.specs.LineSummaries.{line_summary};
 
 use face_data::{Bearing, Check, Cond, Digest, Effect, Seg, Segs, Symbols};
@@ -45,7 +45,7 @@ impl Model for Draft {
     ghost use Rattle.face_data.specs.declared.face.Ending.TheVariants.{Through};
     ghost use Rattle.face_data.specs.Summaries.{Summary};
     ghost use Rattle.face_data.specs.View.{asked_of};
-    ghost use Rattle.block_summary.specs.Drafting.{Knows};
+    ghost use Rattle.block_summary.specs.DraftKnowledge.{Knows};
 
     ghost Value = { Summary };
 
@@ -114,7 +114,7 @@ impl Draft {
         requires plain { IsPlainCondition (ask_of [] cond) }
         ensures { IfOk result (HasAsked self.old self.new (record { line = self.old.lines; reason = reason }) (ask_of [] cond)) }
     {
-        match self.told(cond) {
+        match self.bearing_on(cond) {
             Bearing::Implied => Ok(true),
             Bearing::Refuted => Ok(false),
             Bearing::Silent => {
@@ -130,15 +130,15 @@ impl Draft {
     }
 
     // What is known of the condition.
-    fn told(&self, cond: Cond) -> Bearing
+    fn bearing_on(&self, cond: Cond) -> Bearing
         requires fits { CarrierFits cond }
         requires plain { IsPlainCondition (ask_of [] cond) }
         ensures { against_kept self.now.checks (read_answer (effect_in self.now.ending) self.now.changes (ask_of [] cond)) ≡ from_bearing result (asks (ask_of [] cond)) }
     {
-        match self.effect.told(cond) {
+        match self.effect.bearing_on(cond) {
             Bearing::Implied => Bearing::Implied,
             Bearing::Refuted => Bearing::Refuted,
-            Bearing::Silent => self.digest.told(cond),
+            Bearing::Silent => self.digest.bearing_on(cond),
         }
     }
 
@@ -150,7 +150,7 @@ impl Draft {
         requires few_made { self.old.made < 2 ^ 32 - 1 }
         requires slider { HoldsAfter self.old (size_at_most (own_slider n ∷ []) 0) }
         ensures summary { OnOk result ((hold : ℕ) (dir : Dir) (c : CarrierNo) (cs : List CarrierNo) → ((x : CarrierNo) → Contains (c ∷ cs) x → HoldsAfter self.old (carrier_in x)) → self.new ≡ composed self.old (line_summary hold (read.Instr (Knit dir n (c ∷ cs))))) }
-        ensures through { IfOk result (λ through. through ≡ contents_of self.old.changes n) }
+        ensures through { IfOk result (λ through. through ≡ segments_on self.old.changes n) }
     {
         let segs = Segs::one(self.alloc, Seg::New(self.lines));
         let was = self.symbols.swap(n, segs)?;

@@ -37,20 +37,20 @@ pub fn ask_instr(
     alloc: Global,
     instr: &Instr,
     profile: &Profile,
-    contents: &Symbols,
+    segments: &Symbols,
 ) -> Result<InstrAsk, NoMemory>
     requires profile { IsLawfulProfile profile.now }
     requires places { HasPlaces instr.now }
-    ensures broken { IfOk result (λ ask. (s t : State) (first : ℕ) → AreRead contents.now s first t.stacks → broken_instr profile.now instr.now t ≡ first_unmet_of ask s t) }
-    ensures step { IfOk result (λ ask. (s t : State) (first offset : ℕ) → AreRead contents.now s first t.stacks → step_instr (first + offset) instr.now t ≡ state_after ask contents.now s t first offset) }
+    ensures broken { IfOk result (λ ask. (s t : State) (first : ℕ) → AreRead segments.now s first t.stacks → broken_instr profile.now instr.now t ≡ first_unmet_of ask s t) }
+    ensures step { IfOk result (λ ask. (s t : State) (first offset : ℕ) → AreRead segments.now s first t.stacks → step_instr (first + offset) instr.now t ≡ state_after ask segments.now s t first offset) }
     ensures makes { IfOk result (λ ask. ask.makes ≡ forming_needle instr.now) }
-    ensures formed { IfOk result (λ ask. (s t : State) (first offset : ℕ) → AreRead contents.now s first t.stacks → IsLoopOn ask.makes (first + offset) (loops_through instr.now contents.now s first) (loop_of_instr (first + offset) instr.now t)) }
+    ensures formed { IfOk result (λ ask. (s t : State) (first offset : ℕ) → AreRead segments.now s first t.stacks → IsLoopOn ask.makes (first + offset) (loops_through instr.now segments.now s first) (loop_of_instr (first + offset) instr.now t)) }
 {
     rules_in_groups(profile, instr);
     let carriers = carrier_rules::ask(alloc, instr)?;
     let rack = rack_align::ask(instr);
-    let slider = slider_rules::ask(alloc, instr, contents)?;
-    let beds = bed_rules::ask(alloc, instr, profile, contents)?;
+    let slider = slider_rules::ask(alloc, instr, segments)?;
+    let beds = bed_rules::ask(alloc, instr, profile, segments)?;
     Ok(InstrAsk {
         carriers: carriers.conds,
         rack,

@@ -29,15 +29,15 @@ pub fn ask_line(
     alloc: Global,
     read: &Read,
     profile: &Profile,
-    contents: &Symbols,
+    segments: &Symbols,
 ) -> Result<LineAsk, NoMemory>
     requires profile { IsLawfulProfile profile.now }
     requires places { HasPlacesInLine read.now }
-    ensures broken { IfOk result (λ ask. (s t : State) (first : ℕ) → AreRead contents.now s first t.stacks → broken profile.now read.now t ≡ first_unmet_in_line ask s t) }
-    ensures step { IfOk result (λ ask. (s t : State) (first offset : ℕ) → AreRead contents.now s first t.stacks → step (first + offset) read.now t ≡ state_after_line ask contents.now s t first offset) }
+    ensures broken { IfOk result (λ ask. (s t : State) (first : ℕ) → AreRead segments.now s first t.stacks → broken profile.now read.now t ≡ first_unmet_in_line ask s t) }
+    ensures step { IfOk result (λ ask. (s t : State) (first offset : ℕ) → AreRead segments.now s first t.stacks → step (first + offset) read.now t ≡ state_after_line ask segments.now s t first offset) }
 {
     match read {
-        Read::Instr(instr) => Ok(LineAsk::Asks(ask_instr(alloc, instr, profile, contents)?)),
+        Read::Instr(instr) => Ok(LineAsk::Asks(ask_instr(alloc, instr, profile, segments)?)),
         Read::Broken(reason) => Ok(LineAsk::Ends(*reason)),
         Read::Blank | Read::Comment => Ok(LineAsk::Nothing),
     }

@@ -59,13 +59,13 @@ fn gives(changed: &SymbolList, n: Needle, segs: &[Seg]) -> bool {
 fn a_tuck_joins_what_was_formed(rt: HostRuntime) -> Result<(), Fail> {
     let alloc = rt.alloc();
     let back = needle(Bed::Back, 4);
-    let mut contents = Symbols::new(alloc);
+    let mut segments = Symbols::new(alloc);
     let mut segs = Segs::new(alloc);
     segs.push(Seg::New(0))?;
     segs.push(Seg::Entry(back))?;
-    contents.set(back, segs)?;
+    segments.set(back, segs)?;
     let tuck = Instr::Tuck(Dir::Left, back, fourth_carrier(alloc)?);
-    let ask = ask_instr(alloc, &tuck, &MACHINE, &contents)?;
+    let ask = ask_instr(alloc, &tuck, &MACHINE, &segments)?;
     let is_out = (reason(Rule::CarrierIsOut, 3), Cond::CarrierIn(CarrierNo(3)));
     assert!(rt; ask.carriers.as_slice() == [is_out].as_slice());
     assert_eq!(rt; ask.rack, None);
@@ -91,8 +91,8 @@ fn a_transfer_from_an_untouched_needle(rt: HostRuntime) -> Result<(), Fail> {
     let alloc = rt.alloc();
     let front = needle(Bed::Front, 3);
     let back = needle(Bed::Back, 1);
-    let contents = Symbols::new(alloc);
-    let ask = ask_instr(alloc, &Instr::Xfer(front, back), &MACHINE, &contents)?;
+    let segments = Symbols::new(alloc);
+    let ask = ask_instr(alloc, &Instr::Xfer(front, back), &MACHINE, &segments)?;
     assert!(rt; ask.carriers.is_empty());
     assert_eq!(rt; ask.rack, Some((reason(Rule::NotAligned, 2), Quarter(8))));
     assert!(rt; ask.slider.is_none());
@@ -118,9 +118,9 @@ fn a_split_moves_the_loops_and_forms_one(rt: HostRuntime) -> Result<(), Fail> {
     let alloc = rt.alloc();
     let front = needle(Bed::Front, 3);
     let back = needle(Bed::Back, 4);
-    let contents = Symbols::new(alloc);
+    let segments = Symbols::new(alloc);
     let split = Instr::Split(Dir::Right, front, back, fourth_carrier(alloc)?);
-    let ask = ask_instr(alloc, &split, &MACHINE, &contents)?;
+    let ask = ask_instr(alloc, &split, &MACHINE, &segments)?;
     let is_out = (reason(Rule::CarrierIsOut, 4), Cond::CarrierIn(CarrierNo(3)));
     assert!(rt; ask.carriers.as_slice() == [is_out].as_slice());
     assert_eq!(rt; ask.rack, Some((reason(Rule::NotAligned, 3), Quarter(-4))));
@@ -171,9 +171,9 @@ fn is_outhook(ask: &InstrAsk) -> bool {
 #[test]
 fn a_carrier_that_goes_out_by_the_hook(rt: HostRuntime) -> Result<(), Fail> {
     let alloc = rt.alloc();
-    let contents = Symbols::new(alloc);
+    let segments = Symbols::new(alloc);
     let outhook = Instr::HookOut(fourth_carrier(alloc)?);
-    let ask = ask_instr(alloc, &outhook, &MACHINE, &contents)?;
+    let ask = ask_instr(alloc, &outhook, &MACHINE, &segments)?;
     assert!(rt; is_outhook(&ask));
     Ok(())
 }
@@ -181,16 +181,16 @@ fn a_carrier_that_goes_out_by_the_hook(rt: HostRuntime) -> Result<(), Fail> {
 #[test]
 fn a_line_by_what_it_says(rt: HostRuntime) -> Result<(), Fail> {
     let alloc = rt.alloc();
-    let contents = Symbols::new(alloc);
-    let blank = ask_line(alloc, &Read::Blank, &MACHINE, &contents)?;
+    let segments = Symbols::new(alloc);
+    let blank = ask_line(alloc, &Read::Blank, &MACHINE, &segments)?;
     assert!(rt; matches!(blank, LineAsk::Nothing));
     let off_bed = reason(Rule::OffBed, 1);
-    match ask_line(alloc, &Read::Broken(off_bed), &MACHINE, &contents)? {
+    match ask_line(alloc, &Read::Broken(off_bed), &MACHINE, &segments)? {
         LineAsk::Ends(reason) => assert_eq!(rt; reason, off_bed),
         LineAsk::Nothing | LineAsk::Asks(_) => assert!(rt; false),
     }
     let outhook = Read::Instr(Instr::HookOut(fourth_carrier(alloc)?));
-    match ask_line(alloc, &outhook, &MACHINE, &contents)? {
+    match ask_line(alloc, &outhook, &MACHINE, &segments)? {
         LineAsk::Asks(ask) => assert!(rt; is_outhook(&ask)),
         LineAsk::Nothing | LineAsk::Ends(_) => assert!(rt; false),
     }

@@ -8,11 +8,12 @@ use Rattle.std.proofs.lemmas.Map.Steps.{length-le_from_distinct_below}
 use Rattle.std.proofs.lemmas.Map.Views.{Contains-from_any, list_any-from_Contains}
 use Rattle.std.proofs.Math.Nat.{mul-le-mul_right}
 use Rattle.knit_base.specs.Needle.{same_needle, same_needle-true}
-use Rattle.face_data.proofs.Members.{Decides-same_needle, Contains-none, Contains-head, Contains-cons_cases}
+use Rattle.face_data.proofs.Members.{Contains-none, Contains-head, Contains-cons_cases}
 use Rattle.face_data.proofs.Marks.{IsFamily, IsIn, code, code_below, same_code}
 use Rattle.knit_base.specs.declared.needle.Needle.{Needle}
 use Rattle.knit_base.specs.declared.needle.Bed.TheVariants.{Front}
 use Rattle.face_data.specs.Sets.{IsWithin, NestedOrApart}
+use Rattle.knit_base.proofs.Needles.{Decides-same_needle}
 
 abbrev upto : (ℕ → ℕ) → ℕ → List ℕ
 upto f zero = []

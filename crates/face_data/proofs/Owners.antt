@@ -1,4 +1,4 @@
--- Which needle's contents an entry needle stands in, for one block and for two.
+-- Which needle's segments an entry needle stands in, for one block and for two.
 use Rattle.std.proofs.Common.{◌≡◌, ℕ, ◌+◌, ◌<◌, Bool, true, false, List, [], ◌∷◌, ◌++◌, Some, refl, sym, ap, ◌∙◌, subst, arith, inl, inr, ◌⊎◌}
 use Rattle.std.specs.Prelude.{if◌then◌else◌, unwrap_or}
 use Rattle.std.specs.List.{Contains}
@@ -7,22 +7,23 @@ use Rattle.std.proofs.lemmas.List.Concat.{flat_map-append}
 use Rattle.std.proofs.lemmas.List.Sums.{sum_by-append, sum_by-cons}
 use Rattle.std.proofs.lemmas.Bool.{true≢false}
 use Rattle.knit_base.specs.Needle.{same_needle, same_needle-true}
-use Rattle.face_data.specs.Segments.{Changed, change_at, contents_of, entries_in, entries_of, new_in, new_of, names_through, new_through}
+use Rattle.face_data.specs.Segments.{Changed, change_at, segments_on, entries_in, entries_of, new_in, new_of, names_through, new_through}
 use Rattle.face_data.specs.Through.{through, changes_through}
-use Rattle.face_data.proofs.Members.{Contains-none, Contains-head, Contains-tail, Contains-cons_cases, same_needle_same}
-use Rattle.face_data.proofs.Merged.{contents_of-both}
+use Rattle.face_data.proofs.Members.{Contains-none, Contains-head, Contains-tail, Contains-cons_cases}
+use Rattle.face_data.proofs.ChangeLists.{segments_on-both}
 use Rattle.knit_base.specs.declared.needle.Needle.{Needle}
 use Rattle.face_data.specs.declared.face.Seg.{Seg}
 use Rattle.face_data.specs.declared.face.Seg.TheVariants.{Entry, New}
 use Rattle.face_data.specs.Sets.{IsDistinct, IsWithin, IsApart, NestedOrApart}
 use Rattle.face_data.specs.Composition.{merged}
 use Rattle.face_data.specs.Goodness.{IsInOrder, held, OwnsOnce, LiesIn}
+use Rattle.knit_base.proofs.Needles.{same_needle-same}
 
 -- the entries of segments that are read through a block
 pub entries_of-through : (a : List Changed) (lines : ℕ) (segs : List Seg) → entries_of (through a lines segs) ≡ names_through a (entries_of segs)
 entries_of-through a lines [] = refl
 entries_of-through a lines (Entry n ∷ segs) =
-    flat_map-append entries_in (contents_of a n) (through a lines segs) ∙ ap (λ r. held a n ++ r) (entries_of-through a lines segs)
+    flat_map-append entries_in (segments_on a n) (through a lines segs) ∙ ap (λ r. held a n ++ r) (entries_of-through a lines segs)
 entries_of-through a lines (New o ∷ segs) = entries_of-through a lines segs
 
 -- their new loops
@@ -32,16 +33,16 @@ new_of-through a lines (Entry n ∷ segs) =
     omega (
       arith,
       new_of-through a lines segs,
-      sum_by-append new_in (contents_of a n) (through a lines segs),
+      sum_by-append new_in (segments_on a n) (through a lines segs),
       sum_by-cons new_in (Entry n) segs,
-      sum_by-cons (λ m. new_of (contents_of a m)) n (entries_of segs),
+      sum_by-cons (λ m. new_of (segments_on a m)) n (entries_of segs),
     )
 new_of-through a lines (New o ∷ segs) =
     omega (arith, new_of-through a lines segs, sum_by-cons new_in (New (lines + o)) (through a lines segs), sum_by-cons new_in (New o) segs)
 
 -- the entries that a needle holds after both blocks
 pub held-both : (a b : List Changed) (lines : ℕ) (m : Needle) → IsInOrder b → held (merged a (changes_through a lines b)) m ≡ names_through a (held b m)
-held-both a b lines m order = ap entries_of (contents_of-both a b lines m order) ∙ entries_of-through a lines (contents_of b m)
+held-both a b lines m order = ap entries_of (segments_on-both a b lines m order) ∙ entries_of-through a lines (segments_on b m)
 
 -- members of what a list of needles holds
 pub in_through : (a : List Changed) (xs : List Needle) (m n : Needle) → Contains xs m → Contains (held a m) n → Contains (names_through a xs) n
@@ -106,7 +107,7 @@ member_cases_if : (x : Needle) (xs : List Needle) (n : Needle) (b : Bool) → sa
 member_cases_if x xs n true e rest = inl (subst (Contains (x ∷ xs)) (same_needle-true x n e) (Contains-head x xs))
 member_cases_if x xs n false e (inl h) = inl (Contains-tail x xs n h)
 member_cases_if x xs n false e (inr not_later) = inr (λ h. elim (Contains-cons_cases x xs n h) [
-  | inl same ↦ absurd (true≢false (sym (same_needle_same x n same) ∙ e))
+  | inl same ↦ absurd (true≢false (sym (same_needle-same x n same) ∙ e))
   | inr later ↦ not_later later
 ])
 
@@ -149,11 +150,11 @@ search_keys b m (c ∷ keys) = go (member_cases (held b c.0) m) (search_keys b m
 
 -- what a needle holds is what a change gives it, or its own entry
 pub changed_or_own : (b : List Changed) (x : Needle) →
-    ((c : Changed) × Contains b c × (c.0 ≡ x) × (contents_of b x ≡ c.1)) ⊎ (contents_of b x ≡ Entry x ∷ [])
+    ((c : Changed) × Contains b c × (c.0 ≡ x) × (segments_on b x ≡ c.1)) ⊎ (segments_on b x ≡ Entry x ∷ [])
 changed_or_own [] x = inr refl
 changed_or_own (c ∷ cs) x = go (same_needle x c.0) refl (changed_or_own cs x)
   where
-    go : (t : Bool) → same_needle x c.0 ≡ t → ((d : Changed) × Contains cs d × (d.0 ≡ x) × (contents_of cs x ≡ d.1)) ⊎ (contents_of cs x ≡ Entry x ∷ []) →
+    go : (t : Bool) → same_needle x c.0 ≡ t → ((d : Changed) × Contains cs d × (d.0 ≡ x) × (segments_on cs x ≡ d.1)) ⊎ (segments_on cs x ≡ Entry x ∷ []) →
         ((d : Changed) × Contains (c ∷ cs) d × (d.0 ≡ x) × (unwrap_or (if t then Some c.1 else change_at cs x) (Entry x ∷ []) ≡ d.1))
         ⊎ (unwrap_or (if t then Some c.1 else change_at cs x) (Entry x ∷ []) ≡ Entry x ∷ [])
     go true e rest = inl (c, Contains-head c cs, sym (same_needle-true x c.0 e), refl)

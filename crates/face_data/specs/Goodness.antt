@@ -15,7 +15,7 @@ use Rattle.face_data.specs.Bearings.{bearing}
 use Rattle.face_data.specs.declared.bearing.Bearing.TheVariants.{Silent}
 use Rattle.face_data.specs.Conditions.{Ask}
 use Rattle.face_data.specs.Conditions.Ask.{rack_is, carrier_in, carrier_out, hook_free, hook_is, hook_lacks, size_at_most}
-use Rattle.face_data.specs.Segments.{Changed, contents_of, entries_of, new_of}
+use Rattle.face_data.specs.Segments.{Changed, segments_on, entries_of, new_of}
 use Rattle.face_data.specs.Sets.{IsDistinct, IsWithin, IsApart, NestedOrApart}
 use Rattle.face_data.specs.Summaries.{Asked, Summary}
 
@@ -25,7 +25,7 @@ IsInOrder changes = IsStrictlySortedBy needle_cmp (map (λ (c : Changed). c.0) c
 
 -- the needles whose entry stands in what this needle holds at the end
 abbrev pub held : List Changed → Needle → List Needle
-held changes m = entries_of (contents_of changes m)
+held changes m = entries_of (segments_on changes m)
 
 -- each entry stands at most once in what all needles hold at the end; an unchanged needle holds its own
 pub record OwnsOnce (changes : List Changed) : Type 0 where
@@ -52,7 +52,7 @@ MeetsSizes checks size = (c : Asked) → Contains checks c → MeetsSize c.ask s
 
 -- the size that a needle has after the block, by the sizes at entry
 abbrev pub size_after : List Changed → (Needle → ℕ) → Needle → ℕ
-size_after changes size m = sum_by size (held changes m) + new_of (contents_of changes m)
+size_after changes size m = sum_by size (held changes m) + new_of (segments_on changes m)
 
 -- a condition on sizes names at least one needle, each once and of the known ones
 pub record SizeFits (limit : ℕ) (known names : List Needle) (most : ℕ) : Type 0 where

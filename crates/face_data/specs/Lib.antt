@@ -7,7 +7,7 @@ pub mod Digests
 pub mod Drafts
 pub mod Goodness
 pub mod Items
-pub mod Kept
+pub mod Storage
 pub mod RuleGroups
 pub mod Segments
 pub mod Sets

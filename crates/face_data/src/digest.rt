@@ -5,7 +5,7 @@ ghost use Rattle.face_data.specs.Conditions.{ask_of};
 ghost use Rattle.knit_base.specs.Yarns.{contains_carrier, lacks_carrier};
 ghost use Rattle.face_data.specs.declared.bearing.Bearing.TheVariants.{Implied, Refuted, Silent};
 ghost use Rattle.face_data.specs.Bearings.{if_so, same_or_not};
-ghost use Rattle.face_data.specs.Digests.{blank, noted, told, told_by, CarrierFits};
+ghost use Rattle.face_data.specs.Digests.{blank, noted, digest_bearing, bearing_by, CarrierFits};
 
 use crate::bearing::{has_carrier, implied_if, implied_or_refuted};
 use crate::{Bearing, Cond};
@@ -54,10 +54,10 @@ impl Digest {
     }
 
     /// What the conditions say of another one that isn't on sizes.
-    #[tactic(auto, unfolding(crate::specs::Digests::told))]
-    pub fn told(&self, cond: Cond) -> Bearing
+    #[tactic(auto, unfolding(crate::specs::Digests::digest_bearing))]
+    pub fn bearing_on(&self, cond: Cond) -> Bearing
         requires { CarrierFits cond }
-        ensures { (names : List Needle) → result ≡ told self.now (ask_of names cond) }
+        ensures { (names : List Needle) → result ≡ digest_bearing self.now (ask_of names cond) }
     {
         match cond {
             Cond::RackIs(q) => match self.rack {
@@ -74,7 +74,7 @@ impl Digest {
     }
 
     fn told_hook(&self, set: u64) -> Bearing
-        ensures { result ≡ told_by self.now.hook (λ held. same_or_not (nat_eq held set)) }
+        ensures { result ≡ bearing_by self.now.hook (λ held. same_or_not (nat_eq held set)) }
     {
         match self.hook {
             None => Bearing::Silent,
@@ -84,7 +84,7 @@ impl Digest {
 
     fn told_lacks(&self, c: CarrierNo) -> Bearing
         requires { c.0 < 64 }
-        ensures { result ≡ (if contains_carrier self.now.lacks c then Implied else told_by self.now.hook (λ held. if_so (lacks_carrier held c) Implied)) }
+        ensures { result ≡ (if contains_carrier self.now.lacks c then Implied else bearing_by self.now.hook (λ held. if_so (lacks_carrier held c) Implied)) }
     {
         if has_carrier(self.lacks, c) {
             return Bearing::Implied;

@@ -5,7 +5,7 @@ ghost use Rattle.knit_base.specs.Yarns.{contains_carrier, without_set};
 ghost use Rattle.face_data.specs.declared.bearing.Bearing.TheVariants.{Implied, Refuted};
 ghost use Rattle.face_data.specs.Bearings.{if_so, same_or_not};
 ghost use Rattle.face_data.specs.Conditions.{ask_of};
-ghost use Rattle.face_data.specs.Digests.{CarrierFits, effect_told, told_by};
+ghost use Rattle.face_data.specs.Digests.{CarrierFits, effect_bearing, bearing_by};
 ghost use Rattle.face_data.specs.Composition.{effect_of_both, or_old};
 
 use crate::bearing::{has_carrier, implied_or_refuted};
@@ -26,10 +26,10 @@ impl Effect {
     }
 
     /// What is known after the block of a condition that isn't on sizes. Where it is silent the condition is left to ask as it is.
-    #[tactic(auto, unfolding(crate::specs::Digests::effect_told))]
-    pub fn told(&self, cond: Cond) -> Bearing
+    #[tactic(auto, unfolding(crate::specs::Digests::effect_bearing))]
+    pub fn bearing_on(&self, cond: Cond) -> Bearing
         requires { CarrierFits cond }
-        ensures { (names : List Needle) → result ≡ effect_told self.now (ask_of names cond) }
+        ensures { (names : List Needle) → result ≡ effect_bearing self.now (ask_of names cond) }
     {
         match cond {
             Cond::RackIs(q) => match self.rack {
@@ -63,7 +63,7 @@ impl Effect {
     }
 
     fn told_hook(&self, set: u64) -> Bearing
-        ensures { result ≡ told_by self.now.hook (λ held. same_or_not (nat_eq held set)) }
+        ensures { result ≡ bearing_by self.now.hook (λ held. same_or_not (nat_eq held set)) }
     {
         match self.hook {
             None => Bearing::Silent,

@@ -4,12 +4,12 @@
 //! hold at entry so that they hold few enough now, that `forming_needle` finds where a loop is formed, and that the rules of
 //! the machine fall into four groups. `ShortList` is the list of an instruction's few conditions and changes: it promises that its
 //! first four items take no memory but its own.
-//! A `Digest` tells what conditions that are kept say of another one that isn't on sizes, `Effect::told` what a block says of one
+//! A `Digest` tells what conditions that are kept say of another one that isn't on sizes, `Effect::bearing_on` what a block says of one
 //! that is asked after it, and `Effect::then` puts two effects together.
 //!
 //! Definitions: `specs/Segments` (what needles hold, in terms of the entry), `specs/Conditions`, `specs/Summaries` (what a
 //! block makes of a state), `specs/View` (a face's lists), `specs/Goodness` with `specs/Bearings` and `specs/Sets`,
-//! `specs/RuleGroups`, and `specs/Kept` (where a short list's items lie). Of two blocks, one after the other: `specs/Through`
+//! `specs/RuleGroups`, and `specs/Storage` (where a short list's items lie). Of two blocks, one after the other: `specs/Through`
 //! and `specs/Answers` (segments and conditions of the second in terms of the first one's entry) and `specs/Composition`
 //! (`composed`). `specs/Stands` says which lines a summary stands for, `specs/Drafts` makes it of single lines, `specs/Items`
 //! counts its items, and `specs/Digests` and `specs/Chains` find what is known of a condition without going through all that
@@ -28,10 +28,10 @@ mod digest;
 mod effect;
 mod face;
 mod forming;
-mod kept;
 mod laws;
 mod short_list;
 mod sizes;
+mod storage;
 mod symbols;
 #[cfg(test)]
 mod tests;

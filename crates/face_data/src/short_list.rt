@@ -2,7 +2,7 @@
 ghost use Rattle.std.specs.Prelude.{◌≡◌, ◌==◌, ◌+◌, ◌<◌, ◌≤◌, ◌^◌, ◌-◌, [], ◌∷◌, ◌++◌, length, OnOk, OnErr, IsOk, slice_get};
 ghost use Rattle.std.specs.Option.{option_copied};
 
-use crate::kept::Kept;
+use crate::storage::Storage;
 use knit_base::NoMemory;
 use std::alloc::Global;
 use std::marker::Model;
@@ -12,18 +12,18 @@ use std::marker::Model;
 #[derive(Drop)]
 pub struct ShortList<T> {
     alloc: Global,
-    kept: Kept<T>,
+    storage: Storage<T>,
 }
 
 impl<T> Model for ShortList<T> {
     ghost use Rattle.std.specs.Prelude.{List, ◌<◌, ◌^◌, length};
-    ghost use Rattle.face_data.specs.Kept.{items_in, IsNear};
+    ghost use Rattle.face_data.specs.Storage.{items_in, IsNear};
 
     ghost Value = { List T };
 
-    ghost view = { λ l. items_in l.kept };
+    ghost view = { λ l. items_in l.storage };
 
-    ghost invariant = { λ l. (length (items_in l.kept) < 2 ^ 32) × IsNear l.kept };
+    ghost invariant = { λ l. (length (items_in l.storage) < 2 ^ 32) × IsNear l.storage };
 }
 
 impl<T: Drop> ShortList<T> {
@@ -33,7 +33,7 @@ impl<T: Drop> ShortList<T> {
     {
         ShortList {
             alloc,
-            kept: Kept::Nothing,
+            storage: Storage::Nothing,
         }
     }
 
@@ -43,7 +43,7 @@ impl<T: Drop> ShortList<T> {
     {
         ShortList {
             alloc,
-            kept: Kept::One([item]),
+            storage: Storage::One([item]),
         }
     }
 
@@ -55,7 +55,7 @@ impl<T: Drop> ShortList<T> {
         ensures in_place { length self.old < 4 → IsOk result }
     {
         let alloc = self.alloc;
-        self.kept.push(alloc, item)
+        self.storage.push(alloc, item)
     }
 
     pub fn len(&self) -> u32
@@ -81,7 +81,7 @@ impl<T: Drop> ShortList<T> {
         ensures items { result.now ≡ self.now }
         ensures small { length self.now < 2 ^ 32 }
     {
-        self.kept.as_slice()
+        self.storage.as_slice()
     }
 }
 
@@ -94,6 +94,6 @@ impl<T: Copy + Drop> ShortList<T> {
         ensures in_place { length self.old + length more.now ≤ 4 → IsOk result }
     {
         let alloc = self.alloc;
-        self.kept.extend_from_slice(alloc, more)
+        self.storage.extend_from_slice(alloc, more)
     }
 }

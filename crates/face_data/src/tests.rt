@@ -80,25 +80,25 @@ fn a_transfer_forms_no_loop(rt: HostRuntime) -> Result<(), Fail> {
 #[test]
 fn a_digest_tells_what_is_kept(rt: HostRuntime) -> Result<(), Fail> {
     let mut digest = Digest::blank();
-    assert_eq!(rt; digest.told(Cond::HookFree), Bearing::Silent);
+    assert_eq!(rt; digest.bearing_on(Cond::HookFree), Bearing::Silent);
     digest.note(Cond::CarrierIn(CarrierNo(3)));
     digest.note(Cond::HookFree);
     digest.note(Cond::RackIs(Quarter(4)));
     assert_eq!(rt;
-        digest.told(Cond::CarrierIn(CarrierNo(3))),
+        digest.bearing_on(Cond::CarrierIn(CarrierNo(3))),
         Bearing::Implied
     );
     assert_eq!(rt;
-        digest.told(Cond::CarrierOut(CarrierNo(3))),
+        digest.bearing_on(Cond::CarrierOut(CarrierNo(3))),
         Bearing::Refuted
     );
-    assert_eq!(rt; digest.told(Cond::CarrierIn(CarrierNo(4))), Bearing::Silent);
-    assert_eq!(rt; digest.told(Cond::HookIs(0)), Bearing::Implied);
+    assert_eq!(rt; digest.bearing_on(Cond::CarrierIn(CarrierNo(4))), Bearing::Silent);
+    assert_eq!(rt; digest.bearing_on(Cond::HookIs(0)), Bearing::Implied);
     assert_eq!(rt;
-        digest.told(Cond::HookLacks(CarrierNo(63))),
+        digest.bearing_on(Cond::HookLacks(CarrierNo(63))),
         Bearing::Implied
     );
-    assert_eq!(rt; digest.told(Cond::RackIs(Quarter(0))), Bearing::Refuted);
+    assert_eq!(rt; digest.bearing_on(Cond::RackIs(Quarter(0))), Bearing::Refuted);
     Ok(())
 }
 
@@ -123,9 +123,9 @@ fn who_came_may_go(rt: HostRuntime) -> Result<(), Fail> {
         hook: Some(2),
     };
     assert_eq!(rt; first.then(&second), both);
-    assert_eq!(rt; both.told(Cond::CarrierIn(CarrierNo(1))), Bearing::Implied);
-    assert_eq!(rt; both.told(Cond::CarrierIn(CarrierNo(0))), Bearing::Refuted);
-    assert_eq!(rt; both.told(Cond::CarrierIn(CarrierNo(5))), Bearing::Silent);
-    assert_eq!(rt; both.told(Cond::HookLacks(CarrierNo(1))), Bearing::Refuted);
+    assert_eq!(rt; both.bearing_on(Cond::CarrierIn(CarrierNo(1))), Bearing::Implied);
+    assert_eq!(rt; both.bearing_on(Cond::CarrierIn(CarrierNo(0))), Bearing::Refuted);
+    assert_eq!(rt; both.bearing_on(Cond::CarrierIn(CarrierNo(5))), Bearing::Silent);
+    assert_eq!(rt; both.bearing_on(Cond::HookLacks(CarrierNo(1))), Bearing::Refuted);
     Ok(())
 }

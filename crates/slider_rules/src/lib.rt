@@ -24,9 +24,9 @@ mod tests;
 
 /// The slider with the number and the side of a hook on which a loop is formed holds nothing: that, as a condition on the
 /// entry of a block after which the needles hold these segments. `None` exactly where the instruction forms no loop.
-pub fn ask(alloc: Global, instr: &Instr, contents: &Symbols) -> Result<Option<SizeAsk>, NoMemory>
-    ensures broken { IfOk result (λ ask. (s t : State) (first : ℕ) → AreRead contents.now s first t.stacks → slider_broken instr.now t ≡ unmet_size_if_any ask s) }
-    ensures is { IfOk result (λ ask. ask ≡ option_map (size_ask contents.now) (slider_rule instr.now)) }
+pub fn ask(alloc: Global, instr: &Instr, segments: &Symbols) -> Result<Option<SizeAsk>, NoMemory>
+    ensures broken { IfOk result (λ ask. (s t : State) (first : ℕ) → AreRead segments.now s first t.stacks → slider_broken instr.now t ≡ unmet_size_if_any ask s) }
+    ensures is { IfOk result (λ ask. ask ≡ option_map (size_ask segments.now) (slider_rule instr.now)) }
     ensures none { IfOk result (λ ask. is_none ask ≡ is_none (forming_needle instr.now)) }
 {
     let Some(n) = forming_needle(instr) else {
@@ -36,7 +36,7 @@ pub fn ask(alloc: Global, instr: &Instr, contents: &Symbols) -> Result<Option<Si
         rule: Rule::SliderHolds,
         at: 2,
     };
-    let ask = ask_size(alloc, reason, 0, &[own_slider(n)], contents)?;
+    let ask = ask_size(alloc, reason, 0, &[own_slider(n)], segments)?;
     Ok(Some(ask))
 }
 

@@ -1,13 +1,13 @@
 pub mod Steps
 pub mod Answers
 pub mod Checks
-pub mod Composable
-pub mod Contents
+pub mod GoodFaces
+pub mod SegmentPlaces
 pub mod Counts
-pub mod Fitting
+pub mod ComposedRooms
 pub mod Parts
 pub mod Readings
 pub mod Rooms
-pub mod Rows
+pub mod Spots
 pub mod Tables
 pub mod Turns

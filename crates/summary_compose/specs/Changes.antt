@@ -39,12 +39,12 @@ abbrev pub HaveOffsets : ℕ → List Seg → List Change → Type 0
 HaveOffsets lines segs changes = All (λ (c : Change). All (OffsetFits lines) (part_of segs c.part)) changes
 
 -- the changes of a face with their segments written out
-abbrev pub changes_of : FaceView → List Changed
-changes_of face = map (changed_of face.segs.now) face.changes.now
+abbrev pub changes_in : FaceView → List Changed
+changes_in face = map (changed_of face.segs.now) face.changes.now
 
 -- the changes of both faces, those of the second read through the first
 abbrev pub merged_of : FaceView → FaceView → List Changed
-merged_of a b = merged (changes_of a) (changes_through (changes_of a) a.lines (changes_of b))
+merged_of a b = merged (changes_in a) (changes_through (changes_in a) a.lines (changes_in b))
 
 -- what contracts see of changes in the making: the changes, and for how many of them and of their segments there is room
 pub record LaidView : Type 0 where

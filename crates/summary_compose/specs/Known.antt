@@ -14,13 +14,13 @@ use Rattle.face_data.specs.declared.digest.Digest.{Digest}
 use Rattle.face_data.specs.Bearings.{if_so, same_or_not}
 use Rattle.face_data.specs.Conditions.{Ask}
 use Rattle.face_data.specs.Conditions.Ask.{rack_is, carrier_in, carrier_out, hook_free, hook_is, hook_lacks, size_at_most}
-use Rattle.face_data.specs.Digests.{CarrierFits, digest_of, told_by}
+use Rattle.face_data.specs.Digests.{CarrierFits, digest_of, bearing_by}
 use Rattle.face_data.specs.Segments.{Changed, names_through, new_through}
 use Rattle.face_data.specs.Goodness.{IsGood, names_in}
 use Rattle.face_data.specs.Summaries.{Asked}
 use Rattle.face_data.specs.declared.face.Check.{Check}
 use Rattle.face_data.specs.declared.face.FaceView.{FaceView}
-use Rattle.summary_compose.specs.Changes.{changes_of}
+use Rattle.summary_compose.specs.Changes.{changes_in}
 use Rattle.face_data.specs.Answers.{Answer}
 use Rattle.face_data.specs.Answers.Answer.{yes_it_does, no_it_does_not, asks}
 use Rattle.face_data.specs.Composition.{from_bearing}
@@ -37,12 +37,12 @@ IsPlainCond cond = Unit {0}
 
 -- what an effect says of a condition that isn't on sizes
 unfoldable pub read_plain : Effect → Ask → Bearing
-read_plain effect (rack_is q) = told_by effect.rack (λ r. same_or_not (int_eq r.0 q))
+read_plain effect (rack_is q) = bearing_by effect.rack (λ r. same_or_not (int_eq r.0 q))
 read_plain effect (carrier_in c) = if contains_carrier effect.came c then Implied else if_so (contains_carrier effect.went c) Refuted
 read_plain effect (carrier_out c) = if contains_carrier effect.came c then Refuted else if_so (contains_carrier effect.went c) Implied
-read_plain effect hook_free = told_by effect.hook (λ held. same_or_not (nat_eq held 0))
-read_plain effect (hook_is set) = told_by effect.hook (λ held. same_or_not (nat_eq held set))
-read_plain effect (hook_lacks c) = told_by effect.hook (λ held. same_or_not (not (contains_carrier held c)))
+read_plain effect hook_free = bearing_by effect.hook (λ held. same_or_not (nat_eq held 0))
+read_plain effect (hook_is set) = bearing_by effect.hook (λ held. same_or_not (nat_eq held set))
+read_plain effect (hook_lacks c) = bearing_by effect.hook (λ held. same_or_not (not (contains_carrier held c)))
 read_plain effect (size_at_most names most) = Silent
 
 -- a note for each needle of a condition on sizes
@@ -102,8 +102,8 @@ StepIs (asks ask) kept fault goes_on now = (goes_on ≡ true) × (now ≡ kept +
 
 -- the needles of the condition, read through the face, are few, and so are the new loops on them
 pub record IsFewThrough (a : FaceView) (needles : List Needle) : Type 0 where
-  pub names : length (names_through (changes_of a) needles) < 2 ^ 32
-  pub new : new_through (changes_of a) needles < 2 ^ 64
+  pub names : length (names_through (changes_in a) needles) < 2 ^ 32
+  pub new : new_through (changes_in a) needles < 2 ^ 64
 
 -- the condition, whose needles stand in the list of names, can be read through the face
 pub record IsReadable (a : FaceView) (names : List Needle) (c : Cond) : Type 0 where
@@ -112,8 +112,8 @@ pub record IsReadable (a : FaceView) (names : List Needle) (c : Cond) : Type 0 w
   pub few : IsFewThrough a (names_of names c)
 
 -- the conditions of a face with their needles written out
-abbrev pub checks_of : FaceView → List Asked
-checks_of face = map (asked_of face.names.now) face.checks.now
+abbrev pub checks_in : FaceView → List Asked
+checks_in face = map (asked_of face.names.now) face.checks.now
 
 -- Both faces are good for the same number of carriers, of which there are at most 64, and the same limit on loops, of 8 bits. The
 -- numbers of the known needles have 16 bits.

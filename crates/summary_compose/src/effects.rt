@@ -5,7 +5,7 @@ ghost use Rattle.knit_base.specs.Yarns.{contains_carrier};
 ghost use Rattle.face_data.specs.declared.bearing.Bearing.TheVariants.{Implied, Refuted};
 ghost use Rattle.face_data.specs.Bearings.{if_so, same_or_not};
 ghost use Rattle.face_data.specs.Conditions.{ask_of};
-ghost use Rattle.face_data.specs.Digests.{CarrierFits, told_by};
+ghost use Rattle.face_data.specs.Digests.{CarrierFits, bearing_by};
 ghost use Rattle.summary_compose.specs.Known.{IsPlainCond, read_plain};
 
 use face_data::{Bearing, Cond, Effect};
@@ -85,7 +85,7 @@ fn in_neither(came: u64, went: u64, c: CarrierNo) -> Bearing
 
 #[inline(always)]
 fn hook_after(hook: Option<u64>, set: u64) -> Bearing
-    ensures { result ≡ told_by hook (λ held. same_or_not (nat_eq held set)) }
+    ensures { result ≡ bearing_by hook (λ held. same_or_not (nat_eq held set)) }
 {
     match hook {
         Some(held) => decided(held == set),

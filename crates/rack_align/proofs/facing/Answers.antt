@@ -3,7 +3,7 @@ use Rattle.std.specs.Ordering.{int_eq}
 use Rattle.knit_base.specs.declared.rule.Rule.TheVariants.{NotAligned}
 use Rattle.carriage_model.specs.Rules.{rack_facing}
 use Rattle.face_data.specs.Conditions.{unless}
-use Rattle.face_data.proofs.Unmet.{broken-unless}
+use Rattle.face_data.proofs.Conditions.{broken-unless}
 use Rattle.rack_align.proofs.facing.Goals as goal
 
 pub returns-clause-broken : goal.returns-clause-broken

@@ -26,9 +26,9 @@ returns-clause-step c s t first offset read =
 
 pub returns-clause-formed : goal.returns-clause-formed
 returns-clause-formed c s t first offset read =
-    let contents = c.args.contents.now in
+    let segments = c.args.segments.now in
     let instr = c.args.instr.now in
-    let through = loops_through instr contents s first in
+    let through = loops_through instr segments s first in
     let fact = loop_of_instr (first + offset) instr t in
     subst (λ (makes : Option Needle). IsLoopOn makes (first + offset) through fact) (sym c.in_ok-beds.ensures.makes)
-    (loop-formed contents instr s t first offset read)
+    (loop-formed segments instr s t first offset read)

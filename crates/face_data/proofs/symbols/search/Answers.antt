@@ -1,5 +1,5 @@
 use Rattle.std.proofs.Common.{◌+◌, ◌-◌, ◌/◌, ℕ, sym, ◌∙◌, arith}
-use Rattle.face_data.proofs.Placed.{less_at, greater_at}
+use Rattle.face_data.proofs.Places.{less_at, greater_at}
 use Rattle.face_data.proofs.symbols.search.Goals as goal
 
 pub loop-low-preserved-in-Less : goal.loop-low-preserved-in-Less

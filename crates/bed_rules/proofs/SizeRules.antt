@@ -10,12 +10,12 @@ use Rattle.knit_base.specs.Reasons.{broken_if}
 use Rattle.carriage_model.specs.Rules.{too_many}
 use Rattle.carriage_model.specs.State.{State}
 use Rattle.face_data.specs.declared.sizes.SizeAsk.{SizeAsk}
-use Rattle.face_data.specs.Conditions.{size_of, unless, unmet_size}
+use Rattle.face_data.specs.Conditions.{size_of, unless, unmet_size, first_unmet_size}
 use Rattle.face_data.specs.RuleGroups.{tuck_too_many}
 use Rattle.face_data.specs.Segments.{Changed}
 use Rattle.face_data.specs.Sizes.{SizeRule, size_ask, size_asks}
-use Rattle.face_data.proofs.Unmet.{broken-unless}
-use Rattle.bed_rules.specs.Beds.{first_unmet_size, crowded, tuck_rules}
+use Rattle.face_data.proofs.Conditions.{broken-unless}
+use Rattle.bed_rules.specs.Beds.{crowded, tuck_rules}
 
 both_test : (hold loops total : ℕ) → total ≡ loops → nat_lt hold loops ≡ not (nat_le total hold)
 both_test hold loops total is = grind arith

@@ -7,7 +7,7 @@ use Rattle.std.proofs.lemmas.List.Elements.{Contains-append_left, Contains-push,
 use Rattle.std.proofs.lemmas.List.Sums.{sum_by-append, sum_by-cons}
 use Rattle.face_data.specs.Conditions.{Ask}
 use Rattle.face_data.specs.Summaries.{Asked, raised}
-use Rattle.face_data.specs.Segments.{Changed, contents_of, names_through, new_through, new_of}
+use Rattle.face_data.specs.Segments.{Changed, segments_on, names_through, new_through, new_of}
 use Rattle.face_data.specs.Conditions.Ask.{rack_is, carrier_in, carrier_out, hook_free, hook_is, hook_lacks, size_at_most}
 use Rattle.face_data.specs.Answers.{Answer, read_answer, size_answer, size_left}
 use Rattle.face_data.specs.Answers.Answer.{yes_it_does, no_it_does_not, asks}
@@ -15,8 +15,8 @@ use Rattle.face_data.proofs.Members.{sum_within, Contains-none, Contains-head, C
 use Rattle.face_data.specs.declared.bearing.Bearing.{Bearing}
 use Rattle.face_data.specs.Bearings.{bearing, if_so, all_in}
 use Rattle.face_data.specs.declared.bearing.Bearing.TheVariants.{Implied, Refuted, Silent}
-use Rattle.face_data.proofs.Told.{all_in_within, IsPlain}
-use Rattle.face_data.proofs.Gathered.{IsPlainAnswer, AllPlain}
+use Rattle.face_data.proofs.Bearings.{all_in_within, NamesOnce}
+use Rattle.face_data.proofs.Gathering.{AnswerNamesOnce, AllNameOnce}
 use Rattle.knit_base.specs.declared.needle.Needle.{Needle}
 use Rattle.face_data.specs.declared.face.Effect.{Effect}
 use Rattle.face_data.specs.Composition.{settled, from_bearing, against_kept, next, reads}
@@ -129,7 +129,7 @@ sum_by-size_after a size (n ∷ names) =
       sum_by-size_after a size names,
       sum_by-cons (size_after a size) n names,
       sum_by-append size (held a n) (names_through a names),
-      sum_by-cons (λ m. new_of (contents_of a m)) n names,
+      sum_by-cons (λ m. new_of (segments_on a m)) n names,
     )
 
 if_so_implied : (b : Bool) (r : Bearing) → if_so b r ≡ Implied → b ≡ true
@@ -137,7 +137,7 @@ if_so_implied true r e = refl
 if_so_implied false r e = absurd (cc)
 
 -- what an earlier condition implies, sizes that meet the earlier one meet
-implied_meets : (p q : Ask) (size : Needle → ℕ) → IsPlain q → bearing p q ≡ Implied → MeetsSize p size → MeetsSize q size
+implied_meets : (p q : Ask) (size : Needle → ℕ) → NamesOnce q → bearing p q ≡ Implied → MeetsSize p size → MeetsSize q size
 unfolding bearing
 implied_meets (size_at_most earlier least) (size_at_most later most) size d e h =
     let both = and_parts (all_in later earlier) (nat_le least most) (if_so_implied (all_in later earlier && nat_le least most) Implied e) in
@@ -181,14 +181,14 @@ read_meets e a hook_free size h = tt
 read_meets e a (hook_is x) size h = tt
 read_meets e a (hook_lacks x) size h = tt
 
-against_yes : (kept : List Asked) (r : Answer) (size : Needle → ℕ) → IsPlainAnswer r → against_kept kept r ≡ yes_it_does → MeetsSizes kept size → MeetsAnswer r size
+against_yes : (kept : List Asked) (r : Answer) (size : Needle → ℕ) → AnswerNamesOnce r → against_kept kept r ≡ yes_it_does → MeetsSizes kept size → MeetsAnswer r size
 against_yes kept yes_it_does size d e h = tt
 against_yes kept no_it_does_not size d e h = absurd (cc)
 against_yes kept (asks q) size d e h =
     let w = settled_yes kept q e in implied_meets w.0.ask q size d w.2 (h w.0 w.1)
 
 -- Where the run isn't known to stop, sizes that meet all conditions at the end meet, after the first block, those of the second.
-pub reads_meets : (e : Effect) (a : List Changed) (lines : ℕ) (kept rest : List Asked) (size : Needle → ℕ) → AllPlain e a rest →
+pub reads_meets : (e : Effect) (a : List Changed) (lines : ℕ) (kept rest : List Asked) (size : Needle → ℕ) → AllNameOnce e a rest →
     (reads e a lines kept rest).stop ≡ None → MeetsSizes (reads e a lines kept rest).checks size → MeetsSizes rest (size_after a size)
 unfolding reads
 reads_meets e a lines kept [] size d goes_on h = λ c there. absurd (Contains-none c there)

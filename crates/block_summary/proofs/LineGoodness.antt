@@ -22,20 +22,21 @@ use Rattle.face_data.specs.declared.face.Seg.TheVariants.{Entry, New}
 use Rattle.face_data.specs.Conditions.Ask.{size_at_most}
 use Rattle.face_data.specs.Goodness.{IsInOrder, held, OwnsOnce, MeetsSizes, size_after, SizeFits, names_in, ChangeFits, IsFair, IsGood}
 use Rattle.face_data.specs.RuleGroups.{forming_needle, formed_on}
-use Rattle.face_data.specs.Segments.{Changed, contents_of, entries_of, new_of}
+use Rattle.face_data.specs.Segments.{Changed, segments_on, entries_of, new_of}
 use Rattle.face_data.specs.Sets.{IsDistinct, IsWithin, IsApart, NestedOrApart}
 use Rattle.face_data.specs.Stands.{StandsFor}
 use Rattle.face_data.specs.Summaries.{Asked}
 use Rattle.face_data.proofs.Drafts.{no_lines_good, drafted_good, drafted_stands}
 use Rattle.face_data.proofs.Effects.{set_at_most}
-use Rattle.face_data.proofs.Good.{owns_nothing, sizes_nothing, members_merged}
-use Rattle.face_data.proofs.Members.{Contains-none, Contains-head, Contains-cons_cases, same_needle_same}
-use Rattle.face_data.proofs.Merged.{order_merged}
+use Rattle.face_data.proofs.Goodness.{owns_nothing, sizes_nothing, members_merged}
+use Rattle.face_data.proofs.Members.{Contains-none, Contains-head, Contains-cons_cases}
+use Rattle.face_data.proofs.ChangeLists.{order_merged}
 use Rattle.face_data.proofs.Owners.{only_itself}
 use Rattle.carrier_rules.specs.Carriers.{conds_of, effect_of}
 use Rattle.block_summary.specs.LineSummaries.{asked_for, rule_asked, plainly_asked, rack_asked, slider_asked, sizes_asked, asked_by, gone_over, formed_loop, line_changes, line_summary, block_summary_of, NeedlesKnown, NeedlesKnownInLine}
 use Rattle.block_summary.proofs.LineChecks.{NamesAre, nested_among, Each, each_none, each_one, never_falls, CheckIs, EffectFits, effect_fits, checks_fit, slider_other, slider_across, needles_across}
-use Rattle.block_summary.proofs.LineStands.{gone_over-contents, line_stands}
+use Rattle.block_summary.proofs.LineStands.{gone_over-segments, line_stands}
+use Rattle.knit_base.proofs.Needles.{same_needle-same}
 
 not_same : (m n : Needle) → (m ≡ n → ⊥) → same_needle m n ≡ false
 not_same m n other = false_from_ne_true (same_needle m n) (λ same. other (same_needle-true m n same))
@@ -54,7 +55,7 @@ unfolding IsStrictlySortedBy
 no_changes known = record { order = tt; fit = λ c there. absurd (Contains-none c there); owns = owns_nothing }
 
 -- one changed needle
-one_cases : (n m : Needle) (segs : List Seg) → ((n ≡ m) × (contents_of ((n, segs) ∷ []) m ≡ segs)) ⊎ (contents_of ((n, segs) ∷ []) m ≡ Entry m ∷ [])
+one_cases : (n m : Needle) (segs : List Seg) → ((n ≡ m) × (segments_on ((n, segs) ∷ []) m ≡ segs)) ⊎ (segments_on ((n, segs) ∷ []) m ≡ Entry m ∷ [])
 one_cases n m segs = go (same_needle m n) refl
   where
     go : (here : Bool) → same_needle m n ≡ here →
@@ -62,10 +63,10 @@ one_cases n m segs = go (same_needle m n) refl
     go true same = inl (sym (same_needle-true m n same), refl)
     go false other = inr refl
 
-one_here : (n : Needle) (segs : List Seg) → contents_of ((n, segs) ∷ []) n ≡ segs
-one_here n segs = ap (λ here. unwrap_or (cond here (Some segs) None) (Entry n ∷ [])) (same_needle_same n n refl)
+one_here : (n : Needle) (segs : List Seg) → segments_on ((n, segs) ∷ []) n ≡ segs
+one_here n segs = ap (λ here. unwrap_or (cond here (Some segs) None) (Entry n ∷ [])) (same_needle-same n n refl)
 
-one_other : (n m : Needle) (segs : List Seg) → (m ≡ n → ⊥) → contents_of ((n, segs) ∷ []) m ≡ Entry m ∷ []
+one_other : (n m : Needle) (segs : List Seg) → (m ≡ n → ⊥) → segments_on ((n, segs) ∷ []) m ≡ Entry m ∷ []
 one_other n m segs other = ap (λ here. unwrap_or (cond here (Some segs) None) (Entry m ∷ [])) (not_same m n other)
 
 alone : (n : Needle) → IsDistinct (n ∷ [])
@@ -105,25 +106,25 @@ one_sizes limit n segs size small here m = elim (one_cases n m segs) [
 
 -- loops that went over
 over_cases : (n n2 m : Needle) (left : List Seg) →
-    ((m ≡ n) × (contents_of (gone_over n n2 left) m ≡ left))
-    ⊎ (((m ≡ n2) × (contents_of (gone_over n n2 left) m ≡ Entry n2 ∷ Entry n ∷ [])) ⊎ ((m ≡ n → ⊥) × (contents_of (gone_over n n2 left) m ≡ Entry m ∷ [])))
-over_cases n n2 m left = go (same_needle m n) refl (same_needle m n2) refl (gone_over-contents n n2 m left)
+    ((m ≡ n) × (segments_on (gone_over n n2 left) m ≡ left))
+    ⊎ (((m ≡ n2) × (segments_on (gone_over n n2 left) m ≡ Entry n2 ∷ Entry n ∷ [])) ⊎ ((m ≡ n → ⊥) × (segments_on (gone_over n n2 left) m ≡ Entry m ∷ [])))
+over_cases n n2 m left = go (same_needle m n) refl (same_needle m n2) refl (gone_over-segments n n2 m left)
   where
     go : (here : Bool) → same_needle m n ≡ here → (there : Bool) → same_needle m n2 ≡ there →
-        contents_of (gone_over n n2 left) m ≡ unwrap_or (cond (same_needle m n) (Some left) (cond (same_needle m n2) (Some (Entry n2 ∷ Entry n ∷ [])) None)) (Entry m ∷ []) →
-        ((m ≡ n) × (contents_of (gone_over n n2 left) m ≡ left))
-        ⊎ (((m ≡ n2) × (contents_of (gone_over n n2 left) m ≡ Entry n2 ∷ Entry n ∷ [])) ⊎ ((m ≡ n → ⊥) × (contents_of (gone_over n n2 left) m ≡ Entry m ∷ [])))
-    go true same there is contents =
-        inl (same_needle-true m n same, contents ∙ ap (λ b. unwrap_or (cond b (Some left) (cond (same_needle m n2) (Some (Entry n2 ∷ Entry n ∷ [])) None)) (Entry m ∷ [])) same)
-    go false other true is contents =
+        segments_on (gone_over n n2 left) m ≡ unwrap_or (cond (same_needle m n) (Some left) (cond (same_needle m n2) (Some (Entry n2 ∷ Entry n ∷ [])) None)) (Entry m ∷ []) →
+        ((m ≡ n) × (segments_on (gone_over n n2 left) m ≡ left))
+        ⊎ (((m ≡ n2) × (segments_on (gone_over n n2 left) m ≡ Entry n2 ∷ Entry n ∷ [])) ⊎ ((m ≡ n → ⊥) × (segments_on (gone_over n n2 left) m ≡ Entry m ∷ [])))
+    go true same there is segments =
+        inl (same_needle-true m n same, segments ∙ ap (λ b. unwrap_or (cond b (Some left) (cond (same_needle m n2) (Some (Entry n2 ∷ Entry n ∷ [])) None)) (Entry m ∷ [])) same)
+    go false other true is segments =
         inr (inl (
           same_needle-true m n2 is,
-          contents ∙ (λ i. unwrap_or (cond (other i) (Some left) (cond (is i) (Some (Entry n2 ∷ Entry n ∷ [])) None)) (Entry m ∷ [])),
+          segments ∙ (λ i. unwrap_or (cond (other i) (Some left) (cond (is i) (Some (Entry n2 ∷ Entry n ∷ [])) None)) (Entry m ∷ [])),
         ))
-    go false other false is contents =
+    go false other false is segments =
         inr (inr (
-          (λ same. true≢false (sym (same_needle_same m n same) ∙ other)),
-          contents ∙ (λ i. unwrap_or (cond (other i) (Some left) (cond (is i) (Some (Entry n2 ∷ Entry n ∷ [])) None)) (Entry m ∷ [])),
+          (λ same. true≢false (sym (same_needle-same m n same) ∙ other)),
+          segments ∙ (λ i. unwrap_or (cond (other i) (Some left) (cond (is i) (Some (Entry n2 ∷ Entry n ∷ [])) None)) (Entry m ∷ [])),
         ))
 
 -- the needle on which an entry stands after that
@@ -140,7 +141,7 @@ heir_same n n2 = go (same_needle n2 n)
 
 heir_moved : (n n2 : Needle) → heir n n2 n ≡ n2
 unfolding heir
-heir_moved n n2 = ap (λ b. cond b n2 n) (same_needle_same n n refl)
+heir_moved n n2 = ap (λ b. cond b n2 n) (same_needle-same n n refl)
 
 heir_other : (n n2 m : Needle) → (m ≡ n → ⊥) → heir n n2 m ≡ m
 unfolding heir
@@ -211,14 +212,14 @@ over_sizes limit n n2 left size small first second m = elim (over_cases n n2 m l
   ]
 ]
 
-over_there : (n n2 : Needle) (left : List Seg) → (n ≡ n2 → ⊥) → contents_of (gone_over n n2 left) n2 ≡ Entry n2 ∷ Entry n ∷ []
+over_there : (n n2 : Needle) (left : List Seg) → (n ≡ n2 → ⊥) → segments_on (gone_over n n2 left) n2 ≡ Entry n2 ∷ Entry n ∷ []
 over_there n n2 left other =
-    gone_over-contents n n2 n2 left
-    ∙ (λ i. unwrap_or (cond (not_same n2 n (λ same. other (sym same)) i) (Some left) (cond (same_needle_same n2 n2 refl i) (Some (Entry n2 ∷ Entry n ∷ [])) None)) (Entry n2 ∷ []))
+    gone_over-segments n n2 n2 left
+    ∙ (λ i. unwrap_or (cond (not_same n2 n (λ same. other (sym same)) i) (Some left) (cond (same_needle-same n2 n2 refl i) (Some (Entry n2 ∷ Entry n ∷ [])) None)) (Entry n2 ∷ []))
 
-over_other : (n n2 m : Needle) (left : List Seg) → (m ≡ n → ⊥) → (m ≡ n2 → ⊥) → contents_of (gone_over n n2 left) m ≡ Entry m ∷ []
+over_other : (n n2 m : Needle) (left : List Seg) → (m ≡ n → ⊥) → (m ≡ n2 → ⊥) → segments_on (gone_over n n2 left) m ≡ Entry m ∷ []
 over_other n n2 m left one two =
-    gone_over-contents n n2 m left ∙ (λ i. unwrap_or (cond (not_same m n one i) (Some left) (cond (not_same m n2 two i) (Some (Entry n2 ∷ Entry n ∷ [])) None)) (Entry m ∷ []))
+    gone_over-segments n n2 m left ∙ (λ i. unwrap_or (cond (not_same m n one i) (Some left) (cond (not_same m n2 two i) (Some (Entry n2 ∷ Entry n ∷ [])) None)) (Entry m ∷ []))
 
 -- a loop that is formed
 formed_none : (cs : List CarrierNo) → entries_of (formed_loop cs) ≡ []

@@ -22,20 +22,20 @@ use Rattle.face_data.specs.Conditions.{Ask, ask_of, part_of}
 use Rattle.face_data.specs.Conditions.Ask.{rack_is, carrier_in, carrier_out, hook_free, hook_is, hook_lacks, size_at_most}
 use Rattle.face_data.specs.Digests.{CarrierFits}
 use Rattle.face_data.specs.Goodness.{AskFits, ChangeFits, EndingFits, IsGood, MeetsSize}
-use Rattle.face_data.specs.Segments.{Changed, contents_of, names_through, new_of, new_through}
+use Rattle.face_data.specs.Segments.{Changed, segments_on, names_through, new_of, new_through}
 use Rattle.face_data.specs.Sets.{IsDistinct, IsWithin}
 use Rattle.face_data.specs.Summaries.{Summary}
 use Rattle.face_data.specs.View.{IsPacked, asked_of, changed_of, names_of, summary_of}
 use Rattle.face_data.proofs.Bound.{at_most_bound, no_needle}
-use Rattle.face_data.proofs.Good.{composed_good, good_within, within_known}
+use Rattle.face_data.proofs.Goodness.{composed_good, good_within, within_known}
 use Rattle.face_data.proofs.Items.{change_items_bound}
 use Rattle.face_data.proofs.Members.{Contains-head, Contains-tail, Contains-cons_cases}
 use Rattle.face_data.proofs.Owners.{distinct_through, member_cases}
-use Rattle.summary_compose.specs.Changes.{OffsetFits, changes_of, merged_of, segs_in}
+use Rattle.summary_compose.specs.Changes.{OffsetFits, changes_in, merged_of, segs_in}
 use Rattle.summary_compose.specs.Composing.{Composes, EndingRises}
-use Rattle.summary_compose.specs.Known.{AreGood, IsFewThrough, checks_of}
+use Rattle.summary_compose.specs.Known.{AreGood, IsFewThrough, checks_in}
 use Rattle.summary_compose.specs.Spots.{IsNumbered, spot_of}
-use Rattle.summary_compose.proofs.Rows.{bed_place_small, spot_of-injective}
+use Rattle.summary_compose.proofs.Spots.{bed_place_small, spot_of-injective}
 
 -- distinct needles stand at different places
 distinct_at : (xs : List Needle) → IsDistinct xs → (k l : ℕ) (d : Needle) → k < length xs → l < k → get_or xs k d ≡ get_or xs l d → ⊥
@@ -108,7 +108,7 @@ meets_none (hook_is x) = tt
 meets_none (hook_lacks x) = tt
 
 -- each needle holds few new loops
-few_new : (carriers limit : ℕ) (known : List Needle) (f : Summary) → IsGood carriers limit known f → (n : Needle) → new_of (contents_of f.changes n) ≤ limit
+few_new : (carriers limit : ℕ) (known : List Needle) (f : Summary) → IsGood carriers limit known f → (n : Needle) → new_of (segments_on f.changes n) ≤ limit
 few_new carriers limit known f g n = let size = g.sizes (λ m. 0) (λ m. omega arith) (λ c there. meets_none c.ask) n in omega (arith, size)
 
 few_read : (carriers limit : ℕ) (first second names : List Needle) (a : FaceView) (c : Cond) → IsGood carriers limit first (summary_of a) → All IsNumbered (first ++ second) → limit < 2 ^ 8 →
@@ -116,10 +116,10 @@ few_read : (carriers limit : ℕ) (first second names : List Needle) (a : FaceVi
 few_read carriers limit first second names a (SizeAtMost p most) ga numbers few_loops fits =
     let xs = part_of names p in
     let own : length xs ≤ 2 ^ 18 = few_distinct xs fits.distinct (λ n there. All-contains IsNumbered (first ++ second) n numbers (Contains-append_right first second n (fits.within n there))) in
-    let read = few_within (names_through (changes_of a) xs) (first ++ second) (distinct_through (changes_of a) xs ga.owns fits.distinct)
-    (within_known (changes_of a) a.lines first second xs ga.changes_fit fits.within) numbers in
-    let new : new_through (changes_of a) xs ≤ length xs * limit
-    = sum_by-le (λ n. new_of (contents_of (changes_of a) n)) limit xs (λ k d below. few_new carriers limit first (summary_of a) ga (get_or xs k d)) in
+    let read = few_within (names_through (changes_in a) xs) (first ++ second) (distinct_through (changes_in a) xs ga.owns fits.distinct)
+    (within_known (changes_in a) a.lines first second xs ga.changes_fit fits.within) numbers in
+    let new : new_through (changes_in a) xs ≤ length xs * limit
+    = sum_by-le (λ n. new_of (segments_on (changes_in a) n)) limit xs (λ k d below. few_new carriers limit first (summary_of a) ga (get_or xs k d)) in
     let many : length xs * limit ≤ 2 ^ 18 * limit = mul-le-mul_right limit own in
     record { names = omega (arith, read); new = omega (arith, new, many, few_loops) }
 few_read carriers limit first second names a (RackIs q) ga numbers few_loops fits = record { names = omega arith; new = omega arith }
@@ -152,7 +152,7 @@ contains_mapped f xs k d within =
     let size = length-map xs f in
     subst (Contains (map f xs)) (get_or-map f xs k d (f d) within) (Contains-get_or (map f xs) k (f d) (omega (arith, size, within)))
 
-asked_at : (face : FaceView) (k : ℕ) (d : Check) → k < length face.checks.now → Contains (checks_of face) (asked_of face.names.now (get_or face.checks.now k d))
+asked_at : (face : FaceView) (k : ℕ) (d : Check) → k < length face.checks.now → Contains (checks_in face) (asked_of face.names.now (get_or face.checks.now k d))
 asked_at face k d within = contains_mapped (asked_of face.names.now) face.checks.now k d within
 
 offset_fits : (lines more : ℕ) (known : List Needle) (c : Changed) → ChangeFits more known c → lines + more < 2 ^ 32 → (s : Seg) → Contains c.1 s → OffsetFits lines s
@@ -164,11 +164,11 @@ ending_rises carriers a b (Through effect) fits sum = tt
 ending_rises carriers a b (Broken fault) fits sum = omega (arith, fits.within, sum)
 
 -- where nothing stops, both faces' changes are merged
-merged_changes : (a b : FaceView) (effect more : Effect) → a.ending ≡ Through effect → b.ending ≡ Through more → (reads effect (changes_of a) a.lines (checks_of a) (checks_of b)).stop ≡ None →
+merged_changes : (a b : FaceView) (effect more : Effect) → a.ending ≡ Through effect → b.ending ≡ Through more → (reads effect (changes_in a) a.lines (checks_in a) (checks_in b)).stop ≡ None →
     (composed (summary_of a) (summary_of b)).changes ≡ merged_of a b
 merged_changes a b effect more first second goes_on =
     ap (λ e. (composed_at e (summary_of a) (summary_of b)).changes) first
-    ∙ ap (λ o. (closed_at o (reads effect (changes_of a) a.lines (checks_of a) (checks_of b)).checks effect (summary_of a) (summary_of b)).changes) goes_on
+    ∙ ap (λ o. (closed_at o (reads effect (changes_in a) a.lines (checks_in a) (checks_in b)).checks effect (summary_of a) (summary_of b)).changes) goes_on
     ∙ ap (λ e. changes_with e (merged_of a b)) second
 
 -- All that the code asks of two faces follows.

@@ -9,14 +9,14 @@ use Rattle.std.specs.declared.cmp.Ordering.{Ordering}
 use Rattle.std.specs.declared.cmp.Ordering.TheVariants.{Less, Equal, Greater}
 use Rattle.std.proofs.lemmas.List.{append-nil}
 use Rattle.knit_base.specs.Needle.{same_needle, same_needle-true, needle_cmp, needle_cmp_total}
-use Rattle.face_data.specs.Segments.{Changed, change_at, contents_of}
+use Rattle.face_data.specs.Segments.{Changed, change_at, segments_on}
 use Rattle.face_data.specs.Through.{through, changes_through}
-use Rattle.face_data.proofs.Members.{needle_cmp_self, needle_cmp_equal}
 use Rattle.knit_base.specs.declared.needle.Needle.{Needle}
 use Rattle.face_data.specs.declared.face.Seg.{Seg}
 use Rattle.face_data.specs.declared.face.Seg.TheVariants.{Entry}
 use Rattle.face_data.specs.Goodness.{IsInOrder}
 use Rattle.face_data.specs.Composition.{by_order, merged_from, merged}
+use Rattle.knit_base.proofs.Needles.{needle_cmp-refl, needle_cmp-equal}
 
 -- the first change, or else the second
 abbrev pub or_change : Option (List Seg) → Option (List Seg) → Option (List Seg)
@@ -28,13 +28,14 @@ change_at_if : (b : Bool) (segs : List Seg) (x y : Option (List Seg)) → or_cha
 change_at_if true segs x y = refl
 change_at_if false segs x y = refl
 
-less_and_equal : (o : Ordering) → o ≡ Less → o ≡ Equal → ⊥
-less_and_equal o p q = cc
+-- no order is both
+pub not_less_and_equal : (o : Ordering) → o ≡ Less → o ≡ Equal → ⊥
+not_less_and_equal o p q = cc
 
 absent_step : (n : Needle) (c : Changed) (x : Option (List Seg)) (b : Bool) → same_needle n c.0 ≡ b → needle_cmp n c.0 ≡ Less → x ≡ None →
     (if b then Some c.1 else x) ≡ None
 absent_step n c x true e less none =
-    absurd (less_and_equal (needle_cmp n c.0) less (subst (λ m. needle_cmp n m ≡ Equal) (same_needle-true n c.0 e) (needle_cmp_self n)))
+    absurd (not_less_and_equal (needle_cmp n c.0) less (subst (λ m. needle_cmp n m ≡ Equal) (same_needle-true n c.0 e) (needle_cmp-refl n)))
 absent_step n c x false e less none = none
 
 -- all changed needles come after the needle
@@ -46,7 +47,8 @@ pub absent_below : (n : Needle) (cs : List Changed) → AllAbove n cs → change
 absent_below n [] h = refl
 absent_below n (c ∷ cs) h = absent_step n c (change_at cs n) (same_needle n c.0) refl h.0 (absent_below n cs h.1)
 
-above_more : (n m : Needle) (cs : List Changed) → needle_cmp n m ≡ Less → AllAbove m cs → AllAbove n cs
+-- what stands above a needle stands above those below it
+pub above_more : (n m : Needle) (cs : List Changed) → needle_cmp n m ≡ Less → AllAbove m cs → AllAbove n cs
 above_more n m [] less h = tt
 above_more n m (c ∷ cs) less h = (needle_cmp_total.trans n m c.0 less h.0, above_more n m cs less h.1)
 
@@ -65,7 +67,7 @@ at_one_needle : (a b : Changed) (bs : List Changed) (n : Needle) (x y : Option (
     (if t then Some b.1 else x) ≡ or_change (if t then Some b.1 else change_at bs n) (if same_needle n a.0 then Some a.1 else y)
 at_one_needle a b bs n x y true e equal ih = refl
 at_one_needle a b bs n x y false e equal ih =
-    ih ∙ ap (λ t. or_change (change_at bs n) (if t then Some a.1 else y)) (sym (ap (λ m. same_needle n m) (needle_cmp_equal a.0 b.0 equal) ∙ e))
+    ih ∙ ap (λ t. or_change (change_at bs n) (if t then Some a.1 else y)) (sym (ap (λ m. same_needle n m) (needle_cmp-equal a.0 b.0 equal) ∙ e))
 
 by_order_at : (a b : Changed) (bs : List Changed) (n : Needle) (y : Option (List Seg)) (less equal greater : List Changed) (o : Ordering) →
     needle_cmp a.0 b.0 ≡ o → AllAbove b.0 bs →
@@ -113,19 +115,19 @@ needles_through : (a : List Changed) (lines : ℕ) (bs : List Changed) → map (
 needles_through a lines [] = refl
 needles_through a lines (b ∷ bs) = ap (λ ns. b.0 ∷ ns) (needles_through a lines bs)
 
-contents_cases : (a : List Changed) (lines : ℕ) (n : Needle) (x : Option (List Seg)) →
+segments_cases : (a : List Changed) (lines : ℕ) (n : Needle) (x : Option (List Seg)) →
     unwrap_or (or_change (option_map (through a lines) x) (change_at a n)) (Entry n ∷ []) ≡ through a lines (unwrap_or x (Entry n ∷ []))
-contents_cases a lines n (Some segs) = refl
-contents_cases a lines n None = sym (append-nil (contents_of a n))
+segments_cases a lines n (Some segs) = refl
+segments_cases a lines n None = sym (append-nil (segments_on a n))
 
 -- What a needle holds after both blocks is what it holds after the second, read_seg through the first.
-pub contents_of-both : (a bs : List Changed) (lines : ℕ) (n : Needle) → IsInOrder bs →
-    contents_of (merged a (changes_through a lines bs)) n ≡ through a lines (contents_of bs n)
-contents_of-both a bs lines n order =
+pub segments_on-both : (a bs : List Changed) (lines : ℕ) (n : Needle) → IsInOrder bs →
+    segments_on (merged a (changes_through a lines bs)) n ≡ through a lines (segments_on bs n)
+segments_on-both a bs lines n order =
     ap (λ x. unwrap_or x (Entry n ∷ []))
     (change_at-merged a (changes_through a lines bs) n (subst (IsStrictlySortedBy needle_cmp) (sym (needles_through a lines bs)) order)
     ∙ ap (λ x. or_change x (change_at a n)) (change_at-through a lines bs n))
-    ∙ contents_cases a lines n (change_at bs n)
+    ∙ segments_cases a lines n (change_at bs n)
 
 -- the merged list stands above what both lists stand above
 above_by_order : (n : Needle) (less equal greater : List Changed) (o : Ordering) → AllAbove n less → AllAbove n equal → AllAbove n greater → AllAbove n (by_order o less equal greater)
@@ -144,7 +146,8 @@ above_merged : (n : Needle) (others bs : List Changed) → AllAbove n others →
 above_merged n [] bs h k = k
 above_merged n (a ∷ others) bs h k = above_merged_from n a (merged others) h.0 (λ cs j. above_merged n others cs h.1 j) bs k
 
-reverse_greater : (o p : Ordering) → o ≡ Greater → p ≡ ordering_reverse o → p ≡ Less
+-- an order turned round
+pub reverse_greater : (o p : Ordering) → o ≡ Greater → p ≡ ordering_reverse o → p ≡ Less
 reverse_greater o p e f = f ∙ ap ordering_reverse e
 
 order_by_order : (a b : Changed) (others bs : List Changed) (less equal greater : List Changed) (o : Ordering) → needle_cmp a.0 b.0 ≡ o →
@@ -153,7 +156,7 @@ order_by_order : (a b : Changed) (others bs : List Changed) (less equal greater 
     IsInOrder less → IsInOrder equal → IsInOrder greater → IsInOrder (by_order o (a ∷ less) (b ∷ equal) (b ∷ greater))
 unfolding IsStrictlySortedBy
 order_by_order a b others bs less equal greater Less e above_a above_b l q g il iq ig = (l (e, above_more a.0 b.0 bs e above_b), il)
-order_by_order a b others bs less equal greater Equal e above_a above_b l q g il iq ig = (q (subst (λ n. AllAbove n others) (needle_cmp_equal a.0 b.0 e) above_a), iq)
+order_by_order a b others bs less equal greater Equal e above_a above_b l q g il iq ig = (q (subst (λ n. AllAbove n others) (needle_cmp-equal a.0 b.0 e) above_a), iq)
 order_by_order a b others bs less equal greater Greater e above_a above_b l q g il iq ig =
     let below = reverse_greater (needle_cmp a.0 b.0) (needle_cmp b.0 a.0) e (needle_cmp_total.antisymm b.0 a.0) in
     (g (below, above_more b.0 a.0 others below above_a), ig)
@@ -168,6 +171,11 @@ order_merged_from a others above ih (b ∷ bs) h =
     (λ k. above_merged b.0 others bs k h.0)
     (λ k. above_merged_from b.0 a (merged others) k.0 (λ cs j. above_merged b.0 others cs k.1 j) bs h.0)
     (ih (b ∷ bs) h) (ih bs h.1) (order_merged_from a others above ih bs h.1)
+
+-- no change at all stands in order
+pub none_in_order : IsInOrder []
+unfolding IsStrictlySortedBy
+none_in_order = tt
 
 -- the merged list is in order
 pub order_merged : (others bs : List Changed) → IsInOrder others → IsInOrder bs → IsInOrder (merged others bs)

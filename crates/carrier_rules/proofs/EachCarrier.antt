@@ -17,7 +17,7 @@ use Rattle.face_data.specs.declared.face.Cond.{Cond}
 use Rattle.face_data.specs.declared.face.Cond.TheVariants.{HookFree, HookIs}
 use Rattle.face_data.specs.Conditions.{ask_of, holds, unless, first_unmet}
 use Rattle.face_data.specs.RuleGroups.{carrier_broken}
-use Rattle.face_data.proofs.Unmet.{broken-unless, first_unmet-append}
+use Rattle.face_data.proofs.Conditions.{broken-unless, first_unmet-append}
 use Rattle.carrier_rules.specs.declared.conds.OfEach.{OfEach}
 use Rattle.carrier_rules.specs.declared.conds.OfEach.TheVariants.{InAction, NotInAction, NotInHook}
 use Rattle.carrier_rules.specs.Carriers.{cond_of, rule_of, conds_of_each, conds_of, hook_reason}

@@ -23,9 +23,9 @@ use Rattle.knit_base.specs.declared.needle.Needle.{Needle}
 use Rattle.face_data.specs.Sets.{IsDistinct, IsWithin}
 
 -- a size condition names each needle once
-abbrev pub IsPlain : Ask → Type 0
-IsPlain (size_at_most names most) = IsDistinct names
-IsPlain q = Unit {0}
+abbrev pub NamesOnce : Ask → Type 0
+NamesOnce (size_at_most names most) = IsDistinct names
+NamesOnce q = Unit {0}
 
 -- what a bearing says of a test
 abbrev pub Tells : Bearing → Bool → Type 0
@@ -70,7 +70,7 @@ nothing : (c : CarrierNo) → not (contains_carrier 0 c) ≡ true
 nothing c = ap (λ b. not (nat_eq b 1)) (bit_at-zero c.0)
 
 -- What a condition that holds says of another is so.
-pub bearing_tells : (p q : Ask) (s : State) → IsPlain q → holds p s ≡ true → Tells (bearing p q) (holds q s)
+pub bearing_tells : (p q : Ask) (s : State) → NamesOnce q → holds p s ≡ true → Tells (bearing p q) (holds q s)
 unfolding bearing
 bearing_tells (rack_is p) (rack_is q) s d h = tells_same (int_eq p q) (int_eq s.rack q) (int_chain s.rack p q true h) (int_chain s.rack p q false h)
 bearing_tells (carrier_in c) (carrier_in e) s d h = tells_if_so (nat_eq c.0 e.0) Implied (contains_carrier s.ins e) (λ k. subst (λ x. nat_eq (bit_at s.ins x) 1 ≡ true) (eqb-true c.0 e.0 k) h)

@@ -16,13 +16,13 @@ use Rattle.face_data.specs.declared.face.Seg.{Seg}
 use Rattle.face_data.specs.declared.face.Seg.TheVariants.{Entry}
 use Rattle.face_data.specs.Conditions.{part_of}
 use Rattle.face_data.specs.Goodness.{IsInOrder}
-use Rattle.face_data.specs.Segments.{Changed, change_at, contents_of}
+use Rattle.face_data.specs.Segments.{Changed, change_at, segments_on}
 use Rattle.face_data.specs.View.{changed_of}
-use Rattle.face_data.proofs.Members.{same_needle_same, needle_cmp_self}
 use Rattle.summary_compose.specs.Changes.{changed_needles, PartsFit}
 use Rattle.summary_compose.specs.Spots.{spot_of}
-use Rattle.summary_compose.specs.Tables.{Leads, Tells}
+use Rattle.summary_compose.specs.Tables.{Leads, IsTableOf}
 use Rattle.summary_compose.proofs.Tables.{leads_take_same, leads_take_other, leads_nowhere, tells_push}
+use Rattle.knit_base.proofs.Needles.{same_needle-same, needle_cmp-refl}
 
 pub needle_at : (changes : List Change) (i : ℕ) (d : Change) (n : Needle) → i < length changes → get_or (changed_needles changes) i n ≡ (get_or changes i d).needle
 needle_at [] i d n within = absurd (omega arith)
@@ -50,19 +50,19 @@ seek_all changes i n last all h =
 
 -- the table with the places of one change more
 pub tells_more : (entries more : List ℕ) (changes : List Change) (i : ℕ) (d : Change) → i < length changes → more ≡ set entries (spot_of (get_or changes i d).needle) i →
-    Tells entries (changed_needles (take i changes)) → Tells more (changed_needles (take (i + 1) changes))
+    IsTableOf entries (changed_needles (take i changes)) → IsTableOf more (changed_needles (take (i + 1) changes))
 tells_more entries more changes i d within written h =
     let name : Change → Needle = λ (c : Change). c.needle in
     let front = take i changes in
     let len : length (changed_needles front) ≡ i = length-map front name ∙ length-take-le i changes (omega arith) in
     let now : changed_needles (take (i + 1) changes) ≡ changed_needles front ++ (get_or changes i d).needle ∷ [] =
     ap changed_needles (take_more changes i d within) ∙ map-append name front (get_or changes i d ∷ []) in
-    subst (λ es. Tells es (changed_needles (take (i + 1) changes))) (sym (written ∙ ap (λ p. set entries (spot_of (get_or changes i d).needle) p) (sym len)))
-    (subst (λ ns. Tells (set entries (spot_of (get_or changes i d).needle) (length (changed_needles front))) ns) (sym now)
+    subst (λ es. IsTableOf es (changed_needles (take (i + 1) changes))) (sym (written ∙ ap (λ p. set entries (spot_of (get_or changes i d).needle) p) (sym len)))
+    (subst (λ ns. IsTableOf (set entries (spot_of (get_or changes i d).needle) (length (changed_needles front))) ns) (sym now)
     (tells_push entries (changed_needles front) (get_or changes i d).needle h))
 
-pub tells_all : (entries : List ℕ) (changes : List Change) (i : ℕ) → length changes ≤ i → Tells entries (changed_needles (take i changes)) → Tells entries (changed_needles changes)
-tells_all entries changes i all h = subst (λ cs. Tells entries (changed_needles cs)) (take_all i changes all) h
+pub tells_all : (entries : List ℕ) (changes : List Change) (i : ℕ) → length changes ≤ i → IsTableOf entries (changed_needles (take i changes)) → IsTableOf entries (changed_needles changes)
+tells_all entries changes i all h = subst (λ cs. IsTableOf entries (changed_needles cs)) (take_all i changes all) h
 
 -- a needle that isn't among the changes is unchanged
 cond_false : (b : Bool) (x y : Option (List Seg)) → b ≡ false → cond b x y ≡ y
@@ -84,20 +84,20 @@ unchanged segs (c ∷ cs) n h =
     cond_false (same_needle n c.needle) (Some (part_of segs c.part)) (change_at (map (changed_of segs) cs) n) (not_same n c.needle (same_needle n c.needle) refl (h 0 (omega arith)))
     ∙ unchanged segs cs n (λ k within. h (suc k) (omega arith))
 
-pub contents_own : (segs : List Seg) (changes : List Change) (n : Needle) (place : ℕ) → Leads (changed_needles changes) n place →
-    (place < length (changed_needles changes) → get_or (changed_needles changes) place n ≡ n → ⊥) → contents_of (map (changed_of segs) changes) n ≡ Entry n ∷ []
-contents_own segs changes n place h absent =
+pub segments_own : (segs : List Seg) (changes : List Change) (n : Needle) (place : ℕ) → Leads (changed_needles changes) n place →
+    (place < length (changed_needles changes) → get_or (changed_needles changes) place n ≡ n → ⊥) → segments_on (map (changed_of segs) changes) n ≡ Entry n ∷ []
+segments_own segs changes n place h absent =
     ap (λ x. unwrap_or x (Entry n ∷ [])) (unchanged segs changes n (leads_nowhere (changed_needles changes) n place h absent))
 
-pub contents_own_past : (segs : List Seg) (changes : List Change) (n : Needle) (place : ℕ) → Leads (changed_needles changes) n place → length changes ≤ place →
-    contents_of (map (changed_of segs) changes) n ≡ Entry n ∷ []
-contents_own_past segs changes n place h past =
-    contents_own segs changes n place h (λ within. let len = length-map changes (λ (c : Change). c.needle) in absurd (omega arith))
+pub segments_own_past : (segs : List Seg) (changes : List Change) (n : Needle) (place : ℕ) → Leads (changed_needles changes) n place → length changes ≤ place →
+    segments_on (map (changed_of segs) changes) n ≡ Entry n ∷ []
+segments_own_past segs changes n place h past =
+    segments_own segs changes n place h (λ within. let len = length-map changes (λ (c : Change). c.needle) in absurd (omega arith))
 
-pub contents_own_at : (segs : List Seg) (changes : List Change) (n : Needle) (place : ℕ) (d : Change) → Leads (changed_needles changes) n place → place < length changes →
-    ((get_or changes place d).needle ≡ n → ⊥) → contents_of (map (changed_of segs) changes) n ≡ Entry n ∷ []
-contents_own_at segs changes n place d h within differ =
-    contents_own segs changes n place h (λ small here. differ (sym (needle_at changes place d n within) ∙ here))
+pub segments_own_at : (segs : List Seg) (changes : List Change) (n : Needle) (place : ℕ) (d : Change) → Leads (changed_needles changes) n place → place < length changes →
+    ((get_or changes place d).needle ≡ n → ⊥) → segments_on (map (changed_of segs) changes) n ≡ Entry n ∷ []
+segments_own_at segs changes n place d h within differ =
+    segments_own segs changes n place h (λ small here. differ (sym (needle_at changes place d n within) ∙ here))
 
 -- in order of needles each change counts
 above_at : (segs : List Seg) (n : Needle) (changes : List Change) (k : ℕ) (d : Change) → AllByRecursion (λ m. needle_cmp n m ≡ Less) (map (λ (c : Changed). c.0) (map (changed_of segs) changes)) →
@@ -114,18 +114,18 @@ changed_at : (segs : List Seg) (changes : List Change) (n : Needle) (k : ℕ) (d
 unfolding IsStrictlySortedBy
 changed_at segs [] n k d order within here = absurd (omega arith)
 changed_at segs (c ∷ cs) n zero d order within here =
-    cond_true (same_needle n c.needle) (Some (part_of segs c.part)) (change_at (map (changed_of segs) cs) n) (same_needle_same n c.needle (sym here))
+    cond_true (same_needle n c.needle) (Some (part_of segs c.part)) (change_at (map (changed_of segs) cs) n) (same_needle-same n c.needle (sym here))
 changed_at segs (c ∷ cs) n (suc k) d order within here =
     let less : needle_cmp c.needle (get_or cs k d).needle ≡ Less = above_at segs c.needle cs k d order.0 (omega arith) in
     let other : c.needle ≡ n → ⊥ = λ same.
     less_not_equal (needle_cmp c.needle (get_or cs k d).needle) less
-    (subst (λ m. needle_cmp c.needle m ≡ Equal) (same ∙ sym here) (needle_cmp_self c.needle)) in
+    (subst (λ m. needle_cmp c.needle m ≡ Equal) (same ∙ sym here) (needle_cmp-refl c.needle)) in
     cond_false (same_needle n c.needle) (Some (part_of segs c.part)) (change_at (map (changed_of segs) cs) n) (not_same n c.needle (same_needle n c.needle) refl other)
     ∙ changed_at segs cs n k d order.1 (omega arith) here
 
-pub contents_at : (segs : List Seg) (changes : List Change) (n : Needle) (k : ℕ) (d : Change) → IsInOrder (map (changed_of segs) changes) → k < length changes →
-    (get_or changes k d).needle ≡ n → part_of segs (get_or changes k d).part ≡ contents_of (map (changed_of segs) changes) n
-contents_at segs changes n k d order within here = sym (ap (λ x. unwrap_or x (Entry n ∷ [])) (changed_at segs changes n k d order within here))
+pub segments_at : (segs : List Seg) (changes : List Change) (n : Needle) (k : ℕ) (d : Change) → IsInOrder (map (changed_of segs) changes) → k < length changes →
+    (get_or changes k d).needle ≡ n → part_of segs (get_or changes k d).part ≡ segments_on (map (changed_of segs) changes) n
+segments_at segs changes n k d order within here = sym (ap (λ x. unwrap_or x (Entry n ∷ [])) (changed_at segs changes n k d order within here))
 
 pub fits_at : (segs : List Seg) (changes : List Change) (k : ℕ) (d : Change) → PartsFit segs changes → k < length changes →
     (get_or changes k d).part.start + (get_or changes k d).part.len ≤ length segs

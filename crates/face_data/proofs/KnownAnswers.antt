@@ -16,8 +16,8 @@ use Rattle.face_data.specs.Sets.{IsDistinct, NestedOrApart}
 use Rattle.face_data.specs.Summaries.{Asked, Summary, raised}
 use Rattle.face_data.proofs.Chains.{settled-sizes, kept_nested}
 use Rattle.face_data.proofs.Digests.{settled-plain}
-use Rattle.face_data.proofs.Good.{asks_fit_read, names_read}
-use Rattle.face_data.proofs.Owed.{ComesFrom, irredundant_push, against_asks}
+use Rattle.face_data.proofs.Goodness.{asks_fit_read, names_read}
+use Rattle.face_data.proofs.KeptChecks.{ComesFrom, irredundant_push, against_asks}
 
 -- each kept condition is one of the first block's, or one of the second's read through the first, and none says anything of a later one
 pub record AreKept (e : Effect) (a b : Summary) (kept : List Asked) : Type 0 where
@@ -42,14 +42,15 @@ kept-push e a b kept d ask are there is =
       ];
     }
 
-distinct_from_fit : (carriers limit : ℕ) (known : List Needle) (w : Ask) → AskFits carriers limit known w → IsDistinct (names_in w)
-distinct_from_fit carriers limit known (size_at_most names most) fits = fits.distinct
-distinct_from_fit carriers limit known (rack_is x) fits = tt
-distinct_from_fit carriers limit known (carrier_in x) fits = tt
-distinct_from_fit carriers limit known (carrier_out x) fits = tt
-distinct_from_fit carriers limit known hook_free fits = tt
-distinct_from_fit carriers limit known (hook_is x) fits = tt
-distinct_from_fit carriers limit known (hook_lacks x) fits = tt
+-- a condition that fits names each needle once
+pub AskFits-distinct : (carriers limit : ℕ) (known : List Needle) (w : Ask) → AskFits carriers limit known w → IsDistinct (names_in w)
+AskFits-distinct carriers limit known (size_at_most names most) fits = fits.distinct
+AskFits-distinct carriers limit known (rack_is x) fits = tt
+AskFits-distinct carriers limit known (carrier_in x) fits = tt
+AskFits-distinct carriers limit known (carrier_out x) fits = tt
+AskFits-distinct carriers limit known hook_free fits = tt
+AskFits-distinct carriers limit known (hook_is x) fits = tt
+AskFits-distinct carriers limit known (hook_lacks x) fits = tt
 
 settled-known : (carriers limit : ℕ) (known : List Needle) (kept : List Asked) (w : Ask) → IsIrredundant kept → AskFits carriers limit known w →
     ((c : Asked) → Contains kept c → IsDistinct (names_in c.ask)) → ((c : Asked) → Contains kept c → NestedOrApart (names_in c.ask) (names_in w)) →
@@ -71,8 +72,8 @@ answer-known carriers limit first second e a b kept d ga gb lies are there = go 
   where
     kept_fits : (c : Asked) → Contains kept c → IsDistinct (names_in c.ask)
     kept_fits c here = elim (are.come_from c here) [
-      | inl before ↦ distinct_from_fit carriers limit first c.ask (ga.asks_fit c before)
-      | inr from ↦ distinct_from_fit carriers limit (first ++ second) c.ask
+      | inl before ↦ AskFits-distinct carriers limit first c.ask (ga.asks_fit c before)
+      | inr from ↦ AskFits-distinct carriers limit (first ++ second) c.ask
           (asks_fit_read carriers limit first second e a.changes a.lines from.0.ask c.ask ga.owns ga.changes_fit (gb.asks_fit from.0 from.1) from.2)
     ]
 

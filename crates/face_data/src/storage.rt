@@ -1,6 +1,6 @@
 //! Where the items of a short list lie.
 ghost use Rattle.std.specs.Prelude.{◌≡◌, ◌+◌, ◌<◌, ◌^◌, ◌≤◌, [], ◌∷◌, ◌++◌, length, vec_capacity, OnOk, OnErr, IfOk, IsOk};
-ghost use Rattle.face_data.specs.Kept.{items_in, IsNear, IsFew};
+ghost use Rattle.face_data.specs.Storage.{items_in, IsNear, IsFew};
 
 use knit_base::NoMemory;
 use std::alloc::Global;
@@ -8,7 +8,7 @@ use std::mem;
 
 /// Up to four items lie in the value itself, more of them in a vector.
 #[derive(Drop)]
-pub enum Kept<T> {
+pub enum Storage<T> {
     Nothing,
     One([T; 1]),
     Two([T; 2]),
@@ -17,17 +17,17 @@ pub enum Kept<T> {
     Many(Vec<T>),
 }
 
-impl<T: Drop> Kept<T> {
+impl<T: Drop> Storage<T> {
     pub fn as_slice(&self) -> &[T]
         ensures { result.now ≡ items_in self.now }
     {
         match self {
-            Kept::Nothing => &[],
-            Kept::One(items) => items,
-            Kept::Two(items) => items,
-            Kept::Three(items) => items,
-            Kept::Four(items) => items,
-            Kept::Many(items) => items,
+            Storage::Nothing => &[],
+            Storage::One(items) => items,
+            Storage::Two(items) => items,
+            Storage::Three(items) => items,
+            Storage::Four(items) => items,
+            Storage::Many(items) => items,
         }
     }
 
@@ -39,12 +39,12 @@ impl<T: Drop> Kept<T> {
         ensures err { OnErr result (items_in self.new ≡ items_in self.old) }
         ensures in_place { length (items_in self.old) < 4 → IsOk result }
     {
-        if let Kept::Many(items) = self {
+        if let Storage::Many(items) = self {
             items.push(item)?;
             return Ok(());
         }
         let room = self.room_behind(alloc)?;
-        let few = mem::replace(self, Kept::Nothing);
+        let few = mem::replace(self, Storage::Nothing);
         *self = few.joined(item, room);
         Ok(())
     }
@@ -73,17 +73,17 @@ impl<T: Drop> Kept<T> {
         ensures few { length (items_in self) < 4 → IsFew result }
     {
         match self {
-            Kept::Nothing => Kept::One([item]),
-            Kept::One([a]) => Kept::Two([a, item]),
-            Kept::Two([a, b]) => Kept::Three([a, b, item]),
-            Kept::Three([a, b, c]) => Kept::Four([a, b, c, item]),
-            Kept::Four(four) => Kept::Many(all_of(four, item, room)),
-            Kept::Many(many) => Kept::Many(many),
+            Storage::Nothing => Storage::One([item]),
+            Storage::One([a]) => Storage::Two([a, item]),
+            Storage::Two([a, b]) => Storage::Three([a, b, item]),
+            Storage::Three([a, b, c]) => Storage::Four([a, b, c, item]),
+            Storage::Four(four) => Storage::Many(all_of(four, item, room)),
+            Storage::Many(many) => Storage::Many(many),
         }
     }
 }
 
-impl<T: Copy + Drop> Kept<T> {
+impl<T: Copy + Drop> Storage<T> {
     /// Appends a copy of each item.
     pub fn extend_from_slice(&mut self, alloc: Global, more: &[T]) -> Result<(), NoMemory>
         requires near { IsNear self.old }
@@ -93,19 +93,19 @@ impl<T: Copy + Drop> Kept<T> {
         ensures err { OnErr result (items_in self.new ≡ items_in self.old) }
         ensures in_place { length (items_in self.old) + length more.now ≤ 4 → IsOk result }
     {
-        if let Kept::Many(items) = self {
+        if let Storage::Many(items) = self {
             items.extend_from_slice(more)?;
             return Ok(());
         }
         if self.as_slice().len() + more.len() <= 4 {
-            let few = mem::replace(self, Kept::Nothing);
+            let few = mem::replace(self, Storage::Nothing);
             *self = few.with_each(alloc, more);
             return Ok(());
         }
         let mut all = Vec::with_capacity(alloc, self.as_slice().len() + more.len())?;
         all.extend_from_slice(self.as_slice())?;
         all.extend_from_slice(more)?;
-        *self = Kept::Many(all);
+        *self = Storage::Many(all);
         Ok(())
     }
 

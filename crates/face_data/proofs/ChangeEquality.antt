@@ -1,35 +1,26 @@
 -- Changes in order are known by what they say of each needle.
 use Rattle.std.proofs.Common.{◌≡◌, Bool, true, false, cond, List, [], ◌∷◌, Option, Some, None, refl, sym, ap, ◌∙◌, subst}
 use Rattle.std.specs.List.Sorted.{IsStrictlySortedBy}
-use Rattle.std.specs.Ordering.{ordering_reverse}
 use Rattle.std.specs.declared.cmp.Ordering.{Ordering}
 use Rattle.std.specs.declared.cmp.Ordering.TheVariants.{Less, Equal, Greater}
-use Rattle.std.proofs.lemmas.Bool.{true≢false}
 use Rattle.knit_base.specs.declared.needle.Needle.{Needle}
 use Rattle.knit_base.specs.Needle.{same_needle, same_needle-true, needle_cmp, needle_cmp_total}
 use Rattle.face_data.specs.declared.face.Seg.{Seg}
 use Rattle.face_data.specs.Composition.{merged}
 use Rattle.face_data.specs.Goodness.{IsInOrder}
 use Rattle.face_data.specs.Segments.{Changed, change_at}
-use Rattle.face_data.proofs.Members.{needle_cmp_equal, same_needle_same}
-use Rattle.face_data.proofs.Merged.{AllAbove, or_change, absent_below, change_at-merged, order_merged}
+use Rattle.face_data.proofs.ChangeLists.{AllAbove, or_change, absent_below, change_at-merged, order_merged, above_more, reverse_greater}
+use Rattle.knit_base.proofs.Needles.{needle_cmp-equal, same_needle-same, same_needle-comm}
 
 -- the first change of a list
 first_found : (x : Changed) (xs : List Changed) → change_at (x ∷ xs) x.0 ≡ Some x.1
-first_found x xs = ap (λ here. cond here (Some x.1) (change_at xs x.0)) (same_needle_same x.0 x.0 refl)
+first_found x xs = ap (λ here. cond here (Some x.1) (change_at xs x.0)) (same_needle-same x.0 x.0 refl)
 
 some_or_none : (segs : List Seg) (o : Option (List Seg)) → o ≡ Some segs → o ≡ None → ⊥
 some_or_none segs o some none = let both : Some segs ≡ None = sym some ∙ none in cc
 
 same_some : (xs ys : List Seg) → Some xs ≡ Some ys → xs ≡ ys
 same_some xs ys e = cc
-
-turned : (o p : Ordering) → o ≡ Greater → p ≡ ordering_reverse o → p ≡ Less
-turned o p is reversed = reversed ∙ ap ordering_reverse is
-
-above_all : (n m : Needle) (cs : List Changed) → needle_cmp n m ≡ Less → AllAbove m cs → AllAbove n cs
-above_all n m [] less above = tt
-above_all n m (c ∷ cs) less above = (needle_cmp_total.trans n m c.0 less above.0, above_all n m cs less above.1)
 
 -- what the rests say, where the first changes are of one needle
 rest_says : (n x y : Needle) (first second : List Seg) (xs ys : List Changed) (here : Bool) → same_needle n x ≡ here → x ≡ y → AllAbove x xs → AllAbove y ys →
@@ -51,26 +42,16 @@ same_changes (x ∷ xs) [] order_x order_y says = absurd (some_or_none x.1 (chan
 same_changes (x ∷ xs) (y ∷ ys) order_x order_y says = go (needle_cmp x.0 y.0) refl (λ rest. same_changes xs ys order_x.1 order_y.1 rest)
   where
     go : (o : Ordering) → needle_cmp x.0 y.0 ≡ o → (((n : Needle) → change_at xs n ≡ change_at ys n) → xs ≡ ys) → x ∷ xs ≡ y ∷ ys
-    go Less less ih = absurd (some_or_none x.1 (change_at (y ∷ ys) x.0) (sym (says x.0) ∙ first_found x xs) (absent_below x.0 (y ∷ ys) (less, above_all x.0 y.0 ys less order_y.0)))
+    go Less less ih = absurd (some_or_none x.1 (change_at (y ∷ ys) x.0) (sym (says x.0) ∙ first_found x xs) (absent_below x.0 (y ∷ ys) (less, above_more x.0 y.0 ys less order_y.0)))
     go Greater greater ih =
-        let less = turned (needle_cmp x.0 y.0) (needle_cmp y.0 x.0) greater (needle_cmp_total.antisymm y.0 x.0) in
-        absurd (some_or_none y.1 (change_at (x ∷ xs) y.0) (says y.0 ∙ first_found y ys) (absent_below y.0 (x ∷ xs) (less, above_all y.0 x.0 xs less order_x.0)))
+        let less = reverse_greater (needle_cmp x.0 y.0) (needle_cmp y.0 x.0) greater (needle_cmp_total.antisymm y.0 x.0) in
+        absurd (some_or_none y.1 (change_at (x ∷ xs) y.0) (says y.0 ∙ first_found y ys) (absent_below y.0 (x ∷ xs) (less, above_more y.0 x.0 xs less order_x.0)))
     go Equal equal ih =
-        let one : x.0 ≡ y.0 = needle_cmp_equal x.0 y.0 equal in
+        let one : x.0 ≡ y.0 = needle_cmp-equal x.0 y.0 equal in
         let segs : x.1 ≡ y.1 = same_some x.1 y.1 (sym (first_found x xs) ∙ says x.0 ∙ ap (change_at (y ∷ ys)) one ∙ first_found y ys) in
         let rest : xs ≡ ys = ih
         (λ n. rest_says n x.0 y.0 x.1 y.1 xs ys (same_needle n x.0) refl one order_x.0 order_y.0 (says n)) in
         λ i. (one i, segs i) ∷ rest i
-
--- the test of needles either way
-pub same_swapped : (a b : Needle) → same_needle a b ≡ same_needle b a
-same_swapped a b = go (same_needle a b) refl (same_needle b a) refl
-  where
-    go : (x : Bool) → same_needle a b ≡ x → (y : Bool) → same_needle b a ≡ y → x ≡ y
-    go true is true also = refl
-    go true is false also = absurd (true≢false (sym (same_needle_same b a (sym (same_needle-true a b is))) ∙ also))
-    go false is true also = absurd (true≢false (sym (same_needle_same a b (sym (same_needle-true b a also))) ∙ is))
-    go false is false also = refl
 
 set_says : (here : Bool) (segs : List Seg) (old : Option (List Seg)) → cond here (Some segs) old ≡ or_change (cond here (Some segs) None) old
 set_says true segs old = refl
@@ -83,6 +64,6 @@ unfolding IsStrictlySortedBy
 set-merged old new n segs order_old order_new says =
     same_changes new (merged old ((n, segs) ∷ [])) order_new (order_merged old ((n, segs) ∷ []) order_old (tt, tt))
     (λ m. says m
-    ∙ ap (λ here. cond here (Some segs) (change_at old m)) (same_swapped n m)
+    ∙ ap (λ here. cond here (Some segs) (change_at old m)) (same_needle-comm n m)
     ∙ set_says (same_needle m n) segs (change_at old m)
     ∙ sym (change_at-merged old ((n, segs) ∷ []) m (tt, tt)))

@@ -10,13 +10,13 @@ use Rattle.std.proofs.lemmas.Nat.Bits.{same_from_bits, bit_at-lt}
 use Rattle.carriage_model.specs.State.{State}
 use Rattle.knit_base.specs.Yarns.{contains_carrier, without_set}
 use Rattle.face_data.specs.Summaries.{Asked, Summary, Outcome, after, rack_after, raised, first_fault, outcome_of, applied}
-use Rattle.face_data.specs.Segments.{Changed, contents_of, read_segs}
+use Rattle.face_data.specs.Segments.{Changed, segments_on, read_segs}
 use Rattle.face_data.specs.Summaries.Outcome.{went_on, faulted}
 use Rattle.face_data.specs.Through.{changes_through}
 use Rattle.face_data.proofs.Through.{read-through}
 use Rattle.face_data.proofs.Carriers.{has-bit_or, has-without}
-use Rattle.face_data.proofs.Gathered.{reads_fault, or_else, AllPlain}
-use Rattle.face_data.proofs.Merged.{contents_of-both}
+use Rattle.face_data.proofs.Gathering.{reads_fault, or_else, AllNameOnce}
+use Rattle.face_data.proofs.ChangeLists.{segments_on-both}
 use Rattle.knit_base.specs.declared.needle.Needle.{Needle}
 use Rattle.knit_base.specs.declared.instr.Quarter.{Quarter}
 use Rattle.knit_base.specs.declared.rule.Fault.{Fault}
@@ -92,8 +92,8 @@ ins_of_both x in1 out1 in2 out2 = same_members _ _ (λ c.
 pub after-both : (e f : Effect) (a b : List Changed) (lines : ℕ) (s : State) (first : ℕ) → IsInOrder b →
     after (effect_of_both e f) (merged a (changes_through a lines b)) s first ≡ after f b (after e a s first) (first + lines)
 after-both e f a b lines s first order =
-    let stacks : (n : Needle) → read_segs s first (contents_of (merged a (changes_through a lines b)) n) ≡ read_segs (after e a s first) (first + lines) (contents_of b n)
-    = λ n. ap (read_segs s first) (contents_of-both a b lines n order) ∙ read-through s first lines a (contents_of b n) in
+    let stacks : (n : Needle) → read_segs s first (segments_on (merged a (changes_through a lines b)) n) ≡ read_segs (after e a s first) (first + lines) (segments_on b n)
+    = λ n. ap (read_segs s first) (segments_on-both a b lines n order) ∙ read-through s first lines a (segments_on b n) in
     λ i. record {
       rack = rack_of_both f.rack e.rack s.rack i;
       ins = ins_of_both s.ins e.came e.went f.came f.went i;
@@ -139,16 +139,16 @@ closing_both None None e a b s first order is =
     ∙ sym (ap (λ o. outcome_of o b.ending b.changes (after e a.changes s first) (first + a.lines)) is)
 
 -- what the second block's conditions are read_seg through
-abbrev pub AllPlainThrough : Ending → Summary → Summary → Type 0
-AllPlainThrough (Broken f) a b = Unit {0}
-AllPlainThrough (Through e) a b = AllPlain e a.changes b.checks
+abbrev pub AllNameOnceThrough : Ending → Summary → Summary → Type 0
+AllNameOnceThrough (Broken f) a b = Unit {0}
+AllNameOnceThrough (Through e) a b = AllNameOnce e a.changes b.checks
 
 stays_broken : (o : Option Fault) (f : Fault) (cs : List Changed) (s : State) (first : ℕ) (go : State → Outcome) →
     outcome_of o (Broken f) [] s first ≡ and_then (outcome_of o (Broken f) cs s first) go
 stays_broken (Some g) f cs s first go = refl
 stays_broken None f cs s first go = refl
 
-composed_applied_at : (ending : Ending) (a b : Summary) (s : State) (first : ℕ) → IsInOrder b.changes → AllPlainThrough ending a b →
+composed_applied_at : (ending : Ending) (a b : Summary) (s : State) (first : ℕ) → IsInOrder b.changes → AllNameOnceThrough ending a b →
     applied (composed_at ending a b) s first
     ≡ and_then (outcome_of (first_fault a.checks s) ending a.changes s first) (λ t. applied b t (first + a.lines))
 composed_applied_at (Broken f) a b s first order plain = stays_broken (first_fault a.checks s) f a.changes s first (λ t. applied b t (first + a.lines))
@@ -160,6 +160,6 @@ composed_applied_at (Through e) a b s first order plain =
     ∙ closing_both (first_fault a.checks s) (first_fault b.checks (after e a.changes s first)) e a b s first order refl
 
 -- Composition is running one after the other, with the first fault kept.
-pub composed_applied : (a b : Summary) (s : State) (first : ℕ) → IsInOrder b.changes → AllPlainThrough a.ending a b →
+pub composed_applied : (a b : Summary) (s : State) (first : ℕ) → IsInOrder b.changes → AllNameOnceThrough a.ending a b →
     applied (composed a b) s first ≡ and_then (applied a s first) (λ t. applied b t (first + a.lines))
 composed_applied a b s first order plain = composed_applied_at a.ending a b s first order plain

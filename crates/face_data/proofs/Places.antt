@@ -15,8 +15,8 @@ use Rattle.face_data.specs.Goodness.{IsInOrder}
 use Rattle.face_data.specs.Places.{AllBefore, AllBehind, StandsAt, GoesAt}
 use Rattle.face_data.specs.Segments.{Changed, change_at}
 use Rattle.std.proofs.lemmas.Bool.{false≢true}
-use Rattle.face_data.proofs.Members.{needle_cmp_self, same_needle_same}
-use Rattle.face_data.proofs.Merged.{AllAbove, change_at-merged, or_change, order_merged}
+use Rattle.face_data.proofs.ChangeLists.{AllAbove, change_at-merged, or_change, order_merged}
+use Rattle.knit_base.proofs.Needles.{needle_cmp-refl, same_needle-same}
 
 abbrev keys : List Changed → List Needle
 keys changes = map (λ (c : Changed). c.0) changes
@@ -102,7 +102,7 @@ merged_none (c ∷ cs) = ap (λ xs. c ∷ xs) (merged_none cs)
 
 merged_here : (n : Needle) (segs old : List Seg) (rest : List Changed) → merged ((n, old) ∷ rest) ((n, segs) ∷ []) ≡ (n, segs) ∷ rest
 merged_here n segs old rest =
-    ap (λ o. by_order o ((n, old) ∷ merged rest ((n, segs) ∷ [])) ((n, segs) ∷ merged rest []) ((n, segs) ∷ merged_from (n, old) (merged rest) [])) (needle_cmp_self n)
+    ap (λ o. by_order o ((n, old) ∷ merged rest ((n, segs) ∷ [])) ((n, segs) ∷ merged rest []) ((n, segs) ∷ merged_from (n, old) (merged rest) [])) (needle_cmp-refl n)
     ∙ ap (λ xs. (n, segs) ∷ xs) (merged_none rest)
 
 merged_before : (n : Needle) (segs : List Seg) (rest : List Changed) → AllBehind n rest → merged rest ((n, segs) ∷ []) ≡ (n, segs) ∷ rest
@@ -121,7 +121,7 @@ behind_none n [] all = refl
 behind_none n (c ∷ cs) all = ap (λ o. if is_eq o then Some c.1 else change_at cs n) (flip_greater c.0 n all.0) ∙ behind_none n cs all.1
 
 here_at : (n : Needle) (segs : List Seg) (rest : List Changed) → change_at ((n, segs) ∷ rest) n ≡ Some segs
-here_at n segs rest = ap (λ o. if is_eq o then Some segs else change_at rest n) (needle_cmp_self n)
+here_at n segs rest = ap (λ o. if is_eq o then Some segs else change_at rest n) (needle_cmp-refl n)
 
 -- the split at a place where the needle stands
 stand_split : (changes : List Changed) (n : Needle) (i : ℕ) (d : Changed) → StandsAt changes n i → take i changes ++ (n, (get_or changes i d).1) ∷ drop (i + 1) changes ≡ changes
@@ -197,8 +197,8 @@ inserted_at held slice now new n i segs lent seen at is =
     is ∙ insert_place held n i segs (subst (λ xs. GoesAt xs n i) lent at) ∙ ap (λ xs. merged xs ((n, segs) ∷ [])) (sym seen)
 
 same_by : (n m : Needle) (b c : Bool) → same_needle n m ≡ b → same_needle m n ≡ c → same_needle m n ≡ same_needle n m
-same_by n m true c p q = same_needle_same m n (sym (same_needle-true n m p)) ∙ sym p
-same_by n m false true p q = absurd (false≢true (sym p ∙ same_needle_same n m (sym (same_needle-true m n q))))
+same_by n m true c p q = same_needle-same m n (sym (same_needle-true n m p)) ∙ sym p
+same_by n m false true p q = absurd (false≢true (sym p ∙ same_needle-same n m (sym (same_needle-true m n q))))
 same_by n m false false p q = q ∙ sym p
 
 put_if : (b : Bool) (segs : List Seg) (old : Option (List Seg)) → or_change (if b then Some segs else None) old ≡ (if b then Some segs else old)

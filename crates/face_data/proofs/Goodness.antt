@@ -12,18 +12,18 @@ use Rattle.knit_base.specs.Yarns.{contains_carrier, without_set}
 use Rattle.knit_base.specs.Needle.{needle_cmp}
 use Rattle.face_data.specs.Conditions.{Ask}
 use Rattle.face_data.specs.Summaries.{Asked, Summary, raised, applied}
-use Rattle.face_data.specs.Segments.{Changed, contents_of, names_through, new_through, entries_of, new_of}
+use Rattle.face_data.specs.Segments.{Changed, segments_on, names_through, new_through, entries_of, new_of}
 use Rattle.face_data.specs.Conditions.Ask.{rack_is, carrier_in, carrier_out, hook_free, hook_is, hook_lacks, size_at_most}
 use Rattle.face_data.specs.Through.{through, changes_through, change_through}
 use Rattle.face_data.specs.Answers.{Answer, read_answer, size_answer, size_left, where_known, answer_of}
 use Rattle.face_data.specs.Answers.Answer.{yes_it_does, no_it_does_not, asks}
 use Rattle.face_data.proofs.Members.{Contains-none, Contains-head, Contains-tail, Contains-cons_cases}
-use Rattle.face_data.proofs.Told.{IsPlain}
-use Rattle.face_data.proofs.Gathered.{IsPlainAnswer, AllPlain}
-use Rattle.face_data.proofs.Merged.{order_merged, order_through, contents_of-both}
+use Rattle.face_data.proofs.Bearings.{NamesOnce}
+use Rattle.face_data.proofs.Gathering.{AnswerNamesOnce, AllNameOnce}
+use Rattle.face_data.proofs.ChangeLists.{order_merged, order_through, segments_on-both}
 use Rattle.face_data.proofs.Owners.{OwnsOnce-both, from_through, distinct_through, nested_through, nested_or_apart_through, first_lies, second_lies, LiesIn-both, changed_or_own, only_itself, new_of-through, entries_of-through}
-use Rattle.face_data.proofs.Owed.{sum_by-size_after, reads_members, reads_longer, reads_irredundant, reads_meets}
-use Rattle.face_data.proofs.Composed.{has_after, AllPlainThrough, composed_applied}
+use Rattle.face_data.proofs.KeptChecks.{sum_by-size_after, reads_members, reads_longer, reads_irredundant, reads_meets}
+use Rattle.face_data.proofs.Composition.{has_after, AllNameOnceThrough, composed_applied}
 use Rattle.knit_base.specs.declared.needle.Needle.{Needle}
 use Rattle.face_data.specs.declared.face.Effect.{Effect}
 use Rattle.knit_base.specs.declared.rule.Fault.{Fault}
@@ -32,7 +32,7 @@ use Rattle.face_data.specs.declared.face.Ending.TheVariants.{Through, Broken}
 use Rattle.face_data.specs.declared.face.Seg.{Seg}
 use Rattle.face_data.specs.declared.face.Seg.TheVariants.{Entry, New}
 use Rattle.face_data.specs.Sets.{IsWithin, IsApart, NestedOrApart}
-use Rattle.face_data.specs.Composition.{or_old, Gathered, reads, against_kept, next, merged, merged_from, by_order, composed, composed_at, closed_at, effect_of_both, ending_after, made_with, changes_with, and_then}
+use Rattle.face_data.specs.Composition.{or_old, Gathering, reads, against_kept, next, merged, merged_from, by_order, composed, composed_at, closed_at, effect_of_both, ending_after, made_with, changes_with, and_then}
 use Rattle.face_data.specs.Goodness.{held, OwnsOnce, LiesIn, IsIrredundant, size_after, AskFits, names_in, NeverFalls, ChangeFits, BrokenFits, ThroughFits, EndingFits, IsGood, IsFair}
 
 where_known_asks : {X : Type 0} (o : Option X) (test : X → Bool) (q w : Ask) → where_known o test q ≡ asks w → w ≡ q
@@ -114,7 +114,7 @@ asks_fit_read carriers limit first second e a lines (size_at_most names most) w 
       at_most = at_most;
     })
 
-plain_from_fit : (carriers limit : ℕ) (known : List Needle) (w : Ask) → AskFits carriers limit known w → IsPlain w
+plain_from_fit : (carriers limit : ℕ) (known : List Needle) (w : Ask) → AskFits carriers limit known w → NamesOnce w
 plain_from_fit carriers limit known (size_at_most names most) h = h.distinct
 plain_from_fit carriers limit known (rack_is x) h = tt
 plain_from_fit carriers limit known (carrier_in x) h = tt
@@ -123,14 +123,14 @@ plain_from_fit carriers limit known hook_free h = tt
 plain_from_fit carriers limit known (hook_is x) h = tt
 plain_from_fit carriers limit known (hook_lacks x) h = tt
 
-plain_answer : (r : Answer) → ((w : Ask) → r ≡ asks w → IsPlain w) → IsPlainAnswer r
+plain_answer : (r : Answer) → ((w : Ask) → r ≡ asks w → NamesOnce w) → AnswerNamesOnce r
 plain_answer yes_it_does h = tt
 plain_answer no_it_does_not h = tt
 plain_answer (asks q) h = h q refl
 
 -- each condition of the second block is read with distinct needles
 pub all_plain : (carriers limit : ℕ) (first second : List Needle) (e : Effect) (a : List Changed) (lines : ℕ) (rest : List Asked) → OwnsOnce a →
-    ((c : Changed) → Contains a c → ChangeFits lines first c) → ((c : Asked) → Contains rest c → AskFits carriers limit second c.ask) → AllPlain e a rest
+    ((c : Changed) → Contains a c → ChangeFits lines first c) → ((c : Asked) → Contains rest c → AskFits carriers limit second c.ask) → AllNameOnce e a rest
 all_plain carriers limit first second e a lines [] o fit h = tt
 all_plain carriers limit first second e a lines (c ∷ cs) o fit h = (
   plain_answer (read_answer e a c.ask) (λ w is. plain_from_fit carriers limit (first ++ second) w
@@ -152,7 +152,7 @@ falls_push (c ∷ cs) d h k = (
 )
 
 -- the kept conditions' lines don't fall, and none is past the line at which the run is known to stop
-pub record InTurn (k : Gathered) : Type 0 where
+pub record InTurn (k : Gathering) : Type 0 where
   pub in_turn : NeverFalls k.checks
   pub stops_last : (stop_at : Fault) → k.stop ≡ Some stop_at → (c : Asked) → Contains k.checks c → c.fault.line ≤ stop_at.line
 
@@ -227,9 +227,9 @@ members_through P a lines (b ∷ bs) h c there = elim (Contains-cons_cases (chan
 ]
 
 segs_through : (a : List Changed) (lines : ℕ) (segs : List Seg) (x : Seg) → Contains (through a lines segs) x →
-    ((n : Needle) × Contains (contents_of a n) x) ⊎ ((o : ℕ) × Contains segs (New o) × (x ≡ New (lines + o)))
+    ((n : Needle) × Contains (segments_on a n) x) ⊎ ((o : ℕ) × Contains segs (New o) × (x ≡ New (lines + o)))
 segs_through a lines [] x h = absurd (Contains-none x h)
-segs_through a lines (Entry n ∷ segs) x h = elim (Contains-append_cases (contents_of a n) (through a lines segs) x h) [
+segs_through a lines (Entry n ∷ segs) x h = elim (Contains-append_cases (segments_on a n) (through a lines segs) x h) [
   | inl here ↦ inl (n, here)
   | inr later ↦ elim (segs_through a lines segs x later) [ inl v ↦ inl v | inr v ↦ inr (v.0, Contains-tail (Entry n) segs (New v.0) v.1, v.2) ]
 ]
@@ -238,9 +238,9 @@ segs_through a lines (New o ∷ segs) x h = elim (Contains-cons_cases (New (line
   | inr later ↦ elim (segs_through a lines segs x later) [ inl v ↦ inl v | inr v ↦ inr (v.0, Contains-tail (New o) segs (New v.0) v.1, v.2) ]
 ]
 
-contents_offsets : (a : List Changed) (lines : ℕ) (known : List Needle) → ((c : Changed) → Contains a c → ChangeFits lines known c) →
-    (n : Needle) (o : ℕ) → Contains (contents_of a n) (New o) → o < lines
-contents_offsets a lines known fit n o h = elim (changed_or_own a n) [
+segments_offsets : (a : List Changed) (lines : ℕ) (known : List Needle) → ((c : Changed) → Contains a c → ChangeFits lines known c) →
+    (n : Needle) (o : ℕ) → Contains (segments_on a n) (New o) → o < lines
+segments_offsets a lines known fit n o h = elim (changed_or_own a n) [
   | inl c ↦ (fit c.0 c.1).offsets o (subst (λ segs. Contains segs (New o)) c.3 h)
   | inr own ↦ elim (Contains-cons_cases (Entry n) [] (New o) (subst (λ segs. Contains segs (New o)) own h)) [ inl same ↦ absurd (cc) | inr none ↦ absurd (Contains-none (New o) none) ]
 ]
@@ -251,7 +251,7 @@ change_fits_through a first second lines more c fit h = record {
   needle = Contains-append_right first second c.0 h.needle;
   entries = λ n there. within_known a lines first second (entries_of c.1) fit h.entries n (subst (λ ns. Contains ns n) (entries_of-through a lines c.1) there);
   offsets = λ o there. elim (segs_through a lines c.1 (New o) there) [
-    | inl v ↦ (let before = contents_offsets a lines first fit v.0 o v.1 in omega arith)
+    | inl v ↦ (let before = segments_offsets a lines first fit v.0 o v.1 in omega arith)
     | inr v ↦ (let same : o ≡ lines + v.0 = cc in let ahead = h.offsets v.0 v.1 in omega arith)
   ];
 }
@@ -287,10 +287,11 @@ owns_nothing = record {
 pub sizes_nothing : (limit : ℕ) (size : Needle → ℕ) → ((n : Needle) → size n ≤ limit) → (m : Needle) → size_after [] size m ≤ limit
 sizes_nothing limit size h m = omega (arith, h m)
 
-nested_swap : (xs ys : List Needle) → NestedOrApart xs ys → NestedOrApart ys xs
-nested_swap xs ys (inl w) = inr (inl w)
-nested_swap xs ys (inr (inl w)) = inl w
-nested_swap xs ys (inr (inr p)) = inr (inr (λ n h k. p n k h))
+-- either way
+pub NestedOrApart-comm : (xs ys : List Needle) → NestedOrApart xs ys → NestedOrApart ys xs
+NestedOrApart-comm xs ys (inl w) = inr (inl w)
+NestedOrApart-comm xs ys (inr (inl w)) = inl w
+NestedOrApart-comm xs ys (inr (inr p)) = inr (inr (λ n h k. p n k h))
 
 -- the conditions of both blocks
 pub record ChecksFit (carriers limit lines : ℕ) (known : List Needle) (checks : List Asked) : Type 0 where
@@ -327,7 +328,7 @@ checks_fit_both carriers limit first second a b e ga gb lies =
               (nested_or_apart_through a.changes (names_in c.ask) (names_in db.0.ask) ga.owns (lies c ca))
         ]
         | inr cb ↦ elim (all d there) [
-          | inl da ↦ nested_swap (names_in d.ask) (names_in c.ask) (subst (NestedOrApart (names_in d.ask)) (sym (names_read e a.changes cb.0.ask c.ask cb.2))
+          | inl da ↦ NestedOrApart-comm (names_in d.ask) (names_in c.ask) (subst (NestedOrApart (names_in d.ask)) (sym (names_read e a.changes cb.0.ask c.ask cb.2))
               (nested_or_apart_through a.changes (names_in d.ask) (names_in cb.0.ask) ga.owns (lies d da)))
           | inr db ↦ subst (λ xs. NestedOrApart xs (names_in d.ask)) (sym (names_read e a.changes cb.0.ask c.ask cb.2))
               (subst (NestedOrApart (names_through a.changes (names_in cb.0.ask))) (sym (names_read e a.changes db.0.ask d.ask db.2))
@@ -410,12 +411,12 @@ open_good carriers limit first second a b e f ga gb ta tb goes_on =
           let middle = ga.sizes size small (λ c there. meets c (reads_longer e a.changes a.lines a.checks b.checks c there)) in
           let second_meets = reads_meets e a.changes a.lines a.checks b.checks size plain goes_on meets in
           let bound = gb.sizes (size_after a.changes size) middle second_meets m in
-          subst (λ segs. sum_by size (entries_of segs) + new_of segs ≤ limit) (sym (contents_of-both a.changes b.changes a.lines m gb.in_order))
+          subst (λ segs. sum_by size (entries_of segs) + new_of segs ≤ limit) (sym (segments_on-both a.changes b.changes a.lines m gb.in_order))
           (omega (
             arith,
             bound,
-            ap (sum_by size) (entries_of-through a.changes a.lines (contents_of b.changes m)),
-            new_of-through a.changes a.lines (contents_of b.changes m),
+            ap (sum_by size) (entries_of-through a.changes a.lines (segments_on b.changes m)),
+            new_of-through a.changes a.lines (segments_on b.changes m),
             sum_by-size_after a.changes size (held b.changes m),
           ));
       ending = record {
@@ -509,7 +510,7 @@ pub composed_good_fair : (carriers limit : ℕ) (first second : List Needle) (a 
     IsGood carriers limit (first ++ second) (composed a b)
 composed_good_fair carriers limit first second a b ga gb = composed_good_at carriers limit first second a b a.ending ga gb ga.ending
 
-plain_at : (carriers limit : ℕ) (first second : List Needle) (a b : Summary) (ending : Ending) → IsGood carriers limit first a → IsFair carriers limit second b → AllPlainThrough ending a b
+plain_at : (carriers limit : ℕ) (first second : List Needle) (a b : Summary) (ending : Ending) → IsGood carriers limit first a → IsFair carriers limit second b → AllNameOnceThrough ending a b
 plain_at carriers limit first second a b (Broken f) ga gb = tt
 plain_at carriers limit first second a b (Through e) ga gb = all_plain carriers limit first second e a.changes a.lines b.checks ga.owns ga.changes_fit gb.asks_fit
 

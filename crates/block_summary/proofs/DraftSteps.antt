@@ -8,7 +8,7 @@ use Rattle.std.proofs.lemmas.Nat.Bits.{bit_at_or, bit_at_and, bit_at-lt, bit_at-
 use Rattle.knit_base.specs.declared.yarns.CarrierNo.{CarrierNo}
 use Rattle.knit_base.specs.Yarns.{mask_of, contains_carrier, without_set}
 use Rattle.face_data.specs.declared.digest.Digest.{Digest}
-use Rattle.face_data.specs.Digests.{blank, digest_of, effect_told, noted, told, IsPlainCondition}
+use Rattle.face_data.specs.Digests.{blank, digest_of, effect_bearing, noted, digest_bearing, IsPlainCondition}
 use Rattle.face_data.specs.Goodness.{IsIrredundant}
 use Rattle.face_data.specs.Answers.Answer.{no_it_does_not, asks}
 use Rattle.face_data.specs.Composition.{from_bearing, settled}
@@ -17,7 +17,7 @@ use Rattle.face_data.specs.Bearings.{if_so}
 use Rattle.face_data.specs.declared.bearing.Bearing.TheVariants.{Implied, Refuted, Silent}
 use Rattle.face_data.proofs.Carriers.{has-bit_or, has-without}
 use Rattle.face_data.proofs.Digests.{digest_of-push, read-plain, settled-plain}
-use Rattle.face_data.proofs.Owed.{against_asks, irredundant_push}
+use Rattle.face_data.proofs.KeptChecks.{against_asks, irredundant_push}
 use Rattle.face_data.specs.Bearings.{bearing}
 use Rattle.face_data.specs.Conditions.{Ask, ask_of}
 use Rattle.face_data.specs.declared.bearing.Bearing.{Bearing}
@@ -36,14 +36,14 @@ use Rattle.face_data.specs.Answers.{Answer, read_answer, size_answer}
 use Rattle.face_data.specs.Answers.Answer.{yes_it_does}
 use Rattle.face_data.specs.Composition.{merged, against_kept, composed}
 use Rattle.face_data.specs.Conditions.Ask.{size_at_most}
-use Rattle.face_data.specs.Segments.{Changed, change_at, contents_of, entries_of, new_of}
+use Rattle.face_data.specs.Segments.{Changed, change_at, segments_on, entries_of, new_of}
 use Rattle.face_data.specs.Summaries.{Asked, Summary}
-use Rattle.face_data.proofs.Placed.{change_at-put}
+use Rattle.face_data.proofs.Places.{change_at-put}
 use Rattle.knit_base.specs.declared.instr.Instr.TheVariants.{Knit}
 use Rattle.knit_base.specs.declared.instr.Read.TheVariants as read
 use Rattle.knit_base.specs.declared.needle.Dir.{Dir}
 use Rattle.face_data.specs.declared.face.Ending.TheVariants.{Through}
-use Rattle.block_summary.specs.Drafting.{effect_in, Holds, HoldsAfter, IsBare, Knows}
+use Rattle.block_summary.specs.DraftKnowledge.{effect_in, Holds, HoldsAfter, IsBare, Knows}
 use Rattle.block_summary.specs.LineSummaries.{asked_by, line_summary, plainly_asked, slider_asked}
 use Rattle.face_data.proofs.Front.{AllHold}
 use Rattle.block_summary.proofs.LineFront.{front_knit}
@@ -68,12 +68,12 @@ hook_apart n m hook false e = refl
 
 -- what is written to a hook leaves each slider
 slider_left : (changes : List Changed) (n m : Needle) (segs : List Seg) → is_slider n.bed ≡ false →
-    contents_of (merged changes ((n, segs) ∷ [])) (own_slider m) ≡ contents_of changes (own_slider m)
+    segments_on (merged changes ((n, segs) ∷ [])) (own_slider m) ≡ segments_on changes (own_slider m)
 slider_left changes n m segs hook =
     ap (λ o. unwrap_or o (Entry (own_slider m) ∷ []))
     (change_at-put changes n (own_slider m) segs ∙ ap (λ b. if b then Some segs else change_at changes (own_slider m)) (hook_apart n m hook (same_needle n (own_slider m)) refl))
 
-answer_left : (e : Effect) (a b : List Changed) (s : Needle) → contents_of b s ≡ contents_of a s → read_answer e b (size_at_most (s ∷ []) 0) ≡ read_answer e a (size_at_most (s ∷ []) 0)
+answer_left : (e : Effect) (a b : List Changed) (s : Needle) → segments_on b s ≡ segments_on a s → read_answer e b (size_at_most (s ∷ []) 0) ≡ read_answer e a (size_at_most (s ∷ []) 0)
 unfolding read_answer
 answer_left e a b s same = ap (λ (segs : List Seg). size_answer (flat_map (λ (n : Needle). entries_of segs) (s ∷ [])) (sum_by (λ (n : Needle). new_of segs) (s ∷ [])) 0) same
 
@@ -117,8 +117,8 @@ kept_answer kept e a c came went =
     ap (λ b. against_kept kept (if b then yes_it_does else (if contains_carrier e.went c then no_it_does_not else asks (carrier_in c)))) came
     ∙ ap (λ b. against_kept kept (if b then no_it_does_not else asks (carrier_in c))) went
 
-told_in : (digest : Digest) (c : CarrierNo) → contains_carrier digest.ins c ≡ true → told digest (carrier_in c) ≡ Implied
-unfolding told
+told_in : (digest : Digest) (c : CarrierNo) → contains_carrier digest.ins c ≡ true → digest_bearing digest (carrier_in c) ≡ Implied
+unfolding digest_bearing
 told_in digest c ins = ap (λ b. if b then Implied else if_so (contains_carrier digest.outs c) Refuted) ins
 
 -- carriers of a set of known ones are known to be in action
@@ -130,7 +130,7 @@ carriers_held kept e a digest cs is each all c there =
     ∙ ap (λ b. nat_eq b 1) (in_known cs (bit_or e.came (without_set digest.ins e.went)) c all there))) [
       | inl came ↦ came_answer kept e a c came
       | inr ask ↦ kept_answer kept e a c ask.0 ask.1 ∙ settled-plain kept (carrier_in c) tt each
-          ∙ ap (λ r. from_bearing r (asks (carrier_in c))) (ap (λ (d : Digest). told d (carrier_in c)) (sym is) ∙ told_in digest c ask.2)
+          ∙ ap (λ r. from_bearing r (asks (carrier_in c))) (ap (λ (d : Digest). digest_bearing d (carrier_in c)) (sym is) ∙ told_in digest c ask.2)
     ]
 
 -- what holds in any case holds where the answer is Ok
@@ -182,19 +182,19 @@ knit_more hold dir n c cs old lines made kept a b e segs seen one is carriers sl
     ∙ ap (λ (s : Summary). composed s (line_summary hold (read.Instr (Knit dir n (c ∷ cs))))) seen
 
 -- the effect tells
-pub told_first : (kept : List Asked) (e : Effect) (a : List Changed) (q : Ask) (r : Bearing) → IsPlainCondition q → r ≡ effect_told e q → (r ≡ Silent → ⊥) →
+pub told_first : (kept : List Asked) (e : Effect) (a : List Changed) (q : Ask) (r : Bearing) → IsPlainCondition q → r ≡ effect_bearing e q → (r ≡ Silent → ⊥) →
     against_kept kept (read_answer e a q) ≡ from_bearing r (asks q)
 told_first kept e a q Implied plain said loud = ap (against_kept kept) (read-plain e a q plain ∙ ap (λ b. from_bearing b (asks q)) (sym said))
 told_first kept e a q Refuted plain said loud = ap (against_kept kept) (read-plain e a q plain ∙ ap (λ b. from_bearing b (asks q)) (sym said))
 told_first kept e a q Silent plain said loud = absurd (loud refl)
 
 -- or else the digest
-pub told_second : (kept : List Asked) (e : Effect) (a : List Changed) (digest : Digest) (q : Ask) (r : Bearing) → IsPlainCondition q → Silent ≡ effect_told e q → digest ≡ digest_of kept →
-    IsIrredundant kept → r ≡ told digest q → against_kept kept (read_answer e a q) ≡ from_bearing r (asks q)
+pub told_second : (kept : List Asked) (e : Effect) (a : List Changed) (digest : Digest) (q : Ask) (r : Bearing) → IsPlainCondition q → Silent ≡ effect_bearing e q → digest ≡ digest_of kept →
+    IsIrredundant kept → r ≡ digest_bearing digest q → against_kept kept (read_answer e a q) ≡ from_bearing r (asks q)
 told_second kept e a digest q r plain silence is each said =
     ap (against_kept kept) (read-plain e a q plain ∙ ap (λ b. from_bearing b (asks q)) (sym silence))
     ∙ settled-plain kept q plain each
-    ∙ ap (λ b. from_bearing b (asks q)) (ap (λ (d : Digest). told d q) (sym is) ∙ sym said)
+    ∙ ap (λ b. from_bearing b (asks q)) (ap (λ (d : Digest). digest_bearing d q) (sym is) ∙ sym said)
 
 -- conditions that aren't on sizes name no needles
 pub plain_names : (names : List Needle) (cond : Cond) → IsPlainCondition (ask_of [] cond) → ask_of names cond ≡ ask_of [] cond
@@ -247,10 +247,10 @@ pub left_to_ask : (old : Summary) (kept : List Asked) (e : Effect) (a : List Cha
     record { lines = lines; made = made; checks = kept; changes = a; ending = Through e } ≡ old →
     against_kept old.checks (read_answer (effect_in old.ending) old.changes (ask_of [] cond)) ≡ from_bearing r (asks (ask_of [] cond)) → r ≡ Silent →
     against_kept kept (read_answer e a (ask_of names cond)) ≡ asks (ask_of names cond)
-left_to_ask old kept e a lines made names cond r plain seen told silence =
+left_to_ask old kept e a lines made names cond r plain seen said silence =
     subst (λ q. against_kept kept (read_answer e a q) ≡ asks q) (sym (plain_names names cond plain))
     (subst (λ (s : Summary). against_kept s.checks (read_answer (effect_in s.ending) s.changes (ask_of [] cond)) ≡ asks (ask_of [] cond)) (sym seen)
-    (told ∙ ap (λ b. from_bearing b (asks (ask_of [] cond))) silence))
+    (said ∙ ap (λ b. from_bearing b (asks (ask_of [] cond))) silence))
 
 -- nothing is known of no line
 pub nothing_known : (e : Effect) (checks : List Check) (names : List Needle) (changes : List Changed) (digest : Digest) (bare : List (Option Needle)) → checks ≡ [] → digest ≡ blank →

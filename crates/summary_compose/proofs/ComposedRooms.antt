@@ -16,21 +16,21 @@ use Rattle.face_data.specs.declared.face.Ending.{Ending}
 use Rattle.face_data.specs.declared.face.Ending.TheVariants.{Through, Broken}
 use Rattle.face_data.specs.Composition.{against_kept, changes_with, closed_at, composed, composed_at, made_with, merged, next, reads}
 use Rattle.face_data.specs.Goodness.{IsGood, IsInOrder, OwnsOnce, names_in}
-use Rattle.face_data.specs.Segments.{Changed, contents_of, entries_of, names_through}
+use Rattle.face_data.specs.Segments.{Changed, segments_on, entries_of, names_through}
 use Rattle.face_data.specs.Summaries.{Asked, Summary, raised}
 use Rattle.face_data.specs.Through.{change_through, changes_through}
-use Rattle.face_data.proofs.Good.{names_read}
-use Rattle.face_data.proofs.Items.{all_entries, contents_found, entries_distinct, in_entries, in_needles, length-segs, length_within, needle_in, needles_distinct, needles_of}
-use Rattle.face_data.proofs.Merged.{order_merged, order_through}
-use Rattle.face_data.proofs.Owed.{against_asks}
+use Rattle.face_data.proofs.Goodness.{names_read}
+use Rattle.face_data.proofs.Items.{all_entries, segments_found, entries_distinct, in_entries, in_needles, length-segs, length_within, needle_in, needles_distinct, needles_changed}
+use Rattle.face_data.proofs.ChangeLists.{order_merged, order_through}
+use Rattle.face_data.proofs.KeptChecks.{against_asks}
 use Rattle.face_data.proofs.Owners.{OwnsOnce-both, from_through, held-both, only_itself}
 use Rattle.std.proofs.lemmas.List.{length-map}
-use Rattle.summary_compose.specs.Changes.{changes_of, segs_in}
+use Rattle.summary_compose.specs.Changes.{changes_in, segs_in}
 use Rattle.summary_compose.specs.Composing.{IsNoGreater}
 use Rattle.summary_compose.specs.Rooms.{CanBeMade, capped, room_of, room_of_both}
 use Rattle.summary_compose.proofs.Checks.{named_size}
 use Rattle.summary_compose.proofs.Parts.{packed_size}
-use Rattle.summary_compose.specs.Known.{AreGood, checks_of, names_count, names_read_count}
+use Rattle.summary_compose.specs.Known.{AreGood, checks_in, names_count, names_read_count}
 use Rattle.summary_compose.proofs.Rooms.{all_entries_flat, distinct_names, from_both, in_all, names_read_bound, merged_length, merged_segs, named_or_none, own_none}
 
 -- how many conditions are kept, and how many needles they name
@@ -72,21 +72,21 @@ merged_entries a b lines order_a order_b oa ob =
           (entries_distinct m m order (OwnsOnce-both a b lines order_b oa ob) (needles_distinct m order) (λ c h. h))
           (λ n h.
           let c = in_entries m n h in
-          let in_held = subst (λ xs. Contains xs n) (held-both a b lines c.0.0 order_b) (subst (λ segs. Contains (entries_of segs) n) (sym (contents_found m c.0 order c.1)) c.2) in
+          let in_held = subst (λ xs. Contains xs n) (held-both a b lines c.0.0 order_b) (subst (λ segs. Contains (entries_of segs) n) (sym (segments_found m c.0 order c.1)) c.2) in
           let v = from_through a _ n in_held in
           whence n c.0.0 v.0 (needle_in m c.0 c.1) v.1 v.2),
     )
   where
-    found : (ch : List Changed) (x n : Needle) → IsInOrder ch → Contains (needles_of ch) x → Contains (entries_of (contents_of ch x)) n → Contains (all_entries ch) n
+    found : (ch : List Changed) (x n : Needle) → IsInOrder ch → Contains (needles_changed ch) x → Contains (entries_of (segments_on ch x)) n → Contains (all_entries ch) n
     found ch x n order there h =
         let c = in_needles ch x there in
-        let same : contents_of ch x ≡ c.0.1 = ap (contents_of ch) (sym c.2) ∙ contents_found ch c.0 order c.1 in
+        let same : segments_on ch x ≡ c.0.1 = ap (segments_on ch) (sym c.2) ∙ segments_found ch c.0 order c.1 in
         in_all ch c.0 n c.1 (subst (λ segs. Contains (entries_of segs) n) same h)
 
-    itself : (ch : List Changed) (x n : Needle) → contents_of ch x ≡ contents_of [] x → Contains (entries_of (contents_of ch x)) n → x ≡ n
+    itself : (ch : List Changed) (x n : Needle) → segments_on ch x ≡ segments_on [] x → Contains (entries_of (segments_on ch x)) n → x ≡ n
     itself ch x n own h = only_itself x n (subst (λ segs. Contains (entries_of segs) n) own h)
 
-    whence : (n k x : Needle) → Contains (needles_of (merged a (changes_through a lines b))) k → Contains (entries_of (contents_of b k)) x → Contains (entries_of (contents_of a x)) n →
+    whence : (n k x : Needle) → Contains (needles_changed (merged a (changes_through a lines b))) k → Contains (entries_of (segments_on b k)) x → Contains (entries_of (segments_on a x)) n →
         Contains (all_entries a ++ all_entries b) n
     whence n k x there in_b in_a = elim (named_or_none a x) [
       | inl named ↦ Contains-append_left (all_entries a) (all_entries b) n (found a x n order_a named in_a)
@@ -95,7 +95,7 @@ merged_entries a b lines order_a order_b oa ob =
             | inl named ↦ Contains-append_right (all_entries a) (all_entries b) n (subst (Contains (all_entries b)) same (found b k x order_b named in_b))
             | inr own ↦ (let here = itself b k x (own_none b k own) in_b in
                 elim (from_both a b lines k there) [
-                  | inl named_a ↦ Contains-append_left (all_entries a) (all_entries b) n (found a x n order_a (subst (Contains (needles_of a)) here named_a) in_a)
+                  | inl named_a ↦ Contains-append_left (all_entries a) (all_entries b) n (found a x n order_a (subst (Contains (needles_changed a)) here named_a) in_a)
                   | inr named_b ↦ Contains-append_right (all_entries a) (all_entries b) n (subst (Contains (all_entries b)) same (found b k x order_b named_b in_b))
                 ])
           ])
@@ -158,7 +158,7 @@ fits_both_if n x y true false h small = omega (arith, small)
 fits_both_if n x y false true h small = omega (arith, small)
 fits_both_if n x y false false h small = h
 
-entries_in_packed : (face : FaceView) → IsPacked face → length (all_entries (changes_of face)) ≡ length (entries_of face.segs.now)
+entries_in_packed : (face : FaceView) → IsPacked face → length (all_entries (changes_in face)) ≡ length (entries_of face.segs.now)
 entries_in_packed face p = ap length (sym (all_entries_flat face.segs.now face.changes.now) ∙ ap entries_of p.segs)
 
 -- A face that is the composition of two has the room for both by their lists, where there can be so much room at all.
@@ -181,8 +181,8 @@ composed_room a b f g pa pb pf is made =
     let ea = entries_in_packed a pa in
     let eb = entries_in_packed b pb in
     let ef = entries_in_packed f pf in
-    let asked : length (checks_of b) * length (all_entries (changes_of a)) ≡ length b.checks.now * length (entries_of a.segs.now) = ap₂ (λ (x y : ℕ). x * y) cb ea in
-    let read = names_read_bound (changes_of a) (checks_of b) g.first.owns (λ c there. distinct_names g.carriers g.limit g.second_known c.ask (g.second.asks_fit c there)) in
+    let asked : length (checks_in b) * length (all_entries (changes_in a)) ≡ length b.checks.now * length (entries_of a.segs.now) = ap₂ (λ (x y : ℕ). x * y) cb ea in
+    let read = names_read_bound (changes_in a) (checks_in b) g.first.owns (λ c there. distinct_names g.carriers g.limit g.second_known c.ask (g.second.asks_fit c there)) in
     let both = length a.names.now + length b.names.now in
     let through = length b.checks.now * length (entries_of a.segs.now) in
     let names = fits_both_if (length f.names.now) both through (nat_lt (2 ^ 62) both) (nat_lt (2 ^ 62) through) (omega (arith, s.few_names, na, nb, nf, read, asked)) made.names in

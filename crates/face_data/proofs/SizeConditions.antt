@@ -9,7 +9,7 @@ use Rattle.carriage_model.specs.State.{State}
 use Rattle.face_data.specs.declared.face.Seg.{Seg}
 use Rattle.face_data.specs.declared.face.Seg.TheVariants.{Entry, New}
 use Rattle.face_data.specs.Conditions.{size_of, unless, unmet_size}
-use Rattle.face_data.specs.Segments.{Changed, AreRead, contents_of, read_seg, read_segs, entries_in, entries_of, new_in, new_of, names_through, new_through}
+use Rattle.face_data.specs.Segments.{Changed, AreRead, segments_on, read_seg, read_segs, entries_in, entries_of, new_in, new_of, names_through, new_through}
 
 seg-size : (s : State) (first : ℕ) (seg : Seg) → length (read_seg s first seg) ≡ size_of (entries_in seg) s + new_in seg
 seg-size s first (Entry n) = omega arith
@@ -32,13 +32,13 @@ pub size-now : (changes : List Changed) (s t : State) (first : ℕ) (names : Lis
 size-now changes s t first [] read = refl
 size-now changes s t first (n ∷ names) read =
     let size : size_of (n ∷ names) t ≡ length (t.stacks n) + size_of names t = sum_by-cons (λ m. length (t.stacks m)) n names in
-    let here : length (t.stacks n) ≡ size_of (entries_of (contents_of changes n)) s + new_of (contents_of changes n) =
-    ap length (read n) ∙ read-size s first (contents_of changes n) in
-    let entries : size_of (names_through changes (n ∷ names)) s ≡ size_of (entries_of (contents_of changes n)) s + size_of (names_through changes names) s =
-    ap (λ ns. size_of ns s) (flat_map-cons (λ m. entries_of (contents_of changes m)) n names)
-    ∙ sum_by-append (λ m. length (s.stacks m)) (entries_of (contents_of changes n)) (names_through changes names) in
-    let new : new_through changes (n ∷ names) ≡ new_of (contents_of changes n) + new_through changes names =
-    sum_by-cons (λ m. new_of (contents_of changes m)) n names in
+    let here : length (t.stacks n) ≡ size_of (entries_of (segments_on changes n)) s + new_of (segments_on changes n) =
+    ap length (read n) ∙ read-size s first (segments_on changes n) in
+    let entries : size_of (names_through changes (n ∷ names)) s ≡ size_of (entries_of (segments_on changes n)) s + size_of (names_through changes names) s =
+    ap (λ ns. size_of ns s) (flat_map-cons (λ m. entries_of (segments_on changes m)) n names)
+    ∙ sum_by-append (λ m. length (s.stacks m)) (entries_of (segments_on changes n)) (names_through changes names) in
+    let new : new_through changes (n ∷ names) ≡ new_of (segments_on changes n) + new_through changes names =
+    sum_by-cons (λ m. new_of (segments_on changes m)) n names in
     omega (arith, size, here, entries, new, size-now changes s t first names read)
 
 room_test : (a room : ℕ) → int_le (pos a) (pos room -ℤ pos 1) ≡ nat_lt a room

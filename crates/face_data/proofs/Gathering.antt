@@ -12,10 +12,10 @@ use Rattle.face_data.specs.Answers.Answer.{yes_it_does, no_it_does_not, asks}
 use Rattle.face_data.specs.declared.bearing.Bearing.{Bearing}
 use Rattle.face_data.specs.Bearings.{bearing}
 use Rattle.face_data.specs.declared.bearing.Bearing.TheVariants.{Implied, Refuted, Silent}
-use Rattle.face_data.proofs.Told.{bearing_tells, IsPlain, Tells}
+use Rattle.face_data.proofs.Bearings.{bearing_tells, NamesOnce, Tells}
 use Rattle.face_data.specs.declared.face.Effect.{Effect}
 use Rattle.knit_base.specs.declared.rule.Fault.{Fault}
-use Rattle.face_data.specs.Composition.{from_bearing, settled, against_kept, Gathered, next, reads}
+use Rattle.face_data.specs.Composition.{from_bearing, settled, against_kept, Gathering, next, reads}
 
 from_bearing_meaning : (r : Bearing) (rest : Answer) (q : Ask) (s : State) → Tells r (holds q s) →
     meaning rest s ≡ holds q s → meaning (from_bearing r rest) s ≡ holds q s
@@ -29,7 +29,7 @@ first_fault_none : (c : Asked) (cs : List Asked) (s : State) (b : Bool) → hold
 first_fault_none c cs s true e h = (e, h)
 first_fault_none c cs s false e h = absurd (cc)
 
-settled_meaning : (kept : List Asked) (q : Ask) (s : State) → IsPlain q → first_fault kept s ≡ None → meaning (settled kept q) s ≡ holds q s
+settled_meaning : (kept : List Asked) (q : Ask) (s : State) → NamesOnce q → first_fault kept s ≡ None → meaning (settled kept q) s ≡ holds q s
 unfolding settled meaning
 settled_meaning [] q s d h = refl
 settled_meaning (c ∷ cs) q s d h =
@@ -37,12 +37,12 @@ settled_meaning (c ∷ cs) q s d h =
     from_bearing_meaning (bearing c.ask q) (settled cs q) q s (bearing_tells c.ask q s d both.0) (settled_meaning cs q s d both.1)
 
 -- a condition that is left to ask names each needle once
-abbrev pub IsPlainAnswer : Answer → Type 0
-IsPlainAnswer (asks q) = IsPlain q
-IsPlainAnswer yes_it_does = Unit {0}
-IsPlainAnswer no_it_does_not = Unit {0}
+abbrev pub AnswerNamesOnce : Answer → Type 0
+AnswerNamesOnce (asks q) = NamesOnce q
+AnswerNamesOnce yes_it_does = Unit {0}
+AnswerNamesOnce no_it_does_not = Unit {0}
 
-against_kept_meaning : (kept : List Asked) (r : Answer) (s : State) → IsPlainAnswer r → first_fault kept s ≡ None → meaning (against_kept kept r) s ≡ meaning r s
+against_kept_meaning : (kept : List Asked) (r : Answer) (s : State) → AnswerNamesOnce r → first_fault kept s ≡ None → meaning (against_kept kept r) s ≡ meaning r s
 unfolding meaning
 against_kept_meaning kept yes_it_does s d h = refl
 against_kept_meaning kept no_it_does_not s d h = refl
@@ -54,7 +54,7 @@ or_else (Some f) other = Some f
 or_else None other = other
 
 -- the fault that is met where these conditions are tried and then the stop
-abbrev pub fault_in : Gathered → State → Option Fault
+abbrev pub fault_in : Gathering → State → Option Fault
 fault_in k s = or_else (first_fault k.checks s) k.stop
 
 or_else_if : (b : Bool) (x y : Option Fault) (f : Fault) → or_else (if b then x else Some f) y ≡ (if b then or_else x y else Some f)
@@ -69,7 +69,7 @@ first_fault-append (c ∷ xs) ys s =
     ∙ sym (or_else_if (holds c.ask s) (first_fault xs s) (first_fault ys s) c.fault)
 
 -- a fault among the conditions kept so far stays the first one
-next_stays : (r : Answer) (kept : List Asked) (g : Fault) (go : List Asked → Gathered) (s : State) (f : Fault) →
+next_stays : (r : Answer) (kept : List Asked) (g : Fault) (go : List Asked → Gathering) (s : State) (f : Fault) →
     first_fault kept s ≡ Some f → ((k : List Asked) → first_fault k s ≡ Some f → fault_in (go k) s ≡ Some f) →
     fault_in (next r kept g go) s ≡ Some f
 next_stays yes_it_does kept g go s f h ih = ih kept h
@@ -88,12 +88,12 @@ reads_stays e a lines kept (c ∷ cs) s f h =
     (λ k hk. reads_stays e a lines k cs s f hk)
 
 -- each condition that the second block adds is read_seg with distinct needles
-abbrev pub AllPlain : Effect → List Changed → List Asked → Type 0
-AllPlain e a [] = Unit {0}
-AllPlain e a (c ∷ cs) = IsPlainAnswer (read_answer e a c.ask) × AllPlain e a cs
+abbrev pub AllNameOnce : Effect → List Changed → List Asked → Type 0
+AllNameOnce e a [] = Unit {0}
+AllNameOnce e a (c ∷ cs) = AnswerNamesOnce (read_answer e a c.ask) × AllNameOnce e a cs
 
 -- one condition, where those kept so far hold; `later` is what is then known of the rest
-next_none : (r : Answer) (kept : List Asked) (g : Fault) (go : List Asked → Gathered) (s : State) (t : Bool) (later : Option Fault) →
+next_none : (r : Answer) (kept : List Asked) (g : Fault) (go : List Asked → Gathering) (s : State) (t : Bool) (later : Option Fault) →
     first_fault kept s ≡ None → meaning r s ≡ t →
     ((k : List Asked) → first_fault k s ≡ None → fault_in (go k) s ≡ later) →
     ((k : List Asked) → first_fault k s ≡ Some g → fault_in (go k) s ≡ Some g) →
@@ -118,7 +118,7 @@ map_if : (b : Bool) (x : Option Fault) (f : Fault) (by : ℕ) → (if b then opt
 map_if true x f by = refl
 map_if false x f by = refl
 
-reads_none : (e : Effect) (a : List Changed) (lines : ℕ) (kept rest : List Asked) (s : State) (first : ℕ) → AllPlain e a rest →
+reads_none : (e : Effect) (a : List Changed) (lines : ℕ) (kept rest : List Asked) (s : State) (first : ℕ) → AllNameOnce e a rest →
     first_fault kept s ≡ None → fault_in (reads e a lines kept rest) s ≡ option_map (raised lines) (first_fault rest (after e a s first))
 unfolding reads
 reads_none e a lines kept [] s first d h = ap (λ o. or_else o None) h
@@ -132,7 +132,7 @@ reads_none e a lines kept (c ∷ cs) s first d h =
 
 -- The conditions of both blocks, on the state at the first one's entry: the first fault of the first block, else the
 -- first of the second block in the state that the first one makes, its line raised.
-pub reads_fault : (e : Effect) (a : List Changed) (lines : ℕ) (kept rest : List Asked) (s : State) (first : ℕ) → AllPlain e a rest →
+pub reads_fault : (e : Effect) (a : List Changed) (lines : ℕ) (kept rest : List Asked) (s : State) (first : ℕ) → AllNameOnce e a rest →
     fault_in (reads e a lines kept rest) s ≡ or_else (first_fault kept s) (option_map (raised lines) (first_fault rest (after e a s first)))
 reads_fault e a lines kept rest s first d = go (first_fault kept s) refl
   where
