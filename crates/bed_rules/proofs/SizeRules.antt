@@ -63,10 +63,11 @@ one-listed before ask after changes rule wanted none more is same =
     more ∙ ap (λ (asks : List SizeAsk). asks ++ ask ∷ []) none ∙ ap (λ (a : SizeAsk). a ∷ []) (is ∙ ap (size_ask changes) same)
 
 -- the same of a tuck
-pub tuck-listed : (profile : Profile) (n : Needle) (cs : List CarrierNo) → 1 ≤ length cs → crowded 2 (n ∷ []) (profile.hold - 1) ∷ [] ≡ tuck_rules profile n cs
-tuck-listed profile n [] more = absurd (omega arith)
-tuck-listed profile n (c ∷ cs) more = refl
+pub tuck-listed : (hold : ℕ) (n : Needle) (cs : List CarrierNo) → 1 ≤ length cs → crowded 2 (n ∷ []) (hold - 1) ∷ [] ≡ tuck_rules hold n cs
+tuck-listed hold n [] more = absurd (omega arith)
+tuck-listed hold n (c ∷ cs) more = refl
 
-pub tuck-unlisted : (profile : Profile) (n : Needle) (cs : List CarrierNo) → length cs ≡ 0 → [] ≡ tuck_rules profile n cs
-tuck-unlisted profile n [] none = refl
-tuck-unlisted profile n (c ∷ cs) none = absurd (omega arith)
+-- and of one without carriers
+pub tuck-unlisted : (hold : ℕ) (n : Needle) (cs : List CarrierNo) → length cs ≡ 0 → [] ≡ tuck_rules hold n cs
+tuck-unlisted hold n [] none = refl
+tuck-unlisted hold n (c ∷ cs) none = absurd (omega arith)

@@ -3,14 +3,14 @@ use Rattle.std.proofs.Common.{◌≡◌, ℕ, ◌+◌, Bool, true, false, cond, 
 use Rattle.std.proofs.lemmas.Grind.{flat_map-append}
 use Rattle.knit_base.proofs.Needles.{same_needle-comm}
 use Rattle.knit_base.specs.declared.instr.Instr.{Instr}
-use Rattle.knit_base.specs.declared.instr.Instr.TheVariants.{CarryIn, CarryOut, HookIn, HookOut, ReleaseHook, Stitch, Pause, Extension, Rack, Knit, Tuck, Miss, Split, Xfer, Drop, Amiss}
+use Rattle.knit_base.specs.declared.instr.Instr.TheVariants.{Knit, Tuck, Split, Xfer, Drop}
 use Rattle.knit_base.specs.declared.needle.Needle.{Needle}
 use Rattle.knit_base.specs.Needle.{same_needle, same_needle-true}
 use Rattle.carriage_model.specs.State.{State}
 use Rattle.carriage_model.specs.Steps.{step_instr}
 use Rattle.face_data.specs.declared.face.Seg.{Seg}
 use Rattle.face_data.specs.declared.face.Seg.TheVariants.{New}
-use Rattle.face_data.specs.RuleGroups.{forming_needle}
+use Rattle.knit_base.specs.Instr.{forming_needle}
 use Rattle.face_data.specs.Segments.{Changed, AreRead, segments_on, read_seg, read_segs}
 use Rattle.bed_rules.specs.Beds.{changes_of, AreReadAfter}
 
@@ -84,14 +84,4 @@ changed-read segments (Xfer n n2) s t first offset read m =
     ∙ sym (gone_over s first (same_needle m n) (same_needle m n2) (segments_on segments n2 ++ segments_on segments n) (segments_on segments m))
 changed-read segments (Drop n) s t first offset read m =
     put n m [] [] (t.stacks m) (read_segs s first (segments_on segments m)) refl (read m) ∙ sym (emptied s first (same_needle m n) (segments_on segments m))
-changed-read segments (CarryIn cs) s t first offset read m = read m
-changed-read segments (CarryOut cs) s t first offset read m = read m
-changed-read segments (HookIn cs) s t first offset read m = read m
-changed-read segments (HookOut cs) s t first offset read m = read m
-changed-read segments (ReleaseHook cs) s t first offset read m = read m
-changed-read segments Stitch s t first offset read m = read m
-changed-read segments Pause s t first offset read m = read m
-changed-read segments Extension s t first offset read m = read m
-changed-read segments (Rack q) s t first offset read m = read m
-changed-read segments (Miss dir n cs) s t first offset read m = read m
-changed-read segments (Amiss n) s t first offset read m = read m
+changed-read segments instr s t first offset read m = read m

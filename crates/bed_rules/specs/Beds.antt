@@ -1,9 +1,8 @@
--- What an instruction makes of needles whose segments are known.
+-- What an instruction asks of the loops on needles, and what it makes of their segments.
 use Rattle.std.specs.Prelude.{◌≡◌, ℕ, ◌-◌, List, [], ◌∷◌, ◌++◌, Option, None, Some, unwrap_or, if◌then◌else◌}
 use Rattle.knit_base.specs.declared.instr.Instr.{Instr}
 use Rattle.knit_base.specs.declared.instr.Instr.TheVariants.{Knit, Tuck, Split, Xfer, Drop}
 use Rattle.knit_base.specs.declared.needle.Needle.{Needle}
-use Rattle.knit_base.specs.declared.profile.Profile.{Profile}
 use Rattle.knit_base.specs.declared.rule.Rule.TheVariants.{TooManyLoops}
 use Rattle.knit_base.specs.declared.yarns.CarrierNo.{CarrierNo}
 use Rattle.knit_base.specs.Needle.{same_needle}
@@ -43,13 +42,13 @@ abbrev pub crowded : ℕ → List Needle → ℕ → SizeRule
 crowded at needles most = record { reason = record { rule = TooManyLoops; at = at }; needles = needles; most = most }
 
 -- a tuck with carriers puts one more loop on the needle
-abbrev pub tuck_rules : Profile → Needle → List CarrierNo → List SizeRule
-tuck_rules profile n [] = []
-tuck_rules profile n (c ∷ cs) = crowded 2 (n ∷ []) (profile.hold - 1) ∷ []
+abbrev pub tuck_rules : ℕ → Needle → List CarrierNo → List SizeRule
+tuck_rules hold n [] = []
+tuck_rules hold n (c ∷ cs) = crowded 2 (n ∷ []) (hold - 1) ∷ []
 
--- what the instruction asks of sizes: loops that go over come together on the second needle
-abbrev pub size_rules : Profile → Instr → List SizeRule
-size_rules profile (Tuck dir n cs) = tuck_rules profile n cs
-size_rules profile (Split dir n n2 cs) = crowded 3 (n2 ∷ n ∷ []) profile.hold ∷ []
-size_rules profile (Xfer n n2) = crowded 2 (n2 ∷ n ∷ []) profile.hold ∷ []
-size_rules profile instr = []
+-- what the instruction asks of sizes, where a needle may hold so many loops: loops that go over come together on the second needle
+abbrev pub size_rules : ℕ → Instr → List SizeRule
+size_rules hold (Tuck dir n cs) = tuck_rules hold n cs
+size_rules hold (Split dir n n2 cs) = crowded 3 (n2 ∷ n ∷ []) hold ∷ []
+size_rules hold (Xfer n n2) = crowded 2 (n2 ∷ n ∷ []) hold ∷ []
+size_rules hold instr = []

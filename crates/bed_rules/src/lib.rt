@@ -15,13 +15,14 @@ ghost use Rattle.std.specs.Prelude.{◌≡◌, ℕ, ◌+◌, IfOk};
 ghost use Rattle.knit_base.specs.Limits.{IsLawfulProfile};
 ghost use Rattle.carriage_model.specs.State.{State};
 ghost use Rattle.carriage_model.specs.Steps.{step_instr};
-ghost use Rattle.face_data.specs.RuleGroups.{size_broken, forming_needle};
+ghost use Rattle.face_data.specs.RuleGroups.{size_broken};
+ghost use Rattle.knit_base.specs.Instr.{forming_needle};
 ghost use Rattle.face_data.specs.Conditions.{first_unmet_size};
 ghost use Rattle.face_data.specs.Segments.{AreRead};
 ghost use Rattle.face_data.specs.Sizes.{size_asks};
 ghost use Rattle.bed_rules.specs.Beds.{AreReadAfter, changes_of, size_rules};
 
-use face_data::{SizeAsks, SymbolList, Symbols, forming_needle};
+use face_data::{SizeAsks, SymbolList, Symbols};
 use knit_base::{Instr, Needle, NoMemory, Profile};
 use std::alloc::Global;
 
@@ -43,7 +44,7 @@ pub fn ask(
 ) -> Result<BedAsk, NoMemory>
     requires { IsLawfulProfile profile.now }
     ensures broken { IfOk result (λ ask. (s t : State) (first : ℕ) → AreRead segments.now s first t.stacks → size_broken profile.now instr.now t ≡ first_unmet_size ask.sizes s) }
-    ensures sizes { IfOk result (λ ask. ask.sizes ≡ size_asks segments.now (size_rules profile.now instr.now)) }
+    ensures sizes { IfOk result (λ ask. ask.sizes ≡ size_asks segments.now (size_rules profile.now.hold instr.now)) }
     ensures changes { IfOk result (λ ask. ask.changed ≡ changes_of instr.now segments.now) }
     ensures changed { IfOk result (λ ask. (s t : State) (first offset : ℕ) → AreRead segments.now s first t.stacks → AreReadAfter segments.now ask.changed ask.makes s first offset (step_instr (first + offset) instr.now t).stacks) }
     ensures makes { IfOk result (λ ask. ask.makes ≡ forming_needle instr.now) }
@@ -51,6 +52,6 @@ pub fn ask(
     Ok(BedAsk {
         sizes: limits::sizes_of(alloc, instr, profile, segments)?,
         changed: changes::changes_of(alloc, instr, segments)?,
-        makes: forming_needle(instr),
+        makes: instr.forming_needle(),
     })
 }

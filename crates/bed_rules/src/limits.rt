@@ -22,19 +22,14 @@ pub fn sizes_of(
     segments: &Symbols,
 ) -> Result<SizeAsks, NoMemory>
     requires { IsLawfulProfile profile.now }
-    ensures rules { IfOk result (λ asks. asks ≡ size_asks segments.now (size_rules profile.now instr.now)) }
+    ensures rules { IfOk result (λ asks. asks ≡ size_asks segments.now (size_rules profile.now.hold instr.now)) }
     ensures broken { IfOk result (λ asks. (s t : State) (first : ℕ) → AreRead segments.now s first t.stacks → size_broken profile.now instr.now t ≡ first_unmet_size asks s) }
 {
     match instr {
         Instr::Tuck(_, n, yarns) => room_for_one(alloc, profile, *n, yarns, segments),
         Instr::Split(_, n, n2, _) => room_for_both(alloc, profile, *n, *n2, 3, segments),
         Instr::Xfer(n, n2) => room_for_both(alloc, profile, *n, *n2, 2, segments),
-        Instr::CarryIn(_) | Instr::CarryOut(_) => Ok(SizeAsks::new(alloc)),
-        Instr::HookIn(_) | Instr::HookOut(_) => Ok(SizeAsks::new(alloc)),
-        Instr::ReleaseHook(_) | Instr::Rack(_) => Ok(SizeAsks::new(alloc)),
-        Instr::Stitch | Instr::Pause | Instr::Extension => Ok(SizeAsks::new(alloc)),
-        Instr::Knit(_, _, _) | Instr::Miss(_, _, _) => Ok(SizeAsks::new(alloc)),
-        Instr::Drop(_) | Instr::Amiss(_) => Ok(SizeAsks::new(alloc)),
+        _ => Ok(SizeAsks::new(alloc)),
     }
 }
 
@@ -47,7 +42,7 @@ fn room_for_one(
     segments: &Symbols,
 ) -> Result<SizeAsks, NoMemory>
     requires { 1 ≤ profile.now.hold }
-    ensures rules { IfOk result (λ asks. asks ≡ size_asks segments.now (tuck_rules profile.now n yarns.now)) }
+    ensures rules { IfOk result (λ asks. asks ≡ size_asks segments.now (tuck_rules profile.now.hold n yarns.now)) }
     ensures broken { IfOk result (λ asks. (s t : State) (first : ℕ) → AreRead segments.now s first t.stacks → tuck_too_many profile.now n yarns.now t ≡ first_unmet_size asks s) }
 {
     let mut asks = SizeAsks::new(alloc);

@@ -53,17 +53,12 @@ use Rattle.std.proofs.lemmas.List.Elements.{Contains-append_cases}
 use Rattle.knit_base.specs.declared.needle.Bed.{Bed}
 use Rattle.knit_base.specs.declared.needle.Bed.TheVariants.{Front, FrontSlider, Back, BackSlider}
 use Rattle.knit_base.specs.Needle.{slider_bed}
-
-slider-is : (b : Bed) → is_slider (slider_bed b) ≡ true
-slider-is Front = refl
-slider-is FrontSlider = refl
-slider-is Back = refl
-slider-is BackSlider = refl
+use Rattle.knit_base.proofs.Needles.{slider_bed-is_slider}
 
 -- no hook is a slider
 hook_apart : (n m : Needle) → is_slider n.bed ≡ false → (b : Bool) → same_needle n (own_slider m) ≡ b → b ≡ false
 hook_apart n m hook true e =
-    absurd (true≢false (sym (slider-is m.bed) ∙ sym (ap (λ (x : Needle). is_slider x.bed) (same_needle-true n (own_slider m) e)) ∙ hook))
+    absurd (true≢false (sym (slider_bed-is_slider m.bed) ∙ sym (ap (λ (x : Needle). is_slider x.bed) (same_needle-true n (own_slider m) e)) ∙ hook))
 hook_apart n m hook false e = refl
 
 -- what is written to a hook leaves each slider
@@ -239,6 +234,7 @@ pushed_all : (names : List Needle) (checks : List Check) (check : Check) → map
 pushed_all names [] check = refl
 pushed_all names (c ∷ cs) check = ap (λ ks. asked_of names c ∷ ks) (pushed_all names cs check)
 
+-- one check more
 pub pushed_asked : (names : List Needle) (checks new : List Check) (check : Check) → new ≡ checks ++ check ∷ [] → map (asked_of names) new ≡ map (asked_of names) checks ++ asked_of names check ∷ []
 pushed_asked names checks new check is = ap (map (asked_of names)) is ∙ pushed_all names checks check
 

@@ -3,4 +3,4 @@ pub mod LineChecks
 pub mod LineGoodness
 pub mod LineFront
 pub mod LineStands
-mod Loops
+mod FormedLoops

@@ -6,7 +6,7 @@ use Rattle.std.proofs.lemmas.Bool.{true≢false, false_from_ne_true}
 use Rattle.std.proofs.lemmas.List.Elements.{Contains-append_right}
 use Rattle.std.proofs.lemmas.List.Sums.{sum_by-cons}
 use Rattle.knit_base.specs.declared.instr.Instr.{Instr}
-use Rattle.knit_base.specs.declared.instr.Instr.TheVariants.{CarryIn, CarryOut, HookIn, HookOut, ReleaseHook, Stitch, Pause, Extension, Rack, Knit, Tuck, Miss, Split, Xfer, Drop, Amiss}
+use Rattle.knit_base.specs.declared.instr.Instr.TheVariants.{Knit, Tuck, Split, Xfer, Drop}
 use Rattle.knit_base.specs.declared.instr.Read.{Read}
 use Rattle.knit_base.specs.declared.instr.Read.TheVariants as read
 use Rattle.knit_base.specs.declared.needle.Needle.{Needle}
@@ -20,8 +20,11 @@ use Rattle.knit_base.specs.Needle.{same_needle, same_needle-true, own_slider, is
 use Rattle.face_data.specs.declared.face.Seg.{Seg}
 use Rattle.face_data.specs.declared.face.Seg.TheVariants.{Entry, New}
 use Rattle.face_data.specs.Conditions.Ask.{size_at_most}
-use Rattle.face_data.specs.Goodness.{IsInOrder, held, OwnsOnce, MeetsSizes, size_after, SizeFits, names_in, ChangeFits, IsFair, IsGood}
-use Rattle.face_data.specs.RuleGroups.{forming_needle, formed_on}
+use Rattle.face_data.specs.declared.face.Ending.{Ending}
+use Rattle.face_data.specs.declared.face.Ending.TheVariants.{Through, Broken}
+use Rattle.face_data.specs.Drafts.{no_effect}
+use Rattle.face_data.specs.Goodness.{EndingFits, IsInOrder, held, OwnsOnce, MeetsSizes, size_after, SizeFits, names_in, ChangeFits, IsFair, IsGood}
+use Rattle.knit_base.specs.Instr.{forming_needle, formed_on}
 use Rattle.face_data.specs.Segments.{Changed, segments_on, entries_of, new_of}
 use Rattle.face_data.specs.Sets.{IsDistinct, IsWithin, IsApart, NestedOrApart}
 use Rattle.face_data.specs.Stands.{StandsFor}
@@ -33,13 +36,10 @@ use Rattle.face_data.proofs.Members.{Contains-none, Contains-head, Contains-cons
 use Rattle.face_data.proofs.ChangeLists.{order_merged}
 use Rattle.face_data.proofs.Owners.{only_itself}
 use Rattle.carrier_rules.specs.Carriers.{conds_of, effect_of}
-use Rattle.block_summary.specs.LineSummaries.{asked_for, rule_asked, plainly_asked, rack_asked, slider_asked, sizes_asked, asked_by, gone_over, formed_loop, line_changes, line_summary, block_summary_of, NeedlesKnown, NeedlesKnownInLine}
-use Rattle.block_summary.proofs.LineChecks.{NamesAre, nested_among, Each, each_none, each_one, never_falls, CheckIs, EffectFits, effect_fits, checks_fit, slider_other, slider_across, needles_across}
+use Rattle.block_summary.specs.LineSummaries.{asked_for, plainly_asked, rack_asked, slider_asked, sizes_asked, asked_by, gone_over, new_loop, line_changes, line_summary, unasked, block_summary_of, NeedlesKnown, NeedlesKnownInLine, SliderKnown}
+use Rattle.block_summary.proofs.LineChecks.{rule_asked, NamesAre, nested_among, Each, each_none, each_one, never_falls, CheckIs, EffectFits, effect_fits, checks_fit, slider_other, slider_across, needles_across}
 use Rattle.block_summary.proofs.LineStands.{gone_over-segments, line_stands}
-use Rattle.knit_base.proofs.Needles.{same_needle-same}
-
-not_same : (m n : Needle) → (m ≡ n → ⊥) → same_needle m n ≡ false
-not_same m n other = false_from_ne_true (same_needle m n) (λ same. other (same_needle-true m n same))
+use Rattle.knit_base.proofs.Needles.{same_needle-same, same_needle-false}
 
 only_one : (c d : Changed) → Contains (c ∷ []) d → c ≡ d
 only_one c d there = elim (Contains-cons_cases c [] d there) [ inl same ↦ same | inr none ↦ absurd (Contains-none d none) ]
@@ -67,7 +67,7 @@ one_here : (n : Needle) (segs : List Seg) → segments_on ((n, segs) ∷ []) n �
 one_here n segs = ap (λ here. unwrap_or (cond here (Some segs) None) (Entry n ∷ [])) (same_needle-same n n refl)
 
 one_other : (n m : Needle) (segs : List Seg) → (m ≡ n → ⊥) → segments_on ((n, segs) ∷ []) m ≡ Entry m ∷ []
-one_other n m segs other = ap (λ here. unwrap_or (cond here (Some segs) None) (Entry m ∷ [])) (not_same m n other)
+one_other n m segs other = ap (λ here. unwrap_or (cond here (Some segs) None) (Entry m ∷ [])) (same_needle-false m n other)
 
 alone : (n : Needle) → IsDistinct (n ∷ [])
 alone n = ((λ none. Contains-none n none), tt)
@@ -145,7 +145,7 @@ heir_moved n n2 = ap (λ b. cond b n2 n) (same_needle-same n n refl)
 
 heir_other : (n n2 m : Needle) → (m ≡ n → ⊥) → heir n n2 m ≡ m
 unfolding heir
-heir_other n n2 m other = ap (λ b. cond b n2 m) (not_same m n other)
+heir_other n n2 m other = ap (λ b. cond b n2 m) (same_needle-false m n other)
 
 no_entry : (segs : List Seg) (x : Needle) → entries_of segs ≡ [] → Contains (entries_of segs) x → ⊥
 no_entry segs x none there = Contains-none x (subst (λ xs. Contains xs x) none there)
@@ -215,25 +215,25 @@ over_sizes limit n n2 left size small first second m = elim (over_cases n n2 m l
 over_there : (n n2 : Needle) (left : List Seg) → (n ≡ n2 → ⊥) → segments_on (gone_over n n2 left) n2 ≡ Entry n2 ∷ Entry n ∷ []
 over_there n n2 left other =
     gone_over-segments n n2 n2 left
-    ∙ (λ i. unwrap_or (cond (not_same n2 n (λ same. other (sym same)) i) (Some left) (cond (same_needle-same n2 n2 refl i) (Some (Entry n2 ∷ Entry n ∷ [])) None)) (Entry n2 ∷ []))
+    ∙ (λ i. unwrap_or (cond (same_needle-false n2 n (λ same. other (sym same)) i) (Some left) (cond (same_needle-same n2 n2 refl i) (Some (Entry n2 ∷ Entry n ∷ [])) None)) (Entry n2 ∷ []))
 
 over_other : (n n2 m : Needle) (left : List Seg) → (m ≡ n → ⊥) → (m ≡ n2 → ⊥) → segments_on (gone_over n n2 left) m ≡ Entry m ∷ []
 over_other n n2 m left one two =
-    gone_over-segments n n2 m left ∙ (λ i. unwrap_or (cond (not_same m n one i) (Some left) (cond (not_same m n2 two i) (Some (Entry n2 ∷ Entry n ∷ [])) None)) (Entry m ∷ []))
+    gone_over-segments n n2 m left ∙ (λ i. unwrap_or (cond (same_needle-false m n one i) (Some left) (cond (same_needle-false m n2 two i) (Some (Entry n2 ∷ Entry n ∷ [])) None)) (Entry m ∷ []))
 
 -- a loop that is formed
-formed_none : (cs : List CarrierNo) → entries_of (formed_loop cs) ≡ []
+formed_none : (cs : List CarrierNo) → entries_of (new_loop cs) ≡ []
 formed_none [] = refl
 formed_none (c ∷ cs) = refl
 
-formed_offsets : (cs : List CarrierNo) (offset : ℕ) → Contains (formed_loop cs) (New offset) → offset < 1
+formed_offsets : (cs : List CarrierNo) (offset : ℕ) → Contains (new_loop cs) (New offset) → offset < 1
 formed_offsets [] offset there = absurd (Contains-none (New offset) there)
 formed_offsets (c ∷ cs) offset there = elim (Contains-cons_cases (New 0) [] (New offset) there) [
   | inl same ↦ (let none : 0 ≡ offset = cc in omega arith)
   | inr none ↦ absurd (Contains-none (New offset) none)
 ]
 
-formed_sizes : (cs : List CarrierNo) (limit : ℕ) (size : Needle → ℕ) → 1 ≤ limit → sum_by size (entries_of (formed_loop cs)) + new_of (formed_loop cs) ≤ limit
+formed_sizes : (cs : List CarrierNo) (limit : ℕ) (size : Needle → ℕ) → 1 ≤ limit → sum_by size (entries_of (new_loop cs)) + new_of (new_loop cs) ≤ limit
 formed_sizes [] limit size some = omega arith
 formed_sizes (c ∷ cs) limit size some = some
 
@@ -272,8 +272,8 @@ sized_is carriers hold known first second changes reason names most fits are m h
 }
 
 -- the own slider is asked to be empty, where a loop is formed, and stays as it is
-slider_each : (carriers hold : ℕ) (known second : List Needle) (changes : List Changed) (n : Needle) (cs : List CarrierNo) → Contains known (own_slider n) →
-    (is_slider n.bed ≡ false → held changes (own_slider n) ≡ own_slider n ∷ []) → IsFormedOnHook n cs →
+slider_each : (carriers hold : ℕ) (known second : List Needle) (changes : List Changed) (n : Needle) (cs : List CarrierNo) → SliderKnown known (formed_on n cs) →
+    (is_slider n.bed ≡ false → held changes (own_slider n) ≡ own_slider n ∷ []) → IsFormedOnHook (formed_on n cs) →
     Each (CheckIs carriers hold known (own_slider n ∷ []) second changes) (slider_asked (formed_on n cs))
 slider_each carriers hold known second changes n [] there stays hook = each_none (CheckIs carriers hold known (own_slider n ∷ []) second changes)
 slider_each carriers hold known second changes n (c ∷ cs) there stays hook =
@@ -330,7 +330,7 @@ tuck_fair : (profile : Profile) (carriers : ℕ) (known : List Needle) (dir : Di
     IsLawful profile carriers (Tuck dir n (c ∷ cs)) → Contains known n → Contains known (own_slider n) →
     IsFair carriers profile.hold known (line_summary profile.hold (read.Instr (Tuck dir n (c ∷ cs))))
 tuck_fair profile carriers known dir n c cs some lawful there slider =
-    let hook : is_slider n.bed ≡ false = lawful.1 in
+    let hook : is_slider n.bed ≡ false = lawful.formed in
     let changes : List Changed = (n, Entry n ∷ New 0 ∷ []) ∷ [] in
     let room : Asked = rule_asked TooManyLoops 2 (size_at_most (n ∷ []) (profile.hold - 1)) in
     assembled carriers profile.hold known (own_slider n ∷ []) (n ∷ []) (Tuck dir n (c ∷ cs))
@@ -391,8 +391,8 @@ split_fair : (profile : Profile) (carriers : ℕ) (known : List Needle) (dir : D
     IsLawful profile carriers (Split dir n n2 (c ∷ cs)) → Contains known n → Contains known (own_slider n) → Contains known n2 →
     IsFair carriers profile.hold known (line_summary profile.hold (read.Instr (Split dir n n2 (c ∷ cs))))
 split_fair profile carriers known dir n n2 c cs some lawful one slider two =
-    let opposite : AreOpposite n n2 = lawful.2 in
-    let hook : is_slider n.bed ≡ false = lawful.3 in
+    let opposite : AreOpposite n n2 = lawful.moved in
+    let hook : is_slider n.bed ≡ false = lawful.formed in
     let other : n ≡ n2 → ⊥ = needles_across n n2 opposite in
     let left : List Seg = New 0 ∷ [] in
     let room : Asked = rule_asked TooManyLoops 3 (size_at_most (n2 ∷ n ∷ []) profile.hold) in
@@ -412,83 +412,80 @@ split_fair profile carriers known dir n n2 c cs some lawful one slider two =
 -- one needle is left with a new loop or with none
 left_fair : (profile : Profile) (carriers : ℕ) (known first : List Needle) (instr : Instr) (n : Needle) (cs : List CarrierNo) → 1 ≤ profile.hold → IsLawful profile carriers instr →
     Contains known n → Each (CheckIs carriers profile.hold known first [] (line_changes instr)) (slider_asked (forming_needle instr)) → sizes_asked profile.hold instr ≡ [] →
-    line_changes instr ≡ (n, formed_loop cs) ∷ [] → IsFair carriers profile.hold known (line_summary profile.hold (read.Instr instr))
+    line_changes instr ≡ (n, new_loop cs) ∷ [] → IsFair carriers profile.hold known (line_summary profile.hold (read.Instr instr))
 left_fair profile carriers known first instr n cs some lawful there slider sizes same =
     let P = CheckIs carriers profile.hold known first [] (line_changes instr) in
     assembled carriers profile.hold known first [] instr
     (checks_fit carriers profile.hold known first [] (line_changes instr) profile instr lawful slider (subst (Each P) (sym sizes) (each_none P)))
     (inr (inl (nothing_in first)))
-    (subst (ChangesAre known) (sym same) (one_change known n (formed_loop cs) there (subst IsDistinct (sym (formed_none cs)) tt)
-    (λ x is. absurd (no_entry (formed_loop cs) x (formed_none cs) is)) (formed_offsets cs)))
+    (subst (ChangesAre known) (sym same) (one_change known n (new_loop cs) there (subst IsDistinct (sym (formed_none cs)) tt)
+    (λ x is. absurd (no_entry (new_loop cs) x (formed_none cs) is)) (formed_offsets cs)))
     (effect_fits profile carriers instr lawful)
     (λ size small meets m. subst (λ changes. size_after changes size m ≤ profile.hold) (sym same)
-    (one_sizes profile.hold n (formed_loop cs) size small (formed_sizes cs profile.hold size some) m))
+    (one_sizes profile.hold n (new_loop cs) size small (formed_sizes cs profile.hold size some) m))
+
+first_known : (known : List Needle) (n n2 : Needle) → IsWithin (n ∷ n2 ∷ []) known → Contains known n
+first_known known n n2 within = within n (Contains-head n (n2 ∷ []))
+
+second_known : (known : List Needle) (n n2 : Needle) → IsWithin (n ∷ n2 ∷ []) known → Contains known n2
+second_known known n n2 within = within n2 (Contains-append_right (n ∷ []) (n2 ∷ []) n2 (Contains-head n2 []))
 
 -- the summary of an instruction's line is fair
 pub instr_fair : (profile : Profile) (carriers : ℕ) (known : List Needle) (instr : Instr) → 1 ≤ profile.hold → IsLawful profile carriers instr → NeedlesKnown known instr →
     IsFair carriers profile.hold known (line_summary profile.hold (read.Instr instr))
 instr_fair profile carriers known (Knit dir n cs) some lawful knows =
-    left_fair profile carriers known (own_slider n ∷ []) (Knit dir n cs) n cs some lawful knows.0
-    (slider_each carriers profile.hold known [] ((n, formed_loop cs) ∷ []) n cs knows.1
-    (λ hook. ap entries_of (one_other n (own_slider n) (formed_loop cs) (slider_other n hook))) lawful.1)
+    left_fair profile carriers known (own_slider n ∷ []) (Knit dir n cs) n cs some lawful (knows.needles n (Contains-head n []))
+    (slider_each carriers profile.hold known [] ((n, new_loop cs) ∷ []) n cs knows.slider
+    (λ hook. ap entries_of (one_other n (own_slider n) (new_loop cs) (slider_other n hook))) lawful.formed)
     refl refl
 instr_fair profile carriers known (Tuck dir n []) some lawful knows = idle profile carriers known (Tuck dir n []) lawful refl refl refl
-instr_fair profile carriers known (Tuck dir n (c ∷ cs)) some lawful knows = tuck_fair profile carriers known dir n c cs some lawful knows.0 knows.1
+instr_fair profile carriers known (Tuck dir n (c ∷ cs)) some lawful knows = tuck_fair profile carriers known dir n c cs some lawful (knows.needles n (Contains-head n [])) knows.slider
 instr_fair profile carriers known (Split dir n n2 []) some lawful knows =
-    over_fair profile carriers known (Split dir n n2 []) n n2 3 lawful lawful.2 knows.0 knows.2 refl refl refl
-instr_fair profile carriers known (Split dir n n2 (c ∷ cs)) some lawful knows = split_fair profile carriers known dir n n2 c cs some lawful knows.0 knows.1 knows.2
-instr_fair profile carriers known (Xfer n n2) some lawful knows = over_fair profile carriers known (Xfer n n2) n n2 2 lawful lawful.2 knows.0 knows.1 refl refl refl
+    over_fair profile carriers known (Split dir n n2 []) n n2 3 lawful lawful.moved (first_known known n n2 knows.needles) (second_known known n n2 knows.needles) refl refl refl
+instr_fair profile carriers known (Split dir n n2 (c ∷ cs)) some lawful knows =
+    split_fair profile carriers known dir n n2 c cs some lawful (first_known known n n2 knows.needles) knows.slider (second_known known n n2 knows.needles)
+instr_fair profile carriers known (Xfer n n2) some lawful knows =
+    over_fair profile carriers known (Xfer n n2) n n2 2 lawful lawful.moved (first_known known n n2 knows.needles) (second_known known n n2 knows.needles) refl refl refl
 instr_fair profile carriers known (Drop n) some lawful knows =
-    left_fair profile carriers known [] (Drop n) n [] some lawful knows (each_none (CheckIs carriers profile.hold known [] [] ((n, []) ∷ []))) refl refl
-instr_fair profile carriers known (CarryIn cs) some lawful knows = idle profile carriers known (CarryIn cs) lawful refl refl refl
-instr_fair profile carriers known (CarryOut cs) some lawful knows = idle profile carriers known (CarryOut cs) lawful refl refl refl
-instr_fair profile carriers known (HookIn cs) some lawful knows = idle profile carriers known (HookIn cs) lawful refl refl refl
-instr_fair profile carriers known (HookOut cs) some lawful knows = idle profile carriers known (HookOut cs) lawful refl refl refl
-instr_fair profile carriers known (ReleaseHook cs) some lawful knows = idle profile carriers known (ReleaseHook cs) lawful refl refl refl
-instr_fair profile carriers known Stitch some lawful knows = idle profile carriers known Stitch lawful refl refl refl
-instr_fair profile carriers known Pause some lawful knows = idle profile carriers known Pause lawful refl refl refl
-instr_fair profile carriers known Extension some lawful knows = idle profile carriers known Extension lawful refl refl refl
-instr_fair profile carriers known (Rack q) some lawful knows = idle profile carriers known (Rack q) lawful refl refl refl
-instr_fair profile carriers known (Miss dir n cs) some lawful knows = idle profile carriers known (Miss dir n cs) lawful refl refl refl
-instr_fair profile carriers known (Amiss n) some lawful knows = idle profile carriers known (Amiss n) lawful refl refl refl
+    left_fair profile carriers known [] (Drop n) n [] some lawful (knows.needles n (Contains-head n [])) (each_none (CheckIs carriers profile.hold known [] [] ((n, []) ∷ []))) refl refl
+instr_fair profile carriers known instr some lawful knows = idle profile carriers known instr lawful refl refl refl
+
+-- a line that asks and changes nothing, whichever way it ends
+unasked_fair : (carriers hold : ℕ) (known : List Needle) (ending : Ending) → EndingFits carriers (unasked ending) ending → IsFair carriers hold known (unasked ending)
+unasked_fair carriers hold known ending fits =
+    let none = no_lines_good carriers hold known in
+    record {
+      made = omega arith;
+      asks_fit = none.asks_fit;
+      within = λ c there. absurd (Contains-none c there);
+      in_turn = tt;
+      nested = none.nested;
+      in_order = none.in_order;
+      changes_fit = λ c there. absurd (Contains-none c there);
+      owns = none.owns;
+      sizes = none.sizes;
+      ending = fits;
+    }
 
 nothing_fair : (carriers hold : ℕ) (known : List Needle) → IsFair carriers hold known (line_summary hold read.Blank)
 nothing_fair carriers hold known =
-    let none = no_lines_good carriers hold known in
-    record {
-      made = omega arith;
-      asks_fit = none.asks_fit;
-      within = λ c there. absurd (Contains-none c there);
-      in_turn = tt;
-      nested = none.nested;
-      in_order = none.in_order;
-      changes_fit = λ c there. absurd (Contains-none c there);
-      owns = none.owns;
-      sizes = none.sizes;
-      ending = record {
-        lies = λ c there. absurd (Contains-none c there);
-        apart = none.ending.apart;
-        came = none.ending.came;
-        went = none.ending.went;
-        hook = none.ending.hook;
-      };
-    }
+    let ending = (no_lines_good carriers hold known).ending in
+    unasked_fair carriers hold known (Through no_effect) (record {
+      lies = λ c there. absurd (Contains-none c there);
+      apart = ending.apart;
+      came = ending.came;
+      went = ending.went;
+      hook = ending.hook;
+    })
 
 broken_fair : (carriers hold : ℕ) (known : List Needle) (reason : Reason) → IsFair carriers hold known (line_summary hold (read.Broken reason))
 broken_fair carriers hold known reason =
-    let none = no_lines_good carriers hold known in
-    record {
-      made = omega arith;
-      asks_fit = none.asks_fit;
-      within = λ c there. absurd (Contains-none c there);
-      in_turn = tt;
-      nested = none.nested;
-      in_order = none.in_order;
-      changes_fit = λ c there. absurd (Contains-none c there);
-      owns = none.owns;
-      sizes = none.sizes;
-      ending = record { within = omega arith; last = λ c there. absurd (Contains-none c there); unchanged = refl; made = refl };
-    }
+    unasked_fair carriers hold known (Broken (record { line = 0; reason = reason })) (record {
+      within = omega arith;
+      last = λ c there. absurd (Contains-none c there);
+      unchanged = refl;
+      made = refl;
+    })
 
 -- The summary of a line is fair.
 pub line_fair : (profile : Profile) (carriers : ℕ) (known : List Needle) (r : Read) → 1 ≤ profile.hold → IsLawfulRead profile carriers r → NeedlesKnownInLine known r →

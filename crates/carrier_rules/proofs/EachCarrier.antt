@@ -4,7 +4,7 @@ use Rattle.std.specs.List.{position_from}
 use Rattle.std.specs.Option.{option_map}
 use Rattle.std.proofs.lemmas.Iterator.Adapters.{position_from-zero}
 use Rattle.knit_base.specs.declared.instr.Instr.{Instr}
-use Rattle.knit_base.specs.declared.instr.Instr.TheVariants.{CarryIn, CarryOut, HookIn, HookOut, ReleaseHook, Stitch, Pause, Extension, Rack, Knit, Tuck, Miss, Split, Xfer, Drop, Amiss}
+use Rattle.knit_base.specs.declared.instr.Instr.TheVariants.{CarryIn, CarryOut, HookIn, HookOut, ReleaseHook, Knit, Tuck, Miss, Split}
 use Rattle.knit_base.specs.declared.rule.Reason.{Reason}
 use Rattle.knit_base.specs.declared.rule.Rule.TheVariants.{HookBusy, HookOther}
 use Rattle.knit_base.specs.declared.yarns.CarrierNo.{CarrierNo}
@@ -92,14 +92,8 @@ conds-broken (CarryOut cs) s = both-broken (conds_of_each InAction 1 cs) (conds_
 conds-broken (HookIn cs) s = both-broken (conds_of_each NotInAction 1 cs) ((hook_reason HookBusy, HookFree) ∷ []) s (carriers_in s 1 cs) (hook_busy s) (each-broken NotInAction s 1 cs) (busy-unmet s)
 conds-broken (HookOut cs) s = both-broken (conds_of_each InAction 1 cs) ((hook_reason HookBusy, HookFree) ∷ []) s (carriers_out s 1 cs) (hook_busy s) (each-broken InAction s 1 cs) (busy-unmet s)
 conds-broken (ReleaseHook cs) s = other-unmet s cs
-conds-broken Stitch s = refl
-conds-broken Pause s = refl
-conds-broken Extension s = refl
-conds-broken (Rack q) s = refl
 conds-broken (Knit dir n cs) s = each-broken InAction s 3 cs
 conds-broken (Tuck dir n cs) s = each-broken InAction s 3 cs
 conds-broken (Miss dir n cs) s = each-broken InAction s 3 cs
 conds-broken (Split dir n n2 cs) s = each-broken InAction s 4 cs
-conds-broken (Xfer n n2) s = refl
-conds-broken (Drop n) s = refl
-conds-broken (Amiss n) s = refl
+conds-broken instr s = refl

@@ -1,7 +1,7 @@
 -- What the effect makes of the carriers in action.
 use Rattle.std.proofs.Common.{◌≡◌, ℕ, List, [], ◌∷◌, bit_or, refl, ap}
 use Rattle.knit_base.specs.declared.instr.Instr.{Instr}
-use Rattle.knit_base.specs.declared.instr.Instr.TheVariants.{CarryIn, CarryOut, HookIn, HookOut, ReleaseHook, Stitch, Pause, Extension, Rack, Knit, Tuck, Miss, Split, Xfer, Drop, Amiss}
+use Rattle.knit_base.specs.declared.instr.Instr.TheVariants.{CarryIn, CarryOut, HookIn, HookOut, Knit, Tuck, Split}
 use Rattle.knit_base.specs.declared.yarns.CarrierNo.{CarrierNo}
 use Rattle.knit_base.specs.Yarns.{mask_of, with_carriers, without_carriers, without_set}
 use Rattle.face_data.specs.RuleGroups.{IsEffectOf}
@@ -23,18 +23,10 @@ effect-is (CarryIn cs) = record { rack = λ k s. refl; ins = λ k s. come s.ins 
 effect-is (CarryOut cs) = record { rack = λ k s. refl; ins = λ k s. go s.ins cs; hook = λ k s. refl }
 effect-is (HookIn cs) = record { rack = λ k s. refl; ins = λ k s. come s.ins cs; hook = λ k s. refl }
 effect-is (HookOut cs) = record { rack = λ k s. refl; ins = λ k s. go s.ins cs; hook = λ k s. refl }
-effect-is (ReleaseHook cs) = record { rack = λ k s. refl; ins = λ k s. ins-nobody s.ins; hook = λ k s. refl }
-effect-is Stitch = record { rack = λ k s. refl; ins = λ k s. ins-nobody s.ins; hook = λ k s. refl }
-effect-is Pause = record { rack = λ k s. refl; ins = λ k s. ins-nobody s.ins; hook = λ k s. refl }
-effect-is Extension = record { rack = λ k s. refl; ins = λ k s. ins-nobody s.ins; hook = λ k s. refl }
-effect-is (Rack q) = record { rack = λ k s. refl; ins = λ k s. ins-nobody s.ins; hook = λ k s. refl }
 effect-is (Knit dir n []) = record { rack = λ k s. refl; ins = λ k s. ins-nobody s.ins; hook = λ k s. refl }
 effect-is (Knit dir n (c ∷ cs)) = record { rack = λ k s. refl; ins = λ k s. ins-nobody s.ins; hook = λ k s. refl }
 effect-is (Tuck dir n []) = record { rack = λ k s. refl; ins = λ k s. ins-nobody s.ins; hook = λ k s. refl }
 effect-is (Tuck dir n (c ∷ cs)) = record { rack = λ k s. refl; ins = λ k s. ins-nobody s.ins; hook = λ k s. refl }
-effect-is (Miss dir n cs) = record { rack = λ k s. refl; ins = λ k s. ins-nobody s.ins; hook = λ k s. refl }
 effect-is (Split dir n n2 []) = record { rack = λ k s. refl; ins = λ k s. ins-nobody s.ins; hook = λ k s. refl }
 effect-is (Split dir n n2 (c ∷ cs)) = record { rack = λ k s. refl; ins = λ k s. ins-nobody s.ins; hook = λ k s. refl }
-effect-is (Xfer n n2) = record { rack = λ k s. refl; ins = λ k s. ins-nobody s.ins; hook = λ k s. refl }
-effect-is (Drop n) = record { rack = λ k s. refl; ins = λ k s. ins-nobody s.ins; hook = λ k s. refl }
-effect-is (Amiss n) = record { rack = λ k s. refl; ins = λ k s. ins-nobody s.ins; hook = λ k s. refl }
+effect-is instr = record { rack = λ k s. refl; ins = λ k s. ins-nobody s.ins; hook = λ k s. refl }

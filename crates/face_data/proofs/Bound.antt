@@ -44,6 +44,7 @@ pub at_most_bound : (f : ℕ → ℕ) (n bound : ℕ) → ((k : ℕ) → k < n �
 at_most_bound f n bound below other =
     omega (arith, length-upto f n, length-le_from_distinct_below (upto f n) bound (upto_distinct f n other) (λ q e. upto_below f n bound q below e))
 
+-- being one needle is an equivalence
 pub needle_laws : IsEquivalence same_needle
 needle_laws = decided same_needle Decides-same_needle
 

@@ -138,6 +138,7 @@ all_plain carriers limit first second e a lines (c ∷ cs) o fit h = (
   all_plain carriers limit first second e a lines cs o fit (λ d there. h d (Contains-tail c cs d there)),
 )
 
+-- no check is of a later line
 abbrev pub NotPast : List Asked → ℕ → List Asked → Type 0
 NotPast kept lines rest = (c d : Asked) → Contains kept c → Contains rest d → c.fault.line ≤ lines + d.fault.line
 
@@ -277,6 +278,7 @@ asks_fit_more carriers limit first second hook_free h = tt
 asks_fit_more carriers limit first second (hook_is x) h = h
 asks_fit_more carriers limit first second (hook_lacks x) h = h
 
+-- no change owns nothing twice
 pub owns_nothing : OwnsOnce []
 owns_nothing = record {
   distinct = λ m. ((λ h. Contains-none m h), tt);

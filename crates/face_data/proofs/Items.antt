@@ -45,6 +45,7 @@ ones (z ∷ zs) = omega (arith, ones zs, sum_by-cons (λ (n : Needle). 1) z zs)
 pub length_within : (xs ys : List Needle) → IsDistinct xs → IsWithin xs ys → length xs ≤ length ys
 length_within xs ys d w = omega (arith, sum_within (λ n. 1) xs ys d w, ones xs, ones ys)
 
+-- the conditions on sizes among them
 abbrev pub sized_from : Ask → List Sized → List Sized
 sized_from (size_at_most names most) rest = record { names = names; most = most } ∷ rest
 sized_from q rest = rest
@@ -163,6 +164,7 @@ size_items_bound carriers limit known f g =
     = mul-le-mul_right (length known + 1) (sizes_bound limit known (sizes_of f.checks) (are_sizes carriers limit known f g)) in
     omega (arith, each, many)
 
+-- the needles that are changed
 abbrev pub needles_changed : List Changed → List Needle
 needles_changed cs = map (λ (c : Changed). c.0) cs
 
@@ -173,11 +175,13 @@ not_above_itself n (c ∷ cs) h k = elim (Contains-cons_cases c.0 (needles_chang
   | inr later ↦ not_above_itself n cs h.1 later
 ]
 
+-- each needle is changed once
 pub needles_distinct : (cs : List Changed) → IsInOrder cs → IsDistinct (needles_changed cs)
 unfolding IsStrictlySortedBy
 needles_distinct [] h = tt
 needles_distinct (c ∷ cs) h = (not_above_itself c.0 cs h.0, needles_distinct cs h.1)
 
+-- the needle of a change
 pub needle_in : (cs : List Changed) (c : Changed) → Contains cs c → Contains (needles_changed cs) c.0
 needle_in [] c h = absurd (Contains-none c h)
 needle_in (x ∷ cs) c h = elim (Contains-cons_cases x cs c h) [
@@ -185,6 +189,7 @@ needle_in (x ∷ cs) c h = elim (Contains-cons_cases x cs c h) [
   | inr later ↦ Contains-tail x.0 (needles_changed cs) c.0 (needle_in cs c later)
 ]
 
+-- the change of a needle
 pub in_needles : (cs : List Changed) (n : Needle) → Contains (needles_changed cs) n → (c : Changed) × Contains cs c × (c.0 ≡ n)
 in_needles [] n h = absurd (Contains-none n h)
 in_needles (x ∷ cs) n h = elim (Contains-cons_cases x.0 (needles_changed cs) n h) [
@@ -213,11 +218,13 @@ found_head x cs c b e above (inl same) ih = subst (λ t. (if t then Some x.1 els
 found_head x cs c true e above (inr later) ih = absurd (not_above_itself x.0 cs above (subst (Contains (needles_changed cs)) (same_needle-true c.0 x.0 e) (needle_in cs c later)))
 found_head x cs c false e above (inr later) ih = ih later
 
+-- a change is found by its needle
 pub change_found : (cs : List Changed) (c : Changed) → IsInOrder cs → Contains cs c → change_at cs c.0 ≡ Some c.1
 unfolding IsStrictlySortedBy
 change_found [] c order h = absurd (Contains-none c h)
 change_found (x ∷ cs) c order h = found_head x cs c (same_needle c.0 x.0) refl order.0 (Contains-cons_cases x cs c h) (λ k. change_found cs c order.1 k)
 
+-- and its segments are what the needle holds
 pub segments_found : (cs : List Changed) (c : Changed) → IsInOrder cs → Contains cs c → segments_on cs c.0 ≡ c.1
 segments_found cs c order h = ap (λ o. unwrap_or o (Entry c.0 ∷ [])) (change_found cs c order h)
 
@@ -225,6 +232,7 @@ segments_found cs c order h = ap (λ o. unwrap_or o (Entry c.0 ∷ [])) (change_
 abbrev pub all_entries : List Changed → List Needle
 all_entries cs = flat_map (λ (c : Changed). entries_of c.1) cs
 
+-- the change in whose segments an entry stands
 pub in_entries : (cs : List Changed) (n : Needle) → Contains (all_entries cs) n → (c : Changed) × Contains cs c × Contains (entries_of c.1) n
 in_entries [] n h = absurd (Contains-none n h)
 in_entries (x ∷ cs) n h = elim (Contains-append_cases (entries_of x.1) (all_entries cs) n h) [
@@ -232,6 +240,7 @@ in_entries (x ∷ cs) n h = elim (Contains-append_cases (entries_of x.1) (all_en
   | inr later ↦ (let w = in_entries cs n later in (w.0, Contains-tail x cs w.0 w.1, w.2))
 ]
 
+-- each entry stands once in the segments of all changes
 pub entries_distinct : (whole cs : List Changed) → IsInOrder whole → OwnsOnce whole → IsDistinct (needles_changed cs) → ((c : Changed) → Contains cs c → Contains whole c) → IsDistinct (all_entries cs)
 entries_distinct whole [] order o d sub = tt
 entries_distinct whole (x ∷ cs) order o d sub =
@@ -244,6 +253,7 @@ entries_distinct whole (x ∷ cs) order o d sub =
     let same = o.owner x.0 w.0.0 n (subst (λ segs. Contains (entries_of segs) n) (sym here) h) (subst (λ segs. Contains (entries_of segs) n) (sym there) w.2) in
     d.0 (subst (Contains (needles_changed cs)) (sym same) (needle_in cs w.0 w.1)))
 
+-- segments are entries and new loops
 pub length-segs : (segs : List Seg) → length segs ≡ length (entries_of segs) + new_of segs
 length-segs [] = refl
 length-segs (Entry n ∷ segs) = omega (arith, length-segs segs, sum_by-cons new_in (Entry n) segs)

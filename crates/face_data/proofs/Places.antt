@@ -63,9 +63,11 @@ order_behind (f ∷ front) c rest order = order_behind front c rest order.1
 split : (changes : List Changed) (i : ℕ) (d : Changed) → i < length changes → take i changes ++ get_or changes i d ∷ drop (i + 1) changes ≡ changes
 split changes i d within = ap (λ rest. take i changes ++ rest) (sym (drop_more changes i d within)) ∙ take-append-drop i changes
 
+-- the changes before a place are of needles before its needle
 pub before_at : (changes : List Changed) (i : ℕ) (d : Changed) → IsInOrder changes → i < length changes → AllBefore (get_or changes i d).0 (take i changes)
 before_at changes i d order within = order_before (take i changes) (get_or changes i d) (drop (i + 1) changes) (subst IsInOrder (sym (split changes i d within)) order)
 
+-- and those behind it of needles behind
 pub behind_at : (changes : List Changed) (i : ℕ) (d : Changed) → IsInOrder changes → i < length changes → AllBehind (get_or changes i d).0 (drop (i + 1) changes)
 behind_at changes i d order within = order_behind (take i changes) (get_or changes i d) (drop (i + 1) changes) (subst IsInOrder (sym (split changes i d within)) order)
 
@@ -192,6 +194,7 @@ written_at held slice now n i d new segs order lent seen at is same =
     ∙ set_place held n i d segs order here
     ∙ ap (λ xs. merged xs ((n, segs) ∷ [])) (sym seen)
 
+-- and an insertion
 pub inserted_at : (held slice now new : List Changed) (n : Needle) (i : ℕ) (segs : List Seg) → slice ≡ held → now ≡ held → GoesAt slice n i → new ≡ insert held i (n, segs) → new ≡ merged now ((n, segs) ∷ [])
 inserted_at held slice now new n i segs lent seen at is =
     is ∙ insert_place held n i segs (subst (λ xs. GoesAt xs n i) lent at) ∙ ap (λ xs. merged xs ((n, segs) ∷ [])) (sym seen)

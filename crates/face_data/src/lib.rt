@@ -1,8 +1,7 @@
 //! What a block of lines does to a machine's state, kept as a face: conditions on the state at its entry, and changes.
 //!
 //! Promises that `Symbols` keeps the segments of each needle that was touched, that `ask_size` tells how many loops needles may
-//! hold at entry so that they hold few enough now, that `forming_needle` finds where a loop is formed, and that the rules of
-//! the machine fall into four groups. `ShortList` is the list of an instruction's few conditions and changes: it promises that its
+//! hold at entry so that they hold few enough now, and that the rules of the machine fall into four groups. `ShortList` is the list of an instruction's few conditions and changes: it promises that its
 //! first four items take no memory but its own.
 //! A `Digest` tells what conditions that are kept say of another one that isn't on sizes, `Effect::bearing_on` what a block says of one
 //! that is asked after it, and `Effect::then` puts two effects together.
@@ -27,7 +26,6 @@ mod bearing;
 mod digest;
 mod effect;
 mod face;
-mod forming;
 mod laws;
 mod short_list;
 mod sizes;
@@ -39,7 +37,6 @@ mod tests;
 pub use bearing::Bearing;
 pub use digest::Digest;
 pub use face::{Change, Check, Cond, CondList, Effect, Ending, FaceView, Part, Seg, Segs};
-pub use forming::forming_needle;
 pub use laws::rules_in_groups;
 pub use short_list::ShortList;
 pub use sizes::{NeedleList, SizeAsk, SizeAsks, ask_size};

@@ -1,14 +1,14 @@
 //! What the needles hold after some lines of a block.
-ghost use Rattle.std.specs.Prelude.{◌≡◌, ◌+◌, ◌≤◌, ◌<◌, [], ◌∷◌, Some, None, IfOk, IfErr, OnOk, OnErr, length, take, drop, if◌then◌else◌};
+ghost use Rattle.std.specs.Prelude.{◌≡◌, ◌+◌, ◌≤◌, ◌<◌, [], ◌∷◌, ◌++◌, Some, None, IfOk, IfErr, OnOk, OnErr, length, take, drop, if◌then◌else◌};
 ghost use Rattle.std.specs.Option.{option_copied};
 ghost use Rattle.knit_base.specs.declared.needle.Needle.{Needle};
 ghost use Rattle.knit_base.specs.Needle.{same_needle};
 ghost use Rattle.face_data.specs.Composition.{merged};
 ghost use Rattle.face_data.specs.Goodness.{IsInOrder};
 ghost use Rattle.face_data.specs.Places.{StandsAt, GoesAt};
-ghost use Rattle.face_data.specs.Segments.{change_at};
+ghost use Rattle.face_data.specs.Segments.{change_at, segments_on};
 
-use crate::{Segs, ShortList};
+use crate::{Seg, Segs, ShortList};
 use knit_base::{Needle, NoMemory, needle_order};
 use std::alloc::Global;
 use std::cmp::Ordering;
@@ -60,6 +60,18 @@ impl Symbols {
         match find(&self.held, self.places[guess_of(n)], n) {
             Ok(i) => Some(&self.held[i].1),
             Err(_) => None,
+        }
+    }
+
+    /// Appends the segments that the needle holds: its own entry where it wasn't touched. A list that would pass what a `u32`
+    /// counts is refused as want of memory.
+    pub fn append_segs(&self, n: Needle, segs: &mut Segs) -> Result<(), NoMemory>
+        ensures ok { OnOk result (segs.new ≡ segs.old ++ segments_on self.now n) }
+        ensures err { OnErr result (segs.new ≡ segs.old) }
+    {
+        match self.of(n) {
+            Some(held) => append(held.as_slice(), segs),
+            None => append(&[Seg::Entry(n)], segs),
         }
     }
 
@@ -147,4 +159,15 @@ fn search(held: &[(Needle, Segs)], n: Needle) -> Result<usize, usize>
         }
     }
     Err(low)
+}
+
+fn append(more: &[Seg], segs: &mut Segs) -> Result<(), NoMemory>
+    ensures ok { OnOk result (segs.new ≡ segs.old ++ more.now) }
+    ensures err { OnErr result (segs.new ≡ segs.old) }
+{
+    let room = u32::MAX - segs.len();
+    if more.len() > room as usize {
+        return Err(NoMemory);
+    }
+    segs.extend_from_slice(more)
 }

@@ -7,16 +7,16 @@
 
 ghost use Rattle.std.specs.Prelude.{◌≡◌, ℕ, IfOk};
 ghost use Rattle.std.specs.Option.{is_none, option_map};
-ghost use Rattle.knit_base.specs.Needle.{own_slider};
 ghost use Rattle.carriage_model.specs.State.{State};
 ghost use Rattle.face_data.specs.Conditions.{unmet_size_if_any};
-ghost use Rattle.face_data.specs.RuleGroups.{slider_broken, forming_needle};
+ghost use Rattle.face_data.specs.RuleGroups.{slider_broken};
+ghost use Rattle.knit_base.specs.Instr.{forming_needle};
 ghost use Rattle.face_data.specs.Segments.{AreRead};
 ghost use Rattle.face_data.specs.Sizes.{size_ask};
 ghost use Rattle.slider_rules.specs.Sliders.{slider_rule};
 
-use face_data::{SizeAsk, Symbols, ask_size, forming_needle};
-use knit_base::{Bed, Instr, Needle, NoMemory, Reason, Rule};
+use face_data::{SizeAsk, Symbols, ask_size};
+use knit_base::{Instr, NoMemory, Reason, Rule};
 use std::alloc::Global;
 
 #[cfg(test)]
@@ -29,25 +29,13 @@ pub fn ask(alloc: Global, instr: &Instr, segments: &Symbols) -> Result<Option<Si
     ensures is { IfOk result (λ ask. ask ≡ option_map (size_ask segments.now) (slider_rule instr.now)) }
     ensures none { IfOk result (λ ask. is_none ask ≡ is_none (forming_needle instr.now)) }
 {
-    let Some(n) = forming_needle(instr) else {
+    let Some(n) = instr.forming_needle() else {
         return Ok(None);
     };
     let reason = Reason {
         rule: Rule::SliderHolds,
         at: 2,
     };
-    let ask = ask_size(alloc, reason, 0, &[own_slider(n)], segments)?;
+    let ask = ask_size(alloc, reason, 0, &[n.own_slider()], segments)?;
     Ok(Some(ask))
-}
-
-// The slider of a needle's side and number.
-fn own_slider(n: Needle) -> Needle
-    ensures { result ≡ own_slider n }
-{
-    let bed = if n.bed.is_front() {
-        Bed::FrontSlider
-    } else {
-        Bed::BackSlider
-    };
-    Needle { bed, at: n.at }
 }

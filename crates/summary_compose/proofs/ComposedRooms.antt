@@ -31,7 +31,8 @@ use Rattle.summary_compose.specs.Rooms.{CanBeMade, capped, room_of, room_of_both
 use Rattle.summary_compose.proofs.Checks.{named_size}
 use Rattle.summary_compose.proofs.Parts.{packed_size}
 use Rattle.summary_compose.specs.Known.{AreGood, checks_in, names_count, names_read_count}
-use Rattle.summary_compose.proofs.Rooms.{all_entries_flat, distinct_names, from_both, in_all, names_read_bound, merged_length, merged_segs, named_or_none, own_none}
+use Rattle.summary_compose.proofs.Rooms.{all_entries_flat, from_both, in_all, names_read_bound, merged_length, merged_segs, named_or_none, own_none}
+use Rattle.face_data.proofs.KnownAnswers.{AskFits-distinct}
 
 -- how many conditions are kept, and how many needles they name
 pub record ReadSizes (ch : List Changed) (kept rest checks : List Asked) : Type 0 where
@@ -182,7 +183,7 @@ composed_room a b f g pa pb pf is made =
     let eb = entries_in_packed b pb in
     let ef = entries_in_packed f pf in
     let asked : length (checks_in b) * length (all_entries (changes_in a)) ≡ length b.checks.now * length (entries_of a.segs.now) = ap₂ (λ (x y : ℕ). x * y) cb ea in
-    let read = names_read_bound (changes_in a) (checks_in b) g.first.owns (λ c there. distinct_names g.carriers g.limit g.second_known c.ask (g.second.asks_fit c there)) in
+    let read = names_read_bound (changes_in a) (checks_in b) g.first.owns (λ c there. AskFits-distinct g.carriers g.limit g.second_known c.ask (g.second.asks_fit c there)) in
     let both = length a.names.now + length b.names.now in
     let through = length b.checks.now * length (entries_of a.segs.now) in
     let names = fits_both_if (length f.names.now) both through (nat_lt (2 ^ 62) both) (nat_lt (2 ^ 62) through) (omega (arith, s.few_names, na, nb, nf, read, asked)) made.names in

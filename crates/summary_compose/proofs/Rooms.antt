@@ -39,6 +39,7 @@ use Rattle.summary_compose.specs.Rooms.{CanBeMade, capped, room_after, room_of_b
 use Rattle.summary_compose.specs.declared.room.Room.{Room}
 use Rattle.summary_compose.proofs.Checks.{named_size}
 use Rattle.summary_compose.proofs.Parts.{packed_size}
+use Rattle.face_data.proofs.KnownAnswers.{AskFits-distinct}
 
 pub in_all : (cs : List Changed) (c : Changed) (n : Needle) → Contains cs c → Contains (entries_of c.1) n → Contains (all_entries cs) n
 in_all [] c n h k = absurd (Contains-none c h)
@@ -79,15 +80,6 @@ all_entries_flat segs [] = refl
 all_entries_flat segs (c ∷ cs) =
     flat_map-append entries_in (part_of segs c.part) (flat_map (λ (c : Change). part_of segs c.part) cs)
     ∙ ap (λ r. entries_of (part_of segs c.part) ++ r) (all_entries_flat segs cs)
-
-pub distinct_names : (carriers limit : ℕ) (known : List Needle) (q : Ask) → AskFits carriers limit known q → IsDistinct (names_in q)
-distinct_names carriers limit known (size_at_most names most) fits = fits.distinct
-distinct_names carriers limit known (rack_is x) fits = tt
-distinct_names carriers limit known (carrier_in x) fits = tt
-distinct_names carriers limit known (carrier_out x) fits = tt
-distinct_names carriers limit known hook_free fits = tt
-distinct_names carriers limit known (hook_is x) fits = tt
-distinct_names carriers limit known (hook_lacks x) fits = tt
 
 by_order_length : (o : Ordering) (xs ys zs : List Changed) (n : ℕ) → length xs ≤ n → length ys ≤ n → length zs ≤ n → length (by_order o xs ys zs) ≤ n
 by_order_length Less xs ys zs n h k l = h
@@ -309,7 +301,7 @@ finds_room a b g pa pb room made h =
     = ap length (sym (all_entries_flat a.segs.now a.changes.now) ∙ ap entries_of pa.segs) in
     let asked : length (checks_in b) * length (all_entries ca) ≡ length b.checks.now * length (entries_of a.segs.now)
     = ap₂ (λ (x y : ℕ). x * y) (length-map b.checks.now (asked_of b.names.now)) entries in
-    let read = names_read_bound ca (checks_in b) g.first.owns (λ c there. distinct_names g.carriers g.limit g.second_known c.ask (g.second.asks_fit c there)) in
+    let read = names_read_bound ca (checks_in b) g.first.owns (λ c there. AskFits-distinct g.carriers g.limit g.second_known c.ask (g.second.asks_fit c there)) in
     let names = capped_is (capped (length a.names.now + length b.names.now) + capped (length b.checks.now * length (entries_of a.segs.now))) room.names h.names made.names in
     let own = capped_is (length a.names.now + length b.names.now) (capped (length a.names.now + length b.names.now)) (omega arith) (omega (arith, names, made.names)) in
     let other = capped_is (length b.checks.now * length (entries_of a.segs.now)) (capped (length b.checks.now * length (entries_of a.segs.now))) (omega arith) (omega (arith, names, made.names)) in

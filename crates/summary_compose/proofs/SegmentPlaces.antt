@@ -17,12 +17,13 @@ use Rattle.face_data.specs.declared.face.Seg.TheVariants.{Entry}
 use Rattle.face_data.specs.Conditions.{part_of}
 use Rattle.face_data.specs.Goodness.{IsInOrder}
 use Rattle.face_data.specs.Segments.{Changed, change_at, segments_on}
-use Rattle.face_data.specs.View.{changed_of}
-use Rattle.summary_compose.specs.Changes.{changed_needles, PartsFit}
+use Rattle.face_data.specs.View.{changed_of, PartsFit}
+use Rattle.summary_compose.specs.Changes.{changed_needles}
 use Rattle.summary_compose.specs.Spots.{spot_of}
 use Rattle.summary_compose.specs.Tables.{Leads, IsTableOf}
 use Rattle.summary_compose.proofs.Tables.{leads_take_same, leads_take_other, leads_nowhere, tells_push}
-use Rattle.knit_base.proofs.Needles.{same_needle-same, needle_cmp-refl}
+use Rattle.knit_base.proofs.Needles.{same_needle-same, needle_cmp-refl, same_needle-false}
+use Rattle.face_data.proofs.ChangeLists.{not_less_and_equal}
 
 pub needle_at : (changes : List Change) (i : ℕ) (d : Change) (n : Needle) → i < length changes → get_or (changed_needles changes) i n ≡ (get_or changes i d).needle
 needle_at [] i d n within = absurd (omega arith)
@@ -73,15 +74,11 @@ cond_true : (b : Bool) (x y : Option (List Seg)) → b ≡ true → cond b x y �
 cond_true true x y e = refl
 cond_true false x y e = absurd (true≢false (sym e))
 
-not_same : (n m : Needle) (b : Bool) → same_needle n m ≡ b → (m ≡ n → ⊥) → same_needle n m ≡ false
-not_same n m true e differ = absurd (differ (sym (same_needle-true n m e)))
-not_same n m false e differ = e
-
 unchanged : (segs : List Seg) (changes : List Change) (n : Needle) → ((k : ℕ) → k < length (changed_needles changes) → get_or (changed_needles changes) k n ≡ n → ⊥) →
     change_at (map (changed_of segs) changes) n ≡ None
 unchanged segs [] n h = refl
 unchanged segs (c ∷ cs) n h =
-    cond_false (same_needle n c.needle) (Some (part_of segs c.part)) (change_at (map (changed_of segs) cs) n) (not_same n c.needle (same_needle n c.needle) refl (h 0 (omega arith)))
+    cond_false (same_needle n c.needle) (Some (part_of segs c.part)) (change_at (map (changed_of segs) cs) n) (same_needle-false n c.needle (λ e. h 0 (omega arith) (sym e)))
     ∙ unchanged segs cs n (λ k within. h (suc k) (omega arith))
 
 pub segments_own : (segs : List Seg) (changes : List Change) (n : Needle) (place : ℕ) → Leads (changed_needles changes) n place →
@@ -106,9 +103,6 @@ above_at segs n [] k d h within = absurd (omega arith)
 above_at segs n (c ∷ cs) zero d h within = h.0
 above_at segs n (c ∷ cs) (suc k) d h within = above_at segs n cs k d h.1 (omega arith)
 
-less_not_equal : (o : Ordering) → o ≡ Less → o ≡ Equal → ⊥
-less_not_equal o p q = cc
-
 changed_at : (segs : List Seg) (changes : List Change) (n : Needle) (k : ℕ) (d : Change) → IsInOrder (map (changed_of segs) changes) → k < length changes →
     (get_or changes k d).needle ≡ n → change_at (map (changed_of segs) changes) n ≡ Some (part_of segs (get_or changes k d).part)
 unfolding IsStrictlySortedBy
@@ -118,9 +112,9 @@ changed_at segs (c ∷ cs) n zero d order within here =
 changed_at segs (c ∷ cs) n (suc k) d order within here =
     let less : needle_cmp c.needle (get_or cs k d).needle ≡ Less = above_at segs c.needle cs k d order.0 (omega arith) in
     let other : c.needle ≡ n → ⊥ = λ same.
-    less_not_equal (needle_cmp c.needle (get_or cs k d).needle) less
+    not_less_and_equal (needle_cmp c.needle (get_or cs k d).needle) less
     (subst (λ m. needle_cmp c.needle m ≡ Equal) (same ∙ sym here) (needle_cmp-refl c.needle)) in
-    cond_false (same_needle n c.needle) (Some (part_of segs c.part)) (change_at (map (changed_of segs) cs) n) (not_same n c.needle (same_needle n c.needle) refl other)
+    cond_false (same_needle n c.needle) (Some (part_of segs c.part)) (change_at (map (changed_of segs) cs) n) (same_needle-false n c.needle (λ e. other (sym e)))
     ∙ changed_at segs cs n k d order.1 (omega arith) here
 
 pub segments_at : (segs : List Seg) (changes : List Change) (n : Needle) (k : ℕ) (d : Change) → IsInOrder (map (changed_of segs) changes) → k < length changes →

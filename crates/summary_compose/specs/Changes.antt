@@ -10,17 +10,13 @@ use Rattle.face_data.specs.declared.face.FaceView.{FaceView}
 use Rattle.face_data.specs.Composition.{merged}
 use Rattle.face_data.specs.Segments.{Changed}
 use Rattle.face_data.specs.Through.{changes_through}
-use Rattle.face_data.specs.View.{changed_of}
+use Rattle.face_data.specs.View.{changed_of, PartsFit}
 
 -- the needles of changes
 abbrev pub changed_needles : List Change → List Needle
 changed_needles changes = map (λ (c : Change). c.needle) changes
 
--- the part of each change lies in the list of segments
-abbrev pub PartsFit : List Seg → List Change → Type 0
-PartsFit segs changes = All (λ (c : Change). c.part.start + c.part.len ≤ length segs) changes
-
--- and the parts make up the list
+-- the parts of the changes lie in the list of segments, and make it up
 pub record ArePacked (segs : List Seg) (changes : List Change) : Type 0 where
   pub fit : PartsFit segs changes
   pub whole : flat_map (λ (c : Change). part_of segs c.part) changes ≡ segs

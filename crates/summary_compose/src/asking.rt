@@ -7,15 +7,14 @@ ghost use Rattle.face_data.specs.Answers.Answer.{asks};
 ghost use Rattle.face_data.specs.Chains.{answer_known, chain_at};
 ghost use Rattle.face_data.specs.Composition.{from_bearing};
 ghost use Rattle.face_data.specs.Conditions.{ask_of, part_of};
-ghost use Rattle.face_data.specs.Digests.{CarrierFits, digest_bearing};
+ghost use Rattle.face_data.specs.Digests.{CarrierFits, digest_bearing, effect_bearing};
 ghost use Rattle.face_data.specs.Goodness.{IsInOrder};
 ghost use Rattle.face_data.specs.Segments.{names_through, new_through};
-ghost use Rattle.face_data.specs.View.{names_of};
-ghost use Rattle.summary_compose.specs.Changes.{changed_needles, changes_in, PartsFit};
-ghost use Rattle.summary_compose.specs.Known.{IsPlainCond, IsReadable, Knows, StepIs, names_count, noted_answer, read_plain};
+ghost use Rattle.face_data.specs.View.{names_of, PartsFit};
+ghost use Rattle.summary_compose.specs.Changes.{changed_needles, changes_in};
+ghost use Rattle.summary_compose.specs.Known.{IsPlainCond, IsReadable, Knows, StepIs, names_count, noted_answer};
 ghost use Rattle.summary_compose.specs.Tables.{Note, IsTableOf};
 
-use crate::effects::told_after;
 use crate::index::Index;
 use crate::kept::Kept;
 use crate::places::Places;
@@ -35,12 +34,12 @@ pub fn ask_plain(
     requires plain { IsPlainCond cond }
     requires carrier { CarrierFits cond }
     requires room { length kept.old.checks < kept.old.check_room }
-    ensures step { StepIs (from_bearing (read_plain effect.now (ask_of [] cond)) (from_bearing (digest_bearing digest.old (ask_of [] cond)) (asks (ask_of [] cond)))) kept.old.checks fault result kept.new.checks }
+    ensures step { StepIs (from_bearing (effect_bearing effect.now (ask_of [] cond)) (from_bearing (digest_bearing digest.old (ask_of [] cond)) (asks (ask_of [] cond)))) kept.old.checks fault result kept.new.checks }
     ensures knows { (notes : List Note) → Knows digest.old notes kept.old.checks → result ≡ true → Knows digest.new notes kept.new.checks }
     ensures check_room { kept.new.check_room ≡ kept.old.check_room }
     ensures name_room { kept.new.name_room ≡ kept.old.name_room }
 {
-    match told_after(effect, cond) {
+    match effect.bearing_on(cond) {
         Bearing::Implied => true,
         Bearing::Refuted => false,
         Bearing::Silent => match digest.bearing_on(cond) {

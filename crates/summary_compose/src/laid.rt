@@ -5,8 +5,8 @@ ghost use Rattle.face_data.specs.Goodness.{IsInOrder};
 ghost use Rattle.face_data.specs.Segments.{entries_of, new_of};
 ghost use Rattle.face_data.specs.Through.{piece, through, change_through, changes_through};
 ghost use Rattle.face_data.specs.Composition.{merged};
-ghost use Rattle.face_data.specs.View.{changed_of};
-ghost use Rattle.summary_compose.specs.Changes.{changed_needles, ArePacked, PartsFit, OffsetFits, segs_in};
+ghost use Rattle.face_data.specs.View.{changed_of, PartsFit};
+ghost use Rattle.summary_compose.specs.Changes.{changed_needles, ArePacked, OffsetFits, segs_in};
 ghost use Rattle.summary_compose.specs.Tables.{IsTableOf};
 
 use crate::places::Places;

@@ -4,7 +4,6 @@
 mod asking;
 mod charging;
 mod compose;
-mod effects;
 mod index;
 mod kept;
 mod laid;

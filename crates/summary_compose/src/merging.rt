@@ -4,8 +4,8 @@ ghost use Rattle.knit_base.specs.Needle.{needle_cmp};
 ghost use Rattle.face_data.specs.declared.face.Change.{Change};
 ghost use Rattle.face_data.specs.Conditions.{part_of};
 ghost use Rattle.face_data.specs.Goodness.{IsInOrder};
-ghost use Rattle.face_data.specs.View.{changed_of};
-ghost use Rattle.summary_compose.specs.Changes.{changed_needles, PartsFit, HaveOffsets, segs_in, changes_in, merged_of};
+ghost use Rattle.face_data.specs.View.{changed_of, PartsFit};
+ghost use Rattle.summary_compose.specs.Changes.{changed_needles, HaveOffsets, segs_in, changes_in, merged_of};
 ghost use Rattle.summary_compose.specs.Tables.{IsTableOf};
 
 use crate::laid::Laid;

@@ -2,7 +2,8 @@
 ghost use Rattle.std.specs.Prelude.{◌≡◌, ◌<◌, ◌≤◌, ◌+◌, ◌^◌, ◌++◌, length, map, vec_len, vec_capacity};
 ghost use Rattle.face_data.specs.Goodness.{IsInOrder};
 ghost use Rattle.face_data.specs.Segments.{segments_on, entries_of, names_through, new_of, new_through};
-ghost use Rattle.summary_compose.specs.Changes.{changed_needles, changes_in, PartsFit};
+ghost use Rattle.summary_compose.specs.Changes.{changed_needles, changes_in};
+ghost use Rattle.face_data.specs.View.{PartsFit};
 ghost use Rattle.summary_compose.specs.Tables.{IsTableOf};
 
 use crate::places::Places;

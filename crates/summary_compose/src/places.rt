@@ -4,8 +4,8 @@ ghost use Rattle.face_data.specs.declared.face.Change.{Change};
 ghost use Rattle.face_data.specs.declared.face.Seg.TheVariants.{Entry};
 ghost use Rattle.face_data.specs.Goodness.{IsInOrder};
 ghost use Rattle.face_data.specs.Segments.{segments_on};
-ghost use Rattle.face_data.specs.View.{changed_of};
-ghost use Rattle.summary_compose.specs.Changes.{changed_needles, PartsFit};
+ghost use Rattle.face_data.specs.View.{changed_of, PartsFit};
+ghost use Rattle.summary_compose.specs.Changes.{changed_needles};
 ghost use Rattle.summary_compose.specs.Tables.{Leads, IsTableOf};
 
 use crate::spots::{Table, is_same};

@@ -3,8 +3,8 @@ ghost use Rattle.std.specs.Prelude.{◌≡◌, ◌<◌, ◌≤◌, ◌+◌, ◌^
 ghost use Rattle.face_data.specs.declared.face.Check.{Check};
 ghost use Rattle.face_data.specs.Composition.{reads};
 ghost use Rattle.face_data.specs.Goodness.{IsInOrder};
-ghost use Rattle.face_data.specs.View.{asked_of};
-ghost use Rattle.summary_compose.specs.Changes.{changed_needles, changes_in, PartsFit};
+ghost use Rattle.face_data.specs.View.{asked_of, PartsFit};
+ghost use Rattle.summary_compose.specs.Changes.{changed_needles, changes_in};
 ghost use Rattle.summary_compose.specs.Known.{AreGood, IsReadable, Knows, checks_in, names_count, names_read_count};
 ghost use Rattle.summary_compose.specs.Tables.{IsTableOf};
 

@@ -8,6 +8,6 @@ use Rattle.carrier_rules.proofs.ask.Goals as goal
 pub returns-clause-broken : goal.returns-clause-broken
 returns-clause-broken c s = conds-broken c.args.instr.now s ∙ ap (λ conds. first_unmet conds s) (sym c.in_ok-conds_of.ensures)
 
-pub returns-clause-effect : goal.returns-clause-effect
-returns-clause-effect c =
+pub returns-clause-changes : goal.returns-clause-changes
+returns-clause-changes c =
     subst (IsEffectOf c.args.instr.now) (sym c.effect_of.ensures) (effect-is c.args.instr.now)

@@ -1,7 +1,7 @@
 use Rattle.std.proofs.Common.{◌∙◌, ap, sym}
 use Rattle.std.specs.Ordering.{int_eq}
 use Rattle.knit_base.specs.declared.rule.Rule.TheVariants.{NotAligned}
-use Rattle.carriage_model.specs.Rules.{rack_facing}
+use Rattle.knit_base.specs.Needle.{rack_facing}
 use Rattle.face_data.specs.Conditions.{unless}
 use Rattle.face_data.proofs.Conditions.{broken-unless}
 use Rattle.rack_align.proofs.facing.Goals as goal
