@@ -11,7 +11,7 @@ ghost use Rattle.block_summary.specs.Asks.{fact_of_formed, first_unmet_of, instr
 
 use crate::FormedLoop;
 use crate::formed::formed_loop;
-use face_data::{CondList, Effect, SizeAsk, SizeAsks, SymbolList, Symbols, rules_in_groups};
+use face_data::{CondList, Effect, SizeAsk, SizeAsks, SymbolList, Symbols};
 use knit_base::{Instr, NoMemory, Profile, Quarter, Reason};
 use std::alloc::Global;
 
@@ -47,7 +47,6 @@ pub fn ask_instr(
     ensures formed { IfOk result (λ ask. (s t : State) (first offset : ℕ) → AreRead segments.now s first t.stacks → loop_of_instr (first + offset) instr.now t ≡ fact_of_formed ask.formed s first (first + offset)) }
     ensures is { IfOk result (λ ask. ask ≡ instr_ask profile.now.hold instr.now segments.now) }
 {
-    rules_in_groups(profile, instr);
     let carriers = carrier_rules::ask(alloc, instr)?;
     let rack = rack_align::ask(instr);
     let slider = slider_rules::ask(alloc, instr, segments)?;

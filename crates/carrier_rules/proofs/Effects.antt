@@ -4,7 +4,7 @@ use Rattle.knit_base.specs.declared.instr.Instr.{Instr}
 use Rattle.knit_base.specs.declared.instr.Instr.TheVariants.{CarryIn, CarryOut, HookIn, HookOut, Knit, Tuck, Split}
 use Rattle.knit_base.specs.declared.yarns.CarrierNo.{CarrierNo}
 use Rattle.knit_base.specs.Yarns.{mask_of, with_carriers, without_carriers, without_set}
-use Rattle.face_data.specs.RuleGroups.{IsEffectOf}
+use Rattle.face_data.specs.Summaries.{IsEffectOf}
 use Rattle.carrier_rules.specs.Carriers.{effect_of}
 use Rattle.knit_base.proofs.Masks.{bit_or-none, without_set-none}
 use Rattle.face_data.proofs.Drafts.{ins-nobody}

@@ -14,7 +14,6 @@ mod Examples
 pub mod Front
 pub mod Gathering
 pub mod Goodness
-pub mod Groups
 pub mod Items
 pub mod KeptChecks
 pub mod KnownAnswers

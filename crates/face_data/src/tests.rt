@@ -1,6 +1,6 @@
 //! Each public call once, with ample memory.
-use crate::{Bearing, Cond, Digest, Effect, Seg, Segs, Symbols, ask_size, rules_in_groups};
-use knit_base::{Bed, CarrierNo, Instr, Needle, Profile, Quarter, Reason, Rule};
+use crate::{Bearing, Cond, Digest, Effect, Seg, Segs, Symbols, ask_size};
+use knit_base::{Bed, CarrierNo, Needle, Quarter, Reason, Rule};
 use std::test::Fail;
 
 const FRONT: Needle = Needle {
@@ -58,19 +58,6 @@ fn a_list_outgrows_its_places(rt: HostRuntime) -> Result<(), Fail> {
     assert_eq!(rt; segs.get(3).copied(), Some(Seg::New(3)));
     assert_eq!(rt; segs.get(5).copied(), Some(Seg::New(5)));
     assert!(rt; segs.get(6).is_none());
-    Ok(())
-}
-
-#[test]
-fn a_transfer_forms_no_loop(rt: HostRuntime) -> Result<(), Fail> {
-    let profile = Profile {
-        low: 0,
-        high: 8,
-        rack: 4,
-        hold: 16,
-    };
-    let transfer = Instr::Xfer(FRONT, BACK);
-    rules_in_groups(&profile, &transfer);
     Ok(())
 }
 
