@@ -1,7 +1,7 @@
 //! Whole answers, by the tables of `docs/MODEL.md`.
 ghost use Rattle.std.specs.Prelude.{◌≡◌, ◌∷◌, [], IfOk};
 
-use crate::{InstrAsk, LineAsk, ask_instr, ask_line};
+use crate::{FormedLoop, InstrAsk, LineAsk, ask_instr, ask_line};
 use face_data::{Cond, Effect, Seg, Segs, SizeAsk, SymbolList, Symbols};
 use knit_base::{
     Bed, CarrierNo, Dir, Instr, Needle, NoMemory, Profile, Quarter, Read, Reason, Rule, Yarns,
@@ -55,6 +55,18 @@ fn gives(changed: &SymbolList, n: Needle, segs: &[Seg]) -> bool {
     false
 }
 
+fn is_loop(formed: Option<&FormedLoop>, needle: Needle, dir: Dir, through: &[Seg]) -> bool {
+    match formed {
+        Some(l) => {
+            l.needle == needle
+                && l.dir == dir
+                && l.yarns.as_slice() == [CarrierNo(3)].as_slice()
+                && l.through.as_slice() == through
+        }
+        None => false,
+    }
+}
+
 #[test]
 fn a_tuck_joins_what_was_formed(rt: HostRuntime) -> Result<(), Fail> {
     let alloc = rt.alloc();
@@ -82,7 +94,7 @@ fn a_tuck_joins_what_was_formed(rt: HostRuntime) -> Result<(), Fail> {
     assert!(rt; is_size(ask.sizes.get(0), reason(Rule::TooManyLoops, 2), &[back], 14));
     assert_eq!(rt; ask.effect, NO_EFFECT);
     assert!(rt; ask.changed.is_empty());
-    assert_eq!(rt; ask.makes, Some(back));
+    assert!(rt; is_loop(ask.formed.as_ref(), back, Dir::Left, &[]));
     Ok(())
 }
 
@@ -109,7 +121,7 @@ fn a_transfer_from_an_untouched_needle(rt: HostRuntime) -> Result<(), Fail> {
     assert_eq!(rt; ask.changed.len(), 2);
     assert!(rt; gives(&ask.changed, front, &[]));
     assert!(rt; gives(&ask.changed, back, &[Seg::Entry(back), Seg::Entry(front)]));
-    assert_eq!(rt; ask.makes, None);
+    assert!(rt; ask.formed.is_none());
     Ok(())
 }
 
@@ -146,7 +158,7 @@ fn a_split_moves_the_loops_and_forms_one(rt: HostRuntime) -> Result<(), Fail> {
     assert_eq!(rt; ask.changed.len(), 2);
     assert!(rt; gives(&ask.changed, front, &[]));
     assert!(rt; gives(&ask.changed, back, &[Seg::Entry(back), Seg::Entry(front)]));
-    assert_eq!(rt; ask.makes, Some(front));
+    assert!(rt; is_loop(ask.formed.as_ref(), front, Dir::Right, &[Seg::Entry(front)]));
     Ok(())
 }
 
@@ -165,7 +177,7 @@ fn is_outhook(ask: &InstrAsk) -> bool {
         && ask.slider.is_none()
         && ask.sizes.is_empty()
         && ask.changed.is_empty()
-        && ask.makes.is_none()
+        && ask.formed.is_none()
 }
 
 #[test]
@@ -192,6 +204,22 @@ fn a_line_by_what_it_says(rt: HostRuntime) -> Result<(), Fail> {
     let outhook = Read::Instr(Instr::HookOut(fourth_carrier(alloc)?));
     match ask_line(alloc, &outhook, &MACHINE, &segments)? {
         LineAsk::Asks(ask) => assert!(rt; is_outhook(&ask)),
+        LineAsk::Nothing | LineAsk::Ends(_) => assert!(rt; false),
+    }
+    Ok(())
+}
+
+#[test]
+fn a_knit_is_drawn_through_what_was_formed(rt: HostRuntime) -> Result<(), Fail> {
+    let alloc = rt.alloc();
+    let front = needle(Bed::Front, 2);
+    let mut segments = Symbols::new(alloc);
+    segments.set(front, Segs::one(alloc, Seg::New(5)))?;
+    let knit = Read::Instr(Instr::Knit(Dir::Left, front, fourth_carrier(alloc)?));
+    match ask_line(alloc, &knit, &MACHINE, &segments)? {
+        LineAsk::Asks(ask) => {
+            assert!(rt; is_loop(ask.formed.as_ref(), front, Dir::Left, &[Seg::New(5)]));
+        }
         LineAsk::Nothing | LineAsk::Ends(_) => assert!(rt; false),
     }
     Ok(())

@@ -219,6 +219,7 @@ members_merged P [] bs h k c there = k c there
 members_merged P (a ∷ others) bs h k c there =
     members_merged_from a (merged others) P (h a (Contains-head a others)) (λ cs j. members_merged P others cs (λ d i. h d (Contains-tail a others d i)) j) bs k c there
 
+-- a fact of each change of the second block, read through the first
 pub members_through : (P : Changed → Type 0) (a : List Changed) (lines : ℕ) (bs : List Changed) → ((c : Changed) → Contains bs c → P (change_through a lines c)) →
     (c : Changed) → Contains (changes_through a lines bs) c → P c
 members_through P a lines [] h c there = absurd (Contains-none c there)

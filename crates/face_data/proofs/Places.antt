@@ -171,6 +171,7 @@ one_in_order : (n : Needle) (segs : List Seg) → IsInOrder ((n, segs) ∷ [])
 unfolding IsStrictlySortedBy
 one_in_order n segs = (tt, tt)
 
+-- a write keeps the order
 pub merged_in_order : (held new : List Changed) (n : Needle) (segs : List Seg) → IsInOrder held → new ≡ merged held ((n, segs) ∷ []) → IsInOrder new
 merged_in_order held new n segs order is = subst IsInOrder (sym is) (order_merged held ((n, segs) ∷ []) order (one_in_order n segs))
 
@@ -182,6 +183,7 @@ found_at held slice now n i d order lent seen at is =
     ∙ at_place held n i d order (subst (λ xs. StandsAt xs n i) lent at)
     ∙ ap (λ xs. change_at xs n) (sym seen)
 
+-- and what it finds of a needle that stands nowhere
 pub missed_at : (held slice now : List Changed) (n : Needle) (i : ℕ) → slice ≡ held → now ≡ held → GoesAt slice n i → None ≡ change_at now n
 missed_at held slice now n i lent seen at = at_gap held n i (subst (λ xs. GoesAt xs n i) lent at) ∙ ap (λ xs. change_at xs n) (sym seen)
 

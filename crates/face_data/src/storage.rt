@@ -116,11 +116,11 @@ impl<T: Copy + Drop> Storage<T> {
         ensures items { items_in result ≡ items_in self ++ more.now }
         ensures near { IsNear result }
     {
-        let mut kept = self;
+        let mut storage = self;
         for item in more {
-            kept = kept.joined(*item, Vec::new(alloc));
+            storage = storage.joined(*item, Vec::new(alloc));
         }
-        kept
+        storage
     }
 }
 

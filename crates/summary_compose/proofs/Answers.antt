@@ -164,6 +164,7 @@ plain_step d chains effect changes names c kept now fault goes_on plain h =
     subst (λ answer. StepIs answer kept fault goes_on now)
     (sym (ap (λ q. answer_known d chains (read_answer effect changes q)) (plain_ask names c plain) ∙ answer-plain d chains effect changes (ask_of [] c) (plain_condition c plain))) h
 
+-- a condition on sizes is asked
 pub sized_step : (d : Digest) (notes : List Note) (effect : Effect) (changes : List Changed) (names needles : List Needle) (c : Cond) (p : Part) (most : ℕ) (kept now : List Asked) (fault : Fault) (goes_on : Bool) →
     Knows d notes kept → c ≡ SizeAtMost p most → needles ≡ part_of names p →
     StepIs (noted_answer notes (names_through changes needles) (new_through changes needles) most) kept fault goes_on now →

@@ -39,6 +39,7 @@ pub record ReadSizes (ch : List Changed) (kept rest checks : List Asked) : Type 
   pub few : length checks ≤ length kept + length rest
   pub names : names_count checks ≤ names_count kept + names_read_count ch rest
 
+-- the conditions that are kept are no more, and name no more needles
 pub reads_sizes : (e : Effect) (a : List Changed) (lines : ℕ) (kept rest : List Asked) → ReadSizes a kept rest (reads e a lines kept rest).checks
 unfolding reads
 reads_sizes e a lines kept [] = record { few = omega arith; names = omega arith }
@@ -110,6 +111,7 @@ pub record Sizes (summary : Summary) (checks names changes segs entries : ℕ) :
   pub few_segs : segs_in summary.changes ≤ segs
   pub few_entries : length (all_entries summary.changes) ≤ entries
 
+-- no longer than those of both summaries together
 abbrev pub SizesOfBoth : Summary → Summary → Summary → Type 0
 SizesOfBoth s a b =
     Sizes s (length a.checks + length b.checks) (names_count a.checks + names_read_count a.changes b.checks) (length a.changes + length b.changes)

@@ -35,7 +35,7 @@ use Rattle.summary_compose.specs.Changes.{OffsetFits, changes_in, merged_of, seg
 use Rattle.summary_compose.specs.Composing.{Composes, EndingRises}
 use Rattle.summary_compose.specs.Known.{AreGood, IsFewThrough, checks_in}
 use Rattle.summary_compose.specs.Spots.{IsNumbered, spot_of}
-use Rattle.summary_compose.proofs.Spots.{bed_place_small, spot_of-injective}
+use Rattle.summary_compose.proofs.NeedleSpots.{bed_place_small, spot_of-injective}
 
 -- distinct needles stand at different places
 distinct_at : (xs : List Needle) → IsDistinct xs → (k l : ℕ) (d : Needle) → k < length xs → l < k → get_or xs k d ≡ get_or xs l d → ⊥

@@ -78,6 +78,7 @@ step_names e changes kept now q fault goes_on (asks w) is h =
     let from : length (names_in w) ≡ length (names_through changes (names_in q)) = ap length (names_read e changes q w ((against_asks kept (read_answer e changes q) w is).0)) in
     omega (arith, same, split, one, from)
 
+-- before any condition was read
 pub reads_begin : (a b : FaceView) (e : Effect) (kept : List Asked) (digest : Digest) (notes : List Note) → AreGood a b → kept ≡ checks_in a → Knows digest notes kept → ReadsOn a b e 0 kept digest notes
 reads_begin a b e kept digest notes good begun knows =
     let size : length (checks_in a) ≡ length a.checks.now = length-map a.checks.now (asked_of a.names.now) in
@@ -116,6 +117,7 @@ step_against a b e i d kept now digest notes goes_on good through so within h =
     ∙ sym (answer-known good.carriers good.limit good.first_known good.second_known e (summary_of a) (summary_of b) kept (check_at b i d) good.first good.second
     (lies_of good.carriers (summary_of a) e through good.first.ending) so.are_kept (next_there b i d within))) h
 
+-- one condition more
 pub reads_on : (a b : FaceView) (e : Effect) (i : ℕ) (d : Check) (kept now : List Asked) (digest after_digest : Digest) (notes after_notes : List Note) (goes_on : Bool) → AreGood a b → a.ending ≡ Through e →
     ReadsOn a b e i kept digest notes → i < length b.checks.now → goes_on ≡ true →
     StepIs (answer_known digest (chain_at kept) (read_answer e (changes_in a) (check_at b i d).ask)) kept (raised a.lines (check_at b i d).fault) goes_on now →
@@ -141,6 +143,7 @@ reads_on a b e i d kept now digest after_digest notes after_notes goes_on good t
       names = omega (arith, named, total, left, first);
     }
 
+-- one that can't hold
 pub reads_stop : (a b : FaceView) (e : Effect) (i : ℕ) (d : Check) (kept now : List Asked) (digest : Digest) (notes : List Note) (goes_on : Bool) → AreGood a b → a.ending ≡ Through e →
     ReadsOn a b e i kept digest notes → i < length b.checks.now → goes_on ≡ false →
     StepIs (answer_known digest (chain_at kept) (read_answer e (changes_in a) (check_at b i d).ask)) kept (raised a.lines (check_at b i d).fault) goes_on now →
@@ -157,12 +160,14 @@ reads_none : (e : Effect) (changes : List Changed) (lines : ℕ) (kept : List As
 unfolding reads
 reads_none e changes lines kept = refl
 
+-- all were read
 pub reads_end : (a b : FaceView) (e : Effect) (i : ℕ) (kept : List Asked) (digest : Digest) (notes : List Note) → ReadsOn a b e i kept digest notes → length b.checks.now ≤ i →
     reads e (changes_in a) a.lines (checks_in a) (checks_in b) ≡ record { checks = kept; stop = None }
 reads_end a b e i kept digest notes so past =
     let long : length (checks_in b) ≡ length b.checks.now = length-map b.checks.now (asked_of b.names.now) in
     sym so.read ∙ ap (reads e (changes_in a) a.lines kept) (drop_all i (checks_in b) (omega arith)) ∙ reads_none e (changes_in a) a.lines kept
 
+-- there is room for the next
 pub next_room : (a b : FaceView) (e : Effect) (i : ℕ) (d : Check) (kept : List Asked) (digest : Digest) (notes : List Note) → ReadsOn a b e i kept digest notes → i < length b.checks.now →
     names_count kept + length (names_through (changes_in a) (names_of b.names.now (get_or b.checks.now i d).cond)) ≤ names_count (checks_in a) + names_read_count (changes_in a) (checks_in b)
 next_room a b e i d kept digest notes so within =
@@ -193,6 +198,7 @@ next_note face i d within =
     let same : length (names_in c.ask) ≡ length (names_of face.names.now (get_or face.checks.now i d).cond) = ap length (names_in_ask face.names.now (get_or face.checks.now i d).cond) in
     omega (arith, whole, split, left, first, same)
 
+-- one condition more is noted
 pub noted_more : (face : FaceView) (i : ℕ) (d : Check) → i < length face.checks.now → take i (checks_in face) ++ check_at face i d ∷ [] ≡ take (i + 1) (checks_in face)
 noted_more face i d within =
     let long : length (checks_in face) ≡ length face.checks.now = length-map face.checks.now (asked_of face.names.now) in

@@ -41,6 +41,7 @@ use Rattle.summary_compose.proofs.Checks.{named_size}
 use Rattle.summary_compose.proofs.Parts.{packed_size}
 use Rattle.face_data.proofs.KnownAnswers.{AskFits-distinct}
 
+-- an entry of a change is one of all
 pub in_all : (cs : List Changed) (c : Changed) (n : Needle) → Contains cs c → Contains (entries_of c.1) n → Contains (all_entries cs) n
 in_all [] c n h k = absurd (Contains-none c h)
 in_all (x ∷ cs) c n h k = elim (Contains-cons_cases x cs c h) [
@@ -62,6 +63,7 @@ read_within ch xs o d =
           ]),
     )
 
+-- how many needles the conditions name when they are read through a block
 pub names_read_bound : (ch : List Changed) (cs : List Asked) → OwnsOnce ch → ((c : Asked) → Contains cs c → IsDistinct (names_in c.ask)) →
     names_read_count ch cs ≤ names_count cs + length cs * length (all_entries ch)
 names_read_bound ch [] o d = omega arith
@@ -92,6 +94,7 @@ merged_from_length a rest n h [] = omega (arith, h [])
 merged_from_length a rest n h (b ∷ bs) =
     by_order_length (needle_cmp a.0 b.0) (a ∷ rest (b ∷ bs)) (b ∷ rest bs) (b ∷ merged_from a rest bs) (suc n + length (b ∷ bs)) (omega (arith, h (b ∷ bs))) (omega (arith, h bs)) (omega (arith, merged_from_length a rest n h bs))
 
+-- how many needles both blocks change
 pub merged_length : (others bs : List Changed) → length (merged others bs) ≤ length others + length bs
 merged_length [] bs = omega arith
 merged_length (a ∷ others) bs = merged_from_length a (merged others) (length others) (merged_length others) bs
@@ -207,6 +210,7 @@ both_sum a b lines (n ∷ ns) order =
       sum_by-cons (λ n. new_of (segments_on b n)) n ns,
     )
 
+-- a needle that no change names
 pub own_none : (cs : List Changed) (n : Needle) → change_at cs n ≡ None → segments_on cs n ≡ Entry n ∷ []
 own_none cs n e = ap (λ o. segs_or_own o n) e
 
@@ -214,6 +218,7 @@ own_small : (o : Option (List Seg)) → own_size o ≤ 1
 own_small None = omega arith
 own_small (Some segs) = omega arith
 
+-- a needle that both blocks change together is changed by one of them
 pub from_both : (a b : List Changed) (lines : ℕ) (n : Needle) → Contains (needles_changed (merged a (changes_through a lines b))) n → Contains (needles_changed a) n ⊎ Contains (needles_changed b) n
 from_both a b lines n h =
     let c = in_needles (merged a (changes_through a lines b)) n h in

@@ -25,11 +25,13 @@ use Rattle.summary_compose.proofs.Tables.{leads_take_same, leads_take_other, lea
 use Rattle.knit_base.proofs.Needles.{same_needle-same, needle_cmp-refl, same_needle-false}
 use Rattle.face_data.proofs.ChangeLists.{not_less_and_equal}
 
+-- the needle of the change at a place
 pub needle_at : (changes : List Change) (i : ℕ) (d : Change) (n : Needle) → i < length changes → get_or (changed_needles changes) i n ≡ (get_or changes i d).needle
 needle_at [] i d n within = absurd (omega arith)
 needle_at (c ∷ cs) zero d n within = refl
 needle_at (c ∷ cs) (suc i) d n within = needle_at cs i d n (omega arith)
 
+-- a needle that stands at the next place was last seen there
 pub seek_same : (changes : List Change) (i : ℕ) (d : Change) (n : Needle) (last : ℕ) → i < length changes → (get_or changes i d).needle ≡ n → last ≡ i →
     Leads (take (i + 1) (changed_needles changes)) n last
 seek_same changes i d n last within same is =
@@ -37,6 +39,7 @@ seek_same changes i d n last within same is =
     subst (λ p. Leads (take (i + 1) (changed_needles changes)) n p) (sym is)
     (leads_take_same (changed_needles changes) i n (omega arith) (needle_at changes i d n within ∙ same))
 
+-- and else where it was seen before
 pub seek_other : (changes : List Change) (i : ℕ) (d : Change) (n : Needle) (last old : ℕ) → i < length changes → ((get_or changes i d).needle ≡ n → ⊥) → last ≡ old →
     Leads (take i (changed_needles changes)) n old → Leads (take (i + 1) (changed_needles changes)) n last
 seek_other changes i d n last old within differ is h =
@@ -44,6 +47,7 @@ seek_other changes i d n last old within differ is h =
     subst (λ p. Leads (take (i + 1) (changed_needles changes)) n p) (sym is)
     (leads_take_other (changed_needles changes) i n old (omega arith) (λ same. differ (sym (needle_at changes i d n within) ∙ same)) h)
 
+-- after all places, where it was last seen
 pub seek_all : (changes : List Change) (i : ℕ) (n : Needle) (last : ℕ) → length changes ≤ i → Leads (take i (changed_needles changes)) n last → Leads (changed_needles changes) n last
 seek_all changes i n last all h =
     let len = length-map changes (λ (c : Change). c.needle) in
@@ -62,6 +66,7 @@ tells_more entries more changes i d within written h =
     (subst (λ ns. IsTableOf (set entries (spot_of (get_or changes i d).needle) (length (changed_needles front))) ns) (sym now)
     (tells_push entries (changed_needles front) (get_or changes i d).needle h))
 
+-- all places were noted
 pub tells_all : (entries : List ℕ) (changes : List Change) (i : ℕ) → length changes ≤ i → IsTableOf entries (changed_needles (take i changes)) → IsTableOf entries (changed_needles changes)
 tells_all entries changes i all h = subst (λ cs. IsTableOf entries (changed_needles cs)) (take_all i changes all) h
 
@@ -81,16 +86,19 @@ unchanged segs (c ∷ cs) n h =
     cond_false (same_needle n c.needle) (Some (part_of segs c.part)) (change_at (map (changed_of segs) cs) n) (same_needle-false n c.needle (λ e. h 0 (omega arith) (sym e)))
     ∙ unchanged segs cs n (λ k within. h (suc k) (omega arith))
 
+-- a needle that stands nowhere holds its own entry
 pub segments_own : (segs : List Seg) (changes : List Change) (n : Needle) (place : ℕ) → Leads (changed_needles changes) n place →
     (place < length (changed_needles changes) → get_or (changed_needles changes) place n ≡ n → ⊥) → segments_on (map (changed_of segs) changes) n ≡ Entry n ∷ []
 segments_own segs changes n place h absent =
     ap (λ x. unwrap_or x (Entry n ∷ [])) (unchanged segs changes n (leads_nowhere (changed_needles changes) n place h absent))
 
+-- so where the place is past the end
 pub segments_own_past : (segs : List Seg) (changes : List Change) (n : Needle) (place : ℕ) → Leads (changed_needles changes) n place → length changes ≤ place →
     segments_on (map (changed_of segs) changes) n ≡ Entry n ∷ []
 segments_own_past segs changes n place h past =
     segments_own segs changes n place h (λ within. let len = length-map changes (λ (c : Change). c.needle) in absurd (omega arith))
 
+-- and where another needle stands there
 pub segments_own_at : (segs : List Seg) (changes : List Change) (n : Needle) (place : ℕ) (d : Change) → Leads (changed_needles changes) n place → place < length changes →
     ((get_or changes place d).needle ≡ n → ⊥) → segments_on (map (changed_of segs) changes) n ≡ Entry n ∷ []
 segments_own_at segs changes n place d h within differ =
@@ -117,10 +125,12 @@ changed_at segs (c ∷ cs) n (suc k) d order within here =
     cond_false (same_needle n c.needle) (Some (part_of segs c.part)) (change_at (map (changed_of segs) cs) n) (same_needle-false n c.needle (λ e. other (sym e)))
     ∙ changed_at segs cs n k d order.1 (omega arith) here
 
+-- else it holds what the change at that place says
 pub segments_at : (segs : List Seg) (changes : List Change) (n : Needle) (k : ℕ) (d : Change) → IsInOrder (map (changed_of segs) changes) → k < length changes →
     (get_or changes k d).needle ≡ n → part_of segs (get_or changes k d).part ≡ segments_on (map (changed_of segs) changes) n
 segments_at segs changes n k d order within here = sym (ap (λ x. unwrap_or x (Entry n ∷ [])) (changed_at segs changes n k d order within here))
 
+-- and the part of that change lies in the list
 pub fits_at : (segs : List Seg) (changes : List Change) (k : ℕ) (d : Change) → PartsFit segs changes → k < length changes →
     (get_or changes k d).part.start + (get_or changes k d).part.len ≤ length segs
 fits_at segs [] k d h within = absurd (omega arith)

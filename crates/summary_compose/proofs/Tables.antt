@@ -11,7 +11,7 @@ use Rattle.knit_base.specs.Needle.{same_needle, same_needle-true}
 use Rattle.summary_compose.specs.Spots.{spot_of}
 use Rattle.summary_compose.specs.Tables.{Leads, IsTableOf, link_needles, AreLinked, note_of, suits}
 use Rattle.summary_compose.specs.declared.index.Link.{Link}
-use Rattle.summary_compose.proofs.Spots.{spot_of-injective}
+use Rattle.summary_compose.proofs.NeedleSpots.{spot_of-injective}
 use Rattle.knit_base.proofs.Needles.{same_needle-same}
 
 needle_cases_on : (n m : Needle) (b : Bool) → same_needle n m ≡ b → (n ≡ m) ⊎ (n ≡ m → ⊥)
@@ -70,6 +70,7 @@ tells_push entries names m h n place found = tells_at entries names m h n place 
 pub tells_none : (entries : List ℕ) → IsTableOf entries []
 tells_none entries n place found k within here = absurd (omega arith)
 
+-- no link
 pub linked_none : AreLinked []
 linked_none k d within = absurd (omega arith)
 
@@ -149,11 +150,13 @@ leads_take_same names i n within here =
     subst (λ xs. Leads xs n i) (sym (take_more names i n within))
     (subst (λ j. Leads (take i names ++ get_or names i n ∷ []) n j) (length-take-le i names (omega arith)) (leads_same (take i names) (get_or names i n) n here))
 
+-- another needle does not change where this one stands
 pub leads_take_other : (names : List Needle) (i : ℕ) (n : Needle) (place : ℕ) → i < length names → (get_or names i n ≡ n → ⊥) → Leads (take i names) n place →
     Leads (take (i + 1) names) n place
 leads_take_other names i n place within differ h =
     subst (λ xs. Leads xs n place) (sym (take_more names i n within)) (leads_other (take i names) (get_or names i n) n place differ h)
 
+-- the needle of the link at a place
 pub needle_of-get_or : (links : List Link) (i : ℕ) (d : Link) (n : Needle) → i < length links → get_or (link_needles links) i n ≡ (get_or links i d).needle
 needle_of-get_or [] i d n within = absurd (omega arith)
 needle_of-get_or (l ∷ links) zero d n within = refl
@@ -167,6 +170,7 @@ seek_same links i d n last within same is =
     subst (λ p. Leads (take (i + 1) (link_needles links)) n p) (sym is)
     (leads_take_same (link_needles links) i n (omega arith) (needle_of-get_or links i d n within ∙ same))
 
+-- a needle that does not stand at the next place
 pub seek_other : (links : List Link) (i : ℕ) (d : Link) (n : Needle) (last old : ℕ) → i < length links → ((get_or links i d).needle ≡ n → ⊥) → last ≡ old →
     Leads (take i (link_needles links)) n old → Leads (take (i + 1) (link_needles links)) n last
 seek_other links i d n last old within differ is h =
@@ -174,9 +178,11 @@ seek_other links i d n last old within differ is h =
     subst (λ p. Leads (take (i + 1) (link_needles links)) n p) (sym is)
     (leads_take_other (link_needles links) i n old (omega arith) (λ same. differ (sym (needle_of-get_or links i d n within) ∙ same)) h)
 
+-- the same links, the same places
 pub tells_links : (entries : List ℕ) (links xs : List Link) → xs ≡ links → IsTableOf entries (link_needles links) → IsTableOf entries (link_needles xs)
 tells_links entries links xs e h = subst (λ ys. IsTableOf entries (link_needles ys)) (sym e) h
 
+-- one link more is in the table
 pub tells_more : (entries more : List ℕ) (links now : List Link) (l : Link) (place : ℕ) → place ≡ length links → more ≡ set entries (spot_of l.needle) place →
     now ≡ links ++ l ∷ [] → IsTableOf entries (link_needles links) → IsTableOf more (link_needles now)
 tells_more entries more links now l place here written e h =
@@ -188,6 +194,7 @@ tells_more entries more links now l place here written e h =
     subst (λ es. IsTableOf es (link_needles now)) (sym more_is)
     (subst (λ ns. IsTableOf (set entries (spot_of l.needle) (length (link_needles links))) ns) (sym now_is) (tells_push entries (link_needles links) l.needle h))
 
+-- one link more leads on
 pub linked_more : (links xs now : List Link) (l : Link) → xs ≡ links → now ≡ links ++ l ∷ [] → AreLinked links → Leads (link_needles xs) l.needle l.next → AreLinked now
 linked_more links xs now l same e h last =
     subst AreLinked (sym e) (linked_push links l h (subst (λ ys. Leads (link_needles ys) l.needle l.next) same last))
@@ -198,6 +205,7 @@ pub record Walks (links : List Link) (n : Needle) (len most limit place : ℕ) (
   pub leads : Leads (link_needles (take limit links)) n place
   pub same : list_any (suits n len most) (map note_of (take limit links)) ≡ whole
 
+-- a walk from link to link begins
 pub walk_begins : (links xs : List Link) (n : Needle) (len most place limit : ℕ) → xs ≡ links → limit ≡ length links → Leads (link_needles xs) n place →
     Walks links n len most limit place (list_any (suits n len most) (map note_of links))
 walk_begins links xs n len most place limit same all h =
@@ -218,6 +226,7 @@ and_true x y p q = ap (λ b. b && y) p ∙ q
 at_read : (links : List Link) (limit place : ℕ) (x : Link) → place < limit → x ≡ get_or links place x → get_or (take limit links) place x ≡ x
 at_read links limit place x before is = get_or-take limit links place x before ∙ sym is
 
+-- goes on to the link before
 pub walk_on : (links : List Link) (n : Needle) (len most limit place : ℕ) (whole : Bool) (x : Link) → Walks links n len most limit place whole → AreLinked links →
     place < limit → x ≡ get_or links place x → x.needle ≡ n → (nat_le len x.len && nat_le x.most most) ≡ false → Walks links n len most place x.next whole
 walk_on links n len most limit place whole x w linked before is mine refused =
@@ -233,6 +242,7 @@ walk_on links n len most limit place whole x w linked before is mine refused =
           ∙ sym (suits_before n len most (take limit links) place x w.leads (omega arith) unfit) ∙ w.same;
     }
 
+-- finds a note that suits
 pub walk_finds : (links : List Link) (n : Needle) (len most limit place : ℕ) (whole : Bool) (x : Link) → Walks links n len most limit place whole →
     place < limit → x ≡ get_or links place x → x.needle ≡ n → (nat_le len x.len && nat_le x.most most) ≡ true → true ≡ whole
 walk_finds links n len most limit place whole x w before is mine so =
@@ -243,6 +253,7 @@ walk_finds links n len most limit place whole x w before is mine so =
     ap (λ (l : Link). suits n len most (note_of l)) read ∙ and_true (same_needle x.needle n) (nat_le len x.len && nat_le x.most most) (same_needle-same x.needle n mine) so in
     sym (suits_at n len most (take limit links) place x (omega arith) fit) ∙ w.same
 
+-- ends where no link is left
 pub walk_ends : (links : List Link) (n : Needle) (len most limit place : ℕ) (whole : Bool) → Walks links n len most limit place whole →
     (place < limit → get_or (link_needles (take limit links)) place n ≡ n → ⊥) → false ≡ whole
 walk_ends links n len most limit place whole w absent =
@@ -251,6 +262,7 @@ walk_ends links n len most limit place whole w absent =
     let len' = length-map (take limit links) (λ (l : Link). l.needle) in
     sym (suits_none n len most (take limit links) (leads_nowhere (link_needles (take limit links)) n place w.leads (λ small. absent (omega arith)))) ∙ w.same
 
+-- or at the link of another needle
 pub walk_ends_at : (links : List Link) (n : Needle) (len most limit place : ℕ) (whole : Bool) (x : Link) → Walks links n len most limit place whole →
     place < limit → x ≡ get_or links place x → (x.needle ≡ n → ⊥) → false ≡ whole
 walk_ends_at links n len most limit place whole x w before is differ =
@@ -259,6 +271,7 @@ walk_ends_at links n len most limit place whole x w before is differ =
     walk_ends links n len most limit place whole w
     (λ small here. differ (ap (λ (l : Link). l.needle) (sym (at_read links limit place x before is)) ∙ sym (needle_of-get_or (take limit links) place x n (omega arith)) ∙ here))
 
+-- after all places, where it was last seen
 pub seek_all : (links : List Link) (i : ℕ) (n : Needle) (last : ℕ) → length links ≤ i → Leads (take i (link_needles links)) n last → Leads (link_needles links) n last
 seek_all links i n last all h =
     let len = length-map links (λ (l : Link). l.needle) in

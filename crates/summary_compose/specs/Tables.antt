@@ -27,6 +27,7 @@ pub record Note : Type 0 where
   pub len : ℕ
   pub most : ℕ
 
+-- what a link notes
 abbrev pub note_of : Link → Note
 note_of l = record { needle = l.needle; len = l.len; most = l.most }
 

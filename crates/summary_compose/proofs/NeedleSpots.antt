@@ -31,6 +31,7 @@ bed_from_place BackSlider FrontSlider e = absurd (omega arith)
 bed_from_place BackSlider Back e = absurd (omega arith)
 bed_from_place BackSlider BackSlider e = refl
 
+-- there are four beds
 pub bed_place_small : (x : Bed) → bed_place x < 4
 bed_place_small Front = omega arith
 bed_place_small FrontSlider = omega arith
@@ -45,6 +46,7 @@ parts_from_spot x y i j e =
     let bed : x ≡ y = bed_from_place x y (omega arith) in
     λ k. record { bed = bed k; at = number k }
 
+-- two needles have two places
 pub spot_of-injective : (n m : Needle) → spot_of n ≡ spot_of m → n ≡ m
 unfolding spot_of
 spot_of-injective n m e = parts_from_spot n.bed m.bed n.at m.at e
