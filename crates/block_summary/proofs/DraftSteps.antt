@@ -112,9 +112,9 @@ kept_answer kept e a c came went =
     ap (λ b. against_kept kept (if b then yes_it_does else (if contains_carrier e.went c then no_it_does_not else asks (carrier_in c)))) came
     ∙ ap (λ b. against_kept kept (if b then no_it_does_not else asks (carrier_in c))) went
 
-told_in : (digest : Digest) (c : CarrierNo) → contains_carrier digest.ins c ≡ true → digest_bearing digest (carrier_in c) ≡ Implied
+carrier_known : (digest : Digest) (c : CarrierNo) → contains_carrier digest.ins c ≡ true → digest_bearing digest (carrier_in c) ≡ Implied
 unfolding digest_bearing
-told_in digest c ins = ap (λ b. if b then Implied else if_so (contains_carrier digest.outs c) Refuted) ins
+carrier_known digest c ins = ap (λ b. if b then Implied else if_so (contains_carrier digest.outs c) Refuted) ins
 
 -- carriers of a set of known ones are known to be in action
 pub carriers_held : (kept : List Asked) (e : Effect) (a : List Changed) (digest : Digest) (cs : List CarrierNo) → digest ≡ digest_of kept → IsIrredundant kept →
@@ -125,7 +125,7 @@ carriers_held kept e a digest cs is each all c there =
     ∙ ap (λ b. nat_eq b 1) (in_known cs (bit_or e.came (without_set digest.ins e.went)) c all there))) [
       | inl came ↦ came_answer kept e a c came
       | inr ask ↦ kept_answer kept e a c ask.0 ask.1 ∙ settled-plain kept (carrier_in c) tt each
-          ∙ ap (λ r. from_bearing r (asks (carrier_in c))) (ap (λ (d : Digest). digest_bearing d (carrier_in c)) (sym is) ∙ told_in digest c ask.2)
+          ∙ ap (λ r. from_bearing r (asks (carrier_in c))) (ap (λ (d : Digest). digest_bearing d (carrier_in c)) (sym is) ∙ carrier_known digest c ask.2)
     ]
 
 -- what holds in any case holds where the answer is Ok
@@ -177,16 +177,16 @@ knit_more hold dir n c cs old lines made kept a b e segs seen one is carriers sl
     ∙ ap (λ (s : Summary). composed s (line_summary hold (read.Instr (Knit dir n (c ∷ cs))))) seen
 
 -- the effect tells
-pub told_first : (kept : List Asked) (e : Effect) (a : List Changed) (q : Ask) (r : Bearing) → IsPlainCondition q → r ≡ effect_bearing e q → (r ≡ Silent → ⊥) →
+pub effect_known : (kept : List Asked) (e : Effect) (a : List Changed) (q : Ask) (r : Bearing) → IsPlainCondition q → r ≡ effect_bearing e q → (r ≡ Silent → ⊥) →
     against_kept kept (read_answer e a q) ≡ from_bearing r (asks q)
-told_first kept e a q Implied plain said loud = ap (against_kept kept) (read-plain e a q plain ∙ ap (λ b. from_bearing b (asks q)) (sym said))
-told_first kept e a q Refuted plain said loud = ap (against_kept kept) (read-plain e a q plain ∙ ap (λ b. from_bearing b (asks q)) (sym said))
-told_first kept e a q Silent plain said loud = absurd (loud refl)
+effect_known kept e a q Implied plain said loud = ap (against_kept kept) (read-plain e a q plain ∙ ap (λ b. from_bearing b (asks q)) (sym said))
+effect_known kept e a q Refuted plain said loud = ap (against_kept kept) (read-plain e a q plain ∙ ap (λ b. from_bearing b (asks q)) (sym said))
+effect_known kept e a q Silent plain said loud = absurd (loud refl)
 
 -- or else the digest
-pub told_second : (kept : List Asked) (e : Effect) (a : List Changed) (digest : Digest) (q : Ask) (r : Bearing) → IsPlainCondition q → Silent ≡ effect_bearing e q → digest ≡ digest_of kept →
+pub digest_known : (kept : List Asked) (e : Effect) (a : List Changed) (digest : Digest) (q : Ask) (r : Bearing) → IsPlainCondition q → Silent ≡ effect_bearing e q → digest ≡ digest_of kept →
     IsIrredundant kept → r ≡ digest_bearing digest q → against_kept kept (read_answer e a q) ≡ from_bearing r (asks q)
-told_second kept e a digest q r plain silence is each said =
+digest_known kept e a digest q r plain silence is each said =
     ap (against_kept kept) (read-plain e a q plain ∙ ap (λ b. from_bearing b (asks q)) (sym silence))
     ∙ settled-plain kept q plain each
     ∙ ap (λ b. from_bearing b (asks q)) (ap (λ (d : Digest). digest_bearing d q) (sym is) ∙ sym said)

@@ -23,7 +23,7 @@ use Rattle.face_data.specs.Conditions.Ask.{size_at_most}
 use Rattle.face_data.specs.declared.face.Ending.{Ending}
 use Rattle.face_data.specs.declared.face.Ending.TheVariants.{Through, Broken}
 use Rattle.face_data.specs.Drafts.{no_effect}
-use Rattle.face_data.specs.Goodness.{EndingFits, IsInOrder, held, OwnsOnce, MeetsSizes, size_after, SizeFits, names_in, ChangeFits, IsFair, IsGood}
+use Rattle.face_data.specs.Goodness.{EndingFits, IsInOrder, entries_on, OwnsOnce, MeetsSizes, size_after, SizeFits, names_in, ChangeFits, IsFair, IsGood}
 use Rattle.knit_base.specs.Instr.{forming_needle, formed_on}
 use Rattle.face_data.specs.Segments.{Changed, segments_on, entries_of, new_of}
 use Rattle.face_data.specs.Sets.{IsDistinct, IsWithin, IsApart, NestedOrApart}
@@ -91,7 +91,7 @@ one_change known n segs there distinct own offsets = record {
   };
 }
   where
-    itself : (m x : Needle) → Contains (held ((n, segs) ∷ []) m) x → m ≡ x
+    itself : (m x : Needle) → Contains (entries_on ((n, segs) ∷ []) m) x → m ≡ x
     itself m x there = elim (one_cases n m segs) [
       | inl here ↦ sym here.0 ∙ own x (subst (λ s. Contains (entries_of s) x) here.1 there)
       | inr other ↦ only_itself m x (subst (λ s. Contains (entries_of s) x) other there)
@@ -190,7 +190,7 @@ over_change known n n2 left in_known in_known2 other none offsets = record {
   };
 }
   where
-    to_heir : (m x : Needle) → Contains (held (gone_over n n2 left) m) x → m ≡ heir n n2 x
+    to_heir : (m x : Needle) → Contains (entries_on (gone_over n n2 left) m) x → m ≡ heir n n2 x
     to_heir m x there = elim (over_cases n n2 m left) [
       | inl gone ↦ absurd (no_entry left x none (subst (λ s. Contains (entries_of s) x) gone.1 there))
       | inr rest ↦ elim rest [
@@ -263,7 +263,7 @@ assembled carriers hold known first second instr checks nested changes effect si
 
 -- a condition on sizes
 sized_is : (carriers hold : ℕ) (known first second : List Needle) (changes : List Changed) (reason : Reason) (names : List Needle) (most : ℕ) → SizeFits hold known names most →
-    NamesAre first second names → (m : Needle) → held changes m ≡ names → CheckIs carriers hold known first second changes (asked_for reason (size_at_most names most))
+    NamesAre first second names → (m : Needle) → entries_on changes m ≡ names → CheckIs carriers hold known first second changes (asked_for reason (size_at_most names most))
 sized_is carriers hold known first second changes reason names most fits are m holds_them = record {
   line = refl;
   fits = fits;
@@ -273,7 +273,7 @@ sized_is carriers hold known first second changes reason names most fits are m h
 
 -- the own slider is asked to be empty, where a loop is formed, and stays as it is
 slider_each : (carriers hold : ℕ) (known second : List Needle) (changes : List Changed) (n : Needle) (cs : List CarrierNo) → SliderKnown known (formed_on n cs) →
-    (is_slider n.bed ≡ false → held changes (own_slider n) ≡ own_slider n ∷ []) → IsFormedOnHook (formed_on n cs) →
+    (is_slider n.bed ≡ false → entries_on changes (own_slider n) ≡ own_slider n ∷ []) → IsFormedOnHook (formed_on n cs) →
     Each (CheckIs carriers hold known (own_slider n ∷ []) second changes) (slider_asked (formed_on n cs))
 slider_each carriers hold known second changes n [] there stays hook = each_none (CheckIs carriers hold known (own_slider n ∷ []) second changes)
 slider_each carriers hold known second changes n (c ∷ cs) there stays hook =
@@ -379,7 +379,7 @@ over_fair profile carriers known instr n n2 at lawful opposite one two none size
     (subst (Each P) (sym sizes) (each_one P room
     (sized_is carriers profile.hold known [] (n2 ∷ n ∷ []) (line_changes instr) (record { rule = TooManyLoops; at = at }) (n2 ∷ n ∷ []) profile.hold
     (both_fit profile.hold known n n2 one two other) (inr (inr refl)) n2
-    (ap (λ changes. held changes n2) same ∙ ap entries_of (over_there n n2 [] other))))))
+    (ap (λ changes. entries_on changes n2) same ∙ ap entries_of (over_there n n2 [] other))))))
     (inl (nothing_in (n2 ∷ n ∷ [])))
     (subst (ChangesAre known) (sym same) (over_change known n n2 [] one two other refl no_new))
     (effect_fits profile carriers instr lawful)

@@ -33,7 +33,7 @@ use Rattle.face_data.specs.declared.face.Seg.{Seg}
 use Rattle.face_data.specs.declared.face.Seg.TheVariants.{Entry, New}
 use Rattle.face_data.specs.Sets.{IsWithin, IsApart, NestedOrApart}
 use Rattle.face_data.specs.Composition.{or_old, Gathering, reads, against_kept, next, merged, merged_from, by_order, composed, composed_at, closed_at, effect_of_both, ending_after, made_with, changes_with, and_then}
-use Rattle.face_data.specs.Goodness.{held, OwnsOnce, LiesIn, IsIrredundant, size_after, AskFits, names_in, NeverFalls, ChangeFits, BrokenFits, ThroughFits, EndingFits, IsGood, IsFair}
+use Rattle.face_data.specs.Goodness.{entries_on, OwnsOnce, LiesIn, IsIrredundant, size_after, AskFits, names_in, NeverFalls, ChangeFits, BrokenFits, ThroughFits, EndingFits, IsGood, IsFair}
 
 where_known_asks : {X : Type 0} (o : Option X) (test : X → Bool) (q w : Ask) → where_known o test q ≡ asks w → w ≡ q
 where_known_asks None test q w e = cc
@@ -78,7 +78,7 @@ names_read e a (size_at_most names most) w h = ap names_in (size_asks (names_thr
 
 -- entries are known needles
 held_known : (a : List Changed) (lines : ℕ) (known : List Needle) → ((c : Changed) → Contains a c → ChangeFits lines known c) →
-    (m n : Needle) → Contains (held a m) n → (m ≡ n) ⊎ Contains known n
+    (m n : Needle) → Contains (entries_on a m) n → (m ≡ n) ⊎ Contains known n
 held_known a lines known fit m n h = elim (changed_or_own a m) [
   | inl c ↦ inr ((fit c.0 c.1).entries n (subst (λ segs. Contains (entries_of segs) n) c.3 h))
   | inr own ↦ inl (only_itself m n (subst (λ segs. Contains (entries_of segs) n) own h))
@@ -420,12 +420,12 @@ open_good carriers limit first second a b e f ga gb ta tb goes_on =
             bound,
             ap (sum_by size) (entries_of-through a.changes a.lines (segments_on b.changes m)),
             new_of-through a.changes a.lines (segments_on b.changes m),
-            sum_by-size_after a.changes size (held b.changes m),
+            sum_by-size_after a.changes size (entries_on b.changes m),
           ));
       ending = record {
         lies = λ c there. LiesIn-both a.changes b.changes a.lines (names_in c.ask) gb.in_order (elim (all c there) [
           | inl here ↦ first_lies a.changes b.changes (names_in c.ask) ga.owns (ta.lies c here)
-          | inr d ↦ subst (λ xs. ((x : Needle) × IsWithin xs (names_through a.changes (held b.changes x))) ⊎ ((x : Needle) → IsApart xs (names_through a.changes (held b.changes x))))
+          | inr d ↦ subst (λ xs. ((x : Needle) × IsWithin xs (names_through a.changes (entries_on b.changes x))) ⊎ ((x : Needle) → IsApart xs (names_through a.changes (entries_on b.changes x))))
               (sym (names_read e a.changes d.0.ask c.ask d.2)) (second_lies a.changes b.changes (names_in d.0.ask) ga.owns (tb.lies d.0 d.1))
         ]);
         apart = λ c came. has_after e.went f.went f.came c ∙ both_apart (contains_carrier e.came c) (contains_carrier e.went c) (contains_carrier f.came c) (contains_carrier f.went c) (ta.apart c) (tb.apart c) (sym (has_after e.came f.came f.went c) ∙ came);

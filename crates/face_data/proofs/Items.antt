@@ -32,7 +32,7 @@ use Rattle.knit_base.specs.declared.needle.Needle.{Needle}
 use Rattle.face_data.specs.declared.face.Seg.{Seg}
 use Rattle.face_data.specs.declared.face.Seg.TheVariants.{Entry, New}
 use Rattle.face_data.specs.Sets.{IsDistinct, IsWithin, NestedOrApart}
-use Rattle.face_data.specs.Goodness.{held, OwnsOnce, IsIrredundant, MeetsSize, IsGood, AskFits, SizeFits, ChangeFits, names_in, IsInOrder}
+use Rattle.face_data.specs.Goodness.{entries_on, OwnsOnce, IsIrredundant, MeetsSize, IsGood, AskFits, SizeFits, ChangeFits, names_in, IsInOrder}
 use Rattle.knit_base.proofs.Needles.{needle_cmp-refl, Decides-same_needle}
 use Rattle.face_data.proofs.Digests.{not_silent}
 
@@ -291,7 +291,7 @@ meets_nothing (hook_lacks x) = tt
 new_at_most : (carriers limit : ℕ) (known : List Needle) (f : Summary) → IsGood carriers limit known f → (c : Changed) → Contains f.changes c → new_of c.1 ≤ limit
 new_at_most carriers limit known f g c h =
     let size = g.sizes (λ n. 0) (λ n. omega arith) (λ d k. meets_nothing d.ask) c.0 in
-    omega (arith, size, nothing_much (held f.changes c.0), ap new_of (segments_found f.changes c g.in_order h))
+    omega (arith, size, nothing_much (entries_on f.changes c.0), ap new_of (segments_found f.changes c g.in_order h))
 
 -- the changes and their segments, counted together
 pub change_items_bound : (carriers limit : ℕ) (known : List Needle) (f : Summary) → IsGood carriers limit known f →

@@ -20,7 +20,7 @@ use Rattle.face_data.proofs.Gathering.{AnswerNamesOnce, AllNameOnce}
 use Rattle.knit_base.specs.declared.needle.Needle.{Needle}
 use Rattle.face_data.specs.declared.face.Effect.{Effect}
 use Rattle.face_data.specs.Composition.{settled, from_bearing, against_kept, next, reads}
-use Rattle.face_data.specs.Goodness.{held, IsIrredundant, MeetsSize, MeetsSizes, size_after}
+use Rattle.face_data.specs.Goodness.{entries_on, IsIrredundant, MeetsSize, MeetsSizes, size_after}
 
 -- one more condition, of which no other says anything
 pub irredundant_push : (cs : List Asked) (d : Asked) → IsIrredundant cs → ((c : Asked) → Contains cs c → bearing c.ask d.ask ≡ Silent) → IsIrredundant (cs ++ d ∷ [])
@@ -128,7 +128,7 @@ sum_by-size_after a size (n ∷ names) =
       arith,
       sum_by-size_after a size names,
       sum_by-cons (size_after a size) n names,
-      sum_by-append size (held a n) (names_through a names),
+      sum_by-append size (entries_on a n) (names_through a names),
       sum_by-cons (λ m. new_of (segments_on a m)) n names,
     )
 

@@ -24,17 +24,17 @@ abbrev pub IsInOrder : List Changed → Type 0
 IsInOrder changes = IsStrictlySortedBy needle_cmp (map (λ (c : Changed). c.0) changes)
 
 -- the needles whose entry stands in what this needle holds at the end
-abbrev pub held : List Changed → Needle → List Needle
-held changes m = entries_of (segments_on changes m)
+abbrev pub entries_on : List Changed → Needle → List Needle
+entries_on changes m = entries_of (segments_on changes m)
 
 -- each entry stands at most once in what all needles hold at the end; an unchanged needle holds its own
 pub record OwnsOnce (changes : List Changed) : Type 0 where
-  pub distinct : (m : Needle) → IsDistinct (held changes m)
-  pub owner : (m other n : Needle) → Contains (held changes m) n → Contains (held changes other) n → m ≡ other
+  pub distinct : (m : Needle) → IsDistinct (entries_on changes m)
+  pub owner : (m other n : Needle) → Contains (entries_on changes m) n → Contains (entries_on changes other) n → m ≡ other
 
 -- the needles lie within what one needle holds at the end, or apart from what any holds
 abbrev pub LiesIn : List Changed → List Needle → Type 0
-LiesIn changes xs = ((m : Needle) × IsWithin xs (held changes m)) ⊎ ((m : Needle) → IsApart xs (held changes m))
+LiesIn changes xs = ((m : Needle) × IsWithin xs (entries_on changes m)) ⊎ ((m : Needle) → IsApart xs (entries_on changes m))
 
 -- no condition says anything of a later one: neither that it holds nor that it doesn't
 abbrev pub IsIrredundant : List Asked → Type 0
@@ -52,7 +52,7 @@ MeetsSizes checks size = (c : Asked) → Contains checks c → MeetsSize c.ask s
 
 -- the size that a needle has after the block, by the sizes at entry
 abbrev pub size_after : List Changed → (Needle → ℕ) → Needle → ℕ
-size_after changes size m = sum_by size (held changes m) + new_of (segments_on changes m)
+size_after changes size m = sum_by size (entries_on changes m) + new_of (segments_on changes m)
 
 -- a condition on sizes names at least one needle, each once and of the known ones
 pub record SizeFits (limit : ℕ) (known names : List Needle) (most : ℕ) : Type 0 where

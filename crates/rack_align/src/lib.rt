@@ -7,6 +7,7 @@
 
 ghost use Rattle.std.specs.Prelude.{◌≡◌, Some};
 ghost use Rattle.std.specs.Option.{is_none};
+ghost use Rattle.knit_base.specs.Instr.{move_of};
 ghost use Rattle.carriage_model.specs.Rules.{not_aligned, rack_broken};
 ghost use Rattle.carriage_model.specs.State.{State};
 ghost use Rattle.face_data.specs.Conditions.{unmet_rack};

@@ -20,7 +20,7 @@ use Rattle.face_data.specs.declared.face.Seg.TheVariants.{Entry, New}
 use Rattle.face_data.specs.Composition.{by_order, merged, merged_from}
 use Rattle.face_data.specs.Conditions.{Ask, part_of}
 use Rattle.face_data.specs.Conditions.Ask.{rack_is, carrier_in, carrier_out, hook_free, hook_is, hook_lacks, size_at_most}
-use Rattle.face_data.specs.Goodness.{AskFits, IsInOrder, OwnsOnce, held, names_in}
+use Rattle.face_data.specs.Goodness.{AskFits, IsInOrder, OwnsOnce, entries_on, names_in}
 use Rattle.face_data.specs.Segments.{Changed, change_at, segments_on, entries_in, entries_of, names_through, new_in, new_of, new_through, segs_or_own}
 use Rattle.face_data.specs.Sets.{IsDistinct}
 use Rattle.face_data.specs.Summaries.{Asked}
@@ -205,7 +205,7 @@ both_sum a b lines (n ∷ ns) order =
       ap length (segments_on-both a b lines n order),
       through_length a lines (segments_on b n),
       both_sum a b lines ns order,
-      sum_by-append (λ n. length (segments_on a n)) (held b n) (names_through b ns),
+      sum_by-append (λ n. length (segments_on a n)) (entries_on b n) (names_through b ns),
       sum_by-cons (λ n. length (segments_on (merged a (changes_through a lines b)) n)) n ns,
       sum_by-cons (λ n. new_of (segments_on b n)) n ns,
     )

@@ -36,12 +36,29 @@ const IDLE: FaceView = FaceView {
     ending: Ending::Through(STAYS),
 };
 
-const fn fault(rule: Rule, at: u16) -> Fault {
-    Fault {
-        line: 0,
-        reason: Reason { rule, at },
-    }
-}
+const NOT_ALIGNED: Fault = Fault {
+    line: 0,
+    reason: Reason {
+        rule: Rule::NotAligned,
+        at: 2,
+    },
+};
+
+const CARRIER_IS_IN: Fault = Fault {
+    line: 0,
+    reason: Reason {
+        rule: Rule::CarrierIsIn,
+        at: 1,
+    },
+};
+
+const CARRIER_IS_OUT: Fault = Fault {
+    line: 0,
+    reason: Reason {
+        rule: Rule::CarrierIsOut,
+        at: 3,
+    },
+};
 
 fn compose<L: Ledger, R: Threads>(
     rt: &R,
@@ -65,7 +82,7 @@ fn compose<L: Ledger, R: Threads>(
 #[test]
 fn a_later_fault_is_raised(rt: HostRuntime) -> Result<(), Fail> {
     let broken = FaceView {
-        ending: Ending::Broken(fault(Rule::NotAligned, 2)),
+        ending: Ending::Broken(NOT_ALIGNED),
         ..IDLE
     };
     let mut scratch = Scratch::new(rt.alloc());
@@ -77,7 +94,7 @@ fn a_later_fault_is_raised(rt: HostRuntime) -> Result<(), Fail> {
     assert!(rt; face.changes.is_empty());
     let raised = Fault {
         line: 1,
-        ..fault(Rule::NotAligned, 2)
+        ..NOT_ALIGNED
     };
     assert_eq!(rt; face.ending, Ending::Broken(raised));
     Ok(())
@@ -86,11 +103,11 @@ fn a_later_fault_is_raised(rt: HostRuntime) -> Result<(), Fail> {
 #[test]
 fn a_carrier_that_came_in_is_there(rt: HostRuntime) -> Result<(), Fail> {
     let is_out = [Check {
-        fault: fault(Rule::CarrierIsIn, 1),
+        fault: CARRIER_IS_IN,
         cond: Cond::CarrierOut(CarrierNo(0)),
     }];
     let is_in = [Check {
-        fault: fault(Rule::CarrierIsOut, 3),
+        fault: CARRIER_IS_OUT,
         cond: Cond::CarrierIn(CarrierNo(0)),
     }];
     let comes = FaceView {
