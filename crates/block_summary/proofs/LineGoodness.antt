@@ -453,7 +453,7 @@ instr_fair profile carriers known instr some lawful knows = idle profile carrier
 -- a line that asks and changes nothing, whichever way it ends
 unasked_fair : (carriers hold : ℕ) (known : List Needle) (ending : Ending) → EndingFits carriers (unasked ending) ending → IsFair carriers hold known (unasked ending)
 unasked_fair carriers hold known ending fits =
-    let none = no_lines_good carriers hold known in
+    let none = (no_lines_good carriers hold known).fair in
     record {
       made = omega arith;
       asks_fit = none.asks_fit;
@@ -469,7 +469,7 @@ unasked_fair carriers hold known ending fits =
 
 nothing_fair : (carriers hold : ℕ) (known : List Needle) → IsFair carriers hold known (line_summary hold read.Blank)
 nothing_fair carriers hold known =
-    let ending = (no_lines_good carriers hold known).ending in
+    let ending = (no_lines_good carriers hold known).fair.ending in
     unasked_fair carriers hold known (Through no_effect) (record {
       lies = λ c there. absurd (Contains-none c there);
       apart = ending.apart;

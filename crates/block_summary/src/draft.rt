@@ -18,15 +18,15 @@ ghost use Rattle.face_data.specs.Drafts.{no_lines};
 ghost use Rattle.block_summary.specs.DraftKnowledge.{HoldsAfter, HasAsked, effect_in};
 ghost use Rattle.block_summary.specs.LineSummaries.{line_summary};
 
-use face_data::{Bearing, Check, Cond, Digest, Effect, Seg, Segs, Symbols};
+use face_data::{Bearing, Check, Cond, Digest, Effect, Seg, Segs, Symbols, slot_of};
 use knit_base::{Fault, Needle, NoMemory, Reason, Yarns};
 use std::alloc::Global;
 use std::marker::Model;
 
 /// What lines do that were read one after the other, none of which ended the block.
 ///
-/// `bare` has hooks whose own sliders are known to hold nothing, each in the place of its number and side, where a later one
-/// may take it. A hook that isn't there is asked about anew.
+/// `bare` has hooks whose own sliders are known to hold nothing, each in its slot, where a later one may take its place. A hook
+/// that isn't there is asked about anew.
 #[derive(Drop)]
 pub struct Draft {
     alloc: Global,
@@ -82,7 +82,7 @@ impl Draft {
         requires { HoldsAfter self.old (size_at_most (own_slider n ∷ []) 0) }
         ensures { self.new ≡ self.old }
     {
-        self.bare[place_of(n)] = Some(n);
+        self.bare[slot_of(n)] = Some(n);
     }
 
     /// Whether the carriers are known to be in action. False says nothing.
@@ -101,7 +101,7 @@ impl Draft {
     pub fn is_bare(&self, n: Needle) -> bool
         ensures { IsTrue result → HoldsAfter self.now (size_at_most (own_slider n ∷ []) 0) }
     {
-        match self.bare[place_of(n)] {
+        match self.bare[slot_of(n)] {
             Some(m) => m == n,
             None => false,
         }
@@ -168,12 +168,4 @@ fn none_bare() -> [Option<Needle>; 64]
     ensures { All (λ (o : Option Needle). o ≡ None) result }
 {
     [None; 64]
-}
-
-// The place of a hook in the table.
-fn place_of(n: Needle) -> usize
-    ensures { result < 64 }
-{
-    let side = if n.bed.is_front() { 0 } else { 32 };
-    (n.at.unsigned_abs() % 32) as usize + side
 }

@@ -46,23 +46,25 @@ no_lines_stand profile = record {
 pub no_lines_good : (carriers limit : ℕ) (known : List Needle) → IsGood carriers limit known no_lines
 unfolding IsStrictlySortedBy
 no_lines_good carriers limit known = record {
-  made = omega arith;
-  asks_fit = λ c there. absurd (Contains-none c there);
-  within = λ c there. absurd (Contains-none c there);
-  in_turn = tt;
-  irredundant = tt;
-  nested = λ c d there. absurd (Contains-none c there);
-  in_order = tt;
-  changes_fit = λ c there. absurd (Contains-none c there);
-  owns = owns_nothing;
-  sizes = λ size small meets m. sizes_nothing limit size small m;
-  ending = record {
-    lies = λ c there. absurd (Contains-none c there);
-    apart = λ c came. contains_carrier-none c;
-    came = pow_pos carriers;
-    went = pow_pos carriers;
-    hook = tt;
+  fair = record {
+    made = omega arith;
+    asks_fit = λ c there. absurd (Contains-none c there);
+    within = λ c there. absurd (Contains-none c there);
+    in_turn = tt;
+    nested = λ c d there. absurd (Contains-none c there);
+    in_order = tt;
+    changes_fit = λ c there. absurd (Contains-none c there);
+    owns = owns_nothing;
+    sizes = λ size small meets m. sizes_nothing limit size small m;
+    ending = record {
+      lies = λ c there. absurd (Contains-none c there);
+      apart = λ c came. contains_carrier-none c;
+      came = pow_pos carriers;
+      went = pow_pos carriers;
+      hook = tt;
+    };
   };
+  irredundant = tt;
 }
 
 twice_within : (known : List Needle) → IsWithin (known ++ known) known

@@ -297,7 +297,7 @@ NestedOrApart-comm xs ys (inr (inl w)) = inl w
 NestedOrApart-comm xs ys (inr (inr p)) = inr (inr (λ n h k. p n k h))
 
 -- the conditions of both blocks
-pub record ChecksFit (carriers limit lines : ℕ) (known : List Needle) (checks : List Asked) : Type 0 where
+pub record ChecksAreGood (carriers limit lines : ℕ) (known : List Needle) (checks : List Asked) : Type 0 where
   pub asks_fit : (c : Asked) → Contains checks c → AskFits carriers limit known c.ask
   pub within : (c : Asked) → Contains checks c → c.fault.line < lines
   pub in_turn : NeverFalls checks
@@ -310,53 +310,55 @@ first_past a rest h c d there k = let before = h c there in omega arith
 -- the conditions of both blocks fit
 pub checks_fit_both : (carriers limit : ℕ) (first second : List Needle) (a b : Summary) (e : Effect) → IsGood carriers limit first a → IsFair carriers limit second b →
     ((c : Asked) → Contains a.checks c → LiesIn a.changes (names_in c.ask)) →
-    ChecksFit carriers limit (a.lines + b.lines) (first ++ second) (reads e a.changes a.lines a.checks b.checks).checks
+    ChecksAreGood carriers limit (a.lines + b.lines) (first ++ second) (reads e a.changes a.lines a.checks b.checks).checks
 checks_fit_both carriers limit first second a b e ga gb lies =
     let all = reads_members e a.changes a.lines a.checks b.checks in
     record {
       asks_fit = λ c there. elim (all c there) [
-        | inl here ↦ asks_fit_more carriers limit first second c.ask (ga.asks_fit c here)
-        | inr d ↦ asks_fit_read carriers limit first second e a.changes a.lines d.0.ask c.ask ga.owns ga.changes_fit (gb.asks_fit d.0 d.1) d.2
+        | inl here ↦ asks_fit_more carriers limit first second c.ask (ga.fair.asks_fit c here)
+        | inr d ↦ asks_fit_read carriers limit first second e a.changes a.lines d.0.ask c.ask ga.fair.owns ga.fair.changes_fit (gb.asks_fit d.0 d.1) d.2
       ];
       within = λ c there. elim (all c there) [
-        | inl here ↦ (let before = ga.within c here in omega arith)
+        | inl here ↦ (let before = ga.fair.within c here in omega arith)
         | inr d ↦ (let before = gb.within d.0 d.1 in let same : c.fault.line ≡ a.lines + d.0.fault.line = ap (λ (f : Fault). f.line) d.3 in omega arith)
       ];
-      in_turn = (reads_in_turn e a.changes a.lines a.checks b.checks ga.in_turn (first_past a b.checks ga.within) gb.in_turn).in_turn;
+      in_turn = (reads_in_turn e a.changes a.lines a.checks b.checks ga.fair.in_turn (first_past a b.checks ga.fair.within) gb.in_turn).in_turn;
       irredundant = reads_irredundant e a.changes a.lines a.checks b.checks ga.irredundant;
       nested = λ c d here there. elim (all c here) [
         | inl ca ↦ elim (all d there) [
-          | inl da ↦ ga.nested c d ca da
+          | inl da ↦ ga.fair.nested c d ca da
           | inr db ↦ subst (NestedOrApart (names_in c.ask)) (sym (names_read e a.changes db.0.ask d.ask db.2))
-              (nested_or_apart_through a.changes (names_in c.ask) (names_in db.0.ask) ga.owns (lies c ca))
+              (nested_or_apart_through a.changes (names_in c.ask) (names_in db.0.ask) ga.fair.owns (lies c ca))
         ]
         | inr cb ↦ elim (all d there) [
           | inl da ↦ NestedOrApart-comm (names_in d.ask) (names_in c.ask) (subst (NestedOrApart (names_in d.ask)) (sym (names_read e a.changes cb.0.ask c.ask cb.2))
-              (nested_or_apart_through a.changes (names_in d.ask) (names_in cb.0.ask) ga.owns (lies d da)))
+              (nested_or_apart_through a.changes (names_in d.ask) (names_in cb.0.ask) ga.fair.owns (lies d da)))
           | inr db ↦ subst (λ xs. NestedOrApart xs (names_in d.ask)) (sym (names_read e a.changes cb.0.ask c.ask cb.2))
               (subst (NestedOrApart (names_through a.changes (names_in cb.0.ask))) (sym (names_read e a.changes db.0.ask d.ask db.2))
-              (nested_through a.changes (names_in cb.0.ask) (names_in db.0.ask) ga.owns (gb.nested cb.0 db.0 cb.1 db.1)))
+              (nested_through a.changes (names_in cb.0.ask) (names_in db.0.ask) ga.fair.owns (gb.nested cb.0 db.0 cb.1 db.1)))
         ]
       ];
     }
 
 -- a summary that ends broken is good where its conditions are and the fault stands last
-broken_good : (carriers limit lines : ℕ) (known : List Needle) (checks : List Asked) (f : Fault) → ChecksFit carriers limit lines known checks →
+broken_good : (carriers limit lines : ℕ) (known : List Needle) (checks : List Asked) (f : Fault) → ChecksAreGood carriers limit lines known checks →
     f.line < lines → ((c : Asked) → Contains checks c → c.fault.line ≤ f.line) →
     IsGood carriers limit known (record { lines = lines; made = 0; checks = checks; changes = []; ending = Broken f })
 unfolding IsStrictlySortedBy
 broken_good carriers limit lines known checks f h before last = record {
-  made = omega arith;
-  asks_fit = h.asks_fit;
-  within = h.within;
-  in_turn = h.in_turn;
+  fair = record {
+    made = omega arith;
+    asks_fit = h.asks_fit;
+    within = h.within;
+    in_turn = h.in_turn;
+    nested = h.nested;
+    in_order = tt;
+    changes_fit = λ c there. absurd (Contains-none c there);
+    owns = owns_nothing;
+    sizes = λ size small meets m. sizes_nothing limit size small m;
+    ending = record { within = before; last = last; unchanged = refl; made = refl };
+  };
   irredundant = h.irredundant;
-  nested = h.nested;
-  in_order = tt;
-  changes_fit = λ c there. absurd (Contains-none c there);
-  owns = owns_nothing;
-  sizes = λ size small meets m. sizes_nothing limit size small m;
-  ending = record { within = before; last = last; unchanged = refl; made = refl };
 }
 
 -- set algebra of the two effects, a carrier at a time
@@ -396,43 +398,45 @@ open_good : (carriers limit : ℕ) (first second : List Needle) (a b : Summary) 
 open_good carriers limit first second a b e f ga gb ta tb goes_on =
     let h = checks_fit_both carriers limit first second a b e ga gb ta.lies in
     let all = reads_members e a.changes a.lines a.checks b.checks in
-    let plain = all_plain carriers limit first second e a.changes a.lines b.checks ga.owns ga.changes_fit gb.asks_fit in
+    let plain = all_plain carriers limit first second e a.changes a.lines b.checks ga.fair.owns ga.fair.changes_fit gb.asks_fit in
     record {
-      made = (let p = ga.made in let q = gb.made in omega arith);
-      asks_fit = h.asks_fit;
-      within = h.within;
-      in_turn = h.in_turn;
-      irredundant = h.irredundant;
-      nested = h.nested;
-      in_order = order_merged a.changes (changes_through a.changes a.lines b.changes) ga.in_order (order_through a.changes a.lines b.changes gb.in_order);
-      changes_fit = members_merged (ChangeFits (a.lines + b.lines) (first ++ second)) a.changes (changes_through a.changes a.lines b.changes)
-          (λ c there. change_fits_more first second a.lines b.lines c (ga.changes_fit c there))
-          (members_through (ChangeFits (a.lines + b.lines) (first ++ second)) a.changes a.lines b.changes
-          (λ c there. change_fits_through a.changes first second a.lines b.lines c ga.changes_fit (gb.changes_fit c there)));
-      owns = OwnsOnce-both a.changes b.changes a.lines gb.in_order ga.owns gb.owns;
-      sizes = λ size small meets m.
-          let middle = ga.sizes size small (λ c there. meets c (reads_longer e a.changes a.lines a.checks b.checks c there)) in
-          let second_meets = reads_meets e a.changes a.lines a.checks b.checks size plain goes_on meets in
-          let bound = gb.sizes (size_after a.changes size) middle second_meets m in
-          subst (λ segs. sum_by size (entries_of segs) + new_of segs ≤ limit) (sym (segments_on-both a.changes b.changes a.lines m gb.in_order))
-          (omega (
-            arith,
-            bound,
-            ap (sum_by size) (entries_of-through a.changes a.lines (segments_on b.changes m)),
-            new_of-through a.changes a.lines (segments_on b.changes m),
-            sum_by-size_after a.changes size (entries_on b.changes m),
-          ));
-      ending = record {
-        lies = λ c there. LiesIn-both a.changes b.changes a.lines (names_in c.ask) gb.in_order (elim (all c there) [
-          | inl here ↦ first_lies a.changes b.changes (names_in c.ask) ga.owns (ta.lies c here)
-          | inr d ↦ subst (λ xs. ((x : Needle) × IsWithin xs (names_through a.changes (entries_on b.changes x))) ⊎ ((x : Needle) → IsApart xs (names_through a.changes (entries_on b.changes x))))
-              (sym (names_read e a.changes d.0.ask c.ask d.2)) (second_lies a.changes b.changes (names_in d.0.ask) ga.owns (tb.lies d.0 d.1))
-        ]);
-        apart = λ c came. has_after e.went f.went f.came c ∙ both_apart (contains_carrier e.came c) (contains_carrier e.went c) (contains_carrier f.came c) (contains_carrier f.went c) (ta.apart c) (tb.apart c) (sym (has_after e.came f.came f.went c) ∙ came);
-        came = came_within carriers e.came f.went f.came ta.came tb.came;
-        went = came_within carriers e.went f.came f.went ta.went tb.went;
-        hook = hook_within carriers f.hook e.hook tb.hook ta.hook;
+      fair = record {
+        made = (let p = ga.fair.made in let q = gb.made in omega arith);
+        asks_fit = h.asks_fit;
+        within = h.within;
+        in_turn = h.in_turn;
+        nested = h.nested;
+        in_order = order_merged a.changes (changes_through a.changes a.lines b.changes) ga.fair.in_order (order_through a.changes a.lines b.changes gb.in_order);
+        changes_fit = members_merged (ChangeFits (a.lines + b.lines) (first ++ second)) a.changes (changes_through a.changes a.lines b.changes)
+            (λ c there. change_fits_more first second a.lines b.lines c (ga.fair.changes_fit c there))
+            (members_through (ChangeFits (a.lines + b.lines) (first ++ second)) a.changes a.lines b.changes
+            (λ c there. change_fits_through a.changes first second a.lines b.lines c ga.fair.changes_fit (gb.changes_fit c there)));
+        owns = OwnsOnce-both a.changes b.changes a.lines gb.in_order ga.fair.owns gb.owns;
+        sizes = λ size small meets m.
+            let middle = ga.fair.sizes size small (λ c there. meets c (reads_longer e a.changes a.lines a.checks b.checks c there)) in
+            let second_meets = reads_meets e a.changes a.lines a.checks b.checks size plain goes_on meets in
+            let bound = gb.sizes (size_after a.changes size) middle second_meets m in
+            subst (λ segs. sum_by size (entries_of segs) + new_of segs ≤ limit) (sym (segments_on-both a.changes b.changes a.lines m gb.in_order))
+            (omega (
+              arith,
+              bound,
+              ap (sum_by size) (entries_of-through a.changes a.lines (segments_on b.changes m)),
+              new_of-through a.changes a.lines (segments_on b.changes m),
+              sum_by-size_after a.changes size (entries_on b.changes m),
+            ));
+        ending = record {
+          lies = λ c there. LiesIn-both a.changes b.changes a.lines (names_in c.ask) gb.in_order (elim (all c there) [
+            | inl here ↦ first_lies a.changes b.changes (names_in c.ask) ga.fair.owns (ta.lies c here)
+            | inr d ↦ subst (λ xs. ((x : Needle) × IsWithin xs (names_through a.changes (entries_on b.changes x))) ⊎ ((x : Needle) → IsApart xs (names_through a.changes (entries_on b.changes x))))
+                (sym (names_read e a.changes d.0.ask c.ask d.2)) (second_lies a.changes b.changes (names_in d.0.ask) ga.fair.owns (tb.lies d.0 d.1))
+          ]);
+          apart = λ c came. has_after e.went f.went f.came c ∙ both_apart (contains_carrier e.came c) (contains_carrier e.went c) (contains_carrier f.came c) (contains_carrier f.went c) (ta.apart c) (tb.apart c) (sym (has_after e.came f.came f.went c) ∙ came);
+          came = came_within carriers e.came f.went f.came ta.came tb.came;
+          went = came_within carriers e.went f.came f.went ta.went tb.went;
+          hook = hook_within carriers f.hook e.hook tb.hook ta.hook;
+        };
       };
+      irredundant = h.irredundant;
     }
 
 stopped_good : (carriers limit : ℕ) (first second : List Needle) (a b : Summary) (e : Effect) (f : Fault) → IsGood carriers limit first a → IsFair carriers limit second b →
@@ -444,7 +448,7 @@ stopped_good carriers limit first second a b e f ga gb ta is =
     let same : a.lines + stop_at.0.fault.line ≡ f.line = ap (λ (x : Fault). x.line) stop_at.2 in
     broken_good carriers limit (a.lines + b.lines) (first ++ second) (reads e a.changes a.lines a.checks b.checks).checks f
     (checks_fit_both carriers limit first second a b e ga gb ta.lies) (omega arith)
-    ((reads_in_turn e a.changes a.lines a.checks b.checks ga.in_turn (first_past a b.checks ga.within) gb.in_turn).stops_last f is)
+    ((reads_in_turn e a.changes a.lines a.checks b.checks ga.fair.in_turn (first_past a b.checks ga.fair.within) gb.in_turn).stops_last f is)
 
 ends_broken_good : (carriers limit : ℕ) (first second : List Needle) (a b : Summary) (e : Effect) (f : Fault) → IsGood carriers limit first a → IsFair carriers limit second b →
     ThroughFits carriers a e → BrokenFits b f →
@@ -453,7 +457,7 @@ ends_broken_good carriers limit first second a b e f ga gb ta tb =
     broken_good carriers limit (a.lines + b.lines) (first ++ second) (reads e a.changes a.lines a.checks b.checks).checks (raised a.lines f)
     (checks_fit_both carriers limit first second a b e ga gb ta.lies) (let before = tb.within in omega arith)
     (λ c there. elim (reads_members e a.changes a.lines a.checks b.checks c there) [
-      | inl here ↦ (let before = ga.within c here in omega arith)
+      | inl here ↦ (let before = ga.fair.within c here in omega arith)
       | inr d ↦ (let before = tb.last d.0 d.1 in let same : c.fault.line ≡ a.lines + d.0.fault.line = ap (λ (x : Fault). x.line) d.3 in omega arith)
     ])
 
@@ -475,7 +479,7 @@ closed_good : (carriers limit : ℕ) (first second : List Needle) (a b : Summary
 closed_good carriers limit first second a b e (Some f) ga gb ta is = stopped_good carriers limit first second a b e f ga gb ta is
 closed_good carriers limit first second a b e None ga gb ta is = open_cases carriers limit first second a b e b.ending ga gb ta gb.ending is
 
-known_more : (carriers limit : ℕ) (first second : List Needle) (lines more : ℕ) (checks : List Asked) → ChecksFit carriers limit lines first checks → ChecksFit carriers limit (lines + more) (first ++ second) checks
+known_more : (carriers limit : ℕ) (first second : List Needle) (lines more : ℕ) (checks : List Asked) → ChecksAreGood carriers limit lines first checks → ChecksAreGood carriers limit (lines + more) (first ++ second) checks
 known_more carriers limit first second lines more checks h = record {
   asks_fit = λ c there. asks_fit_more carriers limit first second c.ask (h.asks_fit c there);
   within = λ c there. let before = h.within c there in omega arith;
@@ -488,34 +492,19 @@ composed_good_at : (carriers limit : ℕ) (first second : List Needle) (a b : Su
     EndingFits carriers a ending → IsGood carriers limit (first ++ second) (composed_at ending a b)
 composed_good_at carriers limit first second a b (Broken f) ga gb ta =
     broken_good carriers limit (a.lines + b.lines) (first ++ second) a.checks f
-    (known_more carriers limit first second a.lines b.lines a.checks (record { asks_fit = ga.asks_fit; within = ga.within; in_turn = ga.in_turn; irredundant = ga.irredundant; nested = ga.nested }))
+    (known_more carriers limit first second a.lines b.lines a.checks (record { asks_fit = ga.fair.asks_fit; within = ga.fair.within; in_turn = ga.fair.in_turn; irredundant = ga.irredundant; nested = ga.fair.nested }))
     (let before = ta.within in omega arith) ta.last
 composed_good_at carriers limit first second a b (Through e) ga gb ta =
     closed_good carriers limit first second a b e (reads e a.changes a.lines a.checks b.checks).stop ga gb ta refl
 
--- a good summary is fair
-pub fair_from_good : (carriers limit : ℕ) (known : List Needle) (a : Summary) → IsGood carriers limit known a → IsFair carriers limit known a
-fair_from_good carriers limit known a g = record {
-  made = g.made;
-  asks_fit = g.asks_fit;
-  within = g.within;
-  in_turn = g.in_turn;
-  nested = g.nested;
-  in_order = g.in_order;
-  changes_fit = g.changes_fit;
-  owns = g.owns;
-  sizes = g.sizes;
-  ending = g.ending;
-}
-
 -- A good summary and a fair one compose to a good one, of the needles of both.
 pub composed_good_fair : (carriers limit : ℕ) (first second : List Needle) (a b : Summary) → IsGood carriers limit first a → IsFair carriers limit second b →
     IsGood carriers limit (first ++ second) (composed a b)
-composed_good_fair carriers limit first second a b ga gb = composed_good_at carriers limit first second a b a.ending ga gb ga.ending
+composed_good_fair carriers limit first second a b ga gb = composed_good_at carriers limit first second a b a.ending ga gb ga.fair.ending
 
 plain_at : (carriers limit : ℕ) (first second : List Needle) (a b : Summary) (ending : Ending) → IsGood carriers limit first a → IsFair carriers limit second b → AllNameOnceThrough ending a b
 plain_at carriers limit first second a b (Broken f) ga gb = tt
-plain_at carriers limit first second a b (Through e) ga gb = all_plain carriers limit first second e a.changes a.lines b.checks ga.owns ga.changes_fit gb.asks_fit
+plain_at carriers limit first second a b (Through e) ga gb = all_plain carriers limit first second e a.changes a.lines b.checks ga.fair.owns ga.fair.changes_fit gb.asks_fit
 
 -- Their composition is running one after the other, with the first fault kept.
 pub composed_runs_fair : (carriers limit : ℕ) (first second : List Needle) (a b : Summary) → IsGood carriers limit first a → IsFair carriers limit second b →
@@ -526,12 +515,12 @@ composed_runs_fair carriers limit first second a b ga gb s k =
 -- Two good summaries compose to a good one, of the needles of both.
 pub composed_good : (carriers limit : ℕ) (first second : List Needle) (a b : Summary) → IsGood carriers limit first a → IsGood carriers limit second b →
     IsGood carriers limit (first ++ second) (composed a b)
-composed_good carriers limit first second a b ga gb = composed_good_fair carriers limit first second a b ga (fair_from_good carriers limit second b gb)
+composed_good carriers limit first second a b ga gb = composed_good_fair carriers limit first second a b ga gb.fair
 
 -- Composition of good summaries is running one after the other, with the first fault kept.
 pub composed_runs_both : (carriers limit : ℕ) (first second : List Needle) (a b : Summary) → IsGood carriers limit first a → IsGood carriers limit second b →
     (s : State) (k : ℕ) → applied (composed a b) s k ≡ and_then (applied a s k) (λ t. applied b t (k + a.lines))
-composed_runs_both carriers limit first second a b ga gb s k = composed_runs_fair carriers limit first second a b ga (fair_from_good carriers limit second b gb) s k
+composed_runs_both carriers limit first second a b ga gb s k = composed_runs_fair carriers limit first second a b ga gb.fair s k
 
 ask_within : (carriers limit : ℕ) (known more : List Needle) (w : Ask) → IsWithin known more → AskFits carriers limit known w → AskFits carriers limit more w
 ask_within carriers limit known more (size_at_most names most) within h = record {
@@ -550,19 +539,21 @@ ask_within carriers limit known more (hook_lacks x) within h = h
 -- A good summary stays good where more needles are known, in whatever order.
 pub good_within : (carriers limit : ℕ) (known more : List Needle) (a : Summary) → IsWithin known more → IsGood carriers limit known a → IsGood carriers limit more a
 good_within carriers limit known more a within g = record {
-  made = g.made;
-  asks_fit = λ c there. ask_within carriers limit known more c.ask within (g.asks_fit c there);
-  within = g.within;
-  in_turn = g.in_turn;
+  fair = record {
+    made = g.fair.made;
+    asks_fit = λ c there. ask_within carriers limit known more c.ask within (g.fair.asks_fit c there);
+    within = g.fair.within;
+    in_turn = g.fair.in_turn;
+    nested = g.fair.nested;
+    in_order = g.fair.in_order;
+    changes_fit = λ c there. (let fits = g.fair.changes_fit c there in record {
+      needle = within c.0 fits.needle;
+      entries = λ n held. within n (fits.entries n held);
+      offsets = fits.offsets;
+    });
+    owns = g.fair.owns;
+    sizes = g.fair.sizes;
+    ending = g.fair.ending;
+  };
   irredundant = g.irredundant;
-  nested = g.nested;
-  in_order = g.in_order;
-  changes_fit = λ c there. (let fits = g.changes_fit c there in record {
-    needle = within c.0 fits.needle;
-    entries = λ n held. within n (fits.entries n held);
-    offsets = fits.offsets;
-  });
-  owns = g.owns;
-  sizes = g.sizes;
-  ending = g.ending;
 }

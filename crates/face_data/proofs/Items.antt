@@ -131,7 +131,7 @@ needed_at (s ∷ ss) h (suc k) zero hk hl w m = absurd (omega arith)
 needed_at (s ∷ ss) h (suc k) (suc l) hk hl w m = needed_at ss h.1 k l (omega arith) (omega arith) w m
 
 sized_fits : (carriers limit : ℕ) (known : List Needle) (f : Summary) → IsGood carriers limit known f → (s : Sized) → Contains (sizes_of f.checks) s → SizeFits limit known s.names s.most
-sized_fits carriers limit known f g s h = let c = sizes_from f.checks s h in subst (AskFits carriers limit known) c.2 (g.asks_fit c.0 c.1)
+sized_fits carriers limit known f g s h = let c = sizes_from f.checks s h in subst (AskFits carriers limit known) c.2 (g.fair.asks_fit c.0 c.1)
 
 are_sizes : (carriers limit : ℕ) (known : List Needle) (f : Summary) → IsGood carriers limit known f → AreSizes limit known (sizes_of f.checks)
 are_sizes carriers limit known f g = record {
@@ -141,7 +141,7 @@ are_sizes carriers limit known f g = record {
   nested = λ k l hk hl.
       let c = sizes_from f.checks (get_or (sizes_of f.checks) k no_size) (Contains-get_or (sizes_of f.checks) k no_size hk) in
       let d = sizes_from f.checks (get_or (sizes_of f.checks) l no_size) (Contains-get_or (sizes_of f.checks) l no_size hl) in
-      subst₂ NestedOrApart (ap names_in c.2) (ap names_in d.2) (g.nested c.0 d.0 c.1 d.1);
+      subst₂ NestedOrApart (ap names_in c.2) (ap names_in d.2) (g.fair.nested c.0 d.0 c.1 d.1);
   needed = needed_at (sizes_of f.checks) (needed_of f.checks g.irredundant);
 }
 
@@ -290,17 +290,17 @@ meets_nothing (hook_lacks x) = tt
 
 new_at_most : (carriers limit : ℕ) (known : List Needle) (f : Summary) → IsGood carriers limit known f → (c : Changed) → Contains f.changes c → new_of c.1 ≤ limit
 new_at_most carriers limit known f g c h =
-    let size = g.sizes (λ n. 0) (λ n. omega arith) (λ d k. meets_nothing d.ask) c.0 in
-    omega (arith, size, nothing_much (entries_on f.changes c.0), ap new_of (segments_found f.changes c g.in_order h))
+    let size = g.fair.sizes (λ n. 0) (λ n. omega arith) (λ d k. meets_nothing d.ask) c.0 in
+    omega (arith, size, nothing_much (entries_on f.changes c.0), ap new_of (segments_found f.changes c g.fair.in_order h))
 
 -- the changes and their segments, counted together
 pub change_items_bound : (carriers limit : ℕ) (known : List Needle) (f : Summary) → IsGood carriers limit known f →
     length f.changes + seg_items f.changes ≤ (limit + 2) * length known
 change_items_bound carriers limit known f g =
-    let many = changes_bound f.lines known f.changes g.in_order g.changes_fit in
+    let many = changes_bound f.lines known f.changes g.fair.in_order g.fair.changes_fit in
     let own = length_within (all_entries f.changes) known
-    (entries_distinct f.changes f.changes g.in_order g.owns (needles_distinct f.changes g.in_order) (λ c h. h))
-    (λ n h. let w = in_entries f.changes n h in (g.changes_fit w.0 w.1).entries n w.2) in
+    (entries_distinct f.changes f.changes g.fair.in_order g.fair.owns (needles_distinct f.changes g.fair.in_order) (λ c h. h))
+    (λ n h. let w = in_entries f.changes n h in (g.fair.changes_fit w.0 w.1).entries n w.2) in
     let new : length f.changes * limit ≤ length known * limit = mul-le-mul_right limit many in
     omega (arith, many, own, new, segs_at_most limit f.changes (new_at_most carriers limit known f g))
 
@@ -457,9 +457,9 @@ items_bound carriers limit known f g =
     omega (
       arith,
       check_split f.checks,
-      others_bound carriers limit known f.checks no_asked g.asks_fit g.irredundant,
+      others_bound carriers limit known f.checks no_asked g.fair.asks_fit g.irredundant,
       size_items_bound carriers limit known f g,
       change_split f.changes,
       change_items_bound carriers limit known f g,
-      ending_bound carriers f f.ending g.ending,
+      ending_bound carriers f f.ending g.fair.ending,
     )

@@ -72,16 +72,16 @@ answer-known carriers limit first second e a b kept d ga gb lies are there = go 
   where
     kept_fits : (c : Asked) → Contains kept c → IsDistinct (names_in c.ask)
     kept_fits c here = elim (are.come_from c here) [
-      | inl before ↦ AskFits-distinct carriers limit first c.ask (ga.asks_fit c before)
+      | inl before ↦ AskFits-distinct carriers limit first c.ask (ga.fair.asks_fit c before)
       | inr from ↦ AskFits-distinct carriers limit (first ++ second) c.ask
-          (asks_fit_read carriers limit first second e a.changes a.lines from.0.ask c.ask ga.owns ga.changes_fit (gb.asks_fit from.0 from.1) from.2)
+          (asks_fit_read carriers limit first second e a.changes a.lines from.0.ask c.ask ga.fair.owns ga.fair.changes_fit (gb.fair.asks_fit from.0 from.1) from.2)
     ]
 
     go : (r : Answer) → read_answer e a.changes d.ask ≡ r → against_kept kept r ≡ answer_known (digest_of kept) (chain_at kept) r
     go yes_it_does is = refl
     go no_it_does_not is = refl
     go (asks w) is = settled-known carriers limit (first ++ second) kept w are.irredundant
-        (asks_fit_read carriers limit first second e a.changes a.lines d.ask w ga.owns ga.changes_fit (gb.asks_fit d there) is)
+        (asks_fit_read carriers limit first second e a.changes a.lines d.ask w ga.fair.owns ga.fair.changes_fit (gb.fair.asks_fit d there) is)
         kept_fits
         (λ c here. subst (NestedOrApart (names_in c.ask)) (sym (names_read e a.changes d.ask w is))
-        (kept_nested e a b ga.owns lies gb.nested c d (are.come_from c here) there))
+        (kept_nested e a b ga.fair.owns lies gb.fair.nested c d (are.come_from c here) there))

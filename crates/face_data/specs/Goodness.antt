@@ -107,21 +107,7 @@ abbrev pub EndingFits : ℕ → Summary → Ending → Type 0
 EndingFits carriers summary (Broken fault) = BrokenFits summary fault
 EndingFits carriers summary (Through effect) = ThroughFits carriers summary effect
 
--- the summary is good for so many carriers, a limit on the loops of a needle, and known needles
-pub record IsGood (carriers limit : ℕ) (known : List Needle) (summary : Summary) : Type 0 where
-  pub made : summary.made ≤ summary.lines
-  pub asks_fit : (c : Asked) → Contains summary.checks c → AskFits carriers limit known c.ask
-  pub within : (c : Asked) → Contains summary.checks c → c.fault.line < summary.lines
-  pub in_turn : NeverFalls summary.checks
-  pub irredundant : IsIrredundant summary.checks
-  pub nested : (c d : Asked) → Contains summary.checks c → Contains summary.checks d → NestedOrApart (names_in c.ask) (names_in d.ask)
-  pub in_order : IsInOrder summary.changes
-  pub changes_fit : (c : Changed) → Contains summary.changes c → ChangeFits summary.lines known c
-  pub owns : OwnsOnce summary.changes
-  pub sizes : (size : Needle → ℕ) → ((n : Needle) → size n ≤ limit) → MeetsSizes summary.checks size → (m : Needle) → size_after summary.changes size m ≤ limit
-  pub ending : EndingFits carriers summary summary.ending
-
--- the same of a summary some of whose conditions may say something of later ones
+-- the summary is fair for so many carriers, a limit on the loops of a needle, and known needles
 pub record IsFair (carriers limit : ℕ) (known : List Needle) (summary : Summary) : Type 0 where
   pub made : summary.made ≤ summary.lines
   pub asks_fit : (c : Asked) → Contains summary.checks c → AskFits carriers limit known c.ask
@@ -133,3 +119,8 @@ pub record IsFair (carriers limit : ℕ) (known : List Needle) (summary : Summar
   pub owns : OwnsOnce summary.changes
   pub sizes : (size : Needle → ℕ) → ((n : Needle) → size n ≤ limit) → MeetsSizes summary.checks size → (m : Needle) → size_after summary.changes size m ≤ limit
   pub ending : EndingFits carriers summary summary.ending
+
+-- the summary is good: it is fair, and no condition says anything of a later one
+pub record IsGood (carriers limit : ℕ) (known : List Needle) (summary : Summary) : Type 0 where
+  pub fair : IsFair carriers limit known summary
+  pub irredundant : IsIrredundant summary.checks

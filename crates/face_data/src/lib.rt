@@ -37,4 +37,4 @@ pub use digest::Digest;
 pub use face::{Change, Check, Cond, CondList, Effect, Ending, FaceView, Part, Seg, Segs};
 pub use short_list::ShortList;
 pub use sizes::{NeedleList, SizeAsk, SizeAsks, ask_size};
-pub use symbols::{SymbolList, Symbols};
+pub use symbols::{SymbolList, Symbols, slot_of};

@@ -27,7 +27,7 @@ impl<T> Model for ShortList<T> {
 }
 
 impl<T: Drop> ShortList<T> {
-    /// The empty list.
+    /// The empty list, which takes no memory.
     pub fn new(alloc: Global) -> Self
         ensures { result ≡ [] }
     {
@@ -37,7 +37,7 @@ impl<T: Drop> ShortList<T> {
         }
     }
 
-    /// The list of this item alone.
+    /// The list of this item alone, which takes no memory.
     pub fn one(alloc: Global, item: T) -> Self
         ensures { result ≡ item ∷ [] }
     {
@@ -47,7 +47,7 @@ impl<T: Drop> ShortList<T> {
         }
     }
 
-    /// Appends an item.
+    /// Appends an item. The first four take no memory; after `NoMemory` the list is as before.
     pub fn push(&mut self, item: T) -> Result<(), NoMemory>
         requires { length self.old < 2 ^ 32 - 1 }
         ensures ok { OnOk result (self.new ≡ self.old ++ item ∷ []) }
@@ -58,12 +58,14 @@ impl<T: Drop> ShortList<T> {
         self.storage.push(alloc, item)
     }
 
+    /// How many items there are.
     pub fn len(&self) -> u32
         ensures { result ≡ length self.now }
     {
         self.as_slice().len() as u32
     }
 
+    /// Whether there is none.
     pub fn is_empty(&self) -> bool
         ensures { result ≡ (length self.now == 0) }
     {
@@ -77,6 +79,7 @@ impl<T: Drop> ShortList<T> {
         self.as_slice().get(i as usize)
     }
 
+    /// The items, of which there are fewer than 2 ^ 32.
     pub fn as_slice(&self) -> &[T]
         ensures items { result.now ≡ self.now }
         ensures small { length self.now < 2 ^ 32 }
@@ -86,7 +89,7 @@ impl<T: Drop> ShortList<T> {
 }
 
 impl<T: Copy + Drop> ShortList<T> {
-    /// Appends a copy of each item.
+    /// Appends a copy of each item. Up to four in all take no memory; after `NoMemory` the list is as before.
     pub fn extend_from_slice(&mut self, more: &[T]) -> Result<(), NoMemory>
         requires { length self.old + length more.now < 2 ^ 32 }
         ensures ok { OnOk result (self.new ≡ self.old ++ more.now) }

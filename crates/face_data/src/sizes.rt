@@ -23,7 +23,8 @@ pub struct SizeAsk {
 /// Conditions on how many loops needles hold.
 pub type SizeAsks = ShortList<SizeAsk>;
 
-/// The condition on the block's entry under which these needles hold together at most `most` loops now.
+/// The condition on the block's entry under which these needles hold together at most `most` loops now. `NoMemory` also comes
+/// where its needles would be more than a `u32` counts.
 pub fn ask_size(
     alloc: Global,
     reason: Reason,

@@ -18,6 +18,7 @@ pub enum Storage<T> {
 }
 
 impl<T: Drop> Storage<T> {
+    /// The items in their order.
     pub fn as_slice(&self) -> &[T]
         ensures { result.now ≡ items_in self.now }
     {

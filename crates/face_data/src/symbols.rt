@@ -21,8 +21,8 @@ pub type SymbolList = ShortList<(Needle, Segs)>;
 /// The needles that were touched, in the order of needles, each with the segments that it holds. A needle that wasn't touched
 /// holds its own entry.
 ///
-/// A needle is looked for first where the last one of its number and side was found. `places` has 32 guesses a side; a wrong
-/// one costs a search.
+/// A needle is looked for first where the last one of its slot was found. `places` has a guess for each slot; a wrong one costs
+/// a search.
 #[derive(Drop)]
 pub struct Symbols {
     held: Vec<(Needle, Segs)>,
@@ -57,7 +57,7 @@ impl Symbols {
     pub fn of(&self, n: Needle) -> Option<&Segs>
         ensures { option_copied result ≡ change_at self.now n }
     {
-        match find(&self.held, self.places[guess_of(n)], n) {
+        match find(&self.held, self.places[slot_of(n)], n) {
             Ok(i) => Some(&self.held[i].1),
             Err(_) => None,
         }
@@ -75,28 +75,29 @@ impl Symbols {
         }
     }
 
-    /// Gives the needle these segments, and answers with those that it held, where it was touched.
+    /// Gives the needle these segments, and answers with those that it held, where it was touched. After `NoMemory` all is as
+    /// before; a needle that was touched needs none.
     pub fn swap(&mut self, n: Needle, segs: Segs) -> Result<Option<Segs>, NoMemory>
         ensures ok { OnOk result (self.new ≡ merged self.old ((n, segs) ∷ [])) }
         ensures was { IfOk result (λ was. was ≡ change_at self.old n) }
         ensures rising { IsInOrder self.new }
         ensures err { OnErr result (self.new ≡ self.old) }
     {
-        match find(&self.held, self.places[guess_of(n)], n) {
+        match find(&self.held, self.places[slot_of(n)], n) {
             Ok(i) => {
-                self.places[guess_of(n)] = (i % 65536) as u16;
+                self.places[slot_of(n)] = (i % 65536) as u16;
                 let place = &mut self.held[i];
                 Ok(Some(mem::replace(&mut place.1, segs)))
             }
             Err(i) => {
-                self.places[guess_of(n)] = (i % 65536) as u16;
+                self.places[slot_of(n)] = (i % 65536) as u16;
                 self.held.insert(i, (n, segs))?;
                 Ok(None)
             }
         }
     }
 
-    /// Gives the needle these segments, whether it was touched or not, and leaves all others.
+    /// Gives the needle these segments, whether it was touched or not, and leaves all others. After `NoMemory` all is as before.
     pub fn set(&mut self, n: Needle, segs: Segs) -> Result<(), NoMemory>
         ensures ok { OnOk result ((m : Needle) → change_at self.new m ≡ (if same_needle n m then Some segs else change_at self.old m)) }
         ensures rising { IsInOrder self.new }
@@ -122,8 +123,8 @@ impl Symbols {
     }
 }
 
-// Which guess is that of the needle.
-fn guess_of(n: Needle) -> usize
+/// Which of 64 slots is that of the needle: by its side, and by its number modulo 32. Other needles may have the same.
+pub fn slot_of(n: Needle) -> usize
     ensures { result < 64 }
 {
     let side = if n.bed.is_front() { 0 } else { 32 };

@@ -145,7 +145,7 @@ composed_sizes_at a b (Through e) order_a order_b oa ob =
 
 -- How long the lists of two good summaries' composition can be.
 pub composed_sizes : (carriers limit : ℕ) (first second : List Needle) (a b : Summary) → IsGood carriers limit first a → IsGood carriers limit second b → SizesOfBoth (composed a b) a b
-composed_sizes carriers limit first second a b ga gb = composed_sizes_at a b a.ending ga.in_order gb.in_order ga.owns gb.owns
+composed_sizes carriers limit first second a b ga gb = composed_sizes_at a b a.ending ga.fair.in_order gb.fair.in_order ga.fair.owns gb.fair.owns
 
 fits_if : (n m : ℕ) (b : Bool) → n ≤ m → n ≤ 2 ^ 62 → n ≤ (if b then 2 ^ 62 + 1 else m)
 fits_if n m true h small = omega (arith, small)
@@ -185,7 +185,7 @@ composed_room a b f g pa pb pf is made =
     let eb = entries_in_packed b pb in
     let ef = entries_in_packed f pf in
     let asked : length (checks_in b) * length (all_entries (changes_in a)) ≡ length b.checks.now * length (entries_of a.segs.now) = ap₂ (λ (x y : ℕ). x * y) cb ea in
-    let read = names_read_bound (changes_in a) (checks_in b) g.first.owns (λ c there. AskFits-distinct g.carriers g.limit g.second_known c.ask (g.second.asks_fit c there)) in
+    let read = names_read_bound (changes_in a) (checks_in b) g.first.fair.owns (λ c there. AskFits-distinct g.carriers g.limit g.second_known c.ask (g.second.fair.asks_fit c there)) in
     let both = length a.names.now + length b.names.now in
     let through = length b.checks.now * length (entries_of a.segs.now) in
     let names = fits_both_if (length f.names.now) both through (nat_lt (2 ^ 62) both) (nat_lt (2 ^ 62) through) (omega (arith, s.few_names, na, nb, nf, read, asked)) made.names in

@@ -109,15 +109,15 @@ meets_none (hook_lacks x) = tt
 
 -- each needle holds few new loops
 few_new : (carriers limit : ℕ) (known : List Needle) (f : Summary) → IsGood carriers limit known f → (n : Needle) → new_of (segments_on f.changes n) ≤ limit
-few_new carriers limit known f g n = let size = g.sizes (λ m. 0) (λ m. omega arith) (λ c there. meets_none c.ask) n in omega (arith, size)
+few_new carriers limit known f g n = let size = g.fair.sizes (λ m. 0) (λ m. omega arith) (λ c there. meets_none c.ask) n in omega (arith, size)
 
 few_read : (carriers limit : ℕ) (first second names : List Needle) (a : FaceView) (c : Cond) → IsGood carriers limit first (summary_of a) → All IsNumbered (first ++ second) → limit < 2 ^ 8 →
     AskFits carriers limit second (ask_of names c) → IsFewThrough a (names_of names c)
 few_read carriers limit first second names a (SizeAtMost p most) ga numbers few_loops fits =
     let xs = part_of names p in
     let own : length xs ≤ 2 ^ 18 = few_distinct xs fits.distinct (λ n there. All-contains IsNumbered (first ++ second) n numbers (Contains-append_right first second n (fits.within n there))) in
-    let read = few_within (names_through (changes_in a) xs) (first ++ second) (distinct_through (changes_in a) xs ga.owns fits.distinct)
-    (within_known (changes_in a) a.lines first second xs ga.changes_fit fits.within) numbers in
+    let read = few_within (names_through (changes_in a) xs) (first ++ second) (distinct_through (changes_in a) xs ga.fair.owns fits.distinct)
+    (within_known (changes_in a) a.lines first second xs ga.fair.changes_fit fits.within) numbers in
     let new : new_through (changes_in a) xs ≤ length xs * limit
     = sum_by-le (λ n. new_of (segments_on (changes_in a) n)) limit xs (λ k d below. few_new carriers limit first (summary_of a) ga (get_or xs k d)) in
     let many : length xs * limit ≤ 2 ^ 18 * limit = mul-le-mul_right limit own in
@@ -178,27 +178,27 @@ composable a b g pa pb sum =
     record {
       good = g;
       named = record { fit = pa.checks_fit; whole = pa.names };
-      carriers = λ k d within. carrier_fits g.carriers g.limit g.first_known a.names.now (get_or a.checks.now k d).cond g.few (g.first.asks_fit (asked_of a.names.now (get_or a.checks.now k d)) (asked_at a k d within));
-      few_names = λ k d within. few_named g.carriers g.limit g.first_known a.names.now (get_or a.checks.now k d).cond g.first_numbers (g.first.asks_fit (asked_of a.names.now (get_or a.checks.now k d)) (asked_at a k d within));
+      carriers = λ k d within. carrier_fits g.carriers g.limit g.first_known a.names.now (get_or a.checks.now k d).cond g.few (g.first.fair.asks_fit (asked_of a.names.now (get_or a.checks.now k d)) (asked_at a k d within));
+      few_names = λ k d within. few_named g.carriers g.limit g.first_known a.names.now (get_or a.checks.now k d).cond g.first_numbers (g.first.fair.asks_fit (asked_of a.names.now (get_or a.checks.now k d)) (asked_at a k d within));
       readable = λ k d within.
-          let fits = g.second.asks_fit (asked_of b.names.now (get_or b.checks.now k d)) (asked_at b k d within) in
+          let fits = g.second.fair.asks_fit (asked_of b.names.now (get_or b.checks.now k d)) (asked_at b k d within) in
           record {
             fit = pb.checks_fit k d within;
             carrier = carrier_fits g.carriers g.limit g.second_known b.names.now (get_or b.checks.now k d).cond g.few fits;
             few = few_read g.carriers g.limit g.first_known g.second_known b.names.now a (get_or b.checks.now k d).cond g.first numbers g.few_loops fits;
           };
-      raised = λ k d within. omega (arith, g.second.within (asked_of b.names.now (get_or b.checks.now k d)) (asked_at b k d within), sum);
+      raised = λ k d within. omega (arith, g.second.fair.within (asked_of b.names.now (get_or b.checks.now k d)) (asked_at b k d within), sum);
       fit = pa.changes_fit;
-      order = g.first.in_order;
+      order = g.first.fair.in_order;
       second_fit = pb.changes_fit;
       offsets = λ k d within j e below.
           let c = changed_of b.segs.now (get_or b.changes.now k d) in
-          offset_fits a.lines b.lines g.second_known c (g.second.changes_fit c (contains_mapped (changed_of b.segs.now) b.changes.now k d within)) sum (get_or c.1 j e) (Contains-get_or c.1 j e below);
+          offset_fits a.lines b.lines g.second_known c (g.second.fair.changes_fit c (contains_mapped (changed_of b.segs.now) b.changes.now k d within)) sum (get_or c.1 j e) (Contains-get_or c.1 j e below);
       few_segs = λ effect more first second goes_on.
           subst (λ cs. segs_in cs < 2 ^ 32) (merged_changes a b effect more first second goes_on)
           (few_segs g.carriers g.limit (g.first_known ++ g.second_known) (composed (summary_of a) (summary_of b))
           (composed_good g.carriers g.limit g.first_known g.second_known (summary_of a) (summary_of b) g.first g.second) numbers g.few_loops);
       lines = sum;
-      made = omega (arith, g.first.made, g.second.made, sum);
-      ending = ending_rises g.carriers a (summary_of b) b.ending g.second.ending sum;
+      made = omega (arith, g.first.fair.made, g.second.fair.made, sum);
+      ending = ending_rises g.carriers a (summary_of b) b.ending g.second.fair.ending sum;
     }

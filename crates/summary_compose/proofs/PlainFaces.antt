@@ -19,25 +19,27 @@ one_line checks ending = record { lines = 1; made = 0; checks = checks; changes 
 
 unasked_good : (ending : Ending) → EndingFits 0 (one_line [] ending) ending → IsGood 0 0 [] (one_line [] ending)
 unasked_good ending fits =
-    let none = no_lines_good 0 0 [] in
+    let none = (no_lines_good 0 0 []).fair in
     record {
-      made = omega arith;
-      asks_fit = none.asks_fit;
-      within = λ c there. absurd (Contains-none c there);
-      in_turn = none.in_turn;
-      irredundant = none.irredundant;
-      nested = none.nested;
-      in_order = none.in_order;
-      changes_fit = λ c there. absurd (Contains-none c there);
-      owns = none.owns;
-      sizes = none.sizes;
-      ending = fits;
+      fair = record {
+        made = omega arith;
+        asks_fit = none.asks_fit;
+        within = λ c there. absurd (Contains-none c there);
+        in_turn = none.in_turn;
+        nested = none.nested;
+        in_order = none.in_order;
+        changes_fit = λ c there. absurd (Contains-none c there);
+        owns = none.owns;
+        sizes = none.sizes;
+        ending = fits;
+      };
+      irredundant = tt;
     }
 
 -- a line that asks and does nothing
 pub idle_good : IsGood 0 0 [] (one_line [] (Through no_effect))
 idle_good =
-    let ending = (no_lines_good 0 0 []).ending in
+    let ending = (no_lines_good 0 0 []).fair.ending in
     unasked_good (Through no_effect) (record { lies = ending.lies; apart = ending.apart; came = ending.came; went = ending.went; hook = ending.hook })
 
 -- a line that is broken by itself
@@ -48,7 +50,7 @@ broken_good fault first =
 -- nothing comes or goes
 pub idle_fits : ThroughFits 1 (one_line [] (Through no_effect)) no_effect
 idle_fits =
-    let ending = (no_lines_good 1 0 []).ending in
+    let ending = (no_lines_good 1 0 []).fair.ending in
     record { lies = λ c there. absurd (Contains-none c there); apart = ending.apart; came = ending.came; went = ending.went; hook = ending.hook }
 
 -- the first carrier comes in
@@ -76,23 +78,25 @@ unnamed x c none there n named =
 pub one_check_good : (x : Asked) (effect : Effect) → x.fault.line ≡ 0 → names_in x.ask ≡ [] → AskFits 1 0 [] x.ask → ThroughFits 1 (one_line [] (Through effect)) effect →
     IsGood 1 0 [] (one_line (x ∷ []) (Through effect))
 one_check_good x effect line none fits ending =
-    let idle = no_lines_good 1 0 [] in
+    let idle = (no_lines_good 1 0 []).fair in
     record {
-      made = omega arith;
-      asks_fit = λ c there. subst (λ (a : Asked). AskFits 1 0 [] a.ask) (only_check x c there) fits;
-      within = λ c there. subst (λ (a : Asked). a.fault.line < 1) (only_check x c there) (omega (arith, line));
-      in_turn = ((λ d later. absurd (Contains-none d later)), tt);
-      irredundant = ((λ d later. absurd (Contains-none d later)), tt);
-      nested = λ c d here there. inl (λ n named. absurd (unnamed x c none here n named));
-      in_order = idle.in_order;
-      changes_fit = λ c there. absurd (Contains-none c there);
-      owns = idle.owns;
-      sizes = λ size small meets m. idle.sizes size small (λ c there. absurd (Contains-none c there)) m;
-      ending = record {
-        lies = λ c there. inr (λ m n named held. unnamed x c none there n named);
-        apart = ending.apart;
-        came = ending.came;
-        went = ending.went;
-        hook = ending.hook;
+      fair = record {
+        made = omega arith;
+        asks_fit = λ c there. subst (λ (a : Asked). AskFits 1 0 [] a.ask) (only_check x c there) fits;
+        within = λ c there. subst (λ (a : Asked). a.fault.line < 1) (only_check x c there) (omega (arith, line));
+        in_turn = ((λ d later. absurd (Contains-none d later)), tt);
+        nested = λ c d here there. inl (λ n named. absurd (unnamed x c none here n named));
+        in_order = idle.in_order;
+        changes_fit = λ c there. absurd (Contains-none c there);
+        owns = idle.owns;
+        sizes = λ size small meets m. idle.sizes size small (λ c there. absurd (Contains-none c there)) m;
+        ending = record {
+          lies = λ c there. inr (λ m n named held. unnamed x c none there n named);
+          apart = ending.apart;
+          came = ending.came;
+          went = ending.went;
+          hook = ending.hook;
+        };
       };
+      irredundant = ((λ d later. absurd (Contains-none d later)), tt);
     }

@@ -115,7 +115,7 @@ step_against a b e i d kept now digest notes goes_on good through so within h =
     subst (λ answer. StepIs answer kept (raised a.lines (check_at b i d).fault) goes_on now)
     (ap (λ x. answer_known x (chain_at kept) (read_answer e (changes_in a) (check_at b i d).ask)) so.knows.digest_is
     ∙ sym (answer-known good.carriers good.limit good.first_known good.second_known e (summary_of a) (summary_of b) kept (check_at b i d) good.first good.second
-    (lies_of good.carriers (summary_of a) e through good.first.ending) so.are_kept (next_there b i d within))) h
+    (lies_of good.carriers (summary_of a) e through good.first.fair.ending) so.are_kept (next_there b i d within))) h
 
 -- one condition more
 pub reads_on : (a b : FaceView) (e : Effect) (i : ℕ) (d : Check) (kept now : List Asked) (digest after_digest : Digest) (notes after_notes : List Note) (goes_on : Bool) → AreGood a b → a.ending ≡ Through e →

@@ -306,7 +306,7 @@ finds_room a b g pa pb room made h =
     = ap length (sym (all_entries_flat a.segs.now a.changes.now) ∙ ap entries_of pa.segs) in
     let asked : length (checks_in b) * length (all_entries ca) ≡ length b.checks.now * length (entries_of a.segs.now)
     = ap₂ (λ (x y : ℕ). x * y) (length-map b.checks.now (asked_of b.names.now)) entries in
-    let read = names_read_bound ca (checks_in b) g.first.owns (λ c there. AskFits-distinct g.carriers g.limit g.second_known c.ask (g.second.asks_fit c there)) in
+    let read = names_read_bound ca (checks_in b) g.first.fair.owns (λ c there. AskFits-distinct g.carriers g.limit g.second_known c.ask (g.second.fair.asks_fit c there)) in
     let names = capped_is (capped (length a.names.now + length b.names.now) + capped (length b.checks.now * length (entries_of a.segs.now))) room.names h.names made.names in
     let own = capped_is (length a.names.now + length b.names.now) (capped (length a.names.now + length b.names.now)) (omega arith) (omega (arith, names, made.names)) in
     let other = capped_is (length b.checks.now * length (entries_of a.segs.now)) (capped (length b.checks.now * length (entries_of a.segs.now))) (omega arith) (omega (arith, names, made.names)) in
@@ -314,7 +314,7 @@ finds_room a b g pa pb room made h =
       checks = capped_is (length a.checks.now + length b.checks.now) room.checks h.checks made.checks;
       names = omega (arith, na, nb, read, asked, names, own, other);
       changes = omega (arith, merged_length ca (changes_through ca a.lines cb), lines_a, lines_b, lines_t, capped_is (length a.changes.now + length b.changes.now) room.changes h.changes made.changes);
-      segs = omega (arith, merged_segs ca cb a.lines g.first.in_order g.second.in_order g.second.owns, sa, sb, capped_is (length a.segs.now + length b.segs.now) room.segs h.segs made.segs);
+      segs = omega (arith, merged_segs ca cb a.lines g.first.fair.in_order g.second.fair.in_order g.second.fair.owns, sa, sb, capped_is (length a.segs.now + length b.segs.now) room.segs h.segs made.segs);
     }
 
 capped_more : (n m : ℕ) (b c : Bool) → nat_lt (2 ^ 62) n ≡ b → nat_lt (2 ^ 62) m ≡ c → n ≤ m → (if b then 2 ^ 62 + 1 else n) ≤ (if c then 2 ^ 62 + 1 else m)

@@ -64,18 +64,4 @@ irredundant n m = (
 
 -- The summary of a transfer is good.
 pub transfer_good : (n m : ℕ) → n ≤ 8 → m ≤ 8 → IsGood 0 16 (front n ∷ back m ∷ []) (line_summary 16 (read.Instr (Xfer (front n) (back m))))
-transfer_good n m small few =
-    let f = fair n m small few in
-    record {
-      made = f.made;
-      asks_fit = f.asks_fit;
-      within = f.within;
-      in_turn = f.in_turn;
-      irredundant = irredundant n m;
-      nested = f.nested;
-      in_order = f.in_order;
-      changes_fit = f.changes_fit;
-      owns = f.owns;
-      sizes = f.sizes;
-      ending = f.ending;
-    }
+transfer_good n m small few = record { fair = fair n m small few; irredundant = irredundant n m }

@@ -1,4 +1,5 @@
 use Rattle.std.proofs.Common.{◌+◌, Option, sym, ap, ◌∙◌}
+use Rattle.knit_base.specs.declared.needle.Needle.{Needle}
 use Rattle.knit_base.specs.Reasons.{or_else}
 use Rattle.face_data.specs.Segments.{read_segs}
 use Rattle.bed_rules.specs.Beds.{segments_after}
@@ -24,9 +25,13 @@ returns-clause-step c s t first offset read =
     let ins = sym (effect.ins line t) in
     let hook = sym (effect.hook line t) in
     let on = c.in_ok-beds.ensures.makes ∙ sym (needle-formed segments c.args.instr.now) ∙ ap needle_of_formed (sym c.in_ok-formed_loop.ensures) in
-    let stacks = λ n. c.in_ok-beds.ensures.changed s t first offset read n
-    ∙ ap (λ makes. read_segs s first (segments_after segments c.in_ok-beds.field-0.changed makes offset n)) on in
-    λ i. record { rack = rack i; ins = ins i; hook = hook i; stacks = λ n. stacks n i }
+    λ i. record {
+      rack = rack i;
+      ins = ins i;
+      hook = hook i;
+      stacks = λ n. (c.in_ok-beds.ensures.changed s t first offset read n
+          ∙ ap (λ (makes : Option Needle). read_segs s first (segments_after segments c.in_ok-beds.field-0.changed makes offset n)) on) i;
+    }
 
 pub returns-clause-formed : goal.returns-clause-formed
 returns-clause-formed c s t first offset read =
