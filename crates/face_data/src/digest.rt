@@ -66,10 +66,10 @@ impl Digest {
             },
             Cond::CarrierIn(c) => {
                 carrier_bearing(c, self.ins, Bearing::Implied, self.outs, Bearing::Refuted)
-            },
+            }
             Cond::CarrierOut(c) => {
                 carrier_bearing(c, self.outs, Bearing::Implied, self.ins, Bearing::Refuted)
-            },
+            }
             Cond::HookFree => hook_bearing(self.hook, 0),
             Cond::HookIs(set) => hook_bearing(self.hook, set),
             Cond::HookLacks(c) => self.bearing_on_lack(c),

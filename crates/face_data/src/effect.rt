@@ -37,10 +37,10 @@ impl Effect {
             },
             Cond::CarrierIn(c) => {
                 carrier_bearing(c, self.came, Bearing::Implied, self.went, Bearing::Refuted)
-            },
+            }
             Cond::CarrierOut(c) => {
                 carrier_bearing(c, self.came, Bearing::Refuted, self.went, Bearing::Implied)
-            },
+            }
             Cond::HookFree => hook_bearing(self.hook, 0),
             Cond::HookIs(set) => hook_bearing(self.hook, set),
             Cond::HookLacks(c) => match self.hook {
