@@ -44,9 +44,9 @@ record Below (d : ℕ) (s : State) : Type 0 where
   hook : s.hook < 2 ^ d
 
 step_instr-below : (profile : Profile) (d k : ℕ) (i : Instr) (s : State) → IsLawful profile d i → Below d s → Below d (step_instr k i s)
-step_instr-below profile d k (CarryIn cs) s lawful below = record { ins = with-below d s.ins cs below.ins lawful.each; hook = below.hook }
+step_instr-below profile d k (CarryIn cs) s lawful below = record { ins = with-below d s.ins cs below.ins lawful.carriers.each; hook = below.hook }
 step_instr-below profile d k (CarryOut cs) s lawful below = record { ins = without-below d s.ins cs below.ins; hook = below.hook }
-step_instr-below profile d k (HookIn cs) s lawful below = record { ins = with-below d s.ins cs below.ins lawful.each; hook = mask-below d cs lawful.each }
+step_instr-below profile d k (HookIn cs) s lawful below = record { ins = with-below d s.ins cs below.ins lawful.carriers.each; hook = mask-below d cs lawful.carriers.each }
 step_instr-below profile d k (HookOut cs) s lawful below = record { ins = without-below d s.ins cs below.ins; hook = below.hook }
 step_instr-below profile d k (ReleaseHook cs) s lawful below = record { ins = below.ins; hook = pow_pos d }
 step_instr-below profile d k Stitch s lawful below = below
@@ -107,9 +107,9 @@ formed-declared d k dir n (c ∷ cs) through all =
     All-cons (IsOfDeclared d) (record { line = k; needle = n; dir = dir; yarns = c ∷ cs; through = through }) [] all (All-nil (IsOfDeclared d))
 
 loop_of_instr-declared : (profile : Profile) (d k : ℕ) (i : Instr) (s : State) → IsLawful profile d i → AreOfDeclared d (option_to_list (loop_of_instr k i s))
-loop_of_instr-declared profile d k (Knit dir n cs) s lawful = formed-declared d k dir n cs (s.stacks n) lawful.2.each
-loop_of_instr-declared profile d k (Tuck dir n cs) s lawful = formed-declared d k dir n cs [] lawful.2.each
-loop_of_instr-declared profile d k (Split dir n n2 cs) s lawful = formed-declared d k dir n cs (s.stacks n) lawful.4.each
+loop_of_instr-declared profile d k (Knit dir n cs) s lawful = formed-declared d k dir n cs (s.stacks n) lawful.carriers.each
+loop_of_instr-declared profile d k (Tuck dir n cs) s lawful = formed-declared d k dir n cs [] lawful.carriers.each
+loop_of_instr-declared profile d k (Split dir n n2 cs) s lawful = formed-declared d k dir n cs (s.stacks n) lawful.carriers.each
 loop_of_instr-declared profile d k i s lawful = All-nil (IsOfDeclared d)
 
 fact_made-declared : (profile : Profile) (d k : ℕ) (r : Read) (s : State) → IsLawfulRead profile d r → AreOfDeclared d (option_to_list (fact_made k r s))

@@ -24,14 +24,14 @@ use Rattle.carriage_model.specs.Beds.{IsOn, SameBeds}
 use Rattle.carriage_model.specs.Machine.{Represents, HasNeedlesOf, HasNeedles, HasNeedlesInLine, HasPlaces, HasPlacesInLine, HasRoom, HasRoomInLine, HasCarrierInSet}
 
 instr_has-places : (profile : Profile) (d : ℕ) (i : Instr) → IsLawful profile d i → HasPlaces i
-instr_has-places profile d (CarryIn cs) lawful = lawful.places
-instr_has-places profile d (CarryOut cs) lawful = lawful.places
-instr_has-places profile d (HookIn cs) lawful = lawful.places
-instr_has-places profile d (HookOut cs) lawful = lawful.places
-instr_has-places profile d (Knit dir n cs) lawful = lawful.2.places
-instr_has-places profile d (Tuck dir n cs) lawful = lawful.2.places
-instr_has-places profile d (Miss dir n cs) lawful = lawful.1.places
-instr_has-places profile d (Split dir n n2 cs) lawful = lawful.4.places
+instr_has-places profile d (CarryIn cs) lawful = lawful.carriers.places
+instr_has-places profile d (CarryOut cs) lawful = lawful.carriers.places
+instr_has-places profile d (HookIn cs) lawful = lawful.carriers.places
+instr_has-places profile d (HookOut cs) lawful = lawful.carriers.places
+instr_has-places profile d (Knit dir n cs) lawful = lawful.carriers.places
+instr_has-places profile d (Tuck dir n cs) lawful = lawful.carriers.places
+instr_has-places profile d (Miss dir n cs) lawful = lawful.carriers.places
+instr_has-places profile d (Split dir n n2 cs) lawful = lawful.carriers.places
 instr_has-places profile d i lawful = tt
 
 pub line_has-places : (profile : Profile) (d : ℕ) (r : Read) → IsLawfulRead profile d r → HasPlacesInLine r
@@ -46,11 +46,11 @@ on_bed-is_on profile n machine has on = record {
 }
 
 instr_has-needles : (profile : Profile) (d : ℕ) (i : Instr) (machine : Machine) → HasNeedlesOf profile machine → IsLawful profile d i → HasNeedles machine i
-instr_has-needles profile d (Knit dir n cs) machine has lawful = on_bed-is_on profile n machine has lawful.0
-instr_has-needles profile d (Tuck dir n cs) machine has lawful = on_bed-is_on profile n machine has lawful.0
-instr_has-needles profile d (Split dir n n2 cs) machine has lawful = (on_bed-is_on profile n machine has lawful.0, on_bed-is_on profile n2 machine has lawful.1)
-instr_has-needles profile d (Xfer n n2) machine has lawful = (on_bed-is_on profile n machine has lawful.0, on_bed-is_on profile n2 machine has lawful.1)
-instr_has-needles profile d (Drop n) machine has lawful = on_bed-is_on profile n machine has lawful
+instr_has-needles profile d (Knit dir n cs) machine has lawful = on_bed-is_on profile n machine has lawful.needles.0
+instr_has-needles profile d (Tuck dir n cs) machine has lawful = on_bed-is_on profile n machine has lawful.needles.0
+instr_has-needles profile d (Split dir n n2 cs) machine has lawful = (on_bed-is_on profile n machine has lawful.needles.0, on_bed-is_on profile n2 machine has lawful.needles.1.0)
+instr_has-needles profile d (Xfer n n2) machine has lawful = (on_bed-is_on profile n machine has lawful.needles.0, on_bed-is_on profile n2 machine has lawful.needles.1.0)
+instr_has-needles profile d (Drop n) machine has lawful = on_bed-is_on profile n machine has lawful.needles.0
 instr_has-needles profile d i machine has lawful = tt
 
 -- a lawful line's needles are the machine's
@@ -97,11 +97,11 @@ instr_has-room profile d (Tuck dir n (c ∷ cs)) machine s limits lawful here so
       few profile (length (s.stacks n) + 1) 2 limits (size_unbroken profile (Tuck dir n (c ∷ cs)) s sound),
     )
 instr_has-room profile d (Split dir n n2 cs) machine s limits lawful here sound = record {
-  sides = lawful.2.sides;
+  sides = lawful.moved.sides;
   room = omega (arith, ap length (here.stacks n), ap length (here.stacks n2), few profile (length (s.stacks n2) + length (s.stacks n)) 3 limits (size_unbroken profile (Split dir n n2 cs) s sound));
 }
 instr_has-room profile d (Xfer n n2) machine s limits lawful here sound = record {
-  sides = lawful.2.sides;
+  sides = lawful.moved.sides;
   room = omega (arith, ap length (here.stacks n), ap length (here.stacks n2), few profile (length (s.stacks n2) + length (s.stacks n)) 2 limits (size_unbroken profile (Xfer n n2) s sound));
 }
 instr_has-room profile d i machine s limits lawful here sound = tt
@@ -113,6 +113,6 @@ line_has-room profile d r machine s limits lawful here sound = tt
 
 -- the line's carrier is one of the 64 that a set has bits for
 pub usual_has-carrier : (profile : Profile) (d : ℕ) (u : Usual) → d ≤ 64 → IsLawfulRead profile d (usual_read u) → HasCarrierInSet u
-usual_has-carrier profile d (usual.Knit dir n c) few lawful = omega (arith, few, lawful.2.each 0 c (omega arith))
-usual_has-carrier profile d (usual.Tuck dir n c) few lawful = omega (arith, few, lawful.2.each 0 c (omega arith))
+usual_has-carrier profile d (usual.Knit dir n c) few lawful = omega (arith, few, lawful.carriers.each 0 c (omega arith))
+usual_has-carrier profile d (usual.Tuck dir n c) few lawful = omega (arith, few, lawful.carriers.each 0 c (omega arith))
 usual_has-carrier profile d (usual.Xfer n n2) few lawful = tt
