@@ -49,26 +49,20 @@ step_instr-below profile d k (CarryOut cs) s lawful below = record { ins = witho
 step_instr-below profile d k (HookIn cs) s lawful below = record { ins = with-below d s.ins cs below.ins lawful.carriers.each; hook = mask-below d cs lawful.carriers.each }
 step_instr-below profile d k (HookOut cs) s lawful below = record { ins = without-below d s.ins cs below.ins; hook = below.hook }
 step_instr-below profile d k (ReleaseHook cs) s lawful below = record { ins = below.ins; hook = pow_pos d }
-step_instr-below profile d k Stitch s lawful below = below
-step_instr-below profile d k Pause s lawful below = below
-step_instr-below profile d k Extension s lawful below = below
 step_instr-below profile d k (Rack q) s lawful below = record { ins = below.ins; hook = below.hook }
 step_instr-below profile d k (Knit dir n []) s lawful below = record { ins = below.ins; hook = below.hook }
 step_instr-below profile d k (Knit dir n (c ∷ cs)) s lawful below = record { ins = below.ins; hook = below.hook }
 step_instr-below profile d k (Tuck dir n []) s lawful below = below
 step_instr-below profile d k (Tuck dir n (c ∷ cs)) s lawful below = record { ins = below.ins; hook = below.hook }
-step_instr-below profile d k (Miss dir n cs) s lawful below = below
 step_instr-below profile d k (Split dir n n2 []) s lawful below = record { ins = below.ins; hook = below.hook }
 step_instr-below profile d k (Split dir n n2 (c ∷ cs)) s lawful below = record { ins = below.ins; hook = below.hook }
 step_instr-below profile d k (Xfer n n2) s lawful below = record { ins = below.ins; hook = below.hook }
 step_instr-below profile d k (Drop n) s lawful below = record { ins = below.ins; hook = below.hook }
-step_instr-below profile d k (Amiss n) s lawful below = below
+step_instr-below profile d k i s lawful below = below
 
 step-below : (profile : Profile) (d k : ℕ) (r : Read) (s : State) → IsLawfulRead profile d r → Below d s → Below d (step k r s)
-step-below profile d k read.Blank s lawful below = below
-step-below profile d k read.Comment s lawful below = below
-step-below profile d k (read.Broken reason) s lawful below = below
 step-below profile d k (read.Instr i) s lawful below = step_instr-below profile d k i s lawful below
+step-below profile d k r s lawful below = below
 
 abbrev EndsBelow : ℕ → Ended → Type 0
 EndsBelow d (Ends s) = Below d s
