@@ -19,8 +19,8 @@ use Rattle.knit_base.specs.Names.{carrier_of}
 use Rattle.knit_base.specs.Needle.{is_front, is_slider}
 use Rattle.knit_base.specs.Reasons.{broken_if, or_else}
 use Rattle.knitout_reader.specs.Carriers.{carriers_of}
-use Rattle.knitout_reader.specs.Reads.{ReadsTokens, are_one_side, are_sliders, instr_of, needle_on, not_opposite, off_bed, reading_or, slider_form, static_rule}
-use Rattle.knitout_reader.specs.Shapes.{Shape, Spells, CarryInShape, CarryOutShape, HookInShape, HookOutShape, ReleaseHookShape, StitchShape, PauseShape, ExtensionShape, RackShape, KnitShape, TuckShape, MissShape, SplitShape, XferShape, DropShape, AmissShape}
+use Rattle.knitout_reader.specs.Reading.{TokensReadAs, are_one_side, are_sliders, instr_of, needle_on, not_opposite, off_bed, reading_or, slider_form, static_rule}
+use Rattle.knitout_reader.specs.Shapes.{Shape, Spells, carriers_in, CarryInShape, CarryOutShape, HookInShape, HookOutShape, ReleaseHookShape, StitchShape, PauseShape, ExtensionShape, RackShape, KnitShape, TuckShape, MissShape, SplitShape, XferShape, DropShape, AmissShape}
 use Rattle.knitout_reader.proofs.OneShape.{Fits, FitsNone}
 
 neither : (first second : Option Reason) → or_else first second ≡ None → (first ≡ None) × (second ≡ None)
@@ -97,24 +97,6 @@ no_more names (token ∷ tokens) = omega (arith, one_more (carrier_of names toke
 declared : (names tokens : List (List ℕ)) (at : ℕ) → at ≤ 4 → 4 + length tokens < 2 ^ 16 → AreDeclared (length names) at (carriers_of names tokens)
 declared names tokens at first few = record { each = each_declared names tokens; places = omega (arith, no_more names tokens) }
 
-abbrev carriers_in : Shape → List (List ℕ)
-carriers_in (CarryInShape carriers) = carriers
-carriers_in (CarryOutShape carriers) = carriers
-carriers_in (HookInShape carriers) = carriers
-carriers_in (HookOutShape carriers) = carriers
-carriers_in (ReleaseHookShape carriers) = carriers
-carriers_in (StitchShape free) = []
-carriers_in (PauseShape free) = []
-carriers_in (ExtensionShape name free) = []
-carriers_in (RackShape negative whole quarters) = []
-carriers_in (KnitShape dir bed at carriers) = carriers
-carriers_in (TuckShape dir bed at carriers) = carriers
-carriers_in (MissShape dir bed at carriers) = carriers
-carriers_in (SplitShape dir bed at bed2 at2 carriers) = carriers
-carriers_in (XferShape bed at bed2 at2) = []
-carriers_in (DropShape bed at) = []
-carriers_in (AmissShape bed at) = []
-
 no_longer : (word : List ℕ) (rest : List (List ℕ)) (shape : Shape) → Spells (word ∷ rest) shape → length (carriers_in shape) ≤ length rest
 no_longer word rest (CarryInShape carriers) spelled = omega (arith, ap length spelled.spelled)
 no_longer word rest (CarryOutShape carriers) spelled = omega (arith, ap length spelled.spelled)
@@ -174,7 +156,7 @@ reading_lawful profile declared (Some reason) i holds = tt
 
 -- what tokens read as is lawful
 pub tokens-lawful : (profile : Profile) (names : List (List ℕ)) (word : List ℕ) (rest : List (List ℕ)) (r : Read) → 4 + length rest < 2 ^ 16
-    → ReadsTokens profile names (word ∷ rest) r → IsLawfulRead profile (length names) r
+    → TokensReadAs profile names (word ∷ rest) r → IsLawfulRead profile (length names) r
 tokens-lawful profile names word rest r few reads =
     ⊎_elim
     (λ (here : Fits profile names (word ∷ rest) r).

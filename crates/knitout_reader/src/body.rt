@@ -2,7 +2,7 @@
 ghost use Rattle.std.specs.Prelude.{◌≤◌, drop, length, All, IfOk};
 ghost use Rattle.std.specs.List.{AllZip};
 ghost use Rattle.knit_base.specs.Lawful.{IsLawfulRead};
-ghost use Rattle.knitout_reader.specs.Reads.{Reads as ReadsAs};
+ghost use Rattle.knitout_reader.specs.Reading.{ReadsAs};
 
 use crate::read_line;
 use knit_base::{Declared, Lines, NoMemory, Profile, Reads};

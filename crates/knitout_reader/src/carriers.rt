@@ -13,7 +13,7 @@ use std::alloc::Global;
 /// no carrier, or else the first carrier that stands earlier in the list.
 ///
 /// `at` is the place of the first of these tokens in its line. Memory is taken, and can run out, from the fifth carrier on.
-pub(crate) fn carriers(
+pub(crate) fn read_carriers(
     alloc: Global,
     declared: &Declared,
     code: &[u8],

@@ -9,6 +9,7 @@ ghost use Rattle.knitout_reader.specs.Head.{is_magic, is_head_line, head_len, he
 use crate::tokens::next_token;
 use knit_base::{AddName, Declared, Lines};
 use std::alloc::Global;
+use thiserror::Error;
 
 // What a file begins with.
 const MAGIC: &[u8] = b";!knitout-2";
@@ -24,18 +25,30 @@ pub struct Head {
 }
 
 /// Why a head is refused. Where several reasons hold over the whole head, the first of them is told. Lines count from 1.
-#[derive(Clone, Copy, Debug, PartialEq, Eq)]
+#[derive(Clone, Copy, Debug, PartialEq, Eq, Error)]
 pub enum HeadFault {
     /// There is no first line, or it isn't `;!knitout-2` and blanks.
+    #[error("the first line isn't ;!knitout-2")]
     BadMagic,
+
     /// No line of the head begins with `;;Carriers:`.
+    #[error("no header names the carriers")]
     NoCarriers,
+
     /// This line is the second of the head that begins with `;;Carriers:`.
+    #[error("line {line} names the carriers again")]
     TwoCarriers { line: u32 },
+
     /// The header at this line gives a name twice.
+    #[error("line {line} names a carrier twice")]
     CarrierNameTwice { line: u32 },
+
     /// The header at this line gives more than 64 names.
+    #[error("line {line} names more than 64 carriers")]
     ManyCarriers { line: u32 },
+
+    /// Memory ran out.
+    #[error("out of memory")]
     NoMemory,
 }
 

@@ -2,15 +2,13 @@
 ghost use Rattle.std.specs.Prelude.{◌≡◌, ◌+◌, ◌<◌, ◌≤◌, ◌*◌, [], ◌∷◌, length, ◌-◌, position, take, drop, slice_index, true, false, All, MatchOption, IfSome};
 ghost use Rattle.knitout_reader.specs.Tokens.{tokens_of, before_comment, is_blank, is_semicolon, IsToken};
 
+use memchr::memchr;
+
 /// Where the comment of a line begins: at its first `;`, even inside what would else be a token.
 pub fn comment_at(line: &[u8]) -> Option<usize>
     ensures { result ≡ position is_semicolon line.now }
 {
-    // Most lines have none, which is seen at once.
-    if !line.contains(&b';') {
-        return None;
-    }
-    line.iter().position(|byte| *byte == b';')
+    memchr(b';', line)
 }
 
 /// What stands before the comment.

@@ -9,7 +9,7 @@ use Rattle.knit_base.specs.declared.needle.Bed.{Bed}
 use Rattle.knit_base.specs.Spelling.{needle_text}
 use Rattle.knit_base.proofs.Places.{by_test}
 use Rattle.knitout_reader.specs.Tokens.{is_blank, is_semicolon}
-use Rattle.knitout_writer.proofs.Spacing.{IsWordByte}
+use Rattle.knitout_writer.proofs.SpacedTokens.{IsWordByte}
 use Rattle.std.proofs.lemmas.Bool.{eqb-true}
 use Rattle.knitout_reader.specs.Numbers.{IsDigit, IsSigned, IsNeedle, number_of}
 

@@ -25,10 +25,10 @@ use Rattle.knit_base.proofs.Places.{by_test, list_any-none}
 use Rattle.knitout_reader.specs.Carriers.{is_undeclared, carriers_of, carrier_rule}
 use Rattle.knitout_reader.specs.Numbers.{IsDigit}
 use Rattle.knitout_reader.specs.Tokens.{tokens_of, before_comment, is_blank, is_semicolon}
-use Rattle.knitout_reader.proofs.Splitting.{nonempty}
+use Rattle.knitout_reader.proofs.TokenRuns.{nonempty}
 use Rattle.knitout_writer.specs.Canonical.{carrier_names}
 use Rattle.knitout_writer.proofs.Numerals.{Spell, decimal_spells, digit_byte, IsSmall}
-use Rattle.knitout_writer.proofs.Spacing.{IsWord, IsWordByte, Clear}
+use Rattle.knitout_writer.proofs.SpacedTokens.{IsWord, IsWordByte, Clear}
 
 onto_words : (b : ℕ) (parts : List (List ℕ)) → IsWordByte b → All (All IsWordByte) parts → All (All IsWordByte) (onto_first b parts)
 onto_words b [] is are = All-cons (All IsWordByte) (b ∷ []) [] (All-cons IsWordByte b [] is (All-nil IsWordByte)) (All-nil (All IsWordByte))

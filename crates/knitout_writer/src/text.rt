@@ -6,7 +6,7 @@ ghost use Rattle.knitout_writer.specs.Canonical.{IsCanonicalText, IsCanonicalLin
 
 use crate::line::append_line;
 use knit_base::{Declared, Lines, NoMemory, Profile};
-use knitout_reader::{Head, is_spelt_line, read_line};
+use knitout_reader::{Head, is_shortest_spelling, read_line};
 use std::alloc::Global;
 
 /// The canonical text of the file with these lines: the lines of its head as they are, and each line of its body in its canonical
@@ -107,7 +107,7 @@ fn append_body_line(
     ensures { OnOk result ((text : List ℕ) × IsCanonicalLine profile.now declared.now line.now text × (out.new.items ≡ out.old.items ++ text)) }
 {
     let bytes = line.as_bytes();
-    if is_spelt_line(bytes) {
+    if is_shortest_spelling(bytes) {
         out.extend_from_slice(bytes)?;
         return Ok(());
     }
