@@ -27,8 +27,8 @@ use Rattle.knitout_reader.specs.declared.words.FreeOperation.TheVariants as free
 use Rattle.knitout_reader.specs.declared.words.Operation.{Operation}
 use Rattle.knitout_reader.specs.declared.words.Operation.TheVariants as operation
 use Rattle.knitout_reader.specs.Numbers.{AreDigits, IsDecimal, IsDigit, IsNeedle, IsNoPoint, IsRack, IsSign, IsSigned, number_of}
-use Rattle.knitout_reader.specs.Operations.{IsFreeWord, IsWordOf, carrier_shape, carrier_word, loop_shape, loop_word, needle_operation_shape, needle_operation_word}
-use Rattle.knitout_reader.specs.Reading.{ReadsAs, CodeReadsAs, TokensReadAs, reading_of, unreadable}
+use Rattle.knitout_reader.specs.Operations.{IsWordOf, carrier_shape, carrier_word, loop_shape, loop_word, needle_operation_shape, needle_operation_word}
+use Rattle.knitout_reader.specs.Reading.{ReadsAs, CodeReadsAs, reading_of, unreadable}
 use Rattle.knitout_reader.specs.Shapes.{AreQuarters, BeginsWithNeedle, IsFormed, IsNamed, Shape, Spells, CarryInShape, CarryOutShape, HookInShape, HookOutShape, ReleaseHookShape, ExtensionShape, PauseShape, RackShape, SplitShape, StitchShape, XferShape}
 use Rattle.knitout_reader.specs.Tokens.{before_comment, has_comment, tokens_of}
 use Rattle.knitout_reader.proofs.Decimals.{OneSign, at_point, bad-behind, bad-front, minus-first, no_point, plus-first, sign-absent}

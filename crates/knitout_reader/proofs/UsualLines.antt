@@ -1,8 +1,7 @@
 -- Lines whose tokens have one space between two, and what they read as.
-use Rattle.std.proofs.Common.{◌≡◌, ◌≢◌, ℕ, ◌+◌, ◌-◌, ◌*◌, ◌<◌, ◌≤◌, ◌^◌, ℤ, pos, ◌≤ℤ◌, int_lt, Bool, true, false, not, ◌||◌, ◌&&◌, is_none, List, [], ◌∷◌, ◌++◌, length, take, drop, slice_index, All, Option, None, Some, position, codes, ap, sym, subst, ◌∙◌, refl, inl, arith, lit<, append_assoc, append-nil, length-append, if◌then◌else◌}
+use Rattle.std.proofs.Common.{◌≡◌, ◌≢◌, ℕ, ◌+◌, ◌-◌, ◌*◌, ◌<◌, ◌≤◌, ℤ, pos, ◌≤ℤ◌, int_lt, Bool, true, false, not, ◌||◌, ◌&&◌, is_none, List, [], ◌∷◌, ◌++◌, length, take, drop, slice_index, All, Option, None, Some, position, codes, ap, sym, subst, ◌∙◌, refl, inl, arith, lit<, append_assoc, append-nil, length-append, if◌then◌else◌}
 use Rattle.std.specs.List.{cons_option, position_or_len}
 use Rattle.std.specs.Option.{option_map}
-use Rattle.std.specs.Str.{is_utf8}
 use Rattle.std.proofs.lemmas.Int.{ints}
 use Rattle.std.proofs.lemmas.List.{take_all}
 use Rattle.std.proofs.lemmas.List.Elements.{All-append, All-cons, All-head, All-nil, All-tail}
@@ -25,14 +24,14 @@ use Rattle.knit_base.specs.declared.rule.Rule.TheVariants.{NoCarrier, OffBed, Sa
 use Rattle.knit_base.specs.declared.usual.Usual.{Usual}
 use Rattle.knit_base.specs.declared.usual.Usual.TheVariants.{Knit, Tuck, Xfer}
 use Rattle.knit_base.specs.declared.yarns.CarrierNo.{CarrierNo}
-use Rattle.knit_base.specs.Lawful.{IsLawfulRead, IsOnBed}
+use Rattle.knit_base.specs.Lawful.{IsOnBed}
 use Rattle.knit_base.specs.Lines.{lines_of}
 use Rattle.knit_base.specs.Names.{carrier_of}
 use Rattle.knit_base.specs.Needle.{is_front, is_slider}
 use Rattle.knit_base.specs.Reasons.{broken_if, or_else}
 use Rattle.knit_base.specs.Spelling.{bed_word, dir_word}
 use Rattle.knit_base.specs.Usual.{usual_read}
-use Rattle.knit_base.proofs.FirstLine.{IsInLine, lines_of-line}
+use Rattle.knit_base.proofs.FirstLine.{lines_of-line}
 use Rattle.knitout_reader.specs.declared.byte_names.ByteNames.{ByteNames}
 use Rattle.knitout_reader.specs.declared.words.LoopOperation.{LoopOperation}
 use Rattle.knitout_reader.specs.declared.words.LoopOperation.TheVariants as loop_operation
@@ -40,9 +39,9 @@ use Rattle.knitout_reader.specs.Carriers.{carrier_rule, carrier_twice, carriers_
 use Rattle.knitout_reader.specs.Numbers.{AreDigits, IsDigit, IsNeedle, number_of}
 use Rattle.knitout_reader.specs.Operations.{loop_instr, loop_slider, loop_word}
 use Rattle.knitout_reader.specs.Reading.{ReadsAs, CodeReadsAs, TokensReadAs, needle_on, not_opposite, off_bed, reading_or, slider_form}
-use Rattle.knitout_reader.specs.Shapes.{BeginsWithNeedle, IsFormed, IsMoved, XferShape}
+use Rattle.knitout_reader.specs.Shapes.{IsFormed, XferShape}
 use Rattle.knitout_reader.specs.Tokens.{before_comment, has_comment, is_blank, is_semicolon, tokens_of}
-use Rattle.knitout_reader.specs.Usual.{AreByteNames, BeginsWithUsual, BeginsWithUsualNeedle, BeginsWithUsualNeedles, BeginsWithUsualNumber, BeginsWithUsualOperands, IsTokenByte}
+use Rattle.knitout_reader.specs.Usual.{AreByteNames, BeginsWithUsual, BeginsWithUsualNeedles, BeginsWithUsualNumber, BeginsWithUsualOperands, IsTokenByte}
 use Rattle.knitout_reader.proofs.Marks.{loop-reading}
 use Rattle.knitout_reader.proofs.Rules.{tokens-lawful}
 use Rattle.knitout_reader.proofs.TokenRuns.{tokens_of-spaced, tokens_of-token}

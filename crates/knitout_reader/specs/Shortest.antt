@@ -1,5 +1,5 @@
 -- Lines whose spelling is canonical, whatever they read as.
-use Rattle.std.specs.Prelude.{◌≡◌, ◌⊎◌, ℕ, ◌≤◌, ℤ, pos, false, List, [], ◌∷◌, ◌++◌, codes, decimal}
+use Rattle.std.specs.Prelude.{◌≡◌, ◌⊎◌, ℕ, ◌≤◌, false, List, [], ◌∷◌, ◌++◌, codes, decimal}
 use Rattle.knit_base.specs.declared.needle.Bed.{Bed}
 use Rattle.knit_base.specs.declared.needle.Dir.{Dir}
 use Rattle.knit_base.specs.Spelling.{bed_word, dir_word}

@@ -29,12 +29,14 @@ mod shortest;
 mod token_tests;
 mod tokens;
 mod usual;
+#[cfg(test)]
+mod usual_tests;
 mod words;
 
-pub use body::read_body;
+pub use body::{nth_line, read_body};
 pub use byte_names::ByteNames;
 pub use head::{Head, HeadFault, read_head};
 pub use read::read_line;
 pub use shortest::is_shortest_spelling;
-pub use tokens::{code_of, comment_at, next_token};
+pub use tokens::{code_of, comment_at, is_blank_text, next_token};
 pub use usual::usual_line;

@@ -1,6 +1,6 @@
 //! Numbers and needles, as tokens spell them.
-ghost use Rattle.std.specs.Prelude.{◌≡◌, ◌+◌, ◌-◌, ◌*◌, ◌<◌, ◌≤◌, min, length, fold, take, All, MatchOption, List, ℕ, ◌≢◌, ◌∷◌};
-ghost use Rattle.std.specs.Prelude.{ℤ, pos, ◌-ℤ◌, ◌≤ℤ◌};
+ghost use Rattle.std.specs.Prelude.{◌≡◌, ◌+◌, ◌-◌, ◌*◌, ◌<◌, min, All, MatchOption, List, ℕ, ◌≢◌, ◌∷◌};
+ghost use Rattle.std.specs.Prelude.{ℤ};
 ghost use Rattle.knitout_reader.specs.Numbers.{AreDigits, IsDigit, IsNear, IsNeedle, IsSigned, number_of};
 ghost use Rattle.knit_base.specs.declared.needle.Bed.{Bed};
 

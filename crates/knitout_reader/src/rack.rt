@@ -1,5 +1,5 @@
 //! Racks, as tokens spell them.
-ghost use Rattle.std.specs.Prelude.{◌≡◌, ◌≢◌, ◌⊎◌, ◌+◌, ◌-◌, ◌*◌, ◌<◌, ◌≤◌, ◌↔◌, min, length, List, ℕ, Bool, [], ◌∷◌, ◌++◌, All, MatchOption, IsTrue, nat_lt};
+ghost use Rattle.std.specs.Prelude.{◌≡◌, ◌+◌, ◌-◌, ◌*◌, ◌<◌, ◌↔◌, min, List, ℕ, Bool, [], ◌∷◌, ◌++◌, All, MatchOption, IsTrue, nat_lt};
 ghost use Rattle.knitout_reader.specs.Numbers.{IsDecimal, IsDigit, IsNoPoint, IsQuarter, IsRack, number_of};
 
 use crate::number::{FAR, after, number, value_of};

@@ -1,9 +1,11 @@
 //! Lines whose spelling is seen at once to be canonical, whatever they read as.
-ghost use Rattle.std.specs.Prelude.{◌≡◌, ◌∷◌, true, IfSome};
+//!
+//! A file that was written by a program is in this spelling for the most part, and its lines are then copied unread.
+ghost use Rattle.std.specs.Prelude.{◌≡◌, ◌↔◌, ◌∷◌, true, IfSome, IsTrue};
 ghost use Rattle.knitout_reader.specs.Numbers.{IsDigit};
 ghost use Rattle.knitout_reader.specs.Shortest.{AreShortestNeedles, AreShortestOperands, BeginsWithShortestNeedle, BeginsWithShortestNumber, IsShortestSpelling, IsLastName};
 
-use crate::usual::{behind_four, behind_space, hook_bed, usual_direction};
+use crate::usual::{behind_four, behind_space, hook_bed, spaced_direction};
 
 /// Whether a line is spelt as its instruction is, where it is one: `knit` or `tuck` with one carrier whose name is one byte,
 /// or `xfer`, with one space between two tokens and the shortest number of each needle. `false` says nothing.
@@ -28,7 +30,7 @@ pub fn is_shortest_spelling(line: &[u8]) -> bool
 fn are_shortest_operands(text: &[u8]) -> bool
     ensures { result ≡ true → AreShortestOperands text.now }
 {
-    let Some((_, behind)) = usual_direction(text) else {
+    let Some((_, behind)) = spaced_direction(text) else {
         return false;
     };
     match behind_shortest_needle(behind) {
@@ -82,7 +84,7 @@ fn behind_shortest_number<'a>(text: &'a [u8]) -> Option<&'a [u8]>
     ensures { IfSome result (λ rest. BeginsWithShortestNumber text.now rest.now) }
 {
     let (a, ones) = first_digit(text)?;
-    if a == b'0' {
+    if stands_alone(a) {
         return Some(ones);
     }
     let Some((_b, tens)) = first_digit(ones) else {
@@ -92,6 +94,14 @@ fn behind_shortest_number<'a>(text: &'a [u8]) -> Option<&'a [u8]>
         return Some(tens);
     };
     Some(hundreds)
+}
+
+// A zero in front of other digits isn't the shortest spelling.
+#[inline(always)]
+fn stands_alone(digit: u8) -> bool
+    ensures { IsTrue result ↔ digit ≡ 48 }
+{
+    digit == b'0'
 }
 
 #[inline(always)]

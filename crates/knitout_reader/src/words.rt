@@ -1,5 +1,5 @@
 //! The words of operations and directions.
-ghost use Rattle.std.specs.Prelude.{◌≡◌, ◌≢◌, ◌↔◌, IsTrue, MatchOption};
+ghost use Rattle.std.specs.Prelude.{◌≡◌, ◌≢◌, MatchOption};
 ghost use Rattle.knit_base.specs.declared.needle.Dir.{Dir};
 ghost use Rattle.knit_base.specs.Spelling.{dir_word};
 ghost use Rattle.knitout_reader.specs.declared.words.CarrierOperation.{CarrierOperation};
@@ -7,7 +7,7 @@ ghost use Rattle.knitout_reader.specs.declared.words.LoopOperation.{LoopOperatio
 ghost use Rattle.knitout_reader.specs.declared.words.NeedleOperation.{NeedleOperation};
 ghost use Rattle.knitout_reader.specs.declared.words.FreeOperation.{FreeOperation};
 ghost use Rattle.knitout_reader.specs.declared.words.Operation.{Operation};
-ghost use Rattle.knitout_reader.specs.Operations.{IsFreeWord, IsWordOf, carrier_word, loop_word, needle_operation_word};
+ghost use Rattle.knitout_reader.specs.Operations.{IsWordOf};
 
 use knit_base::Dir;
 

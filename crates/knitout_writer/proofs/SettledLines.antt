@@ -24,7 +24,8 @@ use Rattle.knitout_reader.specs.Tokens.{tokens_of, before_comment, has_comment}
 use Rattle.knitout_writer.specs.Canonical.{canonical, canonical_tokens, carrier_names, IsSettled, comment_behind, comment_of, spaced}
 use Rattle.knitout_writer.proofs.Numerals.{IsSmall, Spell, decimal_spells, digit_byte, needle_spells}
 use Rattle.knitout_writer.proofs.SpacedTokens.{IsWord, IsWordByte, IsRespaced, respaced}
-use Rattle.knitout_writer.proofs.Words.{carriers_back, decimal_bytes, line_words, needle_word, neither, sign_word, unbroken}
+use Rattle.knitout_reader.proofs.Rules.{neither, unbroken}
+use Rattle.knitout_writer.proofs.Words.{carriers_back, decimal_bytes, line_words, needle_word, sign_word}
 
 -- the canonical tokens of an instruction read as the instruction, and are their own canonical tokens
 pub record Settled (profile : Profile) (names tokens : List (List ℕ)) (i : Instr) : Type 0 where

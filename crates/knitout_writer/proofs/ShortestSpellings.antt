@@ -1,27 +1,24 @@
 -- Lines that are their own canonical spelling, whatever they read as.
-use Rattle.std.proofs.Common.{◌≡◌, ◌⊎◌, ⊎_elim, ℕ, ◌+◌, ◌<◌, ◌≤◌, ◌^◌, ℤ, pos, ◌-ℤ◌, ◌≤ℤ◌, Bool, true, false, List, [], ◌∷◌, ◌++◌, length, All, Option, None, Some, codes, ap, sym, subst, ◌∙◌, refl, inl, inr, arith, append_assoc, append-nil}
+use Rattle.std.proofs.Common.{◌≡◌, ◌⊎◌, ⊎_elim, ℕ, ◌+◌, ◌≤◌, ℤ, pos, false, List, [], ◌∷◌, ◌++◌, All, Option, None, Some, codes, ap, sym, subst, ◌∙◌, refl, inl, arith, append_assoc, append-nil}
 use Rattle.std.specs.Fmt.{decimal}
 use Rattle.std.proofs.lemmas.Int.{ints}
 use Rattle.std.proofs.lemmas.List.Elements.{All-cons, All-nil}
-use Rattle.knit_base.specs.declared.instr.Instr.{Instr}
-use Rattle.knit_base.specs.declared.instr.Read.{Read}
-use Rattle.knit_base.specs.declared.needle.Bed.{Bed}
 use Rattle.knit_base.specs.declared.needle.Dir.{Dir}
 use Rattle.knit_base.specs.declared.needle.Dir.TheVariants.{Right, Left}
-use Rattle.knit_base.specs.declared.needle.Needle.{Needle}
 use Rattle.knit_base.specs.declared.profile.Profile.{Profile}
 use Rattle.knit_base.specs.declared.rule.Reason.{Reason}
 use Rattle.knit_base.specs.Reasons.{or_else}
 use Rattle.knit_base.specs.Spelling.{bed_word, dir_word, needle_text}
 use Rattle.knitout_reader.specs.Carriers.{carrier_rule}
 use Rattle.knitout_reader.specs.Reading.{CodeReadsAs, TokensReadAs, instr_of, off_bed, reading_of, reading_or, slider_form, static_rule}
-use Rattle.knitout_reader.specs.Shapes.{BeginsWithNeedle, Shape, Spells, KnitShape, TuckShape, XferShape}
-use Rattle.knitout_reader.specs.Shortest.{AreShortestNeedles, AreShortestOperands, BeginsWithShortestNeedle, IsShortestSpelling, IsLastName}
+use Rattle.knitout_reader.specs.Shapes.{Shape, Spells, KnitShape, TuckShape, XferShape}
+use Rattle.knitout_reader.specs.Shortest.{AreShortestNeedles, AreShortestOperands, BeginsWithShortestNeedle, IsShortestSpelling}
 use Rattle.knitout_reader.specs.Tokens.{before_comment, has_comment, is_blank, is_semicolon, tokens_of}
-use Rattle.knitout_writer.specs.Canonical.{IsCanonicalLine, canonical, canonical_tokens, carrier_names, comment_behind, comment_of, spaced}
+use Rattle.knitout_writer.specs.Canonical.{IsCanonicalLine, canonical, canonical_tokens, comment_behind, comment_of, spaced}
 use Rattle.knitout_writer.proofs.Numerals.{IsSmall, needle_spells}
 use Rattle.knitout_writer.proofs.SpacedTokens.{Commented, IsWord, IsWordByte, clear-spaced, tokens-spaced, uncommented}
-use Rattle.knitout_writer.proofs.Words.{carriers_back, needle_word, neither}
+use Rattle.knitout_reader.proofs.Rules.{neither}
+use Rattle.knitout_writer.proofs.Words.{carriers_back, needle_word}
 
 -- what the canonical spelling is, by the rule that the line breaks
 by_rule : (profile : Profile) (names : List (List ℕ)) (line first : List ℕ) (others : List (List ℕ)) (shape : Shape) (broken : Option Reason)

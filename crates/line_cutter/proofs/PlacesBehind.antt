@@ -1,6 +1,6 @@
 -- Places between the lines of a text.
-use Rattle.std.proofs.Common.{◌≡◌, ℕ, ◌+◌, ◌<◌, ◌≤◌, List, [], ◌∷◌, ◌++◌, length, take, drop, get_or, All, ap, sym, subst, ◌∙◌, refl, arith, length-drop}
-use Rattle.std.proofs.lemmas.List.{drop-drop, drop_more, take_more, take_all, drop_all}
+use Rattle.std.proofs.Common.{◌≡◌, ℕ, ◌+◌, ◌<◌, ◌≤◌, List, [], ◌∷◌, length, take, drop, get_or, All, ap, sym, subst, ◌∙◌, refl, arith, length-drop}
+use Rattle.std.proofs.lemmas.List.{drop_more, take_more, take_all, drop_all}
 use Rattle.std.proofs.lemmas.List.Elements.{All-push}
 use Rattle.knit_base.specs.Lines.{lines_of}
 use Rattle.line_cutter.specs.Cut.{IsBehind, IsGoodLine, StandsAt}

@@ -2,8 +2,8 @@ use Rattle.std.proofs.Common.{arith, sym, ◌∙◌}
 use Rattle.knitout_reader.proofs.CarrierLists.{gathered-more}
 use Rattle.knitout_reader.proofs.carriers.read_carriers.Goals as goal
 
-pub contains-requires : goal.contains-requires
-contains-requires c = omega (arith, c.in-Some-find_bytes.ensures.carrier, c.in-Some-find_bytes.ensures.few)
+pub is_in_set-requires : goal.is_in_set-requires
+is_in_set-requires c = omega (arith, c.in-Some-find_bytes.ensures.carrier, c.in-Some-find_bytes.ensures.few)
 
 pub push-requires : goal.push-requires
 push-requires c = omega (arith, c.in-Some-find_bytes.ensures.carrier, c.in-Some-find_bytes.ensures.few)
@@ -14,4 +14,4 @@ loop-name-preserved c =
     (record { split = c.in-Some.ensures.split; shorter = c.in-Some.ensures.shorter; suffix = c.in-Some.ensures.suffix })
     c.in-Some-find_bytes.ensures.found c.in-Some-find_bytes.ensures.carrier
     (omega (arith, c.in-Some-find_bytes.ensures.carrier, c.in-Some-find_bytes.ensures.few))
-    (sym c.contains.ensures ∙ c.if-contains.false) c.in_ok-push.ensures.ok
+    (sym c.is_in_set.ensures ∙ c.if-is_in_set.false) c.in_ok-push.ensures.ok

@@ -2,6 +2,7 @@ use Rattle.std.proofs.Common.{inl, inr, [], refl, subst}
 use Rattle.knitout_reader.specs.Shapes.{BeginsWithNeedle, XferShape}
 use Rattle.knitout_reader.specs.Tokens.{tokens_of}
 use Rattle.knitout_reader.proofs.OperandShapes.{unmoved, unmoved-2}
+use Rattle.knitout_reader.proofs.TokenRuns.{none_found}
 use Rattle.knitout_reader.proofs.needle_line.read_xfer.Goals as goal
 
 pub returns-in_default : goal.returns-in_default
@@ -22,7 +23,7 @@ returns c = λ names.
         others = tokens_of c.in-Some.others.now;
         spelled = refl;
         first = named.1;
-        second = subst (λ end. BeginsWithNeedle (tokens_of c.in-Some.others.now) c.in-Some-next_needle.needle2.bed named2.0 end) c.in_default-next_token.ensures.split named2.1;
+        second = subst (λ end. BeginsWithNeedle (tokens_of c.in-Some.others.now) c.in-Some-next_needle.needle2.bed named2.0 end) (none_found _ _ _ _ c.is_some.ensures c.if-is_some.false c.next_token.ensures.split) named2.1;
       },
       c.xfer.ensures names named.0 named2.0 named.2 named2.2,
     )

@@ -1,6 +1,7 @@
 use Rattle.std.proofs.Common.{◌∷◌, inl, inr, codes, ap, ◌∙◌}
 use Rattle.knitout_reader.specs.Shapes.{RackShape}
 use Rattle.knitout_reader.proofs.OperandShapes.{unracked}
+use Rattle.knitout_reader.proofs.TokenRuns.{none_found}
 use Rattle.knitout_reader.proofs.rack_line.read_rack.Goals as goal
 
 pub returns-in_default-rack : goal.returns-in_default-rack
@@ -14,7 +15,7 @@ returns c = λ names.
       record {
         token = c.in-Some.token.now;
         fraction = named.1;
-        spelled = ap (λ ts. codes "rack" ∷ ts) (c.in-Some.ensures.split ∙ ap (λ ts. c.in-Some.token.now ∷ ts) c.in_default-next_token.ensures.split);
+        spelled = ap (λ ts. codes "rack" ∷ ts) (c.in-Some.ensures.split ∙ ap (λ ts. c.in-Some.token.now ∷ ts) (none_found _ _ _ _ c.is_some.ensures c.if-is_some.false c.next_token-2.ensures.split));
         named = named.2;
         left = named.4;
       },
