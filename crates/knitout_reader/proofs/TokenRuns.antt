@@ -4,6 +4,7 @@ use Rattle.std.specs.List.{slice_split, onto_first, position_or_len}
 use Rattle.std.proofs.lemmas.List.{drop_all, length-take, get_or-drop, take_rest}
 use Rattle.std.proofs.lemmas.Bool.{cond-true, cond-false, le-ltb, lt-ltb, ltb-true, false_from_ne_true, false≢true, cases_lt}
 use Rattle.std.proofs.lemmas.List.Elements.{All-cons, All-head, All-nil, All-tail}
+use Rattle.std.proofs.lemmas.List.Sums.{position_or_len_is}
 use Rattle.std.proofs.lemmas.List.Splits.{slice_split-cons_yes, slice_split-cons_no, slice_split_none, slice_split_at, length-slice_split}
 use Rattle.memchr.specs.Find.{IsFirstByte, is_byte}
 use Rattle.knit_base.proofs.Places.{by_test}
@@ -161,5 +162,5 @@ first_semicolon line (Some k) found =
 
 -- what holds where nothing was found
 pub none_found : {A : Type 0} (found : Option A) (P : Type 0) (Q : A → Type 0) (some : Bool) → some ≡ is_some found → some ≡ false → MatchOption found P Q → P
-none_found None P Q some is no holds = holds
-none_found (Some x) P Q some is no holds = absurd (false≢true (sym no ∙ is))
+none_found None P Q some is none holds = holds
+none_found (Some x) P Q some is none holds = absurd (false≢true (sym none ∙ is))

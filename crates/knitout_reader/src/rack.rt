@@ -53,7 +53,9 @@ fn unsigned(negative: bool, text: &[u8]) -> Option<RackToken>
     if !are_digits(fraction) {
         return None;
     }
-    let whole = value_of(front)?;
+    let Some(whole) = value_of(front) else {
+        return None;
+    };
     let quarter = quarter(fraction);
     Some(RackToken {
         negative,

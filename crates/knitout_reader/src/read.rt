@@ -10,8 +10,8 @@ ghost use Rattle.knitout_reader.specs.Tokens.{before_comment, tokens_of};
 
 use crate::answers::no_shape;
 use crate::carrier_line::read_carrier_operation;
-use crate::loop_line::{read_loop_operands, read_loop_operation};
 use crate::front::usual_front;
+use crate::loop_line::{read_loop_operands, read_loop_operation};
 use crate::needle_line::{read_needle_operation, read_split, read_xfer};
 use crate::rack_line::read_rack;
 use crate::tokens::{code_of, comment_at, next_token};

@@ -81,8 +81,12 @@ fn reads_alike(alloc: Global, line: &str, text: &str) -> Option<bool>
         return None;
     };
     Some(match (&instr, usual) {
-        (Instr::Knit(dir, n, yarns), Usual::Knit(d, m, c)) => *dir == d && *n == m && is_one(yarns, c),
-        (Instr::Tuck(dir, n, yarns), Usual::Tuck(d, m, c)) => *dir == d && *n == m && is_one(yarns, c),
+        (Instr::Knit(dir, n, yarns), Usual::Knit(d, m, c)) => *dir == d
+            && *n == m
+            && is_one(yarns, c),
+        (Instr::Tuck(dir, n, yarns), Usual::Tuck(d, m, c)) => *dir == d
+            && *n == m
+            && is_one(yarns, c),
         (Instr::Xfer(n, n2), Usual::Xfer(m, m2)) => *n == m && *n2 == m2,
         _ => false,
     })
@@ -98,7 +102,11 @@ fn both_ways_read_alike(rt: HostRuntime) {
         ("xfer b99 f100", "xfer b99 f100\n"),
     ] {
         assert!(rt; line.len() < 100);
-        assert_eq!(rt; reads_alike(rt.alloc(), line, text), Some(true), "at {line}");
+        assert_eq!(rt;
+            reads_alike(rt.alloc(), line, text),
+            Some(true),
+            "at {line}"
+        );
     }
 }
 

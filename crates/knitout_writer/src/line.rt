@@ -6,7 +6,9 @@ ghost use Rattle.knit_base.specs.Spelling.{dir_word, needle_text, rack_text};
 ghost use Rattle.knitout_reader.specs.Tokens.{before_comment, tokens_of};
 ghost use Rattle.knitout_writer.specs.Canonical.{IsSettled, canonical, canonical_tokens, carrier_names, comment_of, comment_behind, spaced, each_spaced};
 
-use knit_base::{Declared, Dir, Instr, Needle, NoMemory, Quarter, Read, Yarns, append_needle, append_rack};
+use knit_base::{
+    Declared, Dir, Instr, Needle, NoMemory, Quarter, Read, Yarns, append_needle, append_rack,
+};
 use knitout_reader::{code_of, comment_at, next_token};
 use std::alloc::Global;
 
@@ -96,22 +98,22 @@ fn append_instr(
     ensures { OnOk result (out.new.items ≡ out.old.items ++ spaced (canonical_tokens declared.now instr.now (tokens_of (before_comment raw.now)))) }
 {
     match instr {
-        Instr::CarryIn(carriers) => append_carrier_operation(b"in", carriers, declared, out),
-        Instr::CarryOut(carriers) => append_carrier_operation(b"out", carriers, declared, out),
-        Instr::HookIn(carriers) => append_carrier_operation(b"inhook", carriers, declared, out),
-        Instr::HookOut(carriers) => append_carrier_operation(b"outhook", carriers, declared, out),
-        Instr::ReleaseHook(carriers) => append_carrier_operation(b"releasehook", carriers, declared, out),
+        Instr::CarryIn(carriers) => append_carriers(b"in", carriers, declared, out),
+        Instr::CarryOut(carriers) => append_carriers(b"out", carriers, declared, out),
+        Instr::HookIn(carriers) => append_carriers(b"inhook", carriers, declared, out),
+        Instr::HookOut(carriers) => append_carriers(b"outhook", carriers, declared, out),
+        Instr::ReleaseHook(carriers) => append_carriers(b"releasehook", carriers, declared, out),
         Instr::Stitch => append_tokens(code_of(raw), out),
         Instr::Pause => append_tokens(code_of(raw), out),
         Instr::Extension => append_tokens(code_of(raw), out),
-        Instr::Rack(rack) => append_rack_operation(*rack, out),
-        Instr::Knit(dir, n, carriers) => append_loop_operation(b"knit", *dir, *n, carriers, declared, out),
-        Instr::Tuck(dir, n, carriers) => append_loop_operation(b"tuck", *dir, *n, carriers, declared, out),
-        Instr::Miss(dir, n, carriers) => append_loop_operation(b"miss", *dir, *n, carriers, declared, out),
+        Instr::Rack(rack) => append_rack_line(*rack, out),
+        Instr::Knit(dir, n, carriers) => append_loop(b"knit", *dir, *n, carriers, declared, out),
+        Instr::Tuck(dir, n, carriers) => append_loop(b"tuck", *dir, *n, carriers, declared, out),
+        Instr::Miss(dir, n, carriers) => append_loop(b"miss", *dir, *n, carriers, declared, out),
         Instr::Split(dir, n, n2, carriers) => append_split(*dir, *n, *n2, carriers, declared, out),
         Instr::Xfer(n, n2) => append_xfer(*n, *n2, out),
-        Instr::Drop(n) => append_needle_operation(b"drop", *n, out),
-        Instr::Amiss(n) => append_needle_operation(b"amiss", *n, out),
+        Instr::Drop(n) => append_one_needle(b"drop", *n, out),
+        Instr::Amiss(n) => append_one_needle(b"amiss", *n, out),
     }
 }
 
@@ -131,7 +133,7 @@ fn append_tokens(code: &[u8], out: &mut Vec<u8>) -> Result<(), NoMemory>
 }
 
 // Appends an operation on carriers alone.
-fn append_carrier_operation(
+fn append_carriers(
     word: &[u8],
     carriers: &Yarns,
     declared: &Declared,
@@ -140,11 +142,11 @@ fn append_carrier_operation(
     ensures { OnOk result (out.new.items ≡ out.old.items ++ spaced (word.now ∷ carrier_names declared.now carriers.now)) }
 {
     append(word, out)?;
-    append_carriers(carriers, declared, out)
+    append_names(carriers, declared, out)
 }
 
 // Appends a space and the name of each carrier.
-fn append_carriers(carriers: &Yarns, declared: &Declared, out: &mut Vec<u8>) -> Result<(), NoMemory>
+fn append_names(carriers: &Yarns, declared: &Declared, out: &mut Vec<u8>) -> Result<(), NoMemory>
     ensures { OnOk result (out.new.items ≡ out.old.items ++ each_spaced (carrier_names declared.now carriers.now)) }
 {
     for carrier in carriers.as_slice() {
@@ -155,7 +157,7 @@ fn append_carriers(carriers: &Yarns, declared: &Declared, out: &mut Vec<u8>) -> 
     Ok(())
 }
 
-fn append_rack_operation(rack: Quarter, out: &mut Vec<u8>) -> Result<(), NoMemory>
+fn append_rack_line(rack: Quarter, out: &mut Vec<u8>) -> Result<(), NoMemory>
     ensures { OnOk result (out.new.items ≡ out.old.items ++ spaced (codes "rack" ∷ rack_text rack.0 ∷ [])) }
 {
     append(b"rack ", out)?;
@@ -163,7 +165,7 @@ fn append_rack_operation(rack: Quarter, out: &mut Vec<u8>) -> Result<(), NoMemor
 }
 
 // Appends an operation with a direction, a needle and carriers.
-fn append_loop_operation(
+fn append_loop(
     word: &[u8; 4],
     dir: Dir,
     n: Needle,
@@ -176,7 +178,7 @@ fn append_loop_operation(
     append(word, out)?;
     append(dir_word(dir), out)?;
     append_needle_token(n, out)?;
-    append_carriers(carriers, declared, out)
+    append_names(carriers, declared, out)
 }
 
 fn append_split(
@@ -193,7 +195,7 @@ fn append_split(
     append(dir_word(dir), out)?;
     append_needle_token(n, out)?;
     append_needle_token(n2, out)?;
-    append_carriers(carriers, declared, out)
+    append_names(carriers, declared, out)
 }
 
 fn append_xfer(n: Needle, n2: Needle, out: &mut Vec<u8>) -> Result<(), NoMemory>
@@ -205,7 +207,7 @@ fn append_xfer(n: Needle, n2: Needle, out: &mut Vec<u8>) -> Result<(), NoMemory>
 }
 
 // Appends an operation on one needle.
-fn append_needle_operation(word: &[u8], n: Needle, out: &mut Vec<u8>) -> Result<(), NoMemory>
+fn append_one_needle(word: &[u8], n: Needle, out: &mut Vec<u8>) -> Result<(), NoMemory>
     ensures { OnOk result (out.new.items ≡ out.old.items ++ spaced (word.now ∷ needle_text n ∷ [])) }
 {
     append(word, out)?;

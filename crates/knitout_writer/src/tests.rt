@@ -69,7 +69,10 @@ fn writes_lines(rt: HostRuntime) {
     let alloc = rt.alloc();
     for (line, want) in [
         ("rack  1.", b"rack 1".as_slice()),
-        ("split - b-007 fs+0 B A;x", b"split - b-7 fs0 B A ;x".as_slice()),
+        (
+            "split - b-007 fs+0 B A;x",
+            b"split - b-7 fs0 B A ;x".as_slice(),
+        ),
         ("knit + f1 A", b"knit + f1 A".as_slice()),
         ("miss - f0012 ;", b"miss - f12 ;".as_slice()),
     ] {

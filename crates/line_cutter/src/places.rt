@@ -16,7 +16,9 @@ pub fn line_at<'a>(text: &'a [u8], start: usize) -> Option<(&'a str, usize)>
     requires size { length text.now ≤ 16777216 }
     ensures { IfSome result (λ found. StandsAt text.now start found.0.now found.1) }
 {
-    let found = next_line(text, start, UNNUMBERED).ok()?;
+    let Ok(found) = next_line(text, start, UNNUMBERED) else {
+        return None;
+    };
     let line = &text[found.line.start..found.line.end];
     // SAFETY: the line is UTF-8, which the check proves here.
     Some((unsafe { str::from_utf8_unchecked(line) }, found.next))
