@@ -1,12 +1,12 @@
 -- The first token of a text, and how many tokens there can be.
-use Rattle.std.proofs.Common.{◌≡◌, ℕ, ◌+◌, ◌-◌, ◌*◌, ◌<◌, ◌≤◌, Bool, true, false, List, [], ◌∷◌, ◌++◌, cond, length, take, drop, get_or, filter, nat_lt, All, ap, sym, subst, ◌∙◌, refl, arith, ⊎_elim, append-nil, take-append-drop, length-drop, Option, None, Some, is_some, position, MatchOption}
-use Rattle.std.specs.List.{slice_split, onto_first, position_or_len}
+use Rattle.std.proofs.Common.{◌≡◌, ℕ, ◌+◌, ◌-◌, ◌*◌, ◌<◌, ◌≤◌, Bool, true, false, List, [], ◌∷◌, ◌++◌, length, take, drop, get_or, filter, nat_lt, All, ap, sym, subst, ◌∙◌, refl, arith, ⊎_elim, append-nil, take-append-drop, length-drop, Option, None, Some, is_some, position, MatchOption}
+use Rattle.std.specs.List.{slice_split, onto_first, position_or_len, list_any}
 use Rattle.std.proofs.lemmas.List.{drop_all, length-take, get_or-drop, take_rest}
-use Rattle.std.proofs.lemmas.Bool.{cond-true, cond-false, le-ltb, lt-ltb, ltb-true, false_from_ne_true, false≢true, cases_lt}
+use Rattle.std.proofs.lemmas.Bool.{cond-true, cond-false, lt-ltb, ltb-true, false≢true, cases_lt}
 use Rattle.std.proofs.lemmas.List.Elements.{All-cons, All-head, All-nil, All-tail}
-use Rattle.std.proofs.lemmas.List.Sums.{position_or_len_is}
+use Rattle.std.proofs.lemmas.List.Folds.{list_any_at}
+use Rattle.std.proofs.lemmas.List.Quantifiers.{position-Some}
 use Rattle.std.proofs.lemmas.List.Splits.{slice_split-cons_yes, slice_split-cons_no, slice_split_none, slice_split_at, length-slice_split}
-use Rattle.memchr.specs.Find.{IsFirstByte, is_byte}
 use Rattle.knit_base.proofs.Places.{by_test}
 use Rattle.knitout_reader.specs.Tokens.{tokens_of, before_comment, is_blank, is_semicolon, IsToken}
 
@@ -147,18 +147,15 @@ few_tokens code = omega (arith, two_each (slice_split is_blank code), split_len 
 pub short_code : (line : List ℕ) → length (before_comment line) ≤ length line
 short_code line = omega (arith, length-take (position_or_len is_semicolon line) line)
 
--- what a search for a `;` finds
-pub first_semicolon : (line : List ℕ) (place : Option ℕ) → IsFirstByte (is_byte 59) line place → place ≡ position is_semicolon line
-first_semicolon line None none =
-    let end : position_or_len is_semicolon line ≡ length line =
-    position_or_len_is is_semicolon line (length line) 0 (omega arith) (λ k below. false_from_ne_true _ (none k (omega arith) below)) (λ within. absurd (omega arith)) in
-    let past : nat_lt (position_or_len is_semicolon line) (length line) ≡ false = le-ltb (position_or_len is_semicolon line) (length line) (omega (arith, end)) in
-    sym (ap (λ b. cond b (Some (position_or_len is_semicolon line)) None) past)
-first_semicolon line (Some k) found =
-    let here : position_or_len is_semicolon line ≡ k =
-    position_or_len_is is_semicolon line k 0 (omega (arith, found.0.high)) (λ j below. false_from_ne_true _ (found.0.before j (omega arith) below)) (λ within. found.1) in
-    let within : nat_lt (position_or_len is_semicolon line) (length line) ≡ true = lt-ltb (position_or_len is_semicolon line) (length line) (omega (arith, here, found.0.high)) in
-    ap Some (sym here) ∙ sym (ap (λ b. cond b (Some (position_or_len is_semicolon line)) None) within)
+no_place : (line : List ℕ) (place : Option ℕ) → list_any is_semicolon line ≡ false → position is_semicolon line ≡ place → None ≡ place
+no_place line None none is = refl
+no_place line (Some i) none is =
+    let found = position-Some is_semicolon line i 0 is in
+    absurd (false≢true (sym none ∙ list_any_at is_semicolon line i 0 found.0 found.1))
+
+-- where no byte is a `;`, no comment begins
+pub no_semicolon : (line : List ℕ) → list_any is_semicolon line ≡ false → None ≡ position is_semicolon line
+no_semicolon line none = no_place line (position is_semicolon line) none refl
 
 -- what holds where nothing was found
 pub none_found : {A : Type 0} (found : Option A) (P : Type 0) (Q : A → Type 0) (some : Bool) → some ≡ is_some found → some ≡ false → MatchOption found P Q → P

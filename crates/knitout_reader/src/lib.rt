@@ -5,7 +5,7 @@
 //! Definitions: `specs/Tokens` (tokens and comments), `specs/Head` (heads), `specs/Numbers` (needles and racks), `specs/Shapes`
 //! (what a line spells), `specs/Carriers` (the rules of carriers), `specs/Reading` (the other rules, and the reading) and
 //! `specs/Usual` and `specs/Shortest` (the spelling of most lines, which are read at once, and which are canonical). Below it
-//! stand `memchr`, `thiserror` and `knit_base`.
+//! stand `thiserror` and `knit_base`.
 #![tactic(auto)]
 
 mod answers;

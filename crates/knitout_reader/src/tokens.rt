@@ -3,13 +3,15 @@ ghost use Rattle.std.specs.Prelude.{◌≡◌, ◌+◌, ◌<◌, ◌≤◌, ◌*
 ghost use Rattle.std.specs.List.{list_all};
 ghost use Rattle.knitout_reader.specs.Tokens.{tokens_of, before_comment, is_blank, is_semicolon, IsToken};
 
-use memchr::memchr;
-
 /// Where the comment of a line begins: at its first `;`, even inside what would else be a token.
 pub fn comment_at(line: &[u8]) -> Option<usize>
     ensures { result ≡ position is_semicolon line.now }
 {
-    memchr(b';', line)
+    // Most lines have none, which `contains` tells in fewer steps than `memchr` does: lines are short.
+    if !line.contains(&b';') {
+        return None;
+    }
+    line.iter().position(|byte| *byte == b';')
 }
 
 /// What stands before the comment.
