@@ -19,6 +19,7 @@ use Rattle.knit_base.specs.declared.rule.Rule.TheVariants.{Unreadable, OffBed, S
 abbrev pub IsPlain : List ℕ → Type 0
 IsPlain text = escape text ≡ text
 
+-- a plain text stands between two quotes as it is
 pub quoted-plain : (text : List ℕ) → IsPlain text → quoted text ≡ 34 ∷ (text ++ 34 ∷ [])
 quoted-plain text plain = ap (λ t. 34 ∷ (t ++ 34 ∷ [])) plain
 
@@ -55,9 +56,11 @@ bed_plain FrontSlider = refl
 bed_plain Back = refl
 bed_plain BackSlider = refl
 
+-- the spelling of a needle is plain
 pub needle_plain : (needle : Needle) → IsPlain (needle_text needle)
 needle_plain needle = plain-append (bed_word needle.bed) (signed_decimal needle.at) (bed_plain needle.bed) (signed_plain needle.at)
 
+-- so is that of a direction
 pub dir_plain : (dir : Dir) → IsPlain (dir_word dir)
 unfolding escape_byte
 dir_plain Right = refl
@@ -73,11 +76,13 @@ word_plain quarters =
 quarters_plain : (quarters : ℕ) → IsPlain (quarters_text quarters)
 quarters_plain quarters = plain-append (decimal (quarters / 4)) (quarters_word (quarters % 4)) (decimal_plain (quarters / 4)) (word_plain (quarters % 4))
 
+-- and that of a rack
 pub rack_plain : (quarters : ℤ) → IsPlain (rack_text quarters)
 unfolding escape_byte
 rack_plain (pos quarters) = quarters_plain quarters
 rack_plain (negsuc quarters) = ap (λ t. 45 ∷ t) (quarters_plain (suc quarters))
 
+-- and the name of a rule
 pub rule_plain : (rule : Rule) → IsPlain (rule_name rule)
 unfolding escape_byte
 rule_plain Unreadable = refl

@@ -20,7 +20,7 @@ use Rattle.verdict_report.specs.Carriers.{carriers_in}
 use Rattle.verdict_report.specs.VerdictText.{Text, held_of}
 use Rattle.verdict_report.specs.VerdictJson.{broken_value, count_value, list_value, loop_value, name_value, set_value, sound_value, stack_value, verdict_json, with_loops}
 use Rattle.verdict_report.specs.JsonText.{broken_back, broken_front, json_line, list_text, loop_json, loop_place, loops_member, more_text, sound_back, sound_front, stack_json, string_of}
-use Rattle.verdict_report.proofs.Plain.{dir_plain, needle_plain, quoted-plain, rack_plain, rule_plain}
+use Rattle.verdict_report.proofs.PlainText.{dir_plain, needle_plain, quoted-plain, rack_plain, rule_plain}
 
 -- ---- lists
 
@@ -114,7 +114,7 @@ unfolding escape_byte
 front_shape held hook ins lines made rest =
     five_and_rest (codes "{\"held\":" ++ held) (codes ",\"hook\":" ++ hook) (codes ",\"in\":" ++ ins) (codes ",\"lines\":" ++ lines) (codes ",\"made\":" ++ made) rest
 
-back_shape : (needles rack : Text) → codes ",\"needles\":" ++ (needles ++ (codes ",\"rack\":\"" ++ (rack ++ codes "\",\"verdict\":\"sound\"}")))
+back_shape : (needles rack : Text) → (codes ",\"needles\":" ++ needles) ++ (codes ",\"rack\":\"" ++ (rack ++ codes "\",\"verdict\":\"sound\"}"))
     ≡ 44 ∷ (quoted (codes "needles") ++ 58 ∷ (needles ++ 44 ∷ (quoted (codes "rack") ++ 58 ∷ ((34 ∷ (rack ++ 34 ∷ []))
     ++ 44 ∷ (quoted (codes "verdict") ++ 58 ∷ (quoted (codes "sound") ++ 125 ∷ []))))))
 unfolding escape_byte
@@ -177,6 +177,7 @@ broken_is names line fault facts =
 line_shape : (front made back : Text) → front ++ (made ++ (back ++ codes "\n")) ≡ (front ++ (made ++ back)) ++ codes "\n"
 line_shape front made back = simp append_assoc
 
+-- the text that is written piece by piece is the report
 pub line_is : (names : List Text) (line : Text) (verdict : Verdict) (facts : Option (List LoopFact))
     → json_line (map quoted names) line verdict facts ≡ verdict_json names line verdict facts
 line_is names line (Sound final) facts =
