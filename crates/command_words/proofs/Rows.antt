@@ -1,5 +1,5 @@
 -- What the rows of the walk keep of the items.
-use Rattle.std.proofs.Common.{◌≡◌, ◌∙◌, refl, ap, arith, Bool, true, false, cond, not, List, [], ◌∷◌, ◌++◌, length, ◌&&◌, ◌||◌, Option, Some, None, option_map}
+use Rattle.std.proofs.Common.{◌≡◌, ◌∙◌, refl, ap, arith, Bool, true, false, cond, not, List, [], ◌∷◌, ◌++◌, length, ◌&&◌, ◌||◌, Option, Some, None, option_map, append-nil}
 use Rattle.std.specs.Prelude.{is_some, slice_get}
 use Rattle.std.specs.Str.{bytes_eq}
 use Rattle.std.specs.List.{list_any}
@@ -12,31 +12,32 @@ use Rattle.command_words.specs.Grammar.{Name, Text, Item, Flag, Setting, Place, 
 use Rattle.command_words.proofs.Rules.{Spot, first, second, third, spot_at, spot_id}
 use Rattle.command_words.proofs.Looks.{by_test}
 
+-- the first of the two that is there
 abbrev pub or_first : {X : Type 0} → Option X → Option X → Option X
 or_first None q = q
 or_first (Some x) q = Some x
 
 -- ---- rows
 
+-- a change at an id that has no row appends what is missing
 pub at_row_none : (id : Text) (change : Row → List Row) (missing rows : List Row) → has_row id rows ≡ false → at_row id change missing rows ≡ rows ++ missing
 at_row_none id change missing [] none = refl
 at_row_none id change missing (r ∷ rs) none = by_test (bytes_eq r.id id)
     (λ e. absurd (true≢false (rw e at none)))
     (λ e. let rest : has_row id rs ≡ false = rw e at none in rw e (ap (λ l. r ∷ l) (at_row_none id change missing rs rest)))
 
+-- the row of an id with one value
 abbrev pub row : Text → Reading → Text → Row
 row id how v = record { id = id; values = v ∷ []; count = None; source = Some CommandLine; reading = how }
 
-append_none : {X : Type 0} (xs : List X) → xs ++ [] ≡ xs
-append_none [] = refl
-append_none (x ∷ xs) = ap (λ l. x ∷ l) (append_none xs)
-
+-- a value under an id that has no row is a row more
 pub fresh : (id : Text) (how : Reading) (v : Text) (rows : List Row) → has_row id rows ≡ false
     → with_values id how CommandLine (v ∷ []) (without id rows) ≡ rows ++ row id how v ∷ []
 fresh id how v rows none =
-    let same : without id rows ≡ rows = at_row_none id (λ _. []) [] rows none ∙ append_none rows in
+    let same : without id rows ≡ rows = at_row_none id (λ _. []) [] rows none ∙ append-nil rows in
     ap (with_values id how CommandLine (v ∷ [])) same ∙ at_row_none id (more_values CommandLine (v ∷ [])) (row id how v ∷ []) rows none
 
+-- the values under an id with one row more
 pub added_row : (k : Text) (rows : List Row) (r : Row) → all_of k (rows ++ r ∷ []) ≡ or_first (all_of k rows) (cond (bytes_eq r.id k) (Some r.values) None)
 added_row k [] r = go (bytes_eq r.id k)
   where
@@ -47,6 +48,7 @@ added_row k (x ∷ xs) r = by_test (bytes_eq x.id k)
     (λ e. rw e refl)
     (λ e. rw e (added_row k xs r))
 
+-- an id has a row where there are values under it
 pub has_row_is : (k : Text) (rows : List Row) → has_row k rows ≡ is_some (all_of k rows)
 has_row_is k [] = refl
 has_row_is k (x ∷ xs) = by_test (bytes_eq x.id k)
@@ -55,6 +57,7 @@ has_row_is k (x ∷ xs) = by_test (bytes_eq x.id k)
 
 -- ---- items
 
+-- the value of an option in two lists of items is that of the first that has one
 pub value_in_more : (n : Name) (xs ys : List Item) → value_in n (xs ++ ys) ≡ or_first (value_in n xs) (value_in n ys)
 value_in_more n [] ys = refl
 value_in_more n (Flag m ∷ xs) ys = by_test (same_name m n)
@@ -65,12 +68,14 @@ value_in_more n (Setting m v ∷ xs) ys = by_test (same_name m n)
     (λ e. rw e (value_in_more n xs ys))
 value_in_more n (Place w ∷ xs) ys = value_in_more n xs ys
 
+-- the names of two lists of items, one after the other
 pub names_in_more : (xs ys : List Item) → names_in (xs ++ ys) ≡ names_in xs ++ names_in ys
 names_in_more [] ys = refl
 names_in_more (Flag m ∷ xs) ys = ap (λ l. m ∷ l) (names_in_more xs ys)
 names_in_more (Setting m v ∷ xs) ys = ap (λ l. m ∷ l) (names_in_more xs ys)
 names_in_more (Place w ∷ xs) ys = names_in_more xs ys
 
+-- the positional words of two lists of items, one after the other
 pub places_in_more : (xs ys : List Item) → places_in (xs ++ ys) ≡ places_in xs ++ places_in ys
 places_in_more [] ys = refl
 places_in_more (Flag m ∷ xs) ys = places_in_more xs ys
@@ -88,6 +93,7 @@ stands_is n (Setting m v ∷ xs) = by_test (same_name m n)
     (λ e. rw e (stands_is n xs))
 stands_is n (Place w ∷ xs) = stands_is n xs
 
+-- one of the two holds where the second does
 pub or_right : (a b : Bool) → b ≡ true → (a || b) ≡ true
 or_right true b e = refl
 or_right false b e = e
@@ -96,6 +102,7 @@ and_right : (a b : Bool) → b ≡ false → (a && b) ≡ false
 and_right true b e = e
 and_right false b e = refl
 
+-- each of the two holds where both do
 pub both : (a b : Bool) → (a && b) ≡ true → (a ≡ true) × (b ≡ true)
 both true b e = (refl, e)
 both false b e = absurd (false≢true e)
@@ -110,6 +117,7 @@ twice n (m ∷ ns) ms e = by_test (same_name m n)
     rw here refl)
     (λ other. and_right (not (list_any (same_name m) (ns ++ n ∷ ms))) _ (twice n ns ms (rw other at e)))
 
+-- a name more that doesn't stand yet leaves them distinct
 pub once : (n : Name) (ns : List Name) → list_any (λ m. same_name m n) ns ≡ false → are_distinct ns ≡ true → are_distinct (ns ++ n ∷ []) ≡ true
 once n [] none distinct = refl
 once n (m ∷ ns) none distinct = by_test (same_name m n)
@@ -126,6 +134,7 @@ once n (m ∷ ns) none distinct = by_test (same_name m n)
 
 -- ---- ids
 
+-- no option has the id of a positional word
 pub names_apart : (n : Name) (s : Spot) → bytes_eq (spelling n) (spot_id s) ≡ false
 names_apart Low first = refl
 names_apart Low second = refl
@@ -149,6 +158,7 @@ names_apart Json first = refl
 names_apart Json second = refl
 names_apart Json third = refl
 
+-- no positional word has the id of an option
 pub spots_apart : (s : Spot) (n : Name) → bytes_eq (spot_id s) (spelling n) ≡ false
 spots_apart first Low = refl
 spots_apart first High = refl

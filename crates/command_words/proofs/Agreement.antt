@@ -10,11 +10,11 @@ use Rattle.command_words.specs.Given.{IsGiven, IsLawful, are_lawful, is_on, now_
 use Rattle.command_words.specs.Numbers.{is_number, number_or_none}
 use Rattle.command_words.specs.declared.given.Given.{Given}
 use Rattle.command_words.specs.Grammar.{Low, High, Rack, Hold, Block, Loops, Json, spelling}
-use Rattle.command_words.proofs.Kept.{stands_is}
-use Rattle.command_words.proofs.Whole.{MayWait}
+use Rattle.command_words.proofs.Rows.{stands_is}
+use Rattle.command_words.proofs.Walks.{MayWait}
 use Rattle.std.proofs.lemmas.Slice.Eq.{bytes_eq-Decides}
 use Rattle.command_words.proofs.Looks.{by_test}
-use Rattle.command_words.proofs.Comes.{put_some, some_of}
+use Rattle.command_words.proofs.Outcomes.{put_some, some_of}
 
 -- the value of an option is a number
 abbrev HasNumber : Item → Type 0
@@ -73,6 +73,7 @@ plain_number (x ∷ xs) v e = by_test (x == 45) (λ hyphen. absurd (go x xs hyph
         let same : x ≡ 45 = grind (arith, hyphen) in
         first xs (subst (λ k. is_value (k ∷ xs) ≡ true) same value) (subst (λ k. is_number (k ∷ xs) ≡ true) same number)
 
+-- what the grammar reads, clap takes
 pub strict_lax : (words : List Text) (waiting : Option Name) → MayWait waiting → Keeps (λ x. ⊤) (items_of waiting words) (taken_of waiting words)
 strict_lax [] None may items all e = e
 strict_lax [] (Some n) may items all e = e
@@ -83,6 +84,7 @@ strict_lax (word ∷ words) (Some n) may items all e = by_test (begins_with_hyph
     (λ hyphen. absurd (some_of items (sym (rw hyphen at e))))
     (λ plain. rw (no_hyphen word plain) (put_keeps (λ x. ⊤) (Setting n word) (items_of None words) (taken_of None words) (strict_lax words None tt) items all (rw plain at e)))
 
+-- what clap takes, the grammar reads, where the values are numbers
 pub lax_strict : (words : List Text) (waiting : Option Name) → MayWait waiting → Keeps HasNumber (taken_of waiting words) (items_of waiting words)
 lax_strict [] None may items all e = e
 lax_strict [] (Some n) may items all e = e
@@ -193,6 +195,7 @@ lawful_from items g distinct few is test =
     go Loops flag a b c d e = absurd (true≢false flag)
     go Json flag a b c d e = absurd (true≢false flag)
 
+-- lawful items pass the test
 pub test_from : (items : List Item) (g : Given) → IsGiven items g → IsLawful items → are_lawful g ≡ true
 test_from items g is lawful =
     rw (
@@ -214,6 +217,7 @@ every (x ∷ xs) = (tt, every xs)
 pub read_from : (words : List Text) (items : List Item) → taken_of None words ≡ Some items → IsLawful items → items_of None words ≡ Some items
 read_from words items is lawful = lax_strict words None tt items (all_numbers items lawful.fit.distinct lawful.numbers) is
 
+-- what the grammar reads is what clap found
 pub taken_from : (words : List Text) (items : List Item) → items_of None words ≡ Some items → taken_of None words ≡ Some items
 taken_from words items is = strict_lax words None tt items (every items) is
 
@@ -289,5 +293,6 @@ flag_is_on n (Setting m v ∷ xs) flag all = by_test (same_name m n)
     named Loops = refl
     named Json = refl
 
+-- a flag is on where it stands
 pub flag_stands_is : (words : List Text) (items : List Item) (n : Name) → taken_of None words ≡ Some items → is_flag n ≡ true → is_on (value_in n items) ≡ is_some (value_in n items)
 flag_stands_is words items n is flag = flag_is_on n items flag (lax_gives words None tt items is)

@@ -1,6 +1,6 @@
 -- The walk keeps the items that it has read.
 use Rattle.std.proofs.lemmas.List.{length-append}
-use Rattle.std.proofs.Common.{◌≡◌, ◌∙◌, ◌+◌, ℕ, refl, sym, ap, ap₂, Bool, true, false, cond, List, [], ◌∷◌, ◌++◌, length, Option, Some, None, option_map}
+use Rattle.std.proofs.Common.{◌≡◌, ◌∙◌, ◌+◌, ℕ, refl, sym, ap, ap₂, Bool, true, false, cond, List, [], ◌∷◌, ◌++◌, length, Option, Some, None, option_map, append-nil}
 use Rattle.std.specs.Prelude.{codes, is_some, slice_get}
 use Rattle.std.specs.Str.{bytes_eq}
 use Rattle.std.proofs.lemmas.Bool.{false≢true, true≢false}
@@ -9,16 +9,19 @@ use Rattle.clap.specs.Faults.{repeat_fault, settle_fault}
 use Rattle.clap.specs.declared.builder.value_parser.Reading.{Reading}
 use Rattle.command_words.specs.Grammar.{Name, Text, Item, Flag, Setting, Place, are_distinct, is_flag, names_in, places_in, same_name, spelling, value_in, Low, High, Rack, Hold, Block, Loops, Json}
 use Rattle.command_words.proofs.Rules.{Spot, first, second, third, rule, shape, spot_at, spot_id, spot_rule}
-use Rattle.command_words.proofs.Kept.{added_row, fresh, has_row_is, names_apart, names_in_more, once, or_first, place_added, places_in_more, row, spots_apart, stands_is, value_in_more}
+use Rattle.command_words.proofs.Rows.{added_row, fresh, has_row_is, names_apart, names_in_more, once, or_first, place_added, places_in_more, row, spots_apart, stands_is, value_in_more}
 use Rattle.command_words.proofs.Turns.{next_place}
 
+-- the one value, where there is one
 abbrev pub single : Option Text → Option (List Text)
 single = option_map (λ v. v ∷ [])
 
+-- how many positional words stand before this place
 abbrev pub count_at : Option Spot → ℕ
 count_at (Some s) = spot_at s
 count_at None = 3
 
+-- the walk has kept these items, settled, and stands at this place
 pub record Stands (items : List Item) (h : Held) (place : Option Spot) : Type 0 where
   pub sound : settle_fault shape.rules false h ≡ []
   pub skip : h.skip ≡ 0
@@ -33,9 +36,11 @@ pub record IsNamed (x : Item) (n : Name) (v : Text) : Type 0 where
   pub places : places_in (x ∷ []) ≡ []
   pub value : (m : Name) → value_in m (x ∷ []) ≡ cond (same_name n m) (Some v) None
 
+-- a flag has the value `true`
 pub flag_named : (n : Name) → IsNamed (Flag n) n (codes "true")
 flag_named n = record { names = refl; places = refl; value = λ m. refl }
 
+-- an option has its value
 pub setting_named : (n : Name) (v : Text) → IsNamed (Setting n v) n v
 setting_named n v = record { names = refl; places = refl; value = λ m. refl }
 
@@ -54,10 +59,6 @@ single_first (Some x) p = refl
 single_if : (b : Bool) (v : Text) → cond b (Some (v ∷ [])) None ≡ single (cond b (Some v) None)
 single_if true v = refl
 single_if false v = refl
-
-pub append_none : {X : Type 0} (xs : List X) → xs ++ [] ≡ xs
-append_none [] = refl
-append_none (x ∷ xs) = ap (λ l. x ∷ l) (append_none xs)
 
 none_first : {X : Type 0} (o : Option X) → or_first o None ≡ o
 none_first None = refl
@@ -82,7 +83,7 @@ named_stands items h after place n how v x s is none sound skip rows = record {
 }
   where
     same_places : places_in (items ++ x ∷ []) ≡ places_in items
-    same_places = places_in_more items (x ∷ []) ∙ ap (λ l. places_in items ++ l) is.places ∙ append_none _
+    same_places = places_in_more items (x ∷ []) ∙ ap (λ l. places_in items ++ l) is.places ∙ append-nil _
 
 -- one more positional word
 pub place_stands : (items : List Item) (h after : Held) (spot : Spot) (how : Reading) (w : Text) → Stands items h (Some spot)
@@ -97,7 +98,7 @@ place_stands items h after spot how w s sound skip rows = record {
   spots = λ t. ap (all_of (spot_id t)) rows ∙ added_row (spot_id t) ((settled shape.rules h).rows) (row (spot_id spot) how w)
       ∙ ap (λ o. or_first o (cond (bytes_eq (spot_id spot) (spot_id t)) (Some (w ∷ [])) None)) (s.spots t)
       ∙ place_added (places_in items) spot t w s.count ∙ ap (λ l. single (slice_get l (spot_at t))) (sym (places_in_more items (Place w ∷ [])));
-  distinct = ap are_distinct (names_in_more items (Place w ∷ []) ∙ append_none _) ∙ s.distinct;
+  distinct = ap are_distinct (names_in_more items (Place w ∷ []) ∙ append-nil _) ∙ s.distinct;
   count = ap length (places_in_more items (Place w ∷ [])) ∙ counted (places_in items) spot s.count;
 }
   where
@@ -108,9 +109,11 @@ place_stands items h after spot how w s sound skip rows = record {
 
 -- ---- the rows that a use adds
 
+-- an id without a row is no repetition
 pub no_repeat : (id : Text) (rows : List Row) → has_row id rows ≡ false → repeat_fault false id rows ≡ []
 no_repeat id rows none = rw none refl
 
+-- the value of an option without a row isn't at fault
 pub option_used : (n : Name) (v : Text) (rows : List Row) → is_flag n ≡ false → has_row (spelling n) rows ≡ false
     → (how : Reading) × (used (rule n) (v ∷ []) rows ≡ rows ++ row (spelling n) how v ∷ [])
 option_used Low v rows flag none = (_, fresh _ _ v rows none)
@@ -121,6 +124,7 @@ option_used Block v rows flag none = (_, fresh _ _ v rows none)
 option_used Loops v rows flag none = absurd (true≢false flag)
 option_used Json v rows flag none = absurd (true≢false flag)
 
+-- nor is a flag without a row
 pub flag_used : (n : Name) (rows : List Row) → is_flag n ≡ true → has_row (spelling n) rows ≡ false
     → (how : Reading) × (used (rule n) [] rows ≡ rows ++ row (spelling n) how (codes "true") ∷ [])
 flag_used Loops rows flag none = (_, fresh _ _ (codes "true") rows none)
@@ -131,6 +135,7 @@ flag_used Rack rows flag none = absurd (false≢true flag)
 flag_used Hold rows flag none = absurd (false≢true flag)
 flag_used Block rows flag none = absurd (false≢true flag)
 
+-- nor is a positional word without a row
 pub spot_used : (s : Spot) (w : Text) (rows : List Row) → has_row (spot_id s) rows ≡ false
     → (how : Reading) × (used (spot_rule s) (w ∷ []) rows ≡ rows ++ row (spot_id s) how w ∷ [])
 spot_used first w rows none = (_, fresh _ _ w rows none)

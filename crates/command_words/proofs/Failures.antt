@@ -9,6 +9,7 @@ use Rattle.command_words.proofs.Rules.{Spot, shape, by_id, waiting_use}
 use Rattle.command_words.proofs.Looks.{Looks, ends, long, short, plain, looks}
 use Rattle.command_words.proofs.Turns.{Fails, IsLong, at, dashes, faults_at_end, faults_from, faults_step, faults_stuck, fails_here, long_stuck, move_dashes, past_stuck, place_of, place_turn, short_stuck, trailing_stuck, trailing_turn, turn_dashes, unknown_stuck}
 
+-- what is pending fails behind `--`, whatever follows
 pub trailing_doomed : (words : List Text) (h : Held) (waiting : Waiting) (place : Option Spot) → Fails (settle_fault shape.rules false h)
     → Fails (faults_from (at h waiting (place_of place) true) words)
 trailing_doomed [] h waiting place bad = rw (faults_at_end (at h waiting (place_of place) true)) bad
@@ -32,6 +33,7 @@ long_doomed words h waiting p word name v other is bad = go (name_of name) refl
     go None e = faults_stuck _ word words (unknown_stuck h waiting p word name v other is e)
     go (Some n) e = faults_stuck _ word words (long_stuck h waiting p word name v n (record { other = other; long = is; names = e }) bad)
 
+-- it fails where no option waits for its value
 pub idle_doomed : (words : List Text) (h : Held) (place : Option Spot) → AllByRecursion IsUtf8 words → h.skip ≡ 0 → Fails (settle_fault shape.rules false h)
     → Fails (faults_from (at h idle (place_of place) false) words)
 idle_doomed [] h place u skip bad = rw (faults_at_end (at h idle (place_of place) false)) bad
@@ -49,6 +51,7 @@ idle_doomed (word ∷ words) h place u skip bad = go place (looks word u.0)
 pub waiting_fails : (n : Name) (h : Held) → is_flag n ≡ false → h.pending ≡ Some (spelling n, []) → Fails (settle_fault shape.rules false h)
 waiting_fails n h flag is = rw (is, by_id n, waiting_use n h.rows flag) (fails_here _ _)
 
+-- and where an option waits, and the word is no value
 pub waiting_doomed : (words : List Text) (h : Held) (place : Option Spot) (n : Name) (word : Text) → Looks word → (Rattle.command_words.proofs.Turns.IsPlainWord word → ⊥) → h.skip ≡ 0
     → is_flag n ≡ false → h.pending ≡ Some (spelling n, []) → Fails (faults_from (at h (option (spelling n)) (place_of place) false) (word ∷ words))
 waiting_doomed words h place n word (ends is) no_plain skip flag pending = dashes_doomed words h (option (spelling n)) place word is (waiting_fails n h flag pending)

@@ -1,5 +1,5 @@
 -- The walk over all the words.
-use Rattle.std.proofs.Common.{◌≡◌, ◌∙◌, refl, sym, ap, subst, Bool, true, false, List, [], ◌∷◌, ◌++◌, map, Option, Some, None}
+use Rattle.std.proofs.Common.{◌≡◌, ◌∙◌, refl, sym, ap, subst, Bool, true, false, List, [], ◌∷◌, ◌++◌, map, Option, Some, None, append-nil}
 use Rattle.std.specs.Prelude.{⊤, IsUtf8, codes}
 use Rattle.std.specs.List.{AllByRecursion}
 use Rattle.std.specs.Str.{bytes_eq}
@@ -14,10 +14,10 @@ use Rattle.command_words.specs.Given.{Fit}
 use Rattle.command_words.proofs.Rules.{Spot, flag_use, option_use, rule, shape}
 use Rattle.command_words.proofs.Looks.{Looks, ends, long, short, plain, by_test, looks}
 use Rattle.command_words.proofs.Turns.{Fails, IsLong, IsPlainWord, at, awaiting, dashes, end_of, fails_here, faults_at_end, faults_from, faults_step, faults_stuck, flag_move, flag_turn, joined_move, joined_turn, move_dashes, next_place, option_move, option_turn, past_stuck, place_move, place_of, place_turn, placed, short_stuck, trailing_move, trailing_stuck, trailing_turn, turn_dashes, unknown_stuck, valued_flag_stuck, value_move, value_turn}
-use Rattle.command_words.proofs.Stuck.{idle_doomed, waiting_doomed, waiting_fails}
-use Rattle.command_words.proofs.Standing.{Stands, append_none, flag_named, setting_named}
-use Rattle.command_words.proofs.Comes.{Comes, flag_stands, joined_stands, moved, no_fit_fourth, no_fit_hyphen, no_fit_twice, placed_stands, put_some, some_of, stepped, taken_name, valued, valued_fails, valued_stands}
-use Rattle.command_words.proofs.Comes as comes
+use Rattle.command_words.proofs.Failures.{idle_doomed, waiting_doomed, waiting_fails}
+use Rattle.command_words.proofs.WalkItems.{Stands, flag_named, setting_named}
+use Rattle.command_words.proofs.Outcomes.{Comes, flag_stands, joined_stands, moved, no_fit_fourth, no_fit_hyphen, no_fit_twice, placed_stands, put_some, some_of, stepped, taken_name, valued, valued_fails, valued_stands}
+use Rattle.command_words.proofs.Outcomes as comes
 
 end_step : (w after : Walk) (word : Text) (words : List Text) → walked shape.rules [] w word ≡ after → end_of w (word ∷ words) ≡ end_of after words
 end_step w after word words moves = ap (λ v. end_of v words) moves
@@ -25,7 +25,7 @@ end_step w after word words moves = ap (λ v. end_of v words) moves
 at_the_end : (items : List Item) (h : Held) (waiting : Waiting) (place : Option Spot) (trailing : Bool) → Stands items h place
     → Comes items (Some []) (faults_from (at h waiting (place_of place) trailing) []) (at h waiting (place_of place) trailing)
 at_the_end items h waiting place trailing st =
-    comes.good [] place refl (faults_at_end (at h waiting (place_of place) trailing) ∙ st.sound) (subst (λ l. Stands l h place) (sym (append_none items)) st) refl
+    comes.good [] place refl (faults_at_end (at h waiting (place_of place) trailing) ∙ st.sound) (subst (λ l. Stands l h place) (sym (append-nil items)) st) refl
 
 -- a bad word that spells x first
 bad_first : (items : List Item) (x : Item) (spelled spelled2 : Option (List Item)) (kinds : Kinds) (end : Walk) → Fails kinds → spelled2 ≡ put x spelled
@@ -53,18 +53,22 @@ trailing_comes (word ∷ words) items h waiting (Some s) st =
 
 -- ---- an option that waits
 
+-- what is held where this option waits
 abbrev pub held_for : Option Name → Held → Held
 held_for None h = h
 held_for (Some n) h = awaiting n h
 
+-- what the walk waits for where this option does
 abbrev pub waiting_for : Option Name → Waiting
 waiting_for None = idle
 waiting_for (Some n) = option (spelling n)
 
+-- only an option that is no flag waits
 abbrev pub MayWait : Option Name → Type 0
 MayWait None = ⊤
 MayWait (Some n) = is_flag n ≡ false
 
+-- the walk at this place where this option waits
 abbrev pub walk_for : Option Name → Held → Option Spot → Walk
 walk_for waiting h place = at (held_for waiting h) (waiting_for waiting) (place_of place) false
 
