@@ -32,7 +32,7 @@ impl<T: Drop> ListOf<T> {
         }
     }
 
-    /// The empty list, with room for so many items.
+    /// The empty list. Memory for so many items is asked for at once, of which contracts don't speak.
     pub fn with_capacity(alloc: Global, room: u32) -> Result<Self, NoMemory>
         ensures { IfOk result (λ list. list ≡ []) }
     {
