@@ -16,3 +16,6 @@ mod tree;
 pub use find::Counts;
 pub use summaries::{Summaries, Takes};
 pub use tree::SumTree;
+
+#[cfg(test)]
+mod tests;
