@@ -1,5 +1,5 @@
 //! A script, read from its first line to its last.
-ghost use Rattle.std.specs.Prelude.{◌≡◌, ◌⊎◌, ◌+◌, ◌<◌, ◌≤◌, false, List, ℕ, [], ◌∷◌, ◌++◌, length, drop, IfOk, IfErr, Ok, slice_index_or};
+ghost use Rattle.std.specs.Prelude.{◌≡◌, ◌⊎◌, ◌↔◌, IsTrue, ◌+◌, ◌<◌, ◌≤◌, false, List, ℕ, [], ◌∷◌, ◌++◌, length, drop, IfOk, IfErr, Ok, slice_index_or};
 ghost use Rattle.knit_base.specs.Lines.{IsLine};
 ghost use Rattle.script_reader.specs.Script.{IsScript, IsRefusal, adds_in, adds_of, is_known, last_takes_text, names_known};
 ghost use Rattle.script_reader.specs.Reading.{BeginWithHeading, BeginWithSession, IsErr, behind_command, behind_texts, command_in_front, reading, script_of, texts_in_front, walk};
@@ -67,7 +67,7 @@ fn read_sessions(alloc: Global, lines: &Lines, start: u32) -> Result<SessionScri
                 cause: Cause::BadLine,
             });
         };
-        if sessions.len() == SESSION_LIMIT {
+        if is_full(sessions.len()) {
             return Err(ScriptFault::At {
                 line: at + 1,
                 cause: Cause::ManySessions,
@@ -78,6 +78,13 @@ fn read_sessions(alloc: Global, lines: &Lines, start: u32) -> Result<SessionScri
         at = next;
     }
     Ok(sessions)
+}
+
+// Whether no session may begin behind so many.
+fn is_full(sessions: u32) -> bool
+    ensures { IsTrue result ↔ (sessions ≡ 64) }
+{
+    sessions == SESSION_LIMIT
 }
 
 // The commands of a session from here on, and the place of the line behind them.

@@ -14,7 +14,7 @@ use Rattle.std.proofs.lemmas.Bool.{ltb-true, ltb-false}
 use Rattle.tree_shape.specs.Plan.{Plan, kept, made, inner_on, erase, dirty_row, rows, grown}
 use Rattle.tree_shape.specs.Removal.{shrunk, touched}
 use Rattle.tree_shape.specs.Apply.{mark, times, times_made, KeptBy}
-use Rattle.tree_shape.specs.Changes.{HasInner, IsPart, times_listed, HasChildren, LeavesOthers, IsNotListed, IsOrdered, IsPartAt, IsOver, BoundsHeight}
+use Rattle.tree_shape.specs.Changes.{HasInner, IsPart, times_listed, HasChildren, LeavesOthers, IsNotListed, IsOrdered, IsPartAt, IsOver, BoundsHeight, IsListing}
 use Rattle.tree_shape.proofs.Growing.{GoesDown, kept_by_grown, well_grown, same_height, one_higher}
 use Rattle.tree_shape.proofs.Shrinking.{kept_by_shrunk, listed_shrunk}
 use Rattle.tree_shape.proofs.Touching.{erase_touched, rows_most as touched_most}
@@ -154,13 +154,6 @@ ordered_rows (made side n near far) once =
     (All-append (IsApart (row ∷ [])) (rows near) (rows far) (rows_apart near (row ∷ []) near_outside) (rows_apart far (row ∷ []) far_outside))
 
 -- All that the rows of a plan say.
-
--- what the rows say of the tree before and of the tree after
-pub record IsListing (old new : Option Tree) (xs : List DirtyRow) : Type 0 where
-  pub children : All (HasChildren new) xs
-  pub others : LeavesOthers old new xs
-  pub ordered : IsOrdered xs
-  pub once : (k : ℕ) → times_listed k xs ≤ 1
 
 pub listing_of : (t : Tree) (p : Plan) → KeptBy (HasInners t) p → ((k : ℕ) → times k (erase p) ≤ 1) → IsListing (Some t) (Some (erase p)) (rows p)
 listing_of t p stays once = record {
