@@ -5,7 +5,7 @@ use Rattle.std.proofs.lemmas.List.{drop_all}
 use Rattle.tree_shape.specs.Fewest.{inserted, removed}
 use Rattle.tree_shape.specs.Values.{leaf_values}
 use Rattle.tree_shape.specs.View.{ShapeView}
-use Rattle.summary_tree.proofs.Changing.{values_same}
+use Rattle.summary_tree.proofs.Changes.{values_same}
 use Rattle.summary_tree.specs.Sums.{sum_of, sum_at, sum_in, sum-append}
 
 sum-parts : (at : ℕ) (xs : List ℕ) → sum_of (take at xs) + sum_of (drop at xs) ≡ sum_of xs
@@ -31,7 +31,6 @@ pub sum-replaced : (at count : ℕ) (xs : List ℕ) → sum_of (slice_set xs at 
 sum-replaced at count [] = omega arith
 sum-replaced zero count (x ∷ xs) = omega arith
 sum-replaced (suc at) count (x ∷ xs) = omega (arith, sum-replaced at count xs)
-
 
 -- the same sum, where each leaf has what it had
 pub sum-reserved : (before then : List (Option ℕ)) (old shape : ShapeView) → ((k : ℕ) → sum_at then k ≡ sum_at before k) → shape.tree ≡ old.tree → sum_in then shape ≡ sum_in before old

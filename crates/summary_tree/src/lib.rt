@@ -15,7 +15,7 @@ mod tree;
 
 pub use find::Counts;
 pub use summaries::{Summaries, Takes};
-pub use tree::SumTree;
+pub use tree::SummaryTree;
 
 #[cfg(test)]
 mod tests;

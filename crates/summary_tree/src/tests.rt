@@ -5,7 +5,7 @@ ghost use Rattle.summary_tree.specs.Sums.{IsKeptSums, sum_in};
 mod rooms;
 mod sums;
 
-use crate::SumTree;
+use crate::SummaryTree;
 use knit_base::{NoMemory, Steps};
 use std::alloc::Global;
 use std::marker::Brand;
@@ -16,7 +16,7 @@ use sums::Sums;
 
 // A leaf with this count at a position, unless it can't stand there.
 fn add<L: Ledger>(
-    tree: &mut SumTree<Sums>,
+    tree: &mut SummaryTree<Sums>,
     at: u32,
     count: u64,
     steps: &mut Steps<L>,
@@ -37,7 +37,7 @@ fn add<L: Ledger>(
 
 // Another count for the leaf at a position, if there is one.
 fn put<L: Ledger>(
-    tree: &mut SumTree<Sums>,
+    tree: &mut SummaryTree<Sums>,
     at: u32,
     count: u64,
     steps: &mut Steps<L>,
@@ -56,7 +56,7 @@ fn put<L: Ledger>(
 }
 
 // No leaf at a position.
-fn cut<L: Ledger>(tree: &mut SumTree<Sums>, at: u32, steps: &mut Steps<L>)
+fn cut<L: Ledger>(tree: &mut SummaryTree<Sums>, at: u32, steps: &mut Steps<L>)
     requires kept { IsKeptSums tree.old.store.leaves.items tree.old.store.nodes.items tree.old.shape }
     ensures kept { IsKeptSums tree.new.store.leaves.items tree.new.store.nodes.items tree.new.shape }
     ensures sum { sum_in tree.new.store.leaves.items tree.new.shape ≤ sum_in tree.old.store.leaves.items tree.old.shape }
@@ -70,11 +70,11 @@ fn cut<L: Ledger>(tree: &mut SumTree<Sums>, at: u32, steps: &mut Steps<L>)
 }
 
 // The leaves 5, 7 and 9.
-fn three<L: Ledger>(alloc: Global, steps: &mut Steps<L>) -> Result<SumTree<Sums>, NoMemory>
+fn three<L: Ledger>(alloc: Global, steps: &mut Steps<L>) -> Result<SummaryTree<Sums>, NoMemory>
     ensures kept { IfOk result (λ tree. IsKeptSums tree.store.leaves.items tree.store.nodes.items tree.shape) }
     ensures sum { IfOk result (λ tree. sum_in tree.store.leaves.items tree.shape ≤ 21) }
 {
-    let mut tree = SumTree::new(alloc, Sums::new(alloc));
+    let mut tree = SummaryTree::new(alloc, Sums::new(alloc));
     add(&mut tree, 0, 9, steps)?;
     add(&mut tree, 0, 5, steps)?;
     add(&mut tree, 1, 7, steps)?;
@@ -82,7 +82,7 @@ fn three<L: Ledger>(alloc: Global, steps: &mut Steps<L>) -> Result<SumTree<Sums>
 }
 
 // The sum of all leaves, and where three offsets lie.
-fn found(tree: &SumTree<Sums>) -> (u64, [Option<(u32, u64)>; 3])
+fn found(tree: &SummaryTree<Sums>) -> (u64, [Option<(u32, u64)>; 3])
     requires { IsKeptSums tree.now.store.leaves.items tree.now.store.nodes.items tree.now.shape }
 {
     let sum = match tree.root() {

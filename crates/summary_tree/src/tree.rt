@@ -19,12 +19,12 @@ use tree_shape::{Child, Dirty, Shape};
 
 /// A balanced tree with a value at each leaf, and at each inner node the one composed of its leaves' values.
 #[derive(Drop)]
-pub struct SumTree<S: Summaries> {
+pub struct SummaryTree<S: Summaries> {
     pub(crate) shape: Shape,
     pub(crate) store: S,
 }
 
-impl<S: Summaries> SumTree<S> {
+impl<S: Summaries> SummaryTree<S> {
     /// Puts another value at the leaf of a position.
     pub fn replace<F, L: Ledger>(&mut self, at: u32, leaf: F, steps: &mut Steps<L>)
     where
@@ -184,12 +184,12 @@ impl<S: Summaries> SumTree<S> {
     }
 
     /// A tree without leaves.
-    pub fn new(alloc: Global, store: S) -> SumTree<S>
+    pub fn new(alloc: Global, store: S) -> SummaryTree<S>
         requires none { S.sound [] }
         ensures kept { IsKept S.join S.sound (S.leaf_at result.store) (S.node_at result.store) (S.slots result.store) result.shape }
         ensures empty { leaf_values (S.leaf_at result.store) result.shape.tree ≡ [] }
     {
-        SumTree {
+        SummaryTree {
             shape: Shape::new(alloc),
             store,
         }

@@ -16,12 +16,12 @@ use Rattle.tree_shape.specs.Removal.{shrunk, gone}
 use Rattle.tree_shape.specs.Fewest.{inserted, removed}
 use Rattle.tree_shape.specs.Numbers.{NumbersView, times_in, next_number, taken, given_back, IsCounted}
 use Rattle.tree_shape.specs.View.{ShapeView, tree_at, count_of, leaves_of_tree, inners_of_tree, IsBalancedTree, IsSound, IsRoot, IsShape, IsLawful, IsSameShape, tree_without, inners_without}
-use Rattle.tree_shape.proofs.Standing.{length_leaves}
-use Rattle.tree_shape.proofs.Growing.{times_grown, leaves_grown}
-use Rattle.tree_shape.proofs.Shrinking.{leaves_shrunk, IsInner}
-use Rattle.tree_shape.proofs.Listing.{listing_grown, listing_shrunk, few_grown, few_shrunk}
-use Rattle.tree_shape.proofs.Reading.{rooted, sound_read, count_grown, count_shrunk, shrunk_times, sound_leaf}
-use Rattle.tree_shape.proofs.Counting.{times_in-append, counted_taken, counted_back, counted_none, fresh, comes, drawn_new, free_again}
+use Rattle.tree_shape.proofs.ArenaTrees.{length_leaves}
+use Rattle.tree_shape.proofs.Insertions.{times_grown, leaves_grown}
+use Rattle.tree_shape.proofs.Removals.{leaves_shrunk, IsInner}
+use Rattle.tree_shape.proofs.Listings.{listing_grown, listing_shrunk, few_grown, few_shrunk}
+use Rattle.tree_shape.proofs.Roots.{rooted, sound_read, count_grown, count_shrunk, shrunk_times, sound_leaf}
+use Rattle.tree_shape.proofs.NumberCounts.{times_in-append, counted_taken, counted_back, counted_none, fresh, comes, drawn_new, free_again}
 
 pub times_inners : (k : ℕ) (t : Tree) → times_in k (inners t) ≡ times k t
 times_inners k (leaf n) = refl

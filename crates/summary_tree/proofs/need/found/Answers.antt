@@ -3,7 +3,7 @@ use Rattle.std.proofs.Math.Seq.{drop-length}
 use Rattle.tree_shape.specs.declared.dirty.DirtyRow.{DirtyRow}
 use Rattle.tree_shape.specs.Composing.{latest, found_or}
 use Rattle.tree_shape.proofs.Rows.{some_row}
-use Rattle.tree_shape.proofs.Finding.{cond_same, cond_other, latest_step, latest-short}
+use Rattle.tree_shape.proofs.Rooms.{cond_same, cond_other, latest_step, latest-short}
 use Rattle.summary_tree.proofs.need.found.Goals as goal
 use Rattle.summary_tree.proofs.need.found.Goals.{in-Some+then-row-node, in-Some+else-row-node, in_default}
 

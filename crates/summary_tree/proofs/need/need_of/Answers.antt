@@ -6,7 +6,7 @@ use Rattle.tree_shape.specs.declared.dirty.DirtyRow.{DirtyRow}
 use Rattle.tree_shape.specs.Values.{part, composed_all}
 use Rattle.tree_shape.specs.Composing.{latest, IsFinding}
 use Rattle.tree_shape.proofs.Rows.{some_row}
-use Rattle.tree_shape.proofs.Finding.{latest-none, finding_next, next_there}
+use Rattle.tree_shape.proofs.Rooms.{latest-none, finding_next, next_there}
 use Rattle.summary_tree.specs.Need.{leaf_rooms, node_rooms, found_at}
 use Rattle.summary_tree.proofs.need.need_of.Goals as goal
 use Rattle.summary_tree.proofs.need.need_of.Goals.{in-Some, in_default}

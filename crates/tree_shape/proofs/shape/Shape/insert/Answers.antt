@@ -4,8 +4,8 @@ use Rattle.tree_shape.specs.Plan.{grown, erase}
 use Rattle.tree_shape.specs.Apply.{times}
 use Rattle.tree_shape.specs.Numbers.{NumbersView, numbers_of, next_number}
 use Rattle.tree_shape.specs.View.{ShapeView, IsShape, IsSound, count_of}
-use Rattle.tree_shape.proofs.Counting.{next_place}
-use Rattle.tree_shape.proofs.Reading.{sound_read, leaves_with}
+use Rattle.tree_shape.proofs.NumberCounts.{next_place}
+use Rattle.tree_shape.proofs.Roots.{sound_read, leaves_with}
 use Rattle.tree_shape.proofs.Shapes.{tree_below, rooms, taken_drawn, shape_first, shape_grown, next_free, counted_inners, listing_put, few_put}
 use Rattle.tree_shape.proofs.shape.Shape.insert.Goals as goal
 

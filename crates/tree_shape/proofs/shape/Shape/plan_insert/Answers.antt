@@ -6,8 +6,7 @@ use Rattle.tree_shape.proofs.shape.Shape.plan_insert.Goals as goal
 
 pub plan_put-requires-clause-place : goal.plan_put-requires-clause-place
 plan_put-requires-clause-place c =
-    let r = tree_below _ _ c.in-Some.child _ _ _ c.in-Some.is (ap (λ (v : ShapeView). v.tree) c.self.view_is) c.self.invariant.0 in
-    (
+    let r = tree_below _ _ c.in-Some.child _ _ _ c.in-Some.is (ap (λ (v : ShapeView). v.tree) c.self.view_is) c.self.invariant.0 in (
       r.t,
       subst (λ v. IsSound v c.in-Some.child r.t) (sym c.as_slice.ensures.value) r.sound,
       subst (λ v. c.args.at ≤ count_of v) r.seen c.requires.place,

@@ -3,9 +3,9 @@ use Rattle.tree_shape.specs.declared.node.Child.TheVariants.{Leaf, Inner}
 use Rattle.tree_shape.specs.Tree.{Stands, count, leaves}
 use Rattle.tree_shape.specs.Numbers.{NumbersView, numbers_of, given_back}
 use Rattle.tree_shape.specs.View.{ShapeView, count_of}
-use Rattle.tree_shape.proofs.Reading.{sound_read}
+use Rattle.tree_shape.proofs.Roots.{sound_read}
 use Rattle.tree_shape.proofs.Shapes.{shape_at, shape_shrunk, shape_emptied}
-use Rattle.tree_shape.proofs.Shrinking.{leaves_shrunk}
+use Rattle.tree_shape.proofs.Removals.{leaves_shrunk}
 use Rattle.tree_shape.proofs.Shapes.{tree_below, inside, leaf_room, inner_room, tree_without_inner, inners_without_inner, listing_taken, few_taken}
 use Rattle.tree_shape.proofs.shape.Shape.remove.Goals as goal
 

@@ -5,7 +5,7 @@ use Rattle.tree_shape.specs.Removal.{touched}
 use Rattle.tree_shape.specs.View.{ShapeView, count_of}
 use Rattle.tree_shape.proofs.Heights.{at_most_22}
 use Rattle.tree_shape.proofs.Shapes.{tree_below}
-use Rattle.tree_shape.proofs.Listing.{touching}
+use Rattle.tree_shape.proofs.Listings.{touching}
 use Rattle.tree_shape.proofs.shape.Shape.touch.Goals as goal
 
 pub touch_below-requires : goal.touch_below-requires
