@@ -1,15 +1,15 @@
 -- What a change leaves: the values of the tree after it, and what it took.
-use Rattle.std.proofs.Common.{◌≡◌, ◌≢◌, ℕ, zero, suc, ◌+◌, ◌*◌, ◌<◌, ◌≤◌, List, [], ◌∷◌, ◌++◌, ◌-◌, nat_lt, map, length, take, drop, Option, Some, None, refl, sym, ◌∙◌, ap, subst, arith, ◌⊎◌, inl, inr}
+use Rattle.std.proofs.Common.{◌≡◌, ◌≢◌, ℕ, zero, suc, ◌+◌, ◌*◌, ◌<◌, ◌≤◌, List, [], ◌∷◌, ◌-◌, nat_lt, map, length, take, drop, Option, Some, None, refl, sym, ◌∙◌, ap, subst, arith, inl, inr}
 use Rattle.std.specs.Option.{option_map}
 use Rattle.std.specs.Prelude.{slice_index, slice_set}
-use Rattle.std.specs.List.{All, slice_get}
+use Rattle.std.specs.List.{All}
 use Rattle.std.specs.Prelude.{IfSome}
 use Rattle.tree_shape.specs.declared.node.Child.{Child}
 use Rattle.std.proofs.lemmas.List.Elements.{All-weaker}
 use Rattle.std.proofs.lemmas.Bool.Decides.{leb_tells}
 use Rattle.tree_shape.specs.declared.dirty.DirtyRow.{DirtyRow}
 use Rattle.tree_shape.specs.Tree.{Tree, leaf, inner, name, count, leaves, inners}
-use Rattle.tree_shape.specs.Plan.{Plan, kept, made, grown, erase, rows}
+use Rattle.tree_shape.specs.Plan.{Plan, kept, grown, erase, rows}
 use Rattle.tree_shape.specs.Removal.{touched, shrunk}
 use Rattle.tree_shape.specs.Fewest.{inserted, removed}
 use Rattle.tree_shape.specs.Apply.{mark, times, KeptBy}
@@ -40,6 +40,7 @@ once_of shape t lawful seen k =
     let c : IsCounted shape.inner_numbers (inners t) = subst (λ v. IsCounted shape.inner_numbers (inners_of_tree v)) seen lawful.inners in
     omega (arith, counted_times shape.inner_numbers (inners t) k c, times_inners k t)
 
+-- and so are its leaf numbers
 pub leaf_once : (shape : ShapeView) (t : Tree) → IsLawful shape → shape.tree ≡ Some t → (k : ℕ) → times_in k (leaves t) ≤ 1
 leaf_once shape t lawful seen k =
     let c : IsCounted shape.leaf_numbers (leaves t) = subst (λ v. IsCounted shape.leaf_numbers (leaves_of_tree v)) seen lawful.leaves in
@@ -89,14 +90,17 @@ first_inserted : {V : Type 0} (at : ℕ) (v : V) → inserted at v [] ≡ v ∷ 
 first_inserted zero v = refl
 first_inserted (suc at) v = refl
 
+-- the same leaf values, where each leaf of the tree has what it had
 pub values_same : {V : Type 0} (before end : ℕ → Option V) (o : Option Tree) → ((k : ℕ) → 1 ≤ times_in k (leaves_of_tree o) → before k ≡ end k) → leaf_values before o ≡ leaf_values end o
 values_same before end None same = refl
 values_same before end (Some t) same = gathered_same before end (leaves t) same
 
+-- an insertion draws one inner number at most
 pub inners_drawn : (o : Option Tree) (v : NumbersView) → (inners_with o v).drawn ≤ v.drawn + 1
 inners_drawn None v = omega arith
 inners_drawn (Some t) v = taken_drawn v
 
+-- a removal draws none
 pub inners_back : (at : ℕ) (o : Option Tree) (v : NumbersView) → (inners_without at o v).drawn ≡ v.drawn
 inners_back at None v = refl
 inners_back at (Some (leaf n)) v = refl
@@ -122,6 +126,7 @@ module _ {V R : Type 0} (join : V → V → V) (fits : V → V → Type 0) (cost
     pub keeps : Keeps join leaf_then (refreshed join leaf_then nodes (rows p)) (erase p)
     pub few : spent join cost leaf_then nodes (rows p) ≤ 3 * most (gathered leaf_then (leaves (erase p))) * length (rows p)
 
+  -- a plan whose parts are kept, over leaves that may stand in one tree, can be composed anew
   pub changed : StandLaws sound stands join fits → RoomLaws join fits room after within → ((xs : List V) → sound xs → Costs stands cost (most xs) xs)
       → (leaf_then nodes : ℕ → Option V) (room_at rooms : ℕ → Option R) (p : Plan) → KeptBy (Keeps join leaf_then nodes) p → ((k : ℕ) → times k (erase p) ≤ 1)
       → AreThere leaf_then (leaves (erase p)) → sound (gathered leaf_then (leaves (erase p))) → ((k : ℕ) → room_at k ≡ option_map room (leaf_then k)) → ((k : ℕ) → rooms k ≡ option_map room (nodes k))
@@ -156,6 +161,7 @@ module _ {V R : Type 0} (join : V → V → V) (fits : V → V → Type 0) (cost
     pub sound_then : sound (gathered then (leaves (erase p)))
     pub change : Changed then nodes p rs
 
+  -- another value at a leaf
   pub replace_step : StandLaws sound stands join fits → RoomLaws join fits room after within → ((xs : List V) → sound xs → Costs stands cost (most xs) xs)
       → (before then nodes_before nodes : ℕ → Option V) (number at : ℕ) (v : V) (t : Tree) → ((k : ℕ) → times k t ≤ 1) → ((k : ℕ) → times_in k (leaves t) ≤ 1) → at < count t → slice_index (leaves t) at ≡ number
       → AreThere before (leaves t) → Keeps join before nodes_before t → then number ≡ Some v → ((k : ℕ) → k ≢ number → then k ≡ before k) → ((k : ℕ) → nodes k ≡ nodes_before k)
@@ -181,6 +187,7 @@ module _ {V R : Type 0} (join : V → V → V) (fits : V → V → Type 0) (cost
             there_p sound_p (rooms_then room before then number v here others) (λ k. ap (option_map room) (sym (same k))) rs e;
       }
 
+  -- a leaf more in a tree that has one
   pub insert_step : StandLaws sound stands join fits → RoomLaws join fits room after within → ((xs : List V) → sound xs → Costs stands cost (most xs) xs)
       → (before then nodes_before nodes : ℕ → Option V) (new number at : ℕ) (v : V) (t : Tree) → ((k : ℕ) → times k (erase (grown at new number t)) ≤ 1) → times_in new (leaves t) ≡ 0 → at ≤ count t
       → AreThere before (leaves t) → Keeps join before nodes_before t → then new ≡ Some v → ((k : ℕ) → k ≢ new → then k ≡ before k) → ((k : ℕ) → nodes k ≡ nodes_before k)
@@ -204,6 +211,7 @@ module _ {V R : Type 0} (join : V → V → V) (fits : V → V → Type 0) (cost
             there_p sound_p (rooms_then room before then new v here others) (λ k. ap (option_map room) (sym (same k))) rs e;
       }
 
+  -- a leaf less in a tree that has another
   pub remove_step : StandLaws sound stands join fits → RoomLaws join fits room after within → ((xs : List V) → sound xs → Costs stands cost (most xs) xs)
       → (leaf_at nodes : ℕ → Option V) (at : ℕ) (t : Tree) → ((k : ℕ) → times k (erase (shrunk at t)) ≤ 1) → IsInner t → at < count t
       → AreThere leaf_at (leaves t) → Keeps join leaf_at nodes t → sound (removed at (gathered leaf_at (leaves t)))
@@ -223,6 +231,7 @@ module _ {V R : Type 0} (join : V → V → V) (fits : V → V → Type 0) (cost
             (kept_removed join leaf_at nodes at t keeps) once there_p sound_p (λ k. refl) (λ k. refl) rs e;
       }
 
+  -- a leaf more in any tree
   pub insert_any : StandLaws sound stands join fits → RoomLaws join fits room after within → ((xs : List V) → sound xs → Costs stands cost (most xs) xs)
       → (before then nodes_before nodes : ℕ → Option V) (new number at : ℕ) (v : V) (o : Option Tree) → ((k : ℕ) → times k (tree_with at new number o) ≤ 1) → times_in new (leaves_of_tree o) ≡ 0 → at ≤ count_of o
       → AreThere before (leaves_of_tree o) → KeepsAll join before nodes_before o → then new ≡ Some v → ((k : ℕ) → k ≢ new → then k ≡ before k) → ((k : ℕ) → nodes k ≡ nodes_before k)
@@ -266,6 +275,7 @@ module _ {V R : Type 0} (join : V → V → V) (fits : V → V → Type 0) (cost
     pub keeps : KeepsAll join leaf_at (refreshed join leaf_at nodes (rows_without at o)) (tree_without at o)
     pub few : spent join cost leaf_at nodes (rows_without at o) ≤ 3 * most (leaf_values leaf_at (tree_without at o)) * length (rows_without at o)
 
+  -- what a removal leaves of any tree
   pub removal : StandLaws sound stands join fits → RoomLaws join fits room after within → ((xs : List V) → sound xs → Costs stands cost (most xs) xs)
       → (leaf_at nodes : ℕ → Option V) (at : ℕ) (t : Tree) → ((k : ℕ) → times k t ≤ 1) → at < count t
       → AreThere leaf_at (leaves t) → Keeps join leaf_at nodes t → sound (removed at (gathered leaf_at (leaves t)))
@@ -279,6 +289,7 @@ module _ {V R : Type 0} (join : V → V → V) (fits : V → V → Type 0) (cost
       let w = remove_any stand_laws room_laws cost_law leaf_at nodes at (inner n l r) tt once place there keeps s rs e in
       record { steps = w.change.steps; there = w.there; values = w.values; sound_then = w.sound_then; keeps = w.change.keeps; few = w.change.few }
 
+  -- what is kept after a removal
   pub kept_end : (before end nodes nodes_end : ℕ → Option V) (o : Option Tree) (shape : ShapeView) (slots : ℕ) → shape.tree ≡ o
       → AreThere before (leaves_of_tree o) → sound (leaf_values before o) → KeepsAll join before nodes o
       → ((k : ℕ) → 1 ≤ times_in k (leaves_of_tree o) → before k ≡ end k) → ((k : ℕ) → 1 ≤ times_in k (inners_of_tree o) → nodes_end k ≡ nodes k)
@@ -294,6 +305,7 @@ module _ {V R : Type 0} (join : V → V → V) (fits : V → V → Type 0) (cost
         inner_slots = more;
       }
 
+  -- the root's value stands for all leaves
   pub root_stands : StandLaws sound stands join fits → ((xs : List V) → sound xs → Costs stands cost (most xs) xs) → (leaf_at nodes : ℕ → Option V) (o : Option Tree) (root : Option Child) → root ≡ option_map name o
       → AreThere leaf_at (leaves_of_tree o) → sound (leaf_values leaf_at o) → KeepsAll join leaf_at nodes o → IfSome root (λ child. (v : V) × (part leaf_at nodes child ≡ Some v) × stands (leaf_values leaf_at o) v)
   root_stands stand_laws cost_law leaf_at nodes None root e there s k = subst (λ r. IfSome r (λ child. (v : V) × (part leaf_at nodes child ≡ Some v) × stands [] v)) (sym e) tt
@@ -343,6 +355,7 @@ module _ {V R : Type 0} (join : V → V → V) (room : V → R) (after : R → R
       let hr = there_back leaf_at (leaves l) (leaves r) h in
       both_ways (KeptBy HasValues) (nat_lt at (count l)) _ _ (kept_touched_values at l hl k.1, has_values r hr k.2) (kept_touched_values (at - count l) r hr k.2, has_values l hl k.1)
 
+  -- the rooms for another value at a leaf are found
   pub rooms_replace : (n at : ℕ) (r : R) (o : Option Tree) (shape : ShapeView) → IsLawful shape → shape.tree ≡ o → AreThere leaf_at (leaves_of_tree o) → KeepsAll join leaf_at nodes o
       → (rs : List R) × (map (λ r. Some r) rs ≡ composed_all after (with_node (λ k. option_map room (leaf_at k)) n (Some r)) (λ k. option_map room (nodes k)) (rows_above at o))
   rooms_replace n at r None shape lawful seen h k = ([], refl)
@@ -351,6 +364,7 @@ module _ {V R : Type 0} (join : V → V → V) (room : V → R) (after : R → R
       plan_rooms (with_node (λ k. option_map room (leaf_at k)) n (Some r)) (touched at t) (λ k. omega (arith, once_of shape t lawful seen k, ap (times k) same))
       (subst (λ u. AreThere (with_node (λ k. option_map room (leaf_at k)) n (Some r)) (leaves u)) (sym same) (rooms_over n r (leaves t) h)) (kept_touched_values at t h k)
 
+  -- the rooms for a leaf more are found
   pub rooms_insert : (at : ℕ) (r : R) (o : Option Tree) (shape : ShapeView) → IsLawful shape → shape.tree ≡ o → at ≤ count_of o → AreThere leaf_at (leaves_of_tree o) → KeepsAll join leaf_at nodes o
       → (rs : List R) × (map (λ r. Some r) rs ≡ composed_all after (with_node (λ k. option_map room (leaf_at k)) (next_number shape.leaf_numbers) (Some r)) (λ k. option_map room (nodes k)) (rows_with at (next_number shape.leaf_numbers) (next_number shape.inner_numbers) o))
   rooms_insert at r None shape lawful seen place h k = ([], refl)
@@ -367,6 +381,7 @@ module _ {V R : Type 0} (join : V → V → V) (room : V → R) (after : R → R
       (subst (AreThere base) (sym list) (there_both base (take at (leaves t)) (new ∷ drop at (leaves t)) (there_take base at (leaves t) over) (own, there_drop base at (leaves t) over)))
       (kept_by_grown HasValues values_go_down at new number t (has_values t h k))
 
+  -- the rooms for a leaf less are found
   pub rooms_remove : (at : ℕ) (o : Option Tree) (shape : ShapeView) → IsLawful shape → shape.tree ≡ o → at < count_of o → AreThere leaf_at (leaves_of_tree o) → KeepsAll join leaf_at nodes o
       → (rs : List R) × (map (λ r. Some r) rs ≡ composed_all after (λ k. option_map room (leaf_at k)) (λ k. option_map room (nodes k)) (rows_without at o))
   rooms_remove at None shape lawful seen place h k = ([], refl)

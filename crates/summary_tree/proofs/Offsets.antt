@@ -1,9 +1,9 @@
 -- Walking down to the leaf that has an offset.
-use Rattle.std.proofs.Common.{◌≡◌, ℕ, zero, suc, ◌+◌, ◌*◌, ◌-◌, ◌<◌, ◌≤◌, List, [], ◌∷◌, ◌++◌, length, Option, Some, None, true, false, refl, sym, ◌∙◌, ap, subst, arith, inl, inr, ◌⊎◌}
+use Rattle.std.proofs.Common.{◌≡◌, ℕ, ◌+◌, ◌*◌, ◌-◌, ◌<◌, ◌≤◌, List, [], ◌∷◌, ◌++◌, length, Option, Some, None, true, false, refl, sym, ◌∙◌, ap, subst, arith, inl, inr}
 use Rattle.std.specs.Prelude.{nat_lt, cond}
 use Rattle.std.specs.Option.{option_map}
 use Rattle.std.proofs.lemmas.Bool.{cases_lt}
-use Rattle.std.proofs.lemmas.Bool.Decides.{nat_tests, leb_tells}
+use Rattle.std.proofs.lemmas.Bool.Decides.{nat_tests}
 use Rattle.tree_shape.specs.declared.node.Child.{Child}
 use Rattle.tree_shape.specs.declared.node.Child.TheVariants.{Leaf, Inner}
 use Rattle.tree_shape.specs.Tree.{Tree, leaf, inner, name, leaves, height, count}
@@ -60,6 +60,7 @@ module _ {V : Type 0} (counts : V → ℕ) where
       ∙ ap (λ k. further k (found_in counts ys ((n - counts x) - total counts xs))) (omega arith)
       ∙ ap (λ k. further (length (x ∷ xs)) (found_in counts ys k)) less))
 
+  -- an offset behind all that the values count is at none of them
   pub found_past : (xs : List V) (n : ℕ) → total counts xs ≤ n → found_in counts xs n ≡ None
   found_past [] n h = refl
   found_past (x ∷ xs) n h = found_no x xs n (omega arith) ∙ ap (further 1) (found_past xs (n - counts x) (omega arith))
@@ -199,6 +200,7 @@ module _ {V : Type 0} (join : V → V → V) (fits : V → V → Type 0) (cost :
     pub counts_is : counts v ≡ total counts (leaf_values leaf_at o)
     pub start : (offset : ℕ) → offset < counts v → IsWalk join fits cost counts leaf_at node_at o (found_in counts (leaf_values leaf_at o) offset) 0 (height_of_tree o) (record { child = root; at = 0; left = offset })
 
+  -- the root's value counts what all leaves count
   pub begun : (sound : List V → Type 0) (stands : List V → V → Type 0) (most : List V → ℕ) → StandLaws sound stands join fits → ((xs : List V) → sound xs → Costs stands cost (most xs) xs)
       → (o : Option Tree) (root : Child) → Some root ≡ option_map name o → AreThere leaf_at (leaves_of_tree o) → sound (leaf_values leaf_at o) → KeepsAll join leaf_at node_at o → count_of o ≤ 65536 → Begun o root
   begun sound stands most stand_laws cost_law None root e there s keeps few = cc (e)

@@ -1,8 +1,7 @@
 -- Sums of counts: what the tests' store keeps at leaves and inner nodes, and the laws that it obeys.
-use Rattle.std.proofs.Common.{◌≡◌, ℕ, zero, suc, ◌+◌, ◌<◌, ◌≤◌, ◌^◌, ◌-◌, List, [], ◌∷◌, ◌++◌, take, drop, length, Option, None, refl, sym, ap, ◌∙◌, arith}
-use Rattle.std.specs.Prelude.{min, slice_index_or, slice_set}
+use Rattle.std.proofs.Common.{◌≡◌, ℕ, ◌+◌, ◌<◌, ◌≤◌, ◌^◌, ◌-◌, List, [], ◌∷◌, ◌++◌, length, Option, None, arith}
+use Rattle.std.specs.Prelude.{min, slice_index_or}
 use Rattle.tree_shape.specs.Composing.{StandLaws, RoomLaws, Costs}
-use Rattle.tree_shape.specs.Fewest.{inserted, removed}
 use Rattle.tree_shape.specs.Values.{leaf_values}
 use Rattle.tree_shape.specs.View.{ShapeView}
 use Rattle.summary_tree.specs.Kept.{IsKept}

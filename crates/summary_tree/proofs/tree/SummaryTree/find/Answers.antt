@@ -1,7 +1,6 @@
-use Rattle.std.proofs.Common.{◌≡◌, ℕ, ◌≤◌, Some, sym, ◌∙◌, ap, arith}
+use Rattle.std.proofs.Common.{sym, ◌∙◌, arith}
 use Rattle.tree_shape.specs.Values.{leaf_values}
-use Rattle.summary_tree.specs.Found.{found_in}
-use Rattle.summary_tree.proofs.Offsets.{begun, found_past, at_end}
+use Rattle.summary_tree.proofs.Offsets.{begun, found_past}
 use Rattle.summary_tree.proofs.tree.SummaryTree.find.Goals as goal
 
 pub count_of-requires : goal.count_of-requires

@@ -1,4 +1,3 @@
-use Rattle.std.proofs.Common.{ℕ}
 use Rattle.tree_shape.specs.View.{height_of_tree}
 use Rattle.tree_shape.specs.Values.{leaf_values}
 use Rattle.summary_tree.specs.Found.{found_in}

@@ -1,5 +1,5 @@
-use Rattle.std.proofs.Common.{◌≡◌, ◌≤◌, List, [], length, refl, arith}
-use Rattle.summary_tree.proofs.Changes.{rooms_replace, rooms_insert, rooms_remove}
+use Rattle.std.proofs.Common.{refl}
+use Rattle.summary_tree.proofs.Changes.{rooms_insert}
 use Rattle.summary_tree.proofs.tree.SummaryTree.need_insert.Goals as goal
 
 pub need_of-requires : goal.need_of-requires
