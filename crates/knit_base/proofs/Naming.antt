@@ -1,5 +1,5 @@
 -- The names of carriers, as the code keeps them.
-use Rattle.std.proofs.Common.{◌≡◌, ◌≢◌, ℕ, ◌+◌, ◌<◌, ◌≤◌, List, get_or, [], ◌∷◌, ◌++◌, length, map, Option, None, Some, position, All, Bool, true, false, ap, sym, subst, ◌∙◌, refl, arith, length-append}
+use Rattle.std.proofs.Common.{◌≡◌, ◌≢◌, ℕ, ◌<◌, ◌≤◌, List, get_or, [], ◌∷◌, ◌++◌, length, map, Option, None, Some, position, true, false, ap, sym, ◌∙◌, refl, arith, length-append}
 use Rattle.std.specs.Option.{option_map}
 use Rattle.std.specs.List.{list_any, AllZip}
 use Rattle.std.specs.Str.{bytes_eq}
@@ -7,13 +7,11 @@ use Rattle.std.specs.String.{string_bytes, string_eq}
 use Rattle.std.specs.Bool.{if◌then◌else◌}
 use Rattle.std.proofs.lemmas.List.{map-append}
 use Rattle.std.proofs.lemmas.List.Elements.{All-push}
-use Rattle.std.proofs.lemmas.List.Sums.{sum_by-append}
 use Rattle.std.proofs.lemmas.List.Folds.{list_any_at}
 use Rattle.std.proofs.lemmas.List.Quantifiers.{all_pairs_push}
 use Rattle.std.proofs.lemmas.Slice.Eq.{bytes_eq-Decides}
 use Rattle.std.proofs.lemmas.Bool.{true≢false}
 use Rattle.std.proofs.Common.{Global, String}
-use Rattle.knit_base.specs.declared.yarns.CarrierNo.{CarrierNo}
 use Rattle.knit_base.specs.Names.{carrier_of, IsName, AreNames, names_len}
 use Rattle.knit_base.proofs.Places.{position-map, list_any-none}
 

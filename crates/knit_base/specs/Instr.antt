@@ -1,7 +1,7 @@
 -- What an instruction names: its carriers, its needles, the loops that it forms and moves.
 use Rattle.std.specs.Prelude.{ℕ, List, [], ◌∷◌, Option, None, Some}
 use Rattle.knit_base.specs.declared.instr.Instr.{Instr}
-use Rattle.knit_base.specs.declared.instr.Instr.TheVariants.{CarryIn, CarryOut, HookIn, HookOut, ReleaseHook, Stitch, Pause, Extension, Rack, Knit, Tuck, Miss, Split, Xfer, Drop, Amiss}
+use Rattle.knit_base.specs.declared.instr.Instr.TheVariants.{CarryIn, CarryOut, HookIn, HookOut, ReleaseHook, Rack, Knit, Tuck, Miss, Split, Xfer, Drop, Amiss}
 use Rattle.knit_base.specs.declared.instr.Quarter.{Quarter}
 use Rattle.knit_base.specs.declared.needle.Needle.{Needle}
 use Rattle.knit_base.specs.declared.yarns.CarrierNo.{CarrierNo}

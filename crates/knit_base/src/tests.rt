@@ -15,6 +15,10 @@ fn lists_keep_their_order(rt: HostRuntime) -> Result<(), Fail> {
     assert_eq!(rt; list.len(), 3);
     assert_eq!(rt; list.get(1).copied(), Some(5));
     assert_eq!(rt; list.get(3), None);
+    assert_eq!(rt; list.pop(), Some(6));
+    list.set_only(7)?;
+    assert_eq!(rt; list.len(), 1);
+    assert_eq!(rt; list.get(0).copied(), Some(7));
     Ok(())
 }
 

@@ -1,6 +1,6 @@
-use Rattle.std.proofs.Common.{◌≡◌, ℕ, List, ◌++◌, ◌∷◌, [], sym, subst, ◌∙◌}
+use Rattle.std.proofs.Common.{sym, subst}
 use Rattle.knit_base.specs.Names.{AreNames}
-use Rattle.knit_base.proofs.Naming.{texts, names-push, texts-insert}
+use Rattle.knit_base.proofs.Naming.{names-push, texts-insert}
 use Rattle.knit_base.proofs.declared.Declared.append.Goals as goal
 
 pub invariant_of-self-2 : goal.invariant_of-self-2
