@@ -4,13 +4,13 @@ use Rattle.std.specs.Option.{option_to_list}
 use Rattle.std.proofs.lemmas.List.{drop_more, take_more, length-take-le, drop_all}
 use Rattle.std.proofs.lemmas.List.Sums.{count_by_more_yes, count_by_more_no, fold_push}
 use Rattle.std.proofs.lemmas.Int.{ints}
-use Rattle.knit_base.specs.declared.instr.Instr.{Instr}
-use Rattle.knit_base.specs.declared.instr.Instr.TheVariants.{CarryIn, CarryOut, HookIn, HookOut, ReleaseHook, Stitch, Pause, Extension, Rack, Knit, Tuck, Miss, Split, Xfer, Drop, Amiss}
+use Rattle.knit_base.specs.declared.instr.Quarter.{Quarter}
 use Rattle.knit_base.specs.declared.instr.Read.{Read}
 use Rattle.knit_base.specs.declared.instr.Read.TheVariants as read
 use Rattle.knit_base.proofs.Places.{by_test}
+use Rattle.knit_base.specs.Instr.{rack_of}
 use Rattle.pass_grouping.specs.declared.operation.PassOp.{PassOp}
-use Rattle.pass_grouping.specs.Operations.{operations_after, operation_of, ends_stretch, rack_behind, rack_set, rack_after, IsRackWithin, IsSetWithin, IsWithinGreatestRack}
+use Rattle.pass_grouping.specs.Operations.{operations_after, operation_of, ends_stretch, rack_or, rack_behind, rack_after, IsRackWithin, IsSetWithin, IsWithinGreatestRack}
 
 -- the operations of the first i lines, the stretch that they end in, and the rack behind them
 pub record Listed (reads : List Read) (first i : ℕ) (ops : List PassOp) (ended : ℕ) (turned : ℤ) : Type 0 where
@@ -50,29 +50,15 @@ count_more p reads i r within is =
     let same : count_by p (take (i + 1) reads) ≡ count_by p (take i reads) = count_by_more_no p reads i r within (sym (ap p is) ∙ no) in
     omega (arith, same, none))
 
-set-within : (rack : ℤ) (i : Instr) → IsWithinGreatestRack rack → IsSetWithin i → IsWithinGreatestRack (rack_set rack i)
-set-within rack (CarryIn cs) within set = within
-set-within rack (CarryOut cs) within set = within
-set-within rack (HookIn cs) within set = within
-set-within rack (HookOut cs) within set = within
-set-within rack (ReleaseHook cs) within set = within
-set-within rack Stitch within set = within
-set-within rack Pause within set = within
-set-within rack Extension within set = within
-set-within rack (Rack q) within set = set
-set-within rack (Knit dir n cs) within set = within
-set-within rack (Tuck dir n cs) within set = within
-set-within rack (Miss dir n cs) within set = within
-set-within rack (Split dir n n2 cs) within set = within
-set-within rack (Xfer n n2) within set = within
-set-within rack (Drop n) within set = within
-set-within rack (Amiss n) within set = within
+set-within : (rack : ℤ) (set : Option Quarter) → IsWithinGreatestRack rack → IsSetWithin set → IsWithinGreatestRack (rack_or rack set)
+set-within rack None within set = within
+set-within rack (Some q) within set = set
 
 behind-within : (rack : ℤ) (r : Read) → IsWithinGreatestRack rack → IsRackWithin r → IsWithinGreatestRack (rack_behind rack r)
 behind-within rack read.Blank within set = within
 behind-within rack read.Comment within set = within
 behind-within rack (read.Broken reason) within set = within
-behind-within rack (read.Instr i) within set = set-within rack i within set
+behind-within rack (read.Instr i) within set = set-within rack (rack_of i) within set
 
 -- at most one operation of a line
 one_at_most : (op : Option PassOp) → length (option_to_list op) ≤ 1
