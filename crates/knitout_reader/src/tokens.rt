@@ -1,16 +1,15 @@
 //! The tokens of a line, pulled one by one.
 ghost use Rattle.std.specs.Prelude.{◌≡◌, ◌+◌, ◌<◌, ◌≤◌, ◌*◌, [], ◌∷◌, length, ◌-◌, position, take, drop, slice_index, true, false, All, MatchOption, IfSome};
+ghost use Rattle.std.specs.List.{list_all};
 ghost use Rattle.knitout_reader.specs.Tokens.{tokens_of, before_comment, is_blank, is_semicolon, IsToken};
+
+use memchr::memchr;
 
 /// Where the comment of a line begins: at its first `;`, even inside what would else be a token.
 pub fn comment_at(line: &[u8]) -> Option<usize>
     ensures { result ≡ position is_semicolon line.now }
 {
-    // Most lines have none, which is seen at once.
-    if !line.contains(&b';') {
-        return None;
-    }
-    line.iter().position(|byte| *byte == b';')
+    memchr(b';', line)
 }
 
 /// What stands before the comment.
@@ -47,6 +46,13 @@ fn is_blank(byte: u8) -> bool
     ensures { result ≡ is_blank byte }
 {
     byte == b' ' || byte == b'\t'
+}
+
+/// Whether each byte is a space or a tab.
+pub fn is_blank_text(text: &[u8]) -> bool
+    ensures { result ≡ list_all is_blank text.now }
+{
+    text.iter().all(|byte| is_blank(*byte))
 }
 
 // The blanks in front.

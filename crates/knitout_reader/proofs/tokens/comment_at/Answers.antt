@@ -1,6 +1,5 @@
-use Rattle.std.proofs.Common.{sym, ◌∙◌}
-use Rattle.knitout_reader.proofs.Splitting.{no_semicolon}
+use Rattle.knitout_reader.proofs.TokenRuns.{first_semicolon}
 use Rattle.knitout_reader.proofs.tokens.comment_at.Goals as goal
 
-pub returns-then-not-contains : goal.returns-then-not-contains
-returns-then-not-contains c = no_semicolon c.args.line.now (sym c.contains.ensures.value ∙ c.if-not-contains.true)
+pub returns : goal.returns
+returns c = first_semicolon c.args.line.now c.memchr.result c.memchr.ensures
