@@ -1,10 +1,10 @@
 -- No balanced tree is higher than the height found for its leaves.
-use Rattle.std.proofs.Common.{◌≡◌, ℕ, zero, suc, ◌+◌, ◌<◌, ◌≤◌, Bool, true, false, nat_le, cond, refl, sym, ◌∙◌, ap, arith, ◌⊎◌, inl, inr}
+use Rattle.std.proofs.Common.{◌≡◌, ℕ, zero, suc, ◌+◌, ◌≤◌, Bool, true, false, nat_le, cond, refl, ap, arith, ◌⊎◌, inl, inr}
 use Rattle.std.proofs.lemmas.Bool.Decides.{leb_tells}
-use Rattle.tree_shape.specs.Tree.{Tree, height, count, IsBalanced}
+use Rattle.tree_shape.specs.Tree.{height}
 use Rattle.tree_shape.specs.Changes.{BoundsHeight}
 use Rattle.tree_shape.specs.Fewest.{fewest, highest_within, highest}
-use Rattle.tree_shape.proofs.Heights.{low, fewest_rises}
+use Rattle.tree_shape.proofs.Heights.{low}
 
 either : (b : Bool) (x y : ℕ) → ((b ≡ true) × (cond b x y ≡ x)) ⊎ ((b ≡ false) × (cond b x y ≡ y))
 either true x y = inl (refl, refl)

@@ -1,10 +1,10 @@
 -- What stays where one leaf's value changes, and where a leaf comes or goes.
-use Rattle.std.proofs.Common.{◌≡◌, ◌≢◌, ℕ, zero, suc, ◌+◌, ◌-◌, ◌<◌, ◌≤◌, nat_lt, List, [], ◌∷◌, ◌++◌, length, Option, Some, None, refl, sym, ◌∙◌, ap, subst, arith}
+use Rattle.std.proofs.Common.{◌≡◌, ◌≢◌, ℕ, ◌-◌, ◌<◌, ◌≤◌, nat_lt, List, ◌++◌, length, Option, sym, ◌∙◌, ap, arith}
 use Rattle.std.specs.Prelude.{slice_index}
 use Rattle.std.proofs.lemmas.Grind.{common_steps}
 use Rattle.std.proofs.lemmas.Bool.{ltb-true, ltb-false}
 use Rattle.tree_shape.specs.Tree.{Tree, leaf, inner, count, leaves}
-use Rattle.tree_shape.specs.Plan.{Plan, kept, made, grown, erase}
+use Rattle.tree_shape.specs.Plan.{grown}
 use Rattle.tree_shape.specs.Removal.{touched, shrunk}
 use Rattle.tree_shape.specs.Apply.{KeptBy}
 use Rattle.tree_shape.specs.Numbers.{times_in}

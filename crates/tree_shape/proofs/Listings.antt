@@ -14,7 +14,7 @@ use Rattle.std.proofs.lemmas.Bool.{ltb-true, ltb-false}
 use Rattle.tree_shape.specs.Plan.{Plan, kept, made, inner_on, erase, dirty_row, rows, grown}
 use Rattle.tree_shape.specs.Removal.{shrunk, touched}
 use Rattle.tree_shape.specs.Apply.{mark, times, times_made, KeptBy}
-use Rattle.tree_shape.specs.Changes.{HasInner, IsPart, times_listed, HasChildren, LeavesOthers, IsNotListed, IsOrdered, IsPartAt, IsOver, BoundsHeight, IsListing}
+use Rattle.tree_shape.specs.Changes.{HasInner, IsPart, times_listed, HasChildren, IsNotListed, IsOrdered, IsPartAt, IsOver, BoundsHeight, IsListing}
 use Rattle.tree_shape.proofs.Insertions.{GoesDown, kept_by_grown, well_grown, same_height, one_higher}
 use Rattle.tree_shape.proofs.Removals.{kept_by_shrunk, listed_shrunk}
 use Rattle.tree_shape.proofs.NodesAbove.{erase_touched, rows_most as touched_most}

@@ -1,8 +1,5 @@
 -- The values after a change are those of the tree after the change.
-use Rattle.std.proofs.Common.{◌≡◌, ◌≢◌, ℕ, zero, suc, ◌+◌, ◌*◌, ◌<◌, ◌≤◌, List, [], ◌∷◌, ◌++◌, map, length, drop, Option, Some, None, refl, sym, ◌∙◌, ap, subst, arith, append_assoc, ◌⊎◌, inl, inr}
-use Rattle.std.specs.Option.{option_map}
-use Rattle.tree_shape.specs.declared.node.Child.{Child}
-use Rattle.tree_shape.specs.declared.node.Child.TheVariants.{Leaf, Inner}
+use Rattle.std.proofs.Common.{◌≡◌, ◌≢◌, ℕ, ◌≤◌, List, [], ◌∷◌, ◌++◌, map, Option, Some, refl, sym, ◌∙◌, ap, subst, arith, inl, inr}
 use Rattle.tree_shape.specs.declared.node.Side.{Side}
 use Rattle.tree_shape.specs.declared.node.Side.TheVariants.{Left, Right}
 use Rattle.tree_shape.specs.declared.dirty.DirtyRow.{DirtyRow}
@@ -10,10 +7,9 @@ use Rattle.tree_shape.specs.Tree.{Tree, leaf, inner, name, leaves}
 use Rattle.tree_shape.specs.Plan.{Plan, kept, made, inner_on, erase, dirty_row, rows}
 use Rattle.tree_shape.specs.Apply.{mark, times, times_made, KeptBy}
 use Rattle.tree_shape.specs.Numbers.{times_in}
-use Rattle.tree_shape.proofs.ArenaChanges.{one, one_same, node_of_row, made_within, times_inner_on}
+use Rattle.tree_shape.proofs.ArenaChanges.{one_same, node_of_row, made_within, times_inner_on}
 use Rattle.tree_shape.proofs.NumberCounts.{times_in-append}
-use Rattle.tree_shape.specs.Values.{IsThere, joined, part, with_node, gathered, joined_on, value, Keeps, composed, refreshed, composed_all}
-use Rattle.tree_shape.specs.Composing.{FitsStep, FitSteps, StandLaws, RoomLaws}
+use Rattle.tree_shape.specs.Values.{joined, part, with_node, value, Keeps, composed, refreshed, composed_all}
 use Rattle.tree_shape.proofs.RowWalks.{set_node}
 
 -- Two lists of options, split.

@@ -1,5 +1,5 @@
 -- The walk over a plan's rows finds each part, and the rooms found along the rows are enough.
-use Rattle.std.proofs.Common.{◌≡◌, ◌≢◌, ℕ, zero, suc, ◌+◌, ◌*◌, ◌<◌, ◌≤◌, List, [], ◌∷◌, ◌++◌, map, length, take, drop, Option, Some, None, refl, sym, ◌∙◌, ap, subst, arith, append_assoc, append-nil, length-append, add-one, inl, inr}
+use Rattle.std.proofs.Common.{◌≡◌, ◌≢◌, ℕ, zero, suc, ◌+◌, ◌*◌, ◌<◌, ◌≤◌, List, [], ◌∷◌, ◌++◌, map, length, take, drop, Option, Some, None, refl, sym, ◌∙◌, ap, subst, arith, append_assoc, append-nil, length-append, inl, inr}
 use Rattle.std.specs.Prelude.{slice_index, slice_set}
 use Rattle.std.specs.Option.{option_map}
 use Rattle.tree_shape.specs.declared.node.Side.{Side}
@@ -7,14 +7,14 @@ use Rattle.tree_shape.specs.declared.node.Side.TheVariants.{Left, Right}
 use Rattle.tree_shape.specs.declared.dirty.DirtyRow.{DirtyRow}
 use Rattle.tree_shape.specs.Tree.{Tree, leaf, inner, name, leaves}
 use Rattle.tree_shape.specs.Plan.{Plan, kept, made, inner_on, erase, dirty_row, rows}
-use Rattle.tree_shape.specs.Apply.{mark, times, times_made, KeptBy}
+use Rattle.tree_shape.specs.Apply.{mark, times, KeptBy}
 use Rattle.tree_shape.specs.Numbers.{times_in}
 use Rattle.tree_shape.specs.Fewest.{inserted, removed}
-use Rattle.tree_shape.proofs.ArenaChanges.{one, one_same, node_of_row, made_within, times_inner_on}
+use Rattle.tree_shape.proofs.ArenaChanges.{one_same, made_within, times_inner_on}
 use Rattle.tree_shape.specs.Values.{IsThere, AreThere, joined, part, with_node, gathered, joined_on, value, Keeps, composed, refreshed, composed_all}
 use Rattle.tree_shape.specs.Composing.{FitsStep, FitSteps, StandLaws, RoomLaws, Costs, Fit, IsBounded, price, spent}
 use Rattle.tree_shape.proofs.RowWalks.{set_node}
-use Rattle.tree_shape.proofs.NodeValues.{split_some, frame_keeps, refreshed-append, composed_all-append, refreshed_away, value_of_child, IsRefreshable, near_refreshable, far_refreshable, keeps_refreshed, BothKept, both_kept}
+use Rattle.tree_shape.proofs.NodeValues.{split_some, refreshed-append, composed_all-append, refreshed_away, value_of_child, IsRefreshable, near_refreshable, far_refreshable, both_kept}
 
 -- The values of leaves in order.
 

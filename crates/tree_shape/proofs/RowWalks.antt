@@ -1,5 +1,5 @@
 -- A walk over the rows of a change, row by row.
-use Rattle.std.proofs.Common.{◌≡◌, ◌≢◌, ℕ, zero, suc, ◌+◌, ◌<◌, ◌≤◌, Bool, true, false, cond, eqb, List, [], ◌∷◌, ◌++◌, length, drop, Option, Some, None, refl, sym, ◌∙◌, ap, subst, arith, add-one, ◌⊎◌, inl, inr}
+use Rattle.std.proofs.Common.{◌≡◌, ◌≢◌, ℕ, zero, suc, ◌+◌, Bool, cond, List, [], ◌∷◌, drop, Option, Some, refl, sym, ◌∙◌, ap, subst, add-one, ◌⊎◌, inl, inr}
 use Rattle.std.specs.List.{All, slice_get}
 use Rattle.std.proofs.lemmas.List.Elements.{All-head, All-tail}
 use Rattle.std.proofs.lemmas.Bool.Decides.{eqb_tells}
@@ -7,8 +7,8 @@ use Rattle.tree_shape.specs.declared.node.Child.{Child}
 use Rattle.tree_shape.specs.declared.node.Child.TheVariants.{Leaf, Inner}
 use Rattle.tree_shape.specs.declared.dirty.DirtyRow.{DirtyRow}
 use Rattle.tree_shape.proofs.Rows.{next_row}
-use Rattle.tree_shape.specs.Values.{joined, part, with_node, composed, refreshed}
-use Rattle.tree_shape.specs.Composing.{FitsStep, FitSteps, spent, price, IsUnderway}
+use Rattle.tree_shape.specs.Values.{part, with_node, composed, refreshed}
+use Rattle.tree_shape.specs.Composing.{FitSteps, spent, IsUnderway}
 
 -- two ways to keep the same values have the same parts
 pub same_part : {V : Type 0} (leaves other_leaves nodes other_nodes : ℕ → Option V) (child : Child) → ((k : ℕ) → leaves k ≡ other_leaves k) → ((k : ℕ) → nodes k ≡ other_nodes k) → part leaves nodes child ≡ part other_leaves other_nodes child

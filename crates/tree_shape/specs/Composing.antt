@@ -1,7 +1,5 @@
 -- What a walk over the rows of a change needs: both parts are there and fit, the room for what is composed, and a bound on the steps.
-use Rattle.std.specs.Prelude.{◌≡◌, ℕ, ◌+◌, ◌*◌, ◌≤◌, eqb, cond, List, [], ◌∷◌, ◌++◌, map, length, drop, Option, Some, None}
-use Rattle.std.specs.Option.{option_map}
-use Rattle.tree_shape.specs.declared.node.Child.{Child}
+use Rattle.std.specs.Prelude.{◌≡◌, ℕ, ◌+◌, ◌≤◌, eqb, cond, List, [], ◌∷◌, ◌++◌, map, length, drop, Option, Some, None}
 use Rattle.tree_shape.specs.declared.dirty.DirtyRow.{DirtyRow}
 use Rattle.tree_shape.specs.Values.{IsThere, part, with_node, composed, composed_all, refreshed, value}
 use Rattle.tree_shape.specs.Tree.{Tree, leaf, inner, name}

@@ -1,9 +1,9 @@
 -- A value for each leaf and each inner node of a tree: what a change has to compose anew.
-use Rattle.std.specs.Prelude.{◌≡◌, ℕ, ◌+◌, ◌≤◌, eqb, cond, List, [], ◌∷◌, ◌++◌, Option, Some, None}
+use Rattle.std.specs.Prelude.{◌≡◌, ℕ, eqb, cond, List, [], ◌∷◌, Option, Some, None}
 use Rattle.tree_shape.specs.declared.node.Child.{Child}
 use Rattle.tree_shape.specs.declared.node.Child.TheVariants.{Leaf, Inner}
 use Rattle.tree_shape.specs.declared.dirty.DirtyRow.{DirtyRow}
-use Rattle.tree_shape.specs.Tree.{Tree, leaf, inner, name, leaves}
+use Rattle.tree_shape.specs.Tree.{Tree, leaf, inner, leaves}
 
 -- there is one
 abbrev pub IsThere : {V : Type 0} → Option V → Type 0

@@ -1,4 +1,4 @@
-use Rattle.std.proofs.Common.{◌≡◌, sym, ◌∙◌, ap, subst, arith, Some}
+use Rattle.std.proofs.Common.{sym, ap, subst, arith}
 use Rattle.tree_shape.specs.View.{ShapeView}
 use Rattle.tree_shape.specs.Tree.{Stands}
 use Rattle.tree_shape.proofs.Shapes.{tree_below}

@@ -1,4 +1,4 @@
-use Rattle.std.proofs.Common.{◌≡◌, ◌<◌, sym, ◌∙◌, ap, subst, Some}
+use Rattle.std.proofs.Common.{◌<◌, sym, ap, subst}
 use Rattle.tree_shape.specs.View.{ShapeView, count_of}
 use Rattle.tree_shape.specs.Tree.{Stands}
 use Rattle.tree_shape.proofs.Shapes.{tree_below}

@@ -1,6 +1,6 @@
-use Rattle.std.proofs.Common.{◌≡◌, sym, subst}
+use Rattle.std.proofs.Common.{sym, subst}
 use Rattle.tree_shape.specs.View.{ShapeView}
-use Rattle.tree_shape.specs.Tree.{Tree, Stands}
+use Rattle.tree_shape.specs.Tree.{Stands}
 use Rattle.tree_shape.specs.Changes.{IsPartOf}
 use Rattle.tree_shape.proofs.Shapes.{part_stands}
 use Rattle.tree_shape.proofs.shape.Shape.leaves_below.Goals as goal

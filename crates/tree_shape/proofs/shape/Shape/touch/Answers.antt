@@ -1,4 +1,4 @@
-use Rattle.std.proofs.Common.{◌≡◌, ◌<◌, ◌++◌, length, sym, ◌∙◌, ap, subst, arith, Some}
+use Rattle.std.proofs.Common.{◌<◌, ◌++◌, length, sym, ◌∙◌, ap, subst, arith}
 use Rattle.tree_shape.specs.Tree.{Stands}
 use Rattle.tree_shape.specs.Plan.{rows}
 use Rattle.tree_shape.specs.Removal.{touched}
