@@ -24,8 +24,8 @@ use Rattle.carriage_model.specs.Steps.{step, step_instr}
 use Rattle.carriage_model.specs.Run.{run, run_on, Ended, Ends, Stops}
 use Rattle.carriage_model.specs.Loops.{loops_made}
 use Rattle.carriage_model.specs.Verdict.{IsVerdict, loops_on, held_on, HoldsFew}
-use Rattle.carriage_model.proofs.Needs.{few, size_unbroken}
-use Rattle.carriage_model.proofs.Places.{same_needle-refl}
+use Rattle.carriage_model.proofs.LawfulLines.{few, size_unbroken}
+use Rattle.knit_base.proofs.Needles.{same_needle-refl}
 
 -- no needle holds more than 64 loops
 abbrev HoldFew : (Needle → List ℕ) → Type 0
