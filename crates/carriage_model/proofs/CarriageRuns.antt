@@ -1,5 +1,5 @@
 -- One line more of a run.
-use Rattle.std.proofs.Common.{◌≡◌, ℕ, ◌+◌, ◌≤◌, List, [], ◌∷◌, ◌++◌, length, Bool, true, false, Option, None, Some, IfSome, is_some, unwrap_or, Result, Ok, Err, OnErr, refl, ap, sym, subst, ◌∙◌, ◌<◌, arith, append_assoc, append-nil, length-append}
+use Rattle.std.proofs.Common.{◌≡◌, ℕ, ◌+◌, ◌≤◌, List, [], ◌∷◌, ◌++◌, length, Bool, true, false, Option, None, Some, IfSome, is_some, Result, Ok, Err, OnErr, refl, ap, sym, subst, ◌∙◌, ◌<◌, arith, append_assoc, append-nil, length-append}
 use Rattle.std.proofs.lemmas.Bool.{true≢false}
 use Rattle.std.proofs.lemmas.Option.{none-some}
 use Rattle.std.specs.Option.{option_to_list}
@@ -8,11 +8,10 @@ use Rattle.knit_base.specs.declared.instr.Read.{Read}
 use Rattle.knit_base.specs.declared.rule.Reason.{Reason}
 use Rattle.carriage_model.specs.declared.carriage.Carriage.{Carriage}
 use Rattle.carriage_model.specs.declared.verdict.LoopFact.{LoopFact}
-use Rattle.carriage_model.specs.Carriage.{HasRun, StandsAfter, TellsRun, WentOver, StandsStill, loops_with, next_line, profile_of}
+use Rattle.carriage_model.specs.Carriage.{HasRun, StandsAfter, TellsRun, WentOver, StandsStill, loops_with, next_line}
 use Rattle.carriage_model.specs.Verdict.{IsFinal, IsVerdict}
 use Rattle.carriage_model.specs.declared.verdict.Final.{Final}
-use Rattle.carriage_model.specs.declared.verdict.Verdict.TheVariants.{Broken, Sound}
-use Rattle.knit_base.specs.declared.rule.Fault.{Fault}
+use Rattle.carriage_model.specs.declared.verdict.Verdict.TheVariants.{Sound}
 use Rattle.carriage_model.specs.Machine.{HasNeedlesOf, Represents}
 use Rattle.carriage_model.proofs.LoopCounts.{holds-few}
 use Rattle.carriage_model.proofs.LawfulLines.{needles-kept}

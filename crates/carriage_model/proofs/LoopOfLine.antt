@@ -1,7 +1,7 @@
 -- The loop of one line among those that a run makes.
-use Rattle.std.proofs.Common.{◌≡◌, ◌≢◌, ℕ, ◌+◌, ◌<◌, List, [], ◌∷◌, ◌++◌, drop, length, get_or, Option, None, Some, IfSome, is_some, cond, subst, ◌≤◌, true, false, ap, sym, ◌∙◌, refl, arith}
+use Rattle.std.proofs.Common.{◌≡◌, ◌≢◌, ℕ, ◌+◌, ◌<◌, List, [], ◌∷◌, ◌++◌, drop, length, get_or, Option, None, Some, IfSome, is_some, cond, subst, ◌≤◌, true, ap, sym, ◌∙◌, refl, arith}
 use Rattle.std.specs.Option.{option_to_list}
-use Rattle.std.proofs.lemmas.Bool.{eq-eqb, ne_eqb, true≢false}
+use Rattle.std.proofs.lemmas.Bool.{eq-eqb, ne_eqb}
 use Rattle.knit_base.specs.declared.instr.Instr.TheVariants.{Knit, Tuck, Split}
 use Rattle.knit_base.specs.declared.profile.Profile.{Profile}
 use Rattle.knit_base.specs.declared.instr.Read.{Read}
