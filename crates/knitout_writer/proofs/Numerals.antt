@@ -1,7 +1,7 @@
 -- What numbers are written as spells them.
-use Rattle.std.proofs.Common.{◌≡◌, inl, inr, ℕ, suc, ◌+◌, ◌-◌, ◌*◌, ◌/◌, ◌%◌, ◌^◌, ◌<◌, ◌≤◌, ℤ, pos, negsuc, ◌≤ℤ◌, true, ◌||◌, nat_eq, ◌-ℤ◌, List, [], ◌∷◌, ◌++◌, length, All, ap, sym, ◌∙◌, refl, arith, length-append, append_assoc}
+use Rattle.std.proofs.Common.{◌≡◌, inl, inr, ℕ, suc, ◌+◌, ◌-◌, ◌*◌, ◌/◌, ◌%◌, ◌^◌, ◌<◌, ◌≤◌, ℤ, pos, negsuc, ◌≤ℤ◌, true, ◌||◌, nat_eq, ◌-ℤ◌, List, [], ◌∷◌, ◌++◌, length, All, ap, sym, ◌∙◌, refl, arith, length-append}
 use Rattle.std.specs.Fmt.{decimal, signed_decimal}
-use Rattle.std.proofs.lemmas.Fmt.{decimal_by_steps, decimal_digit, decimal_step}
+use Rattle.std.proofs.lemmas.Fmt.{decimal_by_steps}
 use Rattle.std.proofs.lemmas.Int.{ints}
 use Rattle.std.proofs.lemmas.List.Sums.{fold-append}
 use Rattle.std.proofs.lemmas.List.Elements.{All-nil, All-cons, All-push}
@@ -9,7 +9,7 @@ use Rattle.knit_base.specs.declared.needle.Bed.{Bed}
 use Rattle.knit_base.specs.Spelling.{needle_text}
 use Rattle.knit_base.proofs.Places.{by_test}
 use Rattle.knitout_reader.specs.Tokens.{is_blank, is_semicolon}
-use Rattle.knitout_writer.proofs.Spacing.{IsWordByte}
+use Rattle.knitout_writer.proofs.SpacedTokens.{IsWordByte}
 use Rattle.std.proofs.lemmas.Bool.{eqb-true}
 use Rattle.knitout_reader.specs.Numbers.{IsDigit, IsSigned, IsNeedle, number_of}
 
@@ -29,6 +29,7 @@ more_digits n digits large front = record {
   value = fold-append (λ v d. 10 * v + (d - 48)) 0 digits ((48 + n % 10) ∷ []) ∙ omega (arith, front.value);
 }
 
+-- a number in decimal spells it
 pub decimal_spells : (n : ℕ) → n < 2 ^ 64 → Spell n (decimal n)
 decimal_spells n small = decimal_by_steps Spell one_digit more_digits n small
 
@@ -46,6 +47,7 @@ signed_spells (negsuc n) small =
     let value : negsuc n ≡ pos 0 -ℤ pos (suc n) = omega (arith, ints) in
     (decimal (suc n), (spell.some, spell.each), inr (inr (refl, value ∙ ap (λ m. pos 0 -ℤ pos m) (sym spell.value))))
 
+-- the spelling of a needle is read as that needle
 pub needle_spells : (bed : Bed) (z : ℤ) → IsSmall z → IsNeedle (needle_text (record { bed = bed; at = z })) bed z
 needle_spells bed z small = (signed_decimal z, refl, signed_spells z small)
 
@@ -55,20 +57,9 @@ no_blank byte digit is =
     (λ space. omega (arith, eqb-true byte 32 space, digit))
     (λ other. omega (arith, eqb-true byte 9 (sym (ap (λ b. b || nat_eq byte 9) other) ∙ is), digit))
 
+-- a digit can stand in a word
 pub digit_byte : (byte : ℕ) → IsDigit byte → IsWordByte byte
 digit_byte byte digit = (
   by_test (is_blank byte) (λ is. absurd (no_blank byte digit is)) (λ isnt. isnt),
   by_test (is_semicolon byte) (λ is. absurd (omega (arith, eqb-true byte 59 is))) (λ isnt. isnt),
 )
-
--- a number of one digit, written
-pub digit-written : (before after : List ℕ) (n : ℕ) → n < 10 → after ≡ before ++ (48 + n) ∷ [] → after ≡ before ++ decimal n
-digit-written before after n small is = is ∙ ap (λ d. before ++ d) (sym (decimal_digit n small))
-
--- its last digit, written behind the others
-pub digits-written : (before others after : List ℕ) (n : ℕ) → 10 ≤ n → n < 2 ^ 64 → others ≡ before ++ decimal (n / 10) → after ≡ others ++ (48 + n % 10) ∷ []
-    → after ≡ before ++ decimal n
-digits-written before others after n large small front is =
-    is ∙ ap (λ o. o ++ (48 + n % 10) ∷ []) front
-    ∙ append_assoc before (decimal (n / 10)) ((48 + n % 10) ∷ [])
-    ∙ ap (λ d. before ++ d) (sym (decimal_step n large small))

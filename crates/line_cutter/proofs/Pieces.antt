@@ -1,7 +1,7 @@
 -- The first piece of a text, and its line.
-use Rattle.std.proofs.Common.{◌≡◌, ◌≢◌, ℕ, ◌+◌, ◌-◌, ◌<◌, ◌≤◌, Bool, true, false, List, [], ◌∷◌, ◌++◌, length, take, get_or, map, All, MatchOption, Option, None, Some, ap, sym, ◌∙◌, refl, arith, ⊎_elim}
+use Rattle.std.proofs.Common.{◌≡◌, ◌≢◌, ℕ, ◌+◌, ◌-◌, ◌<◌, ◌≤◌, false, List, [], ◌∷◌, ◌++◌, length, take, get_or, map, All, MatchOption, Option, None, Some, ap, sym, ◌∙◌, refl, arith, ⊎_elim}
 use Rattle.std.specs.List.{slice_split, position_or_len, before_first, after_first}
-use Rattle.std.proofs.lemmas.Bool.{cases_lt}
+use Rattle.std.proofs.lemmas.Bool.{cases_lt, false_from_ne_true}
 use Rattle.std.proofs.lemmas.List.{take_all, drop_all, take_more}
 use Rattle.std.proofs.lemmas.List.Sums.{fails_before_first, position_or_len_is}
 use Rattle.std.proofs.lemmas.List.Splits.{slice_split_first, slice_split_none, length-slice_split}
@@ -34,18 +34,14 @@ lines_of-next text some =
     ∙ ap (λ rest. without_return (before_first is_line_feed text) ∷ lines_of rest) (sym (drop_all (position_or_len is_line_feed text + 1) text (omega arith))))
     (cases_lt (position_or_len is_line_feed text) (length text))
 
-pub false_from : (b : Bool) → (b ≡ true → ⊥) → b ≡ false
-false_from true never = absurd (never refl)
-false_from false never = refl
-
 -- what a search for a line feed gives
 pub first_feed : (text : List ℕ) (place : Option ℕ) → IsFirstByte (is_byte 10) text place
     → MatchOption place (length text ≡ position_or_len is_line_feed text) (λ k. (k ≤ length text) × (k ≡ position_or_len is_line_feed text))
 first_feed text None none =
-    sym (position_or_len_is is_line_feed text (length text) 0 (omega arith) (λ k below. false_from _ (none k (omega arith) below)) (λ within. absurd (omega arith)))
+    sym (position_or_len_is is_line_feed text (length text) 0 (omega arith) (λ k below. false_from_ne_true _ (none k (omega arith) below)) (λ within. absurd (omega arith)))
 first_feed text (Some k) found = (
   omega (arith, found.0.high),
-  sym (position_or_len_is is_line_feed text k 0 (omega (arith, found.0.high)) (λ j below. false_from _ (found.0.before j (omega arith) below)) (λ within. found.1)),
+  sym (position_or_len_is is_line_feed text k 0 (omega (arith, found.0.high)) (λ j below. false_from_ne_true _ (found.0.before j (omega arith) below)) (λ within. found.1)),
 )
 
 returned : (front : List ℕ) → without_return (front ++ 13 ∷ []) ≡ front
@@ -64,12 +60,14 @@ front_and_last piece some =
     let count : length piece ≡ length piece - 1 + 1 = omega arith in
     sym (take_all (length piece) piece (omega arith)) ∙ ap (λ n. take n piece) count ∙ take_more piece (length piece - 1) 0 (omega arith)
 
+-- a carriage return at the end of a piece is no part of its line
 pub return_dropped : (piece : List ℕ) → 0 < length piece → get_or piece (length piece - 1) 0 ≡ 13 → take (length piece - 1) piece ≡ without_return piece
 return_dropped piece some ends =
     sym (returned (take (length piece - 1) piece))
     ∙ ap (λ byte. without_return (take (length piece - 1) piece ++ byte ∷ [])) (sym ends)
     ∙ ap without_return (sym (front_and_last piece some))
 
+-- a piece without one is its line
 pub nothing_dropped : (piece : List ℕ) → (0 < length piece → get_or piece (length piece - 1) 0 ≢ 13) → take (length piece) piece ≡ without_return piece
 nothing_dropped [] other = refl
 nothing_dropped (byte ∷ bytes) other =
