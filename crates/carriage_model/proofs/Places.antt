@@ -1,18 +1,18 @@
 -- The places of needles: each needle of the beds has one of its own, and places rise as needles do.
 use Rattle.std.proofs.Common.{◌≡◌, ◌≢◌, ℕ, ◌+◌, ◌*◌, ◌-◌, ◌<◌, ◌≤◌, nat_lt, ℤ, pos, ◌+ℤ◌, ◌-ℤ◌, ◌≤ℤ◌, ◌<ℤ◌, Bool, true, false, cond, List, [], length, get_or, refl, sym, ap, ◌∙◌, arith}
 use Rattle.std.specs.Int.RustNames.{unsigned_abs}
-use Rattle.std.specs.declared.cmp.Ordering.{Ordering}
-use Rattle.std.specs.declared.cmp.Ordering.TheVariants.{Less, Equal, Greater}
-use Rattle.std.specs.Ordering.{int_cmp, is_eq, ordering_reverse}
+use Rattle.std.specs.declared.cmp.Ordering.TheVariants.{Less}
+use Rattle.std.specs.Ordering.{int_cmp}
 use Rattle.std.proofs.lemmas.Bool.{true≢false}
 use Rattle.std.proofs.lemmas.Int.{ints}
 use Rattle.std.proofs.lemmas.List.{get_or-set_same, get_or-set_other}
 use Rattle.std.proofs.Math.ListN.{set}
+use Rattle.knit_base.proofs.Needles.{same_needle-refl}
 use Rattle.knit_base.proofs.Places.{by_test}
 use Rattle.knit_base.specs.declared.needle.Bed.{Bed}
 use Rattle.knit_base.specs.declared.needle.Bed.TheVariants.{Front, FrontSlider, Back, BackSlider}
 use Rattle.knit_base.specs.declared.needle.Needle.{Needle}
-use Rattle.knit_base.specs.Needle.{needle_cmp, same_needle, same_needle-true, needle_cmp_total}
+use Rattle.knit_base.specs.Needle.{needle_cmp, same_needle, same_needle-true}
 use Rattle.carriage_model.specs.Places.{Spans, is_spanned, first_of_bed, bed_at, place_in, needle_at, stack_in}
 
 pub distance : (low at : ℤ) → low ≤ℤ at → pos (unsigned_abs (at -ℤ low)) ≡ (at -ℤ low)
@@ -79,17 +79,6 @@ above-again low above = omega (arith, ints)
 pub place-needle_at : (low : ℤ) (width place : ℕ) → place_in low width (needle_at low width place) ≡ place
 place-needle_at low width place =
     omega (arith, first-reached width place, above-again low (place - first_of_bed width (bed_at width place)))
-
-turned-equal : (o : Ordering) → o ≡ ordering_reverse o → is_eq o ≡ true
-turned-equal Less e = cc
-turned-equal Equal e = refl
-turned-equal Greater e = cc
-
-pub same_needle-refl : (n : Needle) → same_needle n n ≡ true
-same_needle-refl n = turned-equal (needle_cmp n n) (needle_cmp_total.antisymm n n)
-
-pub same_needle-false : (a b : Needle) → a ≢ b → same_needle a b ≡ false
-same_needle-false a b apart = by_test (same_needle a b) (λ e. absurd (apart (same_needle-true a b e))) (λ e. e)
 
 -- two needles have two places
 pub places-apart : (low : ℤ) (width : ℕ) (a b : Needle) → Spans low width a.at → Spans low width b.at → a ≢ b → place_in low width a ≢ place_in low width b

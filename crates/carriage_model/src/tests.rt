@@ -1,12 +1,10 @@
-//! Each public call once with ample memory, and the lines that most programs consist of by either call.
-ghost use Rattle.std.specs.Prelude.{◌∷◌, [], ◌≡◌, false, List, IfOk};
-ghost use Rattle.knit_base.specs.declared.instr.Read.{Read};
-ghost use Rattle.carriage_model.specs.Carriage.{HasRun};
+//! Each public call once with ample memory.
+ghost use Rattle.std.specs.Prelude.{◌∷◌, [], ◌≡◌, IfOk};
 
 use crate::{Brief, Carriage, Verdict, fact_plain, run_plain};
 use knit_base::{
-    Bed, CarrierNo, Declared, Dir, Fault, Instr, Needle, NoMemory, Profile, Quarter, Read, Reads,
-    Reason, Rule, Usual, Yarns,
+    Bed, CarrierNo, Declared, Dir, Instr, Needle, NoMemory, Profile, Quarter, Read, Reads, Usual,
+    Yarns,
 };
 use std::alloc::Global;
 use std::test::Fail;
@@ -26,13 +24,6 @@ const FRONT: Needle = Needle {
 const BACK: Needle = Needle {
     bed: Bed::Back,
     at: 1,
-};
-
-const TWO_LOOPS: Brief = Brief::Sound {
-    lines: 4,
-    made: 2,
-    held: 2,
-    rack: Quarter(0),
 };
 
 fn first_carrier(alloc: Global) -> Result<Yarns, NoMemory>
@@ -78,55 +69,32 @@ fn the_loops_of_a_carriage(rt: HostRuntime) -> Result<(), Fail> {
     Ok(())
 }
 
-// A carriage behind `in` of the first carrier.
-fn with_carrier(alloc: Global) -> Result<Carriage, NoMemory>
-    ensures { IfOk result (λ carriage. (reads : List Read) × HasRun MACHINE false 3 reads carriage) }
-{
-    let mut carriage = Carriage::start(alloc, &MACHINE, 3, false)?;
-    carriage.execute(&Read::Instr(Instr::CarryIn(first_carrier(alloc)?)))?;
-    Ok(carriage)
-}
-
-// A knit, a tuck and a transfer, each made at once.
 #[test]
-fn usual_lines_at_once(rt: HostRuntime) -> Result<(), Fail> {
-    let mut carriage = with_carrier(rt.alloc())?;
-    assert!(rt; carriage.carry_usual(Usual::Knit(Dir::Right, FRONT, CarrierNo(0)))?);
-    assert!(rt; carriage.carry_usual(Usual::Tuck(Dir::Left, BACK, CarrierNo(0)))?);
+fn a_usual_transfer_at_once(rt: HostRuntime) -> Result<(), Fail> {
+    let mut carriage = Carriage::start(rt.alloc(), &MACHINE, 3, false)?;
     assert!(rt; carriage.carry_usual(Usual::Xfer(FRONT, BACK))?);
-    let (verdict, _) = carriage.finish()?;
-    assert_eq!(rt; verdict.brief(), TWO_LOOPS);
+    assert_eq!(rt; carriage.line_count(), 1);
     Ok(())
 }
 
-// The same lines as any others.
+// Its carrier isn't in action.
 #[test]
-fn usual_lines_one_by_one(rt: HostRuntime) -> Result<(), Fail> {
+fn a_refused_knit_is_left_to_the_other_call(rt: HostRuntime) -> Result<(), Fail> {
+    let mut carriage = Carriage::start(rt.alloc(), &MACHINE, 3, false)?;
+    let knit = Usual::Knit(Dir::Right, FRONT, CarrierNo(0));
+    assert!(rt; !carriage.carry_usual(knit)?);
+    assert_eq!(rt; carriage.line_count(), 0);
+    Ok(())
+}
+
+#[test]
+fn a_refused_knit_stops_the_carriage(rt: HostRuntime) -> Result<(), Fail> {
     let alloc = rt.alloc();
-    let mut carriage = with_carrier(alloc)?;
-    carriage.execute(&Read::Instr(Instr::Knit(Dir::Right, FRONT, first_carrier(alloc)?)))?;
-    carriage.execute(&Read::Instr(Instr::Tuck(Dir::Left, BACK, first_carrier(alloc)?)))?;
-    carriage.execute(&Read::Instr(Instr::Xfer(FRONT, BACK)))?;
+    let mut carriage = Carriage::start(alloc, &MACHINE, 3, false)?;
+    let knit = Instr::Knit(Dir::Right, FRONT, first_carrier(alloc)?);
+    carriage.execute(&Read::Instr(knit))?;
+    assert_eq!(rt; carriage.line_count(), 1);
     let (verdict, _) = carriage.finish()?;
-    assert_eq!(rt; verdict.brief(), TWO_LOOPS);
-    Ok(())
-}
-
-// A needle below the front one doesn't face it: that is left to the call that gives the reason.
-#[test]
-fn a_refused_line_is_left_to_the_other_call(rt: HostRuntime) -> Result<(), Fail> {
-    let mut carriage = with_carrier(rt.alloc())?;
-    let other = Needle {
-        bed: Bed::Back,
-        at: 0,
-    };
-    assert!(rt; !carriage.carry_usual(Usual::Xfer(FRONT, other))?);
-    carriage.execute(&Read::Instr(Instr::Xfer(FRONT, other)))?;
-    let (verdict, _) = carriage.finish()?;
-    let reason = Reason {
-        rule: Rule::NotAligned,
-        at: 2,
-    };
-    assert_eq!(rt; verdict.brief(), Brief::Broken(Fault { line: 4, reason }));
+    assert!(rt; matches!(verdict, Verdict::Broken(_)));
     Ok(())
 }

@@ -2,7 +2,7 @@ use Rattle.std.proofs.Common.{length, ◌∙◌, sym, ap, arith, w16, to_z, of_z
 use Rattle.std.proofs.lemmas.Int.{to_z-of_z, ints}
 use Rattle.std.proofs.lemmas.Iterator.Adapters.{YieldsList-from_vec}
 use Rattle.std.proofs.lemmas.Iterator.Consumers.{YieldsList-from_enumerate, YieldsList-turn, YieldsList-end}
-use Rattle.carriage_model.proofs.Listed.{listed, stacks_of, few, list-grows, list-stays, listed-stacks, all-stacks, numbered, enumerate-length, stacks_of-length, some_from_test, none_from_test}
+use Rattle.carriage_model.proofs.StackLists.{listed, stacks_of, few, list-grows, list-stays, listed-stacks, all-stacks, numbered, enumerate-length, stacks_of-length, some_from_test, none_from_test}
 use Rattle.carriage_model.proofs.beds.list_stacks.Goals as goal
 
 pub push-requires : goal.push-requires

@@ -1,5 +1,5 @@
 use Rattle.std.proofs.Common.{◌≡◌}
-use Rattle.carriage_model.proofs.Listed.{listed, stacks_of}
+use Rattle.carriage_model.proofs.StackLists.{listed, stacks_of}
 use Rattle.carriage_model.proofs.beds.list_stacks.Given as goal
 
 abbrev pub invariant-loop-place : goal.invariant-loop-place

@@ -5,9 +5,9 @@ use Rattle.carriage_model.specs.declared.verdict.LoopFact.{LoopFact}
 use Rattle.carriage_model.specs.State.{empty_state}
 use Rattle.carriage_model.specs.Rules.{broken}
 use Rattle.carriage_model.specs.Loops.{loops_made, fact_of}
-use Rattle.carriage_model.proofs.Carriers.{found-declared}
-use Rattle.carriage_model.proofs.Needs.{line_has-needles, line_has-places, line_has-room, lawful-item}
-use Rattle.carriage_model.proofs.Found.{Seeks, seeks-start, seeks-next, seeks-here, seeks-stop, seeks-end, none_from_test}
+use Rattle.carriage_model.proofs.DeclaredCarriers.{found-declared}
+use Rattle.carriage_model.proofs.LawfulLines.{line_has-needles, line_has-places, line_has-room, lawful-item, none_from_test}
+use Rattle.carriage_model.proofs.LoopOfLine.{Seeks, seeks-start, seeks-next, seeks-here, seeks-stop, seeks-end}
 use Rattle.carriage_model.proofs.facts.fact_plain.Goals as goal
 
 pub loop-i-init : goal.loop-i-init

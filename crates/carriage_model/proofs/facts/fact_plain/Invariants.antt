@@ -1,4 +1,4 @@
-use Rattle.carriage_model.proofs.Found.{Seeks}
+use Rattle.carriage_model.proofs.LoopOfLine.{Seeks}
 use Rattle.carriage_model.proofs.facts.fact_plain.Given as goal
 
 abbrev pub invariant-loop-i : goal.invariant-loop-i

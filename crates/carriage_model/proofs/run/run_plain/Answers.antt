@@ -3,8 +3,8 @@ use Rattle.std.proofs.lemmas.List.{take_more, take_all}
 use Rattle.knit_base.specs.Lawful.{IsLawfulRead}
 use Rattle.knit_base.specs.declared.instr.Read.{Read}
 use Rattle.carriage_model.specs.Carriage.{HasRun, TellsRun}
-use Rattle.carriage_model.proofs.Carriers.{names-declared}
-use Rattle.carriage_model.proofs.Needs.{lawful-item}
+use Rattle.carriage_model.proofs.DeclaredCarriers.{names-declared}
+use Rattle.carriage_model.proofs.LawfulLines.{lawful-item}
 use Rattle.carriage_model.proofs.run.run_plain.Goals as goal
 
 pub execute-requires-clause-lawful : goal.execute-requires-clause-lawful

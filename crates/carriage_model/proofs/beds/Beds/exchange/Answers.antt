@@ -1,5 +1,5 @@
 use Rattle.std.proofs.Common.{refl}
-use Rattle.carriage_model.proofs.Stacked.{exchanged}
+use Rattle.carriage_model.proofs.BedChanges.{exchanged}
 use Rattle.carriage_model.proofs.beds.Beds.exchange.Goals as goal
 
 pub returns : goal.returns

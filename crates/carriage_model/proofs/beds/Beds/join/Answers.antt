@@ -1,6 +1,6 @@
 use Rattle.std.proofs.Common.{refl, ◌∙◌, ap, ◌++◌, ◌∷◌, [], List, ℕ}
 use Rattle.std.proofs.lemmas.Result.{on_ok_weaker, on_err_weaker}
-use Rattle.carriage_model.proofs.Stacked.{set-holds, same-holds, read-stack}
+use Rattle.carriage_model.proofs.BedChanges.{set-holds, same-holds, read-stack}
 use Rattle.carriage_model.proofs.beds.Beds.join.Goals as goal
 
 pub returns-clause-ok : goal.returns-clause-ok

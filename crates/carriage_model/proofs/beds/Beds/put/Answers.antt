@@ -1,5 +1,5 @@
 use Rattle.std.proofs.Common.{refl}
-use Rattle.carriage_model.proofs.Stacked.{set-holds}
+use Rattle.carriage_model.proofs.BedChanges.{set-holds}
 use Rattle.carriage_model.proofs.beds.Beds.put.Goals as goal
 
 pub returns : goal.returns

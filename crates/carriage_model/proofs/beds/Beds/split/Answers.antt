@@ -1,5 +1,5 @@
 use Rattle.std.proofs.Common.{ap, ◌∙◌, ◌++◌, ◌∷◌, [], List, ℕ}
-use Rattle.carriage_model.proofs.Stacked.{left-holds}
+use Rattle.carriage_model.proofs.BedChanges.{left-holds}
 use Rattle.carriage_model.proofs.beds.Beds.split.Goals as goal
 
 pub returns-clause-ok : goal.returns-clause-ok

@@ -1,5 +1,5 @@
 use Rattle.std.proofs.Common.{refl, ◌∙◌}
-use Rattle.carriage_model.proofs.Stacked.{set-holds, read-stack}
+use Rattle.carriage_model.proofs.BedChanges.{set-holds, read-stack}
 use Rattle.carriage_model.proofs.beds.Beds.take.Goals as goal
 
 pub returns-clause-loops : goal.returns-clause-loops

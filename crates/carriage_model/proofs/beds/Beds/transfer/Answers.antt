@@ -1,6 +1,6 @@
 use Rattle.std.proofs.Common.{length, ap, ◌∙◌, arith}
 use Rattle.carriage_model.specs.Beds.{Holds, loops_at}
-use Rattle.carriage_model.proofs.Stacked.{exchange-transfers, moved-transfers, returned-holds, other_stack, still-on, nil_from_test}
+use Rattle.carriage_model.proofs.BedChanges.{exchange-transfers, moved-transfers, returned-holds, other_stack, still-on, nil_from_test}
 use Rattle.carriage_model.proofs.beds.Beds.transfer.Goals as goal
 
 pub returns-then-loops_on-eq0-clause-ok : goal.returns-then-loops_on-eq0-clause-ok

@@ -1,9 +1,8 @@
 use Rattle.std.proofs.Common.{◌∙◌, sym, refl, arith}
 use Rattle.knit_base.specs.Usual.{usual_read}
 use Rattle.carriage_model.specs.Carriage.{HasRun}
-use Rattle.carriage_model.proofs.Carried.{InState, standing, run-sound, run-still, on_err-anyhow, run-stopped, made-few}
-use Rattle.carriage_model.proofs.Found.{none_from_test}
-use Rattle.carriage_model.proofs.Needs.{line_has-needles, line_has-room, usual_has-carrier}
+use Rattle.carriage_model.proofs.CarriageRuns.{InState, standing, run-sound, run-still, on_err-anyhow, run-stopped, made-few}
+use Rattle.carriage_model.proofs.LawfulLines.{none_from_test, line_has-needles, line_has-room, usual_has-carrier}
 use Rattle.carriage_model.proofs.carriage.Carriage.carry_usual.Goals as goal
 
 pub returns-then-is_stopped-clause-over : goal.returns-then-is_stopped-clause-over

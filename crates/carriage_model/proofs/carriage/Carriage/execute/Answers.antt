@@ -1,9 +1,8 @@
 use Rattle.std.proofs.Common.{◌∙◌, sym, refl, arith}
 use Rattle.std.proofs.lemmas.Result.{on_ok_weaker, on_err_weaker}
 use Rattle.carriage_model.specs.Carriage.{HasRun}
-use Rattle.carriage_model.proofs.Carried.{InState, standing, run-sound, run-still, run-broken, run-stopped, kept-few, made-few}
-use Rattle.carriage_model.proofs.Found.{none_from_test}
-use Rattle.carriage_model.proofs.Needs.{line_has-needles, line_has-places, line_has-room}
+use Rattle.carriage_model.proofs.CarriageRuns.{InState, standing, run-sound, run-still, run-broken, run-stopped, kept-few, made-few}
+use Rattle.carriage_model.proofs.LawfulLines.{none_from_test, line_has-needles, line_has-places, line_has-room}
 use Rattle.carriage_model.proofs.carriage.Carriage.execute.Goals as goal
 
 pub returns-then-is_stopped-clause-ok : goal.returns-then-is_stopped-clause-ok

@@ -1,4 +1,4 @@
-use Rattle.carriage_model.proofs.Carried.{tells-sound}
+use Rattle.carriage_model.proofs.CarriageRuns.{tells-sound}
 use Rattle.carriage_model.proofs.carriage.Carriage.finish.Goals as goal
 
 pub returns-in_ok-last-in-None : goal.returns-in_ok-last-in-None

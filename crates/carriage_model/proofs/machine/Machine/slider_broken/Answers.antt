@@ -1,5 +1,5 @@
 use Rattle.std.proofs.Common.{sym, subst, ◌∙◌}
-use Rattle.carriage_model.proofs.Needs.{IsOnIfAny, forming_needle-is_on}
+use Rattle.carriage_model.proofs.LawfulLines.{IsOnIfAny, forming_needle-is_on}
 use Rattle.carriage_model.proofs.machine.Machine.slider_broken.Goals as goal
 
 pub slider_holds-requires : goal.slider_holds-requires

@@ -1,6 +1,6 @@
 use Rattle.std.proofs.Common.{refl}
 use Rattle.std.proofs.lemmas.Result.{on_ok_weaker}
-use Rattle.carriage_model.proofs.Machines.{transfer-step}
+use Rattle.carriage_model.proofs.MachineSteps.{transfer-step}
 use Rattle.carriage_model.proofs.machine.Machine.step_instr.Goals as goal
 
 pub returns-in-Xfer-clause-ok : goal.returns-in-Xfer-clause-ok

@@ -1,6 +1,6 @@
 use Rattle.std.proofs.Common.{◌<◌, length, refl, arith}
 use Rattle.std.proofs.lemmas.Result.{on_ok_weaker}
-use Rattle.carriage_model.proofs.Machines.{split-step}
+use Rattle.carriage_model.proofs.MachineSteps.{split-step}
 use Rattle.carriage_model.proofs.machine.Machine.step_split.Goals as goal
 
 pub returns-clause-ok : goal.returns-clause-ok

@@ -10,7 +10,8 @@ use Rattle.carriage_model.specs.declared.beds.Beds.{Beds}
 use Rattle.carriage_model.specs.State.{with_stack, transferred}
 use Rattle.carriage_model.specs.Places.{Spans, place_in, stack_in}
 use Rattle.carriage_model.specs.Beds.{IsOn, SameBeds, Holds, HoldsAsBefore, loops_at}
-use Rattle.carriage_model.proofs.Places.{set-stack, stack-at, place-within, same_needle-false}
+use Rattle.knit_base.proofs.Needles.{same_needle-false}
+use Rattle.carriage_model.proofs.Places.{set-stack, stack-at, place-within}
 
 -- what the code reads at the needle's place are the needle's loops
 pub read-stack : (beds : Beds) (n : Needle) (place : ℕ) (found : List ℕ) → IsOn beds n.at → place ≡ place_in beds.low beds.width n → found ≡ get_or beds.stacks.items place found → found ≡ loops_at beds n

@@ -1,7 +1,7 @@
 -- The loop of one line among those that a run makes.
-use Rattle.std.proofs.Common.{◌≡◌, ◌≢◌, ℕ, ◌+◌, ◌<◌, List, [], ◌∷◌, ◌++◌, drop, length, get_or, Option, None, Some, IfSome, is_some, cond, subst, ◌≤◌, true, false, ap, sym, ◌∙◌, refl, arith}
+use Rattle.std.proofs.Common.{◌≡◌, ◌≢◌, ℕ, ◌+◌, ◌<◌, List, [], ◌∷◌, ◌++◌, drop, length, get_or, Option, None, Some, IfSome, is_some, cond, subst, ◌≤◌, true, ap, sym, ◌∙◌, refl, arith}
 use Rattle.std.specs.Option.{option_to_list}
-use Rattle.std.proofs.lemmas.Bool.{eq-eqb, ne_eqb, true≢false}
+use Rattle.std.proofs.lemmas.Bool.{eq-eqb, ne_eqb}
 use Rattle.knit_base.specs.declared.instr.Instr.TheVariants.{Knit, Tuck, Split}
 use Rattle.knit_base.specs.declared.profile.Profile.{Profile}
 use Rattle.knit_base.specs.declared.instr.Read.{Read}
@@ -15,12 +15,8 @@ use Rattle.carriage_model.specs.Steps.{step}
 use Rattle.carriage_model.specs.Loops.{loops_made, made_on, fact_made, fact_of}
 use Rattle.carriage_model.specs.Beds.{SameBeds}
 use Rattle.carriage_model.specs.Machine.{Represents, HasNeedlesOf}
-use Rattle.carriage_model.proofs.Needs.{needles-kept}
-use Rattle.carriage_model.proofs.Reached.{loops-next, loops-stop, loops-end}
-
-pub none_from_test : {A : Type 0} (o : Option A) → is_some o ≡ false → o ≡ None
-none_from_test None e = refl
-none_from_test (Some x) e = absurd (true≢false e)
+use Rattle.carriage_model.proofs.LawfulLines.{needles-kept}
+use Rattle.carriage_model.proofs.LoopsMade.{loops-next, loops-stop, loops-end}
 
 abbrev pub IsOfLine : ℕ → LoopFact → Type 0
 IsOfLine line fact = fact.line ≡ line

@@ -1,5 +1,5 @@
 -- One line more of a run.
-use Rattle.std.proofs.Common.{◌≡◌, ℕ, ◌+◌, ◌≤◌, List, [], ◌∷◌, ◌++◌, length, Bool, true, false, Option, None, Some, IfSome, is_some, unwrap_or, Result, Ok, Err, OnErr, refl, ap, sym, subst, ◌∙◌, ◌<◌, arith, append_assoc, append-nil, length-append}
+use Rattle.std.proofs.Common.{◌≡◌, ℕ, ◌+◌, ◌≤◌, List, [], ◌∷◌, ◌++◌, length, Bool, true, false, Option, None, Some, IfSome, is_some, Result, Ok, Err, OnErr, refl, ap, sym, subst, ◌∙◌, ◌<◌, arith, append_assoc, append-nil, length-append}
 use Rattle.std.proofs.lemmas.Bool.{true≢false}
 use Rattle.std.proofs.lemmas.Option.{none-some}
 use Rattle.std.specs.Option.{option_to_list}
@@ -8,14 +8,13 @@ use Rattle.knit_base.specs.declared.instr.Read.{Read}
 use Rattle.knit_base.specs.declared.rule.Reason.{Reason}
 use Rattle.carriage_model.specs.declared.carriage.Carriage.{Carriage}
 use Rattle.carriage_model.specs.declared.verdict.LoopFact.{LoopFact}
-use Rattle.carriage_model.specs.Carriage.{HasRun, StandsAfter, TellsRun, WentOver, StandsStill, loops_with, next_line, profile_of}
+use Rattle.carriage_model.specs.Carriage.{HasRun, StandsAfter, TellsRun, WentOver, StandsStill, loops_with, next_line}
 use Rattle.carriage_model.specs.Verdict.{IsFinal, IsVerdict}
 use Rattle.carriage_model.specs.declared.verdict.Final.{Final}
-use Rattle.carriage_model.specs.declared.verdict.Verdict.TheVariants.{Broken, Sound}
-use Rattle.knit_base.specs.declared.rule.Fault.{Fault}
+use Rattle.carriage_model.specs.declared.verdict.Verdict.TheVariants.{Sound}
 use Rattle.carriage_model.specs.Machine.{HasNeedlesOf, Represents}
-use Rattle.carriage_model.proofs.Few.{holds-few}
-use Rattle.carriage_model.proofs.Needs.{needles-kept}
+use Rattle.carriage_model.proofs.LoopCounts.{holds-few}
+use Rattle.carriage_model.proofs.LawfulLines.{needles-kept}
 use Rattle.carriage_model.specs.State.{State, empty_state}
 use Rattle.carriage_model.specs.Rules.{broken}
 use Rattle.carriage_model.specs.Steps.{step}
@@ -261,17 +260,3 @@ tells-sound profile with_loops first reads carriage final here none is short =
       loops_are = here.loops;
       few = holds-few profile first (length reads) reads (Sound final) here.lawful judged short;
     }
-
-stops-broken : (lines : ℕ) (carriage : Carriage) (fault : Fault) (ended : Ended) (loops : List LoopFact) → StandsAfter carriage ended → carriage.fault ≡ Some fault
-    → IsVerdict lines (Broken fault) ended loops
-stops-broken lines carriage fault (Ends s) loops stands some = absurd (none-some fault (sym stands.0 ∙ some))
-stops-broken lines carriage fault (Stops s stopped) loops stands some = ap (λ o. unwrap_or o fault) (sym some ∙ stands)
-
--- what a carriage tells that stopped at a fault
-pub tells-broken : (profile : Profile) (with_loops : Bool) (first : ℕ) (reads : List Read) (carriage : Carriage) (fault : Fault) → HasRun profile with_loops first reads carriage
-    → carriage.fault ≡ Some fault → TellsRun profile with_loops first reads (Broken fault) carriage.loops
-tells-broken profile with_loops first reads carriage fault here some = record {
-  verdict_is = stops-broken (length reads) carriage fault (run profile empty_state first reads) (loops_made profile empty_state first reads) here.stands some;
-  loops_are = here.loops;
-  few = tt;
-}

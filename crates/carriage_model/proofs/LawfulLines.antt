@@ -76,10 +76,17 @@ pub lawful-item : (profile : Profile) (d : ℕ) (items reads : List Read) (i : �
 lawful-item profile d items reads i r same lawful within is =
     subst (IsLawfulRead profile d) (sym is) (All-get_or (IsLawfulRead profile d) items i r within (All-same (IsLawfulRead profile d) items reads same lawful))
 
+-- an option that isn't some is none
+pub none_from_test : {A : Type 0} (o : Option A) → is_some o ≡ false → o ≡ None
+none_from_test None e = refl
+none_from_test (Some x) e = absurd (true≢false e)
+
+-- where neither reason is given, the second isn't
 pub second-none : (first second : Option Reason) → or_else first second ≡ None → second ≡ None
 second-none None second e = e
 second-none (Some reason) second e = absurd (true≢false (ap is_some e))
 
+-- a rule that isn't broken fails its test
 test-none : (test : Bool) (rule : Rule) (at : ℕ) → broken_if test rule at ≡ None → test ≡ false
 test-none true rule at e = absurd (true≢false (ap is_some e))
 test-none false rule at e = refl

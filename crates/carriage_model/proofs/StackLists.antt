@@ -10,7 +10,8 @@ use Rattle.knit_base.specs.Needle.{needle_cmp, same_needle}
 use Rattle.carriage_model.specs.declared.verdict.Stack.{Stack}
 use Rattle.carriage_model.specs.Places.{Spans, is_spanned, place_in, needle_at, stack_in}
 use Rattle.carriage_model.specs.Verdict.{AreStacks, loops_on}
-use Rattle.carriage_model.proofs.Places.{needles-rise, needle_at-spans, needle_at-place, place-needle_at, spans, spanned, same_needle-false, same_needle-refl}
+use Rattle.knit_base.proofs.Needles.{same_needle-false, same_needle-refl}
+use Rattle.carriage_model.proofs.Places.{needles-rise, needle_at-spans, needle_at-place, place-needle_at, spans, spanned}
 
 -- the needles of these stacks, of which the first stands at this place, that hold loops
 abbrev pub listed : ℤ → ℕ → ℕ → List (List ℕ) → List Stack

@@ -7,8 +7,8 @@ use Rattle.knit_base.specs.declared.yarns.CarrierNo.{CarrierNo}
 use Rattle.carriage_model.specs.declared.machine.Machine.{Machine}
 use Rattle.carriage_model.specs.State.{State, transferred}
 use Rattle.carriage_model.specs.Steps.{step_split, step_instr}
-use Rattle.carriage_model.specs.Beds.{Holds, HoldsAsBefore}
-use Rattle.carriage_model.specs.Machine.{Represents, StandsAsBefore, stack_of}
+use Rattle.carriage_model.specs.Beds.{Holds}
+use Rattle.carriage_model.specs.Machine.{Represents, stack_of}
 
 -- the machines differ only in what their needles hold
 pub record IsSameButBeds (old new : Machine) : Type 0 where
@@ -34,26 +34,8 @@ pub transfer-step : (old new : Machine) (k : ℕ) (n n2 : Needle) (instr : Instr
     → (s : State) → Represents old s → Represents new (step_instr k instr s)
 transfer-step old new k n n2 instr is same holds s before = subst (λ i. Represents new (step_instr k i s)) (sym is) (transfer-represented old new n n2 [] s before same holds)
 
--- a split without carriers is a transfer
-pub bare_split-step : (old new : Machine) (k : ℕ) (n n2 : Needle) (cs : List CarrierNo) → length cs ≡ 0 → IsSameButBeds old new → Holds old.beds new.beds (transferred n n2 [] (stack_of old))
-    → (s : State) → Represents old s → Represents new (step_split k n n2 cs s)
-bare_split-step old new k n n2 [] none same holds s before = transfer-represented old new n n2 [] s before same holds
-bare_split-step old new k n n2 (c ∷ cs) none same holds s before = absurd (omega arith)
-
 -- a split with carriers leaves the new loop
 pub split-step : (old new : Machine) (k : ℕ) (n n2 : Needle) (cs : List CarrierNo) → 0 < length cs → IsSameButBeds old new → Holds old.beds new.beds (transferred n n2 (k ∷ []) (stack_of old))
     → (s : State) → Represents old s → Represents new (step_split k n n2 cs s)
 split-step old new k n n2 [] some same holds s before = absurd (omega arith)
 split-step old new k n n2 (c ∷ cs) some same holds s before = transfer-represented old new n n2 (k ∷ []) s before same holds
-
--- a machine whose needles hold what they held stands as before
-pub same-stands : (old new : Machine) → IsSameButBeds old new → HoldsAsBefore old.beds new.beds → StandsAsBefore old new
-same-stands old new same holds = record {
-  beds = holds.same;
-  states = λ s before. record {
-    rack = ap (λ q. q.0) same.rack ∙ before.rack;
-    ins = same.ins ∙ before.ins;
-    hook = same.hook ∙ before.hook;
-    stacks = λ n. holds.stacks_are n ∙ before.stacks n;
-  };
-}

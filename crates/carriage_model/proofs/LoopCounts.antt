@@ -6,7 +6,7 @@ use Rattle.std.specs.List.Sorted.{IsStrictlySortedBy}
 use Rattle.std.specs.Ordering.{is_eq}
 use Rattle.std.proofs.lemmas.List.Sums.{sum_by-cons}
 use Rattle.knit_base.specs.Limits.{IsLawfulProfile}
-use Rattle.knit_base.specs.declared.instr.Instr.TheVariants.{CarryIn, CarryOut, HookIn, HookOut, ReleaseHook, Stitch, Pause, Extension, Rack, Knit, Tuck, Miss, Split, Xfer, Drop, Amiss}
+use Rattle.knit_base.specs.declared.instr.Instr.TheVariants.{Knit, Tuck, Split, Xfer, Drop}
 use Rattle.knit_base.specs.declared.instr.Instr.{Instr}
 use Rattle.knit_base.specs.declared.instr.Read.{Read}
 use Rattle.knit_base.specs.declared.instr.Read.TheVariants as read
@@ -24,8 +24,8 @@ use Rattle.carriage_model.specs.Steps.{step, step_instr}
 use Rattle.carriage_model.specs.Run.{run, run_on, Ended, Ends, Stops}
 use Rattle.carriage_model.specs.Loops.{loops_made}
 use Rattle.carriage_model.specs.Verdict.{IsVerdict, loops_on, held_on, HoldsFew}
-use Rattle.carriage_model.proofs.Needs.{few, size_unbroken}
-use Rattle.carriage_model.proofs.Places.{same_needle-refl}
+use Rattle.carriage_model.proofs.LawfulLines.{few, size_unbroken}
+use Rattle.knit_base.proofs.Needles.{same_needle-refl}
 
 -- no needle holds more than 64 loops
 abbrev HoldFew : (Needle → List ℕ) → Type 0

@@ -6,10 +6,10 @@ use Rattle.std.proofs.lemmas.Bool.{eqb-true, cases_lt}
 use Rattle.std.proofs.lemmas.Nat.{or_lt, xor_lt, and_le_l, pow_pos}
 use Rattle.std.proofs.lemmas.Nat.Bits.{bit_at_above}
 use Rattle.std.proofs.lemmas.List.Elements.{All-nil, All-cons, All-head, All-tail, All-append}
-use Rattle.std.proofs.Math.Pow.{pow-lt}
+use Rattle.knit_base.proofs.Masks.{mask_of-below}
 use Rattle.knit_base.specs.Lawful.{IsLawful, IsLawfulRead}
 use Rattle.knit_base.specs.Yarns.{mask_of, with_carriers, without_carriers}
-use Rattle.knit_base.specs.declared.instr.Instr.TheVariants.{CarryIn, CarryOut, HookIn, HookOut, ReleaseHook, Stitch, Pause, Extension, Rack, Knit, Tuck, Miss, Split, Xfer, Drop, Amiss}
+use Rattle.knit_base.specs.declared.instr.Instr.TheVariants.{CarryIn, CarryOut, HookIn, HookOut, ReleaseHook, Rack, Knit, Tuck, Split, Xfer, Drop}
 use Rattle.knit_base.specs.declared.instr.Instr.{Instr}
 use Rattle.knit_base.specs.declared.instr.Read.{Read}
 use Rattle.knit_base.specs.declared.instr.Read.TheVariants as read
@@ -28,12 +28,8 @@ use Rattle.carriage_model.specs.Run.{run, run_on, Ended, Ends, Stops}
 use Rattle.carriage_model.specs.Loops.{loops_made, made_on, fact_made, loop_of_instr, formed, fact_of}
 use Rattle.carriage_model.specs.Verdict.{IsVerdict, HasDeclared, NamesDeclared, AreOfDeclared, IsOfDeclared}
 
-mask-below : (d : ℕ) (cs : List CarrierNo) → All (λ c. c.0 < d) cs → mask_of cs < 2 ^ d
-mask-below d [] all = pow_pos d
-mask-below d (c ∷ cs) all = or_lt d (mask_of cs) (2 ^ c.0) (mask-below d cs (All-tail (λ x. x.0 < d) c cs all)) (pow-lt (All-head (λ x. x.0 < d) c cs all))
-
 with-below : (d set : ℕ) (cs : List CarrierNo) → set < 2 ^ d → All (λ c. c.0 < d) cs → with_carriers set cs < 2 ^ d
-with-below d set cs below all = or_lt d set (mask_of cs) below (mask-below d cs all)
+with-below d set cs below all = or_lt d set (mask_of cs) below (mask_of-below d cs all)
 
 without-below : (d set : ℕ) (cs : List CarrierNo) → set < 2 ^ d → without_carriers set cs < 2 ^ d
 without-below d set cs below = xor_lt d set (bit_and set (mask_of cs)) below (omega (arith, and_le_l set (mask_of cs)))
@@ -46,7 +42,7 @@ record Below (d : ℕ) (s : State) : Type 0 where
 step_instr-below : (profile : Profile) (d k : ℕ) (i : Instr) (s : State) → IsLawful profile d i → Below d s → Below d (step_instr k i s)
 step_instr-below profile d k (CarryIn cs) s lawful below = record { ins = with-below d s.ins cs below.ins lawful.carriers.each; hook = below.hook }
 step_instr-below profile d k (CarryOut cs) s lawful below = record { ins = without-below d s.ins cs below.ins; hook = below.hook }
-step_instr-below profile d k (HookIn cs) s lawful below = record { ins = with-below d s.ins cs below.ins lawful.carriers.each; hook = mask-below d cs lawful.carriers.each }
+step_instr-below profile d k (HookIn cs) s lawful below = record { ins = with-below d s.ins cs below.ins lawful.carriers.each; hook = mask_of-below d cs lawful.carriers.each }
 step_instr-below profile d k (HookOut cs) s lawful below = record { ins = without-below d s.ins cs below.ins; hook = below.hook }
 step_instr-below profile d k (ReleaseHook cs) s lawful below = record { ins = below.ins; hook = pow_pos d }
 step_instr-below profile d k (Rack q) s lawful below = record { ins = below.ins; hook = below.hook }
