@@ -23,7 +23,7 @@ use Rattle.face_data.proofs.Goodness.{names_read}
 use Rattle.face_data.proofs.Items.{all_entries, segments_found, entries_distinct, in_entries, in_needles, length-segs, length_within, needle_in, needles_distinct, needles_changed}
 use Rattle.face_data.proofs.ChangeLists.{order_merged, order_through}
 use Rattle.face_data.proofs.KeptChecks.{against_asks}
-use Rattle.face_data.proofs.Owners.{OwnsOnce-both, from_through, held-both, only_itself}
+use Rattle.face_data.proofs.Owners.{OwnsOnce-both, from_through, entries_on-both, only_itself}
 use Rattle.std.proofs.lemmas.List.{length-map}
 use Rattle.summary_compose.specs.Changes.{changes_in, segs_in}
 use Rattle.summary_compose.specs.Composing.{IsNoGreater}
@@ -74,7 +74,7 @@ merged_entries a b lines order_a order_b oa ob =
           (entries_distinct m m order (OwnsOnce-both a b lines order_b oa ob) (needles_distinct m order) (λ c h. h))
           (λ n h.
           let c = in_entries m n h in
-          let in_held = subst (λ xs. Contains xs n) (held-both a b lines c.0.0 order_b) (subst (λ segs. Contains (entries_of segs) n) (sym (segments_found m c.0 order c.1)) c.2) in
+          let in_held = subst (λ xs. Contains xs n) (entries_on-both a b lines c.0.0 order_b) (subst (λ segs. Contains (entries_of segs) n) (sym (segments_found m c.0 order c.1)) c.2) in
           let v = from_through a _ n in_held in
           whence n c.0.0 v.0 (needle_in m c.0 c.1) v.1 v.2),
     )

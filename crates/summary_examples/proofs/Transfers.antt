@@ -1,5 +1,6 @@
 -- The faces of transfers are good.
 use Rattle.std.proofs.Common.{◌≡◌, ℕ, ◌≤◌, ◌<◌, List, [], ◌∷◌, pos, refl, sym, ap, subst, inl, inr, arith}
+use Rattle.std.proofs.lemmas.Int.{ints}
 use Rattle.std.specs.Prelude.{◌≤ℤ◌}
 use Rattle.std.specs.List.{Contains}
 use Rattle.std.proofs.lemmas.Bool.{true≢false}
@@ -12,11 +13,15 @@ use Rattle.knit_base.specs.declared.profile.Profile.{Profile}
 use Rattle.knit_base.specs.declared.yarns.CarrierNo.{CarrierNo}
 use Rattle.knit_base.specs.Lawful.{IsLawful, IsOnBed}
 use Rattle.face_data.specs.declared.bearing.Bearing.TheVariants.{Silent}
+use Rattle.knit_base.specs.declared.rule.Rule.TheVariants.{NotAligned, TooManyLoops}
+use Rattle.knit_base.specs.Needle.{rack_facing}
 use Rattle.face_data.specs.Bearings.{bearing}
+use Rattle.face_data.specs.Conditions.Ask.{rack_is, size_at_most}
 use Rattle.face_data.specs.Goodness.{IsFair, IsGood, IsIrredundant}
 use Rattle.face_data.specs.Summaries.{Asked}
 use Rattle.face_data.proofs.Members.{Contains-none, Contains-cons_cases}
 use Rattle.block_summary.specs.LineSummaries.{asked_by, line_summary}
+use Rattle.block_summary.proofs.LineChecks.{rule_asked}
 use Rattle.block_summary.proofs.LineGoodness.{line_fair}
 
 -- needle n of the front
@@ -32,7 +37,7 @@ abbrev machine : Profile
 machine = record { low = pos 0; high = pos 8; rack = 8; hold = 16 }
 
 on_bed : (n : Needle) (k : ℕ) → n.at ≡ pos k → k ≤ 8 → IsOnBed machine n
-on_bed n k is small = subst (λ at. IsOnBed machine (record { bed = n.bed; at = at })) (sym is) (record { above = omega arith; below = omega arith })
+on_bed n k is small = subst (λ at. IsOnBed machine (record { bed = n.bed; at = at })) (sym is) (record { above = omega (arith, ints); below = omega (arith, ints) })
 
 lawful : (n m : ℕ) → n ≤ 8 → m ≤ 8 → IsLawful machine 0 (Xfer (front n) (back m))
 lawful n m small few = record {
@@ -54,13 +59,15 @@ alone c = ((λ d there. absurd (Contains-none d there)), tt)
 -- the condition on the rack says nothing of the one on sizes
 irredundant : (n m : ℕ) → IsIrredundant (asked_by 16 (Xfer (front n) (back m)))
 unfolding bearing
-irredundant n m = (
-  (λ d there. elim (Contains-cons_cases _ [] d there) [
-    | inl same ↦ subst (λ (x : Asked). bearing _ x.ask ≡ Silent) same refl
-    | inr none ↦ absurd (Contains-none d none)
-  ]),
-  alone _,
-)
+irredundant n m =
+    let rack : Asked = rule_asked NotAligned 2 (rack_is (rack_facing (front n) (back m))) in
+    let room : Asked = rule_asked TooManyLoops 2 (size_at_most (back m ∷ front n ∷ []) 16) in (
+      (λ d there. elim (Contains-cons_cases room [] d there) [
+        | inl same ↦ subst (λ (x : Asked). bearing rack.ask x.ask ≡ Silent) same refl
+        | inr none ↦ absurd (Contains-none d none)
+      ]),
+      alone room,
+    )
 
 -- The summary of a transfer is good.
 pub transfer_good : (n m : ℕ) → n ≤ 8 → m ≤ 8 → IsGood 0 16 (front n ∷ back m ∷ []) (line_summary 16 (read.Instr (Xfer (front n) (back m))))
