@@ -10,7 +10,7 @@ use Rattle.carriage_model.specs.State.{State}
 use Rattle.carriage_model.specs.Steps.{step_instr}
 use Rattle.face_data.specs.declared.face.Seg.{Seg}
 use Rattle.face_data.specs.declared.face.Seg.TheVariants.{New}
-use Rattle.face_data.specs.RuleGroups.{forming_needle}
+use Rattle.carriage_model.specs.Rules.{forming_needle}
 use Rattle.face_data.specs.Segments.{Changed, AreRead, contents_of, read_seg, read_segs}
 use Rattle.bed_rules.specs.Beds.{changes_of, AreReadAfter}
 

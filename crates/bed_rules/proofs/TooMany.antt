@@ -7,11 +7,10 @@ use Rattle.knit_base.specs.declared.rule.Rule.TheVariants.{TooManyLoops}
 use Rattle.knit_base.specs.declared.yarns.CarrierNo.{CarrierNo}
 use Rattle.knit_base.proofs.Reasons.{or_else-none}
 use Rattle.knit_base.specs.Reasons.{broken_if}
-use Rattle.carriage_model.specs.Rules.{too_many}
+use Rattle.carriage_model.specs.Rules.{too_many, tuck_too_many}
 use Rattle.carriage_model.specs.State.{State}
 use Rattle.face_data.specs.declared.sizes.SizeAsk.{SizeAsk}
 use Rattle.face_data.specs.Conditions.{size_of, unless, unmet_size}
-use Rattle.face_data.specs.RuleGroups.{tuck_too_many}
 use Rattle.face_data.specs.Segments.{Changed}
 use Rattle.face_data.specs.Sizes.{SizeRule, size_ask, size_asks}
 use Rattle.face_data.proofs.Unmet.{broken-unless}

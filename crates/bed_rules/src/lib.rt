@@ -2,8 +2,8 @@
 //!
 //! Promises, for every state of the machine, that the first size condition of `ask` that isn't met tells whether the
 //! instruction puts too many loops on a needle, and that the needles hold the segments that `ask` gives them after it.
-//! Definitions: `specs/Beds`, and `specs/RuleGroups`, `specs/Segments` and `specs/Conditions` of `face_data`. Below it stand
-//! std, `knit_base`, `carriage_model` and `face_data`.
+//! Definitions: `specs/Beds`, `specs/Rules` of `carriage_model`, and `specs/Segments` and `specs/Conditions` of `face_data`.
+//! Below it stand std, `knit_base`, `carriage_model` and `face_data`.
 #![tactic(auto)]
 
 mod changes;
@@ -15,7 +15,7 @@ ghost use Rattle.std.specs.Prelude.{◌≡◌, ℕ, ◌+◌, IfOk};
 ghost use Rattle.knit_base.specs.Limits.{IsLawfulProfile};
 ghost use Rattle.carriage_model.specs.State.{State};
 ghost use Rattle.carriage_model.specs.Steps.{step_instr};
-ghost use Rattle.face_data.specs.RuleGroups.{size_broken, forming_needle};
+ghost use Rattle.carriage_model.specs.Rules.{size_broken, forming_needle};
 ghost use Rattle.face_data.specs.Segments.{AreRead};
 ghost use Rattle.face_data.specs.Sizes.{size_asks};
 ghost use Rattle.bed_rules.specs.Beds.{first_unmet_size, AreReadAfter, changes_of, size_rules};

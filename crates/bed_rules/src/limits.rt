@@ -2,9 +2,8 @@
 ghost use Rattle.std.specs.Prelude.{◌≡◌, ◌+◌, ◌≤◌, ℕ, [], ◌∷◌, length, IfOk};
 ghost use Rattle.knit_base.specs.declared.rule.Rule.TheVariants.{TooManyLoops};
 ghost use Rattle.knit_base.specs.Limits.{IsLawfulProfile};
-ghost use Rattle.carriage_model.specs.Rules.{too_many};
+ghost use Rattle.carriage_model.specs.Rules.{too_many, size_broken, tuck_too_many};
 ghost use Rattle.carriage_model.specs.State.{State};
-ghost use Rattle.face_data.specs.RuleGroups.{size_broken, tuck_too_many};
 ghost use Rattle.face_data.specs.Segments.{AreRead};
 ghost use Rattle.face_data.specs.Sizes.{size_asks};
 ghost use Rattle.bed_rules.specs.Beds.{first_unmet_size, size_rules, tuck_rules, crowded};

@@ -20,14 +20,13 @@ use Rattle.knit_base.specs.declared.yarns.CarrierNo.{CarrierNo}
 use Rattle.knit_base.specs.Lawful.{IsLawful, AreOpposite}
 use Rattle.knit_base.specs.Needle.{own_slider, slider_bed, is_front, is_slider}
 use Rattle.knit_base.specs.Yarns.{contains_carrier, mask_of}
-use Rattle.carriage_model.specs.Rules.{rack_facing}
+use Rattle.carriage_model.specs.Rules.{rack_facing, forming_needle}
 use Rattle.face_data.specs.declared.face.Cond.{Cond}
 use Rattle.face_data.specs.declared.face.Cond.TheVariants.{HookFree}
 use Rattle.face_data.specs.declared.face.Effect.{Effect}
 use Rattle.face_data.specs.Conditions.{Ask, ask_of}
 use Rattle.face_data.specs.Conditions.Ask.{rack_is, hook_free, hook_is}
 use Rattle.face_data.specs.Goodness.{AskFits, LiesIn, NeverFalls, names_in}
-use Rattle.face_data.specs.RuleGroups.{forming_needle}
 use Rattle.face_data.specs.Segments.{Changed}
 use Rattle.face_data.specs.Sets.{IsWithin, NestedOrApart}
 use Rattle.face_data.specs.Summaries.{Asked}

@@ -21,7 +21,7 @@ use Rattle.face_data.specs.declared.face.Seg.{Seg}
 use Rattle.face_data.specs.declared.face.Seg.TheVariants.{Entry, New}
 use Rattle.face_data.specs.Conditions.Ask.{size_at_most}
 use Rattle.face_data.specs.Goodness.{IsInOrder, held, OwnsOnce, MeetsSizes, size_after, SizeFits, names_in, ChangeFits, IsFair, IsGood}
-use Rattle.face_data.specs.RuleGroups.{forming_needle, formed_on}
+use Rattle.carriage_model.specs.Rules.{forming_needle, formed_on}
 use Rattle.face_data.specs.Segments.{Changed, contents_of, entries_of, new_of}
 use Rattle.face_data.specs.Sets.{IsDistinct, IsWithin, IsApart, NestedOrApart}
 use Rattle.face_data.specs.Stands.{StandsFor}

@@ -19,7 +19,7 @@ use Rattle.knit_base.specs.Reasons.{or_else}
 use Rattle.std.specs.Ordering.{int_eq}
 use Rattle.carriage_model.specs.declared.verdict.LoopFact.{LoopFact}
 use Rattle.carriage_model.specs.Loops.{formed, loop_of_instr, made_on}
-use Rattle.carriage_model.specs.Rules.{broken_instr, rack_facing}
+use Rattle.carriage_model.specs.Rules.{broken_instr, rack_facing, carrier_broken, rack_broken, slider_broken_on, slider_broken, size_broken, tuck_too_many, forming_needle, formed_on}
 use Rattle.carriage_model.specs.Run.{Ended, run_on}
 use Rattle.carriage_model.specs.Run.Ended.{Ends}
 use Rattle.carriage_model.specs.State.{State}
@@ -31,14 +31,12 @@ use Rattle.face_data.specs.declared.face.Seg.TheVariants.{Entry, New}
 use Rattle.face_data.specs.Conditions.{Ask, ask_of, holds, unless, first_unmet}
 use Rattle.face_data.specs.Conditions.Ask.{rack_is, size_at_most}
 use Rattle.face_data.specs.Items.{set_items}
-use Rattle.face_data.specs.RuleGroups.{carrier_broken, rack_broken, slider_broken_on, slider_broken, size_broken, tuck_too_many, forming_needle, formed_on}
 use Rattle.face_data.specs.Segments.{contents_of, read_segs, AreRead}
 use Rattle.face_data.specs.Stands.{StandsFor, outcome_of_run}
 use Rattle.face_data.specs.Summaries.{Asked, first_fault, after, outcome_of, raised}
 use Rattle.face_data.specs.Summaries.Outcome.{went_on, faulted}
 use Rattle.face_data.proofs.Drafts.{no_lines-applied}
 use Rattle.face_data.proofs.Gathered.{or_else as fault_or_else, first_fault-append}
-use Rattle.face_data.proofs.Groups.{groups}
 use Rattle.face_data.proofs.Merged.{or_change, change_at-merged}
 use Rattle.face_data.proofs.Unmet.{broken-unless}
 use Rattle.carrier_rules.specs.Carriers.{conds_of, effect_of}
@@ -139,7 +137,6 @@ line_faults profile instr s some =
     (rack_faults instr s)
     (both_at_line (slider_asked (forming_needle instr)) (sizes_asked profile.hold instr) (slider_broken instr s) (size_broken profile instr s) s
     (slider_faults (forming_needle instr) s) (size_faults profile instr s some)))
-    ∙ ap at_line (sym (groups profile instr s))
 
 -- what a needle holds after the line, as the rules on needles have it
 knit_held : (here : Bool) (own : List Seg) → unwrap_or (cond here (Some (New 0 ∷ [])) None) own ≡ cond here (unwrap_or (cond here (Some []) None) own ++ New 0 ∷ []) (unwrap_or (cond here (Some []) None) own)

@@ -4,7 +4,7 @@ use Rattle.knit_base.specs.declared.instr.Instr.{Instr}
 use Rattle.knit_base.specs.declared.instr.Instr.TheVariants.{Knit, Tuck, Split}
 use Rattle.carriage_model.specs.Loops.{loop_of_instr}
 use Rattle.carriage_model.specs.State.{State}
-use Rattle.face_data.specs.RuleGroups.{forming_needle}
+use Rattle.carriage_model.specs.Rules.{forming_needle}
 use Rattle.face_data.specs.Segments.{Changed, AreRead}
 use Rattle.block_summary.specs.Asks.{loops_through, IsLoopOn}
 

@@ -11,7 +11,7 @@ use Rattle.knit_base.specs.declared.rule.Rule.{Rule}
 use Rattle.knit_base.specs.declared.rule.Rule.TheVariants.{NotAligned, SliderHolds, TooManyLoops}
 use Rattle.knit_base.specs.declared.yarns.CarrierNo.{CarrierNo}
 use Rattle.knit_base.specs.Needle.{own_slider}
-use Rattle.carriage_model.specs.Rules.{rack_facing}
+use Rattle.carriage_model.specs.Rules.{rack_facing, forming_needle}
 use Rattle.face_data.specs.declared.face.Cond.{Cond}
 use Rattle.face_data.specs.declared.face.Ending.TheVariants.{Through, Broken}
 use Rattle.face_data.specs.declared.face.Seg.{Seg}
@@ -21,7 +21,6 @@ use Rattle.face_data.specs.Conditions.{Ask, ask_of}
 use Rattle.face_data.specs.Conditions.Ask.{rack_is, size_at_most}
 use Rattle.face_data.specs.Drafts.{no_effect, drafted}
 use Rattle.face_data.specs.Items.{set_items}
-use Rattle.face_data.specs.RuleGroups.{forming_needle}
 use Rattle.face_data.specs.Segments.{Changed}
 use Rattle.face_data.specs.Summaries.{Asked, Summary}
 use Rattle.carrier_rules.specs.Carriers.{conds_of, effect_of}

@@ -3,14 +3,13 @@ ghost use Rattle.std.specs.Prelude.{◌≡◌, ℕ, ◌+◌, IfOk};
 ghost use Rattle.knit_base.specs.Limits.{IsLawfulProfile};
 ghost use Rattle.carriage_model.specs.Loops.{loop_of_instr};
 ghost use Rattle.carriage_model.specs.Machine.{HasPlaces};
-ghost use Rattle.carriage_model.specs.Rules.{broken_instr};
+ghost use Rattle.carriage_model.specs.Rules.{broken_instr, forming_needle};
 ghost use Rattle.carriage_model.specs.State.{State};
 ghost use Rattle.carriage_model.specs.Steps.{step_instr};
-ghost use Rattle.face_data.specs.RuleGroups.{forming_needle};
 ghost use Rattle.face_data.specs.Segments.{AreRead};
 ghost use Rattle.block_summary.specs.Asks.{first_unmet_of, state_after, loops_through, IsLoopOn};
 
-use face_data::{CondList, Effect, SizeAsk, SizeAsks, SymbolList, Symbols, rules_in_groups};
+use face_data::{CondList, Effect, SizeAsk, SizeAsks, SymbolList, Symbols};
 use knit_base::{Instr, Needle, NoMemory, Profile, Quarter, Reason};
 use std::alloc::Global;
 
@@ -46,7 +45,6 @@ pub fn ask_instr(
     ensures makes { IfOk result (λ ask. ask.makes ≡ forming_needle instr.now) }
     ensures formed { IfOk result (λ ask. (s t : State) (first offset : ℕ) → AreRead contents.now s first t.stacks → IsLoopOn ask.makes (first + offset) (loops_through instr.now contents.now s first) (loop_of_instr (first + offset) instr.now t)) }
 {
-    rules_in_groups(profile, instr);
     let carriers = carrier_rules::ask(alloc, instr)?;
     let rack = rack_align::ask(instr);
     let slider = slider_rules::ask(alloc, instr, contents)?;

@@ -19,12 +19,12 @@ use Rattle.carriage_model.specs.declared.verdict.Stack.{Stack}
 use Rattle.carriage_model.specs.declared.verdict.Verdict.{Verdict}
 use Rattle.carriage_model.specs.declared.verdict.Verdict.TheVariants as verdict
 use Rattle.carriage_model.specs.State.{State, empty_state, with_stack, transferred}
-use Rattle.carriage_model.specs.Rules.{broken, broken_instr, carriers_out, not_aligned, slider_holds}
+use Rattle.carriage_model.specs.Rules.{broken, broken_instr}
 use Rattle.carriage_model.specs.Steps.{step, step_instr}
 use Rattle.carriage_model.specs.Run.{run, run_on, Ended, Ends, Stops}
 use Rattle.carriage_model.specs.Loops.{loops_made}
 use Rattle.carriage_model.specs.Verdict.{IsVerdict, loops_on, held_on, HoldsFew}
-use Rattle.carriage_model.proofs.Needs.{few, second-none}
+use Rattle.carriage_model.proofs.Needs.{few, size_unbroken}
 use Rattle.carriage_model.proofs.Places.{same_needle-refl}
 
 -- no needle holds more than 64 loops
@@ -48,16 +48,16 @@ step_instr-few profile k (Knit dir n []) s limits sound all = with_stack-few s.s
 step_instr-few profile k (Knit dir n (c ∷ cs)) s limits sound all = with_stack-few s.stacks n (k ∷ []) (omega arith) all
 step_instr-few profile k (Tuck dir n []) s limits sound all = all
 step_instr-few profile k (Tuck dir n (c ∷ cs)) s limits sound all =
-    let room : length (s.stacks n) + 1 ≤ 64 = few profile (length (s.stacks n) + 1) 2 limits (second-none (slider_holds s n) _ (second-none (carriers_out s 3 (c ∷ cs)) _ sound)) in
+    let room : length (s.stacks n) + 1 ≤ 64 = few profile (length (s.stacks n) + 1) 2 limits (size_unbroken profile (Tuck dir n (c ∷ cs)) s sound) in
     let joined : length (s.stacks n ++ k ∷ []) ≤ 64 = omega (arith, length-append (s.stacks n) (k ∷ [])) in
     with_stack-few s.stacks n (s.stacks n ++ k ∷ []) joined all
 step_instr-few profile k (Split dir n n2 []) s limits sound all =
-    transferred-few s.stacks n n2 [] (omega arith) (few profile (length (s.stacks n2) + length (s.stacks n)) 3 limits (second-none (not_aligned s n n2 3) _ sound)) all
+    transferred-few s.stacks n n2 [] (omega arith) (few profile (length (s.stacks n2) + length (s.stacks n)) 3 limits (size_unbroken profile (Split dir n n2 []) s sound)) all
 step_instr-few profile k (Split dir n n2 (c ∷ cs)) s limits sound all =
     transferred-few s.stacks n n2 (k ∷ []) (omega arith)
-    (few profile (length (s.stacks n2) + length (s.stacks n)) 3 limits (second-none (slider_holds s n) _ (second-none (not_aligned s n n2 3) _ (second-none (carriers_out s 4 (c ∷ cs)) _ sound)))) all
+    (few profile (length (s.stacks n2) + length (s.stacks n)) 3 limits (size_unbroken profile (Split dir n n2 (c ∷ cs)) s sound)) all
 step_instr-few profile k (Xfer n n2) s limits sound all =
-    transferred-few s.stacks n n2 [] (omega arith) (few profile (length (s.stacks n2) + length (s.stacks n)) 2 limits (second-none (not_aligned s n n2 2) _ sound)) all
+    transferred-few s.stacks n n2 [] (omega arith) (few profile (length (s.stacks n2) + length (s.stacks n)) 2 limits (size_unbroken profile (Xfer n n2) s sound)) all
 step_instr-few profile k (Drop n) s limits sound all = with_stack-few s.stacks n [] (omega arith) all
 step_instr-few profile k (CarryIn cs) s limits sound all = all
 step_instr-few profile k (CarryOut cs) s limits sound all = all

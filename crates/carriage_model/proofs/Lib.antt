@@ -1,4 +1,3 @@
-pub mod Broken
 pub mod Carried
 pub mod Carriers
 pub mod Few

@@ -19,7 +19,7 @@ use Rattle.knit_base.specs.declared.usual.Usual.{Usual}
 use Rattle.knit_base.specs.declared.usual.Usual.TheVariants as usual
 use Rattle.carriage_model.specs.declared.machine.Machine.{Machine}
 use Rattle.carriage_model.specs.State.{State}
-use Rattle.carriage_model.specs.Rules.{broken, broken_instr, carriers_out, not_aligned, slider_holds, too_many}
+use Rattle.carriage_model.specs.Rules.{broken, broken_instr, carrier_broken, rack_broken, slider_broken, size_broken, too_many}
 use Rattle.carriage_model.specs.Beds.{IsOn, SameBeds}
 use Rattle.carriage_model.specs.Machine.{Represents, HasNeedlesOf, HasNeedles, HasNeedlesInLine, HasPlaces, HasPlacesInLine, HasRoom, HasRoomInLine, HasCarrierInSet}
 
@@ -83,6 +83,10 @@ test-none false rule at e = refl
 pub few : (profile : Profile) (loops at : ℕ) → IsLawfulProfile profile → too_many profile loops at ≡ None → loops ≤ 64
 few profile loops at limits sound = omega (arith, limits.hold, ltb-false profile.hold loops (test-none (nat_lt profile.hold loops) _ at sound))
 
+-- an instruction that breaks no rule puts too many loops on no needle
+pub size_unbroken : (profile : Profile) (i : Instr) (s : State) → broken_instr profile i s ≡ None → size_broken profile i s ≡ None
+size_unbroken profile i s sound = second-none (slider_broken i s) _ (second-none (rack_broken i s) _ (second-none (carrier_broken i s) _ sound))
+
 instr_has-room : (profile : Profile) (d : ℕ) (i : Instr) (machine : Machine) (s : State) → IsLawfulProfile profile → IsLawful profile d i → Represents machine s → broken_instr profile i s ≡ None
     → HasRoom machine i
 instr_has-room profile d (Tuck dir n []) machine s limits lawful here sound = tt
@@ -90,24 +94,15 @@ instr_has-room profile d (Tuck dir n (c ∷ cs)) machine s limits lawful here so
     omega (
       arith,
       ap length (here.stacks n),
-      few profile (length (s.stacks n) + 1) 2 limits (second-none (slider_holds s n) _ (second-none (carriers_out s 3 (c ∷ cs)) _ sound)),
+      few profile (length (s.stacks n) + 1) 2 limits (size_unbroken profile (Tuck dir n (c ∷ cs)) s sound),
     )
-instr_has-room profile d (Split dir n n2 []) machine s limits lawful here sound = record {
+instr_has-room profile d (Split dir n n2 cs) machine s limits lawful here sound = record {
   sides = lawful.2.sides;
-  room = omega (arith, ap length (here.stacks n), ap length (here.stacks n2), few profile (length (s.stacks n2) + length (s.stacks n)) 3 limits (second-none (not_aligned s n n2 3) _ sound));
-}
-instr_has-room profile d (Split dir n n2 (c ∷ cs)) machine s limits lawful here sound = record {
-  sides = lawful.2.sides;
-  room = omega (
-    arith,
-    ap length (here.stacks n),
-    ap length (here.stacks n2),
-    few profile (length (s.stacks n2) + length (s.stacks n)) 3 limits (second-none (slider_holds s n) _ (second-none (not_aligned s n n2 3) _ (second-none (carriers_out s 4 (c ∷ cs)) _ sound))),
-  );
+  room = omega (arith, ap length (here.stacks n), ap length (here.stacks n2), few profile (length (s.stacks n2) + length (s.stacks n)) 3 limits (size_unbroken profile (Split dir n n2 cs) s sound));
 }
 instr_has-room profile d (Xfer n n2) machine s limits lawful here sound = record {
   sides = lawful.2.sides;
-  room = omega (arith, ap length (here.stacks n), ap length (here.stacks n2), few profile (length (s.stacks n2) + length (s.stacks n)) 2 limits (second-none (not_aligned s n n2 2) _ sound));
+  room = omega (arith, ap length (here.stacks n), ap length (here.stacks n2), few profile (length (s.stacks n2) + length (s.stacks n)) 2 limits (size_unbroken profile (Xfer n n2) s sound));
 }
 instr_has-room profile d i machine s limits lawful here sound = tt
 

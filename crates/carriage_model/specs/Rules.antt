@@ -52,42 +52,70 @@ slider_holds s n = broken_if (nat_lt 0 (length (s.stacks (own_slider n)))) Slide
 abbrev pub too_many : Profile → ℕ → ℕ → Option Reason
 too_many profile loops at = broken_if (nat_lt profile.hold loops) TooManyLoops at
 
--- knitting without carriers drops the loops, and asks nothing
-abbrev pub broken_knit : Needle → List CarrierNo → State → Option Reason
-broken_knit n [] s = None
-broken_knit n (c ∷ cs) s = or_else (carriers_out s 3 (c ∷ cs)) (slider_holds s n)
+-- the needle, where there are carriers to form a loop of
+abbrev pub formed_on : Needle → List CarrierNo → Option Needle
+formed_on n [] = None
+formed_on n (c ∷ cs) = Some n
 
--- tucking without carriers does and asks nothing
-abbrev pub broken_tuck : Profile → Needle → List CarrierNo → State → Option Reason
-broken_tuck profile n [] s = None
-broken_tuck profile n (c ∷ cs) s =
-    or_else (carriers_out s 3 (c ∷ cs)) (or_else (slider_holds s n) (too_many profile (length (s.stacks n) + 1) 2))
+-- the needle on which the instruction forms a loop
+abbrev pub forming_needle : Instr → Option Needle
+forming_needle (Knit dir n cs) = formed_on n cs
+forming_needle (Tuck dir n cs) = formed_on n cs
+forming_needle (Split dir n n2 cs) = formed_on n cs
+forming_needle instr = None
 
--- splitting without carriers is a transfer
-abbrev pub broken_split : Profile → Needle → Needle → List CarrierNo → State → Option Reason
-broken_split profile n n2 [] s = or_else (not_aligned s n n2 3) (too_many profile (length (s.stacks n2) + length (s.stacks n)) 3)
-broken_split profile n n2 (c ∷ cs) s =
-    or_else (carriers_out s 4 (c ∷ cs))
-    (or_else (not_aligned s n n2 3) (or_else (slider_holds s n) (too_many profile (length (s.stacks n2) + length (s.stacks n)) 3)))
+-- The first rule on carriers and the hook that the instruction breaks. Where `knit`, `tuck`, `miss` and `split` have no
+-- carriers, they ask for none.
+abbrev pub carrier_broken : Instr → State → Option Reason
+carrier_broken (CarryIn cs) s = carriers_in s 1 cs
+carrier_broken (CarryOut cs) s = or_else (carriers_out s 1 cs) (carriers_hooked s 1 cs)
+carrier_broken (HookIn cs) s = or_else (carriers_in s 1 cs) (hook_busy s)
+carrier_broken (HookOut cs) s = or_else (carriers_out s 1 cs) (hook_busy s)
+carrier_broken (ReleaseHook cs) s = hook_other s cs
+carrier_broken Stitch s = None
+carrier_broken Pause s = None
+carrier_broken Extension s = None
+carrier_broken (Rack q) s = None
+carrier_broken (Knit dir n cs) s = carriers_out s 3 cs
+carrier_broken (Tuck dir n cs) s = carriers_out s 3 cs
+carrier_broken (Miss dir n cs) s = carriers_out s 3 cs
+carrier_broken (Split dir n n2 cs) s = carriers_out s 4 cs
+carrier_broken (Xfer n n2) s = None
+carrier_broken (Drop n) s = None
+carrier_broken (Amiss n) s = None
 
--- the rule that the instruction breaks
+-- whether the instruction moves loops to a needle that doesn't face theirs
+abbrev pub rack_broken : Instr → State → Option Reason
+rack_broken (Split dir n n2 cs) s = not_aligned s n n2 3
+rack_broken (Xfer n n2) s = not_aligned s n n2 2
+rack_broken instr s = None
+
+-- whether the own slider of the needle, if there is one, holds a loop
+abbrev pub slider_broken_on : Option Needle → State → Option Reason
+slider_broken_on None s = None
+slider_broken_on (Some n) s = slider_holds s n
+
+-- whether the instruction forms a loop on a hook whose own slider holds one
+abbrev pub slider_broken : Instr → State → Option Reason
+slider_broken instr s = slider_broken_on (forming_needle instr) s
+
+-- whether a loop more, where there are carriers to form it of, is too many for the needle
+abbrev pub tuck_too_many : Profile → Needle → List CarrierNo → State → Option Reason
+tuck_too_many profile n [] s = None
+tuck_too_many profile n (c ∷ cs) s = too_many profile (length (s.stacks n) + 1) 2
+
+-- whether the instruction puts too many loops on a needle
+abbrev pub size_broken : Profile → Instr → State → Option Reason
+size_broken profile (Tuck dir n cs) s = tuck_too_many profile n cs s
+size_broken profile (Split dir n n2 cs) s = too_many profile (length (s.stacks n2) + length (s.stacks n)) 3
+size_broken profile (Xfer n n2) s = too_many profile (length (s.stacks n2) + length (s.stacks n)) 2
+size_broken profile instr s = None
+
+-- The first rule that the instruction breaks: first those on carriers and the hook, then on the rack, on the slider, and on
+-- sizes.
 abbrev pub broken_instr : Profile → Instr → State → Option Reason
-broken_instr profile (CarryIn cs) s = carriers_in s 1 cs
-broken_instr profile (CarryOut cs) s = or_else (carriers_out s 1 cs) (carriers_hooked s 1 cs)
-broken_instr profile (HookIn cs) s = or_else (carriers_in s 1 cs) (hook_busy s)
-broken_instr profile (HookOut cs) s = or_else (carriers_out s 1 cs) (hook_busy s)
-broken_instr profile (ReleaseHook cs) s = hook_other s cs
-broken_instr profile Stitch s = None
-broken_instr profile Pause s = None
-broken_instr profile Extension s = None
-broken_instr profile (Rack q) s = None
-broken_instr profile (Knit dir n cs) s = broken_knit n cs s
-broken_instr profile (Tuck dir n cs) s = broken_tuck profile n cs s
-broken_instr profile (Miss dir n cs) s = carriers_out s 3 cs
-broken_instr profile (Split dir n n2 cs) s = broken_split profile n n2 cs s
-broken_instr profile (Xfer n n2) s = or_else (not_aligned s n n2 2) (too_many profile (length (s.stacks n2) + length (s.stacks n)) 2)
-broken_instr profile (Drop n) s = None
-broken_instr profile (Amiss n) s = None
+broken_instr profile instr s =
+    or_else (carrier_broken instr s) (or_else (rack_broken instr s) (or_else (slider_broken instr s) (size_broken profile instr s)))
 
 -- the rule that the line breaks: the one that it breaks by itself, or else the one that its instruction breaks here
 abbrev pub broken : Profile → Read → State → Option Reason

@@ -5,7 +5,7 @@ ghost use Rattle.knit_base.specs.Reasons.{broken_if, first_broken, or_else};
 ghost use Rattle.knit_base.specs.Usual.{usual_read};
 ghost use Rattle.knit_base.specs.Yarns.{contains_carrier, lacks_carrier, AreCarriers, IsCarrier};
 ghost use Rattle.carriage_model.specs.State.{State};
-ghost use Rattle.carriage_model.specs.Rules.{broken, broken_instr, broken_knit, broken_tuck, broken_split, carriers_out, carriers_in, carriers_hooked, hook_busy, hook_other, not_aligned, slider_holds, too_many, rack_facing};
+ghost use Rattle.carriage_model.specs.Rules.{broken, broken_instr, carrier_broken, rack_broken, slider_broken, slider_broken_on, formed_on, size_broken, tuck_too_many, carriers_out, carriers_in, carriers_hooked, hook_busy, hook_other, not_aligned, slider_holds, too_many, rack_facing};
 
 use crate::machine::Machine;
 use knit_base::{Bed, CarrierNo, Instr, Needle, Profile, Read, Reason, Rule, Usual, Yarns};
@@ -80,77 +80,93 @@ impl Machine {
         loops <= u64::from(profile.hold)
     }
 
+    // The groups of rules one after the other; where one is broken, the later ones aren't looked at.
     fn broken_instr(&self, profile: &Profile, instr: &Instr) -> Option<Reason>
         requires needles { HasNeedles self.now instr.now }
         requires places { HasPlaces instr.now }
         ensures { (s : State) → Represents self.now s → result ≡ broken_instr profile.now instr.now s }
     {
+        self.carrier_broken(instr)
+            .or_else(|| self.rack_broken(instr))
+            .or_else(|| self.slider_broken(instr))
+            .or_else(|| self.size_broken(profile, instr))
+    }
+
+    // The first rule on carriers and the hook that the instruction breaks.
+    fn carrier_broken(&self, instr: &Instr) -> Option<Reason>
+        requires { HasPlaces instr.now }
+        ensures { (s : State) → Represents self.now s → result ≡ carrier_broken instr.now s }
+    {
         match instr {
             Instr::CarryIn(yarns) => self.carriers_in(1, yarns),
-            Instr::CarryOut(yarns) => {
-                first_of(self.carriers_out(1, yarns), self.carriers_hooked(1, yarns))
-            }
-            Instr::HookIn(yarns) => first_of(self.carriers_in(1, yarns), self.hook_busy()),
-            Instr::HookOut(yarns) => first_of(self.carriers_out(1, yarns), self.hook_busy()),
+            Instr::CarryOut(yarns) => self
+                .carriers_out(1, yarns)
+                .or_else(|| self.carriers_hooked(1, yarns)),
+            Instr::HookIn(yarns) => self.carriers_in(1, yarns).or_else(|| self.hook_busy()),
+            Instr::HookOut(yarns) => self.carriers_out(1, yarns).or_else(|| self.hook_busy()),
             Instr::ReleaseHook(yarns) => self.hook_other(yarns),
-            Instr::Knit(_, n, yarns) => self.broken_knit(*n, yarns),
-            Instr::Tuck(_, n, yarns) => self.broken_tuck(profile, *n, yarns),
+            Instr::Knit(_, _, yarns) | Instr::Tuck(_, _, yarns) => self.carriers_out(3, yarns),
             Instr::Miss(_, _, yarns) => self.carriers_out(3, yarns),
-            Instr::Split(_, n, n2, yarns) => self.broken_split(profile, *n, *n2, yarns),
-            Instr::Xfer(n, n2) => {
-                first_of(
-                    self.not_aligned(*n, *n2, 2),
-                    self.too_many_together(profile, *n, *n2, 2),
-                )
-            }
+            Instr::Split(_, _, _, yarns) => self.carriers_out(4, yarns),
             Instr::Stitch | Instr::Pause | Instr::Extension => None,
-            Instr::Rack(_) | Instr::Drop(_) | Instr::Amiss(_) => None,
+            Instr::Rack(_) | Instr::Xfer(_, _) | Instr::Drop(_) | Instr::Amiss(_) => None,
         }
     }
 
-    fn broken_knit(&self, n: Needle, yarns: &Yarns) -> Option<Reason>
-        requires on { IsOn self.now.beds n.at }
-        requires places { FitsPlaces 3 yarns.now }
-        ensures { (s : State) → Represents self.now s → result ≡ broken_knit n yarns.now s }
+    // The instruction moves loops to a needle that doesn't face theirs.
+    fn rack_broken(&self, instr: &Instr) -> Option<Reason>
+        ensures { (s : State) → Represents self.now s → result ≡ rack_broken instr.now s }
+    {
+        match instr {
+            Instr::Split(_, n, n2, _) => self.not_aligned(*n, *n2, 3),
+            Instr::Xfer(n, n2) => self.not_aligned(*n, *n2, 2),
+            _ => None,
+        }
+    }
+
+    // The instruction forms a loop on a hook whose own slider holds one.
+    fn slider_broken(&self, instr: &Instr) -> Option<Reason>
+        requires { HasNeedles self.now instr.now }
+        ensures { (s : State) → Represents self.now s → result ≡ slider_broken instr.now s }
+    {
+        match instr {
+            Instr::Knit(_, n, yarns) | Instr::Tuck(_, n, yarns) => self.slider_broken_on(*n, yarns),
+            Instr::Split(_, n, _, yarns) => self.slider_broken_on(*n, yarns),
+            _ => None,
+        }
+    }
+
+    fn slider_broken_on(&self, n: Needle, yarns: &Yarns) -> Option<Reason>
+        requires { IsOn self.now.beds n.at }
+        ensures { (s : State) → Represents self.now s → result ≡ slider_broken_on (formed_on n yarns.now) s }
     {
         if yarns.len() == 0 {
             return None;
         }
-        first_of(self.carriers_out(3, yarns), self.slider_holds(n))
+        self.slider_holds(n)
     }
 
-    fn broken_tuck(&self, profile: &Profile, n: Needle, yarns: &Yarns) -> Option<Reason>
-        requires on { IsOn self.now.beds n.at }
-        requires places { FitsPlaces 3 yarns.now }
-        ensures { (s : State) → Represents self.now s → result ≡ broken_tuck profile.now n yarns.now s }
+    // The instruction puts too many loops on a needle.
+    fn size_broken(&self, profile: &Profile, instr: &Instr) -> Option<Reason>
+        requires { HasNeedles self.now instr.now }
+        ensures { (s : State) → Represents self.now s → result ≡ size_broken profile.now instr.now s }
+    {
+        match instr {
+            Instr::Tuck(_, n, yarns) => self.tuck_too_many(profile, *n, yarns),
+            Instr::Split(_, n, n2, _) => self.too_many_together(profile, *n, *n2, 3),
+            Instr::Xfer(n, n2) => self.too_many_together(profile, *n, *n2, 2),
+            _ => None,
+        }
+    }
+
+    fn tuck_too_many(&self, profile: &Profile, n: Needle, yarns: &Yarns) -> Option<Reason>
+        requires { IsOn self.now.beds n.at }
+        ensures { (s : State) → Represents self.now s → result ≡ tuck_too_many profile.now n yarns.now s }
     {
         if yarns.len() == 0 {
             return None;
         }
-        let loops = u64::from(self.beds.loops_on(n)) + 1;
-        let later = first_of(self.slider_holds(n), too_many(profile, loops, 2));
-        first_of(self.carriers_out(3, yarns), later)
-    }
-
-    fn broken_split(
-        &self,
-        profile: &Profile,
-        n: Needle,
-        n2: Needle,
-        yarns: &Yarns,
-    ) -> Option<Reason>
-        requires from { IsOn self.now.beds n.at }
-        requires to { IsOn self.now.beds n2.at }
-        requires places { FitsPlaces 4 yarns.now }
-        ensures { (s : State) → Represents self.now s → result ≡ broken_split profile.now n n2 yarns.now s }
-    {
-        let together = self.too_many_together(profile, n, n2, 3);
-        if yarns.len() == 0 {
-            return first_of(self.not_aligned(n, n2, 3), together);
-        }
-        let last = first_of(self.slider_holds(n), together);
-        let later = first_of(self.not_aligned(n, n2, 3), last);
-        first_of(self.carriers_out(4, yarns), later)
+        too_many(profile, u64::from(self.beds.loops_on(n)) + 1, 2)
     }
 
     // A carrier of the list isn't in action. The list begins at this token.
@@ -239,12 +255,6 @@ fn rule_if(broken: bool, rule: Rule, at: u16) -> Option<Reason>
     } else {
         None
     }
-}
-
-fn first_of(first: Option<Reason>, second: Option<Reason>) -> Option<Reason>
-    ensures { result ≡ or_else first second }
-{
-    first.or(second)
 }
 
 fn first_in_set(set: u64, carriers: &[CarrierNo]) -> Option<usize>

@@ -11,12 +11,11 @@ use Rattle.knit_base.specs.declared.yarns.CarrierNo.{CarrierNo}
 use Rattle.knit_base.proofs.Reasons.{or_else-none}
 use Rattle.knit_base.specs.Reasons.{broken_if, first_broken, or_else}
 use Rattle.knit_base.specs.Yarns.{contains_carrier, lacks_carrier, mask_of}
-use Rattle.carriage_model.specs.Rules.{carriers_in, carriers_out, carriers_hooked, hook_busy, hook_other}
+use Rattle.carriage_model.specs.Rules.{carriers_in, carriers_out, carriers_hooked, hook_busy, hook_other, carrier_broken}
 use Rattle.carriage_model.specs.State.{State}
 use Rattle.face_data.specs.declared.face.Cond.{Cond}
 use Rattle.face_data.specs.declared.face.Cond.TheVariants.{HookFree, HookIs}
 use Rattle.face_data.specs.Conditions.{ask_of, holds, unless, first_unmet}
-use Rattle.face_data.specs.RuleGroups.{carrier_broken}
 use Rattle.face_data.proofs.Unmet.{broken-unless, first_unmet-append}
 use Rattle.carrier_rules.specs.declared.conds.OfEach.{OfEach}
 use Rattle.carrier_rules.specs.declared.conds.OfEach.TheVariants.{InAction, NotInAction, NotInHook}

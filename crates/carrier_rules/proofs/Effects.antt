@@ -6,7 +6,7 @@ use Rattle.knit_base.specs.declared.instr.Instr.{Instr}
 use Rattle.knit_base.specs.declared.instr.Instr.TheVariants.{CarryIn, CarryOut, HookIn, HookOut, ReleaseHook, Stitch, Pause, Extension, Rack, Knit, Tuck, Miss, Split, Xfer, Drop, Amiss}
 use Rattle.knit_base.specs.declared.yarns.CarrierNo.{CarrierNo}
 use Rattle.knit_base.specs.Yarns.{mask_of, with_carriers, without_carriers, without_set}
-use Rattle.face_data.specs.RuleGroups.{IsEffectOf}
+use Rattle.face_data.specs.Summaries.{IsEffectOf}
 use Rattle.carrier_rules.specs.Carriers.{effect_of}
 
 none_gone : (a b : ℕ) → a < 2 → b ≡ 0 → (a + min a b) % 2 ≡ a

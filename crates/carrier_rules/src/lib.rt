@@ -2,8 +2,8 @@
 //!
 //! Promises, for every state of the machine, that the first condition of `ask` that isn't met tells the first rule on carriers
 //! and the hook that the instruction breaks, and that the effect is what the instruction does to rack, carriers and hook.
-//! Definitions: `specs/Carriers`, and `specs/RuleGroups`, `specs/Conditions` and `specs/Summaries` of `face_data`. Below it
-//! stand std, `knit_base`, `carriage_model` and `face_data`.
+//! Definitions: `specs/Carriers`, `specs/Rules` of `carriage_model`, and `specs/Conditions` and `specs/Summaries` of
+//! `face_data`. Below it stand std, `knit_base`, `carriage_model` and `face_data`.
 #![tactic(auto)]
 
 mod conds;
@@ -15,7 +15,8 @@ ghost use Rattle.std.specs.Prelude.{◌≡◌, IfOk};
 ghost use Rattle.carriage_model.specs.Machine.{HasPlaces};
 ghost use Rattle.carriage_model.specs.State.{State};
 ghost use Rattle.face_data.specs.Conditions.{first_unmet};
-ghost use Rattle.face_data.specs.RuleGroups.{carrier_broken, IsEffectOf};
+ghost use Rattle.carriage_model.specs.Rules.{carrier_broken};
+ghost use Rattle.face_data.specs.Summaries.{IsEffectOf};
 ghost use Rattle.carrier_rules.specs.Carriers.{conds_of, effect_of};
 
 use face_data::{CondList, Effect};

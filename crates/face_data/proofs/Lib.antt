@@ -11,7 +11,6 @@ mod Examples
 pub mod Front
 pub mod Gathered
 pub mod Good
-pub mod Groups
 pub mod Held
 pub mod Items
 pub mod Known

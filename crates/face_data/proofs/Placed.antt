@@ -1,11 +1,10 @@
 -- A list in the order of needles, split at a needle's place.
-use Rattle.std.proofs.Common.{◌≡◌, ℕ, zero, suc, ◌+◌, ◌≤◌, ◌<◌, Bool, true, false, if◌then◌else◌, List, [], ◌∷◌, ◌++◌, Option, Some, None, length, take, drop, get_or, map, refl, sym, ap, ◌∙◌, subst, arith, add-one}
-use Rattle.std.specs.List.{AllByRecursion, insert}
+use Rattle.std.proofs.Common.{◌≡◌, ℕ, zero, suc, ◌+◌, ◌<◌, Bool, true, false, if◌then◌else◌, List, [], ◌∷◌, ◌++◌, Option, Some, None, length, take, drop, get_or, map, refl, sym, ap, ◌∙◌, subst, arith, add-one}
+use Rattle.std.specs.List.{insert}
 use Rattle.std.specs.List.Sorted.{IsStrictlySortedBy}
 use Rattle.std.specs.Ordering.{is_eq, ordering_reverse}
-use Rattle.std.specs.declared.cmp.Ordering.{Ordering}
-use Rattle.std.specs.declared.cmp.Ordering.TheVariants.{Less, Equal, Greater}
-use Rattle.std.proofs.lemmas.List.{take-append-drop, drop_more, append-nil}
+use Rattle.std.specs.declared.cmp.Ordering.TheVariants.{Less, Greater}
+use Rattle.std.proofs.lemmas.List.{take-append-drop, drop_more}
 use Rattle.std.proofs.Math.ListN.{set}
 use Rattle.knit_base.specs.declared.needle.Needle.{Needle}
 use Rattle.knit_base.specs.Needle.{needle_cmp, needle_cmp_total, same_needle, same_needle-true}

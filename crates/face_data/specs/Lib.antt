@@ -8,7 +8,6 @@ pub mod Drafts
 pub mod Goodness
 pub mod Items
 pub mod Kept
-pub mod RuleGroups
 pub mod Segments
 pub mod Sets
 pub mod Sizes

@@ -1,9 +1,11 @@
 -- What a block does to the state at its entry.
-use Rattle.std.specs.Prelude.{ℕ, ◌+◌, ℤ, List, [], ◌∷◌, Option, None, Some, unwrap_or, bit_or, if◌then◌else◌}
+use Rattle.std.specs.Prelude.{◌≡◌, ℕ, ◌+◌, ℤ, List, [], ◌∷◌, Option, None, Some, unwrap_or, bit_or, if◌then◌else◌}
+use Rattle.knit_base.specs.declared.instr.Instr.{Instr}
 use Rattle.knit_base.specs.declared.instr.Quarter.{Quarter}
 use Rattle.knit_base.specs.declared.rule.Fault.{Fault}
 use Rattle.knit_base.specs.Yarns.{without_set}
 use Rattle.carriage_model.specs.State.{State}
+use Rattle.carriage_model.specs.Steps.{step_instr}
 use Rattle.face_data.specs.declared.face.Effect.{Effect}
 use Rattle.face_data.specs.declared.face.Ending.{Ending}
 use Rattle.face_data.specs.declared.face.Ending.TheVariants.{Through, Broken}
@@ -40,6 +42,12 @@ ins_after effect old = bit_or (without_set old effect.went) effect.came
 -- what the hook holds, where the block changes it or not
 abbrev pub hook_after : Effect → ℕ → ℕ
 hook_after effect old = unwrap_or effect.hook old
+
+-- the effect is what the instruction does to rack, carriers and hook
+pub record IsEffectOf (instr : Instr) (effect : Effect) : Type 0 where
+  pub rack : (k : ℕ) (s : State) → rack_after effect.rack s.rack ≡ (step_instr k instr s).rack
+  pub ins : (k : ℕ) (s : State) → ins_after effect s.ins ≡ (step_instr k instr s).ins
+  pub hook : (k : ℕ) (s : State) → hook_after effect s.hook ≡ (step_instr k instr s).hook
 
 -- the state that the effect and the changes make
 abbrev pub after : Effect → List Changed → State → ℕ → State

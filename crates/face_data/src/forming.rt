@@ -1,6 +1,6 @@
 //! Where a loop is formed.
 ghost use Rattle.std.specs.Prelude.{◌≡◌};
-ghost use Rattle.face_data.specs.RuleGroups.{forming_needle, formed_on};
+ghost use Rattle.carriage_model.specs.Rules.{forming_needle, formed_on};
 
 use knit_base::{Instr, Needle, Yarns};
 

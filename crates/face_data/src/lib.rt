@@ -1,15 +1,14 @@
 //! What a block of lines does to a machine's state, kept as a face: conditions on the state at its entry, and changes.
 //!
 //! Promises that `Symbols` keeps the segments of each needle that was touched, that `ask_size` tells how many loops needles may
-//! hold at entry so that they hold few enough now, that `forming_needle` finds where a loop is formed, and that the rules of
-//! the machine fall into four groups. `ShortList` is the list of an instruction's few conditions and changes: it promises that its
+//! hold at entry so that they hold few enough now, and that `forming_needle` finds where a loop is formed. `ShortList` is the list of an instruction's few conditions and changes: it promises that its
 //! first four items take no memory but its own.
 //! A `Digest` tells what conditions that are kept say of another one that isn't on sizes, `Effect::told` what a block says of one
 //! that is asked after it, and `Effect::then` puts two effects together.
 //!
 //! Definitions: `specs/Segments` (what needles hold, in terms of the entry), `specs/Conditions`, `specs/Summaries` (what a
 //! block makes of a state), `specs/View` (a face's lists), `specs/Goodness` with `specs/Bearings` and `specs/Sets`,
-//! `specs/RuleGroups`, and `specs/Kept` (where a short list's items lie). Of two blocks, one after the other: `specs/Through`
+//! and `specs/Kept` (where a short list's items lie). Of two blocks, one after the other: `specs/Through`
 //! and `specs/Answers` (segments and conditions of the second in terms of the first one's entry) and `specs/Composition`
 //! (`composed`). `specs/Stands` says which lines a summary stands for, `specs/Drafts` makes it of single lines, `specs/Items`
 //! counts its items, and `specs/Digests` and `specs/Chains` find what is known of a condition without going through all that
@@ -29,7 +28,6 @@ mod effect;
 mod face;
 mod forming;
 mod kept;
-mod laws;
 mod short_list;
 mod sizes;
 mod symbols;
@@ -40,7 +38,6 @@ pub use bearing::Bearing;
 pub use digest::Digest;
 pub use face::{Change, Check, Cond, CondList, Effect, Ending, FaceView, Part, Seg, Segs};
 pub use forming::forming_needle;
-pub use laws::rules_in_groups;
 pub use short_list::ShortList;
 pub use sizes::{NeedleList, SizeAsk, SizeAsks, ask_size};
 pub use symbols::{SymbolList, Symbols};

@@ -9,7 +9,7 @@ ghost use Rattle.face_data.specs.Places.{StandsAt, GoesAt};
 ghost use Rattle.face_data.specs.Segments.{change_at};
 
 use crate::{Segs, ShortList};
-use knit_base::{Needle, NoMemory};
+use knit_base::{Needle, NoMemory, needle_order};
 use std::alloc::Global;
 use std::cmp::Ordering;
 use std::marker::Model;
@@ -140,7 +140,7 @@ fn search(held: &[(Needle, Segs)], n: Needle) -> Result<usize, usize>
     let mut high = held.len();
     while low < high {
         let middle = low + (high - low) / 2;
-        match held[middle].0.cmp(&n) {
+        match needle_order(&held[middle].0, &n) {
             Ordering::Less => low = middle + 1,
             Ordering::Equal => return Ok(middle),
             Ordering::Greater => high = middle,

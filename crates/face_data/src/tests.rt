@@ -1,8 +1,6 @@
 //! Each public call once, with ample memory.
-use crate::{
-    Bearing, Cond, Digest, Effect, Seg, Segs, Symbols, ask_size, forming_needle, rules_in_groups,
-};
-use knit_base::{Bed, CarrierNo, Instr, Needle, Profile, Quarter, Reason, Rule};
+use crate::{Bearing, Cond, Digest, Effect, Seg, Segs, Symbols, ask_size, forming_needle};
+use knit_base::{Bed, CarrierNo, Instr, Needle, Quarter, Reason, Rule};
 use std::test::Fail;
 
 const FRONT: Needle = Needle {
@@ -65,14 +63,7 @@ fn a_list_outgrows_its_places(rt: HostRuntime) -> Result<(), Fail> {
 
 #[test]
 fn a_transfer_forms_no_loop(rt: HostRuntime) -> Result<(), Fail> {
-    let profile = Profile {
-        low: 0,
-        high: 8,
-        rack: 4,
-        hold: 16,
-    };
     let transfer = Instr::Xfer(FRONT, BACK);
-    rules_in_groups(&profile, &transfer);
     assert_eq!(rt; forming_needle(&transfer), None);
     Ok(())
 }

@@ -1,5 +1,5 @@
 -- The names of carriers, as the code keeps them.
-use Rattle.std.proofs.Common.{◌≡◌, ℕ, ◌+◌, ◌<◌, ◌≤◌, List, [], ◌∷◌, ◌++◌, length, map, Option, None, Some, position, All, Bool, true, false, ap, sym, subst, ◌∙◌, refl, arith, length-append}
+use Rattle.std.proofs.Common.{◌≡◌, ◌≢◌, ℕ, ◌<◌, ◌≤◌, List, get_or, [], ◌∷◌, ◌++◌, length, map, Option, None, Some, position, true, false, ap, sym, ◌∙◌, refl, arith, length-append}
 use Rattle.std.specs.Option.{option_map}
 use Rattle.std.specs.List.{list_any, AllZip}
 use Rattle.std.specs.Str.{bytes_eq}
@@ -7,9 +7,11 @@ use Rattle.std.specs.String.{string_bytes, string_eq}
 use Rattle.std.specs.Bool.{if◌then◌else◌}
 use Rattle.std.proofs.lemmas.List.{map-append}
 use Rattle.std.proofs.lemmas.List.Elements.{All-push}
-use Rattle.std.proofs.lemmas.List.Sums.{sum_by-append}
+use Rattle.std.proofs.lemmas.List.Folds.{list_any_at}
+use Rattle.std.proofs.lemmas.List.Quantifiers.{all_pairs_push}
+use Rattle.std.proofs.lemmas.Slice.Eq.{bytes_eq-Decides}
+use Rattle.std.proofs.lemmas.Bool.{true≢false}
 use Rattle.std.proofs.Common.{Global, String}
-use Rattle.knit_base.specs.declared.yarns.CarrierNo.{CarrierNo}
 use Rattle.knit_base.specs.Names.{carrier_of, IsName, AreNames, names_len}
 use Rattle.knit_base.proofs.Places.{position-map, list_any-none}
 
@@ -34,9 +36,18 @@ no_key keys names name view none =
     list_any-none (λ d. bytes_eq name (string_bytes d)) keys
     (sym (position-map (bytes_eq name) string_bytes keys) ∙ ap (position (bytes_eq name)) view ∙ no_place (position (bytes_eq name) names) _ none)
 
-pub names-push : (names : List (List ℕ)) (name : List ℕ) → AreNames names → IsName name → length names < 64 → names_len (names ++ name ∷ []) ≤ 65524 → AreNames (names ++ name ∷ [])
-names-push names name are is few room = record {
+-- a name that no carrier has is another than each of theirs
+other_name : (names : List (List ℕ)) (name : List ℕ) → carrier_of names name ≡ None → (k : ℕ) (d : List ℕ) → k < length names → get_or names k d ≢ name
+other_name names name none k d within same =
+    let here : list_any (bytes_eq name) names ≡ true = list_any_at (bytes_eq name) names k d within ((bytes_eq-Decides name (get_or names k d)).1 (sym same)) in
+    true≢false (sym here ∙ list_any-none (bytes_eq name) names (no_place (position (bytes_eq name) names) _ none))
+
+-- names with a new one behind them
+pub names-push : (names : List (List ℕ)) (name : List ℕ) → AreNames names → IsName name → length names < 64 → names_len (names ++ name ∷ []) ≤ 65524 → carrier_of names name ≡ None
+    → AreNames (names ++ name ∷ [])
+names-push names name are is few room new = record {
   few = omega (arith, length-append names (name ∷ []));
+  differ = all_pairs_push (λ name later. name ≢ later) names name are.differ (other_name names name new);
   each = All-push IsName names name are.each is;
   room = room;
 }

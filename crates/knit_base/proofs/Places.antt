@@ -1,5 +1,5 @@
 -- The first place in a list.
-use Rattle.std.proofs.Common.{◌≡◌, ℕ, ◌+◌, ◌<◌, ◌≤◌, Bool, true, false, cond, not, nat_lt, List, [], ◌∷◌, length, drop, get_or, map, Option, None, Some, position, ap, sym, ◌∙◌, refl}
+use Rattle.std.proofs.Common.{◌≡◌, ℕ, ◌+◌, ◌<◌, ◌≤◌, Bool, true, false, cond, not, nat_lt, List, [], ◌∷◌, length, drop, get_or, map, None, Some, position, ap, sym, ◌∙◌, refl}
 use Rattle.std.specs.List.{position_from, prefix_len, list_any}
 use Rattle.std.proofs.lemmas.List.{drop_more, drop_all, length-map}
 use Rattle.std.proofs.lemmas.Iterator.Adapters.{position_from-zero}

@@ -1,5 +1,5 @@
 -- A part of a list, and the item behind it.
-use Rattle.std.proofs.Common.{◌≡◌, ℕ, zero, suc, ◌+◌, ◌-◌, ◌≤◌, Option, Some, None, List, [], ◌∷◌, ◌++◌, take, drop, ap, ◌∙◌, refl, sym, arith}
+use Rattle.std.proofs.Common.{◌≡◌, ℕ, zero, suc, ◌+◌, ◌-◌, ◌≤◌, Some, List, [], ◌∷◌, ◌++◌, take, drop, ap, ◌∙◌, refl, arith}
 use Rattle.std.specs.List.{slice_get, slice_range}
 
 -- what was taken, with one more

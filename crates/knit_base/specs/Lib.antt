@@ -1,3 +1,4 @@
+pub mod Instr
 pub mod Lawful
 pub mod Limits
 pub mod Lines

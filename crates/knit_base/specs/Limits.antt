@@ -1,5 +1,5 @@
 -- The limits of a machine.
-use Rattle.std.specs.Prelude.{ℕ, ◌<◌, ◌≤◌, ℤ, pos, ◌-ℤ◌, ◌≤ℤ◌}
+use Rattle.std.specs.Prelude.{◌≤◌, pos, ◌-ℤ◌, ◌≤ℤ◌}
 use Rattle.knit_base.specs.declared.profile.Profile.{Profile}
 
 -- the profile lies within the bounds of the project

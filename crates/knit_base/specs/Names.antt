@@ -1,5 +1,5 @@
 -- The names of carriers.
-use Rattle.std.specs.Prelude.{◌≡◌, ◌≢◌, ℕ, ◌+◌, ◌<◌, ◌≤◌, List, length, Option, position, sum_by, All}
+use Rattle.std.specs.Prelude.{◌≢◌, ℕ, ◌+◌, ◌<◌, ◌≤◌, List, length, Option, position, sum_by, All, AllPairs}
 use Rattle.std.specs.Option.{option_map}
 use Rattle.std.specs.Str.{bytes_eq}
 use Rattle.knit_base.specs.declared.yarns.CarrierNo.{CarrierNo}
@@ -12,6 +12,7 @@ carrier_of names name = option_map (λ i. record { 0 = i }) (position (bytes_eq 
 abbrev pub IsNameByte : ℕ → Type 0
 IsNameByte byte = (byte ≢ 32) × (byte ≢ 9) × (byte ≢ 10)
 
+-- a name is a run without blanks and line ends, and not empty
 pub record IsName (name : List ℕ) : Type 0 where
   pub some : 0 < length name
   pub plain : All IsNameByte name
@@ -20,7 +21,9 @@ pub record IsName (name : List ℕ) : Type 0 where
 abbrev pub names_len : List (List ℕ) → ℕ
 names_len names = sum_by (λ name. length name + 1) names
 
+-- The names that a header may declare: at most 64, no two the same, and not too long together.
 pub record AreNames (names : List (List ℕ)) : Type 0 where
   pub few : length names ≤ 64
+  pub differ : AllPairs (λ name later. name ≢ later) names
   pub each : All IsName names
   pub room : names_len names ≤ 65524

@@ -1,7 +1,8 @@
--- The order of needles, and the hook beside a slider.
-use Rattle.std.specs.Prelude.{◌≡◌, ℕ, ℤ, Bool, true, false, refl}
+-- The order of needles, the slider beside a hook, and the needles that face each other.
+use Rattle.std.specs.Prelude.{◌≡◌, ℕ, ℤ, pos, ◌*ℤ◌, ◌-ℤ◌, Bool, true, false, refl, if◌then◌else◌}
 use Rattle.std.specs.FinMap.{int_cmp-IsAntisymmetric}
 use Rattle.std.proofs.lemmas.Bool.{false≢true}
+use Rattle.std.proofs.lemmas.Cmp.{nat_cmp_total, int_cmp_total, on_total, then_total}
 use Rattle.std.specs.declared.cmp.Ordering.{Ordering}
 use Rattle.std.specs.declared.cmp.Ordering.TheVariants.{Less, Equal, Greater}
 use Rattle.std.specs.Cmp.{IsTotalOrder}
@@ -9,8 +10,6 @@ use Rattle.std.specs.Ordering.{nat_cmp, int_cmp, ordering_then, is_eq}
 use Rattle.knit_base.specs.declared.needle.Bed.{Bed}
 use Rattle.knit_base.specs.declared.needle.Bed.TheVariants.{Front, FrontSlider, Back, BackSlider}
 use Rattle.knit_base.specs.declared.needle.Needle.{Needle}
-use Rattle.knit_base.specs.contracts.needle.NeedleOrd.TheImpl as needle_ord
-use Rattle.knit_base.specs.contracts.needle.NeedleOrd.TheImpl.Laws as needle_laws
 
 abbrev pub bed_place : Bed → ℕ
 bed_place Front = 0
@@ -18,19 +17,15 @@ bed_place FrontSlider = 1
 bed_place Back = 2
 bed_place BackSlider = 3
 
--- by bed, and then by number
-abbrev pub by_bed_and_number : Needle → Needle → Ordering
-by_bed_and_number a b = ordering_then (nat_cmp (bed_place a.bed) (bed_place b.bed)) (int_cmp a.at b.at)
-
--- the order of needles, as the derived `cmp` has it. `needle_order` of src says that it is by bed and number
+-- the order of needles: by bed, and then by number
 abbrev pub needle_cmp : Needle → Needle → Ordering
-needle_cmp = (needle_ord.ghosts).cmp
+needle_cmp a b = ordering_then (nat_cmp (bed_place a.bed) (bed_place b.bed)) (int_cmp a.at b.at)
 
 abbrev pub same_needle : Needle → Needle → Bool
 same_needle a b = is_eq (needle_cmp a b)
 
 pub needle_cmp_total : IsTotalOrder needle_cmp
-needle_cmp_total = (needle_laws.lawful).total
+needle_cmp_total = then_total (on_total (λ (n : Needle). bed_place n.bed) nat_cmp_total) (on_total (λ (n : Needle). n.at) int_cmp_total)
 
 equal_from_test : (o : Ordering) → is_eq o ≡ true → o ≡ Equal
 equal_from_test Less e = absurd (false≢true e)
@@ -58,6 +53,11 @@ is_slider Front = false
 is_slider FrontSlider = true
 is_slider Back = false
 is_slider BackSlider = true
+
+-- The rack, in quarters of a needle, at which two needles of different sides face each other: the front needle's number less the
+-- back needle's. From the knitout specification.
+abbrev pub rack_facing : Needle → Needle → ℤ
+rack_facing n n2 = if is_front n.bed then pos 4 *ℤ (n.at -ℤ n2.at) else pos 4 *ℤ (n2.at -ℤ n.at)
 
 same_number : (i j : ℤ) → is_eq (int_cmp i j) ≡ true → i ≡ j
 same_number i j e = int_cmp-IsAntisymmetric i j (equal_from_test (int_cmp i j) e)

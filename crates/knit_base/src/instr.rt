@@ -1,4 +1,7 @@
 //! What a line of a knitout file says.
+ghost use Rattle.std.specs.Prelude.{◌≡◌};
+ghost use Rattle.knit_base.specs.Instr.{forming_needle, formed_on};
+
 use crate::{Dir, ListOf, Needle, Reason, Yarns};
 
 /// A rack in quarters of a needle.
@@ -24,6 +27,25 @@ pub enum Instr {
     Xfer(Needle, Needle),
     Drop(Needle),
     Amiss(Needle),
+}
+
+impl Instr {
+    /// The needle on which the instruction forms a loop: that of `knit`, `tuck` and `split` with carriers.
+    pub fn forming_needle(&self) -> Option<Needle>
+        ensures { result ≡ forming_needle self.now }
+    {
+        match self {
+            Instr::Knit(_, n, yarns) | Instr::Tuck(_, n, yarns) => formed_on(*n, yarns),
+            Instr::Split(_, n, _, yarns) => formed_on(*n, yarns),
+            _ => None,
+        }
+    }
+}
+
+fn formed_on(n: Needle, yarns: &Yarns) -> Option<Needle>
+    ensures { result ≡ formed_on n yarns.now }
+{
+    if yarns.len() == 0 { None } else { Some(n) }
 }
 
 /// What a line says: nothing, a comment, an instruction, or the first rule that the line breaks by itself.

@@ -1,5 +1,5 @@
 //! The list that the list types of the project are made of.
-ghost use Rattle.std.specs.Prelude.{◌≡◌, ◌==◌, ◌+◌, ◌<◌, ◌^◌, ◌-◌, [], ◌∷◌, ◌++◌, length, OnOk, OnErr, IfOk, slice_get};
+ghost use Rattle.std.specs.Prelude.{◌≡◌, ◌==◌, ◌+◌, ◌<◌, ◌^◌, ◌-◌, [], ◌∷◌, ◌++◌, length, OnOk, OnErr, IfOk, IsOk, IsSome, IfSome, IfNone, slice_get};
 ghost use Rattle.std.specs.Option.{option_copied};
 
 use crate::NoMemory;
@@ -32,7 +32,7 @@ impl<T: Drop> ListOf<T> {
         }
     }
 
-    /// The empty list, with room for so many items.
+    /// The empty list. Memory for so many items is asked for at once, of which contracts don't speak.
     pub fn with_capacity(alloc: Global, room: u32) -> Result<Self, NoMemory>
         ensures { IfOk result (λ list. list ≡ []) }
     {
@@ -48,6 +48,30 @@ impl<T: Drop> ListOf<T> {
     {
         self.items.push(item)?;
         Ok(())
+    }
+
+    /// Holds this item alone. A list that has items has room for it; after `NoMemory` the list is as before.
+    pub fn set_only(&mut self, item: T) -> Result<(), NoMemory>
+        ensures ok { OnOk result (self.new ≡ item ∷ []) }
+        ensures err { OnErr result (self.new ≡ self.old) }
+        ensures in_place { 0 < length self.old → IsOk result }
+    {
+        if self.items.is_empty() {
+            self.items.push(item)?;
+            return Ok(());
+        }
+        self.items.truncate(1);
+        self.items[0] = item;
+        Ok(())
+    }
+
+    /// Takes the last item off, if there is one.
+    pub fn pop(&mut self) -> Option<T>
+        ensures last { IfSome result (λ item. self.old ≡ self.new ++ item ∷ []) }
+        ensures none { IfNone result (self.new ≡ self.old) }
+        ensures some { 0 < length self.old → IsSome result }
+    {
+        self.items.pop()
     }
 
     /// Drops all items, and keeps their room.

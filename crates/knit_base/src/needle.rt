@@ -1,10 +1,8 @@
 //! Needles and the direction of the carriage.
 ghost use Rattle.std.specs.Prelude.{◌≡◌};
-ghost use Rattle.knit_base.specs.Needle.{by_bed_and_number};
-ghost use Rattle.knit_base.specs.Needle.{is_front, is_slider};
+ghost use Rattle.knit_base.specs.Needle.{is_front, is_slider, needle_cmp, own_slider, rack_facing};
 ghost use Rattle.knit_base.specs.Spelling.{bed_word, dir_word};
 
-use crate::ListOf;
 use std::cmp::Ordering;
 
 /// The four beds of a V-bed machine, in the order in which a report names them.
@@ -56,8 +54,31 @@ pub struct Needle {
     pub at: i16,
 }
 
-/// Needles, in an order that the user of the list says.
-pub type NeedleList = ListOf<Needle>;
+impl Needle {
+    /// The slider of the needle's side and number. A slider's is itself.
+    pub fn own_slider(self) -> Needle
+        ensures { result ≡ own_slider self }
+    {
+        let bed = if self.bed.is_front() {
+            Bed::FrontSlider
+        } else {
+            Bed::BackSlider
+        };
+        Needle { bed, at: self.at }
+    }
+
+    /// The rack, in quarters of a needle, at which the needle faces one of the other side: the front needle's number less the
+    /// back needle's.
+    pub fn rack_facing(self, other: Needle) -> i32
+        ensures { result ≡ rack_facing self other }
+    {
+        if self.bed.is_front() {
+            4 * (i32::from(self.at) - i32::from(other.at))
+        } else {
+            4 * (i32::from(other.at) - i32::from(self.at))
+        }
+    }
+}
 
 /// The direction of the carriage: `+` is to the right.
 #[derive(Clone, Copy, Debug, PartialEq, Eq)]
@@ -78,9 +99,9 @@ impl Dir {
     }
 }
 
-/// The order of needles is by bed, and then by number.
+/// The order of needles: by bed, and then by number.
 pub fn needle_order(a: &Needle, b: &Needle) -> Ordering
-    ensures { result ≡ by_bed_and_number a.now b.now }
+    ensures { result ≡ needle_cmp a.now b.now }
 {
     a.cmp(b)
 }

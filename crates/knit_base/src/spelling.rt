@@ -1,39 +1,48 @@
 //! How needles and racks are written.
-ghost use Rattle.std.specs.Prelude.{◌≡◌, ◌<◌, ◌++◌, decimal, OnOk};
+ghost use Rattle.std.specs.Prelude.{◌≡◌, ◌<◌, ◌++◌, decimal, OnOk, OnErr};
 ghost use Rattle.knit_base.specs.Spelling.{needle_text, quarters_word, rack_text};
 
 use crate::{Needle, NoMemory, Quarter};
 use itoa::Buffer;
 
-/// Appends a number, in decimal.
+/// Appends a number, in decimal. After `NoMemory` the buffer is as before.
 pub fn append_number(number: u64, out: &mut Vec<u8>) -> Result<(), NoMemory>
-    ensures { OnOk result (out.new.items ≡ out.old.items ++ decimal number) }
+    ensures ok { OnOk result (out.new.items ≡ out.old.items ++ decimal number) }
+    ensures err { OnErr result (out.new.items ≡ out.old.items) }
 {
     let mut digits = Buffer::new();
     out.extend_from_slice(digits.format(number).as_bytes())?;
     Ok(())
 }
 
-/// Appends the spelling of a needle: its bed and its number.
+/// Appends the spelling of a needle: its bed and its number. After `NoMemory` the buffer is as before.
 pub fn append_needle(needle: Needle, out: &mut Vec<u8>) -> Result<(), NoMemory>
-    ensures { OnOk result (out.new.items ≡ out.old.items ++ needle_text needle) }
+    ensures ok { OnOk result (out.new.items ≡ out.old.items ++ needle_text needle) }
+    ensures err { OnErr result (out.new.items ≡ out.old.items) }
 {
     let mut digits = Buffer::new();
-    out.extend_from_slice(needle.bed.letters().as_bytes())?;
-    out.extend_from_slice(digits.format(needle.at).as_bytes())?;
+    let number = digits.format(needle.at).as_bytes();
+    let letters = needle.bed.letters().as_bytes();
+    out.reserve(letters.len() + number.len())?;
+    out.extend_from_slice(letters)?;
+    out.extend_from_slice(number)?;
     Ok(())
 }
 
-/// Appends the spelling of a rack, in needles.
+/// Appends the spelling of a rack, in needles. After `NoMemory` the buffer is as before.
 pub fn append_rack(rack: Quarter, out: &mut Vec<u8>) -> Result<(), NoMemory>
-    ensures { OnOk result (out.new.items ≡ out.old.items ++ rack_text rack.0) }
+    ensures ok { OnOk result (out.new.items ≡ out.old.items ++ rack_text rack.0) }
+    ensures err { OnErr result (out.new.items ≡ out.old.items) }
 {
-    if rack.0 < 0 {
-        out.extend_from_slice(b"-")?;
-    }
+    let mut digits = Buffer::new();
     let size = rack.0.unsigned_abs();
-    append_number(u64::from(size / 4), out)?;
-    out.extend_from_slice(after_point(size % 4).as_bytes())?;
+    let whole = digits.format(size / 4).as_bytes();
+    let sign = if rack.0 < 0 { "-" } else { "" };
+    let quarters = after_point(size % 4);
+    out.reserve(sign.len() + whole.len() + quarters.len())?;
+    out.extend_from_slice(sign.as_bytes())?;
+    out.extend_from_slice(whole)?;
+    out.extend_from_slice(quarters.as_bytes())?;
     Ok(())
 }
 

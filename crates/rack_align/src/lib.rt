@@ -1,16 +1,15 @@
 //! The rack at which loops go over from one needle to another.
 //!
 //! Promises that `ask` answers with the one rack at which the instruction breaks no rule on alignment, for every state of the
-//! machine. Definitions: `specs/Moves`, and `specs/RuleGroups` and `specs/Conditions` of `face_data`. Below it stand std,
-//! `knit_base`, `carriage_model` and `face_data`.
+//! machine. Definitions: `specs/Moves`, `specs/Rules` of `carriage_model`, and `specs/Conditions` of `face_data`. Below it stand
+//! std, `knit_base`, `carriage_model` and `face_data`.
 #![tactic(auto)]
 
 ghost use Rattle.std.specs.Prelude.{◌≡◌, Some, not};
 ghost use Rattle.std.specs.Option.{is_none};
-ghost use Rattle.carriage_model.specs.Rules.{rack_facing, not_aligned};
+ghost use Rattle.carriage_model.specs.Rules.{rack_facing, not_aligned, rack_broken};
 ghost use Rattle.carriage_model.specs.State.{State};
 ghost use Rattle.face_data.specs.Conditions.{unmet_rack};
-ghost use Rattle.face_data.specs.RuleGroups.{rack_broken};
 ghost use Rattle.rack_align.specs.Moves.{moves_loops, facing, rack_ask};
 
 use knit_base::{Instr, Needle, Quarter, Reason, Rule};

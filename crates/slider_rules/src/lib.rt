@@ -1,8 +1,8 @@
 //! What is asked of the slider beside a hook on which a loop is formed.
 //!
 //! Promises that `ask` answers with the condition on the block's entry under which the instruction breaks no rule on sliders,
-//! for every state of the machine. Definitions: `specs/RuleGroups`, `specs/Segments` and `specs/Conditions` of `face_data`. Below
-//! it stand std, `knit_base`, `carriage_model` and `face_data`.
+//! for every state of the machine. Definitions: `specs/Rules` of `carriage_model`, and `specs/Segments` and
+//! `specs/Conditions` of `face_data`. Below it stand std, `knit_base`, `carriage_model` and `face_data`.
 #![tactic(auto)]
 
 ghost use Rattle.std.specs.Prelude.{◌≡◌, ℕ, IfOk};
@@ -10,7 +10,7 @@ ghost use Rattle.std.specs.Option.{is_none, option_map};
 ghost use Rattle.knit_base.specs.Needle.{own_slider};
 ghost use Rattle.carriage_model.specs.State.{State};
 ghost use Rattle.face_data.specs.Conditions.{unmet_size_if_any};
-ghost use Rattle.face_data.specs.RuleGroups.{slider_broken, forming_needle};
+ghost use Rattle.carriage_model.specs.Rules.{slider_broken, forming_needle};
 ghost use Rattle.face_data.specs.Segments.{AreRead};
 ghost use Rattle.face_data.specs.Sizes.{size_ask};
 ghost use Rattle.slider_rules.specs.Sliders.{slider_rule};

@@ -11,6 +11,7 @@ ghost use Rattle.summary_compose.specs.Tables.{Tells};
 use crate::laid::Laid;
 use crate::places::Places;
 use face_data::{Change, FaceView, Seg};
+use knit_base::needle_order;
 use std::cmp::Ordering;
 
 /// Whose change comes next: that of the first face, that of the second, or the second's in the place of the first's.
@@ -39,7 +40,7 @@ fn whose_turn(a: &[Change], b: &[Change], i: usize, j: usize) -> Turn
     if i >= a.len() {
         return Turn::Second;
     }
-    match a[i].needle.cmp(&b[j].needle) {
+    match needle_order(&a[i].needle, &b[j].needle) {
         Ordering::Less => Turn::First,
         Ordering::Equal => Turn::Both,
         Ordering::Greater => Turn::Second,

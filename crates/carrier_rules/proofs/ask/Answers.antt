@@ -1,6 +1,6 @@
 use Rattle.std.proofs.Common.{◌∙◌, sym, ap, subst}
 use Rattle.face_data.specs.Conditions.{first_unmet}
-use Rattle.face_data.specs.RuleGroups.{IsEffectOf}
+use Rattle.face_data.specs.Summaries.{IsEffectOf}
 use Rattle.carrier_rules.proofs.Each.{conds-broken}
 use Rattle.carrier_rules.proofs.Effects.{effect-is}
 use Rattle.carrier_rules.proofs.ask.Goals as goal

@@ -1,7 +1,7 @@
 use Rattle.std.proofs.Common.{[], ◌∷◌, ◌∙◌, ap, sym, nat_le}
 use Rattle.knit_base.specs.declared.rule.Rule.TheVariants.{SliderHolds}
 use Rattle.face_data.specs.Conditions.{size_of, unless}
-use Rattle.face_data.specs.RuleGroups.{slider_broken_on}
+use Rattle.carriage_model.specs.Rules.{slider_broken_on}
 use Rattle.slider_rules.proofs.Sliders.{slider-unmet}
 use Rattle.slider_rules.proofs.ask.Goals as goal
 

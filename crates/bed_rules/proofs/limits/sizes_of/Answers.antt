@@ -1,6 +1,6 @@
 use Rattle.std.proofs.Common.{ap, sym, ◌∙◌}
 use Rattle.std.proofs.lemmas.Result.{IfOk-weaker}
-use Rattle.face_data.specs.RuleGroups.{size_broken}
+use Rattle.carriage_model.specs.Rules.{size_broken}
 use Rattle.face_data.specs.Sizes.{size_asks}
 use Rattle.bed_rules.specs.Beds.{size_rules}
 use Rattle.bed_rules.proofs.limits.sizes_of.Goals as goal

@@ -1,4 +1,4 @@
-use Rattle.std.proofs.Common.{◌+◌, Option, sym, subst, ◌∙◌}
+use Rattle.std.proofs.Common.{◌+◌, Option, sym, subst}
 use Rattle.knit_base.specs.declared.needle.Needle.{Needle}
 use Rattle.knit_base.specs.Reasons.{or_else}
 use Rattle.carriage_model.specs.Loops.{loop_of_instr}
@@ -12,7 +12,7 @@ returns-clause-broken c s t first read =
     let rack = c.ask-rack.ensures.broken t in
     let slider = c.in_ok-slider.ensures.broken s t first read in
     let sizes = c.in_ok-beds.ensures.broken s t first read in
-    c.rules_in_groups.ensures t ∙ (λ i. or_else (carriers i) (or_else (rack i) (or_else (slider i) (sizes i))))
+    λ i. or_else (carriers i) (or_else (rack i) (or_else (slider i) (sizes i)))
 
 pub returns-clause-step : goal.returns-clause-step
 returns-clause-step c s t first offset read =

@@ -1,7 +1,6 @@
-use Rattle.std.proofs.Common.{◌≡◌, ◌<◌, List, ℕ, Some, length, get_or, ap, sym, subst, ◌∙◌, arith}
+use Rattle.std.proofs.Common.{Some, ap, sym, subst, ◌∙◌}
 use Rattle.std.proofs.lemmas.Str.{IsUtf8-from_is_utf8}
-use Rattle.knit_base.specs.declared.lines.Span.{Span}
-use Rattle.knit_base.specs.Lines.{IsLine, piece}
+use Rattle.knit_base.specs.Lines.{IsLine}
 use Rattle.knit_base.proofs.Buffers.{got_line}
 use Rattle.knit_base.proofs.lines.Lines.get.Goals as goal
 

@@ -1,4 +1,4 @@
-use Rattle.std.proofs.Common.{◌≡◌, length, arith, rules, ap, ◌∙◌}
+use Rattle.std.proofs.Common.{◌≡◌, length, arith}
 use Rattle.std.proofs.lemmas.Grind.{common_steps}
 use Rattle.knit_base.proofs.Buffers.{lines-pushed, text_line}
 use Rattle.knit_base.proofs.lines.Lines.push.Goals as goal
