@@ -1,2 +1,2 @@
-pub mod TooMany
+pub mod SizeRules
 pub mod Stacks

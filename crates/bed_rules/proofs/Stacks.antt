@@ -1,24 +1,18 @@
 -- What an instruction makes of the stacks, by the segments on the needles.
-use Rattle.std.proofs.Common.{◌≡◌, ℕ, ◌+◌, Bool, true, false, cond, List, [], ◌∷◌, ◌++◌, None, Some, unwrap_or, refl, sym, ap, subst, ◌∙◌}
+use Rattle.std.proofs.Common.{◌≡◌, ℕ, ◌+◌, Bool, true, false, cond, List, [], ◌∷◌, ◌++◌, None, Some, unwrap_or, refl, sym, ap, ◌∙◌}
 use Rattle.std.proofs.lemmas.Grind.{flat_map-append}
-use Rattle.knit_base.proofs.Places.{by_test}
+use Rattle.knit_base.proofs.Needles.{same_needle-comm}
 use Rattle.knit_base.specs.declared.instr.Instr.{Instr}
-use Rattle.knit_base.specs.declared.instr.Instr.TheVariants.{CarryIn, CarryOut, HookIn, HookOut, ReleaseHook, Stitch, Pause, Extension, Rack, Knit, Tuck, Miss, Split, Xfer, Drop, Amiss}
+use Rattle.knit_base.specs.declared.instr.Instr.TheVariants.{Knit, Tuck, Split, Xfer, Drop}
 use Rattle.knit_base.specs.declared.needle.Needle.{Needle}
 use Rattle.knit_base.specs.Needle.{same_needle, same_needle-true}
 use Rattle.carriage_model.specs.State.{State}
 use Rattle.carriage_model.specs.Steps.{step_instr}
 use Rattle.face_data.specs.declared.face.Seg.{Seg}
 use Rattle.face_data.specs.declared.face.Seg.TheVariants.{New}
-use Rattle.carriage_model.specs.Rules.{forming_needle}
-use Rattle.face_data.specs.Segments.{Changed, AreRead, contents_of, read_seg, read_segs}
+use Rattle.knit_base.specs.Instr.{forming_needle}
+use Rattle.face_data.specs.Segments.{Changed, AreRead, segments_on, read_seg, read_segs}
 use Rattle.bed_rules.specs.Beds.{changes_of, AreReadAfter}
-
-same-swap : (a b : Needle) → same_needle a b ≡ same_needle b a
-same-swap a b =
-    by_test (same_needle a b)
-    (λ e. subst (λ (m : Needle). same_needle a m ≡ same_needle m a) (same_needle-true a b e) refl)
-    (λ e. by_test (same_needle b a) (λ f. subst (λ (m : Needle). same_needle m b ≡ same_needle b m) (same_needle-true b a f) refl) (λ f. e ∙ sym f))
 
 -- the needle is left with nothing
 emptied : (s : State) (first : ℕ) (here : Bool) (segs : List Seg) → read_segs s first (unwrap_or (cond here (Some []) None) segs) ≡ cond here [] (read_segs s first segs)
@@ -59,45 +53,35 @@ tied stacks n m false more e = refl
 
 -- a needle holds other loops, by what stands on it and on the rest
 put : (n m : Needle) (loops wanted old read : List ℕ) → loops ≡ wanted → old ≡ read → cond (same_needle n m) loops old ≡ cond (same_needle m n) wanted read
-put n m loops wanted old read is same = λ i. cond (same-swap n m i) (is i) (same i)
+put n m loops wanted old read is same = λ i. cond (same_needle-comm n m i) (is i) (same i)
 
-both_read : (contents : List Changed) (s t : State) (first : ℕ) (n n2 : Needle) → AreRead contents s first t.stacks
-    → t.stacks n2 ++ t.stacks n ≡ read_segs s first (contents_of contents n2 ++ contents_of contents n)
-both_read contents s t first n n2 read =
-    (λ i. read n2 i ++ read n i) ∙ sym (flat_map-append (read_seg s first) (contents_of contents n2) (contents_of contents n))
+both_read : (segments : List Changed) (s t : State) (first : ℕ) (n n2 : Needle) → AreRead segments s first t.stacks
+    → t.stacks n2 ++ t.stacks n ≡ read_segs s first (segments_on segments n2 ++ segments_on segments n)
+both_read segments s t first n n2 read =
+    (λ i. read n2 i ++ read n i) ∙ sym (flat_map-append (read_seg s first) (segments_on segments n2) (segments_on segments n))
 
 -- what the instruction makes of the stacks
-pub changed-read : (contents : List Changed) (instr : Instr) (s t : State) (first offset : ℕ) → AreRead contents s first t.stacks
-    → AreReadAfter contents (changes_of instr contents) (forming_needle instr) s first offset (step_instr (first + offset) instr t).stacks
-changed-read contents (Knit dir n []) s t first offset read m =
-    put n m [] [] (t.stacks m) (read_segs s first (contents_of contents m)) refl (read m) ∙ sym (emptied s first (same_needle m n) (contents_of contents m))
-changed-read contents (Knit dir n (c ∷ cs)) s t first offset read m =
-    put n m ((first + offset) ∷ []) ((first + offset) ∷ []) (t.stacks m) (read_segs s first (contents_of contents m)) refl (read m)
-    ∙ sym (knitted s first offset (same_needle m n) (contents_of contents m))
-changed-read contents (Tuck dir n []) s t first offset read m = read m
-changed-read contents (Tuck dir n (c ∷ cs)) s t first offset read m =
+pub changed-read : (segments : List Changed) (instr : Instr) (s t : State) (first offset : ℕ) → AreRead segments s first t.stacks
+    → AreReadAfter segments (changes_of instr segments) (forming_needle instr) s first offset (step_instr (first + offset) instr t).stacks
+changed-read segments (Knit dir n []) s t first offset read m =
+    put n m [] [] (t.stacks m) (read_segs s first (segments_on segments m)) refl (read m) ∙ sym (emptied s first (same_needle m n) (segments_on segments m))
+changed-read segments (Knit dir n (c ∷ cs)) s t first offset read m =
+    put n m ((first + offset) ∷ []) ((first + offset) ∷ []) (t.stacks m) (read_segs s first (segments_on segments m)) refl (read m)
+    ∙ sym (knitted s first offset (same_needle m n) (segments_on segments m))
+changed-read segments (Tuck dir n []) s t first offset read m = read m
+changed-read segments (Tuck dir n (c ∷ cs)) s t first offset read m =
     tied t.stacks n m (same_needle n m) ((first + offset) ∷ []) refl
-    ∙ put n m (t.stacks m ++ (first + offset) ∷ []) (read_segs s first (contents_of contents m) ++ (first + offset) ∷ []) (t.stacks m) (read_segs s first (contents_of contents m)) (ap (λ (l : List ℕ). l ++ (first + offset) ∷ []) (read m)) (read m)
-    ∙ sym (tucked s first offset (same_needle m n) (contents_of contents m))
-changed-read contents (Split dir n n2 []) s t first offset read m =
-    put n m [] [] _ _ refl (put n2 m _ _ (t.stacks m) (read_segs s first (contents_of contents m)) (both_read contents s t first n n2 read) (read m))
-    ∙ sym (gone_over s first (same_needle m n) (same_needle m n2) (contents_of contents n2 ++ contents_of contents n) (contents_of contents m))
-changed-read contents (Split dir n n2 (c ∷ cs)) s t first offset read m =
-    put n m ((first + offset) ∷ []) ((first + offset) ∷ []) _ _ refl (put n2 m _ _ (t.stacks m) (read_segs s first (contents_of contents m)) (both_read contents s t first n n2 read) (read m))
-    ∙ sym (split_over s first offset (same_needle m n) (same_needle m n2) (contents_of contents n2 ++ contents_of contents n) (contents_of contents m))
-changed-read contents (Xfer n n2) s t first offset read m =
-    put n m [] [] _ _ refl (put n2 m _ _ (t.stacks m) (read_segs s first (contents_of contents m)) (both_read contents s t first n n2 read) (read m))
-    ∙ sym (gone_over s first (same_needle m n) (same_needle m n2) (contents_of contents n2 ++ contents_of contents n) (contents_of contents m))
-changed-read contents (Drop n) s t first offset read m =
-    put n m [] [] (t.stacks m) (read_segs s first (contents_of contents m)) refl (read m) ∙ sym (emptied s first (same_needle m n) (contents_of contents m))
-changed-read contents (CarryIn cs) s t first offset read m = read m
-changed-read contents (CarryOut cs) s t first offset read m = read m
-changed-read contents (HookIn cs) s t first offset read m = read m
-changed-read contents (HookOut cs) s t first offset read m = read m
-changed-read contents (ReleaseHook cs) s t first offset read m = read m
-changed-read contents Stitch s t first offset read m = read m
-changed-read contents Pause s t first offset read m = read m
-changed-read contents Extension s t first offset read m = read m
-changed-read contents (Rack q) s t first offset read m = read m
-changed-read contents (Miss dir n cs) s t first offset read m = read m
-changed-read contents (Amiss n) s t first offset read m = read m
+    ∙ put n m (t.stacks m ++ (first + offset) ∷ []) (read_segs s first (segments_on segments m) ++ (first + offset) ∷ []) (t.stacks m) (read_segs s first (segments_on segments m)) (ap (λ (l : List ℕ). l ++ (first + offset) ∷ []) (read m)) (read m)
+    ∙ sym (tucked s first offset (same_needle m n) (segments_on segments m))
+changed-read segments (Split dir n n2 []) s t first offset read m =
+    put n m [] [] _ _ refl (put n2 m _ _ (t.stacks m) (read_segs s first (segments_on segments m)) (both_read segments s t first n n2 read) (read m))
+    ∙ sym (gone_over s first (same_needle m n) (same_needle m n2) (segments_on segments n2 ++ segments_on segments n) (segments_on segments m))
+changed-read segments (Split dir n n2 (c ∷ cs)) s t first offset read m =
+    put n m ((first + offset) ∷ []) ((first + offset) ∷ []) _ _ refl (put n2 m _ _ (t.stacks m) (read_segs s first (segments_on segments m)) (both_read segments s t first n n2 read) (read m))
+    ∙ sym (split_over s first offset (same_needle m n) (same_needle m n2) (segments_on segments n2 ++ segments_on segments n) (segments_on segments m))
+changed-read segments (Xfer n n2) s t first offset read m =
+    put n m [] [] _ _ refl (put n2 m _ _ (t.stacks m) (read_segs s first (segments_on segments m)) (both_read segments s t first n n2 read) (read m))
+    ∙ sym (gone_over s first (same_needle m n) (same_needle m n2) (segments_on segments n2 ++ segments_on segments n) (segments_on segments m))
+changed-read segments (Drop n) s t first offset read m =
+    put n m [] [] (t.stacks m) (read_segs s first (segments_on segments m)) refl (read m) ∙ sym (emptied s first (same_needle m n) (segments_on segments m))
+changed-read segments instr s t first offset read m = read m

@@ -1,26 +1,16 @@
--- What an instruction makes of needles whose contents are known.
+-- What an instruction asks of the loops on needles, and what it makes of their segments.
 use Rattle.std.specs.Prelude.{◌≡◌, ℕ, ◌-◌, List, [], ◌∷◌, ◌++◌, Option, None, Some, unwrap_or, if◌then◌else◌}
 use Rattle.knit_base.specs.declared.instr.Instr.{Instr}
 use Rattle.knit_base.specs.declared.instr.Instr.TheVariants.{Knit, Tuck, Split, Xfer, Drop}
 use Rattle.knit_base.specs.declared.needle.Needle.{Needle}
-use Rattle.knit_base.specs.declared.profile.Profile.{Profile}
-use Rattle.knit_base.specs.declared.rule.Reason.{Reason}
 use Rattle.knit_base.specs.declared.rule.Rule.TheVariants.{TooManyLoops}
 use Rattle.knit_base.specs.declared.yarns.CarrierNo.{CarrierNo}
 use Rattle.knit_base.specs.Needle.{same_needle}
-use Rattle.knit_base.specs.Reasons.{or_else}
 use Rattle.carriage_model.specs.State.{State}
 use Rattle.face_data.specs.declared.face.Seg.{Seg}
 use Rattle.face_data.specs.declared.face.Seg.TheVariants.{New}
-use Rattle.face_data.specs.declared.sizes.SizeAsk.{SizeAsk}
-use Rattle.face_data.specs.Conditions.{unmet_size}
-use Rattle.face_data.specs.Segments.{Changed, change_at, contents_of, read_segs}
+use Rattle.face_data.specs.Segments.{Changed, change_at, segments_on, read_segs}
 use Rattle.face_data.specs.Sizes.{SizeRule}
-
--- the reason of the first condition on sizes that isn't met
-abbrev pub first_unmet_size : List SizeAsk → State → Option Reason
-first_unmet_size [] s = None
-first_unmet_size (ask ∷ asks) s = or_else (unmet_size ask s) (first_unmet_size asks s)
 
 -- the segments of needle n, with the loop that the line with this offset forms on another needle or on this one
 abbrev pub with_new : Option Needle → ℕ → Needle → List Seg → List Seg
@@ -28,37 +18,37 @@ with_new None offset n segs = segs
 with_new (Some m) offset n segs = if same_needle n m then segs ++ New offset ∷ [] else segs
 
 -- what the needle holds after these changes, and after a loop is formed
-abbrev pub contents_after : List Changed → List Changed → Option Needle → ℕ → Needle → List Seg
-contents_after contents changed makes offset n = with_new makes offset n (unwrap_or (change_at changed n) (contents_of contents n))
+abbrev pub segments_after : List Changed → List Changed → Option Needle → ℕ → Needle → List Seg
+segments_after segments changed makes offset n = with_new makes offset n (unwrap_or (change_at changed n) (segments_on segments n))
 
 -- the stacks are what the needles hold after the changes, in a block that was entered in state s at line `first`
 abbrev pub AreReadAfter : List Changed → List Changed → Option Needle → State → ℕ → ℕ → (Needle → List ℕ) → Type 0
-AreReadAfter contents changed makes s first offset stacks = (n : Needle) → stacks n ≡ read_segs s first (contents_after contents changed makes offset n)
+AreReadAfter segments changed makes s first offset stacks = (n : Needle) → stacks n ≡ read_segs s first (segments_after segments changed makes offset n)
 
 -- all segments of the first needle go over behind those of the second
 abbrev pub moved : List Changed → Needle → Needle → List Changed
-moved contents n n2 = (n, []) ∷ (n2, contents_of contents n2 ++ contents_of contents n) ∷ []
+moved segments n n2 = (n, []) ∷ (n2, segments_on segments n2 ++ segments_on segments n) ∷ []
 
 -- the needles that change their segments, but for the loop that is formed
 abbrev pub changes_of : Instr → List Changed → List Changed
-changes_of (Knit dir n cs) contents = (n, []) ∷ []
-changes_of (Split dir n n2 cs) contents = moved contents n n2
-changes_of (Xfer n n2) contents = moved contents n n2
-changes_of (Drop n) contents = (n, []) ∷ []
-changes_of instr contents = []
+changes_of (Knit dir n cs) segments = (n, []) ∷ []
+changes_of (Split dir n n2 cs) segments = moved segments n n2
+changes_of (Xfer n n2) segments = moved segments n n2
+changes_of (Drop n) segments = (n, []) ∷ []
+changes_of instr segments = []
 
 -- these needles hold too many loops together; the token that is named
 abbrev pub crowded : ℕ → List Needle → ℕ → SizeRule
 crowded at needles most = record { reason = record { rule = TooManyLoops; at = at }; needles = needles; most = most }
 
 -- a tuck with carriers puts one more loop on the needle
-abbrev pub tuck_rules : Profile → Needle → List CarrierNo → List SizeRule
-tuck_rules profile n [] = []
-tuck_rules profile n (c ∷ cs) = crowded 2 (n ∷ []) (profile.hold - 1) ∷ []
+abbrev pub tuck_rules : ℕ → Needle → List CarrierNo → List SizeRule
+tuck_rules hold n [] = []
+tuck_rules hold n (c ∷ cs) = crowded 2 (n ∷ []) (hold - 1) ∷ []
 
--- what the instruction asks of sizes: loops that go over come together on the second needle
-abbrev pub size_rules : Profile → Instr → List SizeRule
-size_rules profile (Tuck dir n cs) = tuck_rules profile n cs
-size_rules profile (Split dir n n2 cs) = crowded 3 (n2 ∷ n ∷ []) profile.hold ∷ []
-size_rules profile (Xfer n n2) = crowded 2 (n2 ∷ n ∷ []) profile.hold ∷ []
-size_rules profile instr = []
+-- what the instruction asks of sizes, where a needle may hold so many loops: loops that go over come together on the second needle
+abbrev pub size_rules : ℕ → Instr → List SizeRule
+size_rules hold (Tuck dir n cs) = tuck_rules hold n cs
+size_rules hold (Split dir n n2 cs) = crowded 3 (n2 ∷ n ∷ []) hold ∷ []
+size_rules hold (Xfer n n2) = crowded 2 (n2 ∷ n ∷ []) hold ∷ []
+size_rules hold instr = []

@@ -1,27 +1,19 @@
 //! What an instruction makes of the segments on needles.
-ghost use Rattle.std.specs.Prelude.{◌≡◌, [], ◌∷◌, ◌++◌, IfOk, OnOk};
-ghost use Rattle.face_data.specs.Segments.{contents_of};
+ghost use Rattle.std.specs.Prelude.{◌≡◌, [], ◌∷◌, IfOk};
 ghost use Rattle.bed_rules.specs.Beds.{changes_of, moved};
 
-use face_data::{Seg, Segs, SymbolList, Symbols};
+use face_data::{Segs, SymbolList, Symbols};
 use knit_base::{Instr, Needle, NoMemory};
 use std::alloc::Global;
 
 /// The needles that change their segments, but for the loop that the instruction forms.
-pub fn changes_of(alloc: Global, instr: &Instr, contents: &Symbols) -> Result<SymbolList, NoMemory>
-    ensures { IfOk result (λ changed. changed ≡ changes_of instr.now contents.now) }
+pub fn changes_of(alloc: Global, instr: &Instr, segments: &Symbols) -> Result<SymbolList, NoMemory>
+    ensures { IfOk result (λ changed. changed ≡ changes_of instr.now segments.now) }
 {
     match instr {
-        Instr::Knit(_, n, _) => emptied(alloc, *n),
-        Instr::Drop(n) => emptied(alloc, *n),
-        Instr::Split(_, n, n2, _) => moved(alloc, *n, *n2, contents),
-        Instr::Xfer(n, n2) => moved(alloc, *n, *n2, contents),
-        Instr::CarryIn(_) | Instr::CarryOut(_) => Ok(SymbolList::new(alloc)),
-        Instr::HookIn(_) | Instr::HookOut(_) => Ok(SymbolList::new(alloc)),
-        Instr::ReleaseHook(_) | Instr::Rack(_) => Ok(SymbolList::new(alloc)),
-        Instr::Stitch | Instr::Pause | Instr::Extension => Ok(SymbolList::new(alloc)),
-        Instr::Tuck(_, _, _) | Instr::Miss(_, _, _) => Ok(SymbolList::new(alloc)),
-        Instr::Amiss(_) => Ok(SymbolList::new(alloc)),
+        Instr::Knit(_, n, _) | Instr::Drop(n) => emptied(alloc, *n),
+        Instr::Split(_, n, n2, _) | Instr::Xfer(n, n2) => moved(alloc, *n, *n2, segments),
+        _ => Ok(SymbolList::new(alloc)),
     }
 }
 
@@ -35,34 +27,13 @@ fn emptied(alloc: Global, n: Needle) -> Result<SymbolList, NoMemory>
 }
 
 // All segments of the first needle go over behind those of the second.
-fn moved(alloc: Global, n: Needle, n2: Needle, contents: &Symbols) -> Result<SymbolList, NoMemory>
-    ensures { IfOk result (λ changed. changed ≡ moved contents.now n n2) }
+fn moved(alloc: Global, n: Needle, n2: Needle, segments: &Symbols) -> Result<SymbolList, NoMemory>
+    ensures { IfOk result (λ changed. changed ≡ moved segments.now n n2) }
 {
     let mut both = Segs::new(alloc);
-    append_contents(&mut both, contents, n2)?;
-    append_contents(&mut both, contents, n)?;
+    segments.append_segs(n2, &mut both)?;
+    segments.append_segs(n, &mut both)?;
     let mut changed = emptied(alloc, n)?;
     changed.push((n2, both))?;
     Ok(changed)
-}
-
-// Appends what the needle holds.
-fn append_contents(segs: &mut Segs, contents: &Symbols, n: Needle) -> Result<(), NoMemory>
-    ensures { OnOk result (segs.new ≡ segs.old ++ contents_of contents.now n) }
-{
-    match contents.of(n) {
-        Some(more) => append_segs(segs, more.as_slice()),
-        None => append_segs(segs, &[Seg::Entry(n)]),
-    }
-}
-
-// Appends the segments. A list that would pass what a `u32` counts is refused as want of memory.
-fn append_segs(segs: &mut Segs, more: &[Seg]) -> Result<(), NoMemory>
-    ensures { OnOk result (segs.new ≡ segs.old ++ more.now) }
-{
-    let room = u32::MAX - segs.len();
-    if more.len() > room as usize {
-        return Err(NoMemory);
-    }
-    segs.extend_from_slice(more)
 }

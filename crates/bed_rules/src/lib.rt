@@ -15,12 +15,14 @@ ghost use Rattle.std.specs.Prelude.{◌≡◌, ℕ, ◌+◌, IfOk};
 ghost use Rattle.knit_base.specs.Limits.{IsLawfulProfile};
 ghost use Rattle.carriage_model.specs.State.{State};
 ghost use Rattle.carriage_model.specs.Steps.{step_instr};
-ghost use Rattle.carriage_model.specs.Rules.{size_broken, forming_needle};
+ghost use Rattle.carriage_model.specs.Rules.{size_broken};
+ghost use Rattle.knit_base.specs.Instr.{forming_needle};
+ghost use Rattle.face_data.specs.Conditions.{first_unmet_size};
 ghost use Rattle.face_data.specs.Segments.{AreRead};
 ghost use Rattle.face_data.specs.Sizes.{size_asks};
-ghost use Rattle.bed_rules.specs.Beds.{first_unmet_size, AreReadAfter, changes_of, size_rules};
+ghost use Rattle.bed_rules.specs.Beds.{AreReadAfter, changes_of, size_rules};
 
-use face_data::{SizeAsks, SymbolList, Symbols, forming_needle};
+use face_data::{SizeAsks, SymbolList, Symbols};
 use knit_base::{Instr, Needle, NoMemory, Profile};
 use std::alloc::Global;
 
@@ -38,18 +40,18 @@ pub fn ask(
     alloc: Global,
     instr: &Instr,
     profile: &Profile,
-    contents: &Symbols,
+    segments: &Symbols,
 ) -> Result<BedAsk, NoMemory>
     requires { IsLawfulProfile profile.now }
-    ensures broken { IfOk result (λ ask. (s t : State) (first : ℕ) → AreRead contents.now s first t.stacks → size_broken profile.now instr.now t ≡ first_unmet_size ask.sizes s) }
-    ensures sizes { IfOk result (λ ask. ask.sizes ≡ size_asks contents.now (size_rules profile.now instr.now)) }
-    ensures changes { IfOk result (λ ask. ask.changed ≡ changes_of instr.now contents.now) }
-    ensures changed { IfOk result (λ ask. (s t : State) (first offset : ℕ) → AreRead contents.now s first t.stacks → AreReadAfter contents.now ask.changed ask.makes s first offset (step_instr (first + offset) instr.now t).stacks) }
+    ensures broken { IfOk result (λ ask. (s t : State) (first : ℕ) → AreRead segments.now s first t.stacks → size_broken profile.now instr.now t ≡ first_unmet_size ask.sizes s) }
+    ensures sizes { IfOk result (λ ask. ask.sizes ≡ size_asks segments.now (size_rules profile.now.hold instr.now)) }
+    ensures changes { IfOk result (λ ask. ask.changed ≡ changes_of instr.now segments.now) }
+    ensures changed { IfOk result (λ ask. (s t : State) (first offset : ℕ) → AreRead segments.now s first t.stacks → AreReadAfter segments.now ask.changed ask.makes s first offset (step_instr (first + offset) instr.now t).stacks) }
     ensures makes { IfOk result (λ ask. ask.makes ≡ forming_needle instr.now) }
 {
     Ok(BedAsk {
-        sizes: limits::sizes_of(alloc, instr, profile, contents)?,
-        changed: changes::changes_of(alloc, instr, contents)?,
-        makes: forming_needle(instr),
+        sizes: limits::sizes_of(alloc, instr, profile, segments)?,
+        changed: changes::changes_of(alloc, instr, segments)?,
+        makes: instr.forming_needle(),
     })
 }

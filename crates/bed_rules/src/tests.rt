@@ -26,8 +26,8 @@ fn a_split_moves_the_loops_and_makes_one(rt: HostRuntime) -> Result<(), Fail> {
     let mut yarns = Yarns::new(rt.alloc());
     yarns.push(CarrierNo(0))?;
     let split = Instr::Split(Dir::Right, FRONT, BACK, yarns);
-    let contents = Symbols::new(rt.alloc());
-    let asked = ask(rt.alloc(), &split, &PROFILE, &contents)?;
+    let segments = Symbols::new(rt.alloc());
+    let asked = ask(rt.alloc(), &split, &PROFILE, &segments)?;
     assert_eq!(rt; asked.makes, Some(FRONT));
     assert_eq!(rt; asked.changed.len(), 2);
     match asked.changed.get(1) {
@@ -51,8 +51,8 @@ fn a_tuck_needs_room_for_one_more(rt: HostRuntime) -> Result<(), Fail> {
     let mut yarns = Yarns::new(rt.alloc());
     yarns.push(CarrierNo(0))?;
     let tuck = Instr::Tuck(Dir::Left, BACK, yarns);
-    let contents = Symbols::new(rt.alloc());
-    let asked = ask(rt.alloc(), &tuck, &PROFILE, &contents)?;
+    let segments = Symbols::new(rt.alloc());
+    let asked = ask(rt.alloc(), &tuck, &PROFILE, &segments)?;
     assert_eq!(rt; asked.makes, Some(BACK));
     assert_eq!(rt; asked.changed.len(), 0);
     match asked.sizes.get(0) {
@@ -65,8 +65,8 @@ fn a_tuck_needs_room_for_one_more(rt: HostRuntime) -> Result<(), Fail> {
 #[test]
 fn a_knit_without_carriers_drops_the_loops(rt: HostRuntime) -> Result<(), Fail> {
     let knit = Instr::Knit(Dir::Right, FRONT, Yarns::new(rt.alloc()));
-    let contents = Symbols::new(rt.alloc());
-    let asked = ask(rt.alloc(), &knit, &PROFILE, &contents)?;
+    let segments = Symbols::new(rt.alloc());
+    let asked = ask(rt.alloc(), &knit, &PROFILE, &segments)?;
     assert!(rt; asked.sizes.is_empty());
     assert_eq!(rt; asked.makes, None);
     assert_eq!(rt; asked.changed.len(), 1);

@@ -1,6 +1,6 @@
-pub mod Drafted
+pub mod DraftSteps
 pub mod LineChecks
-pub mod LineFair
+pub mod LineGoodness
 pub mod LineFront
 pub mod LineStands
-mod Loops
+mod FormedLoops

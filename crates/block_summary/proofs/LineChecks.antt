@@ -9,24 +9,25 @@ use Rattle.std.proofs.lemmas.Nat.Bits.{bit_at-zero}
 use Rattle.std.proofs.Math.Pow.{pow-lt}
 use Rattle.std.specs.Prelude.{nat_eq}
 use Rattle.knit_base.specs.declared.instr.Instr.{Instr}
-use Rattle.knit_base.specs.declared.instr.Instr.TheVariants.{CarryIn, CarryOut, HookIn, HookOut, ReleaseHook, Stitch, Pause, Extension, Rack, Knit, Tuck, Miss, Split, Xfer, Drop, Amiss}
+use Rattle.knit_base.specs.declared.instr.Instr.TheVariants.{CarryIn, CarryOut, HookIn, HookOut, ReleaseHook, Knit, Tuck, Miss, Split, Xfer}
 use Rattle.knit_base.specs.declared.needle.Needle.{Needle}
 use Rattle.knit_base.specs.declared.needle.Bed.{Bed}
 use Rattle.knit_base.specs.declared.needle.Bed.TheVariants.{Front, FrontSlider, Back, BackSlider}
 use Rattle.knit_base.specs.declared.profile.Profile.{Profile}
 use Rattle.knit_base.specs.declared.rule.Reason.{Reason}
+use Rattle.knit_base.specs.declared.rule.Rule.{Rule}
 use Rattle.knit_base.specs.declared.rule.Rule.TheVariants.{NotAligned, HookBusy, HookOther}
 use Rattle.knit_base.specs.declared.yarns.CarrierNo.{CarrierNo}
 use Rattle.knit_base.specs.Lawful.{IsLawful, AreOpposite}
-use Rattle.knit_base.specs.Needle.{own_slider, slider_bed, is_front, is_slider}
+use Rattle.knit_base.specs.Needle.{own_slider, slider_bed, is_front, is_slider, rack_facing}
 use Rattle.knit_base.specs.Yarns.{contains_carrier, mask_of}
-use Rattle.carriage_model.specs.Rules.{rack_facing, forming_needle}
 use Rattle.face_data.specs.declared.face.Cond.{Cond}
 use Rattle.face_data.specs.declared.face.Cond.TheVariants.{HookFree}
 use Rattle.face_data.specs.declared.face.Effect.{Effect}
 use Rattle.face_data.specs.Conditions.{Ask, ask_of}
 use Rattle.face_data.specs.Conditions.Ask.{rack_is, hook_free, hook_is}
 use Rattle.face_data.specs.Goodness.{AskFits, LiesIn, NeverFalls, names_in}
+use Rattle.knit_base.specs.Instr.{forming_needle}
 use Rattle.face_data.specs.Segments.{Changed}
 use Rattle.face_data.specs.Sets.{IsWithin, NestedOrApart}
 use Rattle.face_data.specs.Summaries.{Asked}
@@ -35,6 +36,13 @@ use Rattle.carrier_rules.specs.declared.conds.OfEach.{OfEach}
 use Rattle.carrier_rules.specs.declared.conds.OfEach.TheVariants.{InAction, NotInAction, NotInHook}
 use Rattle.carrier_rules.specs.Carriers.{cond_of, rule_of, conds_of_each, conds_of, effect_of, hook_reason}
 use Rattle.block_summary.specs.LineSummaries.{asked_for, plainly_asked, rack_asked, slider_asked, sizes_asked, asked_by}
+use Rattle.face_data.proofs.Goodness.{NestedOrApart-comm}
+use Rattle.knit_base.proofs.Masks.{mask_of-below, contains_carrier-none}
+use Rattle.knit_base.proofs.Needles.{slider_bed-is_slider, slider_bed-is_front}
+
+-- the condition for the rule that is named at this token
+abbrev pub rule_asked : Rule → ℕ → Ask → Asked
+rule_asked rule at ask = asked_for (record { rule = rule; at = at }) ask
 
 -- the needles of a condition are one of two lists, or none
 abbrev pub NamesAre : List Needle → List Needle → List Needle → Type 0
@@ -49,36 +57,34 @@ same_within xs ys same n there = subst (λ zs. Contains zs n) same there
 nested_from : (first second xs ys : List Needle) → NestedOrApart first second → xs ≡ first → ys ≡ second → NestedOrApart xs ys
 nested_from first second xs ys nested is also = subst (λ zs. NestedOrApart zs ys) (sym is) (subst (NestedOrApart first) (sym also) nested)
 
-swapped : (xs ys : List Needle) → NestedOrApart xs ys → NestedOrApart ys xs
-swapped xs ys (inl within) = inr (inl within)
-swapped xs ys (inr (inl within)) = inl within
-swapped xs ys (inr (inr apart)) = inr (inr (λ n h k. apart n k h))
-
 -- any two such lists are nested or apart
 pub nested_among : (first second xs ys : List Needle) → NestedOrApart first second → NamesAre first second xs → NamesAre first second ys → NestedOrApart xs ys
 nested_among first second xs ys nested (inl none) other = inl (nothing_within xs ys none)
 nested_among first second xs ys nested (inr one) (inl none) = inr (inl (nothing_within ys xs none))
 nested_among first second xs ys nested (inr (inl one)) (inr (inl two)) = inl (same_within xs ys (one ∙ sym two))
 nested_among first second xs ys nested (inr (inl one)) (inr (inr two)) = nested_from first second xs ys nested one two
-nested_among first second xs ys nested (inr (inr one)) (inr (inl two)) = swapped ys xs (nested_from first second ys xs nested two one)
+nested_among first second xs ys nested (inr (inr one)) (inr (inl two)) = NestedOrApart-comm ys xs (nested_from first second ys xs nested two one)
 nested_among first second xs ys nested (inr (inr one)) (inr (inr two)) = inl (same_within xs ys (one ∙ sym two))
 
 -- each condition of the list is so
 abbrev pub Each : (Asked → Type 0) → List Asked → Type 0
 Each P checks = (c : Asked) → Contains checks c → P c
 
+-- no condition
 pub each_none : (P : Asked → Type 0) → Each P []
 each_none P c there = absurd (Contains-none c there)
 
 each_more : (P : Asked → Type 0) (c : Asked) (cs : List Asked) → P c → Each P cs → Each P (c ∷ cs)
 each_more P c cs here later d there = elim (Contains-cons_cases c cs d there) [ inl same ↦ subst P same here | inr rest ↦ later d rest ]
 
+-- one condition
 pub each_one : (P : Asked → Type 0) (c : Asked) → P c → Each P (c ∷ [])
 each_one P c here = each_more P c [] here (each_none P)
 
 each_both : (P : Asked → Type 0) (xs ys : List Asked) → Each P xs → Each P ys → Each P (xs ++ ys)
 each_both P xs ys first second c there = elim (Contains-append_cases xs ys c there) [ inl here ↦ first c here | inr later ↦ second c later ]
 
+-- conditions of one line
 pub never_falls : (cs : List Asked) → Each (λ c. c.fault.line ≡ 0) cs → NeverFalls cs
 never_falls [] each = tt
 never_falls (c ∷ cs) each = (
@@ -113,15 +119,6 @@ carrier_names InAction c = refl
 carrier_names NotInAction c = refl
 carrier_names NotInHook c = refl
 
--- sets of declared carriers
-pub mask_below : (carriers : ℕ) (cs : List CarrierNo) → All (λ c. c.0 < carriers) cs → mask_of cs < 2 ^ carriers
-mask_below carriers [] all = pow_pos carriers
-mask_below carriers (c ∷ cs) all =
-    or_lt carriers (mask_of cs) (2 ^ c.0) (mask_below carriers cs (All-tail (λ d. d.0 < carriers) c cs all)) (pow-lt (All-head (λ d. d.0 < carriers) c cs all))
-
-pub none_in : (c : CarrierNo) → contains_carrier 0 c ≡ false
-none_in c = ap (λ n. nat_eq n 1) (bit_at-zero c.0)
-
 -- what the effect of a line does
 pub record EffectFits (carriers : ℕ) (effect : Effect) : Type 0 where
   pub apart : (c : CarrierNo) → contains_carrier effect.came c ≡ true → contains_carrier effect.went c ≡ false
@@ -130,53 +127,44 @@ pub record EffectFits (carriers : ℕ) (effect : Effect) : Type 0 where
   pub hook : IfSome effect.hook (λ set. set < 2 ^ carriers)
 
 none_came : (c : CarrierNo) (set : ℕ) → contains_carrier 0 c ≡ true → contains_carrier set c ≡ false
-none_came c set came = absurd (true≢false (sym came ∙ none_in c))
+none_came c set came = absurd (true≢false (sym came ∙ contains_carrier-none c))
 
 idle_fits : (carriers : ℕ) (effect : Effect) → effect.came ≡ 0 → effect.went ≡ 0 → IfSome effect.hook (λ set. set < 2 ^ carriers) → EffectFits carriers effect
 idle_fits carriers effect none gone hook = record {
-  apart = λ c came. ap (λ set. contains_carrier set c) gone ∙ none_in c;
+  apart = λ c came. ap (λ set. contains_carrier set c) gone ∙ contains_carrier-none c;
   came = omega (arith, none, pow_pos carriers);
   went = omega (arith, gone, pow_pos carriers);
   hook = hook;
 }
 
+-- what a lawful instruction does to carriers and hook
 pub effect_fits : (profile : Profile) (carriers : ℕ) (instr : Instr) → IsLawful profile carriers instr → EffectFits carriers (effect_of instr)
 effect_fits profile carriers (CarryIn cs) lawful = record {
-  apart = λ c came. none_in c;
-  came = mask_below carriers cs lawful.each;
+  apart = λ c came. contains_carrier-none c;
+  came = mask_of-below carriers cs lawful.carriers.each;
   went = pow_pos carriers;
   hook = tt;
 }
 effect_fits profile carriers (CarryOut cs) lawful = record {
   apart = λ c came. none_came c (mask_of cs) came;
   came = pow_pos carriers;
-  went = mask_below carriers cs lawful.each;
+  went = mask_of-below carriers cs lawful.carriers.each;
   hook = tt;
 }
 effect_fits profile carriers (HookIn cs) lawful = record {
-  apart = λ c came. none_in c;
-  came = mask_below carriers cs lawful.each;
+  apart = λ c came. contains_carrier-none c;
+  came = mask_of-below carriers cs lawful.carriers.each;
   went = pow_pos carriers;
-  hook = mask_below carriers cs lawful.each;
+  hook = mask_of-below carriers cs lawful.carriers.each;
 }
 effect_fits profile carriers (HookOut cs) lawful = record {
   apart = λ c came. none_came c (mask_of cs) came;
   came = pow_pos carriers;
-  went = mask_below carriers cs lawful.each;
+  went = mask_of-below carriers cs lawful.carriers.each;
   hook = tt;
 }
 effect_fits profile carriers (ReleaseHook cs) lawful = idle_fits carriers _ refl refl (pow_pos carriers)
-effect_fits profile carriers Stitch lawful = idle_fits carriers _ refl refl tt
-effect_fits profile carriers Pause lawful = idle_fits carriers _ refl refl tt
-effect_fits profile carriers Extension lawful = idle_fits carriers _ refl refl tt
-effect_fits profile carriers (Rack q) lawful = idle_fits carriers _ refl refl tt
-effect_fits profile carriers (Knit dir n cs) lawful = idle_fits carriers _ refl refl tt
-effect_fits profile carriers (Tuck dir n cs) lawful = idle_fits carriers _ refl refl tt
-effect_fits profile carriers (Miss dir n cs) lawful = idle_fits carriers _ refl refl tt
-effect_fits profile carriers (Split dir n n2 cs) lawful = idle_fits carriers _ refl refl tt
-effect_fits profile carriers (Xfer n n2) lawful = idle_fits carriers _ refl refl tt
-effect_fits profile carriers (Drop n) lawful = idle_fits carriers _ refl refl tt
-effect_fits profile carriers (Amiss n) lawful = idle_fits carriers _ refl refl tt
+effect_fits profile carriers instr lawful = idle_fits carriers _ refl refl tt
 
 module _ (carriers hold : ℕ) (known first second : List Needle) (changes : List Changed) where
   abbrev Is : Asked → Type 0
@@ -198,42 +186,23 @@ module _ (carriers hold : ℕ) (known first second : List Needle) (changes : Lis
 
   -- the conditions on carriers and the hook
   pub conds_fit : (profile : Profile) (instr : Instr) → IsLawful profile carriers instr → Each Is (map plainly_asked (conds_of instr))
-  conds_fit profile (CarryIn cs) lawful = each_carrier NotInAction 1 cs lawful.each
+  conds_fit profile (CarryIn cs) lawful = each_carrier NotInAction 1 cs lawful.carriers.each
   conds_fit profile (CarryOut cs) lawful =
-      two_lists (conds_of_each InAction 1 cs) (conds_of_each NotInHook 1 cs) (each_carrier InAction 1 cs lawful.each) (each_carrier NotInHook 1 cs lawful.each)
-  conds_fit profile (HookIn cs) lawful = two_lists (conds_of_each NotInAction 1 cs) ((hook_reason HookBusy, HookFree) ∷ []) (each_carrier NotInAction 1 cs lawful.each) free_hook
-  conds_fit profile (HookOut cs) lawful = two_lists (conds_of_each InAction 1 cs) ((hook_reason HookBusy, HookFree) ∷ []) (each_carrier InAction 1 cs lawful.each) free_hook
+      two_lists (conds_of_each InAction 1 cs) (conds_of_each NotInHook 1 cs) (each_carrier InAction 1 cs lawful.carriers.each) (each_carrier NotInHook 1 cs lawful.carriers.each)
+  conds_fit profile (HookIn cs) lawful = two_lists (conds_of_each NotInAction 1 cs) ((hook_reason HookBusy, HookFree) ∷ []) (each_carrier NotInAction 1 cs lawful.carriers.each) free_hook
+  conds_fit profile (HookOut cs) lawful = two_lists (conds_of_each InAction 1 cs) ((hook_reason HookBusy, HookFree) ∷ []) (each_carrier InAction 1 cs lawful.carriers.each) free_hook
   conds_fit profile (ReleaseHook cs) lawful =
-      each_one Is _ (plain_is carriers hold known first second changes (hook_reason HookOther) (hook_is (mask_of cs)) (mask_below carriers cs lawful.each) refl)
-  conds_fit profile Stitch lawful = each_none Is
-  conds_fit profile Pause lawful = each_none Is
-  conds_fit profile Extension lawful = each_none Is
-  conds_fit profile (Rack q) lawful = each_none Is
-  conds_fit profile (Knit dir n cs) lawful = each_carrier InAction 3 cs lawful.2.each
-  conds_fit profile (Tuck dir n cs) lawful = each_carrier InAction 3 cs lawful.2.each
-  conds_fit profile (Miss dir n cs) lawful = each_carrier InAction 3 cs lawful.1.each
-  conds_fit profile (Split dir n n2 cs) lawful = each_carrier InAction 4 cs lawful.4.each
-  conds_fit profile (Xfer n n2) lawful = each_none Is
-  conds_fit profile (Drop n) lawful = each_none Is
-  conds_fit profile (Amiss n) lawful = each_none Is
+      each_one Is _ (plain_is carriers hold known first second changes (hook_reason HookOther) (hook_is (mask_of cs)) (mask_of-below carriers cs lawful.carriers.each) refl)
+  conds_fit profile (Knit dir n cs) lawful = each_carrier InAction 3 cs lawful.carriers.each
+  conds_fit profile (Tuck dir n cs) lawful = each_carrier InAction 3 cs lawful.carriers.each
+  conds_fit profile (Miss dir n cs) lawful = each_carrier InAction 3 cs lawful.carriers.each
+  conds_fit profile (Split dir n n2 cs) lawful = each_carrier InAction 4 cs lawful.carriers.each
+  conds_fit profile instr lawful = each_none Is
 
   rack_fits : (instr : Instr) → Each Is (rack_asked instr)
   rack_fits (Split dir n n2 cs) = each_one Is _ (plain_is carriers hold known first second changes (record { rule = NotAligned; at = 3 }) (rack_is (rack_facing n n2)) tt refl)
   rack_fits (Xfer n n2) = each_one Is _ (plain_is carriers hold known first second changes (record { rule = NotAligned; at = 2 }) (rack_is (rack_facing n n2)) tt refl)
-  rack_fits (CarryIn cs) = each_none Is
-  rack_fits (CarryOut cs) = each_none Is
-  rack_fits (HookIn cs) = each_none Is
-  rack_fits (HookOut cs) = each_none Is
-  rack_fits (ReleaseHook cs) = each_none Is
-  rack_fits Stitch = each_none Is
-  rack_fits Pause = each_none Is
-  rack_fits Extension = each_none Is
-  rack_fits (Rack q) = each_none Is
-  rack_fits (Knit dir n cs) = each_none Is
-  rack_fits (Tuck dir n cs) = each_none Is
-  rack_fits (Miss dir n cs) = each_none Is
-  rack_fits (Drop n) = each_none Is
-  rack_fits (Amiss n) = each_none Is
+  rack_fits instr = each_none Is
 
   -- all conditions of the line, where those on sizes are so
   pub checks_fit : (profile : Profile) (instr : Instr) → IsLawful profile carriers instr → Each Is (slider_asked (forming_needle instr)) → Each Is (sizes_asked hold instr) →
@@ -243,25 +212,14 @@ module _ (carriers hold : ℕ) (known first second : List Needle) (changes : Lis
       (each_both Is (rack_asked instr) (slider_asked (forming_needle instr) ++ sizes_asked hold instr) (rack_fits instr)
       (each_both Is (slider_asked (forming_needle instr)) (sizes_asked hold instr) slider sizes))
 
-bed_of_slider : (bed : Bed) → is_slider (slider_bed bed) ≡ true
-bed_of_slider Front = refl
-bed_of_slider FrontSlider = refl
-bed_of_slider Back = refl
-bed_of_slider BackSlider = refl
-
-side_of_slider : (bed : Bed) → is_front (slider_bed bed) ≡ is_front bed
-side_of_slider Front = refl
-side_of_slider FrontSlider = refl
-side_of_slider Back = refl
-side_of_slider BackSlider = refl
-
 -- a hook isn't its own slider
 pub slider_other : (n : Needle) → is_slider n.bed ≡ false → own_slider n ≡ n → ⊥
-slider_other n hook same = true≢false (sym (bed_of_slider n.bed) ∙ ap (λ (m : Needle). is_slider m.bed) same ∙ hook)
+slider_other n hook same = true≢false (sym (slider_bed-is_slider n.bed) ∙ ap (λ (m : Needle). is_slider m.bed) same ∙ hook)
 
 -- nor is a needle of the other side
 pub slider_across : (n n2 : Needle) → AreOpposite n n2 → own_slider n ≡ n2 → ⊥
-slider_across n n2 opposite same = opposite.sides (sym (side_of_slider n.bed) ∙ ap (λ (m : Needle). is_front m.bed) same)
+slider_across n n2 opposite same = opposite.sides (sym (slider_bed-is_front n.bed) ∙ ap (λ (m : Needle). is_front m.bed) same)
 
+-- two needles of different sides are two
 pub needles_across : (n n2 : Needle) → AreOpposite n n2 → n ≡ n2 → ⊥
 needles_across n n2 opposite same = opposite.sides (ap (λ (m : Needle). is_front m.bed) same)

@@ -16,12 +16,12 @@ use Rattle.face_data.specs.declared.face.Seg.TheVariants.{New}
 use Rattle.face_data.specs.Composition.{composed, merged}
 use Rattle.face_data.specs.Drafts.{no_effect}
 use Rattle.face_data.specs.Items.{items, most_items}
-use Rattle.face_data.specs.Segments.{contents_of}
+use Rattle.face_data.specs.Segments.{segments_on}
 use Rattle.face_data.specs.Summaries.{Summary}
 use Rattle.face_data.proofs.Front.{AllHold, composed-hold, effect-idle}
 use Rattle.face_data.proofs.Items.{items_bound}
 use Rattle.block_summary.specs.LineSummaries.{asked_by, line_summary, block_summary_of, NeedlesKnownInLine}
-use Rattle.block_summary.proofs.LineFair.{block_good}
+use Rattle.block_summary.proofs.LineGoodness.{block_good}
 
 -- a draft, and a line that makes a loop and changes one needle
 abbrev pub with_loop : Summary → Needle → List Seg → Effect → Summary
@@ -47,10 +47,10 @@ front_knit hold draft e dir n c cs goes known =
 -- A tuck puts it behind what the needle holds.
 pub front_tuck : (hold : ℕ) (draft : Summary) (e : Effect) (dir : Dir) (n : Needle) (c : CarrierNo) (cs : List CarrierNo) → draft.ending ≡ Through e →
     AllHold e draft.changes draft.checks (asked_by hold (Tuck dir n (c ∷ cs))) →
-    composed draft (line_summary hold (read.Instr (Tuck dir n (c ∷ cs)))) ≡ with_loop draft n (contents_of draft.changes n ++ New draft.lines ∷ []) e
+    composed draft (line_summary hold (read.Instr (Tuck dir n (c ∷ cs)))) ≡ with_loop draft n (segments_on draft.changes n ++ New draft.lines ∷ []) e
 front_tuck hold draft e dir n c cs goes known =
     composed-hold draft (line_summary hold (read.Instr (Tuck dir n (c ∷ cs)))) e no_effect goes refl known
-    ∙ (λ i. with_loop draft n (held_here draft.lines (contents_of draft.changes n) i) (effect-idle e i))
+    ∙ (λ i. with_loop draft n (held_here draft.lines (segments_on draft.changes n) i) (effect-idle e i))
 
 -- The summary of a block has at most so many items.
 pub block_items : (profile : Profile) (carriers : ℕ) (known : List Needle) (rs : List Read) → 1 ≤ profile.hold →

@@ -4,7 +4,7 @@ use Rattle.std.specs.Option.{option_map, option_to_list}
 use Rattle.std.specs.List.Sorted.{IsStrictlySortedBy}
 use Rattle.std.proofs.lemmas.List.{append-nil}
 use Rattle.knit_base.specs.declared.instr.Instr.{Instr}
-use Rattle.knit_base.specs.declared.instr.Instr.TheVariants.{CarryIn, CarryOut, HookIn, HookOut, ReleaseHook, Stitch, Pause, Extension, Rack, Knit, Tuck, Miss, Split, Xfer, Drop, Amiss}
+use Rattle.knit_base.specs.declared.instr.Instr.TheVariants.{Knit, Tuck, Split, Xfer, Drop}
 use Rattle.knit_base.specs.declared.instr.Read.{Read}
 use Rattle.knit_base.specs.declared.instr.Read.TheVariants as read
 use Rattle.knit_base.specs.declared.needle.Needle.{Needle}
@@ -14,12 +14,12 @@ use Rattle.knit_base.specs.declared.rule.Fault.{Fault}
 use Rattle.knit_base.specs.declared.rule.Reason.{Reason}
 use Rattle.knit_base.specs.declared.rule.Rule.TheVariants.{NotAligned, SliderHolds, TooManyLoops}
 use Rattle.knit_base.specs.declared.yarns.CarrierNo.{CarrierNo}
-use Rattle.knit_base.specs.Needle.{same_needle, same_needle-true, own_slider}
+use Rattle.knit_base.specs.Needle.{same_needle, same_needle-true, own_slider, rack_facing}
 use Rattle.knit_base.specs.Reasons.{or_else}
 use Rattle.std.specs.Ordering.{int_eq}
 use Rattle.carriage_model.specs.declared.verdict.LoopFact.{LoopFact}
 use Rattle.carriage_model.specs.Loops.{formed, loop_of_instr, made_on}
-use Rattle.carriage_model.specs.Rules.{broken_instr, rack_facing, carrier_broken, rack_broken, slider_broken_on, slider_broken, size_broken, tuck_too_many, forming_needle, formed_on}
+use Rattle.carriage_model.specs.Rules.{broken_instr, carrier_broken, rack_broken, slider_broken, slider_broken_on, size_broken, tuck_too_many}
 use Rattle.carriage_model.specs.Run.{Ended, run_on}
 use Rattle.carriage_model.specs.Run.Ended.{Ends}
 use Rattle.carriage_model.specs.State.{State}
@@ -31,22 +31,23 @@ use Rattle.face_data.specs.declared.face.Seg.TheVariants.{Entry, New}
 use Rattle.face_data.specs.Conditions.{Ask, ask_of, holds, unless, first_unmet}
 use Rattle.face_data.specs.Conditions.Ask.{rack_is, size_at_most}
 use Rattle.face_data.specs.Items.{set_items}
-use Rattle.face_data.specs.Segments.{contents_of, read_segs, AreRead}
+use Rattle.knit_base.specs.Instr.{forming_needle, formed_on}
+use Rattle.face_data.specs.Segments.{segments_on, read_segs, AreRead}
 use Rattle.face_data.specs.Stands.{StandsFor, outcome_of_run}
 use Rattle.face_data.specs.Summaries.{Asked, first_fault, after, outcome_of, raised}
 use Rattle.face_data.specs.Summaries.Outcome.{went_on, faulted}
 use Rattle.face_data.proofs.Drafts.{no_lines-applied}
-use Rattle.face_data.proofs.Gathered.{or_else as fault_or_else, first_fault-append}
-use Rattle.face_data.proofs.Merged.{or_change, change_at-merged}
-use Rattle.face_data.proofs.Unmet.{broken-unless}
+use Rattle.face_data.proofs.Gathering.{or_else as fault_or_else, first_fault-append}
+use Rattle.face_data.proofs.ChangeLists.{or_change, change_at-merged}
+use Rattle.face_data.proofs.Conditions.{broken-unless}
 use Rattle.carrier_rules.specs.Carriers.{conds_of, effect_of}
-use Rattle.carrier_rules.proofs.Each.{conds-broken}
+use Rattle.carrier_rules.proofs.EachCarrier.{conds-broken}
 use Rattle.carrier_rules.proofs.Effects.{effect-is}
 use Rattle.slider_rules.proofs.Sliders.{slider-unmet}
-use Rattle.bed_rules.specs.Beds.{changes_of, contents_after}
+use Rattle.bed_rules.specs.Beds.{changes_of, segments_after, tuck_rules}
 use Rattle.bed_rules.proofs.Stacks.{changed-read}
-use Rattle.bed_rules.proofs.TooMany.{both-unmet, one-unmet}
-use Rattle.block_summary.specs.LineSummaries.{asked_for, plainly_asked, rack_asked, slider_asked, room_asked, sizes_asked, asked_by, gone_over, line_changes, line_summary}
+use Rattle.bed_rules.proofs.SizeRules.{both-unmet, one-unmet}
+use Rattle.block_summary.specs.LineSummaries.{asked_for, plainly_asked, rack_asked, asked_of_sizes, slider_asked, sizes_asked, asked_by, gone_over, line_changes, line_summary}
 
 -- the fault of a line that is broken for this reason
 abbrev at_line : Option Reason → Option Fault
@@ -84,27 +85,14 @@ rack_faults (Split dir n n2 cs) s =
     alone_at_line (rack_is (rack_facing n n2)) (record { rule = NotAligned; at = 3 }) s ∙ ap at_line (sym (broken-unless (int_eq s.rack (rack_facing n n2)) NotAligned 3))
 rack_faults (Xfer n n2) s =
     alone_at_line (rack_is (rack_facing n n2)) (record { rule = NotAligned; at = 2 }) s ∙ ap at_line (sym (broken-unless (int_eq s.rack (rack_facing n n2)) NotAligned 2))
-rack_faults (CarryIn cs) s = refl
-rack_faults (CarryOut cs) s = refl
-rack_faults (HookIn cs) s = refl
-rack_faults (HookOut cs) s = refl
-rack_faults (ReleaseHook cs) s = refl
-rack_faults Stitch s = refl
-rack_faults Pause s = refl
-rack_faults Extension s = refl
-rack_faults (Rack q) s = refl
-rack_faults (Knit dir n cs) s = refl
-rack_faults (Tuck dir n cs) s = refl
-rack_faults (Miss dir n cs) s = refl
-rack_faults (Drop n) s = refl
-rack_faults (Amiss n) s = refl
+rack_faults instr s = refl
 
 slider_faults : (on : Option Needle) (s : State) → first_fault (slider_asked on) s ≡ at_line (slider_broken_on on s)
 slider_faults None s = refl
 slider_faults (Some n) s = alone_at_line (size_at_most (own_slider n ∷ []) 0) (record { rule = SliderHolds; at = 2 }) s ∙ ap at_line (sym (slider-unmet n s))
 
 room_faults : (profile : Profile) (n : Needle) (cs : List CarrierNo) (s : State) → 1 ≤ profile.hold →
-    first_fault (room_asked profile.hold n cs) s ≡ at_line (tuck_too_many profile n cs s)
+    first_fault (map asked_of_sizes (tuck_rules profile.hold n cs)) s ≡ at_line (tuck_too_many profile n cs s)
 room_faults profile n [] s some = refl
 room_faults profile n (c ∷ cs) s some = alone_at_line (size_at_most (n ∷ []) (profile.hold - 1)) (record { rule = TooManyLoops; at = 2 }) s ∙ ap at_line (sym (one-unmet profile n s some))
 
@@ -112,19 +100,7 @@ size_faults : (profile : Profile) (instr : Instr) (s : State) → 1 ≤ profile.
 size_faults profile (Tuck dir n cs) s some = room_faults profile n cs s some
 size_faults profile (Split dir n n2 cs) s some = alone_at_line (size_at_most (n2 ∷ n ∷ []) profile.hold) (record { rule = TooManyLoops; at = 3 }) s ∙ ap at_line (sym (both-unmet profile n n2 3 s))
 size_faults profile (Xfer n n2) s some = alone_at_line (size_at_most (n2 ∷ n ∷ []) profile.hold) (record { rule = TooManyLoops; at = 2 }) s ∙ ap at_line (sym (both-unmet profile n n2 2 s))
-size_faults profile (CarryIn cs) s some = refl
-size_faults profile (CarryOut cs) s some = refl
-size_faults profile (HookIn cs) s some = refl
-size_faults profile (HookOut cs) s some = refl
-size_faults profile (ReleaseHook cs) s some = refl
-size_faults profile Stitch s some = refl
-size_faults profile Pause s some = refl
-size_faults profile Extension s some = refl
-size_faults profile (Rack q) s some = refl
-size_faults profile (Knit dir n cs) s some = refl
-size_faults profile (Miss dir n cs) s some = refl
-size_faults profile (Drop n) s some = refl
-size_faults profile (Amiss n) s some = refl
+size_faults profile instr s some = refl
 
 -- The first condition of the line that doesn't hold is the first rule that the line breaks.
 pub line_faults : (profile : Profile) (instr : Instr) (s : State) → 1 ≤ profile.hold → first_fault (asked_by profile.hold instr) s ≡ at_line (broken_instr profile instr s)
@@ -157,34 +133,24 @@ split_held true there both own = refl
 split_held false there both own = refl
 
 -- what a needle holds after loops went over
-pub gone_over-contents : (n n2 m : Needle) (left : List Seg) →
-    contents_of (gone_over n n2 left) m ≡ unwrap_or (cond (same_needle m n) (Some left) (cond (same_needle m n2) (Some (Entry n2 ∷ Entry n ∷ [])) None)) (Entry m ∷ [])
+pub gone_over-segments : (n n2 m : Needle) (left : List Seg) →
+    segments_on (gone_over n n2 left) m ≡ unwrap_or (cond (same_needle m n) (Some left) (cond (same_needle m n2) (Some (Entry n2 ∷ Entry n ∷ [])) None)) (Entry m ∷ [])
 unfolding IsStrictlySortedBy
-gone_over-contents n n2 m left =
+gone_over-segments n n2 m left =
     ap (λ o. unwrap_or o (Entry m ∷ [])) (change_at-merged ((n2, Entry n2 ∷ Entry n ∷ []) ∷ []) ((n, left) ∷ []) m (tt, tt))
     ∙ over_held (same_needle m n) (same_needle m n2) left (Entry n2 ∷ Entry n ∷ []) (Entry m ∷ [])
 
-line_held : (instr : Instr) (m : Needle) → contents_of (line_changes instr) m ≡ contents_after [] (changes_of instr []) (forming_needle instr) 0 m
+line_held : (instr : Instr) (m : Needle) → segments_on (line_changes instr) m ≡ segments_after [] (changes_of instr []) (forming_needle instr) 0 m
 line_held (Knit dir n []) m = refl
 line_held (Knit dir n (c ∷ cs)) m = knit_held (same_needle m n) (Entry m ∷ [])
 line_held (Tuck dir n []) m = refl
 line_held (Tuck dir n (c ∷ cs)) m = tuck_held n m (same_needle m n) refl
-line_held (Split dir n n2 []) m = gone_over-contents n n2 m []
+line_held (Split dir n n2 []) m = gone_over-segments n n2 m []
 line_held (Split dir n n2 (c ∷ cs)) m =
-    gone_over-contents n n2 m (New 0 ∷ []) ∙ split_held (same_needle m n) (same_needle m n2) (Entry n2 ∷ Entry n ∷ []) (Entry m ∷ [])
-line_held (Xfer n n2) m = gone_over-contents n n2 m []
+    gone_over-segments n n2 m (New 0 ∷ []) ∙ split_held (same_needle m n) (same_needle m n2) (Entry n2 ∷ Entry n ∷ []) (Entry m ∷ [])
+line_held (Xfer n n2) m = gone_over-segments n n2 m []
 line_held (Drop n) m = refl
-line_held (CarryIn cs) m = refl
-line_held (CarryOut cs) m = refl
-line_held (HookIn cs) m = refl
-line_held (HookOut cs) m = refl
-line_held (ReleaseHook cs) m = refl
-line_held Stitch m = refl
-line_held Pause m = refl
-line_held Extension m = refl
-line_held (Rack q) m = refl
-line_held (Miss dir n cs) m = refl
-line_held (Amiss n) m = refl
+line_held instr m = refl
 
 own_read : (s : State) (first : ℕ) → AreRead [] s first s.stacks
 own_read s first n = sym (append-nil (s.stacks n))
@@ -193,7 +159,7 @@ own_read s first n = sym (append-nil (s.stacks n))
 pub line_after : (instr : Instr) (s : State) (first : ℕ) → after (effect_of instr) (line_changes instr) s first ≡ step_instr first instr s
 line_after instr s first =
     let effect = effect-is instr in
-    let stacks : (m : Needle) → read_segs s first (contents_of (line_changes instr) m) ≡ (step_instr first instr s).stacks m
+    let stacks : (m : Needle) → read_segs s first (segments_on (line_changes instr) m) ≡ (step_instr first instr s).stacks m
     = λ m. ap (read_segs s first) (line_held instr m) ∙ sym (changed-read [] instr s s first 0 (own_read s first) m)
     ∙ ap (λ k. (step_instr k instr s).stacks m) (let e : first + 0 ≡ first = omega arith in e) in
     λ i. record {
@@ -224,19 +190,7 @@ loop_items : (instr : Instr) (k : ℕ) (s : State) → length (option_to_list (l
 loop_items (Knit dir n cs) k s = formed_items k dir n cs (s.stacks n)
 loop_items (Tuck dir n cs) k s = formed_items k dir n cs []
 loop_items (Split dir n n2 cs) k s = formed_items k dir n cs (s.stacks n)
-loop_items (Xfer n n2) k s = refl
-loop_items (Drop n) k s = refl
-loop_items (CarryIn cs) k s = refl
-loop_items (CarryOut cs) k s = refl
-loop_items (HookIn cs) k s = refl
-loop_items (HookOut cs) k s = refl
-loop_items (ReleaseHook cs) k s = refl
-loop_items Stitch k s = refl
-loop_items Pause k s = refl
-loop_items Extension k s = refl
-loop_items (Rack q) k s = refl
-loop_items (Miss dir n cs) k s = refl
-loop_items (Amiss n) k s = refl
+loop_items instr k s = refl
 
 -- The summary of a line stands for it.
 pub line_stands : (profile : Profile) (r : Read) → 1 ≤ profile.hold → StandsFor profile (line_summary profile.hold r) (r ∷ [])

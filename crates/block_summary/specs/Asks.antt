@@ -1,19 +1,62 @@
 -- What lines ask and change, told of the states in which they come.
-use Rattle.std.specs.Prelude.{◌≡◌, ℕ, List, [], Option, None, Some}
+use Rattle.std.specs.Prelude.{ℕ, List, [], ◌∷◌, Option, None, Some}
+use Rattle.std.specs.Option.{option_map}
 use Rattle.knit_base.specs.declared.instr.Instr.{Instr}
-use Rattle.knit_base.specs.declared.instr.Instr.TheVariants.{Tuck}
+use Rattle.knit_base.specs.declared.instr.Instr.TheVariants.{Knit, Tuck, Split}
+use Rattle.knit_base.specs.declared.instr.Read.{Read}
+use Rattle.knit_base.specs.declared.instr.Read.TheVariants as read
+use Rattle.knit_base.specs.declared.needle.Dir.{Dir}
 use Rattle.knit_base.specs.declared.needle.Needle.{Needle}
 use Rattle.knit_base.specs.declared.rule.Reason.{Reason}
+use Rattle.knit_base.specs.declared.yarns.CarrierNo.{CarrierNo}
 use Rattle.knit_base.specs.Reasons.{or_else}
 use Rattle.carriage_model.specs.declared.verdict.LoopFact.{LoopFact}
 use Rattle.carriage_model.specs.State.{State}
-use Rattle.face_data.specs.Conditions.{first_unmet, unmet_rack, unmet_size_if_any}
-use Rattle.face_data.specs.Segments.{Changed, contents_of, read_segs}
+use Rattle.face_data.specs.declared.face.Seg.{Seg}
+use Rattle.face_data.specs.Conditions.{first_unmet, unmet_rack, unmet_size_if_any, first_unmet_size}
+use Rattle.face_data.specs.Segments.{Changed, segments_on, read_segs}
+use Rattle.face_data.specs.Sizes.{size_ask, size_asks}
 use Rattle.face_data.specs.Summaries.{rack_after, ins_after, hook_after}
-use Rattle.bed_rules.specs.Beds.{first_unmet_size, contents_after}
+use Rattle.bed_rules.specs.Beds.{changes_of, segments_after, size_rules}
+use Rattle.carrier_rules.specs.Carriers.{conds_of, effect_of}
+use Rattle.rack_align.specs.Moves.{rack_ask}
+use Rattle.slider_rules.specs.Sliders.{slider_rule}
+use Rattle.block_summary.specs.declared.formed.FormedLoop.{FormedLoop}
 use Rattle.block_summary.specs.declared.instr_ask.InstrAsk.{InstrAsk}
 use Rattle.block_summary.specs.declared.line_ask.LineAsk.{LineAsk}
 use Rattle.block_summary.specs.declared.line_ask.LineAsk.TheVariants.{Nothing, Ends, Asks}
+
+-- the loop of these carriers, drawn through what these segments stand for. Without carriers there is none
+abbrev pub formed_of : Dir → Needle → List CarrierNo → List Seg → Option FormedLoop
+formed_of dir n [] through = None
+formed_of dir n (c ∷ cs) through = Some (record { needle = n; dir = dir; yarns = c ∷ cs; through = through })
+
+-- The loop that the instruction forms where the needles hold these segments: `tuck` draws it through nothing, `knit` and `split`
+-- through all that the needle holds.
+abbrev pub formed_loop : Instr → List Changed → Option FormedLoop
+formed_loop (Knit dir n cs) segments = formed_of dir n cs (segments_on segments n)
+formed_loop (Tuck dir n cs) segments = formed_of dir n cs []
+formed_loop (Split dir n n2 cs) segments = formed_of dir n cs (segments_on segments n)
+formed_loop instr segments = None
+
+-- all that the instruction asks and changes where a needle may hold so many loops and the needles hold these segments
+abbrev pub instr_ask : ℕ → Instr → List Changed → InstrAsk
+instr_ask hold instr segments = record {
+  carriers = conds_of instr;
+  rack = rack_ask instr;
+  slider = option_map (size_ask segments) (slider_rule instr);
+  sizes = size_asks segments (size_rules hold instr);
+  effect = effect_of instr;
+  changed = changes_of instr segments;
+  formed = formed_loop instr segments;
+}
+
+-- the same of a line
+abbrev pub line_ask : ℕ → Read → List Changed → LineAsk
+line_ask hold (read.Instr instr) segments = Asks (instr_ask hold instr segments)
+line_ask hold (read.Broken reason) segments = Ends reason
+line_ask hold read.Blank segments = Nothing
+line_ask hold read.Comment segments = Nothing
 
 -- The reason of the first condition that isn't met, in the order of the rules: first those on carriers and the hook, then the
 -- rack, both in state t in which the instruction comes, then the slider and then the sizes, both in state s at the block's entry.
@@ -23,33 +66,25 @@ first_unmet_of ask s t =
     (or_else (unmet_rack ask.rack t)
     (or_else (unmet_size_if_any ask.slider s) (first_unmet_size ask.sizes s)))
 
+-- the needle of a loop
+abbrev pub needle_of_formed : Option FormedLoop → Option Needle
+needle_of_formed formed = option_map (λ (l : FormedLoop). l.needle) formed
+
 -- The state t as the changes leave it, in a block that was entered in state s at line `first` and in which the needles held
--- these contents so far: rack, carriers and hook as the effect says, and on each needle what its segments stand for, the loop of
+-- these segments so far: rack, carriers and hook as the effect says, and on each needle what its segments stand for, the loop of
 -- the line with this offset among them.
 abbrev pub state_after : InstrAsk → List Changed → State → State → ℕ → ℕ → State
-state_after ask contents s t first offset = record {
+state_after ask segments s t first offset = record {
   rack = rack_after ask.effect.rack t.rack;
   ins = ins_after ask.effect t.ins;
   hook = hook_after ask.effect t.hook;
-  stacks = λ n. read_segs s first (contents_after contents ask.changed ask.makes offset n);
+  stacks = λ n. read_segs s first (segments_after segments ask.changed (needle_of_formed ask.formed) offset n);
 }
 
--- the loops through which a loop on this needle is drawn: all that the needle holds so far, but a tuck draws it through none
-abbrev pub loops_through : Instr → List Changed → State → ℕ → Needle → List ℕ
-loops_through (Tuck dir n cs) contents s first on = []
-loops_through instr contents s first on = read_segs s first (contents_of contents on)
-
--- the fact is of a loop of this line, on this needle, drawn through these loops
-pub record IsLoop (line : ℕ) (n : Needle) (through : List ℕ) (fact : LoopFact) : Type 0 where
-  pub line_is : fact.line ≡ line
-  pub needle_is : fact.needle ≡ n
-  pub through_are : fact.through ≡ through
-
--- where a needle is named the line makes a loop on it, drawn through what is said of that needle, and else it makes none
-abbrev pub IsLoopOn : Option Needle → ℕ → (Needle → List ℕ) → Option LoopFact → Type 0
-IsLoopOn None line through fact = fact ≡ None
-IsLoopOn (Some n) line through None = ⊥
-IsLoopOn (Some n) line through (Some fact) = IsLoop line n (through n) fact
+-- the loop that is formed by this line, in a block that was entered in state s at line `first`
+abbrev pub fact_of_formed : Option FormedLoop → State → ℕ → ℕ → Option LoopFact
+fact_of_formed None s first line = None
+fact_of_formed (Some l) s first line = Some (record { line = line; needle = l.needle; dir = l.dir; yarns = l.yarns; through = read_segs s first l.through })
 
 -- the reason for which a line's conditions aren't met
 abbrev pub first_unmet_in_line : LineAsk → State → State → Option Reason
@@ -59,6 +94,11 @@ first_unmet_in_line (Asks ask) s t = first_unmet_of ask s t
 
 -- the state t as a line's changes leave it
 abbrev pub state_after_line : LineAsk → List Changed → State → State → ℕ → ℕ → State
-state_after_line Nothing contents s t first offset = t
-state_after_line (Ends reason) contents s t first offset = t
-state_after_line (Asks ask) contents s t first offset = state_after ask contents s t first offset
+state_after_line Nothing segments s t first offset = t
+state_after_line (Ends reason) segments s t first offset = t
+state_after_line (Asks ask) segments s t first offset = state_after ask segments s t first offset
+
+-- the loop that a line forms
+abbrev pub fact_of_line : LineAsk → State → ℕ → ℕ → Option LoopFact
+fact_of_line (Asks ask) s first line = fact_of_formed ask.formed s first line
+fact_of_line ask s first line = None

@@ -1,3 +1,3 @@
 pub mod Asks
-pub mod Drafting
+pub mod DraftKnowledge
 pub mod LineSummaries

@@ -13,20 +13,20 @@ ghost use Rattle.face_data.specs.Composition.{composed, against_kept, from_beari
 ghost use Rattle.face_data.specs.Conditions.{ask_of};
 ghost use Rattle.face_data.specs.Digests.{CarrierFits, IsPlainCondition};
 ghost use Rattle.face_data.specs.Conditions.Ask.{carrier_in, size_at_most};
-ghost use Rattle.face_data.specs.Segments.{contents_of};
+ghost use Rattle.face_data.specs.Segments.{segments_on};
 ghost use Rattle.face_data.specs.Drafts.{no_lines};
-ghost use Rattle.block_summary.specs.Drafting.{HoldsAfter, HasAsked, effect_in};
+ghost use Rattle.block_summary.specs.DraftKnowledge.{HoldsAfter, HasAsked, effect_in};
 ghost use Rattle.block_summary.specs.LineSummaries.{line_summary};
 
-use face_data::{Bearing, Check, Cond, Digest, Effect, Seg, Segs, Symbols};
+use face_data::{Bearing, Check, Cond, Digest, Effect, Seg, Segs, Symbols, slot_of};
 use knit_base::{Fault, Needle, NoMemory, Reason, Yarns};
 use std::alloc::Global;
 use std::marker::Model;
 
 /// What lines do that were read one after the other, none of which ended the block.
 ///
-/// `bare` has hooks whose own sliders are known to hold nothing, each in the place of its number and side, where a later one
-/// may take it. A hook that isn't there is asked about anew.
+/// `bare` has hooks whose own sliders are known to hold nothing, each in its slot, where a later one may take its place. A hook
+/// that isn't there is asked about anew.
 #[derive(Drop)]
 pub struct Draft {
     alloc: Global,
@@ -45,7 +45,7 @@ impl Model for Draft {
     ghost use Rattle.face_data.specs.declared.face.Ending.TheVariants.{Through};
     ghost use Rattle.face_data.specs.Summaries.{Summary};
     ghost use Rattle.face_data.specs.View.{asked_of};
-    ghost use Rattle.block_summary.specs.Drafting.{Knows};
+    ghost use Rattle.block_summary.specs.DraftKnowledge.{Knows};
 
     ghost Value = { Summary };
 
@@ -82,7 +82,7 @@ impl Draft {
         requires { HoldsAfter self.old (size_at_most (own_slider n ∷ []) 0) }
         ensures { self.new ≡ self.old }
     {
-        self.bare[place_of(n)] = Some(n);
+        self.bare[slot_of(n)] = Some(n);
     }
 
     /// Whether the carriers are known to be in action. False says nothing.
@@ -101,7 +101,7 @@ impl Draft {
     pub fn is_bare(&self, n: Needle) -> bool
         ensures { IsTrue result → HoldsAfter self.now (size_at_most (own_slider n ∷ []) 0) }
     {
-        match self.bare[place_of(n)] {
+        match self.bare[slot_of(n)] {
             Some(m) => m == n,
             None => false,
         }
@@ -114,7 +114,7 @@ impl Draft {
         requires plain { IsPlainCondition (ask_of [] cond) }
         ensures { IfOk result (HasAsked self.old self.new (record { line = self.old.lines; reason = reason }) (ask_of [] cond)) }
     {
-        match self.told(cond) {
+        match self.bearing_on(cond) {
             Bearing::Implied => Ok(true),
             Bearing::Refuted => Ok(false),
             Bearing::Silent => {
@@ -130,15 +130,15 @@ impl Draft {
     }
 
     // What is known of the condition.
-    fn told(&self, cond: Cond) -> Bearing
+    fn bearing_on(&self, cond: Cond) -> Bearing
         requires fits { CarrierFits cond }
         requires plain { IsPlainCondition (ask_of [] cond) }
         ensures { against_kept self.now.checks (read_answer (effect_in self.now.ending) self.now.changes (ask_of [] cond)) ≡ from_bearing result (asks (ask_of [] cond)) }
     {
-        match self.effect.told(cond) {
+        match self.effect.bearing_on(cond) {
             Bearing::Implied => Bearing::Implied,
             Bearing::Refuted => Bearing::Refuted,
-            Bearing::Silent => self.digest.told(cond),
+            Bearing::Silent => self.digest.bearing_on(cond),
         }
     }
 
@@ -150,7 +150,7 @@ impl Draft {
         requires few_made { self.old.made < 2 ^ 32 - 1 }
         requires slider { HoldsAfter self.old (size_at_most (own_slider n ∷ []) 0) }
         ensures summary { OnOk result ((hold : ℕ) (dir : Dir) (c : CarrierNo) (cs : List CarrierNo) → ((x : CarrierNo) → Contains (c ∷ cs) x → HoldsAfter self.old (carrier_in x)) → self.new ≡ composed self.old (line_summary hold (read.Instr (Knit dir n (c ∷ cs))))) }
-        ensures through { IfOk result (λ through. through ≡ contents_of self.old.changes n) }
+        ensures through { IfOk result (λ through. through ≡ segments_on self.old.changes n) }
     {
         let segs = Segs::one(self.alloc, Seg::New(self.lines));
         let was = self.symbols.swap(n, segs)?;
@@ -168,12 +168,4 @@ fn none_bare() -> [Option<Needle>; 64]
     ensures { All (λ (o : Option Needle). o ≡ None) result }
 {
     [None; 64]
-}
-
-// The place of a hook in the table.
-fn place_of(n: Needle) -> usize
-    ensures { result < 64 }
-{
-    let side = if n.bed.is_front() { 0 } else { 32 };
-    (n.at.unsigned_abs() % 32) as usize + side
 }

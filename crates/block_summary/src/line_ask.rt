@@ -1,12 +1,13 @@
 //! What one line asks and changes.
 ghost use Rattle.std.specs.Prelude.{◌≡◌, ℕ, ◌+◌, IfOk};
 ghost use Rattle.knit_base.specs.Limits.{IsLawfulProfile};
+ghost use Rattle.carriage_model.specs.Loops.{fact_made};
 ghost use Rattle.carriage_model.specs.Machine.{HasPlacesInLine};
 ghost use Rattle.carriage_model.specs.Rules.{broken};
 ghost use Rattle.carriage_model.specs.State.{State};
 ghost use Rattle.carriage_model.specs.Steps.{step};
 ghost use Rattle.face_data.specs.Segments.{AreRead};
-ghost use Rattle.block_summary.specs.Asks.{first_unmet_in_line, state_after_line};
+ghost use Rattle.block_summary.specs.Asks.{fact_of_line, first_unmet_in_line, line_ask, state_after_line};
 
 use crate::{InstrAsk, ask_instr};
 use face_data::Symbols;
@@ -29,15 +30,17 @@ pub fn ask_line(
     alloc: Global,
     read: &Read,
     profile: &Profile,
-    contents: &Symbols,
+    segments: &Symbols,
 ) -> Result<LineAsk, NoMemory>
     requires profile { IsLawfulProfile profile.now }
     requires places { HasPlacesInLine read.now }
-    ensures broken { IfOk result (λ ask. (s t : State) (first : ℕ) → AreRead contents.now s first t.stacks → broken profile.now read.now t ≡ first_unmet_in_line ask s t) }
-    ensures step { IfOk result (λ ask. (s t : State) (first offset : ℕ) → AreRead contents.now s first t.stacks → step (first + offset) read.now t ≡ state_after_line ask contents.now s t first offset) }
+    ensures broken { IfOk result (λ ask. (s t : State) (first : ℕ) → AreRead segments.now s first t.stacks → broken profile.now read.now t ≡ first_unmet_in_line ask s t) }
+    ensures step { IfOk result (λ ask. (s t : State) (first offset : ℕ) → AreRead segments.now s first t.stacks → step (first + offset) read.now t ≡ state_after_line ask segments.now s t first offset) }
+    ensures formed { IfOk result (λ ask. (s t : State) (first offset : ℕ) → AreRead segments.now s first t.stacks → fact_made (first + offset) read.now t ≡ fact_of_line ask s first (first + offset)) }
+    ensures is { IfOk result (λ ask. ask ≡ line_ask profile.now.hold read.now segments.now) }
 {
     match read {
-        Read::Instr(instr) => Ok(LineAsk::Asks(ask_instr(alloc, instr, profile, contents)?)),
+        Read::Instr(instr) => Ok(LineAsk::Asks(ask_instr(alloc, instr, profile, segments)?)),
         Read::Broken(reason) => Ok(LineAsk::Ends(*reason)),
         Read::Blank | Read::Comment => Ok(LineAsk::Nothing),
     }

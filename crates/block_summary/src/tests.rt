@@ -1,7 +1,7 @@
 //! Whole answers, by the tables of `docs/MODEL.md`.
 ghost use Rattle.std.specs.Prelude.{◌≡◌, ◌∷◌, [], IfOk};
 
-use crate::{InstrAsk, LineAsk, ask_instr, ask_line};
+use crate::{FormedLoop, InstrAsk, LineAsk, ask_instr, ask_line};
 use face_data::{Cond, Effect, Seg, Segs, SizeAsk, SymbolList, Symbols};
 use knit_base::{
     Bed, CarrierNo, Dir, Instr, Needle, NoMemory, Profile, Quarter, Read, Reason, Rule, Yarns,
@@ -55,17 +55,29 @@ fn gives(changed: &SymbolList, n: Needle, segs: &[Seg]) -> bool {
     false
 }
 
+fn is_loop(formed: Option<&FormedLoop>, needle: Needle, dir: Dir, through: &[Seg]) -> bool {
+    match formed {
+        Some(l) => {
+            l.needle == needle
+                && l.dir == dir
+                && l.yarns.as_slice() == [CarrierNo(3)].as_slice()
+                && l.through.as_slice() == through
+        }
+        None => false,
+    }
+}
+
 #[test]
 fn a_tuck_joins_what_was_formed(rt: HostRuntime) -> Result<(), Fail> {
     let alloc = rt.alloc();
     let back = needle(Bed::Back, 4);
-    let mut contents = Symbols::new(alloc);
+    let mut segments = Symbols::new(alloc);
     let mut segs = Segs::new(alloc);
     segs.push(Seg::New(0))?;
     segs.push(Seg::Entry(back))?;
-    contents.set(back, segs)?;
+    segments.set(back, segs)?;
     let tuck = Instr::Tuck(Dir::Left, back, fourth_carrier(alloc)?);
-    let ask = ask_instr(alloc, &tuck, &MACHINE, &contents)?;
+    let ask = ask_instr(alloc, &tuck, &MACHINE, &segments)?;
     let is_out = (reason(Rule::CarrierIsOut, 3), Cond::CarrierIn(CarrierNo(3)));
     assert!(rt; ask.carriers.as_slice() == [is_out].as_slice());
     assert_eq!(rt; ask.rack, None);
@@ -82,7 +94,7 @@ fn a_tuck_joins_what_was_formed(rt: HostRuntime) -> Result<(), Fail> {
     assert!(rt; is_size(ask.sizes.get(0), reason(Rule::TooManyLoops, 2), &[back], 14));
     assert_eq!(rt; ask.effect, NO_EFFECT);
     assert!(rt; ask.changed.is_empty());
-    assert_eq!(rt; ask.makes, Some(back));
+    assert!(rt; is_loop(ask.formed.as_ref(), back, Dir::Left, &[]));
     Ok(())
 }
 
@@ -91,8 +103,8 @@ fn a_transfer_from_an_untouched_needle(rt: HostRuntime) -> Result<(), Fail> {
     let alloc = rt.alloc();
     let front = needle(Bed::Front, 3);
     let back = needle(Bed::Back, 1);
-    let contents = Symbols::new(alloc);
-    let ask = ask_instr(alloc, &Instr::Xfer(front, back), &MACHINE, &contents)?;
+    let segments = Symbols::new(alloc);
+    let ask = ask_instr(alloc, &Instr::Xfer(front, back), &MACHINE, &segments)?;
     assert!(rt; ask.carriers.is_empty());
     assert_eq!(rt; ask.rack, Some((reason(Rule::NotAligned, 2), Quarter(8))));
     assert!(rt; ask.slider.is_none());
@@ -109,7 +121,7 @@ fn a_transfer_from_an_untouched_needle(rt: HostRuntime) -> Result<(), Fail> {
     assert_eq!(rt; ask.changed.len(), 2);
     assert!(rt; gives(&ask.changed, front, &[]));
     assert!(rt; gives(&ask.changed, back, &[Seg::Entry(back), Seg::Entry(front)]));
-    assert_eq!(rt; ask.makes, None);
+    assert!(rt; ask.formed.is_none());
     Ok(())
 }
 
@@ -118,9 +130,9 @@ fn a_split_moves_the_loops_and_forms_one(rt: HostRuntime) -> Result<(), Fail> {
     let alloc = rt.alloc();
     let front = needle(Bed::Front, 3);
     let back = needle(Bed::Back, 4);
-    let contents = Symbols::new(alloc);
+    let segments = Symbols::new(alloc);
     let split = Instr::Split(Dir::Right, front, back, fourth_carrier(alloc)?);
-    let ask = ask_instr(alloc, &split, &MACHINE, &contents)?;
+    let ask = ask_instr(alloc, &split, &MACHINE, &segments)?;
     let is_out = (reason(Rule::CarrierIsOut, 4), Cond::CarrierIn(CarrierNo(3)));
     assert!(rt; ask.carriers.as_slice() == [is_out].as_slice());
     assert_eq!(rt; ask.rack, Some((reason(Rule::NotAligned, 3), Quarter(-4))));
@@ -146,7 +158,7 @@ fn a_split_moves_the_loops_and_forms_one(rt: HostRuntime) -> Result<(), Fail> {
     assert_eq!(rt; ask.changed.len(), 2);
     assert!(rt; gives(&ask.changed, front, &[]));
     assert!(rt; gives(&ask.changed, back, &[Seg::Entry(back), Seg::Entry(front)]));
-    assert_eq!(rt; ask.makes, Some(front));
+    assert!(rt; is_loop(ask.formed.as_ref(), front, Dir::Right, &[Seg::Entry(front)]));
     Ok(())
 }
 
@@ -165,15 +177,15 @@ fn is_outhook(ask: &InstrAsk) -> bool {
         && ask.slider.is_none()
         && ask.sizes.is_empty()
         && ask.changed.is_empty()
-        && ask.makes.is_none()
+        && ask.formed.is_none()
 }
 
 #[test]
 fn a_carrier_that_goes_out_by_the_hook(rt: HostRuntime) -> Result<(), Fail> {
     let alloc = rt.alloc();
-    let contents = Symbols::new(alloc);
+    let segments = Symbols::new(alloc);
     let outhook = Instr::HookOut(fourth_carrier(alloc)?);
-    let ask = ask_instr(alloc, &outhook, &MACHINE, &contents)?;
+    let ask = ask_instr(alloc, &outhook, &MACHINE, &segments)?;
     assert!(rt; is_outhook(&ask));
     Ok(())
 }
@@ -181,17 +193,33 @@ fn a_carrier_that_goes_out_by_the_hook(rt: HostRuntime) -> Result<(), Fail> {
 #[test]
 fn a_line_by_what_it_says(rt: HostRuntime) -> Result<(), Fail> {
     let alloc = rt.alloc();
-    let contents = Symbols::new(alloc);
-    let blank = ask_line(alloc, &Read::Blank, &MACHINE, &contents)?;
+    let segments = Symbols::new(alloc);
+    let blank = ask_line(alloc, &Read::Blank, &MACHINE, &segments)?;
     assert!(rt; matches!(blank, LineAsk::Nothing));
     let off_bed = reason(Rule::OffBed, 1);
-    match ask_line(alloc, &Read::Broken(off_bed), &MACHINE, &contents)? {
+    match ask_line(alloc, &Read::Broken(off_bed), &MACHINE, &segments)? {
         LineAsk::Ends(reason) => assert_eq!(rt; reason, off_bed),
         LineAsk::Nothing | LineAsk::Asks(_) => assert!(rt; false),
     }
     let outhook = Read::Instr(Instr::HookOut(fourth_carrier(alloc)?));
-    match ask_line(alloc, &outhook, &MACHINE, &contents)? {
+    match ask_line(alloc, &outhook, &MACHINE, &segments)? {
         LineAsk::Asks(ask) => assert!(rt; is_outhook(&ask)),
+        LineAsk::Nothing | LineAsk::Ends(_) => assert!(rt; false),
+    }
+    Ok(())
+}
+
+#[test]
+fn a_knit_is_drawn_through_what_was_formed(rt: HostRuntime) -> Result<(), Fail> {
+    let alloc = rt.alloc();
+    let front = needle(Bed::Front, 2);
+    let mut segments = Symbols::new(alloc);
+    segments.set(front, Segs::one(alloc, Seg::New(5)))?;
+    let knit = Read::Instr(Instr::Knit(Dir::Left, front, fourth_carrier(alloc)?));
+    match ask_line(alloc, &knit, &MACHINE, &segments)? {
+        LineAsk::Asks(ask) => {
+            assert!(rt; is_loop(ask.formed.as_ref(), front, Dir::Left, &[Seg::New(5)]));
+        }
         LineAsk::Nothing | LineAsk::Ends(_) => assert!(rt; false),
     }
     Ok(())

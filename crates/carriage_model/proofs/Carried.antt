@@ -1,5 +1,5 @@
 -- One line more of a run.
-use Rattle.std.proofs.Common.{◌≡◌, ℕ, ◌+◌, ◌≤◌, List, [], ◌∷◌, ◌++◌, length, Bool, true, false, Option, None, Some, IfSome, is_some, unwrap_or, refl, ap, sym, subst, ◌∙◌, ◌<◌, arith, append_assoc, append-nil, length-append}
+use Rattle.std.proofs.Common.{◌≡◌, ℕ, ◌+◌, ◌≤◌, List, [], ◌∷◌, ◌++◌, length, Bool, true, false, Option, None, Some, IfSome, is_some, unwrap_or, Result, Ok, Err, OnErr, refl, ap, sym, subst, ◌∙◌, ◌<◌, arith, append_assoc, append-nil, length-append}
 use Rattle.std.proofs.lemmas.Bool.{true≢false}
 use Rattle.std.proofs.lemmas.Option.{none-some}
 use Rattle.std.specs.Option.{option_to_list}
@@ -8,7 +8,7 @@ use Rattle.knit_base.specs.declared.instr.Read.{Read}
 use Rattle.knit_base.specs.declared.rule.Reason.{Reason}
 use Rattle.carriage_model.specs.declared.carriage.Carriage.{Carriage}
 use Rattle.carriage_model.specs.declared.verdict.LoopFact.{LoopFact}
-use Rattle.carriage_model.specs.Carriage.{HasRun, StandsAfter, TellsRun, WentOver, told_with}
+use Rattle.carriage_model.specs.Carriage.{HasRun, StandsAfter, TellsRun, WentOver, StandsStill, loops_with, next_line, profile_of}
 use Rattle.carriage_model.specs.Verdict.{IsFinal, IsVerdict}
 use Rattle.carriage_model.specs.declared.verdict.Final.{Final}
 use Rattle.carriage_model.specs.declared.verdict.Verdict.TheVariants.{Broken, Sound}
@@ -21,6 +21,11 @@ use Rattle.carriage_model.specs.Rules.{broken}
 use Rattle.carriage_model.specs.Steps.{step}
 use Rattle.carriage_model.specs.Run.{run, run_on, Ended, Ends, Stops}
 use Rattle.carriage_model.specs.Loops.{loops_made, loops_asked, made_on, fact_made}
+
+-- what holds anyhow holds on an error
+pub on_err-anyhow : {T E P : Type 0} (r : Result T E) → P → OnErr r P
+on_err-anyhow (Ok v) p = tt
+on_err-anyhow (Err e) p = p
 
 -- how the run ends with line k more, where it ended so before
 abbrev pub one_more : Profile → ℕ → Read → Ended → Ended
@@ -75,6 +80,10 @@ loops-few profile s k [] = omega arith
 loops-few profile s k (r ∷ rs) =
     omega (arith, few_on (broken profile r s) (fact_made k r s) (loops_made profile (step k r s) (k + 1) rs), loops-few profile (step k r s) (k + 1) rs)
 
+still-stands : (old new : Carriage) (ended : Ended) → StandsStill old new → StandsAfter old ended → StandsAfter new ended
+still-stands old new (Ends s) still stands = (still.fault ∙ stands.0, still.machine.states s stands.1)
+still-stands old new (Stops s fault) still stands = still.fault ∙ stands
+
 -- where no fault stopped the carriage, it stands in a state
 pub record InState (profile : Profile) (first : ℕ) (reads : List Read) (carriage : Carriage) : Type 0 where
   pub state : State
@@ -86,15 +95,15 @@ in_state : (profile : Profile) (first : ℕ) (reads : List Read) (carriage : Car
 in_state profile first reads carriage (Ends s) is stands none = record { state = s; ends = is; represented = stands.1 }
 in_state profile first reads carriage (Stops s fault) is stands none = absurd (none-some fault (sym none ∙ stands))
 
-pub standing : (profile : Profile) (telling : Bool) (first : ℕ) (reads : List Read) (carriage : Carriage) → HasRun profile telling first reads carriage
+pub standing : (profile : Profile) (with_loops : Bool) (first : ℕ) (reads : List Read) (carriage : Carriage) → HasRun profile with_loops first reads carriage
     → carriage.fault ≡ None → InState profile first reads carriage
-standing profile telling first reads carriage here none =
+standing profile with_loops first reads carriage here none =
     in_state profile first reads carriage (run profile empty_state first reads) refl here.stands none
 
-told-more : (telling : Bool) (loops : List LoopFact) (fact : Option LoopFact)
-    → told_with (loops_asked telling loops) fact ≡ loops_asked telling (loops ++ option_to_list fact)
-told-more true loops fact = refl
-told-more false loops fact = refl
+loops_with-asked : (with_loops : Bool) (loops : List LoopFact) (fact : Option LoopFact)
+    → loops_with (loops_asked with_loops loops) fact ≡ loops_asked with_loops (loops ++ option_to_list fact)
+loops_with-asked true loops fact = refl
+loops_with-asked false loops fact = refl
 
 -- the loops with those of a line that breaks no rule
 sound-loops : (profile : Profile) (first : ℕ) (reads : List Read) (r : Read) (s : State) → run profile empty_state first reads ≡ Ends s → broken profile r s ≡ None
@@ -105,53 +114,67 @@ sound-loops profile first reads r s ends sound =
     ∙ ap (λ b. loops_made profile empty_state first reads ++ made_on b (fact_made (first + length reads) r s) []) sound
     ∙ ap (λ more. loops_made profile empty_state first reads ++ more) (append-nil (option_to_list (fact_made (first + length reads) r s)))
 
+-- the run of a carriage that stands still is what it was
+pub run-still : (profile : Profile) (with_loops : Bool) (first : ℕ) (reads : List Read) (old new : Carriage) → HasRun profile with_loops first reads old → StandsStill old new
+    → HasRun profile with_loops first reads new
+run-still profile with_loops first reads old new here still = record {
+  lawful = here.lawful;
+  same_profile = still.same_profile ∙ here.same_profile;
+  needles = needles-kept profile old.machine new.machine here.needles still.machine.beds;
+  first_line = still.first_line ∙ here.first_line;
+  lines = still.lines ∙ here.lines;
+  stands = still-stands old new (run profile empty_state first reads) still here.stands;
+  made = still.made ∙ here.made;
+  loops = still.loops ∙ here.loops;
+}
+
+next-is : (profile : Profile) (with_loops : Bool) (first : ℕ) (reads : List Read) (carriage : Carriage) → HasRun profile with_loops first reads carriage
+    → next_line carriage ≡ first + length reads
+next-is profile with_loops first reads carriage here = omega (arith, here.first_line, here.lines)
+
 -- a line that breaks no rule was carried out
-pub run-sound : (profile : Profile) (telling : Bool) (first : ℕ) (reads : List Read) (r : Read) (old mid new : Carriage) → HasRun profile telling first reads old
-    → mid ≡ record old { next = old.next + 1 } → old.fault ≡ None
+pub run-sound : (profile : Profile) (with_loops : Bool) (first : ℕ) (reads : List Read) (r : Read) (old new : Carriage) → HasRun profile with_loops first reads old → old.fault ≡ None
     → ((s : State) → Represents old.machine s → None ≡ broken old.profile r s)
-    → WentOver old.next r mid new
-    → HasRun profile telling first (reads ++ r ∷ []) new
-run-sound profile telling first reads r old mid new here is none sound over =
-    let at : InState profile first reads old = standing profile telling first reads old here none in
+    → WentOver (next_line old) r old new
+    → HasRun profile with_loops first (reads ++ r ∷ []) new
+run-sound profile with_loops first reads r old new here none sound over =
+    let at : InState profile first reads old = standing profile with_loops first reads old here none in
     let s : State = at.state in
     let k : ℕ = first + length reads in
+    let next : next_line old ≡ k = next-is profile with_loops first reads old here in
     let fits : broken profile r s ≡ None = ap (λ p. broken p r s) (sym here.same_profile) ∙ sym (sound s at.represented) in
-    let there : Represents mid.machine s = subst (λ (c : Carriage). Represents c.machine s) (sym is) at.represented in
     let loops : loops_made profile empty_state first (reads ++ r ∷ []) ≡ loops_made profile empty_state first reads ++ option_to_list (fact_made k r s) =
     sound-loops profile first reads r s at.ends fits in
     let ends : run profile empty_state first (reads ++ r ∷ []) ≡ Ends (step k r s) =
     run-more profile empty_state first reads r ∙ ap (one_more profile k r) at.ends ∙ ap (λ b. run_on k b s (Ends (step k r s))) fits in
     record {
       lawful = here.lawful;
-      same_profile = over.same_profile ∙ ap (λ (c : Carriage). c.profile) is ∙ here.same_profile;
-      needles = needles-kept profile mid.machine new.machine (subst (λ (c : Carriage). HasNeedlesOf profile c.machine) (sym is) here.needles) over.beds;
-      next = omega (arith, over.next, ap (λ (c : Carriage). c.next) is, here.next, length-append reads (r ∷ []));
-      stands =
-          subst (StandsAfter new) (sym ends)
-          (over.fault ∙ ap (λ (c : Carriage). c.fault) is ∙ none, subst (λ j. Represents new.machine (step j r s)) here.next (over.machine s there));
+      same_profile = over.same_profile ∙ here.same_profile;
+      needles = needles-kept profile old.machine new.machine here.needles over.beds;
+      first_line = over.first_line ∙ here.first_line;
+      lines = omega (arith, over.lines, here.lines, length-append reads (r ∷ []));
+      stands = subst (StandsAfter new) (sym ends) (over.fault ∙ none, subst (λ j. Represents new.machine (step j r s)) next (over.machine s at.represented));
       made =
           over.made s
-          ∙ ap (λ (c : Carriage). c.made + length (option_to_list (fact_made old.next r s))) is
-          ∙ ap (λ made. made + length (option_to_list (fact_made old.next r s))) here.made
-          ∙ ap (λ j. length (loops_made profile empty_state first reads) + length (option_to_list (fact_made j r s))) here.next
+          ∙ ap (λ made. made + length (option_to_list (fact_made (next_line old) r s))) here.made
+          ∙ ap (λ j. length (loops_made profile empty_state first reads) + length (option_to_list (fact_made j r s))) next
           ∙ sym (length-append (loops_made profile empty_state first reads) (option_to_list (fact_made k r s)))
           ∙ sym (ap length loops);
-      told =
-          over.told s there
-          ∙ ap (λ (c : Carriage). told_with c.told (fact_made old.next r s)) is
-          ∙ ap (λ told. told_with told (fact_made old.next r s)) here.told
-          ∙ ap (λ j. told_with (loops_asked telling (loops_made profile empty_state first reads)) (fact_made j r s)) here.next
-          ∙ told-more telling (loops_made profile empty_state first reads) (fact_made k r s)
-          ∙ sym (ap (loops_asked telling) loops);
+      loops =
+          over.loops s at.represented
+          ∙ ap (λ loops. loops_with loops (fact_made (next_line old) r s)) here.loops
+          ∙ ap (λ j. loops_with (loops_asked with_loops (loops_made profile empty_state first reads)) (fact_made j r s)) next
+          ∙ loops_with-asked with_loops (loops_made profile empty_state first reads) (fact_made k r s)
+          ∙ sym (ap (loops_asked with_loops) loops);
     }
 
 -- a line that breaks a rule stops the carriage
-pub run-broken : (profile : Profile) (telling : Bool) (first : ℕ) (reads : List Read) (r : Read) (old new : Carriage) (reason : Reason) → HasRun profile telling first reads old
-    → new ≡ record old { next = old.next + 1; fault = Some (record { line = old.next; reason = reason }) } → old.fault ≡ None
+pub run-broken : (profile : Profile) (with_loops : Bool) (first : ℕ) (reads : List Read) (r : Read) (old new : Carriage) (reason : Reason) → HasRun profile with_loops first reads old
+    → new ≡ record old { lines = old.lines + 1; fault = Some (record { line = next_line old; reason = reason }) } → old.fault ≡ None
     → ((s : State) → Represents old.machine s → Some reason ≡ broken old.profile r s)
-    → HasRun profile telling first (reads ++ r ∷ []) new
-run-broken profile telling first reads r old new reason here is none broke =
-    let at : InState profile first reads old = standing profile telling first reads old here none in
+    → HasRun profile with_loops first (reads ++ r ∷ []) new
+run-broken profile with_loops first reads r old new reason here is none broke =
+    let at : InState profile first reads old = standing profile with_loops first reads old here none in
     let s : State = at.state in
     let k : ℕ = first + length reads in
     let fails : broken profile r s ≡ Some reason = ap (λ p. broken p r s) (sym here.same_profile) ∙ sym (broke s at.represented) in
@@ -166,12 +189,13 @@ run-broken profile telling first reads r old new reason here is none broke =
       lawful = here.lawful;
       same_profile = ap (λ (c : Carriage). c.profile) is ∙ here.same_profile;
       needles = subst (λ (c : Carriage). HasNeedlesOf profile c.machine) (sym is) here.needles;
-      next = omega (arith, ap (λ (c : Carriage). c.next) is, here.next, length-append reads (r ∷ []));
+      first_line = ap (λ (c : Carriage). c.first) is ∙ here.first_line;
+      lines = omega (arith, ap (λ (c : Carriage). c.lines) is, here.lines, length-append reads (r ∷ []));
       stands =
           subst (StandsAfter new) (sym stops)
-          (ap (λ (c : Carriage). c.fault) is ∙ ap (λ line. Some (record { line = line; reason = reason })) here.next);
+          (ap (λ (c : Carriage). c.fault) is ∙ ap (λ line. Some (record { line = line; reason = reason })) (next-is profile with_loops first reads old here));
       made = ap (λ (c : Carriage). c.made) is ∙ here.made ∙ sym (ap length loops);
-      told = ap (λ (c : Carriage). c.told) is ∙ here.told ∙ sym (ap (loops_asked telling) loops);
+      loops = ap (λ (c : Carriage). c.loops) is ∙ here.loops ∙ sym (ap (loops_asked with_loops) loops);
     }
 
 stopped-after : (profile : Profile) (k : ℕ) (r : Read) (old new : Carriage) (ended : Ended) → StandsAfter old ended → is_some old.fault ≡ true → new.fault ≡ old.fault
@@ -184,10 +208,10 @@ stopped-loops profile k r old (Ends s) stands some = absurd (true≢false (sym s
 stopped-loops profile k r old (Stops s fault) stands some = refl
 
 -- a line behind the one that broke a rule is passed over
-pub run-stopped : (profile : Profile) (telling : Bool) (first : ℕ) (reads : List Read) (r : Read) (old new : Carriage) → HasRun profile telling first reads old
-    → new ≡ record old { next = old.next + 1 } → is_some old.fault ≡ true
-    → HasRun profile telling first (reads ++ r ∷ []) new
-run-stopped profile telling first reads r old new here is some =
+pub run-stopped : (profile : Profile) (with_loops : Bool) (first : ℕ) (reads : List Read) (r : Read) (old new : Carriage) → HasRun profile with_loops first reads old
+    → new ≡ record old { lines = old.lines + 1 } → is_some old.fault ≡ true
+    → HasRun profile with_loops first (reads ++ r ∷ []) new
+run-stopped profile with_loops first reads r old new here is some =
     let k : ℕ = first + length reads in
     let loops : loops_made profile empty_state first (reads ++ r ∷ []) ≡ loops_made profile empty_state first reads =
     loops-more profile empty_state first reads r
@@ -197,43 +221,44 @@ run-stopped profile telling first reads r old new here is some =
       lawful = here.lawful;
       same_profile = ap (λ (c : Carriage). c.profile) is ∙ here.same_profile;
       needles = subst (λ (c : Carriage). HasNeedlesOf profile c.machine) (sym is) here.needles;
-      next = omega (arith, ap (λ (c : Carriage). c.next) is, here.next, length-append reads (r ∷ []));
+      first_line = ap (λ (c : Carriage). c.first) is ∙ here.first_line;
+      lines = omega (arith, ap (λ (c : Carriage). c.lines) is, here.lines, length-append reads (r ∷ []));
       stands =
           subst (StandsAfter new) (sym (run-more profile empty_state first reads r))
           (stopped-after profile k r old new (run profile empty_state first reads) here.stands some (ap (λ (c : Carriage). c.fault) is));
       made = ap (λ (c : Carriage). c.made) is ∙ here.made ∙ sym (ap length loops);
-      told = ap (λ (c : Carriage). c.told) is ∙ here.told ∙ sym (ap (loops_asked telling) loops);
+      loops = ap (λ (c : Carriage). c.loops) is ∙ here.loops ∙ sym (ap (loops_asked with_loops) loops);
     }
 
-few_told : (telling : Bool) (loops : List LoopFact) (most : ℕ) → length loops + 1 < most → IfSome (loops_asked telling loops) (λ ls. length ls + 1 < most)
-few_told true loops most few = few
-few_told false loops most few = tt
+asked-few : (with_loops : Bool) (loops : List LoopFact) (most : ℕ) → length loops + 1 < most → IfSome (loops_asked with_loops loops) (λ ls. length ls + 1 < most)
+asked-few true loops most few = few
+asked-few false loops most few = tt
 
 -- there is room for one loop more
-pub told-few : (profile : Profile) (telling : Bool) (first : ℕ) (reads : List Read) (carriage : Carriage) (most : ℕ) → HasRun profile telling first reads carriage
-    → carriage.next + 1 < most → IfSome carriage.told (λ loops. length loops + 1 < most)
-told-few profile telling first reads carriage most here few =
-    subst (λ told. IfSome told (λ (loops : List LoopFact). length loops + 1 < most)) (sym here.told)
-    (few_told telling (loops_made profile empty_state first reads) most (omega (arith, loops-few profile empty_state first reads, here.next)))
+pub kept-few : (profile : Profile) (with_loops : Bool) (first : ℕ) (reads : List Read) (carriage : Carriage) (most : ℕ) → HasRun profile with_loops first reads carriage
+    → carriage.lines + 1 < most → IfSome carriage.loops (λ loops. length loops + 1 < most)
+kept-few profile with_loops first reads carriage most here few =
+    subst (λ kept. IfSome kept (λ (loops : List LoopFact). length loops + 1 < most)) (sym here.loops)
+    (asked-few with_loops (loops_made profile empty_state first reads) most (omega (arith, loops-few profile empty_state first reads, here.lines)))
 
-pub made-few : (profile : Profile) (telling : Bool) (first : ℕ) (reads : List Read) (carriage : Carriage) → HasRun profile telling first reads carriage
-    → carriage.made ≤ carriage.next
-made-few profile telling first reads carriage here = omega (arith, here.made, here.next, loops-few profile empty_state first reads)
+pub made-few : (profile : Profile) (with_loops : Bool) (first : ℕ) (reads : List Read) (carriage : Carriage) → HasRun profile with_loops first reads carriage
+    → carriage.made ≤ carriage.lines
+made-few profile with_loops first reads carriage here = omega (arith, here.made, here.lines, loops-few profile empty_state first reads)
 
 -- what a carriage tells that no fault stopped
-pub tells-sound : (profile : Profile) (telling : Bool) (first : ℕ) (reads : List Read) (carriage : Carriage) (lines : ℕ) (final : Final) → HasRun profile telling first reads carriage
-    → carriage.fault ≡ None → lines ≡ length reads
-    → ((s : State) (loops : List LoopFact) → Represents carriage.machine s → carriage.made ≡ length loops → IsFinal final lines s loops)
+pub tells-sound : (profile : Profile) (with_loops : Bool) (first : ℕ) (reads : List Read) (carriage : Carriage) (final : Final) → HasRun profile with_loops first reads carriage
+    → carriage.fault ≡ None
+    → ((s : State) (loops : List LoopFact) → Represents carriage.machine s → carriage.made ≡ length loops → IsFinal final carriage.lines s loops)
     → length final.stacks ≤ 262144
-    → TellsRun profile telling first reads (Sound final) carriage.told
-tells-sound profile telling first reads carriage lines final here none count is short =
-    let at : InState profile first reads carriage = standing profile telling first reads carriage here none in
+    → TellsRun profile with_loops first reads (Sound final) carriage.loops
+tells-sound profile with_loops first reads carriage final here none is short =
+    let at : InState profile first reads carriage = standing profile with_loops first reads carriage here none in
     let loops : List LoopFact = loops_made profile empty_state first reads in
     let judged : IsVerdict (length reads) (Sound final) (run profile empty_state first reads) loops =
-    subst (λ ended. IsVerdict (length reads) (Sound final) ended loops) (sym at.ends) (subst (λ n. IsFinal final n at.state loops) count (is at.state loops at.represented here.made)) in
+    subst (λ ended. IsVerdict (length reads) (Sound final) ended loops) (sym at.ends) (subst (λ n. IsFinal final n at.state loops) here.lines (is at.state loops at.represented here.made)) in
     record {
       verdict_is = judged;
-      told_is = here.told;
+      loops_are = here.loops;
       few = holds-few profile first (length reads) reads (Sound final) here.lawful judged short;
     }
 
@@ -243,10 +268,10 @@ stops-broken lines carriage fault (Ends s) loops stands some = absurd (none-some
 stops-broken lines carriage fault (Stops s stopped) loops stands some = ap (λ o. unwrap_or o fault) (sym some ∙ stands)
 
 -- what a carriage tells that stopped at a fault
-pub tells-broken : (profile : Profile) (telling : Bool) (first : ℕ) (reads : List Read) (carriage : Carriage) (fault : Fault) → HasRun profile telling first reads carriage
-    → carriage.fault ≡ Some fault → TellsRun profile telling first reads (Broken fault) carriage.told
-tells-broken profile telling first reads carriage fault here some = record {
+pub tells-broken : (profile : Profile) (with_loops : Bool) (first : ℕ) (reads : List Read) (carriage : Carriage) (fault : Fault) → HasRun profile with_loops first reads carriage
+    → carriage.fault ≡ Some fault → TellsRun profile with_loops first reads (Broken fault) carriage.loops
+tells-broken profile with_loops first reads carriage fault here some = record {
   verdict_is = stops-broken (length reads) carriage fault (run profile empty_state first reads) (loops_made profile empty_state first reads) here.stands some;
-  told_is = here.told;
+  loops_are = here.loops;
   few = tt;
 }

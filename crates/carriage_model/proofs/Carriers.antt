@@ -44,31 +44,25 @@ record Below (d : ℕ) (s : State) : Type 0 where
   hook : s.hook < 2 ^ d
 
 step_instr-below : (profile : Profile) (d k : ℕ) (i : Instr) (s : State) → IsLawful profile d i → Below d s → Below d (step_instr k i s)
-step_instr-below profile d k (CarryIn cs) s lawful below = record { ins = with-below d s.ins cs below.ins lawful.each; hook = below.hook }
+step_instr-below profile d k (CarryIn cs) s lawful below = record { ins = with-below d s.ins cs below.ins lawful.carriers.each; hook = below.hook }
 step_instr-below profile d k (CarryOut cs) s lawful below = record { ins = without-below d s.ins cs below.ins; hook = below.hook }
-step_instr-below profile d k (HookIn cs) s lawful below = record { ins = with-below d s.ins cs below.ins lawful.each; hook = mask-below d cs lawful.each }
+step_instr-below profile d k (HookIn cs) s lawful below = record { ins = with-below d s.ins cs below.ins lawful.carriers.each; hook = mask-below d cs lawful.carriers.each }
 step_instr-below profile d k (HookOut cs) s lawful below = record { ins = without-below d s.ins cs below.ins; hook = below.hook }
 step_instr-below profile d k (ReleaseHook cs) s lawful below = record { ins = below.ins; hook = pow_pos d }
-step_instr-below profile d k Stitch s lawful below = below
-step_instr-below profile d k Pause s lawful below = below
-step_instr-below profile d k Extension s lawful below = below
 step_instr-below profile d k (Rack q) s lawful below = record { ins = below.ins; hook = below.hook }
 step_instr-below profile d k (Knit dir n []) s lawful below = record { ins = below.ins; hook = below.hook }
 step_instr-below profile d k (Knit dir n (c ∷ cs)) s lawful below = record { ins = below.ins; hook = below.hook }
 step_instr-below profile d k (Tuck dir n []) s lawful below = below
 step_instr-below profile d k (Tuck dir n (c ∷ cs)) s lawful below = record { ins = below.ins; hook = below.hook }
-step_instr-below profile d k (Miss dir n cs) s lawful below = below
 step_instr-below profile d k (Split dir n n2 []) s lawful below = record { ins = below.ins; hook = below.hook }
 step_instr-below profile d k (Split dir n n2 (c ∷ cs)) s lawful below = record { ins = below.ins; hook = below.hook }
 step_instr-below profile d k (Xfer n n2) s lawful below = record { ins = below.ins; hook = below.hook }
 step_instr-below profile d k (Drop n) s lawful below = record { ins = below.ins; hook = below.hook }
-step_instr-below profile d k (Amiss n) s lawful below = below
+step_instr-below profile d k i s lawful below = below
 
 step-below : (profile : Profile) (d k : ℕ) (r : Read) (s : State) → IsLawfulRead profile d r → Below d s → Below d (step k r s)
-step-below profile d k read.Blank s lawful below = below
-step-below profile d k read.Comment s lawful below = below
-step-below profile d k (read.Broken reason) s lawful below = below
 step-below profile d k (read.Instr i) s lawful below = step_instr-below profile d k i s lawful below
+step-below profile d k r s lawful below = below
 
 abbrev EndsBelow : ℕ → Ended → Type 0
 EndsBelow d (Ends s) = Below d s
@@ -107,9 +101,9 @@ formed-declared d k dir n (c ∷ cs) through all =
     All-cons (IsOfDeclared d) (record { line = k; needle = n; dir = dir; yarns = c ∷ cs; through = through }) [] all (All-nil (IsOfDeclared d))
 
 loop_of_instr-declared : (profile : Profile) (d k : ℕ) (i : Instr) (s : State) → IsLawful profile d i → AreOfDeclared d (option_to_list (loop_of_instr k i s))
-loop_of_instr-declared profile d k (Knit dir n cs) s lawful = formed-declared d k dir n cs (s.stacks n) lawful.2.each
-loop_of_instr-declared profile d k (Tuck dir n cs) s lawful = formed-declared d k dir n cs [] lawful.2.each
-loop_of_instr-declared profile d k (Split dir n n2 cs) s lawful = formed-declared d k dir n cs (s.stacks n) lawful.4.each
+loop_of_instr-declared profile d k (Knit dir n cs) s lawful = formed-declared d k dir n cs (s.stacks n) lawful.carriers.each
+loop_of_instr-declared profile d k (Tuck dir n cs) s lawful = formed-declared d k dir n cs [] lawful.carriers.each
+loop_of_instr-declared profile d k (Split dir n n2 cs) s lawful = formed-declared d k dir n cs (s.stacks n) lawful.carriers.each
 loop_of_instr-declared profile d k i s lawful = All-nil (IsOfDeclared d)
 
 fact_made-declared : (profile : Profile) (d k : ℕ) (r : Read) (s : State) → IsLawfulRead profile d r → AreOfDeclared d (option_to_list (fact_made k r s))

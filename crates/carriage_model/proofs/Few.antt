@@ -59,23 +59,11 @@ step_instr-few profile k (Split dir n n2 (c ∷ cs)) s limits sound all =
 step_instr-few profile k (Xfer n n2) s limits sound all =
     transferred-few s.stacks n n2 [] (omega arith) (few profile (length (s.stacks n2) + length (s.stacks n)) 2 limits (size_unbroken profile (Xfer n n2) s sound)) all
 step_instr-few profile k (Drop n) s limits sound all = with_stack-few s.stacks n [] (omega arith) all
-step_instr-few profile k (CarryIn cs) s limits sound all = all
-step_instr-few profile k (CarryOut cs) s limits sound all = all
-step_instr-few profile k (HookIn cs) s limits sound all = all
-step_instr-few profile k (HookOut cs) s limits sound all = all
-step_instr-few profile k (ReleaseHook cs) s limits sound all = all
-step_instr-few profile k Stitch s limits sound all = all
-step_instr-few profile k Pause s limits sound all = all
-step_instr-few profile k Extension s limits sound all = all
-step_instr-few profile k (Rack q) s limits sound all = all
-step_instr-few profile k (Miss dir n cs) s limits sound all = all
-step_instr-few profile k (Amiss n) s limits sound all = all
+step_instr-few profile k i s limits sound all = all
 
 step-few : (profile : Profile) (k : ℕ) (r : Read) (s : State) → IsLawfulProfile profile → broken profile r s ≡ None → HoldFew s.stacks → HoldFew (step k r s).stacks
-step-few profile k read.Blank s limits sound all = all
-step-few profile k read.Comment s limits sound all = all
-step-few profile k (read.Broken reason) s limits sound all = all
 step-few profile k (read.Instr i) s limits sound all = step_instr-few profile k i s limits sound all
+step-few profile k r s limits sound all = all
 
 abbrev EndsFew : Ended → Type 0
 EndsFew (Ends s) = HoldFew s.stacks

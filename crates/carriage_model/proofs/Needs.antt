@@ -3,11 +3,12 @@ use Rattle.std.proofs.Common.{◌≡◌, ℕ, ◌+◌, ◌<◌, ◌≤◌, Bool,
 use Rattle.std.proofs.lemmas.List.Elements.{All-get_or, All-same}
 use Rattle.std.proofs.lemmas.Bool.{true≢false, ltb-false}
 use Rattle.std.proofs.lemmas.Int.{ints}
-use Rattle.knit_base.specs.Lawful.{IsLawful, IsLawfulRead, IsOnBed}
+use Rattle.knit_base.specs.Lawful.{IsLawful, IsLawfulRead, IsOnBed, AreOnBed}
+use Rattle.knit_base.specs.Instr.{needles_of, formed_on, forming_needle}
 use Rattle.knit_base.specs.Limits.{IsLawfulProfile}
 use Rattle.knit_base.specs.Usual.{usual_read}
 use Rattle.knit_base.specs.Reasons.{broken_if, or_else}
-use Rattle.knit_base.specs.declared.instr.Instr.TheVariants.{CarryIn, CarryOut, HookIn, HookOut, Knit, Tuck, Miss, Split, Xfer, Drop}
+use Rattle.knit_base.specs.declared.instr.Instr.TheVariants.{Knit, Tuck, Split, Xfer}
 use Rattle.knit_base.specs.declared.instr.Instr.{Instr}
 use Rattle.knit_base.specs.declared.instr.Read.{Read}
 use Rattle.knit_base.specs.declared.instr.Read.TheVariants as read
@@ -17,25 +18,17 @@ use Rattle.knit_base.specs.declared.profile.Profile.{Profile}
 use Rattle.knit_base.specs.declared.needle.Needle.{Needle}
 use Rattle.knit_base.specs.declared.usual.Usual.{Usual}
 use Rattle.knit_base.specs.declared.usual.Usual.TheVariants as usual
+use Rattle.knit_base.specs.declared.yarns.CarrierNo.{CarrierNo}
+use Rattle.carriage_model.specs.declared.beds.Beds.{Beds}
 use Rattle.carriage_model.specs.declared.machine.Machine.{Machine}
 use Rattle.carriage_model.specs.State.{State}
 use Rattle.carriage_model.specs.Rules.{broken, broken_instr, carrier_broken, rack_broken, slider_broken, size_broken, too_many}
-use Rattle.carriage_model.specs.Beds.{IsOn, SameBeds}
-use Rattle.carriage_model.specs.Machine.{Represents, HasNeedlesOf, HasNeedles, HasNeedlesInLine, HasPlaces, HasPlacesInLine, HasRoom, HasRoomInLine, HasCarrierInSet}
+use Rattle.carriage_model.specs.Beds.{IsOn, AreOn, SameBeds}
+use Rattle.carriage_model.specs.Machine.{Represents, HasNeedlesOf, HasNeedlesInLine, HasPlacesInLine, HasRoom, HasRoomInLine, HasCarrierInSet}
 
-instr_has-places : (profile : Profile) (d : ℕ) (i : Instr) → IsLawful profile d i → HasPlaces i
-instr_has-places profile d (CarryIn cs) lawful = lawful.places
-instr_has-places profile d (CarryOut cs) lawful = lawful.places
-instr_has-places profile d (HookIn cs) lawful = lawful.places
-instr_has-places profile d (HookOut cs) lawful = lawful.places
-instr_has-places profile d (Knit dir n cs) lawful = lawful.2.places
-instr_has-places profile d (Tuck dir n cs) lawful = lawful.2.places
-instr_has-places profile d (Miss dir n cs) lawful = lawful.1.places
-instr_has-places profile d (Split dir n n2 cs) lawful = lawful.4.places
-instr_has-places profile d i lawful = tt
-
+-- the places of a lawful line's carriers fit in 16 bits
 pub line_has-places : (profile : Profile) (d : ℕ) (r : Read) → IsLawfulRead profile d r → HasPlacesInLine r
-line_has-places profile d (read.Instr i) lawful = instr_has-places profile d i lawful
+line_has-places profile d (read.Instr instr) lawful = lawful.carriers.places
 line_has-places profile d r lawful = tt
 
 -- a needle on the profile's beds is one of the machine's
@@ -45,18 +38,30 @@ on_bed-is_on profile n machine has on = record {
   below = omega (arith, ints, has.low, has.width, on.below);
 }
 
-instr_has-needles : (profile : Profile) (d : ℕ) (i : Instr) (machine : Machine) → HasNeedlesOf profile machine → IsLawful profile d i → HasNeedles machine i
-instr_has-needles profile d (Knit dir n cs) machine has lawful = on_bed-is_on profile n machine has lawful.0
-instr_has-needles profile d (Tuck dir n cs) machine has lawful = on_bed-is_on profile n machine has lawful.0
-instr_has-needles profile d (Split dir n n2 cs) machine has lawful = (on_bed-is_on profile n machine has lawful.0, on_bed-is_on profile n2 machine has lawful.1)
-instr_has-needles profile d (Xfer n n2) machine has lawful = (on_bed-is_on profile n machine has lawful.0, on_bed-is_on profile n2 machine has lawful.1)
-instr_has-needles profile d (Drop n) machine has lawful = on_bed-is_on profile n machine has lawful
-instr_has-needles profile d i machine has lawful = tt
+on_bed-are_on : (profile : Profile) (ns : List Needle) (machine : Machine) → HasNeedlesOf profile machine → AreOnBed profile ns → AreOn machine.beds ns
+on_bed-are_on profile [] machine has on = tt
+on_bed-are_on profile (n ∷ ns) machine has on = (on_bed-is_on profile n machine has on.0, on_bed-are_on profile ns machine has on.1)
 
 -- a lawful line's needles are the machine's
 pub line_has-needles : (profile : Profile) (d : ℕ) (r : Read) (machine : Machine) → HasNeedlesOf profile machine → IsLawfulRead profile d r → HasNeedlesInLine machine r
-line_has-needles profile d (read.Instr i) machine has lawful = instr_has-needles profile d i machine has lawful
+line_has-needles profile d (read.Instr instr) machine has lawful = on_bed-are_on profile (needles_of instr) machine has lawful.needles
 line_has-needles profile d r machine has lawful = tt
+
+-- the beds have the needle, if there is one
+abbrev pub IsOnIfAny : Beds → Option Needle → Type 0
+IsOnIfAny beds None = Unit {0}
+IsOnIfAny beds (Some n) = IsOn beds n.at
+
+formed_on-is_on : (beds : Beds) (n : Needle) (cs : List CarrierNo) → IsOn beds n.at → IsOnIfAny beds (formed_on n cs)
+formed_on-is_on beds n [] on = tt
+formed_on-is_on beds n (c ∷ cs) on = on
+
+-- the needle on which an instruction forms a loop is one that it names
+pub forming_needle-is_on : (beds : Beds) (instr : Instr) → AreOn beds (needles_of instr) → IsOnIfAny beds (forming_needle instr)
+forming_needle-is_on beds (Knit dir n cs) on = formed_on-is_on beds n cs on.0
+forming_needle-is_on beds (Tuck dir n cs) on = formed_on-is_on beds n cs on.0
+forming_needle-is_on beds (Split dir n n2 cs) on = formed_on-is_on beds n cs on.0
+forming_needle-is_on beds instr on = tt
 
 -- a step leaves the machine its needles
 pub needles-kept : (profile : Profile) (old new : Machine) → HasNeedlesOf profile old → SameBeds old.beds new.beds → HasNeedlesOf profile new
@@ -91,21 +96,18 @@ instr_has-room : (profile : Profile) (d : ℕ) (i : Instr) (machine : Machine) (
     → HasRoom machine i
 instr_has-room profile d (Tuck dir n []) machine s limits lawful here sound = tt
 instr_has-room profile d (Tuck dir n (c ∷ cs)) machine s limits lawful here sound =
-    omega (
-      arith,
-      ap length (here.stacks n),
-      few profile (length (s.stacks n) + 1) 2 limits (size_unbroken profile (Tuck dir n (c ∷ cs)) s sound),
-    )
+    omega (arith, ap length (here.stacks n), few profile (length (s.stacks n) + 1) 2 limits (size_unbroken profile (Tuck dir n (c ∷ cs)) s sound))
 instr_has-room profile d (Split dir n n2 cs) machine s limits lawful here sound = record {
-  sides = lawful.2.sides;
+  sides = lawful.moved.sides;
   room = omega (arith, ap length (here.stacks n), ap length (here.stacks n2), few profile (length (s.stacks n2) + length (s.stacks n)) 3 limits (size_unbroken profile (Split dir n n2 cs) s sound));
 }
 instr_has-room profile d (Xfer n n2) machine s limits lawful here sound = record {
-  sides = lawful.2.sides;
+  sides = lawful.moved.sides;
   room = omega (arith, ap length (here.stacks n), ap length (here.stacks n2), few profile (length (s.stacks n2) + length (s.stacks n)) 2 limits (size_unbroken profile (Xfer n n2) s sound));
 }
 instr_has-room profile d i machine s limits lawful here sound = tt
 
+-- a lawful line that breaks no rule has room for its loops
 pub line_has-room : (profile : Profile) (d : ℕ) (r : Read) (machine : Machine) (s : State) → IsLawfulProfile profile → IsLawfulRead profile d r → Represents machine s → broken profile r s ≡ None
     → HasRoomInLine machine r
 line_has-room profile d (read.Instr i) machine s limits lawful here sound = instr_has-room profile d i machine s limits lawful here sound
@@ -113,6 +115,6 @@ line_has-room profile d r machine s limits lawful here sound = tt
 
 -- the line's carrier is one of the 64 that a set has bits for
 pub usual_has-carrier : (profile : Profile) (d : ℕ) (u : Usual) → d ≤ 64 → IsLawfulRead profile d (usual_read u) → HasCarrierInSet u
-usual_has-carrier profile d (usual.Knit dir n c) few lawful = omega (arith, few, lawful.2.each 0 c (omega arith))
-usual_has-carrier profile d (usual.Tuck dir n c) few lawful = omega (arith, few, lawful.2.each 0 c (omega arith))
+usual_has-carrier profile d (usual.Knit dir n c) few lawful = omega (arith, few, lawful.carriers.each 0 c (omega arith))
+usual_has-carrier profile d (usual.Tuck dir n c) few lawful = omega (arith, few, lawful.carriers.each 0 c (omega arith))
 usual_has-carrier profile d (usual.Xfer n n2) few lawful = tt

@@ -1,16 +1,15 @@
 -- Changes of the stacks in the row, as changes of what the needles hold.
 use Rattle.std.proofs.Common.{◌≡◌, ◌≢◌, ℕ, ◌*◌, ◌<◌, ℤ, Bool, true, false, cond, List, [], ◌∷◌, ◌++◌, length, get_or, refl, sym, ap, subst, ◌∙◌, arith, length-set}
 use Rattle.std.specs.List.{swap}
-use Rattle.std.proofs.lemmas.List.{get_or_default, get_or-set_same}
+use Rattle.std.proofs.lemmas.List.{get_or_default}
 use Rattle.std.proofs.lemmas.List.Edits.{swap_is}
 use Rattle.std.proofs.Math.ListN.{set}
-use Rattle.std.proofs.Math.Seq.{set-set}
 use Rattle.knit_base.specs.declared.needle.Needle.{Needle}
 use Rattle.knit_base.specs.Needle.{same_needle, same_needle-true, is_front}
 use Rattle.carriage_model.specs.declared.beds.Beds.{Beds}
 use Rattle.carriage_model.specs.State.{with_stack, transferred}
 use Rattle.carriage_model.specs.Places.{Spans, place_in, stack_in}
-use Rattle.carriage_model.specs.Beds.{IsOn, SameBeds, Holds, loops_at}
+use Rattle.carriage_model.specs.Beds.{IsOn, SameBeds, Holds, HoldsAsBefore, loops_at}
 use Rattle.carriage_model.proofs.Places.{set-stack, stack-at, place-within, same_needle-false}
 
 -- what the code reads at the needle's place are the needle's loops
@@ -118,12 +117,47 @@ pub still-on : (old mid : Beds) (at : ℤ) → SameBeds old mid → IsOn old at 
 still-on old mid at same on =
     subst (λ l. Spans l mid.width at) (sym same.low) (subst (λ w. Spans old.low w at) (sym same.width) on)
 
--- the stack at the needle's place was emptied, and got a loop
-pub knit-holds : (old new : Beds) (n : Needle) (place line : ℕ) (cleared found loops : List ℕ) → IsOn old n.at → place ≡ place_in old.low old.width n
-    → new.low ≡ old.low → new.width ≡ old.width → new.stacks.items ≡ set (set old.stacks.items place cleared) place loops
-    → cleared ≡ [] → found ≡ get_or (set old.stacks.items place cleared) place found → loops ≡ found ++ line ∷ []
-    → Holds old new (with_stack (loops_at old) n (line ∷ []))
-knit-holds old new n place line cleared found loops on is low width items none read pushed =
-    let within : place < length old.stacks.items = omega (arith, is, old.full, place-within old.low old.width n on) in
-    set-holds old new n place loops (line ∷ []) on is low width (items ∙ set-set old.stacks.items place cleared loops)
-    (pushed ∙ ap (λ (l : List ℕ). l ++ line ∷ []) (read ∙ get_or-set_same old.stacks.items place cleared found within ∙ none))
+same-anyway : (stacks : Needle → List ℕ) (n q : Needle) (b : Bool) → same_needle n q ≡ b → cond b (stacks n) (stacks q) ≡ stacks q
+same-anyway stacks n q true same = ap stacks (same_needle-true n q same)
+same-anyway stacks n q false other = refl
+
+-- the stack at the needle's place was replaced by itself
+pub same-holds : (old new : Beds) (n : Needle) (place : ℕ) (loops found : List ℕ) → IsOn old n.at → place ≡ place_in old.low old.width n
+    → new.low ≡ old.low → new.width ≡ old.width → new.stacks.items ≡ set old.stacks.items place loops → loops ≡ found → found ≡ get_or old.stacks.items place found
+    → HoldsAsBefore old new
+same-holds old new n place loops found on is low width items unchanged read =
+    let holds : Holds old new (with_stack (loops_at old) n (loops_at old n)) =
+    set-holds old new n place loops (loops_at old n) on is low width items (unchanged ∙ read-stack old n place found on is read) in
+    record { same = holds.same; stacks_are = λ q. holds.stacks_are q ∙ same-anyway (loops_at old) n q (same_needle n q) refl }
+
+cond_twice : (b : Bool) (x y z : List ℕ) → cond b x (cond b y z) ≡ cond b x z
+cond_twice true x y z = refl
+cond_twice false x y z = refl
+
+-- a needle's loops were taken, and put back
+pub returned-holds : (old mid later new : Beds) (n : Needle) (moved : List ℕ)
+    → Holds old mid (with_stack (loops_at old) n []) → moved ≡ loops_at old n → HoldsAsBefore mid later → Holds later new (with_stack (loops_at later) n moved)
+    → HoldsAsBefore old new
+returned-holds old mid later new n moved taken is unchanged back = record {
+  same = record {
+    low = back.same.low ∙ unchanged.same.low ∙ taken.same.low;
+    width = back.same.width ∙ unchanged.same.width ∙ taken.same.width;
+  };
+  stacks_are = λ q. back.stacks_are q
+      ∙ ap (cond (same_needle n q) moved) (unchanged.stacks_are q ∙ taken.stacks_are q)
+      ∙ cond_twice (same_needle n q) moved [] (loops_at old q)
+      ∙ ap (λ l. cond (same_needle n q) l (loops_at old q)) is
+      ∙ same-anyway (loops_at old) n q (same_needle n q) refl;
+}
+
+-- all loops went over, and others were put in their place
+pub left-holds : (old mid new : Beds) (n n2 : Needle) (left wanted : List ℕ)
+    → Holds old mid (transferred n n2 [] (loops_at old)) → Holds mid new (with_stack (loops_at mid) n left) → left ≡ wanted
+    → Holds old new (transferred n n2 wanted (loops_at old))
+left-holds old mid new n n2 left wanted moved put is = record {
+  same = record { low = put.same.low ∙ moved.same.low; width = put.same.width ∙ moved.same.width };
+  stacks_are = λ q. put.stacks_are q
+      ∙ ap (cond (same_needle n q) left) (moved.stacks_are q)
+      ∙ cond_twice (same_needle n q) left [] _
+      ∙ ap (λ l. cond (same_needle n q) l (cond (same_needle n2 q) (loops_at old n2 ++ loops_at old n) (loops_at old q))) is;
+}

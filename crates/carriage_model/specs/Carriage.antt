@@ -10,48 +10,72 @@ use Rattle.carriage_model.specs.declared.verdict.Verdict.{Verdict}
 use Rattle.carriage_model.specs.Beds.{SameBeds}
 use Rattle.carriage_model.specs.State.{State, empty_state}
 use Rattle.carriage_model.specs.Loops.{loops_made, loops_asked, fact_made}
-use Rattle.carriage_model.specs.Machine.{HasNeedlesOf, Represents}
+use Rattle.carriage_model.specs.Machine.{HasNeedlesOf, Represents, StandsAsBefore}
 use Rattle.carriage_model.specs.Run.{run, Ended, Ends, Stops}
 use Rattle.carriage_model.specs.Steps.{step}
 use Rattle.carriage_model.specs.Verdict.{HoldsFew, IsVerdict}
+
+-- the machine that the carriage works
+abbrev pub profile_of : Carriage → Profile
+profile_of carriage = carriage.profile
+
+-- how many lines the carriage has carried out or passed over
+abbrev pub line_count : Carriage → ℕ
+line_count carriage = carriage.lines
+
+-- the number of the line that comes next
+abbrev pub next_line : Carriage → ℕ
+next_line carriage = carriage.first + carriage.lines
 
 -- the carriage stands where a run ended: in its last state, or before the line that broke a rule
 abbrev pub StandsAfter : Carriage → Ended → Type 0
 StandsAfter carriage (Ends s) = (carriage.fault ≡ None) × Represents carriage.machine s
 StandsAfter carriage (Stops s fault) = carriage.fault ≡ Some fault
 
--- the carriage has carried out these lines from empty beds, the first of them with this number, and tells their loops where
+-- the carriage has carried out these lines from empty beds, the first of them with this number, and has kept their loops where
 -- that is asked
-pub record HasRun (profile : Profile) (telling : Bool) (first : ℕ) (reads : List Read) (carriage : Carriage) : Type 0 where
+pub record HasRun (profile : Profile) (with_loops : Bool) (first : ℕ) (reads : List Read) (carriage : Carriage) : Type 0 where
   pub lawful : IsLawfulProfile profile
-  pub same_profile : carriage.profile ≡ profile
+  pub same_profile : profile_of carriage ≡ profile
   pub needles : HasNeedlesOf profile carriage.machine
-  pub next : carriage.next ≡ first + length reads
+  pub first_line : carriage.first ≡ first
+  pub lines : line_count carriage ≡ length reads
   pub stands : StandsAfter carriage (run profile empty_state first reads)
   pub made : carriage.made ≡ length (loops_made profile empty_state first reads)
-  pub told : carriage.told ≡ loops_asked telling (loops_made profile empty_state first reads)
+  pub loops : carriage.loops ≡ loops_asked with_loops (loops_made profile empty_state first reads)
 
 -- the carriage has carried out some lines
 abbrev pub IsRunning : Carriage → Type 0
-IsRunning carriage = (telling : Bool) × (first : ℕ) × (reads : List Read) × HasRun carriage.profile telling first reads carriage
+IsRunning carriage = (with_loops : Bool) × (first : ℕ) × (reads : List Read) × HasRun (profile_of carriage) with_loops first reads carriage
 
 -- the verdict on a run of these lines, and the loops that they make where that is asked
-pub record TellsRun (profile : Profile) (telling : Bool) (first : ℕ) (reads : List Read) (verdict : Verdict) (told : Option (List LoopFact)) : Type 0 where
+pub record TellsRun (profile : Profile) (with_loops : Bool) (first : ℕ) (reads : List Read) (verdict : Verdict) (loops : Option (List LoopFact)) : Type 0 where
   pub verdict_is : IsVerdict (length reads) verdict (run profile empty_state first reads) (loops_made profile empty_state first reads)
-  pub told_is : told ≡ loops_asked telling (loops_made profile empty_state first reads)
+  pub loops_are : loops ≡ loops_asked with_loops (loops_made profile empty_state first reads)
   pub few : HoldsFew verdict
 
--- the loops told, with the loop of one line more
-abbrev pub told_with : Option (List LoopFact) → Option LoopFact → Option (List LoopFact)
-told_with None fact = None
-told_with (Some loops) fact = Some (loops ++ option_to_list fact)
+-- the loops, where they are kept, and the loop of one line more
+abbrev pub loops_with : Option (List LoopFact) → Option LoopFact → Option (List LoopFact)
+loops_with None fact = None
+loops_with (Some loops) fact = Some (loops ++ option_to_list fact)
 
 -- line k was carried out, which breaks no rule
 pub record WentOver (k : ℕ) (r : Read) (old new : Carriage) : Type 0 where
   pub same_profile : new.profile ≡ old.profile
-  pub next : new.next ≡ old.next
+  pub first_line : new.first ≡ old.first
+  pub lines : new.lines ≡ old.lines + 1
   pub fault : new.fault ≡ old.fault
   pub beds : SameBeds old.machine.beds new.machine.beds
   pub machine : (s : State) → Represents old.machine s → Represents new.machine (step k r s)
   pub made : (s : State) → new.made ≡ old.made + length (option_to_list (fact_made k r s))
-  pub told : (s : State) → Represents old.machine s → new.told ≡ told_with old.told (fact_made k r s)
+  pub loops : (s : State) → Represents old.machine s → new.loops ≡ loops_with old.loops (fact_made k r s)
+
+-- no line was carried out
+pub record StandsStill (old new : Carriage) : Type 0 where
+  pub same_profile : new.profile ≡ old.profile
+  pub first_line : new.first ≡ old.first
+  pub lines : new.lines ≡ old.lines
+  pub fault : new.fault ≡ old.fault
+  pub machine : StandsAsBefore old.machine new.machine
+  pub made : new.made ≡ old.made
+  pub loops : new.loops ≡ old.loops

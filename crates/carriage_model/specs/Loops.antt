@@ -2,7 +2,7 @@
 use Rattle.std.specs.Prelude.{ℕ, ◌+◌, List, [], ◌∷◌, ◌++◌, Option, None, Some, Bool, true, false, nat_eq, if◌then◌else◌}
 use Rattle.std.specs.Option.{option_to_list}
 use Rattle.knit_base.specs.declared.instr.Instr.{Instr}
-use Rattle.knit_base.specs.declared.instr.Instr.TheVariants.{CarryIn, CarryOut, HookIn, HookOut, ReleaseHook, Stitch, Pause, Extension, Rack, Knit, Tuck, Miss, Split, Xfer, Drop, Amiss}
+use Rattle.knit_base.specs.declared.instr.Instr.TheVariants.{Knit, Tuck, Split}
 use Rattle.knit_base.specs.declared.instr.Read.{Read}
 use Rattle.knit_base.specs.declared.instr.Read.TheVariants as read
 use Rattle.knit_base.specs.declared.rule.Reason.{Reason}
@@ -20,32 +20,18 @@ abbrev pub formed : ℕ → Dir → Needle → List CarrierNo → List ℕ → O
 formed k dir n [] through = None
 formed k dir n (c ∷ cs) through = Some (record { line = k; needle = n; dir = dir; yarns = c ∷ cs; through = through })
 
--- the loop that the instruction of line k makes in this state: `tuck` draws it through nothing, `knit` and `split` through all
--- loops on the needle
+-- The loop that the instruction of line k makes in this state: `tuck` draws it through nothing, `knit` and `split` through all
+-- loops on the needle. Other instructions make none.
 abbrev pub loop_of_instr : ℕ → Instr → State → Option LoopFact
-loop_of_instr k (CarryIn cs) s = None
-loop_of_instr k (CarryOut cs) s = None
-loop_of_instr k (HookIn cs) s = None
-loop_of_instr k (HookOut cs) s = None
-loop_of_instr k (ReleaseHook cs) s = None
-loop_of_instr k Stitch s = None
-loop_of_instr k Pause s = None
-loop_of_instr k Extension s = None
-loop_of_instr k (Rack q) s = None
 loop_of_instr k (Knit dir n cs) s = formed k dir n cs (s.stacks n)
 loop_of_instr k (Tuck dir n cs) s = formed k dir n cs []
-loop_of_instr k (Miss dir n cs) s = None
 loop_of_instr k (Split dir n n2 cs) s = formed k dir n cs (s.stacks n)
-loop_of_instr k (Xfer n n2) s = None
-loop_of_instr k (Drop n) s = None
-loop_of_instr k (Amiss n) s = None
+loop_of_instr k instr s = None
 
 -- the loop that line k makes in this state, if it breaks no rule there
 abbrev pub fact_made : ℕ → Read → State → Option LoopFact
-fact_made k read.Blank s = None
-fact_made k read.Comment s = None
-fact_made k (read.Broken reason) s = None
-fact_made k (read.Instr i) s = loop_of_instr k i s
+fact_made k (read.Instr instr) s = loop_of_instr k instr s
+fact_made k r s = None
 
 -- a line makes its loop before those of later lines, and nothing is made from the line on that breaks a rule
 abbrev pub made_on : Option Reason → Option LoopFact → List LoopFact → List LoopFact

@@ -1,7 +1,7 @@
 -- What the program keeps, and the state that it stands for.
-use Rattle.std.specs.Prelude.{◌≡◌, ◌≢◌, ℕ, ◌+◌, ◌<◌, ◌^◌, pos, ◌+ℤ◌, List, [], ◌∷◌, length}
+use Rattle.std.specs.Prelude.{◌≡◌, ◌≢◌, ℕ, ◌+◌, ◌<◌, ◌^◌, pos, ◌+ℤ◌, List, length, Option, None, Some}
 use Rattle.knit_base.specs.declared.instr.Instr.{Instr}
-use Rattle.knit_base.specs.declared.instr.Instr.TheVariants.{CarryIn, CarryOut, HookIn, HookOut, ReleaseHook, Stitch, Pause, Extension, Rack, Knit, Tuck, Miss, Split, Xfer, Drop, Amiss}
+use Rattle.knit_base.specs.declared.instr.Instr.TheVariants.{Tuck}
 use Rattle.knit_base.specs.declared.instr.Read.{Read}
 use Rattle.knit_base.specs.declared.instr.Read.TheVariants as read
 use Rattle.knit_base.specs.declared.needle.Needle.{Needle}
@@ -9,11 +9,12 @@ use Rattle.knit_base.specs.declared.profile.Profile.{Profile}
 use Rattle.knit_base.specs.declared.usual.Usual.{Usual}
 use Rattle.knit_base.specs.declared.usual.Usual.TheVariants as usual
 use Rattle.knit_base.specs.declared.yarns.CarrierNo.{CarrierNo}
+use Rattle.knit_base.specs.Instr.{yarns_of, yarns_at, needles_of, formed_on, Move, move_of}
 use Rattle.knit_base.specs.Needle.{is_front}
 use Rattle.knit_base.specs.Yarns.{IsCarrier}
 use Rattle.carriage_model.specs.declared.machine.Machine.{Machine}
 use Rattle.carriage_model.specs.State.{State}
-use Rattle.carriage_model.specs.Beds.{IsOn, loops_at}
+use Rattle.carriage_model.specs.Beds.{AreOn, SameBeds, loops_at}
 
 -- the loops that the machine keeps for a needle
 abbrev pub stack_of : Machine → Needle → List ℕ
@@ -31,97 +32,57 @@ pub record Represents (machine : Machine) (s : State) : Type 0 where
   pub hook : machine.hook ≡ s.hook
   pub stacks : (n : Needle) → stack_of machine n ≡ s.stacks n
 
+-- the machine can only have gone from one to the other by what no state shows
+pub record StandsAsBefore (old new : Machine) : Type 0 where
+  pub beds : SameBeds old.beds new.beds
+  pub states : (s : State) → Represents old s → Represents new s
+
 -- the places of these carriers' tokens, of which the first is at this place, fit in 16 bits
 abbrev pub FitsPlaces : ℕ → List CarrierNo → Type 0
 FitsPlaces at cs = at + length cs < 2 ^ 16
 
 -- the places of the instruction's carriers fit in 16 bits
 abbrev pub HasPlaces : Instr → Type 0
-HasPlaces (CarryIn cs) = FitsPlaces 1 cs
-HasPlaces (CarryOut cs) = FitsPlaces 1 cs
-HasPlaces (HookIn cs) = FitsPlaces 1 cs
-HasPlaces (HookOut cs) = FitsPlaces 1 cs
-HasPlaces (ReleaseHook cs) = Unit {0}
-HasPlaces Stitch = Unit {0}
-HasPlaces Pause = Unit {0}
-HasPlaces Extension = Unit {0}
-HasPlaces (Rack q) = Unit {0}
-HasPlaces (Knit dir n cs) = FitsPlaces 3 cs
-HasPlaces (Tuck dir n cs) = FitsPlaces 3 cs
-HasPlaces (Miss dir n cs) = FitsPlaces 3 cs
-HasPlaces (Split dir n n2 cs) = FitsPlaces 4 cs
-HasPlaces (Xfer n n2) = Unit {0}
-HasPlaces (Drop n) = Unit {0}
-HasPlaces (Amiss n) = Unit {0}
+HasPlaces instr = FitsPlaces (yarns_at instr) (yarns_of instr)
 
 -- the places of the line's carriers fit in 16 bits
 abbrev pub HasPlacesInLine : Read → Type 0
-HasPlacesInLine read.Blank = Unit {0}
-HasPlacesInLine read.Comment = Unit {0}
-HasPlacesInLine (read.Broken reason) = Unit {0}
-HasPlacesInLine (read.Instr i) = HasPlaces i
+HasPlacesInLine (read.Instr instr) = HasPlaces instr
+HasPlacesInLine r = Unit {0}
 
--- the machine has the needles whose loops the instruction asks for or changes
+-- the machine has the needles that the instruction names
 abbrev pub HasNeedles : Machine → Instr → Type 0
-HasNeedles machine (CarryIn cs) = Unit {0}
-HasNeedles machine (CarryOut cs) = Unit {0}
-HasNeedles machine (HookIn cs) = Unit {0}
-HasNeedles machine (HookOut cs) = Unit {0}
-HasNeedles machine (ReleaseHook cs) = Unit {0}
-HasNeedles machine Stitch = Unit {0}
-HasNeedles machine Pause = Unit {0}
-HasNeedles machine Extension = Unit {0}
-HasNeedles machine (Rack q) = Unit {0}
-HasNeedles machine (Knit dir n cs) = IsOn machine.beds n.at
-HasNeedles machine (Tuck dir n cs) = IsOn machine.beds n.at
-HasNeedles machine (Miss dir n cs) = Unit {0}
-HasNeedles machine (Split dir n n2 cs) = IsOn machine.beds n.at × IsOn machine.beds n2.at
-HasNeedles machine (Xfer n n2) = IsOn machine.beds n.at × IsOn machine.beds n2.at
-HasNeedles machine (Drop n) = IsOn machine.beds n.at
-HasNeedles machine (Amiss n) = Unit {0}
+HasNeedles machine instr = AreOn machine.beds (needles_of instr)
 
--- the machine has the needles whose loops the line asks for or changes
+-- the machine has the needles that the line names
 abbrev pub HasNeedlesInLine : Machine → Read → Type 0
-HasNeedlesInLine machine read.Blank = Unit {0}
-HasNeedlesInLine machine read.Comment = Unit {0}
-HasNeedlesInLine machine (read.Broken reason) = Unit {0}
-HasNeedlesInLine machine (read.Instr i) = HasNeedles machine i
+HasNeedlesInLine machine (read.Instr instr) = HasNeedles machine instr
+HasNeedlesInLine machine r = Unit {0}
 
 -- all loops of the first needle can go over to the second, on the other side
 pub record CanGoOver (machine : Machine) (n n2 : Needle) : Type 0 where
   pub sides : is_front n.bed ≢ is_front n2.bed
   pub room : length (stack_of machine n2) + length (stack_of machine n) < 2 ^ 32
 
--- a needle has room for one more loop, where there are carriers to form it of
-abbrev pub HasRoomForLoop : Machine → Needle → List CarrierNo → Type 0
-HasRoomForLoop machine n [] = Unit {0}
-HasRoomForLoop machine n (c ∷ cs) = length (stack_of machine n) + 1 < 2 ^ 32
+-- the move, if there is one, can be made
+abbrev pub CanMove : Machine → Option Move → Type 0
+CanMove machine None = Unit {0}
+CanMove machine (Some move) = CanGoOver machine move.from move.onto
 
--- the loops that the instruction moves and makes have room on their needles
+-- the needle, if there is one, has room for one more loop
+abbrev pub HasRoomForLoop : Machine → Option Needle → Type 0
+HasRoomForLoop machine None = Unit {0}
+HasRoomForLoop machine (Some n) = length (stack_of machine n) + 1 < 2 ^ 32
+
+-- the loops that the instruction adds to others have room on their needles: a tuck adds a loop, and a move all that it moves
 abbrev pub HasRoom : Machine → Instr → Type 0
-HasRoom machine (CarryIn cs) = Unit {0}
-HasRoom machine (CarryOut cs) = Unit {0}
-HasRoom machine (HookIn cs) = Unit {0}
-HasRoom machine (HookOut cs) = Unit {0}
-HasRoom machine (ReleaseHook cs) = Unit {0}
-HasRoom machine Stitch = Unit {0}
-HasRoom machine Pause = Unit {0}
-HasRoom machine Extension = Unit {0}
-HasRoom machine (Rack q) = Unit {0}
-HasRoom machine (Knit dir n cs) = Unit {0}
-HasRoom machine (Tuck dir n cs) = HasRoomForLoop machine n cs
-HasRoom machine (Miss dir n cs) = Unit {0}
-HasRoom machine (Split dir n n2 cs) = CanGoOver machine n n2
-HasRoom machine (Xfer n n2) = CanGoOver machine n n2
-HasRoom machine (Drop n) = Unit {0}
-HasRoom machine (Amiss n) = Unit {0}
+HasRoom machine (Tuck dir n cs) = HasRoomForLoop machine (formed_on n cs)
+HasRoom machine instr = CanMove machine (move_of instr)
 
--- the loops that the line moves and makes have room on their needles
+-- the loops that the line adds to others have room on their needles
 abbrev pub HasRoomInLine : Machine → Read → Type 0
-HasRoomInLine machine read.Blank = Unit {0}
-HasRoomInLine machine read.Comment = Unit {0}
-HasRoomInLine machine (read.Broken reason) = Unit {0}
-HasRoomInLine machine (read.Instr i) = HasRoom machine i
+HasRoomInLine machine (read.Instr instr) = HasRoom machine instr
+HasRoomInLine machine r = Unit {0}
 
 -- the number of the line's carrier, where it has one, is the place of a bit in a set
 abbrev pub HasCarrierInSet : Usual → Type 0

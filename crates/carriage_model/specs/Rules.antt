@@ -1,5 +1,5 @@
 -- Which rule a line breaks, where the machine stands so. Of several broken rules the first in the order of `Rule` counts.
-use Rattle.std.specs.Prelude.{ℕ, ◌+◌, ℤ, pos, ◌*ℤ◌, ◌-ℤ◌, not, nat_lt, nat_eq, List, [], ◌∷◌, length, Option, None, Some, if◌then◌else◌}
+use Rattle.std.specs.Prelude.{ℕ, ◌+◌, not, nat_lt, nat_eq, List, [], ◌∷◌, length, Option, None, Some}
 use Rattle.std.specs.Ordering.{int_eq}
 use Rattle.knit_base.specs.declared.instr.Instr.{Instr}
 use Rattle.knit_base.specs.declared.instr.Instr.TheVariants.{CarryIn, CarryOut, HookIn, HookOut, ReleaseHook, Stitch, Pause, Extension, Rack, Knit, Tuck, Miss, Split, Xfer, Drop, Amiss}
@@ -10,7 +10,8 @@ use Rattle.knit_base.specs.declared.rule.Reason.{Reason}
 use Rattle.knit_base.specs.declared.profile.Profile.{Profile}
 use Rattle.knit_base.specs.declared.needle.Needle.{Needle}
 use Rattle.knit_base.specs.declared.yarns.CarrierNo.{CarrierNo}
-use Rattle.knit_base.specs.Needle.{own_slider, is_front}
+use Rattle.knit_base.specs.Instr.{forming_needle}
+use Rattle.knit_base.specs.Needle.{own_slider, rack_facing}
 use Rattle.knit_base.specs.Reasons.{broken_if, first_broken, or_else}
 use Rattle.knit_base.specs.Yarns.{mask_of, contains_carrier, lacks_carrier}
 use Rattle.carriage_model.specs.State.{State}
@@ -35,11 +36,6 @@ hook_other s cs = broken_if (not (nat_eq s.hook (mask_of cs))) HookOther 0
 abbrev pub carriers_hooked : State → ℕ → List CarrierNo → Option Reason
 carriers_hooked s at cs = first_broken (contains_carrier s.hook) CarrierHooked at cs
 
--- The rack in quarters at which two needles of different sides face each other: the front needle's number less the back
--- needle's. From the knitout specification.
-abbrev pub rack_facing : Needle → Needle → ℤ
-rack_facing n n2 = if is_front n.bed then pos 4 *ℤ (n.at -ℤ n2.at) else pos 4 *ℤ (n2.at -ℤ n.at)
-
 -- Loops go over to the needle that faces theirs. From the knitout specification.
 abbrev pub not_aligned : State → Needle → Needle → ℕ → Option Reason
 not_aligned s n n2 at = broken_if (not (int_eq s.rack (rack_facing n n2))) NotAligned at
@@ -51,18 +47,6 @@ slider_holds s n = broken_if (nat_lt 0 (length (s.stacks (own_slider n)))) Slide
 -- A needle holds at most as many loops as the profile says. This project's own rule.
 abbrev pub too_many : Profile → ℕ → ℕ → Option Reason
 too_many profile loops at = broken_if (nat_lt profile.hold loops) TooManyLoops at
-
--- the needle, where there are carriers to form a loop of
-abbrev pub formed_on : Needle → List CarrierNo → Option Needle
-formed_on n [] = None
-formed_on n (c ∷ cs) = Some n
-
--- the needle on which the instruction forms a loop
-abbrev pub forming_needle : Instr → Option Needle
-forming_needle (Knit dir n cs) = formed_on n cs
-forming_needle (Tuck dir n cs) = formed_on n cs
-forming_needle (Split dir n n2 cs) = formed_on n cs
-forming_needle instr = None
 
 -- The first rule on carriers and the hook that the instruction breaks. Where `knit`, `tuck`, `miss` and `split` have no
 -- carriers, they ask for none.
@@ -119,7 +103,6 @@ broken_instr profile instr s =
 
 -- the rule that the line breaks: the one that it breaks by itself, or else the one that its instruction breaks here
 abbrev pub broken : Profile → Read → State → Option Reason
-broken profile read.Blank s = None
-broken profile read.Comment s = None
 broken profile (read.Broken reason) s = Some reason
-broken profile (read.Instr i) s = broken_instr profile i s
+broken profile (read.Instr instr) s = broken_instr profile instr s
+broken profile r s = None

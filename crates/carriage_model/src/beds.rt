@@ -1,5 +1,5 @@
 //! The loops on the needles of the beds, found by one index.
-ghost use Rattle.std.specs.Prelude.{◌≡◌, ◌≢◌, ◌+◌, ◌*◌, ◌<◌, ◌≤◌, ◌^◌, ℕ, pos, ◌≤ℤ◌, ◌+ℤ◌, length, [], ◌∷◌, ◌++◌, IfOk, OnOk, slice_index_or};
+ghost use Rattle.std.specs.Prelude.{◌≡◌, ◌≢◌, ◌+◌, ◌*◌, ◌<◌, ◌≤◌, ◌^◌, ℕ, pos, ◌≤ℤ◌, ◌+ℤ◌, length, [], ◌∷◌, ◌++◌, IfOk, OnOk, OnErr, slice_index_or};
 ghost use Rattle.knit_base.specs.Needle.{is_front};
 ghost use Rattle.carriage_model.specs.Places.{place_in, stack_in, first_of_bed, bed_at, needle_at};
 ghost use Rattle.carriage_model.specs.Verdict.{AreStacks};
@@ -12,8 +12,8 @@ use std::mem;
 /// The loops on the needles: one bed after the other in the order of `Bed`, each from its lowest needle on. An emptied
 /// needle keeps its room, so that most stitches ask for no memory.
 #[derive(Drop)]
-pub struct Beds {
-    pub alloc: Global,
+pub(crate) struct Beds {
+    pub(crate) alloc: Global,
     low: i16,
     width: usize,
     stacks: Vec<LoopLines>,
@@ -23,7 +23,7 @@ pub struct Beds {
 
 impl Beds {
     ghost use Rattle.carriage_model.specs.State.{with_stack, transferred};
-    ghost use Rattle.carriage_model.specs.Beds.{Holds, IsOn, loops_at};
+    ghost use Rattle.carriage_model.specs.Beds.{Holds, HoldsAsBefore, IsOn, loops_at};
 
     /// The beds with no loop on them, from the lowest needle to the highest.
     pub fn new(alloc: Global, low: i16, high: i16) -> Result<Self, NoMemory>
@@ -71,22 +71,23 @@ impl Beds {
         self.stacks[place].clear();
     }
 
-    /// The needle holds a new loop alone.
+    /// The needle holds a new loop alone. After `NoMemory` the beds are as before, here and below.
     #[inline(always)]
     pub fn knit_off(&mut self, line: u32, n: Needle) -> Result<(), NoMemory>
         requires { IsOn self.old n.at }
-        ensures { OnOk result (Holds self.old self.new (with_stack (loops_at self.old) n (line ∷ []))) }
+        ensures ok { OnOk result (Holds self.old self.new (with_stack (loops_at self.old) n (line ∷ []))) }
+        ensures err { OnErr result (HoldsAsBefore self.old self.new) }
     {
         let place = self.place(n);
-        self.stacks[place].clear();
-        self.stacks[place].push(line)
+        self.stacks[place].set_only(line)
     }
 
     /// A new loop joins those of the needle.
     pub fn join(&mut self, line: u32, n: Needle) -> Result<(), NoMemory>
         requires on { IsOn self.old n.at }
         requires room { length (loops_at self.old n) + 1 < 2 ^ 32 }
-        ensures { OnOk result (Holds self.old self.new (with_stack (loops_at self.old) n (loops_at self.old n ++ line ∷ []))) }
+        ensures ok { OnOk result (Holds self.old self.new (with_stack (loops_at self.old) n (loops_at self.old n ++ line ∷ []))) }
+        ensures err { OnErr result (HoldsAsBefore self.old self.new) }
     {
         let place = self.place(n);
         self.stacks[place].push(line)
@@ -98,20 +99,44 @@ impl Beds {
         requires to { IsOn self.old n2.at }
         requires sides { is_front n.bed ≢ is_front n2.bed }
         requires room { length (loops_at self.old n2) + length (loops_at self.old n) < 2 ^ 32 }
-        ensures { OnOk result (Holds self.old self.new (transferred n n2 [] (loops_at self.old))) }
+        ensures ok { OnOk result (Holds self.old self.new (transferred n n2 [] (loops_at self.old))) }
+        ensures err { OnErr result (HoldsAsBefore self.old self.new) }
     {
         if self.loops_on(n2) == 0 {
             self.exchange(n, n2);
             return Ok(());
         }
         let moved = self.take(n);
-        self.receive(n2, moved.as_slice())?;
-        self.give_room(n, moved);
+        match self.receive(n2, moved.as_slice()) {
+            Ok(()) => {
+                self.give_room(n, moved);
+                Ok(())
+            }
+            Err(no_memory) => {
+                self.put(n, moved);
+                Err(no_memory)
+            }
+        }
+    }
+
+    /// All loops of a needle go over behind those of another, and a new loop alone stays.
+    pub fn split(&mut self, line: u32, n: Needle, n2: Needle) -> Result<(), NoMemory>
+        requires from { IsOn self.old n.at }
+        requires to { IsOn self.old n2.at }
+        requires sides { is_front n.bed ≢ is_front n2.bed }
+        requires room { length (loops_at self.old n2) + length (loops_at self.old n) < 2 ^ 32 }
+        ensures ok { OnOk result (Holds self.old self.new (transferred n n2 (line ∷ []) (loops_at self.old))) }
+        ensures err { OnErr result (HoldsAsBefore self.old self.new) }
+    {
+        let mut formed = LoopLines::new(self.alloc);
+        formed.push(line)?;
+        self.transfer(n, n2)?;
+        self.put(n, formed);
         Ok(())
     }
 
-    /// The loops of a needle, which then holds none.
-    pub fn take(&mut self, n: Needle) -> LoopLines
+    // The loops of a needle, which then holds none.
+    fn take(&mut self, n: Needle) -> LoopLines
         requires { IsOn self.old n.at }
         ensures loops { result ≡ loops_at self.old n }
         ensures left { Holds self.old self.new (with_stack (loops_at self.old) n []) }
@@ -135,7 +160,8 @@ impl Beds {
     fn receive(&mut self, n: Needle, loops: &[u32]) -> Result<(), NoMemory>
         requires on { IsOn self.old n.at }
         requires room { length (loops_at self.old n) + length loops.now < 2 ^ 32 }
-        ensures { OnOk result (Holds self.old self.new (with_stack (loops_at self.old) n (loops_at self.old n ++ loops.now))) }
+        ensures ok { OnOk result (Holds self.old self.new (with_stack (loops_at self.old) n (loops_at self.old n ++ loops.now))) }
+        ensures err { OnErr result (HoldsAsBefore self.old self.new) }
     {
         let place = self.place(n);
         self.stacks[place].extend_from_slice(loops)
@@ -146,10 +172,18 @@ impl Beds {
         requires { IsOn self.old n.at }
         ensures { Holds self.old self.new (with_stack (loops_at self.old) n []) }
     {
-        let place = self.place(n);
         let mut room = done;
         room.clear();
-        self.stacks[place] = room;
+        self.put(n, room);
+    }
+
+    // The needle holds these loops.
+    fn put(&mut self, n: Needle, loops: LoopLines)
+        requires { IsOn self.old n.at }
+        ensures { Holds self.old self.new (with_stack (loops_at self.old) n loops) }
+    {
+        let place = self.place(n);
+        self.stacks[place] = loops;
     }
 
     /// The needles that hold loops, in order, with their loops.

@@ -1,18 +1,24 @@
 //! The loops that a program makes.
-ghost use Rattle.std.specs.Prelude.{◌≡◌, ◌+◌, ◌<◌, ◌^◌, ◌-◌, ◌++◌, length, All, IfOk, IfSome, OnOk};
+ghost use Rattle.std.specs.Prelude.{◌≡◌, ℕ, ◌+◌, ◌<◌, ◌≤◌, ◌^◌, ◌-◌, ◌++◌, length, All, IfOk, IfSome, OnOk, OnErr};
 ghost use Rattle.std.specs.Option.{option_to_list};
 ghost use Rattle.knit_base.specs.Lawful.{IsLawfulRead};
 ghost use Rattle.knit_base.specs.Limits.{IsLawfulProfile};
+ghost use Rattle.knit_base.specs.Usual.{usual_read};
 ghost use Rattle.carriage_model.specs.State.{State, empty_state};
 ghost use Rattle.carriage_model.specs.Loops.{loops_made, fact_made, loop_of_instr, formed, fact_of};
 ghost use Rattle.carriage_model.specs.Verdict.{IsOfDeclared};
 
 use crate::machine::Machine;
 use crate::{Facts, LoopFact, LoopLines};
-use knit_base::{Declared, Dir, Instr, Needle, NoMemory, Profile, Read, Reads, Yarns};
+use knit_base::{Declared, Dir, Instr, Needle, NoMemory, Profile, Read, Reads, Usual, Yarns};
 use std::alloc::Global;
 
-/// The loop that a line makes before the first fault. The first of the readings is that of the line `first`.
+/// The loop that the line with the number `line` makes, where the first of the readings is that of the line `first`. `None`
+/// where it makes none: it forms no loop, it is none of these lines, or it is the first that breaks a rule or comes behind that
+/// one.
+///
+/// It runs all lines before that one, from empty beds. What reads loops from a table can be held against it. `NoMemory` says that
+/// memory ran out, and nothing of the loop.
 pub fn fact_plain(
     alloc: Global,
     profile: &Profile,
@@ -42,37 +48,35 @@ pub fn fact_plain(
 }
 
 impl Machine {
-    ghost use Rattle.carriage_model.specs.Steps.{step, step_knit};
-    ghost use Rattle.carriage_model.specs.Beds.{IsOn, SameBeds};
-    ghost use Rattle.carriage_model.specs.Machine.{Represents, HasNeedles, HasNeedlesInLine, HasRoomInLine, stack_of};
+    ghost use Rattle.carriage_model.specs.Steps.{step};
+    ghost use Rattle.carriage_model.specs.Beds.{SameBeds};
+    ghost use Rattle.carriage_model.specs.Machine.{Represents, StandsAsBefore, HasNeedles, HasNeedlesInLine, HasRoomInLine};
 
-    /// Carries out this line, which breaks no rule, and tells the loop that it makes.
-    pub fn step_telling(&mut self, line: u32, read: &Read) -> Result<Option<LoopFact>, NoMemory>
+    /// Carries out this line, which breaks no rule, and appends the loop that it makes. After `NoMemory` both stand as before.
+    pub fn step_with_loop(
+        &mut self,
+        line: u32,
+        read: &Read,
+        loops: &mut Facts,
+    ) -> Result<(), NoMemory>
         requires needles { HasNeedlesInLine self.old read.now }
         requires room { HasRoomInLine self.old read.now }
-        ensures fact { IfOk result (λ fact. (s : State) → Represents self.old s → fact ≡ fact_made line read.now s) }
+        requires loops { length loops.old < 2 ^ 32 - 1 }
+        ensures loops { OnOk result ((s : State) → Represents self.old s → loops.new ≡ loops.old ++ option_to_list (fact_made line read.now s)) }
         ensures ok { OnOk result ((s : State) → Represents self.old s → Represents self.new (step line read.now s)) }
         ensures kept { OnOk result (SameBeds self.old.beds self.new.beds) }
+        ensures err { OnErr result (StandsAsBefore self.old self.new) }
+        ensures err_loops { OnErr result (loops.new ≡ loops.old) }
     {
-        let Read::Instr(Instr::Knit(dir, n, yarns)) = read else {
-            let fact = self.fact_made(line, read)?;
-            self.step(line, read)?;
-            return Ok(fact);
+        let Some(fact) = self.fact_made(line, read)? else {
+            return self.step(line, read);
         };
-        let through = self.knit_taking(line, *n, yarns)?;
-        formed(line, *dir, *n, yarns, through)
-    }
-
-    // Knits, and gives the loops that the needle held.
-    fn knit_taking(&mut self, line: u32, n: Needle, yarns: &Yarns) -> Result<LoopLines, NoMemory>
-        requires { IsOn self.old.beds n.at }
-        ensures through { IfOk result (λ through. through ≡ stack_of self.old n) }
-        ensures ok { OnOk result ((s : State) → Represents self.old s → Represents self.new (step_knit line n yarns.now s)) }
-        ensures kept { OnOk result (SameBeds self.old.beds self.new.beds) }
-    {
-        let through = self.beds.take(n);
-        self.step_knit(line, n, yarns)?;
-        Ok(through)
+        loops.push(fact)?;
+        let stepped = self.step(line, read);
+        if stepped.is_err() {
+            loops.pop();
+        }
+        stepped
     }
 
     // The loop that this line makes if it breaks no rule.
@@ -82,7 +86,7 @@ impl Machine {
     {
         match read {
             Read::Instr(instr) => self.loop_of_instr(line, instr),
-            Read::Broken(_) | Read::Blank | Read::Comment => Ok(None),
+            _ => Ok(None),
         }
     }
 
@@ -96,12 +100,7 @@ impl Machine {
                 formed(line, *dir, *n, yarns, LoopLines::new(self.beds.alloc))
             }
             Instr::Split(dir, n, _, yarns) => formed(line, *dir, *n, yarns, self.beds.copied(*n)?),
-            Instr::CarryIn(_) | Instr::CarryOut(_) | Instr::HookIn(_) | Instr::HookOut(_) => {
-                Ok(None)
-            }
-            Instr::ReleaseHook(_) | Instr::Rack(_) | Instr::Miss(_, _, _) => Ok(None),
-            Instr::Stitch | Instr::Pause | Instr::Extension => Ok(None),
-            Instr::Xfer(_, _) | Instr::Drop(_) | Instr::Amiss(_) => Ok(None),
+            _ => Ok(None),
         }
     }
 }
@@ -127,13 +126,28 @@ fn formed(
     }))
 }
 
-/// Appends a loop, if there is one.
-pub(crate) fn append(facts: &mut Facts, fact: Option<LoopFact>) -> Result<(), NoMemory>
-    requires { length facts.old < 2 ^ 32 - 1 }
-    ensures { OnOk result (facts.new ≡ facts.old ++ option_to_list fact) }
+/// How many loops the line makes if it breaks no rule.
+pub(crate) fn loops_of(read: &Read) -> u32
+    ensures counts { (k : ℕ) (s : State) → result ≡ length (option_to_list (fact_made k read.now s)) }
+    ensures one { result ≤ 1 }
 {
-    match fact {
-        Some(fact) => facts.push(fact),
-        None => Ok(()),
+    let Read::Instr(instr) = read else {
+        return 0;
+    };
+    match instr.forming_needle() {
+        Some(_) => 1,
+        None => 0,
+    }
+}
+
+/// How many loops the line makes if it breaks no rule.
+#[inline(always)]
+pub(crate) fn loops_of_usual(usual: Usual) -> u32
+    ensures counts { (k : ℕ) (s : State) → result ≡ length (option_to_list (fact_made k (usual_read usual) s)) }
+    ensures one { result ≤ 1 }
+{
+    match usual {
+        Usual::Knit(_, _, _) | Usual::Tuck(_, _, _) => 1,
+        Usual::Xfer(_, _) => 0,
     }
 }

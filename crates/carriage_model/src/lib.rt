@@ -1,12 +1,14 @@
 //! The machine that knits: its state, the rules that need it, and the run of a program from empty beds.
 //!
 //! Promises that a `Carriage` that is given the lines of a program one by one gives the verdict on it, together with the loops
-//! that it makes where that is asked, that `run_plain` gives the verdict on a list of readings, and that `fact_plain` finds the
-//! loop of one line, where each carrier that these two name is declared. `Verdict::brief` keeps the counts of a verdict.
-//! Definitions: `specs/State` (where a machine stands), `specs/Rules` (which rule a line breaks there), `specs/Steps` (what
-//! a line does), `specs/Run` (lines one after the other), `specs/Loops` (the loops that they make), `specs/Verdict`, and
-//! `specs/Carriage` (which run a carriage stands for). `specs/Machine` says which state the code's own `Machine` stands for,
-//! `specs/Beds` and `specs/Places` how it keeps the loops. Below it stand std and `knit_base`.
+//! that it makes where that is asked, and that it stands as before after want of memory; that `run_plain` gives the verdict on a
+//! list of readings, and `fact_plain` the loop of one line, where each carrier that these two name is declared. `Verdict::brief`
+//! keeps the counts of a verdict.
+//! Definitions: `specs/State` (where a machine stands), `specs/Rules` (which rule a line breaks there: the rules on carriers and
+//! the hook, on the rack, on sliders, on sizes, in this order), `specs/Steps` (what a line does), `specs/Run` (lines one after
+//! the other), `specs/Loops` (the loops that they make), `specs/Verdict`, and `specs/Carriage` (which run a carriage stands
+//! for). `specs/Machine` says which state the code's own `Machine` stands for, `specs/Beds` and `specs/Places` how it keeps the
+//! loops. Below it stand std and `knit_base`.
 #![tactic(auto)]
 
 mod beds;

@@ -11,16 +11,17 @@ use std::alloc::Global;
 
 /// The rack, the carriers in action, those in the hook, and the loops on the needles.
 #[derive(Drop)]
-pub struct Machine {
-    pub rack: Quarter,
-    pub ins: u64,
-    pub hook: u64,
-    pub beds: Beds,
+pub(crate) struct Machine {
+    pub(crate) rack: Quarter,
+    pub(crate) ins: u64,
+    pub(crate) hook: u64,
+    pub(crate) beds: Beds,
 }
 
 impl Machine {
     ghost use Rattle.carriage_model.specs.Machine.{Represents, HasNeedlesOf};
 
+    /// A machine that nothing was knitted on.
     pub fn new(alloc: Global, profile: &Profile) -> Result<Self, NoMemory>
         requires { profile.now.low ≤ℤ profile.now.high }
         ensures empty { IfOk result (λ machine. Represents machine empty_state) }

@@ -1,14 +1,13 @@
 //! The rules that need the machine's state.
 ghost use Rattle.std.specs.Prelude.{◌≡◌, ◌+◌, ◌<◌, ◌^◌, [], ◌∷◌, true, None, length, position};
-ghost use Rattle.knit_base.specs.Needle.{own_slider};
 ghost use Rattle.knit_base.specs.Reasons.{broken_if, first_broken, or_else};
 ghost use Rattle.knit_base.specs.Usual.{usual_read};
 ghost use Rattle.knit_base.specs.Yarns.{contains_carrier, lacks_carrier, AreCarriers, IsCarrier};
 ghost use Rattle.carriage_model.specs.State.{State};
-ghost use Rattle.carriage_model.specs.Rules.{broken, broken_instr, carrier_broken, rack_broken, slider_broken, slider_broken_on, formed_on, size_broken, tuck_too_many, carriers_out, carriers_in, carriers_hooked, hook_busy, hook_other, not_aligned, slider_holds, too_many, rack_facing};
+ghost use Rattle.carriage_model.specs.Rules.{broken, broken_instr, carrier_broken, rack_broken, slider_broken, size_broken, tuck_too_many, carriers_out, carriers_in, carriers_hooked, hook_busy, hook_other, not_aligned, slider_holds, too_many};
 
 use crate::machine::Machine;
-use knit_base::{Bed, CarrierNo, Instr, Needle, Profile, Read, Reason, Rule, Usual, Yarns};
+use knit_base::{CarrierNo, Instr, Needle, Profile, Read, Reason, Rule, Usual, Yarns, is_in_set};
 
 impl Machine {
     ghost use Rattle.carriage_model.specs.Machine.{Represents, HasPlaces, HasPlacesInLine, FitsPlaces, HasNeedles, HasNeedlesInLine, HasCarrierInSet, stack_of};
@@ -49,7 +48,7 @@ impl Machine {
         ensures carrier { result ≡ true → (s : State) → Represents self.now s → carriers_out s 3 (c ∷ []) ≡ None }
         ensures slider { result ≡ true → (s : State) → Represents self.now s → slider_holds s n ≡ None }
     {
-        (self.ins >> c.0) % 2 == 1 && self.beds.loops_on(own_slider(n)) == 0
+        is_in_set(self.ins, c) && self.beds.loops_on(n.own_slider()) == 0
     }
 
     // Whether the needle can hold one loop more.
@@ -66,7 +65,7 @@ impl Machine {
     fn is_aligned(&self, n: Needle, n2: Needle) -> bool
         ensures { result ≡ true → (s : State) → Represents self.now s → not_aligned s n n2 2 ≡ None }
     {
-        self.rack.0 == rack_facing(n, n2)
+        self.rack.0 == n.rack_facing(n2)
     }
 
     // Whether the second needle can hold the loops of both.
@@ -129,21 +128,10 @@ impl Machine {
         requires { HasNeedles self.now instr.now }
         ensures { (s : State) → Represents self.now s → result ≡ slider_broken instr.now s }
     {
-        match instr {
-            Instr::Knit(_, n, yarns) | Instr::Tuck(_, n, yarns) => self.slider_broken_on(*n, yarns),
-            Instr::Split(_, n, _, yarns) => self.slider_broken_on(*n, yarns),
-            _ => None,
+        match instr.forming_needle() {
+            Some(n) => self.slider_holds(n),
+            None => None,
         }
-    }
-
-    fn slider_broken_on(&self, n: Needle, yarns: &Yarns) -> Option<Reason>
-        requires { IsOn self.now.beds n.at }
-        ensures { (s : State) → Represents self.now s → result ≡ slider_broken_on (formed_on n yarns.now) s }
-    {
-        if yarns.len() == 0 {
-            return None;
-        }
-        self.slider_holds(n)
     }
 
     // The instruction puts too many loops on a needle.
@@ -220,14 +208,14 @@ impl Machine {
     fn not_aligned(&self, n: Needle, n2: Needle, at: u16) -> Option<Reason>
         ensures { (s : State) → Represents self.now s → result ≡ not_aligned s n n2 at }
     {
-        rule_if(self.rack.0 != rack_facing(n, n2), Rule::NotAligned, at)
+        rule_if(self.rack.0 != n.rack_facing(n2), Rule::NotAligned, at)
     }
 
     fn slider_holds(&self, n: Needle) -> Option<Reason>
         requires { IsOn self.now.beds n.at }
         ensures { (s : State) → Represents self.now s → result ≡ slider_holds s n }
     {
-        rule_if(self.beds.loops_on(own_slider(n)) > 0, Rule::SliderHolds, 2)
+        rule_if(self.beds.loops_on(n.own_slider()) > 0, Rule::SliderHolds, 2)
     }
 
     // The loops of both needles are too many for one.
@@ -261,35 +249,12 @@ fn first_in_set(set: u64, carriers: &[CarrierNo]) -> Option<usize>
     requires { AreCarriers carriers.now }
     ensures { result ≡ position (contains_carrier set) carriers.now }
 {
-    carriers.iter().position(|c| (set >> c.0) % 2 == 1)
+    carriers.iter().position(|c| is_in_set(set, *c))
 }
 
 fn first_not_in_set(set: u64, carriers: &[CarrierNo]) -> Option<usize>
     requires { AreCarriers carriers.now }
     ensures { result ≡ position (lacks_carrier set) carriers.now }
 {
-    carriers.iter().position(|c| (set >> c.0) % 2 != 1)
-}
-
-// The slider of a needle's side and number.
-fn own_slider(n: Needle) -> Needle
-    ensures { result ≡ own_slider n }
-{
-    let bed = if n.bed.is_front() {
-        Bed::FrontSlider
-    } else {
-        Bed::BackSlider
-    };
-    Needle { bed, at: n.at }
-}
-
-// The rack at which two needles face each other, in quarters.
-fn rack_facing(n: Needle, n2: Needle) -> i32
-    ensures { result ≡ rack_facing n n2 }
-{
-    if n.bed.is_front() {
-        4 * (i32::from(n.at) - i32::from(n2.at))
-    } else {
-        4 * (i32::from(n2.at) - i32::from(n.at))
-    }
+    carriers.iter().position(|c| !is_in_set(set, *c))
 }

@@ -1,25 +1,44 @@
 //! What a line that breaks no rule does to the machine.
-ghost use Rattle.std.specs.Prelude.{OnOk};
+ghost use Rattle.std.specs.Prelude.{OnOk, OnErr};
+ghost use Rattle.knit_base.specs.Instr.{formed_on};
+ghost use Rattle.knit_base.specs.Usual.{usual_read};
 ghost use Rattle.carriage_model.specs.State.{State};
 ghost use Rattle.carriage_model.specs.Steps.{step, step_instr, step_knit, step_tuck, step_split};
 
 use crate::machine::Machine;
-use knit_base::{Instr, Needle, NoMemory, Read, Yarns};
+use knit_base::{Instr, Needle, NoMemory, Read, Usual, Yarns};
 
 impl Machine {
     ghost use Rattle.carriage_model.specs.Beds.{IsOn, SameBeds};
-    ghost use Rattle.carriage_model.specs.Machine.{Represents, HasRoom, HasRoomInLine, HasRoomForLoop, HasNeedles, HasNeedlesInLine, CanGoOver};
+    ghost use Rattle.carriage_model.specs.Machine.{Represents, StandsAsBefore, HasRoom, HasRoomInLine, HasRoomForLoop, HasNeedles, HasNeedlesInLine, CanGoOver};
 
-    /// Carries out this line, which breaks no rule. After `NoMemory` the machine stands anyhow.
+    /// Carries out this line, which breaks no rule. After `NoMemory` the machine stands as before, here and below.
     pub fn step(&mut self, line: u32, read: &Read) -> Result<(), NoMemory>
         requires needles { HasNeedlesInLine self.old read.now }
         requires room { HasRoomInLine self.old read.now }
         ensures ok { OnOk result ((s : State) → Represents self.old s → Represents self.new (step line read.now s)) }
         ensures kept { OnOk result (SameBeds self.old.beds self.new.beds) }
+        ensures err { OnErr result (StandsAsBefore self.old self.new) }
     {
         match read {
             Read::Instr(instr) => self.step_instr(line, instr),
             Read::Broken(_) | Read::Blank | Read::Comment => Ok(()),
+        }
+    }
+
+    /// Carries out this line, which breaks no rule, if most lines say the like.
+    #[inline(always)]
+    pub fn step_usual(&mut self, line: u32, usual: Usual) -> Result<(), NoMemory>
+        requires needles { HasNeedlesInLine self.old (usual_read usual) }
+        requires room { HasRoomInLine self.old (usual_read usual) }
+        ensures ok { OnOk result ((s : State) → Represents self.old s → Represents self.new (step line (usual_read usual) s)) }
+        ensures kept { OnOk result (SameBeds self.old.beds self.new.beds) }
+        ensures err { OnErr result (StandsAsBefore self.old self.new) }
+    {
+        match usual {
+            Usual::Knit(_, n, _) => self.beds.knit_off(line, n),
+            Usual::Tuck(_, n, _) => self.beds.join(line, n),
+            Usual::Xfer(n, n2) => self.beds.transfer(n, n2),
         }
     }
 
@@ -28,6 +47,7 @@ impl Machine {
         requires room { HasRoom self.old instr.now }
         ensures ok { OnOk result ((s : State) → Represents self.old s → Represents self.new (step_instr line instr.now s)) }
         ensures kept { OnOk result (SameBeds self.old.beds self.new.beds) }
+        ensures err { OnErr result (StandsAsBefore self.old self.new) }
     {
         match instr {
             Instr::CarryIn(yarns) => {
@@ -64,10 +84,11 @@ impl Machine {
         }
     }
 
-    pub fn step_knit(&mut self, line: u32, n: Needle, yarns: &Yarns) -> Result<(), NoMemory>
+    fn step_knit(&mut self, line: u32, n: Needle, yarns: &Yarns) -> Result<(), NoMemory>
         requires { IsOn self.old.beds n.at }
         ensures ok { OnOk result ((s : State) → Represents self.old s → Represents self.new (step_knit line n yarns.now s)) }
         ensures kept { OnOk result (SameBeds self.old.beds self.new.beds) }
+        ensures err { OnErr result (StandsAsBefore self.old self.new) }
     {
         if yarns.len() == 0 {
             self.beds.empty(n);
@@ -78,9 +99,10 @@ impl Machine {
 
     fn step_tuck(&mut self, line: u32, n: Needle, yarns: &Yarns) -> Result<(), NoMemory>
         requires on { IsOn self.old.beds n.at }
-        requires room { HasRoomForLoop self.old n yarns.now }
+        requires room { HasRoomForLoop self.old (formed_on n yarns.now) }
         ensures ok { OnOk result ((s : State) → Represents self.old s → Represents self.new (step_tuck line n yarns.now s)) }
         ensures kept { OnOk result (SameBeds self.old.beds self.new.beds) }
+        ensures err { OnErr result (StandsAsBefore self.old self.new) }
     {
         if yarns.len() == 0 {
             return Ok(());
@@ -100,11 +122,11 @@ impl Machine {
         requires over { CanGoOver self.old n n2 }
         ensures ok { OnOk result ((s : State) → Represents self.old s → Represents self.new (step_split line n n2 yarns.now s)) }
         ensures kept { OnOk result (SameBeds self.old.beds self.new.beds) }
+        ensures err { OnErr result (StandsAsBefore self.old self.new) }
     {
-        self.beds.transfer(n, n2)?;
         if yarns.len() == 0 {
-            return Ok(());
+            return self.beds.transfer(n, n2);
         }
-        self.beds.knit_off(line, n)
+        self.beds.split(line, n, n2)
     }
 }

@@ -52,13 +52,11 @@ pub fn conds_of(alloc: Global, instr: &Instr) -> Result<CondList, NoMemory>
         Instr::HookIn(yarns) => with_free_hook(of_each(alloc, OfEach::NotInAction, 1, yarns)?),
         Instr::HookOut(yarns) => with_free_hook(of_each(alloc, OfEach::InAction, 1, yarns)?),
         Instr::ReleaseHook(yarns) => release(alloc, yarns),
-        Instr::Knit(_, _, yarns) => of_each(alloc, OfEach::InAction, 3, yarns),
-        Instr::Tuck(_, _, yarns) => of_each(alloc, OfEach::InAction, 3, yarns),
-        Instr::Miss(_, _, yarns) => of_each(alloc, OfEach::InAction, 3, yarns),
+        Instr::Knit(_, _, yarns) | Instr::Tuck(_, _, yarns) | Instr::Miss(_, _, yarns) => {
+            of_each(alloc, OfEach::InAction, 3, yarns)
+        }
         Instr::Split(_, _, _, yarns) => of_each(alloc, OfEach::InAction, 4, yarns),
-        Instr::Stitch | Instr::Pause | Instr::Extension => Ok(CondList::new(alloc)),
-        Instr::Rack(_) | Instr::Drop(_) | Instr::Amiss(_) => Ok(CondList::new(alloc)),
-        Instr::Xfer(_, _) => Ok(CondList::new(alloc)),
+        _ => Ok(CondList::new(alloc)),
     }
 }
 

@@ -5,7 +5,7 @@ ghost use Rattle.carrier_rules.specs.Carriers.{effect_of};
 use face_data::Effect;
 use knit_base::{Instr, Quarter};
 
-/// The effect of the instruction.
+/// What the instruction does to the rack, to carriers and to the hook.
 pub fn effect_of(instr: &Instr) -> Effect
     ensures { result ≡ effect_of instr.now }
 {
@@ -15,10 +15,7 @@ pub fn effect_of(instr: &Instr) -> Effect
         Instr::HookIn(yarns) => effect(None, yarns.mask(), 0, Some(yarns.mask())),
         Instr::ReleaseHook(_) => effect(None, 0, 0, Some(0)),
         Instr::Rack(rack) => effect(Some(*rack), 0, 0, None),
-        Instr::Stitch | Instr::Pause | Instr::Extension => effect(None, 0, 0, None),
-        Instr::Knit(_, _, _) | Instr::Tuck(_, _, _) => effect(None, 0, 0, None),
-        Instr::Miss(_, _, _) | Instr::Split(_, _, _, _) => effect(None, 0, 0, None),
-        Instr::Xfer(_, _) | Instr::Drop(_) | Instr::Amiss(_) => effect(None, 0, 0, None),
+        _ => effect(None, 0, 0, None),
     }
 }
 

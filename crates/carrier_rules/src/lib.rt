@@ -36,8 +36,8 @@ pub fn ask(alloc: Global, instr: &Instr) -> Result<CarrierAsk, NoMemory>
     requires { HasPlaces instr.now }
     ensures broken { IfOk result (λ ask. (s : State) → carrier_broken instr.now s ≡ first_unmet ask.conds s) }
     ensures conds { IfOk result (λ ask. ask.conds ≡ conds_of instr.now) }
-    ensures change { IfOk result (λ ask. ask.effect ≡ effect_of instr.now) }
-    ensures effect { IfOk result (λ ask. IsEffectOf instr.now ask.effect) }
+    ensures effect { IfOk result (λ ask. ask.effect ≡ effect_of instr.now) }
+    ensures changes { IfOk result (λ ask. IsEffectOf instr.now ask.effect) }
 {
     Ok(CarrierAsk {
         conds: conds::conds_of(alloc, instr)?,

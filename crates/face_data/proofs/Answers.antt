@@ -12,7 +12,7 @@ use Rattle.face_data.specs.Conditions.Ask.{rack_is, carrier_in, carrier_out, hoo
 use Rattle.face_data.specs.Answers.{Answer, answer_of, size_left, size_answer, where_known, read_answer}
 use Rattle.face_data.specs.Answers.Answer.{yes_it_does, no_it_does_not, asks}
 use Rattle.knit_base.specs.declared.yarns.CarrierNo.{CarrierNo}
-use Rattle.face_data.proofs.Held.{size-now}
+use Rattle.face_data.proofs.SizeConditions.{size-now}
 use Rattle.face_data.proofs.Carriers.{has-bit_or, has-without}
 use Rattle.knit_base.specs.declared.needle.Needle.{Needle}
 use Rattle.face_data.specs.declared.face.Effect.{Effect}

@@ -8,11 +8,12 @@ use Rattle.std.proofs.lemmas.Map.Steps.{length-le_from_distinct_below}
 use Rattle.std.proofs.lemmas.Map.Views.{Contains-from_any, list_any-from_Contains}
 use Rattle.std.proofs.Math.Nat.{mul-le-mul_right}
 use Rattle.knit_base.specs.Needle.{same_needle, same_needle-true}
-use Rattle.face_data.proofs.Members.{Decides-same_needle, Contains-none, Contains-head, Contains-cons_cases}
+use Rattle.face_data.proofs.Members.{Contains-none, Contains-head, Contains-cons_cases}
 use Rattle.face_data.proofs.Marks.{IsFamily, IsIn, code, code_below, same_code}
 use Rattle.knit_base.specs.declared.needle.Needle.{Needle}
 use Rattle.knit_base.specs.declared.needle.Bed.TheVariants.{Front}
 use Rattle.face_data.specs.Sets.{IsWithin, NestedOrApart}
+use Rattle.knit_base.proofs.Needles.{Decides-same_needle}
 
 abbrev upto : (ℕ → ℕ) → ℕ → List ℕ
 upto f zero = []
@@ -43,6 +44,7 @@ pub at_most_bound : (f : ℕ → ℕ) (n bound : ℕ) → ((k : ℕ) → k < n �
 at_most_bound f n bound below other =
     omega (arith, length-upto f n, length-le_from_distinct_below (upto f n) bound (upto_distinct f n other) (λ q e. upto_below f n bound q below e))
 
+-- being one needle is an equivalence
 pub needle_laws : IsEquivalence same_needle
 needle_laws = decided same_needle Decides-same_needle
 

@@ -14,7 +14,7 @@ use Rattle.face_data.specs.declared.face.Effect.{Effect}
 use Rattle.face_data.specs.Answers.{Answer}
 use Rattle.face_data.specs.Answers.Answer.{asks}
 use Rattle.face_data.specs.Bearings.{bearing, if_so, all_in}
-use Rattle.face_data.specs.Chains.{marks_in, chain_at, covers, size_told}
+use Rattle.face_data.specs.Chains.{marks_in, chain_at, covers, chain_bearing}
 use Rattle.face_data.specs.Composition.{from_bearing, settled}
 use Rattle.face_data.specs.Conditions.{Ask}
 use Rattle.face_data.specs.Conditions.Ask.{rack_is, carrier_in, carrier_out, hook_free, hook_is, hook_lacks, size_at_most}
@@ -23,12 +23,12 @@ use Rattle.face_data.specs.Segments.{names_through}
 use Rattle.face_data.specs.Sets.{IsDistinct, IsWithin, NestedOrApart}
 use Rattle.face_data.specs.Summaries.{Asked, Summary}
 use Rattle.face_data.proofs.Bound.{needle_laws}
-use Rattle.face_data.proofs.Good.{names_read}
+use Rattle.face_data.proofs.Goodness.{names_read}
 use Rattle.face_data.proofs.Items.{ones, length_within, all_in_from}
 use Rattle.face_data.proofs.Members.{Contains-head, Contains-tail, dropped, sum_dropped, dropped_keeps}
-use Rattle.face_data.proofs.Owed.{ComesFrom}
+use Rattle.face_data.proofs.KeptChecks.{ComesFrom}
 use Rattle.face_data.proofs.Owners.{member_cases, nested_through, nested_or_apart_through}
-use Rattle.face_data.proofs.Told.{all_in_within}
+use Rattle.face_data.proofs.Bearings.{all_in_within}
 
 length-dropped : (n : Needle) (ys : List Needle) → Contains ys n → 1 + length (dropped n ys) ≡ length ys
 length-dropped n ys there = omega (arith, sum_dropped (λ m. 1) n ys there, ones ys, ones (dropped n ys))
@@ -100,7 +100,7 @@ implied_either false b rest = refl
 -- or apart.
 pub settled-sizes : (kept : List Asked) (n : Needle) (names : List Needle) (most : ℕ) → IsDistinct (n ∷ names) →
     ((c : Asked) → Contains kept c → IsDistinct (names_in c.ask)) → ((c : Asked) → Contains kept c → NestedOrApart (names_in c.ask) (n ∷ names)) →
-    settled kept (size_at_most (n ∷ names) most) ≡ from_bearing (size_told (chain_at kept) (n ∷ names) most) (asks (size_at_most (n ∷ names) most))
+    settled kept (size_at_most (n ∷ names) most) ≡ from_bearing (chain_bearing (chain_at kept) (n ∷ names) most) (asks (size_at_most (n ∷ names) most))
 unfolding settled
 settled-sizes [] n names most distinct each nested = refl
 settled-sizes (c ∷ cs) n names most distinct each nested =
@@ -108,7 +108,7 @@ settled-sizes (c ∷ cs) n names most distinct each nested =
     let here = bearing-marks c.ask n names most distinct (each c (Contains-head c cs)) (nested c (Contains-head c cs)) in
     let test = covers (length (n ∷ names)) most in
     ap (from_bearing (bearing c.ask (size_at_most (n ∷ names) most))) later
-    ∙ ap (λ r. from_bearing r (from_bearing (size_told (chain_at cs) (n ∷ names) most) (asks (size_at_most (n ∷ names) most)))) here
+    ∙ ap (λ r. from_bearing r (from_bearing (chain_bearing (chain_at cs) (n ∷ names) most) (asks (size_at_most (n ∷ names) most)))) here
     ∙ implied_either (list_any test (marks_in n c.ask)) (list_any test (chain_at cs n)) (asks (size_at_most (n ∷ names) most))
     ∙ ap (λ b. from_bearing (if_so b Implied) (asks (size_at_most (n ∷ names) most))) (sym (list_any-append test (marks_in n c.ask) (chain_at cs n)))
 

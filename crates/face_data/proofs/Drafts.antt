@@ -1,11 +1,9 @@
 -- The summary of lines is good and stands for them, where those of single lines are fair and stand for theirs.
-use Rattle.std.proofs.Common.{◌≡◌, ℕ, ◌+◌, ◌<◌, zero, suc, ◌%◌, min, false, nat_eq, List, [], ◌∷◌, ◌++◌, bit_or, bit_and, refl, sym, ap, ◌∙◌, subst, arith, inl, inr, fold, append_assoc}
+use Rattle.std.proofs.Common.{◌≡◌, ℕ, ◌+◌, List, [], ◌∷◌, ◌++◌, bit_or, refl, sym, ap, ◌∙◌, subst, arith, inl, inr, fold, append_assoc}
 use Rattle.std.specs.List.{Contains}
 use Rattle.std.specs.List.Sorted.{IsStrictlySortedBy}
-use Rattle.std.specs.Int.{bit_at}
 use Rattle.std.proofs.lemmas.List.{append-nil}
 use Rattle.std.proofs.lemmas.List.Elements.{Contains-append_cases}
-use Rattle.std.proofs.lemmas.Nat.Bits.{bit_at_or, bit_at_and, bit_at_xor, bit_at-lt, bit_at-zero, same_from_bits}
 use Rattle.std.proofs.lemmas.Nat.{pow_pos}
 use Rattle.knit_base.specs.declared.instr.Read.{Read}
 use Rattle.knit_base.specs.declared.needle.Needle.{Needle}
@@ -15,35 +13,21 @@ use Rattle.carriage_model.specs.State.{State}
 use Rattle.face_data.specs.Composition.{composed}
 use Rattle.face_data.specs.Drafts.{no_lines, drafted}
 use Rattle.face_data.specs.Goodness.{IsGood, IsFair}
-use Rattle.face_data.specs.Segments.{contents_of, read_segs}
+use Rattle.face_data.specs.Segments.{segments_on, read_segs}
 use Rattle.face_data.specs.Sets.{IsWithin}
 use Rattle.face_data.specs.Stands.{StandsFor}
 use Rattle.face_data.specs.Summaries.{Summary, applied}
 use Rattle.face_data.specs.Summaries.Outcome.{went_on}
-use Rattle.face_data.proofs.Good.{composed_good_fair, good_within, owns_nothing, sizes_nothing}
+use Rattle.face_data.proofs.Goodness.{composed_good_fair, good_within, owns_nothing, sizes_nothing}
 use Rattle.face_data.proofs.Members.{Contains-none, Contains-head, Contains-tail, Contains-cons_cases}
 use Rattle.face_data.proofs.Stands.{stands_fair}
-
-none_gone : (a b : ℕ) → a < 2 → b ≡ 0 → (a + min a b) % 2 ≡ a
-none_gone zero zero small is = refl
-none_gone (suc zero) zero small is = refl
-none_gone (suc (suc a)) b small is = absurd (omega arith)
-none_gone zero (suc b) small is = absurd (omega arith)
-none_gone (suc zero) (suc b) small is = absurd (omega arith)
+use Rattle.knit_base.proofs.Masks.{bit_or-none, without_set-none, contains_carrier-none}
 
 -- where nobody comes or goes all stay
 pub ins-nobody : (set : ℕ) → bit_or (without_set set 0) 0 ≡ set
-ins-nobody set = same_from_bits _ _ (λ i.
-    bit_at_or (without_set set 0) 0 i
-    ∙ omega (
-      arith,
-      bit_at-zero i,
-      bit_at_xor set (bit_and set 0) i
-          ∙ ap (λ b. (bit_at set i + b) % 2) (bit_at_and set 0 i)
-          ∙ none_gone (bit_at set i) (bit_at 0 i) (bit_at-lt set i) (bit_at-zero i),
-    ))
+ins-nobody set = bit_or-none (without_set set 0) ∙ without_set-none set
 
-own_read : (s : State) (k : ℕ) (n : Needle) → read_segs s k (contents_of [] n) ≡ s.stacks n
+own_read : (s : State) (k : ℕ) (n : Needle) → read_segs s k (segments_on [] n) ≡ s.stacks n
 own_read s k n = append-nil (s.stacks n)
 
 -- no line does nothing
@@ -58,30 +42,29 @@ no_lines_stand profile = record {
   made_are = λ s t k ends. refl;
 }
 
-nobody_came : (c : ℕ) → nat_eq (bit_at 0 c) 1 ≡ false
-nobody_came c = ap (λ n. nat_eq n 1) (bit_at-zero c)
-
 -- it is good
 pub no_lines_good : (carriers limit : ℕ) (known : List Needle) → IsGood carriers limit known no_lines
 unfolding IsStrictlySortedBy
 no_lines_good carriers limit known = record {
-  made = omega arith;
-  asks_fit = λ c there. absurd (Contains-none c there);
-  within = λ c there. absurd (Contains-none c there);
-  in_turn = tt;
-  irredundant = tt;
-  nested = λ c d there. absurd (Contains-none c there);
-  in_order = tt;
-  changes_fit = λ c there. absurd (Contains-none c there);
-  owns = owns_nothing;
-  sizes = λ size small meets m. sizes_nothing limit size small m;
-  ending = record {
-    lies = λ c there. absurd (Contains-none c there);
-    apart = λ c came. nobody_came c.0;
-    came = pow_pos carriers;
-    went = pow_pos carriers;
-    hook = tt;
+  fair = record {
+    made = omega arith;
+    asks_fit = λ c there. absurd (Contains-none c there);
+    within = λ c there. absurd (Contains-none c there);
+    in_turn = tt;
+    nested = λ c d there. absurd (Contains-none c there);
+    in_order = tt;
+    changes_fit = λ c there. absurd (Contains-none c there);
+    owns = owns_nothing;
+    sizes = λ size small meets m. sizes_nothing limit size small m;
+    ending = record {
+      lies = λ c there. absurd (Contains-none c there);
+      apart = λ c came. contains_carrier-none c;
+      came = pow_pos carriers;
+      went = pow_pos carriers;
+      hook = tt;
+    };
   };
+  irredundant = tt;
 }
 
 twice_within : (known : List Needle) → IsWithin (known ++ known) known

@@ -26,6 +26,7 @@ apart_at x y hx hy apart = elim (cases_Bool (nat_eq x 1)) [
   | inr other ↦ omega (arith, eqb-false x 1 other)
 ]
 
+-- a change of a value is one item at most
 pub set_at_most : {X : Type 0} → (o : Option X) → set_items o ≤ 1
 set_at_most None = omega arith
 set_at_most (Some x) = omega arith

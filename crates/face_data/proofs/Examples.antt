@@ -9,7 +9,7 @@ use Rattle.face_data.specs.declared.face.Check.{Check}
 use Rattle.face_data.specs.declared.face.Cond.TheVariants.{RackIs, SizeAtMost}
 use Rattle.face_data.specs.declared.face.Ending.TheVariants.{Through}
 use Rattle.face_data.specs.declared.face.Seg.TheVariants.{Entry}
-use Rattle.face_data.specs.Segments.{contents_of, read_segs}
+use Rattle.face_data.specs.Segments.{segments_on, read_segs}
 use Rattle.face_data.specs.Summaries.{Summary, first_fault, applied}
 use Rattle.face_data.specs.Summaries.Outcome.{faulted}
 use Rattle.face_data.specs.View.{asked_of}
@@ -47,13 +47,13 @@ laden = record empty_state { stacks = with_stack (with_stack (λ n. []) (front (
 first_holds : first_fault (transfer (pos 1) (pos 0)).checks laden ≡ None
 first_holds = refl
 
-first_moves : read_segs laden 7 (contents_of (transfer (pos 1) (pos 0)).changes (back (pos 1))) ≡ 6 ∷ 5 ∷ []
+first_moves : read_segs laden 7 (segments_on (transfer (pos 1) (pos 0)).changes (back (pos 1))) ≡ 6 ∷ 5 ∷ []
 first_moves = refl
 
-first_empties : read_segs laden 7 (contents_of (transfer (pos 1) (pos 0)).changes (front (pos 1))) ≡ []
+first_empties : read_segs laden 7 (segments_on (transfer (pos 1) (pos 0)).changes (front (pos 1))) ≡ []
 first_empties = refl
 
-first_leaves : contents_of (transfer (pos 1) (pos 0)).changes (front (pos 3)) ≡ Entry (front (pos 3)) ∷ []
+first_leaves : segments_on (transfer (pos 1) (pos 0)).changes (front (pos 3)) ≡ Entry (front (pos 3)) ∷ []
 first_leaves = refl
 
 -- the second asks for a rack of one needle, and stops

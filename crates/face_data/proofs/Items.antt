@@ -16,23 +16,25 @@ use Rattle.std.proofs.Math.Nat.{mul-le-mul_right}
 use Rattle.knit_base.specs.Needle.{same_needle, needle_cmp, same_needle-true}
 use Rattle.face_data.specs.Conditions.{Ask}
 use Rattle.face_data.specs.Summaries.{Asked, Summary}
-use Rattle.face_data.specs.Segments.{Changed, contents_of, change_at, entries_of, new_of, new_in}
+use Rattle.face_data.specs.Segments.{Changed, segments_on, change_at, entries_of, new_of, new_in}
 use Rattle.face_data.specs.Conditions.Ask.{rack_is, carrier_in, carrier_out, hook_free, hook_is, hook_lacks, size_at_most}
 use Rattle.face_data.specs.declared.bearing.Bearing.{Bearing}
 use Rattle.face_data.specs.Bearings.{bearing, all_in, if_so, same_or_not}
 use Rattle.face_data.specs.declared.bearing.Bearing.TheVariants.{Implied, Refuted, Silent}
-use Rattle.face_data.proofs.Members.{needle_cmp_self, sum_within, Contains-none, Contains-head, Contains-tail, Contains-cons_cases, Decides-same_needle}
+use Rattle.face_data.proofs.Members.{sum_within, Contains-none, Contains-head, Contains-tail, Contains-cons_cases}
 use Rattle.knit_base.specs.declared.rule.Rule.TheVariants.{NotAligned}
 use Rattle.face_data.specs.Items.{ask_items, check_items, change_items, items, most_items}
 use Rattle.face_data.proofs.Effects.{ending_bound}
 use Rattle.face_data.proofs.Owners.{distinct_append}
 use Rattle.face_data.proofs.Bound.{Sized, no_size, names_at, most_at, AreSizes, sizes_bound, at_most_bound, needle_laws}
-use Rattle.face_data.proofs.Merged.{AllAbove}
+use Rattle.face_data.proofs.ChangeLists.{AllAbove, not_less_and_equal}
 use Rattle.knit_base.specs.declared.needle.Needle.{Needle}
 use Rattle.face_data.specs.declared.face.Seg.{Seg}
 use Rattle.face_data.specs.declared.face.Seg.TheVariants.{Entry, New}
 use Rattle.face_data.specs.Sets.{IsDistinct, IsWithin, NestedOrApart}
-use Rattle.face_data.specs.Goodness.{held, OwnsOnce, IsIrredundant, MeetsSize, IsGood, AskFits, SizeFits, ChangeFits, names_in, IsInOrder}
+use Rattle.face_data.specs.Goodness.{entries_on, OwnsOnce, IsIrredundant, MeetsSize, IsGood, AskFits, SizeFits, ChangeFits, names_in, IsInOrder}
+use Rattle.knit_base.proofs.Needles.{needle_cmp-refl, Decides-same_needle}
+use Rattle.face_data.proofs.Digests.{not_silent}
 
 -- a sum of ones is the length
 pub ones : (zs : List Needle) → sum_by (λ n. 1) zs ≡ length zs
@@ -43,6 +45,7 @@ ones (z ∷ zs) = omega (arith, ones zs, sum_by-cons (λ (n : Needle). 1) z zs)
 pub length_within : (xs ys : List Needle) → IsDistinct xs → IsWithin xs ys → length xs ≤ length ys
 length_within xs ys d w = omega (arith, sum_within (λ n. 1) xs ys d w, ones xs, ones ys)
 
+-- the conditions on sizes among them
 abbrev pub sized_from : Ask → List Sized → List Sized
 sized_from (size_at_most names most) rest = record { names = names; most = most } ∷ rest
 sized_from q rest = rest
@@ -128,7 +131,7 @@ needed_at (s ∷ ss) h (suc k) zero hk hl w m = absurd (omega arith)
 needed_at (s ∷ ss) h (suc k) (suc l) hk hl w m = needed_at ss h.1 k l (omega arith) (omega arith) w m
 
 sized_fits : (carriers limit : ℕ) (known : List Needle) (f : Summary) → IsGood carriers limit known f → (s : Sized) → Contains (sizes_of f.checks) s → SizeFits limit known s.names s.most
-sized_fits carriers limit known f g s h = let c = sizes_from f.checks s h in subst (AskFits carriers limit known) c.2 (g.asks_fit c.0 c.1)
+sized_fits carriers limit known f g s h = let c = sizes_from f.checks s h in subst (AskFits carriers limit known) c.2 (g.fair.asks_fit c.0 c.1)
 
 are_sizes : (carriers limit : ℕ) (known : List Needle) (f : Summary) → IsGood carriers limit known f → AreSizes limit known (sizes_of f.checks)
 are_sizes carriers limit known f g = record {
@@ -138,7 +141,7 @@ are_sizes carriers limit known f g = record {
   nested = λ k l hk hl.
       let c = sizes_from f.checks (get_or (sizes_of f.checks) k no_size) (Contains-get_or (sizes_of f.checks) k no_size hk) in
       let d = sizes_from f.checks (get_or (sizes_of f.checks) l no_size) (Contains-get_or (sizes_of f.checks) l no_size hl) in
-      subst₂ NestedOrApart (ap names_in c.2) (ap names_in d.2) (g.nested c.0 d.0 c.1 d.1);
+      subst₂ NestedOrApart (ap names_in c.2) (ap names_in d.2) (g.fair.nested c.0 d.0 c.1 d.1);
   needed = needed_at (sizes_of f.checks) (needed_of f.checks g.irredundant);
 }
 
@@ -161,39 +164,40 @@ size_items_bound carriers limit known f g =
     = mul-le-mul_right (length known + 1) (sizes_bound limit known (sizes_of f.checks) (are_sizes carriers limit known f g)) in
     omega (arith, each, many)
 
-abbrev pub needles_of : List Changed → List Needle
-needles_of cs = map (λ (c : Changed). c.0) cs
+-- the needles that are changed
+abbrev pub needles_changed : List Changed → List Needle
+needles_changed cs = map (λ (c : Changed). c.0) cs
 
-not_less_and_equal : (o : Ordering) → o ≡ Less → o ≡ Equal → ⊥
-not_less_and_equal o p q = cc
-
-not_above_itself : (n : Needle) (cs : List Changed) → AllAbove n cs → Contains (needles_of cs) n → ⊥
+not_above_itself : (n : Needle) (cs : List Changed) → AllAbove n cs → Contains (needles_changed cs) n → ⊥
 not_above_itself n [] h k = Contains-none n k
-not_above_itself n (c ∷ cs) h k = elim (Contains-cons_cases c.0 (needles_of cs) n k) [
-  | inl same ↦ not_less_and_equal (needle_cmp n c.0) h.0 (subst (λ m. needle_cmp n m ≡ Equal) (sym same) (needle_cmp_self n))
+not_above_itself n (c ∷ cs) h k = elim (Contains-cons_cases c.0 (needles_changed cs) n k) [
+  | inl same ↦ not_less_and_equal (needle_cmp n c.0) h.0 (subst (λ m. needle_cmp n m ≡ Equal) (sym same) (needle_cmp-refl n))
   | inr later ↦ not_above_itself n cs h.1 later
 ]
 
-pub needles_distinct : (cs : List Changed) → IsInOrder cs → IsDistinct (needles_of cs)
+-- each needle is changed once
+pub needles_distinct : (cs : List Changed) → IsInOrder cs → IsDistinct (needles_changed cs)
 unfolding IsStrictlySortedBy
 needles_distinct [] h = tt
 needles_distinct (c ∷ cs) h = (not_above_itself c.0 cs h.0, needles_distinct cs h.1)
 
-pub needle_in : (cs : List Changed) (c : Changed) → Contains cs c → Contains (needles_of cs) c.0
+-- the needle of a change
+pub needle_in : (cs : List Changed) (c : Changed) → Contains cs c → Contains (needles_changed cs) c.0
 needle_in [] c h = absurd (Contains-none c h)
 needle_in (x ∷ cs) c h = elim (Contains-cons_cases x cs c h) [
-  | inl same ↦ subst (λ (w : Changed). Contains (needles_of (x ∷ cs)) w.0) same (Contains-head x.0 (needles_of cs))
-  | inr later ↦ Contains-tail x.0 (needles_of cs) c.0 (needle_in cs c later)
+  | inl same ↦ subst (λ (w : Changed). Contains (needles_changed (x ∷ cs)) w.0) same (Contains-head x.0 (needles_changed cs))
+  | inr later ↦ Contains-tail x.0 (needles_changed cs) c.0 (needle_in cs c later)
 ]
 
-pub in_needles : (cs : List Changed) (n : Needle) → Contains (needles_of cs) n → (c : Changed) × Contains cs c × (c.0 ≡ n)
+-- the change of a needle
+pub in_needles : (cs : List Changed) (n : Needle) → Contains (needles_changed cs) n → (c : Changed) × Contains cs c × (c.0 ≡ n)
 in_needles [] n h = absurd (Contains-none n h)
-in_needles (x ∷ cs) n h = elim (Contains-cons_cases x.0 (needles_of cs) n h) [
+in_needles (x ∷ cs) n h = elim (Contains-cons_cases x.0 (needles_changed cs) n h) [
   | inl same ↦ (x, Contains-head x cs, same)
   | inr later ↦ (let w = in_needles cs n later in (w.0, Contains-tail x cs w.0 w.1, w.2))
 ]
 
-length-map : (cs : List Changed) → length (needles_of cs) ≡ length cs
+length-map : (cs : List Changed) → length (needles_changed cs) ≡ length cs
 length-map [] = refl
 length-map (c ∷ cs) = omega (arith, length-map cs)
 
@@ -202,7 +206,7 @@ changes_bound lines known cs order fit =
     omega (
       arith,
       length-map cs,
-      length_within (needles_of cs) known (needles_distinct cs order)
+      length_within (needles_changed cs) known (needles_distinct cs order)
           (λ n h. let w = in_needles cs n h in subst (Contains known) w.2 (fit w.0 w.1).needle),
     )
 
@@ -211,21 +215,24 @@ found_head : (x : Changed) (cs : List Changed) (c : Changed) (b : Bool) → same
     (Contains cs c → change_at cs c.0 ≡ Some c.1) → (if b then Some x.1 else change_at cs c.0) ≡ Some c.1
 found_head x cs c b e above (inl same) ih = subst (λ t. (if t then Some x.1 else change_at cs c.0) ≡ Some c.1)
     (sym ((Decides-same_needle c.0 x.0).1 (sym (ap (λ (w : Changed). w.0) same))) ∙ e) (ap (λ (w : Changed). Some w.1) same)
-found_head x cs c true e above (inr later) ih = absurd (not_above_itself x.0 cs above (subst (Contains (needles_of cs)) (same_needle-true c.0 x.0 e) (needle_in cs c later)))
+found_head x cs c true e above (inr later) ih = absurd (not_above_itself x.0 cs above (subst (Contains (needles_changed cs)) (same_needle-true c.0 x.0 e) (needle_in cs c later)))
 found_head x cs c false e above (inr later) ih = ih later
 
+-- a change is found by its needle
 pub change_found : (cs : List Changed) (c : Changed) → IsInOrder cs → Contains cs c → change_at cs c.0 ≡ Some c.1
 unfolding IsStrictlySortedBy
 change_found [] c order h = absurd (Contains-none c h)
 change_found (x ∷ cs) c order h = found_head x cs c (same_needle c.0 x.0) refl order.0 (Contains-cons_cases x cs c h) (λ k. change_found cs c order.1 k)
 
-pub contents_found : (cs : List Changed) (c : Changed) → IsInOrder cs → Contains cs c → contents_of cs c.0 ≡ c.1
-contents_found cs c order h = ap (λ o. unwrap_or o (Entry c.0 ∷ [])) (change_found cs c order h)
+-- and its segments are what the needle holds
+pub segments_found : (cs : List Changed) (c : Changed) → IsInOrder cs → Contains cs c → segments_on cs c.0 ≡ c.1
+segments_found cs c order h = ap (λ o. unwrap_or o (Entry c.0 ∷ [])) (change_found cs c order h)
 
 -- the entries that stand on changed needles
 abbrev pub all_entries : List Changed → List Needle
 all_entries cs = flat_map (λ (c : Changed). entries_of c.1) cs
 
+-- the change in whose segments an entry stands
 pub in_entries : (cs : List Changed) (n : Needle) → Contains (all_entries cs) n → (c : Changed) × Contains cs c × Contains (entries_of c.1) n
 in_entries [] n h = absurd (Contains-none n h)
 in_entries (x ∷ cs) n h = elim (Contains-append_cases (entries_of x.1) (all_entries cs) n h) [
@@ -233,18 +240,20 @@ in_entries (x ∷ cs) n h = elim (Contains-append_cases (entries_of x.1) (all_en
   | inr later ↦ (let w = in_entries cs n later in (w.0, Contains-tail x cs w.0 w.1, w.2))
 ]
 
-pub entries_distinct : (whole cs : List Changed) → IsInOrder whole → OwnsOnce whole → IsDistinct (needles_of cs) → ((c : Changed) → Contains cs c → Contains whole c) → IsDistinct (all_entries cs)
+-- each entry stands once in the segments of all changes
+pub entries_distinct : (whole cs : List Changed) → IsInOrder whole → OwnsOnce whole → IsDistinct (needles_changed cs) → ((c : Changed) → Contains cs c → Contains whole c) → IsDistinct (all_entries cs)
 entries_distinct whole [] order o d sub = tt
 entries_distinct whole (x ∷ cs) order o d sub =
-    let here = contents_found whole x order (sub x (Contains-head x cs)) in
+    let here = segments_found whole x order (sub x (Contains-head x cs)) in
     distinct_append (entries_of x.1) (all_entries cs) (subst (λ segs. IsDistinct (entries_of segs)) here (o.distinct x.0))
     (entries_distinct whole cs order o d.1 (λ c h. sub c (Contains-tail x cs c h)))
     (λ n h k.
     let w = in_entries cs n k in
-    let there = contents_found whole w.0 order (sub w.0 (Contains-tail x cs w.0 w.1)) in
+    let there = segments_found whole w.0 order (sub w.0 (Contains-tail x cs w.0 w.1)) in
     let same = o.owner x.0 w.0.0 n (subst (λ segs. Contains (entries_of segs) n) (sym here) h) (subst (λ segs. Contains (entries_of segs) n) (sym there) w.2) in
-    d.0 (subst (Contains (needles_of cs)) (sym same) (needle_in cs w.0 w.1)))
+    d.0 (subst (Contains (needles_changed cs)) (sym same) (needle_in cs w.0 w.1)))
 
+-- segments are entries and new loops
 pub length-segs : (segs : List Seg) → length segs ≡ length (entries_of segs) + new_of segs
 length-segs [] = refl
 length-segs (Entry n ∷ segs) = omega (arith, length-segs segs, sum_by-cons new_in (Entry n) segs)
@@ -281,17 +290,17 @@ meets_nothing (hook_lacks x) = tt
 
 new_at_most : (carriers limit : ℕ) (known : List Needle) (f : Summary) → IsGood carriers limit known f → (c : Changed) → Contains f.changes c → new_of c.1 ≤ limit
 new_at_most carriers limit known f g c h =
-    let size = g.sizes (λ n. 0) (λ n. omega arith) (λ d k. meets_nothing d.ask) c.0 in
-    omega (arith, size, nothing_much (held f.changes c.0), ap new_of (contents_found f.changes c g.in_order h))
+    let size = g.fair.sizes (λ n. 0) (λ n. omega arith) (λ d k. meets_nothing d.ask) c.0 in
+    omega (arith, size, nothing_much (entries_on f.changes c.0), ap new_of (segments_found f.changes c g.fair.in_order h))
 
 -- the changes and their segments, counted together
 pub change_items_bound : (carriers limit : ℕ) (known : List Needle) (f : Summary) → IsGood carriers limit known f →
     length f.changes + seg_items f.changes ≤ (limit + 2) * length known
 change_items_bound carriers limit known f g =
-    let many = changes_bound f.lines known f.changes g.in_order g.changes_fit in
+    let many = changes_bound f.lines known f.changes g.fair.in_order g.fair.changes_fit in
     let own = length_within (all_entries f.changes) known
-    (entries_distinct f.changes f.changes g.in_order g.owns (needles_distinct f.changes g.in_order) (λ c h. h))
-    (λ n h. let w = in_entries f.changes n h in (g.changes_fit w.0 w.1).entries n w.2) in
+    (entries_distinct f.changes f.changes g.fair.in_order g.fair.owns (needles_distinct f.changes g.fair.in_order) (λ c h. h))
+    (λ n h. let w = in_entries f.changes n h in (g.fair.changes_fit w.0 w.1).entries n w.2) in
     let new : length f.changes * limit ≤ length known * limit = mul-le-mul_right limit many in
     omega (arith, many, own, new, segs_at_most limit f.changes (new_at_most carriers limit known f g))
 
@@ -313,10 +322,6 @@ IsOther carriers (carrier_out c) = c.0 < carriers
 IsOther carriers (hook_lacks c) = c.0 < carriers
 IsOther carriers (size_at_most names most) = ⊥
 
-same_speaks : (b : Bool) → same_or_not b ≡ Silent → ⊥
-same_speaks true e = cc
-same_speaks false e = cc
-
 if_so_speaks : (c d : ℕ) (r : Bearing) → c ≡ d → (r ≡ Silent → ⊥) → if_so (nat_eq c d) r ≡ Silent → ⊥
 if_so_speaks c d r e speaks silence = speaks (sym (ap (λ b. if_so b r) (eq-eqb c d e)) ∙ silence)
 
@@ -329,11 +334,11 @@ refuted_speaks e = cc
 -- of two such conditions with one number, the earlier says something of the later
 speaks : (carriers : ℕ) (p q : Ask) → IsOther carriers p → IsOther carriers q → number carriers p ≡ number carriers q → bearing p q ≡ Silent → ⊥
 unfolding bearing
-speaks carriers (rack_is p) (rack_is q) fp fq e s = same_speaks (int_eq p q) s
+speaks carriers (rack_is p) (rack_is q) fp fq e s = not_silent (int_eq p q) s
 speaks carriers hook_free hook_free fp fq e s = implied_speaks s
-speaks carriers hook_free (hook_is set) fp fq e s = same_speaks (nat_eq 0 set) s
-speaks carriers (hook_is set) hook_free fp fq e s = same_speaks (nat_eq set 0) s
-speaks carriers (hook_is set) (hook_is other) fp fq e s = same_speaks (nat_eq set other) s
+speaks carriers hook_free (hook_is set) fp fq e s = not_silent (nat_eq 0 set) s
+speaks carriers (hook_is set) hook_free fp fq e s = not_silent (nat_eq set 0) s
+speaks carriers (hook_is set) (hook_is other) fp fq e s = not_silent (nat_eq set other) s
 speaks carriers (carrier_in c) (carrier_in d) fp fq e s = if_so_speaks c.0 d.0 Implied (omega (arith, e)) implied_speaks s
 speaks carriers (carrier_in c) (carrier_out d) fp fq e s = if_so_speaks c.0 d.0 Refuted (omega (arith, e)) refuted_speaks s
 speaks carriers (carrier_out c) (carrier_out d) fp fq e s = if_so_speaks c.0 d.0 Implied (omega (arith, e)) implied_speaks s
@@ -452,9 +457,9 @@ items_bound carriers limit known f g =
     omega (
       arith,
       check_split f.checks,
-      others_bound carriers limit known f.checks no_asked g.asks_fit g.irredundant,
+      others_bound carriers limit known f.checks no_asked g.fair.asks_fit g.irredundant,
       size_items_bound carriers limit known f g,
       change_split f.changes,
       change_items_bound carriers limit known f g,
-      ending_bound carriers f f.ending g.ending,
+      ending_bound carriers f f.ending g.fair.ending,
     )

@@ -2,16 +2,13 @@
 use Rattle.std.proofs.Common.{◌≡◌, ℕ, ◌+◌, ◌≤◌, ◌<◌, Bool, true, false, List, [], ◌∷◌, refl, sym, ap, ◌∙◌, subst, arith, inl, inr, ◌⊎◌}
 use Rattle.std.specs.Prelude.{if◌then◌else◌}
 use Rattle.std.specs.List.{Contains, sum_by}
-use Rattle.std.specs.Bool.{Decides}
-use Rattle.std.specs.Ordering.{ordering_reverse, is_eq}
-use Rattle.std.specs.declared.cmp.Ordering.{Ordering}
-use Rattle.std.specs.declared.cmp.Ordering.TheVariants.{Less, Equal, Greater}
 use Rattle.std.proofs.lemmas.List.Elements.{Contains-push_cases, Contains-append_cases, Contains-append_left, Contains-append_right, Contains-push}
 use Rattle.std.proofs.lemmas.List.Sums.{sum_by-cons}
 use Rattle.std.proofs.lemmas.Bool.{true≢false}
-use Rattle.knit_base.specs.Needle.{same_needle, same_needle-true, needle_cmp, needle_cmp_total}
+use Rattle.knit_base.specs.Needle.{same_needle, same_needle-true}
 use Rattle.knit_base.specs.declared.needle.Needle.{Needle}
 use Rattle.face_data.specs.Sets.{IsDistinct, IsWithin}
+use Rattle.knit_base.proofs.Needles.{same_needle-same}
 
 -- nothing is in the empty list
 pub Contains-none : {X : Type 0} (x : X) → Contains [] x → ⊥
@@ -37,29 +34,7 @@ Contains-head y xs = Contains-append_left (y ∷ []) xs y (Contains-push [] y)
 pub Contains-tail : {X : Type 0} (y : X) (xs : List X) (x : X) → Contains xs x → Contains (y ∷ xs) x
 Contains-tail y xs x h = Contains-append_right (y ∷ []) xs x h
 
--- a needle against itself
-own_reverse : (o : Ordering) → o ≡ ordering_reverse o → o ≡ Equal
-own_reverse Less e = cc
-own_reverse Equal e = refl
-own_reverse Greater e = cc
-
--- a needle ties with itself
-pub needle_cmp_self : (n : Needle) → needle_cmp n n ≡ Equal
-needle_cmp_self n = own_reverse (needle_cmp n n) (needle_cmp_total.antisymm n n)
-
--- needles that tie are one needle
-pub needle_cmp_equal : (n m : Needle) → needle_cmp n m ≡ Equal → n ≡ m
-needle_cmp_equal n m e = same_needle-true n m (ap is_eq e)
-
--- one needle passes the test
-pub same_needle_same : (n m : Needle) → n ≡ m → same_needle n m ≡ true
-same_needle_same n m e = subst (λ w. same_needle n w ≡ true) e (ap is_eq (needle_cmp_self n))
-
--- the test of needles decides whether they are one
-pub Decides-same_needle : (n m : Needle) → Decides (same_needle n m) (n ≡ m)
-Decides-same_needle n m = (same_needle-true n m, same_needle_same n m)
-
--- the second list without_set the first place of n
+-- the list without the first place of n
 abbrev pub dropped : Needle → List Needle → List Needle
 dropped n [] = []
 dropped n (m ∷ ms) = if same_needle m n then ms else m ∷ dropped n ms
@@ -71,7 +46,7 @@ sum_dropped_cases f n m ms true e ih h = ap (λ k. f k + sum_by f ms) (sym (same
 sum_dropped_cases f n m ms false e ih h = go (Contains-cons_cases m ms n h)
   where
     go : (m ≡ n) ⊎ Contains ms n → f n + sum_by f (m ∷ dropped n ms) ≡ f m + sum_by f ms
-    go (inl same) = absurd (true≢false (sym (same_needle_same m n same) ∙ e))
+    go (inl same) = absurd (true≢false (sym (same_needle-same m n same) ∙ e))
     go (inr later) = omega (arith, ih later, sum_by-cons f m (dropped n ms))
 
 -- the sum without a needle, and that needle

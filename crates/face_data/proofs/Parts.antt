@@ -19,7 +19,7 @@ use Rattle.face_data.specs.Conditions.{ask_of, part_of}
 use Rattle.face_data.specs.Conditions.Ask.{size_at_most}
 use Rattle.face_data.specs.Segments.{Changed, change_at}
 use Rattle.face_data.specs.Summaries.{Asked}
-use Rattle.face_data.specs.View.{asked_of, changed_of, names_of, CondFits}
+use Rattle.face_data.specs.View.{asked_of, changed_of, names_of, CondFits, ChecksFit, PartsFit}
 use Rattle.face_data.proofs.Members.{Contains-head, Contains-tail}
 
 -- a part that lies in a list is the same where more follows
@@ -68,12 +68,8 @@ names_of-more names more HookFree fits = refl
 names_of-more names more (HookIs set) fits = refl
 names_of-more names more (HookLacks c) fits = refl
 
--- the parts of the checks lie in the list of names
-abbrev pub ChecksFitIn : List Needle → List Check → Type 0
-ChecksFitIn names checks = All (λ (c : Check). CondFits names c.cond) checks
-
 -- all checks
-pub checks-more : (checks : List Check) (names more : List Needle) → ChecksFitIn names checks → map (asked_of (names ++ more)) checks ≡ map (asked_of names) checks
+pub checks-more : (checks : List Check) (names more : List Needle) → ChecksFit names checks → map (asked_of (names ++ more)) checks ≡ map (asked_of names) checks
 checks-more [] names more fits = refl
 checks-more (c ∷ cs) names more fits =
     ap₂ (λ (a : Asked) (rest : List Asked). a ∷ rest)
@@ -81,19 +77,24 @@ checks-more (c ∷ cs) names more fits =
     (checks-more cs names more (All-tail (λ (d : Check). CondFits names d.cond) c cs fits))
 
 -- one more check, whose needles follow
-pub checks-push : (checks : List Check) (names more : List Needle) (fault : Fault) (c : Cond) → ChecksFitIn names checks →
+pub checks-push : (checks : List Check) (names more : List Needle) (fault : Fault) (c : Cond) → ChecksFit names checks →
     map (asked_of (names ++ more)) (checks ++ record { fault = fault; cond = c } ∷ []) ≡ map (asked_of names) checks ++ record { fault = fault; ask = ask_of (names ++ more) c } ∷ []
 checks-push checks names more fault c fits =
     map-append (asked_of (names ++ more)) checks (record { fault = fault; cond = c } ∷ [])
     ∙ ap (λ asked. asked ++ record { fault = fault; ask = ask_of (names ++ more) c } ∷ []) (checks-more checks names more fits)
 
--- all parts lie in the longer list
-pub checks_fit-push : (checks : List Check) (names more : List Needle) (c : Check) → ChecksFitIn names checks → CondFits (names ++ more) c.cond →
-    ChecksFitIn (names ++ more) (checks ++ c ∷ [])
-checks_fit-push checks names more c fits last =
-    All-push (λ (d : Check). CondFits (names ++ more) d.cond) checks c (λ k d below. cond_fits-more names more (get_or checks k d).cond (fits k d below)) last
+-- the parts of the checks lie in a longer list
+pub checks_fit-more : (checks : List Check) (names more : List Needle) → ChecksFit names checks → ChecksFit (names ++ more) checks
+checks_fit-more checks names more fits k d below = cond_fits-more names more (get_or checks k d).cond (fits k d below)
 
-names-more : (checks : List Check) (names more : List Needle) → ChecksFitIn names checks →
+-- all parts lie in the longer list
+pub checks_fit-push : (checks : List Check) (names more : List Needle) (c : Check) → ChecksFit names checks → CondFits (names ++ more) c.cond →
+    ChecksFit (names ++ more) (checks ++ c ∷ [])
+checks_fit-push checks names more c fits last =
+    All-push (λ (d : Check). CondFits (names ++ more) d.cond) checks c (checks_fit-more checks names more fits) last
+
+-- the needles that all checks name
+pub names-more : (checks : List Check) (names more : List Needle) → ChecksFit names checks →
     flat_map (λ (c : Check). names_of (names ++ more) c.cond) checks ≡ flat_map (λ (c : Check). names_of names c.cond) checks
 names-more [] names more fits = refl
 names-more (c ∷ cs) names more fits =
@@ -101,19 +102,15 @@ names-more (c ∷ cs) names more fits =
     (names-more cs names more (All-tail (λ (d : Check). CondFits names d.cond) c cs fits))
 
 -- the parts still make up the list of names
-pub names-push : (checks : List Check) (names more : List Needle) (c : Check) → ChecksFitIn names checks →
+pub names-push : (checks : List Check) (names more : List Needle) (c : Check) → ChecksFit names checks →
     flat_map (λ (d : Check). names_of names d.cond) checks ≡ names → names_of (names ++ more) c.cond ≡ more →
     flat_map (λ (d : Check). names_of (names ++ more) d.cond) (checks ++ c ∷ []) ≡ names ++ more
 names-push checks names more c fits packed last =
     flat_map-append (λ (d : Check). names_of (names ++ more) d.cond) checks (c ∷ [])
     ∙ ap₂ (λ (a rest : List Needle). a ++ rest) (names-more checks names more fits ∙ packed) (append-nil (names_of (names ++ more) c.cond) ∙ last)
 
--- the parts of the changes lie in the list of segments
-abbrev pub ChangesFitIn : List Seg → List Change → Type 0
-ChangesFitIn segs changes = All (λ (c : Change). c.part.start + c.part.len ≤ length segs) changes
-
 -- all changes
-pub changes-more : (changes : List Change) (segs more : List Seg) → ChangesFitIn segs changes → map (changed_of (segs ++ more)) changes ≡ map (changed_of segs) changes
+pub changes-more : (changes : List Change) (segs more : List Seg) → PartsFit segs changes → map (changed_of (segs ++ more)) changes ≡ map (changed_of segs) changes
 changes-more [] segs more fits = refl
 changes-more (c ∷ cs) segs more fits =
     ap₂ (λ (a : Changed) (rest : List Changed). a ∷ rest)
@@ -121,20 +118,25 @@ changes-more (c ∷ cs) segs more fits =
     (changes-more cs segs more (All-tail (λ (d : Change). d.part.start + d.part.len ≤ length segs) c cs fits))
 
 -- one more change, whose segments follow
-pub changes-push : (changes : List Change) (segs more : List Seg) (n : Needle) → ChangesFitIn segs changes →
+pub changes-push : (changes : List Change) (segs more : List Seg) (n : Needle) → PartsFit segs changes →
     map (changed_of (segs ++ more)) (changes ++ record { needle = n; part = last_part segs more } ∷ []) ≡ map (changed_of segs) changes ++ (n, more) ∷ []
 changes-push changes segs more n fits =
     map-append (changed_of (segs ++ more)) changes (record { needle = n; part = last_part segs more } ∷ [])
     ∙ ap₂ (λ (a rest : List Changed). a ++ rest) (changes-more changes segs more fits) (ap (λ (s : List Seg). (n, s) ∷ []) (part_of-last segs more))
 
+-- the parts of the changes lie in a longer list
+pub changes_fit-more : (changes : List Change) (segs more : List Seg) → PartsFit segs changes → PartsFit (segs ++ more) changes
+changes_fit-more changes segs more fits k d below = let before = fits k d below in omega (arith, before, length-append segs more)
+
 -- all parts lie in the longer list of segments
-pub changes_fit-push : (changes : List Change) (segs more : List Seg) (n : Needle) → ChangesFitIn segs changes →
-    ChangesFitIn (segs ++ more) (changes ++ record { needle = n; part = last_part segs more } ∷ [])
+pub changes_fit-push : (changes : List Change) (segs more : List Seg) (n : Needle) → PartsFit segs changes →
+    PartsFit (segs ++ more) (changes ++ record { needle = n; part = last_part segs more } ∷ [])
 changes_fit-push changes segs more n fits =
     All-push (λ (c : Change). c.part.start + c.part.len ≤ length (segs ++ more)) changes (record { needle = n; part = last_part segs more })
-    (λ k d below. let before = fits k d below in omega (arith, before, length-append segs more)) (omega (arith, length-append segs more))
+    (changes_fit-more changes segs more fits) (omega (arith, length-append segs more))
 
-segs-more : (changes : List Change) (segs more : List Seg) → ChangesFitIn segs changes →
+-- the segments of all changes
+pub segs-more : (changes : List Change) (segs more : List Seg) → PartsFit segs changes →
     flat_map (λ (c : Change). part_of (segs ++ more) c.part) changes ≡ flat_map (λ (c : Change). part_of segs c.part) changes
 segs-more [] segs more fits = refl
 segs-more (c ∷ cs) segs more fits =
@@ -142,7 +144,7 @@ segs-more (c ∷ cs) segs more fits =
     (segs-more cs segs more (All-tail (λ (d : Change). d.part.start + d.part.len ≤ length segs) c cs fits))
 
 -- the parts still make up the list of segments
-pub segs-push : (changes : List Change) (segs more : List Seg) (n : Needle) → ChangesFitIn segs changes →
+pub segs-push : (changes : List Change) (segs more : List Seg) (n : Needle) → PartsFit segs changes →
     flat_map (λ (c : Change). part_of segs c.part) changes ≡ segs →
     flat_map (λ (c : Change). part_of (segs ++ more) c.part) (changes ++ record { needle = n; part = last_part segs more } ∷ []) ≡ segs ++ more
 segs-push changes segs more n fits packed =

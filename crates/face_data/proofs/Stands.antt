@@ -23,7 +23,7 @@ use Rattle.face_data.specs.Segments.{Changed}
 use Rattle.face_data.specs.Stands.{StandsFor, outcome_of_run}
 use Rattle.face_data.specs.Summaries.{Asked, Summary, Outcome, applied, first_fault, outcome_of}
 use Rattle.face_data.specs.Summaries.Outcome.{went_on, faulted}
-use Rattle.face_data.proofs.Good.{fair_from_good, composed_good, composed_runs_both, composed_runs_fair}
+use Rattle.face_data.proofs.Goodness.{composed_good, composed_runs_both, composed_runs_fair}
 
 closed_lines : (stop : Option Fault) (checks : List Asked) (e : Effect) (a b : Summary) → (closed_at stop checks e a b).lines ≡ a.lines + b.lines
 closed_lines (Some fault) checks e a b = refl
@@ -168,4 +168,4 @@ stands_fair profile carriers limit first second a b xs ys ga gb sa sb = record {
 pub stands_both : (profile : Profile) (carriers limit : ℕ) (first second : List Needle) (a b : Summary) (xs ys : List Read) → IsGood carriers limit first a →
     IsGood carriers limit second b → StandsFor profile a xs → StandsFor profile b ys → StandsFor profile (composed a b) (xs ++ ys)
 stands_both profile carriers limit first second a b xs ys ga gb sa sb =
-    stands_fair profile carriers limit first second a b xs ys ga (fair_from_good carriers limit second b gb) sa sb
+    stands_fair profile carriers limit first second a b xs ys ga gb.fair sa sb

@@ -10,7 +10,7 @@ use Rattle.face_data.specs.Answers.{Answer}
 use Rattle.face_data.specs.Answers.Answer.{yes_it_does, no_it_does_not, asks}
 use Rattle.face_data.specs.Bearings.{if_so}
 use Rattle.face_data.specs.Composition.{from_bearing}
-use Rattle.face_data.specs.Digests.{told}
+use Rattle.face_data.specs.Digests.{digest_bearing}
 use Rattle.face_data.specs.Conditions.{Ask}
 use Rattle.face_data.specs.Conditions.Ask.{size_at_most}
 use Rattle.face_data.specs.Summaries.{Asked}
@@ -38,14 +38,14 @@ abbrev pub is_covered : List SizeMark → ℕ → ℕ → Bool
 is_covered chain len most = list_any (covers len most) chain
 
 -- what the chain of the first needle says of a condition on sizes
-abbrev pub size_told : (Needle → List SizeMark) → List Needle → ℕ → Bearing
-size_told chains [] most = Silent
-size_told chains (n ∷ names) most = if_so (is_covered (chains n) (length (n ∷ names)) most) Implied
+abbrev pub chain_bearing : (Needle → List SizeMark) → List Needle → ℕ → Bearing
+chain_bearing chains [] most = Silent
+chain_bearing chains (n ∷ names) most = if_so (is_covered (chains n) (length (n ∷ names)) most) Implied
 
 -- what a digest and chains say of a condition
 abbrev pub known_of : Digest → (Needle → List SizeMark) → Ask → Answer
-known_of digest chains (size_at_most names most) = from_bearing (size_told chains names most) (asks (size_at_most names most))
-known_of digest chains ask = from_bearing (told digest ask) (asks ask)
+known_of digest chains (size_at_most names most) = from_bearing (chain_bearing chains names most) (asks (size_at_most names most))
+known_of digest chains ask = from_bearing (digest_bearing digest ask) (asks ask)
 
 -- the same of an answer: only a condition is left to ask
 abbrev pub answer_known : Digest → (Needle → List SizeMark) → Answer → Answer

@@ -54,18 +54,18 @@ against_kept kept no_it_does_not = no_it_does_not
 against_kept kept (asks ask) = settled kept ask
 
 -- the conditions that are kept, and the fault at which both blocks are known to stop
-pub record Gathered : Type 0 where
+pub record Gathering : Type 0 where
   pub checks : List Asked
   pub stop : Option Fault
 
 -- a condition with this answer and this fault, and then the others
-abbrev pub next : Answer → List Asked → Fault → (List Asked → Gathered) → Gathered
+abbrev pub next : Answer → List Asked → Fault → (List Asked → Gathering) → Gathering
 next yes_it_does kept fault go = go kept
 next no_it_does_not kept fault go = record { checks = kept; stop = Some fault }
 next (asks ask) kept fault go = go (kept ++ record { fault = fault; ask = ask } ∷ [])
 
 -- the second block's conditions, read through the first block's effect, changes and lines, and held against those kept so far
-unfoldable pub reads : Effect → List Changed → ℕ → List Asked → List Asked → Gathered
+unfoldable pub reads : Effect → List Changed → ℕ → List Asked → List Asked → Gathering
 reads effect changes lines kept [] = record { checks = kept; stop = None }
 reads effect changes lines kept (c ∷ cs) =
     next (against_kept kept (read_answer effect changes c.ask)) kept (raised lines c.fault) (λ ks. reads effect changes lines ks cs)
@@ -111,7 +111,7 @@ closed_at None checks effect a b = record {
 }
 
 -- the same of what was gathered
-abbrev pub closed : Gathered → Effect → Summary → Summary → Summary
+abbrev pub closed : Gathering → Effect → Summary → Summary → Summary
 closed gathered effect a b = closed_at gathered.stop gathered.checks effect a b
 
 -- nothing is asked after a block that ends broken

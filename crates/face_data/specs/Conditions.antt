@@ -70,6 +70,11 @@ unmet_rack (Some c) s = unless (holds (rack_is c.1.0) s) c.0
 abbrev pub unmet_size : SizeAsk → State → Option Reason
 unmet_size ask s = unless (int_le (pos (size_of ask.entries s)) ask.max) ask.reason
 
+-- the reason of the first condition on sizes that isn't met
+abbrev pub first_unmet_size : List SizeAsk → State → Option Reason
+first_unmet_size [] s = None
+first_unmet_size (ask ∷ asks) s = or_else (unmet_size ask s) (first_unmet_size asks s)
+
 -- the same of a condition that may be asked or not
 abbrev pub unmet_size_if_any : Option SizeAsk → State → Option Reason
 unmet_size_if_any None s = None

@@ -32,30 +32,30 @@ abbrev pub digest_of : List Asked → Digest
 digest_of kept = fold (λ digest (c : Asked). noted digest c.ask) blank kept
 
 -- what a value that is known says
-abbrev pub told_by : {X : Type 0} → Option X → (X → Bearing) → Bearing
-told_by None says = Silent
-told_by (Some x) says = says x
+abbrev pub bearing_by : {X : Type 0} → Option X → (X → Bearing) → Bearing
+bearing_by None says = Silent
+bearing_by (Some x) says = says x
 
 -- what the digest says of a condition that isn't on sizes
-unfoldable pub told : Digest → Ask → Bearing
-told digest (rack_is q) = told_by digest.rack (λ p. same_or_not (int_eq p.0 q))
-told digest (carrier_in c) = if contains_carrier digest.ins c then Implied else if_so (contains_carrier digest.outs c) Refuted
-told digest (carrier_out c) = if contains_carrier digest.outs c then Implied else if_so (contains_carrier digest.ins c) Refuted
-told digest hook_free = told_by digest.hook (λ held. same_or_not (nat_eq held 0))
-told digest (hook_is set) = told_by digest.hook (λ held. same_or_not (nat_eq held set))
-told digest (hook_lacks c) =
-    if contains_carrier digest.lacks c then Implied else told_by digest.hook (λ held. if_so (lacks_carrier held c) Implied)
-told digest (size_at_most names most) = Silent
+unfoldable pub digest_bearing : Digest → Ask → Bearing
+digest_bearing digest (rack_is q) = bearing_by digest.rack (λ p. same_or_not (int_eq p.0 q))
+digest_bearing digest (carrier_in c) = if contains_carrier digest.ins c then Implied else if_so (contains_carrier digest.outs c) Refuted
+digest_bearing digest (carrier_out c) = if contains_carrier digest.outs c then Implied else if_so (contains_carrier digest.ins c) Refuted
+digest_bearing digest hook_free = bearing_by digest.hook (λ held. same_or_not (nat_eq held 0))
+digest_bearing digest (hook_is set) = bearing_by digest.hook (λ held. same_or_not (nat_eq held set))
+digest_bearing digest (hook_lacks c) =
+    if contains_carrier digest.lacks c then Implied else bearing_by digest.hook (λ held. if_so (lacks_carrier held c) Implied)
+digest_bearing digest (size_at_most names most) = Silent
 
 -- what is known, after a block of this effect, of a condition that isn't on sizes
-unfoldable pub effect_told : Effect → Ask → Bearing
-effect_told effect (rack_is q) = told_by effect.rack (λ p. same_or_not (int_eq p.0 q))
-effect_told effect (carrier_in c) = if contains_carrier effect.came c then Implied else if_so (contains_carrier effect.went c) Refuted
-effect_told effect (carrier_out c) = if contains_carrier effect.came c then Refuted else if_so (contains_carrier effect.went c) Implied
-effect_told effect hook_free = told_by effect.hook (λ held. same_or_not (nat_eq held 0))
-effect_told effect (hook_is set) = told_by effect.hook (λ held. same_or_not (nat_eq held set))
-effect_told effect (hook_lacks c) = told_by effect.hook (λ held. same_or_not (lacks_carrier held c))
-effect_told effect (size_at_most names most) = Silent
+unfoldable pub effect_bearing : Effect → Ask → Bearing
+effect_bearing effect (rack_is q) = bearing_by effect.rack (λ p. same_or_not (int_eq p.0 q))
+effect_bearing effect (carrier_in c) = if contains_carrier effect.came c then Implied else if_so (contains_carrier effect.went c) Refuted
+effect_bearing effect (carrier_out c) = if contains_carrier effect.came c then Refuted else if_so (contains_carrier effect.went c) Implied
+effect_bearing effect hook_free = bearing_by effect.hook (λ held. same_or_not (nat_eq held 0))
+effect_bearing effect (hook_is set) = bearing_by effect.hook (λ held. same_or_not (nat_eq held set))
+effect_bearing effect (hook_lacks c) = bearing_by effect.hook (λ held. same_or_not (lacks_carrier held c))
+effect_bearing effect (size_at_most names most) = Silent
 
 -- the condition isn't on sizes
 abbrev pub IsPlainCondition : Ask → Type 0

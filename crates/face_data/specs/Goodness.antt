@@ -15,7 +15,7 @@ use Rattle.face_data.specs.Bearings.{bearing}
 use Rattle.face_data.specs.declared.bearing.Bearing.TheVariants.{Silent}
 use Rattle.face_data.specs.Conditions.{Ask}
 use Rattle.face_data.specs.Conditions.Ask.{rack_is, carrier_in, carrier_out, hook_free, hook_is, hook_lacks, size_at_most}
-use Rattle.face_data.specs.Segments.{Changed, contents_of, entries_of, new_of}
+use Rattle.face_data.specs.Segments.{Changed, segments_on, entries_of, new_of}
 use Rattle.face_data.specs.Sets.{IsDistinct, IsWithin, IsApart, NestedOrApart}
 use Rattle.face_data.specs.Summaries.{Asked, Summary}
 
@@ -24,17 +24,17 @@ abbrev pub IsInOrder : List Changed → Type 0
 IsInOrder changes = IsStrictlySortedBy needle_cmp (map (λ (c : Changed). c.0) changes)
 
 -- the needles whose entry stands in what this needle holds at the end
-abbrev pub held : List Changed → Needle → List Needle
-held changes m = entries_of (contents_of changes m)
+abbrev pub entries_on : List Changed → Needle → List Needle
+entries_on changes m = entries_of (segments_on changes m)
 
 -- each entry stands at most once in what all needles hold at the end; an unchanged needle holds its own
 pub record OwnsOnce (changes : List Changed) : Type 0 where
-  pub distinct : (m : Needle) → IsDistinct (held changes m)
-  pub owner : (m other n : Needle) → Contains (held changes m) n → Contains (held changes other) n → m ≡ other
+  pub distinct : (m : Needle) → IsDistinct (entries_on changes m)
+  pub owner : (m other n : Needle) → Contains (entries_on changes m) n → Contains (entries_on changes other) n → m ≡ other
 
 -- the needles lie within what one needle holds at the end, or apart from what any holds
 abbrev pub LiesIn : List Changed → List Needle → Type 0
-LiesIn changes xs = ((m : Needle) × IsWithin xs (held changes m)) ⊎ ((m : Needle) → IsApart xs (held changes m))
+LiesIn changes xs = ((m : Needle) × IsWithin xs (entries_on changes m)) ⊎ ((m : Needle) → IsApart xs (entries_on changes m))
 
 -- no condition says anything of a later one: neither that it holds nor that it doesn't
 abbrev pub IsIrredundant : List Asked → Type 0
@@ -52,7 +52,7 @@ MeetsSizes checks size = (c : Asked) → Contains checks c → MeetsSize c.ask s
 
 -- the size that a needle has after the block, by the sizes at entry
 abbrev pub size_after : List Changed → (Needle → ℕ) → Needle → ℕ
-size_after changes size m = sum_by size (held changes m) + new_of (contents_of changes m)
+size_after changes size m = sum_by size (entries_on changes m) + new_of (segments_on changes m)
 
 -- a condition on sizes names at least one needle, each once and of the known ones
 pub record SizeFits (limit : ℕ) (known names : List Needle) (most : ℕ) : Type 0 where
@@ -107,21 +107,7 @@ abbrev pub EndingFits : ℕ → Summary → Ending → Type 0
 EndingFits carriers summary (Broken fault) = BrokenFits summary fault
 EndingFits carriers summary (Through effect) = ThroughFits carriers summary effect
 
--- the summary is good for so many carriers, a limit on the loops of a needle, and known needles
-pub record IsGood (carriers limit : ℕ) (known : List Needle) (summary : Summary) : Type 0 where
-  pub made : summary.made ≤ summary.lines
-  pub asks_fit : (c : Asked) → Contains summary.checks c → AskFits carriers limit known c.ask
-  pub within : (c : Asked) → Contains summary.checks c → c.fault.line < summary.lines
-  pub in_turn : NeverFalls summary.checks
-  pub irredundant : IsIrredundant summary.checks
-  pub nested : (c d : Asked) → Contains summary.checks c → Contains summary.checks d → NestedOrApart (names_in c.ask) (names_in d.ask)
-  pub in_order : IsInOrder summary.changes
-  pub changes_fit : (c : Changed) → Contains summary.changes c → ChangeFits summary.lines known c
-  pub owns : OwnsOnce summary.changes
-  pub sizes : (size : Needle → ℕ) → ((n : Needle) → size n ≤ limit) → MeetsSizes summary.checks size → (m : Needle) → size_after summary.changes size m ≤ limit
-  pub ending : EndingFits carriers summary summary.ending
-
--- the same of a summary some of whose conditions may say something of later ones
+-- the summary is fair for so many carriers, a limit on the loops of a needle, and known needles
 pub record IsFair (carriers limit : ℕ) (known : List Needle) (summary : Summary) : Type 0 where
   pub made : summary.made ≤ summary.lines
   pub asks_fit : (c : Asked) → Contains summary.checks c → AskFits carriers limit known c.ask
@@ -133,3 +119,8 @@ pub record IsFair (carriers limit : ℕ) (known : List Needle) (summary : Summar
   pub owns : OwnsOnce summary.changes
   pub sizes : (size : Needle → ℕ) → ((n : Needle) → size n ≤ limit) → MeetsSizes summary.checks size → (m : Needle) → size_after summary.changes size m ≤ limit
   pub ending : EndingFits carriers summary summary.ending
+
+-- the summary is good: it is fair, and no condition says anything of a later one
+pub record IsGood (carriers limit : ℕ) (known : List Needle) (summary : Summary) : Type 0 where
+  pub fair : IsFair carriers limit known summary
+  pub irredundant : IsIrredundant summary.checks

@@ -7,7 +7,7 @@ pub mod Digests
 pub mod Drafts
 pub mod Goodness
 pub mod Items
-pub mod Kept
+pub mod Storage
 pub mod Segments
 pub mod Sets
 pub mod Sizes

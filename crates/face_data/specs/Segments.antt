@@ -21,8 +21,8 @@ abbrev pub segs_or_own : Option (List Seg) → Needle → List Seg
 segs_or_own segs n = unwrap_or segs (Entry n ∷ [])
 
 -- what the needle holds: one that the changes don't name holds its own entry
-abbrev pub contents_of : List Changed → Needle → List Seg
-contents_of changes n = segs_or_own (change_at changes n) n
+abbrev pub segments_on : List Changed → Needle → List Seg
+segments_on changes n = segs_or_own (change_at changes n) n
 
 -- a segment read in the state at entry, where the block begins at line `first`
 abbrev pub read_seg : State → ℕ → Seg → List ℕ
@@ -53,12 +53,12 @@ new_of segs = sum_by new_in segs
 
 -- the needles whose stacks at entry stand on these needles
 abbrev pub names_through : List Changed → List Needle → List Needle
-names_through changes names = flat_map (λ n. entries_of (contents_of changes n)) names
+names_through changes names = flat_map (λ n. entries_of (segments_on changes n)) names
 
 -- how many new loops stand on these needles
 abbrev pub new_through : List Changed → List Needle → ℕ
-new_through changes names = sum_by (λ n. new_of (contents_of changes n)) names
+new_through changes names = sum_by (λ n. new_of (segments_on changes n)) names
 
 -- the stacks are what the changes say, in a block that was entered in state s at line `first`
 abbrev pub AreRead : List Changed → State → ℕ → (Needle → List ℕ) → Type 0
-AreRead changes s first stacks = (n : Needle) → stacks n ≡ read_segs s first (contents_of changes n)
+AreRead changes s first stacks = (n : Needle) → stacks n ≡ read_segs s first (segments_on changes n)

@@ -10,7 +10,7 @@ use Rattle.face_data.specs.declared.face.Effect.{Effect}
 use Rattle.face_data.specs.declared.face.Ending.{Ending}
 use Rattle.face_data.specs.declared.face.Ending.TheVariants.{Through, Broken}
 use Rattle.face_data.specs.Conditions.{Ask, holds}
-use Rattle.face_data.specs.Segments.{Changed, contents_of, read_segs}
+use Rattle.face_data.specs.Segments.{Changed, segments_on, read_segs}
 
 -- a condition, and the fault where it doesn't hold
 pub record Asked : Type 0 where
@@ -55,7 +55,7 @@ after effect changes s first = record {
   rack = rack_after effect.rack s.rack;
   ins = ins_after effect s.ins;
   hook = hook_after effect s.hook;
-  stacks = λ n. read_segs s first (contents_of changes n);
+  stacks = λ n. read_segs s first (segments_on changes n);
 }
 
 -- the fault, its line raised

@@ -3,11 +3,11 @@ use Rattle.std.specs.Prelude.{ℕ, ◌+◌, List, [], ◌∷◌, map}
 use Rattle.std.specs.List.{flat_map}
 use Rattle.face_data.specs.declared.face.Seg.{Seg}
 use Rattle.face_data.specs.declared.face.Seg.TheVariants.{Entry, New}
-use Rattle.face_data.specs.Segments.{Changed, contents_of}
+use Rattle.face_data.specs.Segments.{Changed, segments_on}
 
 -- a segment of the second block, where the first one makes these changes and has so many lines
 abbrev pub piece : List Changed → ℕ → Seg → List Seg
-piece changes lines (Entry n) = contents_of changes n
+piece changes lines (Entry n) = segments_on changes n
 piece changes lines (New offset) = New (lines + offset) ∷ []
 
 -- segments of the second block, one after the other

@@ -40,10 +40,18 @@ abbrev pub CondFits : List Needle → Cond → Type 0
 CondFits names (SizeAtMost p most) = p.start + p.len ≤ length names
 CondFits names cond = Unit {0}
 
+-- the parts of the checks lie in the list of names
+abbrev pub ChecksFit : List Needle → List Check → Type 0
+ChecksFit names checks = All (λ (c : Check). CondFits names c.cond) checks
+
+-- the parts of the changes lie in the list of segments
+abbrev pub PartsFit : List Seg → List Change → Type 0
+PartsFit segs changes = All (λ (c : Change). c.part.start + c.part.len ≤ length segs) changes
+
 -- each part lies in its list; those of the checks, in their order, make up the list of names, and those of the changes the
 -- list of segments
 pub record IsPacked (view : FaceView) : Type 0 where
-  pub checks_fit : All (λ (c : Check). CondFits view.names.now c.cond) view.checks.now
-  pub changes_fit : All (λ (c : Change). c.part.start + c.part.len ≤ length view.segs.now) view.changes.now
+  pub checks_fit : ChecksFit view.names.now view.checks.now
+  pub changes_fit : PartsFit view.segs.now view.changes.now
   pub names : flat_map (λ (c : Check). names_of view.names.now c.cond) view.checks.now ≡ view.names.now
   pub segs : flat_map (λ (c : Change). part_of view.segs.now c.part) view.changes.now ≡ view.segs.now

@@ -1,15 +1,15 @@
 //! What conditions that are kept ask, at a glance.
-ghost use Rattle.std.specs.Prelude.{◌≡◌, ◌<◌, List, nat_eq, if◌then◌else◌};
+ghost use Rattle.std.specs.Prelude.{◌≡◌, ◌<◌, List, if◌then◌else◌};
 ghost use Rattle.knit_base.specs.declared.needle.Needle.{Needle};
 ghost use Rattle.face_data.specs.Conditions.{ask_of};
 ghost use Rattle.knit_base.specs.Yarns.{contains_carrier, lacks_carrier};
-ghost use Rattle.face_data.specs.declared.bearing.Bearing.TheVariants.{Implied, Refuted, Silent};
-ghost use Rattle.face_data.specs.Bearings.{if_so, same_or_not};
-ghost use Rattle.face_data.specs.Digests.{blank, noted, told, told_by, CarrierFits};
+ghost use Rattle.face_data.specs.declared.bearing.Bearing.TheVariants.{Implied};
+ghost use Rattle.face_data.specs.Bearings.{if_so};
+ghost use Rattle.face_data.specs.Digests.{blank, noted, digest_bearing, bearing_by, CarrierFits};
 
-use crate::bearing::{has_carrier, implied_if, implied_or_refuted};
+use crate::bearing::{carrier_bearing, hook_bearing, implied_if, implied_or_refuted};
 use crate::{Bearing, Cond};
-use knit_base::{CarrierNo, Quarter};
+use knit_base::{CarrierNo, Quarter, is_in_set};
 
 /// What kept conditions ask of the rack, of the carriers that are to be in action and of those that aren't, and of the hook:
 /// which set it is to hold, and which carriers it is to lack. Each set has a bit for each carrier.
@@ -54,58 +54,40 @@ impl Digest {
     }
 
     /// What the conditions say of another one that isn't on sizes.
-    #[tactic(auto, unfolding(crate::specs::Digests::told))]
-    pub fn told(&self, cond: Cond) -> Bearing
+    #[tactic(auto, unfolding(crate::specs::Digests::digest_bearing))]
+    pub fn bearing_on(&self, cond: Cond) -> Bearing
         requires { CarrierFits cond }
-        ensures { (names : List Needle) → result ≡ told self.now (ask_of names cond) }
+        ensures { (names : List Needle) → result ≡ digest_bearing self.now (ask_of names cond) }
     {
         match cond {
             Cond::RackIs(q) => match self.rack {
                 None => Bearing::Silent,
                 Some(p) => implied_or_refuted(p.0 == q.0),
             },
-            Cond::CarrierIn(c) => in_the_first(c, self.ins, self.outs),
-            Cond::CarrierOut(c) => in_the_first(c, self.outs, self.ins),
-            Cond::HookFree => self.told_hook(0),
-            Cond::HookIs(set) => self.told_hook(set),
-            Cond::HookLacks(c) => self.told_lacks(c),
+            Cond::CarrierIn(c) => {
+                carrier_bearing(c, self.ins, Bearing::Implied, self.outs, Bearing::Refuted)
+            }
+            Cond::CarrierOut(c) => {
+                carrier_bearing(c, self.outs, Bearing::Implied, self.ins, Bearing::Refuted)
+            }
+            Cond::HookFree => hook_bearing(self.hook, 0),
+            Cond::HookIs(set) => hook_bearing(self.hook, set),
+            Cond::HookLacks(c) => self.bearing_on_lack(c),
             Cond::SizeAtMost(_, _) => Bearing::Silent,
         }
     }
 
-    fn told_hook(&self, set: u64) -> Bearing
-        ensures { result ≡ told_by self.now.hook (λ held. same_or_not (nat_eq held set)) }
-    {
-        match self.hook {
-            None => Bearing::Silent,
-            Some(held) => implied_or_refuted(held == set),
-        }
-    }
-
-    fn told_lacks(&self, c: CarrierNo) -> Bearing
+    // What the conditions say of one that the hook lacks this carrier.
+    fn bearing_on_lack(&self, c: CarrierNo) -> Bearing
         requires { c.0 < 64 }
-        ensures { result ≡ (if contains_carrier self.now.lacks c then Implied else told_by self.now.hook (λ held. if_so (lacks_carrier held c) Implied)) }
+        ensures { result ≡ (if contains_carrier self.now.lacks c then Implied else bearing_by self.now.hook (λ held. if_so (lacks_carrier held c) Implied)) }
     {
-        if has_carrier(self.lacks, c) {
+        if is_in_set(self.lacks, c) {
             return Bearing::Implied;
         }
         match self.hook {
             None => Bearing::Silent,
-            Some(held) => implied_if(!has_carrier(held, c)),
+            Some(held) => implied_if(!is_in_set(held, c)),
         }
-    }
-}
-
-// Of two sets without a common carrier.
-fn in_the_first(c: CarrierNo, first: u64, second: u64) -> Bearing
-    requires { c.0 < 64 }
-    ensures { result ≡ (if contains_carrier first c then Implied else if_so (contains_carrier second c) Refuted) }
-{
-    if has_carrier(first, c) {
-        Bearing::Implied
-    } else if has_carrier(second, c) {
-        Bearing::Refuted
-    } else {
-        Bearing::Silent
     }
 }

@@ -1,16 +1,14 @@
 //! What two blocks change together, and what a block that changes so much says of a condition that is asked after it.
-ghost use Rattle.std.specs.Prelude.{◌≡◌, ◌<◌, List, nat_eq, if◌then◌else◌};
+ghost use Rattle.std.specs.Prelude.{◌≡◌, List};
 ghost use Rattle.knit_base.specs.declared.needle.Needle.{Needle};
-ghost use Rattle.knit_base.specs.Yarns.{contains_carrier, without_set};
-ghost use Rattle.face_data.specs.declared.bearing.Bearing.TheVariants.{Implied, Refuted};
-ghost use Rattle.face_data.specs.Bearings.{if_so, same_or_not};
+ghost use Rattle.knit_base.specs.Yarns.{without_set};
 ghost use Rattle.face_data.specs.Conditions.{ask_of};
-ghost use Rattle.face_data.specs.Digests.{CarrierFits, effect_told, told_by};
+ghost use Rattle.face_data.specs.Digests.{CarrierFits, effect_bearing};
 ghost use Rattle.face_data.specs.Composition.{effect_of_both, or_old};
 
-use crate::bearing::{has_carrier, implied_or_refuted};
+use crate::bearing::{carrier_bearing, hook_bearing, implied_or_refuted};
 use crate::{Bearing, Cond, Effect};
-use knit_base::CarrierNo;
+use knit_base::is_in_set;
 
 impl Effect {
     /// Both effects, this one first.
@@ -26,48 +24,30 @@ impl Effect {
     }
 
     /// What is known after the block of a condition that isn't on sizes. Where it is silent the condition is left to ask as it is.
-    #[tactic(auto, unfolding(crate::specs::Digests::effect_told))]
-    pub fn told(&self, cond: Cond) -> Bearing
+    #[inline(always)]
+    #[tactic(auto, unfolding(crate::specs::Digests::effect_bearing))]
+    pub fn bearing_on(&self, cond: Cond) -> Bearing
         requires { CarrierFits cond }
-        ensures { (names : List Needle) → result ≡ effect_told self.now (ask_of names cond) }
+        ensures { (names : List Needle) → result ≡ effect_bearing self.now (ask_of names cond) }
     {
         match cond {
             Cond::RackIs(q) => match self.rack {
                 None => Bearing::Silent,
                 Some(set) => implied_or_refuted(set.0 == q.0),
             },
-            Cond::CarrierIn(c) => self.told_of(c, Bearing::Implied, Bearing::Refuted),
-            Cond::CarrierOut(c) => self.told_of(c, Bearing::Refuted, Bearing::Implied),
-            Cond::HookFree => self.told_hook(0),
-            Cond::HookIs(set) => self.told_hook(set),
+            Cond::CarrierIn(c) => {
+                carrier_bearing(c, self.came, Bearing::Implied, self.went, Bearing::Refuted)
+            }
+            Cond::CarrierOut(c) => {
+                carrier_bearing(c, self.came, Bearing::Refuted, self.went, Bearing::Implied)
+            }
+            Cond::HookFree => hook_bearing(self.hook, 0),
+            Cond::HookIs(set) => hook_bearing(self.hook, set),
             Cond::HookLacks(c) => match self.hook {
                 None => Bearing::Silent,
-                Some(held) => implied_or_refuted(!has_carrier(held, c)),
+                Some(held) => implied_or_refuted(!is_in_set(held, c)),
             },
             Cond::SizeAtMost(_, _) => Bearing::Silent,
-        }
-    }
-
-    // Of a carrier that came, and of one that went.
-    fn told_of(&self, c: CarrierNo, here: Bearing, gone: Bearing) -> Bearing
-        requires { c.0 < 64 }
-        ensures { result ≡ (if contains_carrier self.now.came c then here else if_so (contains_carrier self.now.went c) gone) }
-    {
-        if has_carrier(self.came, c) {
-            here
-        } else if has_carrier(self.went, c) {
-            gone
-        } else {
-            Bearing::Silent
-        }
-    }
-
-    fn told_hook(&self, set: u64) -> Bearing
-        ensures { result ≡ told_by self.now.hook (λ held. same_or_not (nat_eq held set)) }
-    {
-        match self.hook {
-            None => Bearing::Silent,
-            Some(held) => implied_or_refuted(held == set),
         }
     }
 }

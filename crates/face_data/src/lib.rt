@@ -1,35 +1,33 @@
 //! What a block of lines does to a machine's state, kept as a face: conditions on the state at its entry, and changes.
 //!
-//! Promises that `Symbols` keeps the segments of each needle that was touched, that `ask_size` tells how many loops needles may
-//! hold at entry so that they hold few enough now, and that `forming_needle` finds where a loop is formed. `ShortList` is the list of an instruction's few conditions and changes: it promises that its
-//! first four items take no memory but its own.
-//! A `Digest` tells what conditions that are kept say of another one that isn't on sizes, `Effect::told` what a block says of one
-//! that is asked after it, and `Effect::then` puts two effects together.
+//! Promises that `Symbols` keeps the segments of each needle that was touched, and that `ask_size` tells how many loops needles may
+//! hold at entry so that they hold few enough now. `ShortList` is the list of an instruction's few conditions and changes: it
+//! promises that its first four items take no memory but its own. A `Digest` tells what conditions that are kept say of another
+//! one that isn't on sizes, `Effect::bearing_on` what a block says of one that is asked after it, and `Effect::then` puts two
+//! effects together.
 //!
 //! Definitions: `specs/Segments` (what needles hold, in terms of the entry), `specs/Conditions`, `specs/Summaries` (what a
-//! block makes of a state), `specs/View` (a face's lists), `specs/Goodness` with `specs/Bearings` and `specs/Sets`,
-//! and `specs/Kept` (where a short list's items lie). Of two blocks, one after the other: `specs/Through`
-//! and `specs/Answers` (segments and conditions of the second in terms of the first one's entry) and `specs/Composition`
-//! (`composed`). `specs/Stands` says which lines a summary stands for, `specs/Drafts` makes it of single lines, `specs/Items`
-//! counts its items, and `specs/Digests` and `specs/Chains` find what is known of a condition without going through all that
-//! are kept.
+//! block makes of a state), `specs/View` (a face's lists), `specs/Goodness` with `specs/Bearings` and `specs/Sets`, and
+//! `specs/Storage` (where a short list's items lie). Of two blocks, one after the other: `specs/Through` and `specs/Answers`
+//! (segments and conditions of the second in terms of the first one's entry) and `specs/Composition` (`composed`).
+//! `specs/Stands` says which lines a summary stands for, `specs/Drafts` makes it of single lines, `specs/Items` counts its items,
+//! and `specs/Digests` and `specs/Chains` find what is known of a condition without going through all that are kept.
 //!
-//! Lemmas that the crates above cite: `proofs/Good` (two good summaries compose to a good one, which does what both do, one after
-//! the other), `proofs/Stands` (it stands for the lines of both), `proofs/Drafts`, `proofs/Items` (a good summary has at most so
-//! many items), `proofs/Known` (digest and chains tell what is known while conditions are read), `proofs/Front` (nothing is left
-//! to ask), `proofs/Canonical` (changes in order are known by what they say of each needle) and `proofs/Parts` (one more check or
-//! change behind a face's lists). Below this crate stand std,
-//! `knit_base` and `carriage_model`.
+//! Lemmas that the crates above cite: `proofs/Goodness` (two good summaries compose to a good one, which does what both do, one
+//! after the other), `proofs/Stands` (it stands for the lines of both), `proofs/Drafts`, `proofs/Items` (a good summary has at
+//! most so many items), `proofs/KnownAnswers` (digest and chains tell what is known while conditions are read), `proofs/Front`
+//! (nothing is left to ask), `proofs/ChangeEquality` (changes in order are known by what they say of each needle) and
+//! `proofs/Parts` (one more check or change behind a face's lists). Below this crate stand std, `knit_base` and
+//! `carriage_model`.
 #![tactic(auto)]
 
 mod bearing;
 mod digest;
 mod effect;
 mod face;
-mod forming;
-mod kept;
 mod short_list;
 mod sizes;
+mod storage;
 mod symbols;
 #[cfg(test)]
 mod tests;
@@ -37,7 +35,6 @@ mod tests;
 pub use bearing::Bearing;
 pub use digest::Digest;
 pub use face::{Change, Check, Cond, CondList, Effect, Ending, FaceView, Part, Seg, Segs};
-pub use forming::forming_needle;
 pub use short_list::ShortList;
 pub use sizes::{NeedleList, SizeAsk, SizeAsks, ask_size};
-pub use symbols::{SymbolList, Symbols};
+pub use symbols::{SymbolList, Symbols, slot_of};

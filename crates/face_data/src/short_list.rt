@@ -2,7 +2,7 @@
 ghost use Rattle.std.specs.Prelude.{◌≡◌, ◌==◌, ◌+◌, ◌<◌, ◌≤◌, ◌^◌, ◌-◌, [], ◌∷◌, ◌++◌, length, OnOk, OnErr, IsOk, slice_get};
 ghost use Rattle.std.specs.Option.{option_copied};
 
-use crate::kept::Kept;
+use crate::storage::Storage;
 use knit_base::NoMemory;
 use std::alloc::Global;
 use std::marker::Model;
@@ -12,42 +12,42 @@ use std::marker::Model;
 #[derive(Drop)]
 pub struct ShortList<T> {
     alloc: Global,
-    kept: Kept<T>,
+    storage: Storage<T>,
 }
 
 impl<T> Model for ShortList<T> {
     ghost use Rattle.std.specs.Prelude.{List, ◌<◌, ◌^◌, length};
-    ghost use Rattle.face_data.specs.Kept.{items_in, IsNear};
+    ghost use Rattle.face_data.specs.Storage.{items_in, IsNear};
 
     ghost Value = { List T };
 
-    ghost view = { λ l. items_in l.kept };
+    ghost view = { λ l. items_in l.storage };
 
-    ghost invariant = { λ l. (length (items_in l.kept) < 2 ^ 32) × IsNear l.kept };
+    ghost invariant = { λ l. (length (items_in l.storage) < 2 ^ 32) × IsNear l.storage };
 }
 
 impl<T: Drop> ShortList<T> {
-    /// The empty list.
+    /// The empty list, which takes no memory.
     pub fn new(alloc: Global) -> Self
         ensures { result ≡ [] }
     {
         ShortList {
             alloc,
-            kept: Kept::Nothing,
+            storage: Storage::Nothing,
         }
     }
 
-    /// The list of this item alone.
+    /// The list of this item alone, which takes no memory.
     pub fn one(alloc: Global, item: T) -> Self
         ensures { result ≡ item ∷ [] }
     {
         ShortList {
             alloc,
-            kept: Kept::One([item]),
+            storage: Storage::One([item]),
         }
     }
 
-    /// Appends an item.
+    /// Appends an item. The first four take no memory; after `NoMemory` the list is as before.
     pub fn push(&mut self, item: T) -> Result<(), NoMemory>
         requires { length self.old < 2 ^ 32 - 1 }
         ensures ok { OnOk result (self.new ≡ self.old ++ item ∷ []) }
@@ -55,15 +55,17 @@ impl<T: Drop> ShortList<T> {
         ensures in_place { length self.old < 4 → IsOk result }
     {
         let alloc = self.alloc;
-        self.kept.push(alloc, item)
+        self.storage.push(alloc, item)
     }
 
+    /// How many items there are.
     pub fn len(&self) -> u32
         ensures { result ≡ length self.now }
     {
         self.as_slice().len() as u32
     }
 
+    /// Whether there is none.
     pub fn is_empty(&self) -> bool
         ensures { result ≡ (length self.now == 0) }
     {
@@ -77,16 +79,17 @@ impl<T: Drop> ShortList<T> {
         self.as_slice().get(i as usize)
     }
 
+    /// The items, of which there are fewer than 2 ^ 32.
     pub fn as_slice(&self) -> &[T]
         ensures items { result.now ≡ self.now }
         ensures small { length self.now < 2 ^ 32 }
     {
-        self.kept.as_slice()
+        self.storage.as_slice()
     }
 }
 
 impl<T: Copy + Drop> ShortList<T> {
-    /// Appends a copy of each item.
+    /// Appends a copy of each item. Up to four in all take no memory; after `NoMemory` the list is as before.
     pub fn extend_from_slice(&mut self, more: &[T]) -> Result<(), NoMemory>
         requires { length self.old + length more.now < 2 ^ 32 }
         ensures ok { OnOk result (self.new ≡ self.old ++ more.now) }
@@ -94,6 +97,6 @@ impl<T: Copy + Drop> ShortList<T> {
         ensures in_place { length self.old + length more.now ≤ 4 → IsOk result }
     {
         let alloc = self.alloc;
-        self.kept.extend_from_slice(alloc, more)
+        self.storage.extend_from_slice(alloc, more)
     }
 }

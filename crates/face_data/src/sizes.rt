@@ -23,20 +23,21 @@ pub struct SizeAsk {
 /// Conditions on how many loops needles hold.
 pub type SizeAsks = ShortList<SizeAsk>;
 
-/// The condition on the block's entry under which these needles hold together at most `most` loops now.
+/// The condition on the block's entry under which these needles hold together at most `most` loops now. `NoMemory` also comes
+/// where its needles would be more than a `u32` counts.
 pub fn ask_size(
     alloc: Global,
     reason: Reason,
     most: u8,
     needles: &[Needle],
-    contents: &Symbols,
+    segments: &Symbols,
 ) -> Result<SizeAsk, NoMemory>
-    ensures { IfOk result (IsSizeAsk reason most needles.now contents.now) }
+    ensures { IfOk result (IsSizeAsk reason most needles.now segments.now) }
 {
     let mut entries = NeedleList::new(alloc);
     let mut room = u16::from(most) + 1;
     for n in needles {
-        room = add_contents(contents.of(*n), *n, room, &mut entries)?;
+        room = add_segments(segments.of(*n), *n, room, &mut entries)?;
     }
     Ok(SizeAsk {
         reason,
@@ -55,7 +56,7 @@ fn max_of(room: u16) -> i16
 
 // Adds the needles whose entry stands on this needle. `room` is one more than the loops that there is room for, and 0 where
 // there are too many already.
-fn add_contents(
+fn add_segments(
     segs: Option<&Segs>,
     n: Needle,
     room: u16,

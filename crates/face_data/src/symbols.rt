@@ -1,14 +1,14 @@
 //! What the needles hold after some lines of a block.
-ghost use Rattle.std.specs.Prelude.{◌≡◌, ◌+◌, ◌≤◌, ◌<◌, [], ◌∷◌, Some, None, IfOk, IfErr, OnOk, OnErr, length, take, drop, if◌then◌else◌};
+ghost use Rattle.std.specs.Prelude.{◌≡◌, ◌+◌, ◌≤◌, ◌<◌, [], ◌∷◌, ◌++◌, Some, None, IfOk, IfErr, OnOk, OnErr, length, take, drop, if◌then◌else◌};
 ghost use Rattle.std.specs.Option.{option_copied};
 ghost use Rattle.knit_base.specs.declared.needle.Needle.{Needle};
 ghost use Rattle.knit_base.specs.Needle.{same_needle};
 ghost use Rattle.face_data.specs.Composition.{merged};
 ghost use Rattle.face_data.specs.Goodness.{IsInOrder};
 ghost use Rattle.face_data.specs.Places.{StandsAt, GoesAt};
-ghost use Rattle.face_data.specs.Segments.{change_at};
+ghost use Rattle.face_data.specs.Segments.{change_at, segments_on};
 
-use crate::{Segs, ShortList};
+use crate::{Seg, Segs, ShortList};
 use knit_base::{Needle, NoMemory, needle_order};
 use std::alloc::Global;
 use std::cmp::Ordering;
@@ -21,8 +21,8 @@ pub type SymbolList = ShortList<(Needle, Segs)>;
 /// The needles that were touched, in the order of needles, each with the segments that it holds. A needle that wasn't touched
 /// holds its own entry.
 ///
-/// A needle is looked for first where the last one of its number and side was found. `places` has 32 guesses a side; a wrong
-/// one costs a search.
+/// A needle is looked for first where the last one of its slot was found. `places` has a guess for each slot; a wrong one costs
+/// a search.
 #[derive(Drop)]
 pub struct Symbols {
     held: Vec<(Needle, Segs)>,
@@ -57,34 +57,47 @@ impl Symbols {
     pub fn of(&self, n: Needle) -> Option<&Segs>
         ensures { option_copied result ≡ change_at self.now n }
     {
-        match find(&self.held, self.places[guess_of(n)], n) {
+        match find(&self.held, self.places[slot_of(n)], n) {
             Ok(i) => Some(&self.held[i].1),
             Err(_) => None,
         }
     }
 
-    /// Gives the needle these segments, and answers with those that it held, where it was touched.
+    /// Appends the segments that the needle holds: its own entry where it wasn't touched. A list that would pass what a `u32`
+    /// counts is refused as want of memory.
+    pub fn append_segs(&self, n: Needle, segs: &mut Segs) -> Result<(), NoMemory>
+        ensures ok { OnOk result (segs.new ≡ segs.old ++ segments_on self.now n) }
+        ensures err { OnErr result (segs.new ≡ segs.old) }
+    {
+        match self.of(n) {
+            Some(held) => append(held.as_slice(), segs),
+            None => append(&[Seg::Entry(n)], segs),
+        }
+    }
+
+    /// Gives the needle these segments, and answers with those that it held, where it was touched. After `NoMemory` all is as
+    /// before; a needle that was touched needs none.
     pub fn swap(&mut self, n: Needle, segs: Segs) -> Result<Option<Segs>, NoMemory>
         ensures ok { OnOk result (self.new ≡ merged self.old ((n, segs) ∷ [])) }
         ensures was { IfOk result (λ was. was ≡ change_at self.old n) }
         ensures rising { IsInOrder self.new }
         ensures err { OnErr result (self.new ≡ self.old) }
     {
-        match find(&self.held, self.places[guess_of(n)], n) {
+        match find(&self.held, self.places[slot_of(n)], n) {
             Ok(i) => {
-                self.places[guess_of(n)] = (i % 65536) as u16;
+                self.places[slot_of(n)] = (i % 65536) as u16;
                 let place = &mut self.held[i];
                 Ok(Some(mem::replace(&mut place.1, segs)))
             }
             Err(i) => {
-                self.places[guess_of(n)] = (i % 65536) as u16;
+                self.places[slot_of(n)] = (i % 65536) as u16;
                 self.held.insert(i, (n, segs))?;
                 Ok(None)
             }
         }
     }
 
-    /// Gives the needle these segments, whether it was touched or not, and leaves all others.
+    /// Gives the needle these segments, whether it was touched or not, and leaves all others. After `NoMemory` all is as before.
     pub fn set(&mut self, n: Needle, segs: Segs) -> Result<(), NoMemory>
         ensures ok { OnOk result ((m : Needle) → change_at self.new m ≡ (if same_needle n m then Some segs else change_at self.old m)) }
         ensures rising { IsInOrder self.new }
@@ -110,8 +123,8 @@ impl Symbols {
     }
 }
 
-// Which guess is that of the needle.
-fn guess_of(n: Needle) -> usize
+/// Which of 64 slots is that of the needle: by its side, and by its number modulo 32. Other needles may have the same.
+pub fn slot_of(n: Needle) -> usize
     ensures { result < 64 }
 {
     let side = if n.bed.is_front() { 0 } else { 32 };
@@ -147,4 +160,15 @@ fn search(held: &[(Needle, Segs)], n: Needle) -> Result<usize, usize>
         }
     }
     Err(low)
+}
+
+fn append(more: &[Seg], segs: &mut Segs) -> Result<(), NoMemory>
+    ensures ok { OnOk result (segs.new ≡ segs.old ++ more.now) }
+    ensures err { OnErr result (segs.new ≡ segs.old) }
+{
+    let room = u32::MAX - segs.len();
+    if more.len() > room as usize {
+        return Err(NoMemory);
+    }
+    segs.extend_from_slice(more)
 }

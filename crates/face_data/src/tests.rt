@@ -1,6 +1,6 @@
 //! Each public call once, with ample memory.
-use crate::{Bearing, Cond, Digest, Effect, Seg, Segs, Symbols, ask_size, forming_needle};
-use knit_base::{Bed, CarrierNo, Instr, Needle, Quarter, Reason, Rule};
+use crate::{Bearing, Cond, Digest, Effect, Seg, Segs, Symbols, ask_size};
+use knit_base::{Bed, CarrierNo, Needle, Quarter, Reason, Rule};
 use std::test::Fail;
 
 const FRONT: Needle = Needle {
@@ -62,34 +62,33 @@ fn a_list_outgrows_its_places(rt: HostRuntime) -> Result<(), Fail> {
 }
 
 #[test]
-fn a_transfer_forms_no_loop(rt: HostRuntime) -> Result<(), Fail> {
-    let transfer = Instr::Xfer(FRONT, BACK);
-    assert_eq!(rt; forming_needle(&transfer), None);
-    Ok(())
-}
-
-#[test]
 fn a_digest_tells_what_is_kept(rt: HostRuntime) -> Result<(), Fail> {
     let mut digest = Digest::blank();
-    assert_eq!(rt; digest.told(Cond::HookFree), Bearing::Silent);
+    assert_eq!(rt; digest.bearing_on(Cond::HookFree), Bearing::Silent);
     digest.note(Cond::CarrierIn(CarrierNo(3)));
     digest.note(Cond::HookFree);
     digest.note(Cond::RackIs(Quarter(4)));
     assert_eq!(rt;
-        digest.told(Cond::CarrierIn(CarrierNo(3))),
+        digest.bearing_on(Cond::CarrierIn(CarrierNo(3))),
         Bearing::Implied
     );
     assert_eq!(rt;
-        digest.told(Cond::CarrierOut(CarrierNo(3))),
+        digest.bearing_on(Cond::CarrierOut(CarrierNo(3))),
         Bearing::Refuted
     );
-    assert_eq!(rt; digest.told(Cond::CarrierIn(CarrierNo(4))), Bearing::Silent);
-    assert_eq!(rt; digest.told(Cond::HookIs(0)), Bearing::Implied);
     assert_eq!(rt;
-        digest.told(Cond::HookLacks(CarrierNo(63))),
+        digest.bearing_on(Cond::CarrierIn(CarrierNo(4))),
+        Bearing::Silent
+    );
+    assert_eq!(rt; digest.bearing_on(Cond::HookIs(0)), Bearing::Implied);
+    assert_eq!(rt;
+        digest.bearing_on(Cond::HookLacks(CarrierNo(63))),
         Bearing::Implied
     );
-    assert_eq!(rt; digest.told(Cond::RackIs(Quarter(0))), Bearing::Refuted);
+    assert_eq!(rt;
+        digest.bearing_on(Cond::RackIs(Quarter(0))),
+        Bearing::Refuted
+    );
     Ok(())
 }
 
@@ -114,9 +113,21 @@ fn who_came_may_go(rt: HostRuntime) -> Result<(), Fail> {
         hook: Some(2),
     };
     assert_eq!(rt; first.then(&second), both);
-    assert_eq!(rt; both.told(Cond::CarrierIn(CarrierNo(1))), Bearing::Implied);
-    assert_eq!(rt; both.told(Cond::CarrierIn(CarrierNo(0))), Bearing::Refuted);
-    assert_eq!(rt; both.told(Cond::CarrierIn(CarrierNo(5))), Bearing::Silent);
-    assert_eq!(rt; both.told(Cond::HookLacks(CarrierNo(1))), Bearing::Refuted);
+    assert_eq!(rt;
+        both.bearing_on(Cond::CarrierIn(CarrierNo(1))),
+        Bearing::Implied
+    );
+    assert_eq!(rt;
+        both.bearing_on(Cond::CarrierIn(CarrierNo(0))),
+        Bearing::Refuted
+    );
+    assert_eq!(rt;
+        both.bearing_on(Cond::CarrierIn(CarrierNo(5))),
+        Bearing::Silent
+    );
+    assert_eq!(rt;
+        both.bearing_on(Cond::HookLacks(CarrierNo(1))),
+        Bearing::Refuted
+    );
     Ok(())
 }

@@ -8,7 +8,7 @@ use Rattle.knit_base.specs.Reasons.{broken_if}
 use Rattle.carriage_model.specs.Rules.{slider_holds}
 use Rattle.carriage_model.specs.State.{State}
 use Rattle.face_data.specs.Conditions.{size_of, unless}
-use Rattle.face_data.proofs.Unmet.{broken-unless}
+use Rattle.face_data.proofs.Conditions.{broken-unless}
 
 some_test : (size total : ℕ) → total ≡ size → nat_lt 0 size ≡ not (nat_le total 0)
 some_test size total is = grind arith

@@ -5,7 +5,7 @@ use Rattle.knit_base.specs.declared.instr.Instr.{Instr}
 use Rattle.knit_base.specs.declared.needle.Needle.{Needle}
 use Rattle.knit_base.specs.declared.rule.Rule.TheVariants.{SliderHolds}
 use Rattle.knit_base.specs.Needle.{own_slider}
-use Rattle.carriage_model.specs.Rules.{forming_needle}
+use Rattle.knit_base.specs.Instr.{forming_needle}
 use Rattle.face_data.specs.Sizes.{SizeRule}
 
 -- the own slider of the needle holds nothing

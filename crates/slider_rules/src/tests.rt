@@ -17,9 +17,9 @@ fn the_slider_beside_the_hook(rt: HostRuntime) -> Result<(), Fail> {
     let mut yarns = Yarns::new(rt.alloc());
     yarns.push(CarrierNo(0))?;
     let knit = Instr::Knit(Dir::Left, hook, yarns);
-    let mut contents = Symbols::new(rt.alloc());
-    assert!(rt; ask(rt.alloc(), &Instr::Drop(hook), &contents)?.is_none());
-    match ask(rt.alloc(), &knit, &contents)? {
+    let mut segments = Symbols::new(rt.alloc());
+    assert!(rt; ask(rt.alloc(), &Instr::Drop(hook), &segments)?.is_none());
+    match ask(rt.alloc(), &knit, &segments)? {
         Some(asked) => {
             assert_eq!(rt; asked.entries.get(0).copied(), Some(slider));
             assert_eq!(rt; asked.max, 0);
@@ -28,8 +28,8 @@ fn the_slider_beside_the_hook(rt: HostRuntime) -> Result<(), Fail> {
     }
     let mut segs = Segs::new(rt.alloc());
     segs.push(Seg::New(0))?;
-    contents.set(slider, segs)?;
-    match ask(rt.alloc(), &knit, &contents)? {
+    segments.set(slider, segs)?;
+    match ask(rt.alloc(), &knit, &segments)? {
         Some(asked) => assert_eq!(rt; asked.max, -1),
         None => assert!(rt; false),
     }

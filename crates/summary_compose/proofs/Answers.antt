@@ -16,44 +16,44 @@ use Rattle.face_data.specs.Answers.{Answer, answer_of, where_known, size_left, s
 use Rattle.face_data.specs.Answers.Answer.{yes_it_does, no_it_does_not, asks}
 use Rattle.face_data.specs.Bearings.{if_so, same_or_not}
 use Rattle.face_data.specs.Chains.{SizeMark, marks_in, chain_at, covers, is_covered, known_of, answer_known}
-use Rattle.face_data.specs.Composition.{from_bearing, against_kept, next, reads, Gathered}
+use Rattle.face_data.specs.Composition.{from_bearing, against_kept, next, reads, Gathering}
 use Rattle.face_data.specs.declared.face.Cond.{Cond}
 use Rattle.face_data.specs.declared.face.Cond.TheVariants.{RackIs, CarrierIn, CarrierOut, HookFree, HookIs, HookLacks, SizeAtMost}
 use Rattle.face_data.specs.declared.face.Part.{Part}
 use Rattle.face_data.specs.Conditions.{Ask, ask_of, part_of}
 use Rattle.face_data.specs.Conditions.Ask.{rack_is, carrier_in, carrier_out, hook_free, hook_is, hook_lacks, size_at_most}
-use Rattle.face_data.specs.Digests.{told, told_by, IsPlainCondition}
+use Rattle.face_data.specs.Digests.{digest_bearing, bearing_by, IsPlainCondition, effect_bearing}
 use Rattle.face_data.specs.Segments.{Changed, names_through, new_through}
 use Rattle.face_data.specs.Summaries.{Asked, raised}
-use Rattle.face_data.proofs.Members.{same_needle_same}
-use Rattle.summary_compose.specs.Known.{IsPlainCond, Knows, StepIs, notes_in, notes_of, noted_answer, noted_left, read_plain}
+use Rattle.summary_compose.specs.Known.{IsPlainCond, Knows, StepIs, notes_in, notes_of, noted_answer, noted_left}
 use Rattle.summary_compose.specs.Tables.{Note, suits}
+use Rattle.knit_base.proofs.Needles.{same_needle-comm}
 
 test_known : (d : Digest) (chains : Needle → List SizeMark) (b : Bool) (rest : Answer) → answer_known d chains (answer_of b) ≡ from_bearing (same_or_not b) rest
 test_known d chains true rest = refl
 test_known d chains false rest = refl
 
-where_is : {X : Type 0} (d : Digest) (chains : Needle → List SizeMark) (o : Option X) (test : X → Bool) (q : Ask) → known_of d chains q ≡ from_bearing (told d q) (asks q) →
-    answer_known d chains (where_known o test q) ≡ from_bearing (told_by o (λ x. same_or_not (test x))) (from_bearing (told d q) (asks q))
+where_is : {X : Type 0} (d : Digest) (chains : Needle → List SizeMark) (o : Option X) (test : X → Bool) (q : Ask) → known_of d chains q ≡ from_bearing (digest_bearing d q) (asks q) →
+    answer_known d chains (where_known o test q) ≡ from_bearing (bearing_by o (λ x. same_or_not (test x))) (from_bearing (digest_bearing d q) (asks q))
 where_is d chains None test q e = e
-where_is d chains (Some x) test q e = test_known d chains (test x) (from_bearing (told d q) (asks q))
+where_is d chains (Some x) test q e = test_known d chains (test x) (from_bearing (digest_bearing d q) (asks q))
 
-in_is : (d : Digest) (chains : Needle → List SizeMark) (came went : Bool) (q : Ask) → known_of d chains q ≡ from_bearing (told d q) (asks q) →
-    answer_known d chains (if came then yes_it_does else (if went then no_it_does_not else asks q)) ≡ from_bearing (if came then Implied else if_so went Refuted) (from_bearing (told d q) (asks q))
+in_is : (d : Digest) (chains : Needle → List SizeMark) (came went : Bool) (q : Ask) → known_of d chains q ≡ from_bearing (digest_bearing d q) (asks q) →
+    answer_known d chains (if came then yes_it_does else (if went then no_it_does_not else asks q)) ≡ from_bearing (if came then Implied else if_so went Refuted) (from_bearing (digest_bearing d q) (asks q))
 in_is d chains true went q e = refl
 in_is d chains false true q e = refl
 in_is d chains false false q e = e
 
-out_is : (d : Digest) (chains : Needle → List SizeMark) (came went : Bool) (q : Ask) → known_of d chains q ≡ from_bearing (told d q) (asks q) →
-    answer_known d chains (if came then no_it_does_not else (if went then yes_it_does else asks q)) ≡ from_bearing (if came then Refuted else if_so went Implied) (from_bearing (told d q) (asks q))
+out_is : (d : Digest) (chains : Needle → List SizeMark) (came went : Bool) (q : Ask) → known_of d chains q ≡ from_bearing (digest_bearing d q) (asks q) →
+    answer_known d chains (if came then no_it_does_not else (if went then yes_it_does else asks q)) ≡ from_bearing (if came then Refuted else if_so went Implied) (from_bearing (digest_bearing d q) (asks q))
 out_is d chains true went q e = refl
 out_is d chains false true q e = refl
 out_is d chains false false q e = e
 
 -- a condition that isn't on sizes
 pub answer-plain : (d : Digest) (chains : Needle → List SizeMark) (effect : Effect) (changes : List Changed) (q : Ask) → IsPlainCondition q →
-    answer_known d chains (read_answer effect changes q) ≡ from_bearing (read_plain effect q) (from_bearing (told d q) (asks q))
-unfolding read_answer read_plain
+    answer_known d chains (read_answer effect changes q) ≡ from_bearing (effect_bearing effect q) (from_bearing (digest_bearing d q) (asks q))
+unfolding read_answer effect_bearing
 answer-plain d chains effect changes (rack_is q) plain = where_is d chains effect.rack _ (rack_is q) refl
 answer-plain d chains effect changes (carrier_in c) plain = in_is d chains (contains_carrier effect.came c) (contains_carrier effect.went c) (carrier_in c) refl
 answer-plain d chains effect changes (carrier_out c) plain = out_is d chains (contains_carrier effect.came c) (contains_carrier effect.went c) (carrier_out c) refl
@@ -63,15 +63,6 @@ answer-plain d chains effect changes (hook_lacks c) plain = where_is d chains ef
 answer-plain d chains effect changes (size_at_most names most) plain = absurd plain
 
 -- two needles one way round and the other
-other_way_on : (n m : Needle) (b c : Bool) → same_needle n m ≡ b → same_needle m n ≡ c → b ≡ c
-other_way_on n m true true e f = refl
-other_way_on n m false false e f = refl
-other_way_on n m true false e f = absurd (true≢false (sym (same_needle_same m n (sym (same_needle-true n m e))) ∙ f))
-other_way_on n m false true e f = absurd (true≢false (sym (same_needle_same n m (sym (same_needle-true m n f))) ∙ e))
-
-other_way : (n m : Needle) → same_needle n m ≡ same_needle m n
-other_way n m = other_way_on n m (same_needle n m) (same_needle m n) refl refl
-
 both_or : (x y z : Bool) → ((x && z) || (y && z)) ≡ ((x || y) && z)
 both_or true true true = refl
 both_or true true false = refl
@@ -83,7 +74,7 @@ notes_any : (n : Needle) (len most total k : ℕ) (xs : List Needle) →
     list_any (suits n len most) (map (λ m. record { needle = m; len = total; most = k }) xs) ≡ (list_any (same_needle n) xs && (nat_le len total && nat_le k most))
 notes_any n len most total k [] = refl
 notes_any n len most total k (x ∷ xs) =
-    ap₂ (λ (a b : Bool). (a && (nat_le len total && nat_le k most)) || b) (other_way x n) (notes_any n len most total k xs)
+    ap₂ (λ (a b : Bool). (a && (nat_le len total && nat_le k most)) || b) (same_needle-comm x n) (notes_any n len most total k xs)
     ∙ both_or (same_needle n x) (list_any (same_needle n) xs) (nat_le len total && nat_le k most)
 
 mark_any : (len most total k : ℕ) (there : Bool) → (there && (nat_le len total && nat_le k most)) ≡ list_any (covers len most) (if there then record { len = total; most = k } ∷ [] else [])
@@ -130,7 +121,7 @@ unfolding read_answer size_answer noted_answer
 answer-sized d notes kept effect changes needles most h =
     sized_on d notes kept (names_through changes needles) (new_through changes needles) most (nat_lt most (new_through changes needles)) h
 
-next_step : (answer : Answer) (kept now : List Asked) (fault : Fault) (goes_on : Bool) (go : List Asked → Gathered) → StepIs answer kept fault goes_on now →
+next_step : (answer : Answer) (kept now : List Asked) (fault : Fault) (goes_on : Bool) (go : List Asked → Gathering) → StepIs answer kept fault goes_on now →
     next answer kept fault go ≡ (if goes_on then go now else record { checks = now; stop = Some fault })
 next_step yes_it_does kept now fault true go h = ap go (sym h.1)
 next_step yes_it_does kept now fault false go h = absurd (true≢false (sym h.0))
@@ -167,12 +158,13 @@ plain_condition (HookLacks c) plain = tt
 
 -- what the code knows is what is known
 pub plain_step : (d : Digest) (chains : Needle → List SizeMark) (effect : Effect) (changes : List Changed) (names : List Needle) (c : Cond) (kept now : List Asked) (fault : Fault) (goes_on : Bool) → IsPlainCond c →
-    StepIs (from_bearing (read_plain effect (ask_of [] c)) (from_bearing (told d (ask_of [] c)) (asks (ask_of [] c)))) kept fault goes_on now →
+    StepIs (from_bearing (effect_bearing effect (ask_of [] c)) (from_bearing (digest_bearing d (ask_of [] c)) (asks (ask_of [] c)))) kept fault goes_on now →
     StepIs (answer_known d chains (read_answer effect changes (ask_of names c))) kept fault goes_on now
 plain_step d chains effect changes names c kept now fault goes_on plain h =
     subst (λ answer. StepIs answer kept fault goes_on now)
     (sym (ap (λ q. answer_known d chains (read_answer effect changes q)) (plain_ask names c plain) ∙ answer-plain d chains effect changes (ask_of [] c) (plain_condition c plain))) h
 
+-- a condition on sizes is asked
 pub sized_step : (d : Digest) (notes : List Note) (effect : Effect) (changes : List Changed) (names needles : List Needle) (c : Cond) (p : Part) (most : ℕ) (kept now : List Asked) (fault : Fault) (goes_on : Bool) →
     Knows d notes kept → c ≡ SizeAtMost p most → needles ≡ part_of names p →
     StepIs (noted_answer notes (names_through changes needles) (new_through changes needles) most) kept fault goes_on now →

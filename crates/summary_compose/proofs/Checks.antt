@@ -19,54 +19,8 @@ use Rattle.face_data.specs.Summaries.{Asked}
 use Rattle.face_data.specs.View.{asked_of, names_of, CondFits}
 use Rattle.summary_compose.specs.Known.{AreNamed, names_count}
 use Rattle.summary_compose.specs.declared.sizes.SizeWord.TheVariants.{Asks}
-use Rattle.summary_compose.proofs.Parts.{part_of-front, part_of-end}
-
-ask_front : (old more : List Needle) (c : Cond) → CondFits old c → ask_of (old ++ more) c ≡ ask_of old c
-ask_front old more (SizeAtMost p most) fit = ap (λ ns. size_at_most ns most) (part_of-front old more p fit)
-ask_front old more (RackIs q) fit = refl
-ask_front old more (CarrierIn c) fit = refl
-ask_front old more (CarrierOut c) fit = refl
-ask_front old more HookFree fit = refl
-ask_front old more (HookIs set) fit = refl
-ask_front old more (HookLacks c) fit = refl
-
-names_front : (old more : List Needle) (c : Cond) → CondFits old c → names_of (old ++ more) c ≡ names_of old c
-names_front old more (SizeAtMost p most) fit = part_of-front old more p fit
-names_front old more (RackIs q) fit = refl
-names_front old more (CarrierIn c) fit = refl
-names_front old more (CarrierOut c) fit = refl
-names_front old more HookFree fit = refl
-names_front old more (HookIs set) fit = refl
-names_front old more (HookLacks c) fit = refl
-
-cond_front : (old more : List Needle) (c : Cond) → CondFits old c → CondFits (old ++ more) c
-cond_front old more (SizeAtMost p most) fit = let size = length-append old more in omega arith
-cond_front old more (RackIs q) fit = tt
-cond_front old more (CarrierIn c) fit = tt
-cond_front old more (CarrierOut c) fit = tt
-cond_front old more HookFree fit = tt
-cond_front old more (HookIs set) fit = tt
-cond_front old more (HookLacks c) fit = tt
-
-fit_front : (cs : List Check) (old more : List Needle) → All (λ (c : Check). CondFits old c.cond) cs → All (λ (c : Check). CondFits (old ++ more) c.cond) cs
-fit_front [] old more h = All-nil (λ (c : Check). CondFits (old ++ more) c.cond)
-fit_front (c ∷ cs) old more h =
-    All-cons (λ (c : Check). CondFits (old ++ more) c.cond) c cs (cond_front old more c.cond (All-head (λ (c : Check). CondFits old c.cond) c cs h))
-    (fit_front cs old more (All-tail (λ (c : Check). CondFits old c.cond) c cs h))
-
-asked_front : (cs : List Check) (old more : List Needle) → All (λ (c : Check). CondFits old c.cond) cs → map (asked_of (old ++ more)) cs ≡ map (asked_of old) cs
-asked_front [] old more h = refl
-asked_front (c ∷ cs) old more h =
-    let ask = ask_front old more c.cond (All-head (λ (c : Check). CondFits old c.cond) c cs h) in
-    ap₂ (λ (x : Asked) (xs : List Asked). x ∷ xs) (λ i. record { fault = c.fault; ask = ask i })
-    (asked_front cs old more (All-tail (λ (c : Check). CondFits old c.cond) c cs h))
-
-named_front : (cs : List Check) (old more : List Needle) → All (λ (c : Check). CondFits old c.cond) cs →
-    flat_map (λ (c : Check). names_of (old ++ more) c.cond) cs ≡ flat_map (λ (c : Check). names_of old c.cond) cs
-named_front [] old more h = refl
-named_front (c ∷ cs) old more h =
-    ap₂ (λ (x xs : List Needle). x ++ xs) (names_front old more c.cond (All-head (λ (c : Check). CondFits old c.cond) c cs h))
-    (named_front cs old more (All-tail (λ (c : Check). CondFits old c.cond) c cs h))
+use Rattle.summary_compose.proofs.Parts.{part_of-end}
+use Rattle.face_data.proofs.Parts.{checks-more, checks_fit-more, names-more}
 
 -- one condition on sizes more, with its needles behind the others
 pub size_kept : (cs now : List Check) (old more all : List Needle) (c : Check) (p : Part) (most : ℕ) → AreNamed old cs → all ≡ old ++ more →
@@ -76,22 +30,24 @@ size_kept cs now old more all c p most named e is s l n =
     let part = part_of-end old more p s l in
     ap₂ (λ (names : List Needle) (list : List Check). map (asked_of names) list) e n
     ∙ map-append (asked_of (old ++ more)) cs (c ∷ [])
-    ∙ ap₂ (λ (xs ys : List Asked). xs ++ ys) (asked_front cs old more named.fit)
+    ∙ ap₂ (λ (xs ys : List Asked). xs ++ ys) (checks-more cs old more named.fit)
     ((λ i. record { fault = c.fault; ask = ask_of (old ++ more) (is i) } ∷ []) ∙ (λ i. record { fault = c.fault; ask = size_at_most (part i) most } ∷ []))
 
+-- and the parts still make up the list of names
 pub size_named : (cs now : List Check) (old more all : List Needle) (c : Check) (p : Part) (most : ℕ) → AreNamed old cs → all ≡ old ++ more →
     c.cond ≡ SizeAtMost p most → p.start ≡ length old → p.len ≡ length more → now ≡ cs ++ c ∷ [] → AreNamed all now
 size_named cs now old more all c p most named e is s l n =
     let size = length-append old more in
     let here : CondFits (old ++ more) (SizeAtMost p most) = omega arith in
     let known : AreNamed (old ++ more) (cs ++ c ∷ []) = record {
-      fit = All-push (λ (c : Check). CondFits (old ++ more) c.cond) cs c (fit_front cs old more named.fit) (subst (CondFits (old ++ more)) (sym is) here);
+      fit = All-push (λ (c : Check). CondFits (old ++ more) c.cond) cs c (checks_fit-more cs old more named.fit) (subst (CondFits (old ++ more)) (sym is) here);
       whole = flat_map-append (λ (c : Check). names_of (old ++ more) c.cond) cs (c ∷ [])
-          ∙ ap₂ (λ (xs ys : List Needle). xs ++ ys) (named_front cs old more named.fit ∙ named.whole)
+          ∙ ap₂ (λ (xs ys : List Needle). xs ++ ys) (names-more cs old more named.fit ∙ named.whole)
           (append-nil (names_of (old ++ more) c.cond) ∙ ap (names_of (old ++ more)) is ∙ part_of-end old more p s l);
     } in
     subst (λ names. AreNamed names now) (sym e) (subst (λ list. AreNamed (old ++ more) list) (sym n) known)
 
+-- the needles of a condition
 pub names_in_ask : (names : List Needle) (c : Cond) → names_in (ask_of names c) ≡ names_of names c
 names_in_ask names (SizeAtMost p most) = refl
 names_in_ask names (RackIs q) = refl
@@ -112,5 +68,6 @@ names_sum names (c ∷ cs) =
 pub named_size : (names : List Needle) (cs : List Check) → AreNamed names cs → length names ≡ names_count (map (asked_of names) cs)
 named_size names cs named = sym (ap length named.whole) ∙ names_sum names cs
 
+-- one condition, one limit
 pub asks_same : (most left : ℕ) → Asks most ≡ Asks left → most ≡ left
 asks_same most left e = cc

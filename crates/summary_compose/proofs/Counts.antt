@@ -10,8 +10,8 @@ use Rattle.face_data.specs.Items.{ask_items, change_items, check_items, ending_i
 use Rattle.face_data.specs.Segments.{Changed}
 use Rattle.face_data.specs.Summaries.{Asked}
 use Rattle.face_data.specs.View.{IsPacked, asked_of, changed_of, summary_of}
-use Rattle.summary_compose.specs.Changes.{changes_of, segs_in}
-use Rattle.summary_compose.specs.Known.{checks_of, names_count}
+use Rattle.summary_compose.specs.Changes.{changes_in, segs_in}
+use Rattle.summary_compose.specs.Known.{checks_in, names_count}
 use Rattle.summary_compose.proofs.Checks.{named_size}
 use Rattle.summary_compose.proofs.Parts.{packed_size}
 
@@ -40,8 +40,8 @@ pub packed_items : (face : FaceView) → IsPacked face →
 packed_items face p =
     omega (
       arith,
-      check_count (checks_of face),
-      change_count (changes_of face),
+      check_count (checks_in face),
+      change_count (changes_in face),
       length-map face.checks.now (asked_of face.names.now),
       length-map face.changes.now (changed_of face.segs.now),
       named_size face.names.now face.checks.now (record { fit = p.checks_fit; whole = p.names }),

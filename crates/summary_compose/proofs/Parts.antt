@@ -16,43 +16,15 @@ use Rattle.face_data.specs.declared.face.Part.{Part}
 use Rattle.face_data.specs.declared.face.Seg.{Seg}
 use Rattle.face_data.specs.Conditions.{part_of}
 use Rattle.face_data.specs.Segments.{Changed}
-use Rattle.face_data.specs.View.{changed_of}
-use Rattle.summary_compose.specs.Changes.{PartsFit, ArePacked, segs_in}
+use Rattle.face_data.specs.View.{changed_of, PartsFit}
+use Rattle.summary_compose.specs.Changes.{ArePacked, segs_in}
+use Rattle.face_data.proofs.Parts.{changes-more, changes_fit-more, segs-more}
 
--- a part that lies in the front of a list
-pub part_of-front : {X : Type 0} (xs ys : List X) (p : Part) → p.start + p.len ≤ length xs → part_of (xs ++ ys) p ≡ part_of xs p
-part_of-front xs ys p h =
-    let rest = length-drop p.start xs in
-    ap (take ((p.start + p.len) - p.start)) (drop-append-le p.start xs ys (omega arith))
-    ∙ take-append-le ((p.start + p.len) - p.start) (drop p.start xs) ys (omega arith)
-
--- and one that is its end
+-- a part that is the end of a list
 pub part_of-end : {X : Type 0} (xs ys : List X) (p : Part) → p.start ≡ length xs → p.len ≡ length ys → part_of (xs ++ ys) p ≡ ys
 part_of-end xs ys p s l =
     let size : (p.start + p.len) - p.start ≡ length ys = omega arith in
     ap₂ (λ n (zs : List _). take n zs) size (ap (λ k. drop k (xs ++ ys)) s ∙ drop-append_seam xs ys) ∙ take-length ys
-
-pub fit_front : (cs : List Change) (old more : List Seg) → PartsFit old cs → PartsFit (old ++ more) cs
-fit_front [] old more h = All-nil (λ (c : Change). c.part.start + c.part.len ≤ length (old ++ more))
-fit_front (c ∷ cs) old more h =
-    let first = All-head (λ (c : Change). c.part.start + c.part.len ≤ length old) c cs h in
-    let size = length-append old more in
-    All-cons (λ (c : Change). c.part.start + c.part.len ≤ length (old ++ more)) c cs (omega arith)
-    (fit_front cs old more (All-tail (λ (c : Change). c.part.start + c.part.len ≤ length old) c cs h))
-
-pub changed_front : (cs : List Change) (old more : List Seg) → PartsFit old cs → map (changed_of (old ++ more)) cs ≡ map (changed_of old) cs
-changed_front [] old more h = refl
-changed_front (c ∷ cs) old more h =
-    let part = part_of-front old more c.part (All-head (λ (c : Change). c.part.start + c.part.len ≤ length old) c cs h) in
-    ap₂ (λ (x : Changed) (xs : List Changed). x ∷ xs) (λ i. (c.needle, part i))
-    (changed_front cs old more (All-tail (λ (c : Change). c.part.start + c.part.len ≤ length old) c cs h))
-
-parts_front : (cs : List Change) (old more : List Seg) → PartsFit old cs →
-    flat_map (λ (c : Change). part_of (old ++ more) c.part) cs ≡ flat_map (λ (c : Change). part_of old c.part) cs
-parts_front [] old more h = refl
-parts_front (c ∷ cs) old more h =
-    ap₂ (λ (x xs : List Seg). x ++ xs) (part_of-front old more c.part (All-head (λ (c : Change). c.part.start + c.part.len ≤ length old) c cs h))
-    (parts_front cs old more (All-tail (λ (c : Change). c.part.start + c.part.len ≤ length old) c cs h))
 
 -- one change more, with its segments behind the others
 pub laid_changes : (cs now : List Change) (old more all : List Seg) (c : Change) → PartsFit old cs → all ≡ old ++ more → c.part.start ≡ length old → c.part.len ≡ length more →
@@ -61,17 +33,18 @@ laid_changes cs now old more all c fit e s l n =
     let part = part_of-end old more c.part s l in
     ap₂ (λ (segs : List Seg) (list : List Change). map (changed_of segs) list) e n
     ∙ map-append (changed_of (old ++ more)) cs (c ∷ [])
-    ∙ ap₂ (λ (xs ys : List Changed). xs ++ ys) (changed_front cs old more fit) (λ i. (c.needle, part i) ∷ [])
+    ∙ ap₂ (λ (xs ys : List Changed). xs ++ ys) (changes-more cs old more fit) (λ i. (c.needle, part i) ∷ [])
 
+-- and the parts still make up the list
 pub laid_packed : (cs now : List Change) (old more all : List Seg) (c : Change) → ArePacked old cs → all ≡ old ++ more → c.part.start ≡ length old → c.part.len ≡ length more →
     now ≡ cs ++ c ∷ [] → ArePacked all now
 laid_packed cs now old more all c packed e s l n =
     let size = length-append old more in
     let flat = λ (segs : List Seg) (list : List Change). flat_map (λ (c : Change). part_of segs c.part) list in
     let known : ArePacked (old ++ more) (cs ++ c ∷ []) = record {
-      fit = All-push (λ (c : Change). c.part.start + c.part.len ≤ length (old ++ more)) cs c (fit_front cs old more packed.fit) (omega arith);
+      fit = All-push (λ (c : Change). c.part.start + c.part.len ≤ length (old ++ more)) cs c (changes_fit-more cs old more packed.fit) (omega arith);
       whole = flat_map-append (λ (c : Change). part_of (old ++ more) c.part) cs (c ∷ [])
-          ∙ ap₂ (λ (xs ys : List Seg). xs ++ ys) (parts_front cs old more packed.fit ∙ packed.whole) (append-nil (part_of (old ++ more) c.part) ∙ part_of-end old more c.part s l);
+          ∙ ap₂ (λ (xs ys : List Seg). xs ++ ys) (segs-more cs old more packed.fit ∙ packed.whole) (append-nil (part_of (old ++ more) c.part) ∙ part_of-end old more c.part s l);
     } in
     subst (λ segs. ArePacked segs now) (sym e) (subst (λ list. ArePacked (old ++ more) list) (sym n) known)
 

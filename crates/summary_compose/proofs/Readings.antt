@@ -25,22 +25,22 @@ use Rattle.face_data.specs.Segments.{Changed, names_through}
 use Rattle.face_data.specs.Summaries.{Asked, Summary, raised}
 use Rattle.face_data.specs.View.{asked_of, names_of, summary_of}
 use Rattle.summary_compose.proofs.Checks.{names_in_ask}
-use Rattle.face_data.proofs.Good.{names_read}
-use Rattle.face_data.proofs.Known.{AreKept, kept-first, kept-push, answer-known}
+use Rattle.face_data.proofs.Goodness.{names_read}
+use Rattle.face_data.proofs.KnownAnswers.{AreKept, kept-first, kept-push, answer-known}
 use Rattle.face_data.proofs.Members.{Contains-head}
-use Rattle.face_data.proofs.Owed.{against_asks}
-use Rattle.summary_compose.specs.Changes.{changes_of}
-use Rattle.summary_compose.specs.Known.{AreGood, Knows, StepIs, checks_of, names_count, names_read_count}
+use Rattle.face_data.proofs.KeptChecks.{against_asks}
+use Rattle.summary_compose.specs.Changes.{changes_in}
+use Rattle.summary_compose.specs.Known.{AreGood, Knows, StepIs, checks_in, names_count, names_read_count}
 use Rattle.summary_compose.specs.Tables.{Note}
 use Rattle.summary_compose.proofs.Answers.{reads_step}
 
 -- what holds where the first i conditions are read
 pub record ReadsOn (a b : FaceView) (e : Effect) (i : ℕ) (kept : List Asked) (digest : Digest) (notes : List Note) : Type 0 where
-  pub read : reads e (changes_of a) a.lines kept (drop i (checks_of b)) ≡ reads e (changes_of a) a.lines (checks_of a) (checks_of b)
+  pub read : reads e (changes_in a) a.lines kept (drop i (checks_in b)) ≡ reads e (changes_in a) a.lines (checks_in a) (checks_in b)
   pub are_kept : AreKept e (summary_of a) (summary_of b) kept
   pub knows : Knows digest notes kept
   pub few : length kept ≤ length a.checks.now + i
-  pub names : names_count kept + names_read_count (changes_of a) (drop i (checks_of b)) ≤ names_count (checks_of a) + names_read_count (changes_of a) (checks_of b)
+  pub names : names_count kept + names_read_count (changes_in a) (drop i (checks_in b)) ≤ names_count (checks_in a) + names_read_count (changes_in a) (checks_in b)
 
 lies_of : (carriers : ℕ) (s : Summary) (e : Effect) → s.ending ≡ Through e → EndingFits carriers s s.ending → (c : Asked) → Contains s.checks c → LiesIn s.changes (names_in c.ask)
 lies_of carriers s e through fits = let known : EndingFits carriers s (Through e) = subst (EndingFits carriers s) through fits in known.lies
@@ -78,13 +78,14 @@ step_names e changes kept now q fault goes_on (asks w) is h =
     let from : length (names_in w) ≡ length (names_through changes (names_in q)) = ap length (names_read e changes q w ((against_asks kept (read_answer e changes q) w is).0)) in
     omega (arith, same, split, one, from)
 
-pub reads_begin : (a b : FaceView) (e : Effect) (kept : List Asked) (digest : Digest) (notes : List Note) → AreGood a b → kept ≡ checks_of a → Knows digest notes kept → ReadsOn a b e 0 kept digest notes
+-- before any condition was read
+pub reads_begin : (a b : FaceView) (e : Effect) (kept : List Asked) (digest : Digest) (notes : List Note) → AreGood a b → kept ≡ checks_in a → Knows digest notes kept → ReadsOn a b e 0 kept digest notes
 reads_begin a b e kept digest notes good begun knows =
-    let size : length (checks_of a) ≡ length a.checks.now = length-map a.checks.now (asked_of a.names.now) in
-    let same : length kept ≡ length (checks_of a) = ap length begun in
-    let names : names_count kept ≡ names_count (checks_of a) = ap names_count begun in
+    let size : length (checks_in a) ≡ length a.checks.now = length-map a.checks.now (asked_of a.names.now) in
+    let same : length kept ≡ length (checks_in a) = ap length begun in
+    let names : names_count kept ≡ names_count (checks_in a) = ap names_count begun in
     record {
-      read = ap (λ ks. reads e (changes_of a) a.lines ks (checks_of b)) begun;
+      read = ap (λ ks. reads e (changes_in a) a.lines ks (checks_in b)) begun;
       are_kept = subst (AreKept e (summary_of a) (summary_of b)) (sym begun) (kept-first good.carriers good.limit good.first_known e (summary_of a) (summary_of b) good.first);
       knows = knows;
       few = omega arith;
@@ -95,84 +96,88 @@ reads_begin a b e kept digest notes good begun knows =
 abbrev pub check_at : FaceView → ℕ → Check → Asked
 check_at b i d = asked_of b.names.now (get_or b.checks.now i d)
 
-next_check : (b : FaceView) (i : ℕ) (d : Check) → i < length b.checks.now → drop i (checks_of b) ≡ check_at b i d ∷ drop (i + 1) (checks_of b)
+next_check : (b : FaceView) (i : ℕ) (d : Check) → i < length b.checks.now → drop i (checks_in b) ≡ check_at b i d ∷ drop (i + 1) (checks_in b)
 next_check b i d within =
-    let long : length (checks_of b) ≡ length b.checks.now = length-map b.checks.now (asked_of b.names.now) in
-    drop_more (checks_of b) i (asked_of b.names.now d) (omega arith)
-    ∙ ap (λ c. c ∷ drop (i + 1) (checks_of b)) (get_or-map (asked_of b.names.now) b.checks.now i d (asked_of b.names.now d) within)
+    let long : length (checks_in b) ≡ length b.checks.now = length-map b.checks.now (asked_of b.names.now) in
+    drop_more (checks_in b) i (asked_of b.names.now d) (omega arith)
+    ∙ ap (λ c. c ∷ drop (i + 1) (checks_in b)) (get_or-map (asked_of b.names.now) b.checks.now i d (asked_of b.names.now d) within)
 
-next_there : (b : FaceView) (i : ℕ) (d : Check) → i < length b.checks.now → Contains (checks_of b) (check_at b i d)
+next_there : (b : FaceView) (i : ℕ) (d : Check) → i < length b.checks.now → Contains (checks_in b) (check_at b i d)
 next_there b i d within =
-    let long : length (checks_of b) ≡ length b.checks.now = length-map b.checks.now (asked_of b.names.now) in
-    subst (Contains (checks_of b)) (get_or-map (asked_of b.names.now) b.checks.now i d (asked_of b.names.now d) within) (contains_at (checks_of b) i (asked_of b.names.now d) (omega arith))
+    let long : length (checks_in b) ≡ length b.checks.now = length-map b.checks.now (asked_of b.names.now) in
+    subst (Contains (checks_in b)) (get_or-map (asked_of b.names.now) b.checks.now i d (asked_of b.names.now d) within) (contains_at (checks_in b) i (asked_of b.names.now d) (omega arith))
 
 step_against : (a b : FaceView) (e : Effect) (i : ℕ) (d : Check) (kept now : List Asked) (digest : Digest) (notes : List Note) (goes_on : Bool) → AreGood a b → a.ending ≡ Through e →
     ReadsOn a b e i kept digest notes → i < length b.checks.now →
-    StepIs (answer_known digest (chain_at kept) (read_answer e (changes_of a) (check_at b i d).ask)) kept (raised a.lines (check_at b i d).fault) goes_on now →
-    StepIs (against_kept kept (read_answer e (changes_of a) (check_at b i d).ask)) kept (raised a.lines (check_at b i d).fault) goes_on now
+    StepIs (answer_known digest (chain_at kept) (read_answer e (changes_in a) (check_at b i d).ask)) kept (raised a.lines (check_at b i d).fault) goes_on now →
+    StepIs (against_kept kept (read_answer e (changes_in a) (check_at b i d).ask)) kept (raised a.lines (check_at b i d).fault) goes_on now
 step_against a b e i d kept now digest notes goes_on good through so within h =
     subst (λ answer. StepIs answer kept (raised a.lines (check_at b i d).fault) goes_on now)
-    (ap (λ x. answer_known x (chain_at kept) (read_answer e (changes_of a) (check_at b i d).ask)) so.knows.digest_is
+    (ap (λ x. answer_known x (chain_at kept) (read_answer e (changes_in a) (check_at b i d).ask)) so.knows.digest_is
     ∙ sym (answer-known good.carriers good.limit good.first_known good.second_known e (summary_of a) (summary_of b) kept (check_at b i d) good.first good.second
-    (lies_of good.carriers (summary_of a) e through good.first.ending) so.are_kept (next_there b i d within))) h
+    (lies_of good.carriers (summary_of a) e through good.first.fair.ending) so.are_kept (next_there b i d within))) h
 
+-- one condition more
 pub reads_on : (a b : FaceView) (e : Effect) (i : ℕ) (d : Check) (kept now : List Asked) (digest after_digest : Digest) (notes after_notes : List Note) (goes_on : Bool) → AreGood a b → a.ending ≡ Through e →
     ReadsOn a b e i kept digest notes → i < length b.checks.now → goes_on ≡ true →
-    StepIs (answer_known digest (chain_at kept) (read_answer e (changes_of a) (check_at b i d).ask)) kept (raised a.lines (check_at b i d).fault) goes_on now →
+    StepIs (answer_known digest (chain_at kept) (read_answer e (changes_in a) (check_at b i d).ask)) kept (raised a.lines (check_at b i d).fault) goes_on now →
     Knows after_digest after_notes now → ReadsOn a b e (i + 1) now after_digest after_notes
 reads_on a b e i d kept now digest after_digest notes after_notes goes_on good through so within goes h knows =
     let c = check_at b i d in
     let step = step_against a b e i d kept now digest notes goes_on good through so within h in
-    let answer = against_kept kept (read_answer e (changes_of a) c.ask) in
-    let rest = drop (i + 1) (checks_of b) in
+    let answer = against_kept kept (read_answer e (changes_in a) c.ask) in
+    let rest = drop (i + 1) (checks_in b) in
     let more = step_few kept now (raised a.lines c.fault) goes_on answer step in
     let few : length kept ≤ length a.checks.now + i = so.few in
-    let named = step_names e (changes_of a) kept now c.ask (raised a.lines c.fault) goes_on answer refl step in
+    let named = step_names e (changes_in a) kept now c.ask (raised a.lines c.fault) goes_on answer refl step in
     let total = so.names in
-    let left : names_read_count (changes_of a) (drop i (checks_of b)) ≡ names_read_count (changes_of a) (c ∷ rest) = ap (names_read_count (changes_of a)) (next_check b i d within) in
-    let first = sum_by-cons (λ (x : Asked). length (names_through (changes_of a) (names_in x.ask))) c rest in
+    let left : names_read_count (changes_in a) (drop i (checks_in b)) ≡ names_read_count (changes_in a) (c ∷ rest) = ap (names_read_count (changes_in a)) (next_check b i d within) in
+    let first = sum_by-cons (λ (x : Asked). length (names_through (changes_in a) (names_in x.ask))) c rest in
     record {
-      read = sym (ap (λ on. if on then reads e (changes_of a) a.lines now rest else record { checks = now; stop = Some (raised a.lines c.fault) }) goes)
-          ∙ sym (reads_step e (changes_of a) a.lines kept now rest c goes_on step)
-          ∙ ap (reads e (changes_of a) a.lines kept) (sym (next_check b i d within)) ∙ so.read;
+      read = sym (ap (λ on. if on then reads e (changes_in a) a.lines now rest else record { checks = now; stop = Some (raised a.lines c.fault) }) goes)
+          ∙ sym (reads_step e (changes_in a) a.lines kept now rest c goes_on step)
+          ∙ ap (reads e (changes_in a) a.lines kept) (sym (next_check b i d within)) ∙ so.read;
       are_kept = kept_step good.carriers good.limit good.first_known good.second_known e (summary_of a) (summary_of b) kept now c goes_on answer refl step so.are_kept (next_there b i d within);
       knows = knows;
       few = omega arith;
       names = omega (arith, named, total, left, first);
     }
 
+-- one that can't hold
 pub reads_stop : (a b : FaceView) (e : Effect) (i : ℕ) (d : Check) (kept now : List Asked) (digest : Digest) (notes : List Note) (goes_on : Bool) → AreGood a b → a.ending ≡ Through e →
     ReadsOn a b e i kept digest notes → i < length b.checks.now → goes_on ≡ false →
-    StepIs (answer_known digest (chain_at kept) (read_answer e (changes_of a) (check_at b i d).ask)) kept (raised a.lines (check_at b i d).fault) goes_on now →
-    reads e (changes_of a) a.lines (checks_of a) (checks_of b) ≡ record { checks = now; stop = Some (raised a.lines (check_at b i d).fault) }
+    StepIs (answer_known digest (chain_at kept) (read_answer e (changes_in a) (check_at b i d).ask)) kept (raised a.lines (check_at b i d).fault) goes_on now →
+    reads e (changes_in a) a.lines (checks_in a) (checks_in b) ≡ record { checks = now; stop = Some (raised a.lines (check_at b i d).fault) }
 reads_stop a b e i d kept now digest notes goes_on good through so within stops h =
     let c = check_at b i d in
     let step = step_against a b e i d kept now digest notes goes_on good through so within h in
-    let rest = drop (i + 1) (checks_of b) in
-    sym so.read ∙ ap (reads e (changes_of a) a.lines kept) (next_check b i d within)
-    ∙ reads_step e (changes_of a) a.lines kept now rest c goes_on step
-    ∙ ap (λ on. if on then reads e (changes_of a) a.lines now rest else record { checks = now; stop = Some (raised a.lines c.fault) }) stops
+    let rest = drop (i + 1) (checks_in b) in
+    sym so.read ∙ ap (reads e (changes_in a) a.lines kept) (next_check b i d within)
+    ∙ reads_step e (changes_in a) a.lines kept now rest c goes_on step
+    ∙ ap (λ on. if on then reads e (changes_in a) a.lines now rest else record { checks = now; stop = Some (raised a.lines c.fault) }) stops
 
 reads_none : (e : Effect) (changes : List Changed) (lines : ℕ) (kept : List Asked) → reads e changes lines kept [] ≡ record { checks = kept; stop = None }
 unfolding reads
 reads_none e changes lines kept = refl
 
+-- all were read
 pub reads_end : (a b : FaceView) (e : Effect) (i : ℕ) (kept : List Asked) (digest : Digest) (notes : List Note) → ReadsOn a b e i kept digest notes → length b.checks.now ≤ i →
-    reads e (changes_of a) a.lines (checks_of a) (checks_of b) ≡ record { checks = kept; stop = None }
+    reads e (changes_in a) a.lines (checks_in a) (checks_in b) ≡ record { checks = kept; stop = None }
 reads_end a b e i kept digest notes so past =
-    let long : length (checks_of b) ≡ length b.checks.now = length-map b.checks.now (asked_of b.names.now) in
-    sym so.read ∙ ap (reads e (changes_of a) a.lines kept) (drop_all i (checks_of b) (omega arith)) ∙ reads_none e (changes_of a) a.lines kept
+    let long : length (checks_in b) ≡ length b.checks.now = length-map b.checks.now (asked_of b.names.now) in
+    sym so.read ∙ ap (reads e (changes_in a) a.lines kept) (drop_all i (checks_in b) (omega arith)) ∙ reads_none e (changes_in a) a.lines kept
 
+-- there is room for the next
 pub next_room : (a b : FaceView) (e : Effect) (i : ℕ) (d : Check) (kept : List Asked) (digest : Digest) (notes : List Note) → ReadsOn a b e i kept digest notes → i < length b.checks.now →
-    names_count kept + length (names_through (changes_of a) (names_of b.names.now (get_or b.checks.now i d).cond)) ≤ names_count (checks_of a) + names_read_count (changes_of a) (checks_of b)
+    names_count kept + length (names_through (changes_in a) (names_of b.names.now (get_or b.checks.now i d).cond)) ≤ names_count (checks_in a) + names_read_count (changes_in a) (checks_in b)
 next_room a b e i d kept digest notes so within =
     let c = check_at b i d in
-    let rest = drop (i + 1) (checks_of b) in
+    let rest = drop (i + 1) (checks_in b) in
     let total = so.names in
-    let left : names_read_count (changes_of a) (drop i (checks_of b)) ≡ names_read_count (changes_of a) (c ∷ rest) = ap (names_read_count (changes_of a)) (next_check b i d within) in
-    let first = sum_by-cons (λ (x : Asked). length (names_through (changes_of a) (names_in x.ask))) c rest in
-    let same : length (names_through (changes_of a) (names_in c.ask)) ≡ length (names_through (changes_of a) (names_of b.names.now (get_or b.checks.now i d).cond)) =
-    ap (λ ns. length (names_through (changes_of a) ns)) (names_in_ask b.names.now (get_or b.checks.now i d).cond) in
+    let left : names_read_count (changes_in a) (drop i (checks_in b)) ≡ names_read_count (changes_in a) (c ∷ rest) = ap (names_read_count (changes_in a)) (next_check b i d within) in
+    let first = sum_by-cons (λ (x : Asked). length (names_through (changes_in a) (names_in x.ask))) c rest in
+    let same : length (names_through (changes_in a) (names_in c.ask)) ≡ length (names_through (changes_in a) (names_of b.names.now (get_or b.checks.now i d).cond)) =
+    ap (λ ns. length (names_through (changes_in a) ns)) (names_in_ask b.names.now (get_or b.checks.now i d).cond) in
     omega (arith, total, left, first, same)
 
 -- the check that goals give for a place past the end
@@ -181,20 +186,21 @@ first_check = record { fault = record { line = 0; reason = record { rule = Unrea
 
 -- one condition of a face more is noted
 pub next_note : (face : FaceView) (i : ℕ) (d : Check) → i < length face.checks.now →
-    names_count (take i (checks_of face)) + length (names_of face.names.now (get_or face.checks.now i d).cond) ≤ names_count (checks_of face)
+    names_count (take i (checks_in face)) + length (names_of face.names.now (get_or face.checks.now i d).cond) ≤ names_count (checks_in face)
 next_note face i d within =
     let size : Asked → ℕ = λ (c : Asked). length (names_in c.ask) in
     let c = check_at face i d in
-    let rest = drop (i + 1) (checks_of face) in
-    let whole : names_count (take i (checks_of face) ++ drop i (checks_of face)) ≡ names_count (checks_of face) = ap names_count (take-append-drop i (checks_of face)) in
-    let split = sum_by-append size (take i (checks_of face)) (drop i (checks_of face)) in
-    let left : names_count (drop i (checks_of face)) ≡ names_count (c ∷ rest) = ap names_count (next_check face i d within) in
+    let rest = drop (i + 1) (checks_in face) in
+    let whole : names_count (take i (checks_in face) ++ drop i (checks_in face)) ≡ names_count (checks_in face) = ap names_count (take-append-drop i (checks_in face)) in
+    let split = sum_by-append size (take i (checks_in face)) (drop i (checks_in face)) in
+    let left : names_count (drop i (checks_in face)) ≡ names_count (c ∷ rest) = ap names_count (next_check face i d within) in
     let first = sum_by-cons size c rest in
     let same : length (names_in c.ask) ≡ length (names_of face.names.now (get_or face.checks.now i d).cond) = ap length (names_in_ask face.names.now (get_or face.checks.now i d).cond) in
     omega (arith, whole, split, left, first, same)
 
-pub noted_more : (face : FaceView) (i : ℕ) (d : Check) → i < length face.checks.now → take i (checks_of face) ++ check_at face i d ∷ [] ≡ take (i + 1) (checks_of face)
+-- one condition more is noted
+pub noted_more : (face : FaceView) (i : ℕ) (d : Check) → i < length face.checks.now → take i (checks_in face) ++ check_at face i d ∷ [] ≡ take (i + 1) (checks_in face)
 noted_more face i d within =
-    let long : length (checks_of face) ≡ length face.checks.now = length-map face.checks.now (asked_of face.names.now) in
+    let long : length (checks_in face) ≡ length face.checks.now = length-map face.checks.now (asked_of face.names.now) in
     let e = asked_of face.names.now d in
-    ap (λ c. take i (checks_of face) ++ c ∷ []) (sym (get_or-map (asked_of face.names.now) face.checks.now i d e within)) ∙ sym (take_more (checks_of face) i e (omega arith))
+    ap (λ c. take i (checks_in face) ++ c ∷ []) (sym (get_or-map (asked_of face.names.now) face.checks.now i d e within)) ∙ sym (take_more (checks_in face) i e (omega arith))

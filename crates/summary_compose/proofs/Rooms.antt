@@ -20,26 +20,28 @@ use Rattle.face_data.specs.declared.face.Seg.TheVariants.{Entry, New}
 use Rattle.face_data.specs.Composition.{by_order, merged, merged_from}
 use Rattle.face_data.specs.Conditions.{Ask, part_of}
 use Rattle.face_data.specs.Conditions.Ask.{rack_is, carrier_in, carrier_out, hook_free, hook_is, hook_lacks, size_at_most}
-use Rattle.face_data.specs.Goodness.{AskFits, IsInOrder, OwnsOnce, held, names_in}
-use Rattle.face_data.specs.Segments.{Changed, change_at, contents_of, entries_in, entries_of, names_through, new_in, new_of, new_through, segs_or_own}
+use Rattle.face_data.specs.Goodness.{AskFits, IsInOrder, OwnsOnce, entries_on, names_in}
+use Rattle.face_data.specs.Segments.{Changed, change_at, segments_on, entries_in, entries_of, names_through, new_in, new_of, new_through, segs_or_own}
 use Rattle.face_data.specs.Sets.{IsDistinct}
 use Rattle.face_data.specs.Summaries.{Asked}
 use Rattle.face_data.specs.Through.{change_through, changes_through, through}
 use Rattle.face_data.specs.View.{IsPacked, asked_of, changed_of}
-use Rattle.face_data.proofs.Good.{members_merged, members_through}
-use Rattle.face_data.proofs.Items.{all_entries, change_found, contents_found, in_needles, length-segs, length_within, needle_in, needles_distinct, needles_of}
+use Rattle.face_data.proofs.Goodness.{members_merged, members_through}
+use Rattle.face_data.proofs.Items.{all_entries, change_found, segments_found, in_needles, length-segs, length_within, needle_in, needles_distinct, needles_changed}
 use Rattle.face_data.proofs.Members.{Contains-none, Contains-head, Contains-tail, Contains-cons_cases, dropped, dropped_keeps, sum_dropped}
-use Rattle.face_data.proofs.Merged.{contents_of-both, order_merged, order_through}
+use Rattle.face_data.proofs.ChangeLists.{segments_on-both, order_merged, order_through}
 use Rattle.face_data.proofs.Owners.{changed_or_own, distinct_through, from_through, member_cases, only_itself}
 use Rattle.face_data.proofs.Parts.{change_absent}
-use Rattle.summary_compose.specs.Changes.{changes_of, segs_in}
+use Rattle.summary_compose.specs.Changes.{changes_in, segs_in}
 use Rattle.summary_compose.specs.Composing.{FindsRoom, IsNoGreater}
-use Rattle.summary_compose.specs.Known.{AreGood, checks_of, names_count, names_read_count}
+use Rattle.summary_compose.specs.Known.{AreGood, checks_in, names_count, names_read_count}
 use Rattle.summary_compose.specs.Rooms.{CanBeMade, capped, room_after, room_of_both}
 use Rattle.summary_compose.specs.declared.room.Room.{Room}
 use Rattle.summary_compose.proofs.Checks.{named_size}
 use Rattle.summary_compose.proofs.Parts.{packed_size}
+use Rattle.face_data.proofs.KnownAnswers.{AskFits-distinct}
 
+-- an entry of a change is one of all
 pub in_all : (cs : List Changed) (c : Changed) (n : Needle) → Contains cs c → Contains (entries_of c.1) n → Contains (all_entries cs) n
 in_all [] c n h k = absurd (Contains-none c h)
 in_all (x ∷ cs) c n h k = elim (Contains-cons_cases x cs c h) [
@@ -61,6 +63,7 @@ read_within ch xs o d =
           ]),
     )
 
+-- how many needles the conditions name when they are read through a block
 pub names_read_bound : (ch : List Changed) (cs : List Asked) → OwnsOnce ch → ((c : Asked) → Contains cs c → IsDistinct (names_in c.ask)) →
     names_read_count ch cs ≤ names_count cs + length cs * length (all_entries ch)
 names_read_bound ch [] o d = omega arith
@@ -80,15 +83,6 @@ all_entries_flat segs (c ∷ cs) =
     flat_map-append entries_in (part_of segs c.part) (flat_map (λ (c : Change). part_of segs c.part) cs)
     ∙ ap (λ r. entries_of (part_of segs c.part) ++ r) (all_entries_flat segs cs)
 
-pub distinct_names : (carriers limit : ℕ) (known : List Needle) (q : Ask) → AskFits carriers limit known q → IsDistinct (names_in q)
-distinct_names carriers limit known (size_at_most names most) fits = fits.distinct
-distinct_names carriers limit known (rack_is x) fits = tt
-distinct_names carriers limit known (carrier_in x) fits = tt
-distinct_names carriers limit known (carrier_out x) fits = tt
-distinct_names carriers limit known hook_free fits = tt
-distinct_names carriers limit known (hook_is x) fits = tt
-distinct_names carriers limit known (hook_lacks x) fits = tt
-
 by_order_length : (o : Ordering) (xs ys zs : List Changed) (n : ℕ) → length xs ≤ n → length ys ≤ n → length zs ≤ n → length (by_order o xs ys zs) ≤ n
 by_order_length Less xs ys zs n h k l = h
 by_order_length Equal xs ys zs n h k l = k
@@ -100,6 +94,7 @@ merged_from_length a rest n h [] = omega (arith, h [])
 merged_from_length a rest n h (b ∷ bs) =
     by_order_length (needle_cmp a.0 b.0) (a ∷ rest (b ∷ bs)) (b ∷ rest bs) (b ∷ merged_from a rest bs) (suc n + length (b ∷ bs)) (omega (arith, h (b ∷ bs))) (omega (arith, h bs)) (omega (arith, merged_from_length a rest n h bs))
 
+-- how many needles both blocks change
 pub merged_length : (others bs : List Changed) → length (merged others bs) ≤ length others + length bs
 merged_length [] bs = omega arith
 merged_length (a ∷ others) bs = merged_from_length a (merged others) (length others) (merged_length others) bs
@@ -134,110 +129,112 @@ both_sizes None n = refl
 both_sizes (Some segs) n = omega arith
 
 sum_of_both : (ch : List Changed) (xs : List Needle) →
-    sum_by (λ n. length (contents_of ch n)) xs ≡ sum_by (λ n. given_size (change_at ch n)) xs + sum_by (λ n. own_size (change_at ch n)) xs
+    sum_by (λ n. length (segments_on ch n)) xs ≡ sum_by (λ n. given_size (change_at ch n)) xs + sum_by (λ n. own_size (change_at ch n)) xs
 sum_of_both ch [] = refl
 sum_of_both ch (x ∷ xs) =
     omega (
       arith,
       both_sizes (change_at ch x) x,
       sum_of_both ch xs,
-      sum_by-cons (λ n. length (contents_of ch n)) x xs,
+      sum_by-cons (λ n. length (segments_on ch n)) x xs,
       sum_by-cons (λ n. given_size (change_at ch n)) x xs,
       sum_by-cons (λ n. own_size (change_at ch n)) x xs,
     )
 
 -- the needle is named, or nothing is given to it
-pub named_or_none : (cs : List Changed) (n : Needle) → Contains (needles_of cs) n ⊎ (change_at cs n ≡ None)
-named_or_none cs n = elim (member_cases (needles_of cs) n) [
+pub named_or_none : (cs : List Changed) (n : Needle) → Contains (needles_changed cs) n ⊎ (change_at cs n ≡ None)
+named_or_none cs n = elim (member_cases (needles_changed cs) n) [
   | inl there ↦ inl there
-  | inr absent ↦ inr (change_absent cs n (λ c there same. absent (subst (Contains (needles_of cs)) same (needle_in cs c there))))
+  | inr absent ↦ inr (change_absent cs n (λ c there same. absent (subst (Contains (needles_changed cs)) same (needle_in cs c there))))
 ]
 
-given_sum : (whole cs : List Changed) → IsInOrder whole → ((c : Changed) → Contains cs c → Contains whole c) → sum_by (λ n. given_size (change_at whole n)) (needles_of cs) ≡ segs_in cs
+given_sum : (whole cs : List Changed) → IsInOrder whole → ((c : Changed) → Contains cs c → Contains whole c) → sum_by (λ n. given_size (change_at whole n)) (needles_changed cs) ≡ segs_in cs
 given_sum whole [] order sub = refl
 given_sum whole (x ∷ cs) order sub =
     omega (
       arith,
       ap given_size (change_found whole x order (sub x (Contains-head x cs))),
       given_sum whole cs order (λ c h. sub c (Contains-tail x cs c h)),
-      sum_by-cons (λ n. given_size (change_at whole n)) x.0 (needles_of cs),
+      sum_by-cons (λ n. given_size (change_at whole n)) x.0 (needles_changed cs),
       sum_by-cons (λ (c : Changed). length c.1) x cs,
     )
 
-contents_sum : (whole cs : List Changed) → IsInOrder whole → ((c : Changed) → Contains cs c → Contains whole c) → segs_in cs ≡ sum_by (λ n. length (contents_of whole n)) (needles_of cs)
-contents_sum whole [] order sub = refl
-contents_sum whole (x ∷ cs) order sub =
+segments_sum : (whole cs : List Changed) → IsInOrder whole → ((c : Changed) → Contains cs c → Contains whole c) → segs_in cs ≡ sum_by (λ n. length (segments_on whole n)) (needles_changed cs)
+segments_sum whole [] order sub = refl
+segments_sum whole (x ∷ cs) order sub =
     omega (
       arith,
-      ap length (contents_found whole x order (sub x (Contains-head x cs))),
-      contents_sum whole cs order (λ c h. sub c (Contains-tail x cs c h)),
-      sum_by-cons (λ n. length (contents_of whole n)) x.0 (needles_of cs),
+      ap length (segments_found whole x order (sub x (Contains-head x cs))),
+      segments_sum whole cs order (λ c h. sub c (Contains-tail x cs c h)),
+      sum_by-cons (λ n. length (segments_on whole n)) x.0 (needles_changed cs),
       sum_by-cons (λ (c : Changed). length c.1) x cs,
     )
 
 new_sum : (whole cs : List Changed) → IsInOrder whole → ((c : Changed) → Contains cs c → Contains whole c) →
-    segs_in cs ≡ length (all_entries cs) + sum_by (λ n. new_of (contents_of whole n)) (needles_of cs)
+    segs_in cs ≡ length (all_entries cs) + sum_by (λ n. new_of (segments_on whole n)) (needles_changed cs)
 new_sum whole [] order sub = refl
 new_sum whole (x ∷ cs) order sub =
     omega (
       arith,
-      ap new_of (contents_found whole x order (sub x (Contains-head x cs))),
+      ap new_of (segments_found whole x order (sub x (Contains-head x cs))),
       length-segs x.1,
       length-append (entries_of x.1) (all_entries cs),
       new_sum whole cs order (λ c h. sub c (Contains-tail x cs c h)),
-      sum_by-cons (λ n. new_of (contents_of whole n)) x.0 (needles_of cs),
+      sum_by-cons (λ n. new_of (segments_on whole n)) x.0 (needles_changed cs),
       sum_by-cons (λ (c : Changed). length c.1) x cs,
     )
 
-through_length : (ch : List Changed) (lines : ℕ) (segs : List Seg) → length (through ch lines segs) ≡ sum_by (λ n. length (contents_of ch n)) (entries_of segs) + new_of segs
+through_length : (ch : List Changed) (lines : ℕ) (segs : List Seg) → length (through ch lines segs) ≡ sum_by (λ n. length (segments_on ch n)) (entries_of segs) + new_of segs
 through_length ch lines [] = refl
 through_length ch lines (Entry n ∷ segs) =
     omega (
       arith,
-      length-append (contents_of ch n) (through ch lines segs),
+      length-append (segments_on ch n) (through ch lines segs),
       through_length ch lines segs,
-      sum_by-cons (λ n. length (contents_of ch n)) n (entries_of segs),
+      sum_by-cons (λ n. length (segments_on ch n)) n (entries_of segs),
       sum_by-cons new_in (Entry n) segs,
     )
 through_length ch lines (New o ∷ segs) = omega (arith, through_length ch lines segs, sum_by-cons new_in (New o) segs)
 
 both_sum : (a b : List Changed) (lines : ℕ) (ns : List Needle) → IsInOrder b →
-    sum_by (λ n. length (contents_of (merged a (changes_through a lines b)) n)) ns ≡ sum_by (λ n. length (contents_of a n)) (names_through b ns) + new_through b ns
+    sum_by (λ n. length (segments_on (merged a (changes_through a lines b)) n)) ns ≡ sum_by (λ n. length (segments_on a n)) (names_through b ns) + new_through b ns
 both_sum a b lines [] order = refl
 both_sum a b lines (n ∷ ns) order =
     omega (
       arith,
-      ap length (contents_of-both a b lines n order),
-      through_length a lines (contents_of b n),
+      ap length (segments_on-both a b lines n order),
+      through_length a lines (segments_on b n),
       both_sum a b lines ns order,
-      sum_by-append (λ n. length (contents_of a n)) (held b n) (names_through b ns),
-      sum_by-cons (λ n. length (contents_of (merged a (changes_through a lines b)) n)) n ns,
-      sum_by-cons (λ n. new_of (contents_of b n)) n ns,
+      sum_by-append (λ n. length (segments_on a n)) (entries_on b n) (names_through b ns),
+      sum_by-cons (λ n. length (segments_on (merged a (changes_through a lines b)) n)) n ns,
+      sum_by-cons (λ n. new_of (segments_on b n)) n ns,
     )
 
-pub own_none : (cs : List Changed) (n : Needle) → change_at cs n ≡ None → contents_of cs n ≡ Entry n ∷ []
+-- a needle that no change names
+pub own_none : (cs : List Changed) (n : Needle) → change_at cs n ≡ None → segments_on cs n ≡ Entry n ∷ []
 own_none cs n e = ap (λ o. segs_or_own o n) e
 
 own_small : (o : Option (List Seg)) → own_size o ≤ 1
 own_small None = omega arith
 own_small (Some segs) = omega arith
 
-pub from_both : (a b : List Changed) (lines : ℕ) (n : Needle) → Contains (needles_of (merged a (changes_through a lines b))) n → Contains (needles_of a) n ⊎ Contains (needles_of b) n
+-- a needle that both blocks change together is changed by one of them
+pub from_both : (a b : List Changed) (lines : ℕ) (n : Needle) → Contains (needles_changed (merged a (changes_through a lines b))) n → Contains (needles_changed a) n ⊎ Contains (needles_changed b) n
 from_both a b lines n h =
     let c = in_needles (merged a (changes_through a lines b)) n h in
-    subst (λ m. Contains (needles_of a) m ⊎ Contains (needles_of b) m) c.2
-    (members_merged (λ (c : Changed). Contains (needles_of a) c.0 ⊎ Contains (needles_of b) c.0) a (changes_through a lines b)
+    subst (λ m. Contains (needles_changed a) m ⊎ Contains (needles_changed b) m) c.2
+    (members_merged (λ (c : Changed). Contains (needles_changed a) c.0 ⊎ Contains (needles_changed b) c.0) a (changes_through a lines b)
     (λ d there. inl (needle_in a d there))
-    (members_through (λ (c : Changed). Contains (needles_of a) c.0 ⊎ Contains (needles_of b) c.0) a lines b (λ d there. inr (needle_in b d there))) c.0 c.1)
+    (members_through (λ (c : Changed). Contains (needles_changed a) c.0 ⊎ Contains (needles_changed b) c.0) a lines b (λ d there. inr (needle_in b d there))) c.0 c.1)
 
 -- an entry that a merged needle holds is one of the second block's, or the first block changes it
-entry_or_changed : (a b : List Changed) (lines : ℕ) (m : Needle) → IsInOrder a → IsInOrder b → Contains (names_through b (needles_of (merged a (changes_through a lines b)))) m →
+entry_or_changed : (a b : List Changed) (lines : ℕ) (m : Needle) → IsInOrder a → IsInOrder b → Contains (names_through b (needles_changed (merged a (changes_through a lines b)))) m →
     Contains (all_entries b) m ⊎ (own_size (change_at a m) ≡ 0)
 entry_or_changed a b lines m order_a order_b h =
-    let v = from_through b (needles_of (merged a (changes_through a lines b))) m h in
+    let v = from_through b (needles_changed (merged a (changes_through a lines b))) m h in
     elim (named_or_none b v.0) [
       | inl there ↦ (let c = in_needles b v.0 there in
-          let found : contents_of b v.0 ≡ c.0.1 = ap (contents_of b) (sym c.2) ∙ contents_found b c.0 order_b c.1 in
+          let found : segments_on b v.0 ≡ c.0.1 = ap (segments_on b) (sym c.2) ∙ segments_found b c.0 order_b c.1 in
           inl (in_all b c.0 m c.1 (subst (λ segs. Contains (entries_of segs) m) found v.2)))
       | inr none ↦ (let same = only_itself v.0 m (subst (λ segs. Contains (entries_of segs) m) (own_none b v.0 none) v.2) in
           elim (from_both a b lines v.0 v.1) [
@@ -258,21 +255,21 @@ pub merged_segs : (a b : List Changed) (lines : ℕ) → IsInOrder a → IsInOrd
 merged_segs a b lines order_a order_b o =
     let m = merged a (changes_through a lines b) in
     let order = order_merged a (changes_through a lines b) order_a (order_through a lines b order_b) in
-    let ns = needles_of m in
+    let ns = needles_changed m in
     let distinct = needles_distinct m order in
     let xs = names_through b ns in
     let once = distinct_through b ns o distinct in
-    let given : sum_by (λ n. given_size (change_at a n)) xs ≤ sum_by (λ n. given_size (change_at a n)) (needles_of a)
-    = sum_support (λ n. given_size (change_at a n)) xs (needles_of a) once (λ n h. elim (named_or_none a n) [ inl there ↦ inl there | inr none ↦ inr (ap given_size none) ]) in
+    let given : sum_by (λ n. given_size (change_at a n)) xs ≤ sum_by (λ n. given_size (change_at a n)) (needles_changed a)
+    = sum_support (λ n. given_size (change_at a n)) xs (needles_changed a) once (λ n h. elim (named_or_none a n) [ inl there ↦ inl there | inr none ↦ inr (ap given_size none) ]) in
     let own : sum_by (λ n. own_size (change_at a n)) xs ≤ sum_by (λ n. own_size (change_at a n)) (all_entries b)
     = sum_support (λ n. own_size (change_at a n)) xs (all_entries b) once (λ n h. entry_or_changed a b lines n order_a order_b h) in
     let ones : sum_by (λ n. own_size (change_at a n)) (all_entries b) ≤ length (all_entries b) * 1
     = sum_by-le (λ n. own_size (change_at a n)) 1 (all_entries b) (λ k d below. own_small (change_at a _)) in
-    let new : new_through b ns ≤ new_through b (needles_of b)
-    = sum_support (λ n. new_of (contents_of b n)) ns (needles_of b) distinct (λ n h. elim (named_or_none b n) [ inl there ↦ inl there | inr none ↦ inr (ap new_of (own_none b n none)) ]) in
+    let new : new_through b ns ≤ new_through b (needles_changed b)
+    = sum_support (λ n. new_of (segments_on b n)) ns (needles_changed b) distinct (λ n h. elim (named_or_none b n) [ inl there ↦ inl there | inr none ↦ inr (ap new_of (own_none b n none)) ]) in
     omega (
       arith,
-      contents_sum m m order (λ c h. h),
+      segments_sum m m order (λ c h. h),
       both_sum a b lines ns order_b,
       sum_of_both a xs,
       given,
@@ -296,8 +293,8 @@ capped_is n most h small =
 -- Room for both faces by their lists is room for their composition.
 pub finds_room : (a b : FaceView) → AreGood a b → IsPacked a → IsPacked b → (room : Room) → CanBeMade room → IsNoGreater (room_of_both a b) room → FindsRoom a b room
 finds_room a b g pa pb room made h =
-    let ca = changes_of a in
-    let cb = changes_of b in
+    let ca = changes_in a in
+    let cb = changes_in b in
     let na = named_size a.names.now a.checks.now (record { fit = pa.checks_fit; whole = pa.names }) in
     let nb = named_size b.names.now b.checks.now (record { fit = pb.checks_fit; whole = pb.names }) in
     let sa = packed_size a.segs.now a.changes.now (record { fit = pa.changes_fit; whole = pa.segs }) in
@@ -307,9 +304,9 @@ finds_room a b g pa pb room made h =
     let lines_t = length-map cb (change_through ca a.lines) in
     let entries : length (all_entries ca) ≡ length (entries_of a.segs.now)
     = ap length (sym (all_entries_flat a.segs.now a.changes.now) ∙ ap entries_of pa.segs) in
-    let asked : length (checks_of b) * length (all_entries ca) ≡ length b.checks.now * length (entries_of a.segs.now)
+    let asked : length (checks_in b) * length (all_entries ca) ≡ length b.checks.now * length (entries_of a.segs.now)
     = ap₂ (λ (x y : ℕ). x * y) (length-map b.checks.now (asked_of b.names.now)) entries in
-    let read = names_read_bound ca (checks_of b) g.first.owns (λ c there. distinct_names g.carriers g.limit g.second_known c.ask (g.second.asks_fit c there)) in
+    let read = names_read_bound ca (checks_in b) g.first.fair.owns (λ c there. AskFits-distinct g.carriers g.limit g.second_known c.ask (g.second.fair.asks_fit c there)) in
     let names = capped_is (capped (length a.names.now + length b.names.now) + capped (length b.checks.now * length (entries_of a.segs.now))) room.names h.names made.names in
     let own = capped_is (length a.names.now + length b.names.now) (capped (length a.names.now + length b.names.now)) (omega arith) (omega (arith, names, made.names)) in
     let other = capped_is (length b.checks.now * length (entries_of a.segs.now)) (capped (length b.checks.now * length (entries_of a.segs.now))) (omega arith) (omega (arith, names, made.names)) in
@@ -317,7 +314,7 @@ finds_room a b g pa pb room made h =
       checks = capped_is (length a.checks.now + length b.checks.now) room.checks h.checks made.checks;
       names = omega (arith, na, nb, read, asked, names, own, other);
       changes = omega (arith, merged_length ca (changes_through ca a.lines cb), lines_a, lines_b, lines_t, capped_is (length a.changes.now + length b.changes.now) room.changes h.changes made.changes);
-      segs = omega (arith, merged_segs ca cb a.lines g.first.in_order g.second.in_order g.second.owns, sa, sb, capped_is (length a.segs.now + length b.segs.now) room.segs h.segs made.segs);
+      segs = omega (arith, merged_segs ca cb a.lines g.first.fair.in_order g.second.fair.in_order g.second.fair.owns, sa, sb, capped_is (length a.segs.now + length b.segs.now) room.segs h.segs made.segs);
     }
 
 capped_more : (n m : ℕ) (b c : Bool) → nat_lt (2 ^ 62) n ≡ b → nat_lt (2 ^ 62) m ≡ c → n ≤ m → (if b then 2 ^ 62 + 1 else n) ≤ (if c then 2 ^ 62 + 1 else m)

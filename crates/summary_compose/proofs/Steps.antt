@@ -32,20 +32,25 @@ pub step_implied : (b rest : Bearing) (q : Ask) (kept now : List Asked) (fault :
     StepIs (from_bearing b (from_bearing rest (asks q))) kept fault true now
 step_implied b rest q kept now fault e same = subst (λ x. StepIs (from_bearing x (from_bearing rest (asks q))) kept fault true now) (sym e) (refl, same)
 
+-- a condition that the effect refutes
 pub step_refuted : (b rest : Bearing) (q : Ask) (kept now : List Asked) (fault : Fault) → b ≡ Refuted → now ≡ kept →
     StepIs (from_bearing b (from_bearing rest (asks q))) kept fault false now
 step_refuted b rest q kept now fault e same = subst (λ x. StepIs (from_bearing x (from_bearing rest (asks q))) kept fault false now) (sym e) (refl, same)
 
+-- one of which the effect is silent
 pub step_later : (b rest : Bearing) (q : Ask) (kept now : List Asked) (fault : Fault) (goes_on : Bool) → b ≡ Silent → StepIs (from_bearing rest (asks q)) kept fault goes_on now →
     StepIs (from_bearing b (from_bearing rest (asks q))) kept fault goes_on now
 step_later b rest q kept now fault goes_on e h = subst (λ x. StepIs (from_bearing x (from_bearing rest (asks q))) kept fault goes_on now) (sym e) h
 
+-- one that the digest knows to hold
 pub step_known : (b : Bearing) (q : Ask) (kept now : List Asked) (fault : Fault) → b ≡ Implied → now ≡ kept → StepIs (from_bearing b (asks q)) kept fault true now
 step_known b q kept now fault e same = subst (λ x. StepIs (from_bearing x (asks q)) kept fault true now) (sym e) (refl, same)
 
+-- or not to hold
 pub step_known_not : (b : Bearing) (q : Ask) (kept now : List Asked) (fault : Fault) → b ≡ Refuted → now ≡ kept → StepIs (from_bearing b (asks q)) kept fault false now
 step_known_not b q kept now fault e same = subst (λ x. StepIs (from_bearing x (asks q)) kept fault false now) (sym e) (refl, same)
 
+-- one that is kept
 pub step_kept : (b : Bearing) (q : Ask) (kept now : List Asked) (fault : Fault) → b ≡ Silent → now ≡ kept ++ record { fault = fault; ask = q } ∷ [] →
     StepIs (from_bearing b (asks q)) kept fault true now
 step_kept b q kept now fault e more = subst (λ x. StepIs (from_bearing x (asks q)) kept fault true now) (sym e) (refl, more)
@@ -62,12 +67,14 @@ plain_notes (HookLacks c) plain = refl
 notes_push : (kept : List Asked) (c : Asked) → notes_of (kept ++ c ∷ []) ≡ notes_of kept ++ notes_in c.ask
 notes_push kept c = flat_map-append (λ (c : Asked). notes_in c.ask) kept (c ∷ []) ∙ ap (λ ns. notes_of kept ++ ns) (append-nil (notes_in c.ask))
 
+-- nothing new is known
 pub knows_same : (old now : Digest) (notes more : List Note) (kept checks : List Asked) → now ≡ old → more ≡ notes → checks ≡ kept → Knows old notes kept → Knows now more checks
 knows_same old now notes more kept checks d n k h = record {
   digest_is = d ∙ h.digest_is ∙ ap digest_of (sym k);
   notes_are = n ∙ h.notes_are ∙ ap notes_of (sym k);
 }
 
+-- a condition that is not on sizes is known from now on
 pub knows_plain : (old now : Digest) (notes : List Note) (kept checks : List Asked) (fault : Fault) (c : Cond) → IsPlainCond c → now ≡ noted old (ask_of [] c) →
     checks ≡ kept ++ record { fault = fault; ask = ask_of [] c } ∷ [] → Knows old notes kept → Knows now notes checks
 knows_plain old now notes kept checks fault c plain d k h =
@@ -81,6 +88,7 @@ noted_size : (d : Digest) (names : List Needle) (most : ℕ) → noted d (size_a
 unfolding noted
 noted_size d names most = refl
 
+-- and so is one on sizes
 pub knows_size : (digest : Digest) (notes more : List Note) (kept checks : List Asked) (fault : Fault) (names : List Needle) (most : ℕ) →
     more ≡ notes ++ notes_in (size_at_most names most) → checks ≡ kept ++ record { fault = fault; ask = size_at_most names most } ∷ [] → Knows digest notes kept → Knows digest more checks
 knows_size digest notes more kept checks fault names most n k h =
@@ -94,9 +102,11 @@ knows_size digest notes more kept checks fault names most n k h =
 pub step_size_holds : (answer : Answer) (names : List Needle) (word : SizeWord) (kept now : List Asked) (fault : Fault) → answer ≡ answer_in names word → word ≡ Holds → now ≡ kept → StepIs answer kept fault true now
 step_size_holds answer names word kept now fault e w same = subst (λ x. StepIs x kept fault true now) (sym (e ∙ ap (answer_in names) w)) (refl, same)
 
+-- a condition on sizes that can't hold
 pub step_size_fails : (answer : Answer) (names : List Needle) (word : SizeWord) (kept now : List Asked) (fault : Fault) → answer ≡ answer_in names word → word ≡ Fails → now ≡ kept → StepIs answer kept fault false now
 step_size_fails answer names word kept now fault e w same = subst (λ x. StepIs x kept fault false now) (sym (e ∙ ap (answer_in names) w)) (refl, same)
 
+-- and one that is kept
 pub step_size_asks : (answer : Answer) (names : List Needle) (word : SizeWord) (left : ℕ) (kept now : List Asked) (fault : Fault) → answer ≡ answer_in names word → word ≡ Asks left →
     now ≡ kept ++ record { fault = fault; ask = size_at_most names left } ∷ [] → StepIs answer kept fault true now
 step_size_asks answer names word left kept now fault e w more = subst (λ x. StepIs x kept fault true now) (sym (e ∙ ap (answer_in names) w)) (refl, more)
@@ -120,5 +130,6 @@ notes_length (c ∷ cs) =
     length-append (notes_in c.ask) (notes_of cs) ∙ ap₂ (λ (n m : ℕ). n + m) (ask_notes_length c.ask) (notes_length cs)
     ∙ sym (sum_by-cons (λ (c : Asked). length (names_in c.ask)) c cs)
 
+-- there is a note for each needle that is named
 pub known_length : (digest : Digest) (notes : List Note) (kept : List Asked) → Knows digest notes kept → length notes ≡ names_count kept
 known_length digest notes kept h = ap length h.notes_are ∙ notes_length kept

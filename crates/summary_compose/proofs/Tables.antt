@@ -8,15 +8,15 @@ use Rattle.std.proofs.lemmas.Option.{slice_get_within, get_or_from_slice_get, sl
 use Rattle.std.proofs.lemmas.Bool.{true≢false}
 use Rattle.knit_base.specs.declared.needle.Needle.{Needle}
 use Rattle.knit_base.specs.Needle.{same_needle, same_needle-true}
-use Rattle.face_data.proofs.Members.{same_needle_same}
 use Rattle.summary_compose.specs.Spots.{spot_of}
-use Rattle.summary_compose.specs.Tables.{Leads, Tells, needles_of, AreLinked, note_of, suits}
+use Rattle.summary_compose.specs.Tables.{Leads, IsTableOf, link_needles, AreLinked, note_of, suits}
 use Rattle.summary_compose.specs.declared.index.Link.{Link}
-use Rattle.summary_compose.proofs.Rows.{spot_of-injective}
+use Rattle.summary_compose.proofs.NeedleSpots.{spot_of-injective}
+use Rattle.knit_base.proofs.Needles.{same_needle-same}
 
 needle_cases_on : (n m : Needle) (b : Bool) → same_needle n m ≡ b → (n ≡ m) ⊎ (n ≡ m → ⊥)
 needle_cases_on n m true e = inl (same_needle-true n m e)
-needle_cases_on n m false e = inr (λ same. true≢false (sym (same_needle_same n m same) ∙ e))
+needle_cases_on n m false e = inr (λ same. true≢false (sym (same_needle-same n m same) ∙ e))
 
 -- two needles are one or not
 pub needle_cases : (n m : Needle) → (n ≡ m) ⊎ (n ≡ m → ⊥)
@@ -45,7 +45,7 @@ leads_other names m n place differ h k within here = go (last_or_before k (lengt
         (at.0, room, get_or_append_left names (m ∷ []) n place at.1 ∙ at.2)
     go (inr last) = absurd (differ (sym (get_or_push names m n k (sym last)) ∙ here))
 
-tells_at : (entries : List ℕ) (names : List Needle) (m : Needle) → Tells entries names → (n : Needle) (place : ℕ) →
+tells_at : (entries : List ℕ) (names : List Needle) (m : Needle) → IsTableOf entries names → (n : Needle) (place : ℕ) →
     slice_get (set entries (spot_of m) (length names)) (spot_of n) ≡ Some place → (m ≡ n) ⊎ (m ≡ n → ⊥) → Leads (names ++ m ∷ []) n place
 tells_at entries names m h n place found (inl same) =
     let within = slice_get_within (set entries (spot_of m) (length names)) (spot_of n) place found in
@@ -63,29 +63,30 @@ tells_at entries names m h n place found (inr differ) =
     leads_other names m n place differ (h n place (slice_get-get_or entries (spot_of n) 0 (omega arith) ∙ ap Some is))
 
 -- a table with one more place noted
-pub tells_push : (entries : List ℕ) (names : List Needle) (m : Needle) → Tells entries names → Tells (set entries (spot_of m) (length names)) (names ++ m ∷ [])
+pub tells_push : (entries : List ℕ) (names : List Needle) (m : Needle) → IsTableOf entries names → IsTableOf (set entries (spot_of m) (length names)) (names ++ m ∷ [])
 tells_push entries names m h n place found = tells_at entries names m h n place found (needle_cases m n)
 
 -- no needle, no place
-pub tells_none : (entries : List ℕ) → Tells entries []
+pub tells_none : (entries : List ℕ) → IsTableOf entries []
 tells_none entries n place found k within here = absurd (omega arith)
 
+-- no link
 pub linked_none : AreLinked []
 linked_none k d within = absurd (omega arith)
 
 -- links and one more
-pub linked_push : (links : List Link) (l : Link) → AreLinked links → Leads (needles_of links) l.needle l.next → AreLinked (links ++ l ∷ [])
+pub linked_push : (links : List Link) (l : Link) → AreLinked links → Leads (link_needles links) l.needle l.next → AreLinked (links ++ l ∷ [])
 linked_push links l h last k d within = go (last_or_before k (length links) (subst (λ j. k < j) (length_push links l) within))
   where
-    go : (k < length links) ⊎ (k ≡ length links) → Leads (needles_of (take k (links ++ l ∷ []))) (get_or (links ++ l ∷ []) k d).needle (get_or (links ++ l ∷ []) k d).next
+    go : (k < length links) ⊎ (k ≡ length links) → Leads (link_needles (take k (links ++ l ∷ []))) (get_or (links ++ l ∷ []) k d).needle (get_or (links ++ l ∷ []) k d).next
     go (inl before) =
-        subst (λ xs. Leads (needles_of xs) (get_or (links ++ l ∷ []) k d).needle (get_or (links ++ l ∷ []) k d).next)
+        subst (λ xs. Leads (link_needles xs) (get_or (links ++ l ∷ []) k d).needle (get_or (links ++ l ∷ []) k d).next)
         (sym (take-append-le k links (l ∷ []) (omega arith)))
-        (subst (λ (x : Link). Leads (needles_of (take k links)) x.needle x.next) (sym (get_or_append_left links (l ∷ []) d k before)) (h k d before))
+        (subst (λ (x : Link). Leads (link_needles (take k links)) x.needle x.next) (sym (get_or_append_left links (l ∷ []) d k before)) (h k d before))
     go (inr seam) =
-        subst (λ xs. Leads (needles_of xs) (get_or (links ++ l ∷ []) k d).needle (get_or (links ++ l ∷ []) k d).next)
+        subst (λ xs. Leads (link_needles xs) (get_or (links ++ l ∷ []) k d).needle (get_or (links ++ l ∷ []) k d).next)
         (sym (take_at links (l ∷ []) k (sym seam)))
-        (subst (λ (x : Link). Leads (needles_of links) x.needle x.next) (sym (get_or_push links l d k (sym seam))) last)
+        (subst (λ (x : Link). Leads (link_needles links) x.needle x.next) (sym (get_or_push links l d k (sym seam))) last)
 
 -- the test of all links but the first
 suits_first : (n : Needle) (len most : ℕ) (l : Link) (b : Bool) → same_needle l.needle n ≡ b → (l.needle ≡ n → ⊥) → suits n len most (note_of l) ≡ false
@@ -99,7 +100,7 @@ either_false : (x y : Bool) → x ≡ false → y ≡ false → (x || y) ≡ fal
 either_false x y p q = ap (λ b. b || y) p ∙ q
 
 -- nothing suits where the needle isn't
-pub suits_none : (n : Needle) (len most : ℕ) (links : List Link) → ((k : ℕ) → k < length (needles_of links) → get_or (needles_of links) k n ≡ n → ⊥) →
+pub suits_none : (n : Needle) (len most : ℕ) (links : List Link) → ((k : ℕ) → k < length (link_needles links) → get_or (link_needles links) k n ≡ n → ⊥) →
     list_any (suits n len most) (map note_of links) ≡ false
 suits_none n len most [] h = refl
 suits_none n len most (l ∷ links) h =
@@ -115,7 +116,7 @@ or_nothing : (x y z : Bool) → x ≡ y → z ≡ false → (z || x) ≡ y
 or_nothing x y z p q = ap (λ b. b || x) q ∙ p
 
 -- behind the last place of the needle, and there where that note doesn't suit, is nothing that suits
-pub suits_before : (n : Needle) (len most : ℕ) (links : List Link) (place : ℕ) (d : Link) → Leads (needles_of links) n place → place < length links →
+pub suits_before : (n : Needle) (len most : ℕ) (links : List Link) (place : ℕ) (d : Link) → Leads (link_needles links) n place → place < length links →
     suits n len most (note_of (get_or links place d)) ≡ false → list_any (suits n len most) (map note_of links) ≡ list_any (suits n len most) (map note_of (take place links))
 suits_before n len most [] place d h within fails = absurd (omega arith)
 suits_before n len most (l ∷ links) zero d h within fails =
@@ -124,11 +125,11 @@ suits_before n len most (l ∷ links) zero d h within fails =
 suits_before n len most (l ∷ links) (suc place) d h within fails =
     ap (λ b. suits n len most (note_of l) || b) (suits_before n len most links place d shifted (omega arith) fails)
   where
-    shifted : Leads (needles_of links) n place
+    shifted : Leads (link_needles links) n place
     shifted k small here =
         let at = h (suc k) (omega arith) here in
         let order : suc k ≤ suc place = at.0 in
-        let room : suc place < suc (length (needles_of links)) = at.1 in
+        let room : suc place < suc (length (link_needles links)) = at.1 in
         (omega arith, omega arith, at.2)
 
 or_something : (x y : Bool) → y ≡ true → (x || y) ≡ true
@@ -149,62 +150,69 @@ leads_take_same names i n within here =
     subst (λ xs. Leads xs n i) (sym (take_more names i n within))
     (subst (λ j. Leads (take i names ++ get_or names i n ∷ []) n j) (length-take-le i names (omega arith)) (leads_same (take i names) (get_or names i n) n here))
 
+-- another needle does not change where this one stands
 pub leads_take_other : (names : List Needle) (i : ℕ) (n : Needle) (place : ℕ) → i < length names → (get_or names i n ≡ n → ⊥) → Leads (take i names) n place →
     Leads (take (i + 1) names) n place
 leads_take_other names i n place within differ h =
     subst (λ xs. Leads xs n place) (sym (take_more names i n within)) (leads_other (take i names) (get_or names i n) n place differ h)
 
-pub needle_of-get_or : (links : List Link) (i : ℕ) (d : Link) (n : Needle) → i < length links → get_or (needles_of links) i n ≡ (get_or links i d).needle
+-- the needle of the link at a place
+pub needle_of-get_or : (links : List Link) (i : ℕ) (d : Link) (n : Needle) → i < length links → get_or (link_needles links) i n ≡ (get_or links i d).needle
 needle_of-get_or [] i d n within = absurd (omega arith)
 needle_of-get_or (l ∷ links) zero d n within = refl
 needle_of-get_or (l ∷ links) (suc i) d n within = needle_of-get_or links i d n (omega arith)
 
 -- what the walks over links need, with what the code gives as premises
 pub seek_same : (links : List Link) (i : ℕ) (d : Link) (n : Needle) (last : ℕ) → i < length links → (get_or links i d).needle ≡ n → last ≡ i →
-    Leads (take (i + 1) (needles_of links)) n last
+    Leads (take (i + 1) (link_needles links)) n last
 seek_same links i d n last within same is =
     let len = length-map links (λ (l : Link). l.needle) in
-    subst (λ p. Leads (take (i + 1) (needles_of links)) n p) (sym is)
-    (leads_take_same (needles_of links) i n (omega arith) (needle_of-get_or links i d n within ∙ same))
+    subst (λ p. Leads (take (i + 1) (link_needles links)) n p) (sym is)
+    (leads_take_same (link_needles links) i n (omega arith) (needle_of-get_or links i d n within ∙ same))
 
+-- a needle that does not stand at the next place
 pub seek_other : (links : List Link) (i : ℕ) (d : Link) (n : Needle) (last old : ℕ) → i < length links → ((get_or links i d).needle ≡ n → ⊥) → last ≡ old →
-    Leads (take i (needles_of links)) n old → Leads (take (i + 1) (needles_of links)) n last
+    Leads (take i (link_needles links)) n old → Leads (take (i + 1) (link_needles links)) n last
 seek_other links i d n last old within differ is h =
     let len = length-map links (λ (l : Link). l.needle) in
-    subst (λ p. Leads (take (i + 1) (needles_of links)) n p) (sym is)
-    (leads_take_other (needles_of links) i n old (omega arith) (λ same. differ (sym (needle_of-get_or links i d n within) ∙ same)) h)
+    subst (λ p. Leads (take (i + 1) (link_needles links)) n p) (sym is)
+    (leads_take_other (link_needles links) i n old (omega arith) (λ same. differ (sym (needle_of-get_or links i d n within) ∙ same)) h)
 
-pub tells_links : (entries : List ℕ) (links xs : List Link) → xs ≡ links → Tells entries (needles_of links) → Tells entries (needles_of xs)
-tells_links entries links xs e h = subst (λ ys. Tells entries (needles_of ys)) (sym e) h
+-- the same links, the same places
+pub tells_links : (entries : List ℕ) (links xs : List Link) → xs ≡ links → IsTableOf entries (link_needles links) → IsTableOf entries (link_needles xs)
+tells_links entries links xs e h = subst (λ ys. IsTableOf entries (link_needles ys)) (sym e) h
 
+-- one link more is in the table
 pub tells_more : (entries more : List ℕ) (links now : List Link) (l : Link) (place : ℕ) → place ≡ length links → more ≡ set entries (spot_of l.needle) place →
-    now ≡ links ++ l ∷ [] → Tells entries (needles_of links) → Tells more (needles_of now)
+    now ≡ links ++ l ∷ [] → IsTableOf entries (link_needles links) → IsTableOf more (link_needles now)
 tells_more entries more links now l place here written e h =
     let name : Link → Needle = λ (x : Link). x.needle in
     let len = length-map links name in
-    let at : place ≡ length (needles_of links) = here ∙ sym len in
-    let now_is : needles_of now ≡ needles_of links ++ l.needle ∷ [] = ap needles_of e ∙ map-append name links (l ∷ []) in
-    let more_is : more ≡ set entries (spot_of l.needle) (length (needles_of links)) = written ∙ ap (λ p. set entries (spot_of l.needle) p) at in
-    subst (λ es. Tells es (needles_of now)) (sym more_is)
-    (subst (λ ns. Tells (set entries (spot_of l.needle) (length (needles_of links))) ns) (sym now_is) (tells_push entries (needles_of links) l.needle h))
+    let at : place ≡ length (link_needles links) = here ∙ sym len in
+    let now_is : link_needles now ≡ link_needles links ++ l.needle ∷ [] = ap link_needles e ∙ map-append name links (l ∷ []) in
+    let more_is : more ≡ set entries (spot_of l.needle) (length (link_needles links)) = written ∙ ap (λ p. set entries (spot_of l.needle) p) at in
+    subst (λ es. IsTableOf es (link_needles now)) (sym more_is)
+    (subst (λ ns. IsTableOf (set entries (spot_of l.needle) (length (link_needles links))) ns) (sym now_is) (tells_push entries (link_needles links) l.needle h))
 
-pub linked_more : (links xs now : List Link) (l : Link) → xs ≡ links → now ≡ links ++ l ∷ [] → AreLinked links → Leads (needles_of xs) l.needle l.next → AreLinked now
+-- one link more leads on
+pub linked_more : (links xs now : List Link) (l : Link) → xs ≡ links → now ≡ links ++ l ∷ [] → AreLinked links → Leads (link_needles xs) l.needle l.next → AreLinked now
 linked_more links xs now l same e h last =
-    subst AreLinked (sym e) (linked_push links l h (subst (λ ys. Leads (needles_of ys) l.needle l.next) same last))
+    subst AreLinked (sym e) (linked_push links l h (subst (λ ys. Leads (link_needles ys) l.needle l.next) same last))
 
 -- what is known in the middle of the walk back over the links of a needle
 pub record Walks (links : List Link) (n : Needle) (len most limit place : ℕ) (whole : Bool) : Type 0 where
   pub within : limit ≤ length links
-  pub leads : Leads (needles_of (take limit links)) n place
+  pub leads : Leads (link_needles (take limit links)) n place
   pub same : list_any (suits n len most) (map note_of (take limit links)) ≡ whole
 
-pub walk_begins : (links xs : List Link) (n : Needle) (len most place limit : ℕ) → xs ≡ links → limit ≡ length links → Leads (needles_of xs) n place →
+-- a walk from link to link begins
+pub walk_begins : (links xs : List Link) (n : Needle) (len most place limit : ℕ) → xs ≡ links → limit ≡ length links → Leads (link_needles xs) n place →
     Walks links n len most limit place (list_any (suits n len most) (map note_of links))
 walk_begins links xs n len most place limit same all h =
     let whole : take limit links ≡ links = take_all limit links (omega arith) in
     record {
       within = omega arith;
-      leads = subst (λ ys. Leads (needles_of ys) n place) (same ∙ sym whole) h;
+      leads = subst (λ ys. Leads (link_needles ys) n place) (same ∙ sym whole) h;
       same = ap (λ ys. list_any (suits n len most) (map note_of ys)) whole;
     }
 
@@ -218,6 +226,7 @@ and_true x y p q = ap (λ b. b && y) p ∙ q
 at_read : (links : List Link) (limit place : ℕ) (x : Link) → place < limit → x ≡ get_or links place x → get_or (take limit links) place x ≡ x
 at_read links limit place x before is = get_or-take limit links place x before ∙ sym is
 
+-- goes on to the link before
 pub walk_on : (links : List Link) (n : Needle) (len most limit place : ℕ) (whole : Bool) (x : Link) → Walks links n len most limit place whole → AreLinked links →
     place < limit → x ≡ get_or links place x → x.needle ≡ n → (nat_le len x.len && nat_le x.most most) ≡ false → Walks links n len most place x.next whole
 walk_on links n len most limit place whole x w linked before is mine refused =
@@ -228,11 +237,12 @@ walk_on links n len most limit place whole x w linked before is mine refused =
     ap (λ (l : Link). suits n len most (note_of l)) read ∙ and_false (same_needle x.needle n) (nat_le len x.len && nat_le x.most most) refused in
     record {
       within = omega arith;
-      leads = subst (λ m. Leads (needles_of (take place links)) m x.next) mine (subst (λ (l : Link). Leads (needles_of (take place links)) l.needle l.next) (sym is) (linked place x (omega arith)));
+      leads = subst (λ m. Leads (link_needles (take place links)) m x.next) mine (subst (λ (l : Link). Leads (link_needles (take place links)) l.needle l.next) (sym is) (linked place x (omega arith)));
       same = ap (λ ys. list_any (suits n len most) (map note_of ys)) (sym (take-take place limit links (omega arith)))
           ∙ sym (suits_before n len most (take limit links) place x w.leads (omega arith) unfit) ∙ w.same;
     }
 
+-- finds a note that suits
 pub walk_finds : (links : List Link) (n : Needle) (len most limit place : ℕ) (whole : Bool) (x : Link) → Walks links n len most limit place whole →
     place < limit → x ≡ get_or links place x → x.needle ≡ n → (nat_le len x.len && nat_le x.most most) ≡ true → true ≡ whole
 walk_finds links n len most limit place whole x w before is mine so =
@@ -240,17 +250,19 @@ walk_finds links n len most limit place whole x w before is mine so =
     let few = length-take-le limit links within in
     let read = at_read links limit place x before is in
     let fit : suits n len most (note_of (get_or (take limit links) place x)) ≡ true =
-    ap (λ (l : Link). suits n len most (note_of l)) read ∙ and_true (same_needle x.needle n) (nat_le len x.len && nat_le x.most most) (same_needle_same x.needle n mine) so in
+    ap (λ (l : Link). suits n len most (note_of l)) read ∙ and_true (same_needle x.needle n) (nat_le len x.len && nat_le x.most most) (same_needle-same x.needle n mine) so in
     sym (suits_at n len most (take limit links) place x (omega arith) fit) ∙ w.same
 
+-- ends where no link is left
 pub walk_ends : (links : List Link) (n : Needle) (len most limit place : ℕ) (whole : Bool) → Walks links n len most limit place whole →
-    (place < limit → get_or (needles_of (take limit links)) place n ≡ n → ⊥) → false ≡ whole
+    (place < limit → get_or (link_needles (take limit links)) place n ≡ n → ⊥) → false ≡ whole
 walk_ends links n len most limit place whole w absent =
     let within : limit ≤ length links = w.within in
     let few = length-take-le limit links within in
     let len' = length-map (take limit links) (λ (l : Link). l.needle) in
-    sym (suits_none n len most (take limit links) (leads_nowhere (needles_of (take limit links)) n place w.leads (λ small. absent (omega arith)))) ∙ w.same
+    sym (suits_none n len most (take limit links) (leads_nowhere (link_needles (take limit links)) n place w.leads (λ small. absent (omega arith)))) ∙ w.same
 
+-- or at the link of another needle
 pub walk_ends_at : (links : List Link) (n : Needle) (len most limit place : ℕ) (whole : Bool) (x : Link) → Walks links n len most limit place whole →
     place < limit → x ≡ get_or links place x → (x.needle ≡ n → ⊥) → false ≡ whole
 walk_ends_at links n len most limit place whole x w before is differ =
@@ -259,7 +271,8 @@ walk_ends_at links n len most limit place whole x w before is differ =
     walk_ends links n len most limit place whole w
     (λ small here. differ (ap (λ (l : Link). l.needle) (sym (at_read links limit place x before is)) ∙ sym (needle_of-get_or (take limit links) place x n (omega arith)) ∙ here))
 
-pub seek_all : (links : List Link) (i : ℕ) (n : Needle) (last : ℕ) → length links ≤ i → Leads (take i (needles_of links)) n last → Leads (needles_of links) n last
+-- after all places, where it was last seen
+pub seek_all : (links : List Link) (i : ℕ) (n : Needle) (last : ℕ) → length links ≤ i → Leads (take i (link_needles links)) n last → Leads (link_needles links) n last
 seek_all links i n last all h =
     let len = length-map links (λ (l : Link). l.needle) in
-    subst (λ ns. Leads ns n last) (take_all i (needles_of links) (omega arith)) h
+    subst (λ ns. Leads ns n last) (take_all i (link_needles links) (omega arith)) h

@@ -13,7 +13,7 @@ use Rattle.face_data.specs.Conditions.{part_of}
 use Rattle.face_data.specs.Segments.{Changed}
 use Rattle.face_data.specs.Through.{through, change_through, changes_through}
 use Rattle.face_data.specs.View.{changed_of}
-use Rattle.summary_compose.specs.Changes.{segs_in, changes_of}
+use Rattle.summary_compose.specs.Changes.{segs_in, changes_in}
 
 less_first : (a b : Changed) (others bs : List Changed) → needle_cmp a.0 b.0 ≡ Less → merged (a ∷ others) (b ∷ bs) ≡ a ∷ merged others (b ∷ bs)
 less_first a b others bs e = ap (λ o. by_order o (a ∷ merged others (b ∷ bs)) (b ∷ merged others bs) (b ∷ merged_from a (merged others) bs)) e
@@ -27,6 +27,7 @@ greater_second a b others bs e = ap (λ o. by_order o (a ∷ merged others (b �
 within_or_past : (i n : ℕ) → (i < n) ⊎ (n ≤ i)
 within_or_past i n = grind arith
 
+-- the first list's change comes next
 pub turn_first : (xs ys : List Changed) (i j : ℕ) (d : Changed) → i < length xs → (j < length ys → needle_cmp (get_or xs i d).0 (get_or ys j d).0 ≡ Less) →
     merged (drop i xs) (drop j ys) ≡ get_or xs i d ∷ merged (drop (i + 1) xs) (drop j ys)
 turn_first xs ys i j d within less = go (within_or_past j (length ys))
@@ -40,6 +41,7 @@ turn_first xs ys i j d within less = go (within_or_past j (length ys))
         ap₂ merged (drop_more xs i d within) (drop_all j ys past)
         ∙ ap (λ zs. get_or xs i d ∷ merged (drop (i + 1) xs) zs) (sym (drop_all j ys past))
 
+-- the second list's
 pub turn_second : (xs ys : List Changed) (i j : ℕ) (d : Changed) → j < length ys → (i < length xs → needle_cmp (get_or xs i d).0 (get_or ys j d).0 ≡ Greater) →
     merged (drop i xs) (drop j ys) ≡ get_or ys j d ∷ merged (drop i xs) (drop (j + 1) ys)
 turn_second xs ys i j d within greater = go (within_or_past i (length xs))
@@ -53,12 +55,14 @@ turn_second xs ys i j d within greater = go (within_or_past i (length xs))
         ap₂ merged (drop_all i xs past) (drop_more ys j d within)
         ∙ ap (λ zs. get_or ys j d ∷ merged zs (drop (j + 1) ys)) (sym (drop_all i xs past))
 
+-- or one needle is changed in both
 pub turn_both : (xs ys : List Changed) (i j : ℕ) (d : Changed) → i < length xs → j < length ys → needle_cmp (get_or xs i d).0 (get_or ys j d).0 ≡ Equal →
     merged (drop i xs) (drop j ys) ≡ get_or ys j d ∷ merged (drop (i + 1) xs) (drop (j + 1) ys)
 turn_both xs ys i j d first second equal =
     ap₂ merged (drop_more xs i d first) (drop_more ys j d second)
     ∙ equal_both (get_or xs i d) (get_or ys j d) (drop (i + 1) xs) (drop (j + 1) ys) equal
 
+-- no change is left
 pub turn_ends : (xs ys : List Changed) (i j : ℕ) → length xs ≤ i → length ys ≤ j → merged (drop i xs) (drop j ys) ≡ []
 turn_ends xs ys i j first second = ap₂ merged (drop_all i xs first) (drop_all j ys second)
 
@@ -75,6 +79,7 @@ laid_room laid rest before whole c b w =
     let more : length before ≡ suc (length rest) = ap length b in
     omega arith
 
+-- there is room for the segments of the next change
 pub laid_segs : (laid rest before whole : List Changed) (c : Changed) → before ≡ c ∷ rest → laid ++ before ≡ whole → segs_in laid + length c.1 ≤ segs_in whole
 laid_segs laid rest before whole c b w =
     let size : segs_in (laid ++ before) ≡ segs_in whole = ap segs_in w in
@@ -88,70 +93,73 @@ abbrev pub first_default : FaceView → Change → Changed
 first_default a d = changed_of a.segs.now d
 
 second_at : (a b : FaceView) (j : ℕ) (d : Change) (e : Changed) → j < length b.changes.now →
-    get_or (changes_through (changes_of a) a.lines (changes_of b)) j e ≡ change_through (changes_of a) a.lines (changed_of b.segs.now (get_or b.changes.now j d))
+    get_or (changes_through (changes_in a) a.lines (changes_in b)) j e ≡ change_through (changes_in a) a.lines (changed_of b.segs.now (get_or b.changes.now j d))
 second_at a b j d e within =
-    let long : length (changes_of b) ≡ length b.changes.now = length-map b.changes.now (changed_of b.segs.now) in
-    get_or-map (change_through (changes_of a) a.lines) (changes_of b) j e e (omega arith)
-    ∙ ap (change_through (changes_of a) a.lines) (get_or-map (changed_of b.segs.now) b.changes.now j d e within)
+    let long : length (changes_in b) ≡ length b.changes.now = length-map b.changes.now (changed_of b.segs.now) in
+    get_or-map (change_through (changes_in a) a.lines) (changes_in b) j e e (omega arith)
+    ∙ ap (change_through (changes_in a) a.lines) (get_or-map (changed_of b.segs.now) b.changes.now j d e within)
 
 second_needle : (a b : FaceView) (j : ℕ) (d : Change) (e : Changed) → j < length b.changes.now →
-    (get_or (changes_through (changes_of a) a.lines (changes_of b)) j e).0 ≡ (get_or b.changes.now j d).needle
+    (get_or (changes_through (changes_in a) a.lines (changes_in b)) j e).0 ≡ (get_or b.changes.now j d).needle
 second_needle a b j d e within = ap (λ (c : Changed). c.0) (second_at a b j d e within)
 
 second_is : (a b : FaceView) (j : ℕ) (d : Change) (e : Changed) (segs : List Seg) → j < length b.changes.now → segs ≡ part_of b.segs.now (get_or b.changes.now j d).part →
-    get_or (changes_through (changes_of a) a.lines (changes_of b)) j e ≡ ((get_or b.changes.now j d).needle, through (changes_of a) a.lines segs)
+    get_or (changes_through (changes_in a) a.lines (changes_in b)) j e ≡ ((get_or b.changes.now j d).needle, through (changes_in a) a.lines segs)
 second_is a b j d e segs within read =
-    second_at a b j d e within ∙ (λ k. ((get_or b.changes.now j d).needle, through (changes_of a) a.lines (sym read k)))
+    second_at a b j d e within ∙ (λ k. ((get_or b.changes.now j d).needle, through (changes_in a) a.lines (sym read k)))
 
 -- the same of two faces, with what the code reads of them
 pub first_next : (a b : FaceView) (i j : ℕ) (d : Change) (segs : List Seg) → i < length a.changes.now →
     (j < length b.changes.now → needle_cmp (get_or a.changes.now i d).needle (get_or b.changes.now j d).needle ≡ Less) →
     segs ≡ part_of a.segs.now (get_or a.changes.now i d).part →
-    merged (drop i (changes_of a)) (drop j (changes_through (changes_of a) a.lines (changes_of b)))
-    ≡ ((get_or a.changes.now i d).needle, segs) ∷ merged (drop (i + 1) (changes_of a)) (drop j (changes_through (changes_of a) a.lines (changes_of b)))
+    merged (drop i (changes_in a)) (drop j (changes_through (changes_in a) a.lines (changes_in b)))
+    ≡ ((get_or a.changes.now i d).needle, segs) ∷ merged (drop (i + 1) (changes_in a)) (drop j (changes_through (changes_in a) a.lines (changes_in b)))
 first_next a b i j d segs within less read =
-    let xs = changes_of a in
-    let ys = changes_through xs a.lines (changes_of b) in
+    let xs = changes_in a in
+    let ys = changes_through xs a.lines (changes_in b) in
     let long : length xs ≡ length a.changes.now = length-map a.changes.now (changed_of a.segs.now) in
-    let long_b : length ys ≡ length b.changes.now = length-map (changes_of b) (change_through xs a.lines) ∙ length-map b.changes.now (changed_of b.segs.now) in
+    let long_b : length ys ≡ length b.changes.now = length-map (changes_in b) (change_through xs a.lines) ∙ length-map b.changes.now (changed_of b.segs.now) in
     let here : get_or xs i (first_default a d) ≡ changed_of a.segs.now (get_or a.changes.now i d) = get_or-map (changed_of a.segs.now) a.changes.now i d (first_default a d) within in
     let is : get_or xs i (first_default a d) ≡ ((get_or a.changes.now i d).needle, segs) = here ∙ (λ k. ((get_or a.changes.now i d).needle, sym read k)) in
     turn_first xs ys i j (first_default a d) (omega arith)
     (λ before. ap₂ needle_cmp (ap (λ (c : Changed). c.0) here) (second_needle a b j d (first_default a d) (omega arith)) ∙ less (omega arith))
     ∙ ap (λ (c : Changed). c ∷ merged (drop (i + 1) xs) (drop j ys)) is
 
+-- the second list's change is laid
 pub second_next : (a b : FaceView) (i j : ℕ) (d : Change) (segs : List Seg) → j < length b.changes.now →
     (i < length a.changes.now → needle_cmp (get_or a.changes.now i d).needle (get_or b.changes.now j d).needle ≡ Greater) →
     segs ≡ part_of b.segs.now (get_or b.changes.now j d).part →
-    merged (drop i (changes_of a)) (drop j (changes_through (changes_of a) a.lines (changes_of b)))
-    ≡ ((get_or b.changes.now j d).needle, through (changes_of a) a.lines segs) ∷ merged (drop i (changes_of a)) (drop (j + 1) (changes_through (changes_of a) a.lines (changes_of b)))
+    merged (drop i (changes_in a)) (drop j (changes_through (changes_in a) a.lines (changes_in b)))
+    ≡ ((get_or b.changes.now j d).needle, through (changes_in a) a.lines segs) ∷ merged (drop i (changes_in a)) (drop (j + 1) (changes_through (changes_in a) a.lines (changes_in b)))
 second_next a b i j d segs within greater read =
-    let xs = changes_of a in
-    let ys = changes_through xs a.lines (changes_of b) in
+    let xs = changes_in a in
+    let ys = changes_through xs a.lines (changes_in b) in
     let long : length xs ≡ length a.changes.now = length-map a.changes.now (changed_of a.segs.now) in
-    let long_b : length ys ≡ length b.changes.now = length-map (changes_of b) (change_through xs a.lines) ∙ length-map b.changes.now (changed_of b.segs.now) in
+    let long_b : length ys ≡ length b.changes.now = length-map (changes_in b) (change_through xs a.lines) ∙ length-map b.changes.now (changed_of b.segs.now) in
     turn_second xs ys i j (first_default a d) (omega arith)
     (λ before. ap₂ needle_cmp (ap (λ (c : Changed). c.0) (get_or-map (changed_of a.segs.now) a.changes.now i d (first_default a d) (omega arith))) (second_needle a b j d (first_default a d) within) ∙ greater (omega arith))
     ∙ ap (λ (c : Changed). c ∷ merged (drop i xs) (drop (j + 1) ys)) (second_is a b j d (first_default a d) segs within read)
 
+-- where both lists change a needle the second one counts
 pub both_next : (a b : FaceView) (i j : ℕ) (d : Change) (segs : List Seg) → i < length a.changes.now → j < length b.changes.now →
     needle_cmp (get_or a.changes.now i d).needle (get_or b.changes.now j d).needle ≡ Equal →
     segs ≡ part_of b.segs.now (get_or b.changes.now j d).part →
-    merged (drop i (changes_of a)) (drop j (changes_through (changes_of a) a.lines (changes_of b)))
-    ≡ ((get_or b.changes.now j d).needle, through (changes_of a) a.lines segs) ∷ merged (drop (i + 1) (changes_of a)) (drop (j + 1) (changes_through (changes_of a) a.lines (changes_of b)))
+    merged (drop i (changes_in a)) (drop j (changes_through (changes_in a) a.lines (changes_in b)))
+    ≡ ((get_or b.changes.now j d).needle, through (changes_in a) a.lines segs) ∷ merged (drop (i + 1) (changes_in a)) (drop (j + 1) (changes_through (changes_in a) a.lines (changes_in b)))
 both_next a b i j d segs first second equal read =
-    let xs = changes_of a in
-    let ys = changes_through xs a.lines (changes_of b) in
+    let xs = changes_in a in
+    let ys = changes_through xs a.lines (changes_in b) in
     let long : length xs ≡ length a.changes.now = length-map a.changes.now (changed_of a.segs.now) in
-    let long_b : length ys ≡ length b.changes.now = length-map (changes_of b) (change_through xs a.lines) ∙ length-map b.changes.now (changed_of b.segs.now) in
+    let long_b : length ys ≡ length b.changes.now = length-map (changes_in b) (change_through xs a.lines) ∙ length-map b.changes.now (changed_of b.segs.now) in
     turn_both xs ys i j (first_default a d) (omega arith) (omega arith)
     (ap₂ needle_cmp (ap (λ (c : Changed). c.0) (get_or-map (changed_of a.segs.now) a.changes.now i d (first_default a d) first)) (second_needle a b j d (first_default a d) second) ∙ equal)
     ∙ ap (λ (c : Changed). c ∷ merged (drop (i + 1) xs) (drop (j + 1) ys)) (second_is a b j d (first_default a d) segs second read)
 
+-- all changes are laid
 pub all_laid : (a b : FaceView) (i j : ℕ) (laid whole : List Changed) → length a.changes.now ≤ i → length b.changes.now ≤ j →
-    laid ++ merged (drop i (changes_of a)) (drop j (changes_through (changes_of a) a.lines (changes_of b))) ≡ whole → laid ≡ whole
+    laid ++ merged (drop i (changes_in a)) (drop j (changes_through (changes_in a) a.lines (changes_in b))) ≡ whole → laid ≡ whole
 all_laid a b i j laid whole first second w =
-    let long : length (changes_of a) ≡ length a.changes.now = length-map a.changes.now (changed_of a.segs.now) in
-    let long_b : length (changes_through (changes_of a) a.lines (changes_of b)) ≡ length b.changes.now =
-    length-map (changes_of b) (change_through (changes_of a) a.lines) ∙ length-map b.changes.now (changed_of b.segs.now) in
-    sym (append-nil laid) ∙ ap (λ xs. laid ++ xs) (sym (turn_ends (changes_of a) (changes_through (changes_of a) a.lines (changes_of b)) i j (omega arith) (omega arith))) ∙ w
+    let long : length (changes_in a) ≡ length a.changes.now = length-map a.changes.now (changed_of a.segs.now) in
+    let long_b : length (changes_through (changes_in a) a.lines (changes_in b)) ≡ length b.changes.now =
+    length-map (changes_in b) (change_through (changes_in a) a.lines) ∙ length-map b.changes.now (changed_of b.segs.now) in
+    sym (append-nil laid) ∙ ap (λ xs. laid ++ xs) (sym (turn_ends (changes_in a) (changes_through (changes_in a) a.lines (changes_in b)) i j (omega arith) (omega arith))) ∙ w

@@ -10,17 +10,13 @@ use Rattle.face_data.specs.declared.face.FaceView.{FaceView}
 use Rattle.face_data.specs.Composition.{merged}
 use Rattle.face_data.specs.Segments.{Changed}
 use Rattle.face_data.specs.Through.{changes_through}
-use Rattle.face_data.specs.View.{changed_of}
+use Rattle.face_data.specs.View.{changed_of, PartsFit}
 
 -- the needles of changes
 abbrev pub changed_needles : List Change → List Needle
 changed_needles changes = map (λ (c : Change). c.needle) changes
 
--- the part of each change lies in the list of segments
-abbrev pub PartsFit : List Seg → List Change → Type 0
-PartsFit segs changes = All (λ (c : Change). c.part.start + c.part.len ≤ length segs) changes
-
--- and the parts make up the list
+-- the parts of the changes lie in the list of segments, and make it up
 pub record ArePacked (segs : List Seg) (changes : List Change) : Type 0 where
   pub fit : PartsFit segs changes
   pub whole : flat_map (λ (c : Change). part_of segs c.part) changes ≡ segs
@@ -39,12 +35,12 @@ abbrev pub HaveOffsets : ℕ → List Seg → List Change → Type 0
 HaveOffsets lines segs changes = All (λ (c : Change). All (OffsetFits lines) (part_of segs c.part)) changes
 
 -- the changes of a face with their segments written out
-abbrev pub changes_of : FaceView → List Changed
-changes_of face = map (changed_of face.segs.now) face.changes.now
+abbrev pub changes_in : FaceView → List Changed
+changes_in face = map (changed_of face.segs.now) face.changes.now
 
 -- the changes of both faces, those of the second read through the first
 abbrev pub merged_of : FaceView → FaceView → List Changed
-merged_of a b = merged (changes_of a) (changes_through (changes_of a) a.lines (changes_of b))
+merged_of a b = merged (changes_in a) (changes_through (changes_in a) a.lines (changes_in b))
 
 -- what contracts see of changes in the making: the changes, and for how many of them and of their segments there is room
 pub record LaidView : Type 0 where

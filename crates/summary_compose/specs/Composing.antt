@@ -9,9 +9,9 @@ use Rattle.face_data.specs.Composition.{reads}
 use Rattle.face_data.specs.Digests.{CarrierFits}
 use Rattle.face_data.specs.Goodness.{IsInOrder}
 use Rattle.face_data.specs.Summaries.{Summary}
-use Rattle.face_data.specs.View.{names_of}
-use Rattle.summary_compose.specs.Changes.{changes_of, merged_of, segs_in, HaveOffsets, PartsFit}
-use Rattle.summary_compose.specs.Known.{AreGood, AreNamed, IsReadable, checks_of, names_count, names_read_count}
+use Rattle.face_data.specs.View.{names_of, PartsFit}
+use Rattle.summary_compose.specs.Changes.{changes_in, merged_of, segs_in, HaveOffsets}
+use Rattle.summary_compose.specs.Known.{AreGood, AreNamed, IsReadable, checks_in, names_count, names_read_count}
 use Rattle.summary_compose.specs.declared.making.Making.{Making}
 use Rattle.summary_compose.specs.declared.room.Room.{Room}
 
@@ -29,11 +29,11 @@ pub record Composes (a b : FaceView) : Type 0 where
   pub readable : All (λ (c : Check). IsReadable a b.names.now c.cond) b.checks.now
   pub raised : All (λ (c : Check). a.lines + c.fault.line < 2 ^ 32) b.checks.now
   pub fit : PartsFit a.segs.now a.changes.now
-  pub order : IsInOrder (changes_of a)
+  pub order : IsInOrder (changes_in a)
   pub second_fit : PartsFit b.segs.now b.changes.now
   pub offsets : HaveOffsets a.lines b.segs.now b.changes.now
   pub few_segs : (effect more : Effect) → a.ending ≡ Through effect → b.ending ≡ Through more →
-      (reads effect (changes_of a) a.lines (checks_of a) (checks_of b)).stop ≡ None → segs_in (merged_of a b) < 2 ^ 32
+      (reads effect (changes_in a) a.lines (checks_in a) (checks_in b)).stop ≡ None → segs_in (merged_of a b) < 2 ^ 32
   pub lines : a.lines + b.lines < 2 ^ 32
   pub made : a.made + b.made < 2 ^ 32
   pub ending : EndingRises a b.ending
@@ -41,7 +41,7 @@ pub record Composes (a b : FaceView) : Type 0 where
 -- there is room for what is made on the way
 pub record FindsRoom (a b : FaceView) (room : Room) : Type 0 where
   pub checks : length a.checks.now + length b.checks.now ≤ room.checks
-  pub names : names_count (checks_of a) + names_read_count (changes_of a) (checks_of b) ≤ room.names
+  pub names : names_count (checks_in a) + names_read_count (changes_in a) (checks_in b) ≤ room.names
   pub changes : length (merged_of a b) ≤ room.changes
   pub segs : segs_in (merged_of a b) ≤ room.segs
 

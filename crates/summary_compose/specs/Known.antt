@@ -1,30 +1,26 @@
 -- What is known while conditions are read and kept.
-use Rattle.std.specs.Prelude.{◌≤◌, ◌<◌, ◌^◌, ◌≡◌, ℕ, ◌-◌, nat_lt, All, List, [], ◌∷◌, length, map, not, nat_eq, if◌then◌else◌, ◌++◌, Bool, true, false}
+use Rattle.std.specs.Prelude.{◌≤◌, ◌<◌, ◌^◌, ◌≡◌, ℕ, ◌-◌, nat_lt, All, List, [], ◌∷◌, length, map, if◌then◌else◌, ◌++◌, Bool, true, false}
 use Rattle.std.specs.List.{flat_map, list_any, sum_by}
-use Rattle.std.specs.Ordering.{int_eq}
 use Rattle.knit_base.specs.declared.needle.Needle.{Needle}
 use Rattle.knit_base.specs.declared.rule.Fault.{Fault}
-use Rattle.knit_base.specs.Yarns.{contains_carrier}
-use Rattle.face_data.specs.declared.bearing.Bearing.{Bearing}
-use Rattle.face_data.specs.declared.bearing.Bearing.TheVariants.{Implied, Refuted, Silent}
+use Rattle.face_data.specs.declared.bearing.Bearing.TheVariants.{Implied}
 use Rattle.face_data.specs.declared.face.Cond.{Cond}
 use Rattle.face_data.specs.declared.face.Cond.TheVariants.{SizeAtMost}
-use Rattle.face_data.specs.declared.face.Effect.{Effect}
 use Rattle.face_data.specs.declared.digest.Digest.{Digest}
-use Rattle.face_data.specs.Bearings.{if_so, same_or_not}
+use Rattle.face_data.specs.Bearings.{if_so}
 use Rattle.face_data.specs.Conditions.{Ask}
-use Rattle.face_data.specs.Conditions.Ask.{rack_is, carrier_in, carrier_out, hook_free, hook_is, hook_lacks, size_at_most}
-use Rattle.face_data.specs.Digests.{CarrierFits, digest_of, told_by}
+use Rattle.face_data.specs.Conditions.Ask.{size_at_most}
+use Rattle.face_data.specs.Digests.{CarrierFits, digest_of}
 use Rattle.face_data.specs.Segments.{Changed, names_through, new_through}
 use Rattle.face_data.specs.Goodness.{IsGood, names_in}
 use Rattle.face_data.specs.Summaries.{Asked}
 use Rattle.face_data.specs.declared.face.Check.{Check}
 use Rattle.face_data.specs.declared.face.FaceView.{FaceView}
-use Rattle.summary_compose.specs.Changes.{changes_of}
+use Rattle.summary_compose.specs.Changes.{changes_in}
 use Rattle.face_data.specs.Answers.{Answer}
 use Rattle.face_data.specs.Answers.Answer.{yes_it_does, no_it_does_not, asks}
 use Rattle.face_data.specs.Composition.{from_bearing}
-use Rattle.face_data.specs.View.{asked_of, summary_of, CondFits, names_of}
+use Rattle.face_data.specs.View.{asked_of, summary_of, CondFits, ChecksFit, names_of}
 use Rattle.summary_compose.specs.Spots.{IsNumbered}
 use Rattle.summary_compose.specs.Tables.{Note, suits}
 use Rattle.summary_compose.specs.declared.sizes.SizeWord.{SizeWord}
@@ -34,16 +30,6 @@ use Rattle.summary_compose.specs.declared.sizes.SizeWord.TheVariants.{Holds, Fai
 abbrev pub IsPlainCond : Cond → Type 0
 IsPlainCond (SizeAtMost p most) = ⊥
 IsPlainCond cond = Unit {0}
-
--- what an effect says of a condition that isn't on sizes
-unfoldable pub read_plain : Effect → Ask → Bearing
-read_plain effect (rack_is q) = told_by effect.rack (λ r. same_or_not (int_eq r.0 q))
-read_plain effect (carrier_in c) = if contains_carrier effect.came c then Implied else if_so (contains_carrier effect.went c) Refuted
-read_plain effect (carrier_out c) = if contains_carrier effect.came c then Refuted else if_so (contains_carrier effect.went c) Implied
-read_plain effect hook_free = told_by effect.hook (λ held. same_or_not (nat_eq held 0))
-read_plain effect (hook_is set) = told_by effect.hook (λ held. same_or_not (nat_eq held set))
-read_plain effect (hook_lacks c) = told_by effect.hook (λ held. same_or_not (not (contains_carrier held c)))
-read_plain effect (size_at_most names most) = Silent
 
 -- a note for each needle of a condition on sizes
 abbrev pub notes_in : Ask → List Note
@@ -76,7 +62,7 @@ answer_in names (Asks left) = asks (size_at_most names left)
 
 -- the parts of the conditions lie in the list of names, and make it up
 pub record AreNamed (names : List Needle) (checks : List Check) : Type 0 where
-  pub fit : All (λ (c : Check). CondFits names c.cond) checks
+  pub fit : ChecksFit names checks
   pub whole : flat_map (λ (c : Check). names_of names c.cond) checks ≡ names
 
 -- how many needles the conditions name
@@ -102,8 +88,8 @@ StepIs (asks ask) kept fault goes_on now = (goes_on ≡ true) × (now ≡ kept +
 
 -- the needles of the condition, read through the face, are few, and so are the new loops on them
 pub record IsFewThrough (a : FaceView) (needles : List Needle) : Type 0 where
-  pub names : length (names_through (changes_of a) needles) < 2 ^ 32
-  pub new : new_through (changes_of a) needles < 2 ^ 64
+  pub names : length (names_through (changes_in a) needles) < 2 ^ 32
+  pub new : new_through (changes_in a) needles < 2 ^ 64
 
 -- the condition, whose needles stand in the list of names, can be read through the face
 pub record IsReadable (a : FaceView) (names : List Needle) (c : Cond) : Type 0 where
@@ -112,8 +98,8 @@ pub record IsReadable (a : FaceView) (names : List Needle) (c : Cond) : Type 0 w
   pub few : IsFewThrough a (names_of names c)
 
 -- the conditions of a face with their needles written out
-abbrev pub checks_of : FaceView → List Asked
-checks_of face = map (asked_of face.names.now) face.checks.now
+abbrev pub checks_in : FaceView → List Asked
+checks_in face = map (asked_of face.names.now) face.checks.now
 
 -- Both faces are good for the same number of carriers, of which there are at most 64, and the same limit on loops, of 8 bits. The
 -- numbers of the known needles have 16 bits.

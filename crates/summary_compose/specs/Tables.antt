@@ -10,16 +10,16 @@ abbrev pub Leads : List Needle → Needle → ℕ → Type 0
 Leads names n place = (k : ℕ) → k < length names → slice_index_or names k n ≡ n → (k ≤ place) × (place < length names) × (slice_index_or names place n ≡ n)
 
 -- each entry of the table leads to its needle
-abbrev pub Tells : List ℕ → List Needle → Type 0
-Tells entries names = (n : Needle) (place : ℕ) → slice_get entries (spot_of n) ≡ Some place → Leads names n place
+abbrev pub IsTableOf : List ℕ → List Needle → Type 0
+IsTableOf entries names = (n : Needle) (place : ℕ) → slice_get entries (spot_of n) ≡ Some place → Leads names n place
 
 -- the needles of links
-abbrev pub needles_of : List Link → List Needle
-needles_of links = map (λ (l : Link). l.needle) links
+abbrev pub link_needles : List Link → List Needle
+link_needles links = map (λ (l : Link). l.needle) links
 
 -- each link leads to its needle's place before it
 abbrev pub AreLinked : List Link → Type 0
-AreLinked links = (k : ℕ) (d : Link) → k < length links → Leads (needles_of (take k links)) (slice_index_or links k d).needle (slice_index_or links k d).next
+AreLinked links = (k : ℕ) (d : Link) → k < length links → Leads (link_needles (take k links)) (slice_index_or links k d).needle (slice_index_or links k d).next
 
 -- one needle of a kept condition on sizes: how many needles that names, and how many loops it allows them together
 pub record Note : Type 0 where
@@ -27,6 +27,7 @@ pub record Note : Type 0 where
   pub len : ℕ
   pub most : ℕ
 
+-- what a link notes
 abbrev pub note_of : Link → Note
 note_of l = record { needle = l.needle; len = l.len; most = l.most }
 

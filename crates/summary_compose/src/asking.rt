@@ -7,15 +7,14 @@ ghost use Rattle.face_data.specs.Answers.Answer.{asks};
 ghost use Rattle.face_data.specs.Chains.{answer_known, chain_at};
 ghost use Rattle.face_data.specs.Composition.{from_bearing};
 ghost use Rattle.face_data.specs.Conditions.{ask_of, part_of};
-ghost use Rattle.face_data.specs.Digests.{CarrierFits, told};
+ghost use Rattle.face_data.specs.Digests.{CarrierFits, digest_bearing, effect_bearing};
 ghost use Rattle.face_data.specs.Goodness.{IsInOrder};
 ghost use Rattle.face_data.specs.Segments.{names_through, new_through};
-ghost use Rattle.face_data.specs.View.{names_of};
-ghost use Rattle.summary_compose.specs.Changes.{changed_needles, changes_of, PartsFit};
-ghost use Rattle.summary_compose.specs.Known.{IsPlainCond, IsReadable, Knows, StepIs, names_count, noted_answer, read_plain};
-ghost use Rattle.summary_compose.specs.Tables.{Note, Tells};
+ghost use Rattle.face_data.specs.View.{names_of, PartsFit};
+ghost use Rattle.summary_compose.specs.Changes.{changed_needles, changes_in};
+ghost use Rattle.summary_compose.specs.Known.{IsPlainCond, IsReadable, Knows, StepIs, names_count, noted_answer};
+ghost use Rattle.summary_compose.specs.Tables.{Note, IsTableOf};
 
-use crate::effects::told_after;
 use crate::index::Index;
 use crate::kept::Kept;
 use crate::places::Places;
@@ -35,15 +34,15 @@ pub fn ask_plain(
     requires plain { IsPlainCond cond }
     requires carrier { CarrierFits cond }
     requires room { length kept.old.checks < kept.old.check_room }
-    ensures step { StepIs (from_bearing (read_plain effect.now (ask_of [] cond)) (from_bearing (told digest.old (ask_of [] cond)) (asks (ask_of [] cond)))) kept.old.checks fault result kept.new.checks }
+    ensures step { StepIs (from_bearing (effect_bearing effect.now (ask_of [] cond)) (from_bearing (digest_bearing digest.old (ask_of [] cond)) (asks (ask_of [] cond)))) kept.old.checks fault result kept.new.checks }
     ensures knows { (notes : List Note) → Knows digest.old notes kept.old.checks → result ≡ true → Knows digest.new notes kept.new.checks }
     ensures check_room { kept.new.check_room ≡ kept.old.check_room }
     ensures name_room { kept.new.name_room ≡ kept.old.name_room }
 {
-    match told_after(effect, cond) {
+    match effect.bearing_on(cond) {
         Bearing::Implied => true,
         Bearing::Refuted => false,
-        Bearing::Silent => match digest.told(cond) {
+        Bearing::Silent => match digest.bearing_on(cond) {
             Bearing::Implied => true,
             Bearing::Refuted => false,
             Bearing::Silent => {
@@ -67,14 +66,14 @@ pub fn ask_sized(
     fault: Fault,
 ) -> bool
     requires check_room { length kept.old.checks < kept.old.check_room }
-    requires name_room { names_count kept.old.checks + length (names_through (changes_of a.now) needles.now) ≤ kept.old.name_room }
-    requires index_room { length index.old.notes + length (names_through (changes_of a.now) needles.now) ≤ index.old.room }
-    requires few { length (names_through (changes_of a.now) needles.now) < 2 ^ 32 }
-    requires new_few { new_through (changes_of a.now) needles.now < 2 ^ 64 }
-    requires noted { Tells places.now.table.entries.items (changed_needles a.now.changes.now) }
+    requires name_room { names_count kept.old.checks + length (names_through (changes_in a.now) needles.now) ≤ kept.old.name_room }
+    requires index_room { length index.old.notes + length (names_through (changes_in a.now) needles.now) ≤ index.old.room }
+    requires few { length (names_through (changes_in a.now) needles.now) < 2 ^ 32 }
+    requires new_few { new_through (changes_in a.now) needles.now < 2 ^ 64 }
+    requires noted { IsTableOf places.now.table.entries.items (changed_needles a.now.changes.now) }
     requires fit { PartsFit a.now.segs.now a.now.changes.now }
-    requires order { IsInOrder (changes_of a.now) }
-    ensures step { StepIs (noted_answer index.old.notes (names_through (changes_of a.now) needles.now) (new_through (changes_of a.now) needles.now) most) kept.old.checks fault result kept.new.checks }
+    requires order { IsInOrder (changes_in a.now) }
+    ensures step { StepIs (noted_answer index.old.notes (names_through (changes_in a.now) needles.now) (new_through (changes_in a.now) needles.now) most) kept.old.checks fault result kept.new.checks }
     ensures knows { (digest : Digest) → Knows digest index.old.notes kept.old.checks → result ≡ true → Knows digest index.new.notes kept.new.checks }
     ensures check_room { kept.new.check_room ≡ kept.old.check_room }
     ensures name_room { kept.new.name_room ≡ kept.old.name_room }
@@ -114,12 +113,12 @@ pub fn ask(
     requires readable { IsReadable a.now names.now cond }
     requires knows { Knows digest.old index.old.notes kept.old.checks }
     requires check_room { length kept.old.checks < kept.old.check_room }
-    requires name_room { names_count kept.old.checks + length (names_through (changes_of a.now) (names_of names.now cond)) ≤ kept.old.name_room }
-    requires index_room { names_count kept.old.checks + length (names_through (changes_of a.now) (names_of names.now cond)) ≤ index.old.room }
-    requires noted { Tells places.now.table.entries.items (changed_needles a.now.changes.now) }
+    requires name_room { names_count kept.old.checks + length (names_through (changes_in a.now) (names_of names.now cond)) ≤ kept.old.name_room }
+    requires index_room { names_count kept.old.checks + length (names_through (changes_in a.now) (names_of names.now cond)) ≤ index.old.room }
+    requires noted { IsTableOf places.now.table.entries.items (changed_needles a.now.changes.now) }
     requires fit { PartsFit a.now.segs.now a.now.changes.now }
-    requires order { IsInOrder (changes_of a.now) }
-    ensures step { StepIs (answer_known digest.old (chain_at kept.old.checks) (read_answer effect.now (changes_of a.now) (ask_of names.now cond))) kept.old.checks fault result kept.new.checks }
+    requires order { IsInOrder (changes_in a.now) }
+    ensures step { StepIs (answer_known digest.old (chain_at kept.old.checks) (read_answer effect.now (changes_in a.now) (ask_of names.now cond))) kept.old.checks fault result kept.new.checks }
     ensures knows { result ≡ true → Knows digest.new index.new.notes kept.new.checks }
     ensures check_room { kept.new.check_room ≡ kept.old.check_room }
     ensures name_room { kept.new.name_room ≡ kept.old.name_room }

@@ -2,10 +2,10 @@
 ghost use Rattle.std.specs.Prelude.{◌≡◌, ◌<◌, ◌≤◌, ◌+◌, ◌^◌, [], length};
 ghost use Rattle.face_data.specs.Composition.{composed, composed_at, reads, closed};
 ghost use Rattle.face_data.specs.View.{summary_of};
-ghost use Rattle.summary_compose.specs.Changes.{changed_needles, changes_of, merged_of, segs_in};
+ghost use Rattle.summary_compose.specs.Changes.{changed_needles, changes_in, merged_of, segs_in};
 ghost use Rattle.summary_compose.specs.Composing.{Composes, FindsRoom, Holds, KeepsRooms, made_in};
-ghost use Rattle.summary_compose.specs.Known.{checks_of, names_count, names_read_count};
-ghost use Rattle.summary_compose.specs.Tables.{Tells};
+ghost use Rattle.summary_compose.specs.Known.{checks_in, names_count, names_read_count};
+ghost use Rattle.summary_compose.specs.Tables.{IsTableOf};
 ghost use Rattle.summary_compose.specs.declared.room.Room.{Room};
 
 use crate::index::Index;
@@ -29,12 +29,12 @@ fn gather(
 ) -> Option<Fault>
     requires composes { Composes a.now b.now }
     requires through { a.now.ending ≡ Ending.Through effect.now }
-    requires begun { kept.old.checks ≡ checks_of a.now }
+    requires begun { kept.old.checks ≡ checks_in a.now }
     requires check_room { length a.now.checks.now + length b.now.checks.now ≤ kept.old.check_room }
-    requires name_room { names_count (checks_of a.now) + names_read_count (changes_of a.now) (checks_of b.now) ≤ kept.old.name_room }
-    requires index_room { names_count (checks_of a.now) + names_read_count (changes_of a.now) (checks_of b.now) ≤ index.old.room }
-    requires noted { Tells places.now.table.entries.items (changed_needles a.now.changes.now) }
-    ensures read { reads effect.now (changes_of a.now) a.now.lines (checks_of a.now) (checks_of b.now) ≡ record { checks = kept.new.checks; stop = result } }
+    requires name_room { names_count (checks_in a.now) + names_read_count (changes_in a.now) (checks_in b.now) ≤ kept.old.name_room }
+    requires index_room { names_count (checks_in a.now) + names_read_count (changes_in a.now) (checks_in b.now) ≤ index.old.room }
+    requires noted { IsTableOf places.now.table.entries.items (changed_needles a.now.changes.now) }
+    ensures read { reads effect.now (changes_in a.now) a.now.lines (checks_in a.now) (checks_in b.now) ≡ record { checks = kept.new.checks; stop = result } }
     ensures check_room { kept.new.check_room ≡ kept.old.check_room }
     ensures name_room { kept.new.name_room ≡ kept.old.name_room }
     ensures index_room { index.new.room ≡ index.old.room }
@@ -67,11 +67,11 @@ fn go_on(a: &FaceView, effect: &Effect, b: &FaceView, making: &mut Making)
     requires composes { Composes a.now b.now }
     requires through { a.now.ending ≡ Ending.Through effect.now }
     requires room { (room : Room) × FindsRoom a.now b.now room × Holds making.old room }
-    requires begun { making.old.kept.checks ≡ checks_of a.now }
+    requires begun { making.old.kept.checks ≡ checks_in a.now }
     requires none { making.old.laid.changes ≡ [] }
     requires lines { making.old.lines ≡ a.now.lines + b.now.lines }
     requires made { making.old.made ≡ 0 }
-    ensures made { made_in making.new ≡ closed (reads effect.now (changes_of a.now) a.now.lines (checks_of a.now) (checks_of b.now)) effect.now (summary_of a.now) (summary_of b.now) }
+    ensures made { made_in making.new ≡ closed (reads effect.now (changes_in a.now) a.now.lines (checks_in a.now) (checks_in b.now)) effect.now (summary_of a.now) (summary_of b.now) }
     ensures keeps { KeepsRooms making.old making.new }
 {
     making.places.note(a.changes);

@@ -2,7 +2,7 @@
 ghost use Rattle.std.specs.Prelude.{◌≡◌, ◌≤◌, ◌<◌, ◌+◌, ◌^◌, [], ◌∷◌, ◌++◌, length, map, OnOk, nat_le, ◌&&◌};
 ghost use Rattle.std.specs.List.{list_any};
 ghost use Rattle.knit_base.specs.declared.needle.Needle.{Needle};
-ghost use Rattle.summary_compose.specs.Tables.{Leads, Tells, needles_of, suits, Note};
+ghost use Rattle.summary_compose.specs.Tables.{Leads, IsTableOf, link_needles, suits, Note};
 
 use crate::spots::{Table, is_same};
 use knit_base::{Needle, NoMemory};
@@ -38,13 +38,13 @@ pub struct Index {
 
 impl Model for Index {
     ghost use Rattle.std.specs.Prelude.{map, vec_capacity};
-    ghost use Rattle.summary_compose.specs.Tables.{IndexView, note_of, needles_of, Tells, AreLinked};
+    ghost use Rattle.summary_compose.specs.Tables.{IndexView, note_of, link_needles, IsTableOf, AreLinked};
 
     ghost Value = { IndexView };
 
     ghost view = { λ i. record { notes = map note_of i.links.items; room = vec_capacity i.links } };
 
-    ghost invariant = { λ i. Tells i.table.entries.items (needles_of i.links.items) × AreLinked i.links.items };
+    ghost invariant = { λ i. IsTableOf i.table.entries.items (link_needles i.links.items) × AreLinked i.links.items };
 }
 
 impl Index {
@@ -121,8 +121,8 @@ impl Index {
 // Where the needle stands last, if it does.
 #[inline(always)]
 fn last_of(table: &Table, links: &[Link], n: Needle) -> usize
-    requires { Tells table.now.entries.items (needles_of links.now) }
-    ensures { Leads (needles_of links.now) n result }
+    requires { IsTableOf table.now.entries.items (link_needles links.now) }
+    ensures { Leads (link_needles links.now) n result }
 {
     match table.get(n) {
         Some(place) => place,
@@ -133,7 +133,7 @@ fn last_of(table: &Table, links: &[Link], n: Needle) -> usize
 // The same without a table.
 #[cold]
 fn seek(links: &[Link], n: Needle) -> usize
-    ensures { Leads (needles_of links.now) n result }
+    ensures { Leads (link_needles links.now) n result }
 {
     let mut last = 0;
     for (place, link) in links.iter().enumerate() {

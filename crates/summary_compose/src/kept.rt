@@ -5,10 +5,10 @@ ghost use Rattle.face_data.specs.Conditions.{ask_of};
 ghost use Rattle.face_data.specs.Conditions.Ask.{size_at_most};
 ghost use Rattle.face_data.specs.Goodness.{IsInOrder};
 ghost use Rattle.face_data.specs.Segments.{names_through, new_through};
-ghost use Rattle.face_data.specs.View.{asked_of};
-ghost use Rattle.summary_compose.specs.Changes.{changed_needles, changes_of, PartsFit};
-ghost use Rattle.summary_compose.specs.Known.{AreNamed, IsPlainCond, answer_in, checks_of, names_count, noted_answer, notes_in};
-ghost use Rattle.summary_compose.specs.Tables.{Tells};
+ghost use Rattle.face_data.specs.View.{asked_of, PartsFit};
+ghost use Rattle.summary_compose.specs.Changes.{changed_needles, changes_in};
+ghost use Rattle.summary_compose.specs.Known.{AreNamed, IsPlainCond, answer_in, checks_in, names_count, noted_answer, notes_in};
+ghost use Rattle.summary_compose.specs.Tables.{IsTableOf};
 
 use crate::index::Index;
 use crate::names::read_names;
@@ -77,7 +77,7 @@ impl Kept {
         requires named { AreNamed face.now.names.now face.now.checks.now }
         requires check_room { length face.now.checks.now ≤ self.old.check_room }
         requires name_room { length face.now.names.now ≤ self.old.name_room }
-        ensures checks { self.new.checks ≡ checks_of face.now }
+        ensures checks { self.new.checks ≡ checks_in face.now }
         ensures check_room { self.old.check_room ≤ self.new.check_room }
         ensures name_room { self.old.name_room ≤ self.new.name_room }
     {
@@ -120,16 +120,16 @@ impl Kept {
         fault: Fault,
     ) -> SizeWord
         requires check_room { length self.old.checks < self.old.check_room }
-        requires name_room { names_count self.old.checks + length (names_through (changes_of a.now) needles.now) ≤ self.old.name_room }
-        requires index_room { length index.old.notes + length (names_through (changes_of a.now) needles.now) ≤ index.old.room }
-        requires few { length (names_through (changes_of a.now) needles.now) < 2 ^ 32 }
-        requires new_few { new_through (changes_of a.now) needles.now < 2 ^ 64 }
-        requires noted { Tells places.now.table.entries.items (changed_needles a.now.changes.now) }
+        requires name_room { names_count self.old.checks + length (names_through (changes_in a.now) needles.now) ≤ self.old.name_room }
+        requires index_room { length index.old.notes + length (names_through (changes_in a.now) needles.now) ≤ index.old.room }
+        requires few { length (names_through (changes_in a.now) needles.now) < 2 ^ 32 }
+        requires new_few { new_through (changes_in a.now) needles.now < 2 ^ 64 }
+        requires noted { IsTableOf places.now.table.entries.items (changed_needles a.now.changes.now) }
         requires fit { PartsFit a.now.segs.now a.now.changes.now }
-        requires order { IsInOrder (changes_of a.now) }
-        ensures word { noted_answer index.old.notes (names_through (changes_of a.now) needles.now) (new_through (changes_of a.now) needles.now) most ≡ answer_in (names_through (changes_of a.now) needles.now) result }
-        ensures asks { (left : ℕ) → result ≡ SizeWord.Asks left → self.new.checks ≡ self.old.checks ++ record { fault = fault; ask = size_at_most (names_through (changes_of a.now) needles.now) left } ∷ [] }
-        ensures notes { (left : ℕ) → result ≡ SizeWord.Asks left → index.new.notes ≡ index.old.notes ++ notes_in (size_at_most (names_through (changes_of a.now) needles.now) left) }
+        requires order { IsInOrder (changes_in a.now) }
+        ensures word { noted_answer index.old.notes (names_through (changes_in a.now) needles.now) (new_through (changes_in a.now) needles.now) most ≡ answer_in (names_through (changes_in a.now) needles.now) result }
+        ensures asks { (left : ℕ) → result ≡ SizeWord.Asks left → self.new.checks ≡ self.old.checks ++ record { fault = fault; ask = size_at_most (names_through (changes_in a.now) needles.now) left } ∷ [] }
+        ensures notes { (left : ℕ) → result ≡ SizeWord.Asks left → index.new.notes ≡ index.old.notes ++ notes_in (size_at_most (names_through (changes_in a.now) needles.now) left) }
         ensures holds { result ≡ SizeWord.Holds → (self.new.checks ≡ self.old.checks) × (index.new.notes ≡ index.old.notes) }
         ensures fails { result ≡ SizeWord.Fails → self.new.checks ≡ self.old.checks }
         ensures rooms { (self.new.check_room ≡ self.old.check_room) × (self.new.name_room ≡ self.old.name_room) × (index.new.room ≡ index.old.room) }

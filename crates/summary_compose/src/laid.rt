@@ -5,9 +5,9 @@ ghost use Rattle.face_data.specs.Goodness.{IsInOrder};
 ghost use Rattle.face_data.specs.Segments.{entries_of, new_of};
 ghost use Rattle.face_data.specs.Through.{piece, through, change_through, changes_through};
 ghost use Rattle.face_data.specs.Composition.{merged};
-ghost use Rattle.face_data.specs.View.{changed_of};
-ghost use Rattle.summary_compose.specs.Changes.{changed_needles, ArePacked, PartsFit, OffsetFits, segs_in};
-ghost use Rattle.summary_compose.specs.Tables.{Tells};
+ghost use Rattle.face_data.specs.View.{changed_of, PartsFit};
+ghost use Rattle.summary_compose.specs.Changes.{changed_needles, ArePacked, OffsetFits, segs_in};
+ghost use Rattle.summary_compose.specs.Tables.{IsTableOf};
 
 use crate::places::Places;
 use face_data::{Change, FaceView, Part, Seg};
@@ -104,7 +104,7 @@ impl Laid {
         requires seg_room { segs_in self.old.changes + length (through (map (changed_of a.now.segs.now) a.now.changes.now) a.now.lines segs.now) ≤ self.old.seg_room }
         requires few { length (through (map (changed_of a.now.segs.now) a.now.changes.now) a.now.lines segs.now) < 2 ^ 32 }
         requires offsets { All (OffsetFits a.now.lines) segs.now }
-        requires noted { Tells places.now.table.entries.items (changed_needles a.now.changes.now) }
+        requires noted { IsTableOf places.now.table.entries.items (changed_needles a.now.changes.now) }
         requires fit { PartsFit a.now.segs.now a.now.changes.now }
         requires order { IsInOrder (map (changed_of a.now.segs.now) a.now.changes.now) }
         ensures changes { self.new.changes ≡ self.old.changes ++ (needle, through (map (changed_of a.now.segs.now) a.now.changes.now) a.now.lines segs.now) ∷ [] }
@@ -139,7 +139,7 @@ fn push_all(more: &[Seg], segs: &mut Vec<Seg>)
 fn read_segs(more: &[Seg], a: &FaceView, places: &Places, segs: &mut Vec<Seg>)
     requires room { vec_len segs.old + length (through (map (changed_of a.now.segs.now) a.now.changes.now) a.now.lines more.now) ≤ vec_capacity segs.old }
     requires offsets { All (OffsetFits a.now.lines) more.now }
-    requires noted { Tells places.now.table.entries.items (changed_needles a.now.changes.now) }
+    requires noted { IsTableOf places.now.table.entries.items (changed_needles a.now.changes.now) }
     requires fit { PartsFit a.now.segs.now a.now.changes.now }
     requires order { IsInOrder (map (changed_of a.now.segs.now) a.now.changes.now) }
     ensures items { segs.new.items ≡ segs.old.items ++ through (map (changed_of a.now.segs.now) a.now.changes.now) a.now.lines more.now }
@@ -154,7 +154,7 @@ fn read_segs(more: &[Seg], a: &FaceView, places: &Places, segs: &mut Vec<Seg>)
 fn read_seg(seg: Seg, a: &FaceView, places: &Places, segs: &mut Vec<Seg>)
     requires room { vec_len segs.old + length (piece (map (changed_of a.now.segs.now) a.now.changes.now) a.now.lines seg) ≤ vec_capacity segs.old }
     requires offset { OffsetFits a.now.lines seg }
-    requires noted { Tells places.now.table.entries.items (changed_needles a.now.changes.now) }
+    requires noted { IsTableOf places.now.table.entries.items (changed_needles a.now.changes.now) }
     requires fit { PartsFit a.now.segs.now a.now.changes.now }
     requires order { IsInOrder (map (changed_of a.now.segs.now) a.now.changes.now) }
     ensures items { segs.new.items ≡ segs.old.items ++ piece (map (changed_of a.now.segs.now) a.now.changes.now) a.now.lines seg }
@@ -162,7 +162,7 @@ fn read_seg(seg: Seg, a: &FaceView, places: &Places, segs: &mut Vec<Seg>)
 {
     match seg {
         Seg::New(offset) => segs.push_reserved(Seg::New(a.lines + offset)),
-        Seg::Entry(n) => match places.contents_of(a, n) {
+        Seg::Entry(n) => match places.segments_on(a, n) {
             Some(held) => push_all(held, segs),
             None => segs.push_reserved(seg),
         },

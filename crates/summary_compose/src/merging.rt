@@ -4,9 +4,9 @@ ghost use Rattle.knit_base.specs.Needle.{needle_cmp};
 ghost use Rattle.face_data.specs.declared.face.Change.{Change};
 ghost use Rattle.face_data.specs.Conditions.{part_of};
 ghost use Rattle.face_data.specs.Goodness.{IsInOrder};
-ghost use Rattle.face_data.specs.View.{changed_of};
-ghost use Rattle.summary_compose.specs.Changes.{changed_needles, PartsFit, HaveOffsets, segs_in, changes_of, merged_of};
-ghost use Rattle.summary_compose.specs.Tables.{Tells};
+ghost use Rattle.face_data.specs.View.{changed_of, PartsFit};
+ghost use Rattle.summary_compose.specs.Changes.{changed_needles, HaveOffsets, segs_in, changes_in, merged_of};
+ghost use Rattle.summary_compose.specs.Tables.{IsTableOf};
 
 use crate::laid::Laid;
 use crate::places::Places;
@@ -65,7 +65,7 @@ pub fn merge(laid: &mut Laid, a: &FaceView, b: &FaceView, places: &Places)
     requires room { length (merged_of a.now b.now) ≤ laid.old.change_room }
     requires seg_room { segs_in (merged_of a.now b.now) ≤ laid.old.seg_room }
     requires few { segs_in (merged_of a.now b.now) < 2 ^ 32 }
-    requires noted { Tells places.now.table.entries.items (changed_needles a.now.changes.now) }
+    requires noted { IsTableOf places.now.table.entries.items (changed_needles a.now.changes.now) }
     requires fit { PartsFit a.now.segs.now a.now.changes.now }
     requires order { IsInOrder (map (changed_of a.now.segs.now) a.now.changes.now) }
     requires second_fit { PartsFit b.now.segs.now b.now.changes.now }

@@ -1,9 +1,10 @@
 //! Needles read through a face.
 ghost use Rattle.std.specs.Prelude.{◌≡◌, ◌<◌, ◌≤◌, ◌+◌, ◌^◌, ◌++◌, length, map, vec_len, vec_capacity};
 ghost use Rattle.face_data.specs.Goodness.{IsInOrder};
-ghost use Rattle.face_data.specs.Segments.{contents_of, entries_of, names_through, new_of, new_through};
-ghost use Rattle.summary_compose.specs.Changes.{changed_needles, changes_of, PartsFit};
-ghost use Rattle.summary_compose.specs.Tables.{Tells};
+ghost use Rattle.face_data.specs.Segments.{segments_on, entries_of, names_through, new_of, new_through};
+ghost use Rattle.summary_compose.specs.Changes.{changed_needles, changes_in};
+ghost use Rattle.face_data.specs.View.{PartsFit};
+ghost use Rattle.summary_compose.specs.Tables.{IsTableOf};
 
 use crate::places::Places;
 use face_data::{FaceView, Seg};
@@ -12,14 +13,14 @@ use knit_base::Needle;
 /// Appends the needles whose entries these needles hold after the face, and tells how many new loops they hold.
 #[inline(always)]
 pub fn read_names(more: &[Needle], a: &FaceView, places: &Places, names: &mut Vec<Needle>) -> u64
-    requires room { vec_len names.old + length (names_through (changes_of a.now) more.now) ≤ vec_capacity names.old }
-    requires few { new_through (changes_of a.now) more.now < 2 ^ 64 }
-    requires noted { Tells places.now.table.entries.items (changed_needles a.now.changes.now) }
+    requires room { vec_len names.old + length (names_through (changes_in a.now) more.now) ≤ vec_capacity names.old }
+    requires few { new_through (changes_in a.now) more.now < 2 ^ 64 }
+    requires noted { IsTableOf places.now.table.entries.items (changed_needles a.now.changes.now) }
     requires fit { PartsFit a.now.segs.now a.now.changes.now }
-    requires order { IsInOrder (changes_of a.now) }
-    ensures items { names.new.items ≡ names.old.items ++ names_through (changes_of a.now) more.now }
+    requires order { IsInOrder (changes_in a.now) }
+    ensures items { names.new.items ≡ names.old.items ++ names_through (changes_in a.now) more.now }
     ensures capacity { vec_capacity names.new ≡ vec_capacity names.old }
-    ensures count { result ≡ new_through (changes_of a.now) more.now }
+    ensures count { result ≡ new_through (changes_in a.now) more.now }
 {
     let mut count = 0;
     for n in more {
@@ -31,15 +32,15 @@ pub fn read_names(more: &[Needle], a: &FaceView, places: &Places, names: &mut Ve
 // The same of one needle.
 #[inline(always)]
 fn read_needle(n: Needle, a: &FaceView, places: &Places, names: &mut Vec<Needle>) -> u64
-    requires room { vec_len names.old + length (entries_of (contents_of (changes_of a.now) n)) ≤ vec_capacity names.old }
-    requires noted { Tells places.now.table.entries.items (changed_needles a.now.changes.now) }
+    requires room { vec_len names.old + length (entries_of (segments_on (changes_in a.now) n)) ≤ vec_capacity names.old }
+    requires noted { IsTableOf places.now.table.entries.items (changed_needles a.now.changes.now) }
     requires fit { PartsFit a.now.segs.now a.now.changes.now }
-    requires order { IsInOrder (changes_of a.now) }
-    ensures items { names.new.items ≡ names.old.items ++ entries_of (contents_of (changes_of a.now) n) }
+    requires order { IsInOrder (changes_in a.now) }
+    ensures items { names.new.items ≡ names.old.items ++ entries_of (segments_on (changes_in a.now) n) }
     ensures capacity { vec_capacity names.new ≡ vec_capacity names.old }
-    ensures count { result ≡ new_of (contents_of (changes_of a.now) n) }
+    ensures count { result ≡ new_of (segments_on (changes_in a.now) n) }
 {
-    match places.contents_of(a, n) {
+    match places.segments_on(a, n) {
         Some(held) => read_entries(held, names),
         None => {
             names.push_reserved(n);

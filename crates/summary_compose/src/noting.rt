@@ -4,7 +4,7 @@ ghost use Rattle.face_data.specs.declared.face.Check.{Check};
 ghost use Rattle.face_data.specs.Digests.{blank, CarrierFits};
 ghost use Rattle.face_data.specs.View.{asked_of, CondFits, names_of};
 ghost use Rattle.face_data.specs.Summaries.{Asked};
-ghost use Rattle.summary_compose.specs.Known.{Knows, checks_of, names_count};
+ghost use Rattle.summary_compose.specs.Known.{Knows, checks_in, names_count};
 
 use crate::index::Index;
 use crate::sizes::note_each;
@@ -44,8 +44,8 @@ pub fn note_all(face: &FaceView, index: &mut Index, digest: &mut Digest)
     requires fit { All (λ (c : Check). CondFits face.now.names.now c.cond) face.now.checks.now }
     requires carriers { All (λ (c : Check). CarrierFits c.cond) face.now.checks.now }
     requires few { All (λ (c : Check). length (names_of face.now.names.now c.cond) < 2 ^ 32) face.now.checks.now }
-    requires room { names_count (checks_of face.now) ≤ index.old.room }
-    ensures knows { Knows digest.new index.new.notes (checks_of face.now) }
+    requires room { names_count (checks_in face.now) ≤ index.old.room }
+    ensures knows { Knows digest.new index.new.notes (checks_in face.now) }
     ensures room { index.new.room ≡ index.old.room }
 {
     let mut i = 0;

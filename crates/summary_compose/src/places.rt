@@ -3,10 +3,10 @@ ghost use Rattle.std.specs.Prelude.{◌≡◌, ◌<◌, ◌+◌, ◌^◌, [], �
 ghost use Rattle.face_data.specs.declared.face.Change.{Change};
 ghost use Rattle.face_data.specs.declared.face.Seg.TheVariants.{Entry};
 ghost use Rattle.face_data.specs.Goodness.{IsInOrder};
-ghost use Rattle.face_data.specs.Segments.{contents_of};
-ghost use Rattle.face_data.specs.View.{changed_of};
-ghost use Rattle.summary_compose.specs.Changes.{changed_needles, PartsFit};
-ghost use Rattle.summary_compose.specs.Tables.{Leads, Tells};
+ghost use Rattle.face_data.specs.Segments.{segments_on};
+ghost use Rattle.face_data.specs.View.{changed_of, PartsFit};
+ghost use Rattle.summary_compose.specs.Changes.{changed_needles};
+ghost use Rattle.summary_compose.specs.Tables.{Leads, IsTableOf};
 
 use crate::spots::{Table, is_same};
 use face_data::{Change, FaceView, Seg};
@@ -34,7 +34,7 @@ impl Places {
 
     /// Notes the places of all changes.
     pub fn note(&mut self, changes: &[Change])
-        ensures { Tells self.new.table.entries.items (changed_needles changes.now) }
+        ensures { IsTableOf self.new.table.entries.items (changed_needles changes.now) }
     {
         for (place, change) in changes.iter().enumerate() {
             self.table.set(change.needle, place);
@@ -43,12 +43,12 @@ impl Places {
 
     /// What the needle holds after the face whose changes were noted, where that isn't its own entry alone.
     #[inline(always)]
-    pub fn contents_of<'a>(&self, face: &FaceView<'a>, n: Needle) -> Option<&'a [Seg]>
-        requires noted { Tells self.now.table.entries.items (changed_needles face.now.changes.now) }
+    pub fn segments_on<'a>(&self, face: &FaceView<'a>, n: Needle) -> Option<&'a [Seg]>
+        requires noted { IsTableOf self.now.table.entries.items (changed_needles face.now.changes.now) }
         requires fit { PartsFit face.now.segs.now face.now.changes.now }
         requires order { IsInOrder (map (changed_of face.now.segs.now) face.now.changes.now) }
-        ensures own { IfNone result (contents_of (map (changed_of face.now.segs.now) face.now.changes.now) n ≡ Entry n ∷ []) }
-        ensures some { IfSome result (λ held. held.now ≡ contents_of (map (changed_of face.now.segs.now) face.now.changes.now) n) }
+        ensures own { IfNone result (segments_on (map (changed_of face.now.segs.now) face.now.changes.now) n ≡ Entry n ∷ []) }
+        ensures some { IfSome result (λ held. held.now ≡ segments_on (map (changed_of face.now.segs.now) face.now.changes.now) n) }
     {
         let changes = face.changes;
         let place = place_of(&self.table, changes, n);
@@ -68,7 +68,7 @@ impl Places {
 // Where the needle's change stands, if there is one.
 #[inline(always)]
 fn place_of(table: &Table, changes: &[Change], n: Needle) -> usize
-    requires { Tells table.now.entries.items (changed_needles changes.now) }
+    requires { IsTableOf table.now.entries.items (changed_needles changes.now) }
     ensures { Leads (changed_needles changes.now) n result }
 {
     match table.get(n) {

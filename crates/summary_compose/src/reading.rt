@@ -3,10 +3,10 @@ ghost use Rattle.std.specs.Prelude.{◌≡◌, ◌<◌, ◌≤◌, ◌+◌, ◌^
 ghost use Rattle.face_data.specs.declared.face.Check.{Check};
 ghost use Rattle.face_data.specs.Composition.{reads};
 ghost use Rattle.face_data.specs.Goodness.{IsInOrder};
-ghost use Rattle.face_data.specs.View.{asked_of};
-ghost use Rattle.summary_compose.specs.Changes.{changed_needles, changes_of, PartsFit};
-ghost use Rattle.summary_compose.specs.Known.{AreGood, IsReadable, Knows, checks_of, names_count, names_read_count};
-ghost use Rattle.summary_compose.specs.Tables.{Tells};
+ghost use Rattle.face_data.specs.View.{asked_of, PartsFit};
+ghost use Rattle.summary_compose.specs.Changes.{changed_needles, changes_in};
+ghost use Rattle.summary_compose.specs.Known.{AreGood, IsReadable, Knows, checks_in, names_count, names_read_count};
+ghost use Rattle.summary_compose.specs.Tables.{IsTableOf};
 
 use crate::asking::ask;
 use crate::index::Index;
@@ -28,17 +28,17 @@ pub fn read_checks(
 ) -> Option<Fault>
     requires good { AreGood a.now b.now }
     requires through { a.now.ending ≡ Ending.Through effect.now }
-    requires begun { kept.old.checks ≡ checks_of a.now }
+    requires begun { kept.old.checks ≡ checks_in a.now }
     requires knows { Knows digest.old index.old.notes kept.old.checks }
     requires readable { All (λ (c : Check). IsReadable a.now b.now.names.now c.cond) b.now.checks.now }
     requires raised { All (λ (c : Check). a.now.lines + c.fault.line < 2 ^ 32) b.now.checks.now }
     requires check_room { length a.now.checks.now + length b.now.checks.now ≤ kept.old.check_room }
-    requires name_room { names_count (checks_of a.now) + names_read_count (changes_of a.now) (checks_of b.now) ≤ kept.old.name_room }
-    requires index_room { names_count (checks_of a.now) + names_read_count (changes_of a.now) (checks_of b.now) ≤ index.old.room }
-    requires noted { Tells places.now.table.entries.items (changed_needles a.now.changes.now) }
+    requires name_room { names_count (checks_in a.now) + names_read_count (changes_in a.now) (checks_in b.now) ≤ kept.old.name_room }
+    requires index_room { names_count (checks_in a.now) + names_read_count (changes_in a.now) (checks_in b.now) ≤ index.old.room }
+    requires noted { IsTableOf places.now.table.entries.items (changed_needles a.now.changes.now) }
     requires fit { PartsFit a.now.segs.now a.now.changes.now }
-    requires order { IsInOrder (changes_of a.now) }
-    ensures read { reads effect.now (changes_of a.now) a.now.lines (checks_of a.now) (checks_of b.now) ≡ record { checks = kept.new.checks; stop = result } }
+    requires order { IsInOrder (changes_in a.now) }
+    ensures read { reads effect.now (changes_in a.now) a.now.lines (checks_in a.now) (checks_in b.now) ≡ record { checks = kept.new.checks; stop = result } }
     ensures check_room { kept.new.check_room ≡ kept.old.check_room }
     ensures name_room { kept.new.name_room ≡ kept.old.name_room }
     ensures index_room { index.new.room ≡ index.old.room }

@@ -6,7 +6,8 @@ ghost use Rattle.summary_compose.specs.Rooms.{CanBeMade, capped, room_after, roo
 
 use face_data::{FaceView, Seg};
 
-/// How many items the lists of a face may have, and how many of its segments may be entries.
+/// How many items the lists of a face may have, and how many of its segments may be entries. A number that would pass 2 ^ 62
+/// stands as 2 ^ 62 + 1, for which no scratch has room.
 #[derive(Clone, Copy, Debug, PartialEq, Eq)]
 pub struct Room {
     pub checks: u64,
@@ -96,7 +97,8 @@ impl Room {
         }
     }
 
-    /// Room for the composition of a face with this room and one with the next.
+    /// Room for the composition of a face with this room and one with the next. It grows with the product of the second one's
+    /// checks and this one's entries, since a check may come to name each of them.
     pub fn after(&self, next: &Room) -> Room
         ensures { result ≡ room_after self.now next.now }
     {
@@ -125,7 +127,7 @@ fn entries_in(segs: &[Seg]) -> u64
     entries
 }
 
-/// Room for the composition of the two faces.
+/// Room for the composition of the two faces. Takes no memory.
 pub fn room_for(a: &FaceView, b: &FaceView) -> Room
     ensures { result ≡ room_of_both a.now b.now }
 {

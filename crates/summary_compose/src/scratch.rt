@@ -21,7 +21,7 @@ use std::alloc::Global;
 use std::marker::Model;
 use std::sync::ledger::Ledger;
 
-/// Where faces are made, with room for them.
+/// Where faces are made one after the other, with room for them. The room is kept until the scratch is let go.
 #[derive(Drop)]
 pub struct Scratch {
     making: Making,
@@ -40,7 +40,7 @@ impl Model for Scratch {
 }
 
 impl Scratch {
-    /// A scratch without room, which takes no memory.
+    /// A scratch without room, in which nothing was composed. Takes no memory.
     pub fn new(alloc: Global) -> Self {
         Scratch {
             making: Making::new(alloc),
@@ -48,7 +48,7 @@ impl Scratch {
         }
     }
 
-    /// Makes room. What was composed before is gone.
+    /// Makes so much room, beside what there is. What was composed before is gone, also after `NoMemory`.
     pub fn reserve(&mut self, room: &Room) -> Result<(), NoMemory>
         ensures has { OnOk result (IsNoGreater room.now self.new.room) }
         ensures keeps { IsNoGreater self.old.room self.new.room }
@@ -63,14 +63,14 @@ impl Scratch {
         Ok(())
     }
 
-    /// Whether there is this room.
+    /// Whether there is so much room in each field. Takes no memory.
     pub fn meets(&self, room: &Room) -> bool
         ensures { IsTrue result ↔ IsNoGreater room.now self.now.room }
     {
         room.is_within(&self.room)
     }
 
-    /// The face last composed.
+    /// The face last composed; after `reserve` it is of no use until the next is. Takes no memory.
     pub fn view(&self) -> FaceView<'_>
         ensures summary { summary_of result ≡ self.now.summary }
         ensures packed { IsPacked result }
@@ -79,7 +79,8 @@ impl Scratch {
     }
 }
 
-/// Leaves in the scratch the face of the first face's text followed by the second's.
+/// Leaves in the scratch the face of the first face's text followed by the second's: lines and loops are counted from the first
+/// line of the first. Takes no memory, and a step for each item of both faces and of the new one.
 pub fn compose_into<L: Ledger>(
     a: &FaceView,
     b: &FaceView,

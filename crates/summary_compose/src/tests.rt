@@ -1,9 +1,11 @@
 //! Small faces composed, whose results are worked by hand.
-ghost use Rattle.std.specs.Prelude.{◌≡◌, ◌<◌};
+ghost use Rattle.std.specs.Prelude.{◌≡◌, ◌<◌, ◌+◌, ◌^◌};
+ghost use Rattle.face_data.specs.View.{IsPacked};
+ghost use Rattle.summary_compose.specs.Known.{AreGood};
 
 use crate::{Scratch, compose_into, room_for};
-use face_data::{Effect, Ending, FaceView};
-use knit_base::{Fault, Reason, Rule, Steps};
+use face_data::{Check, Cond, Effect, Ending, FaceView};
+use knit_base::{CarrierNo, Fault, Reason, Rule, Steps};
 use std::marker::Brand;
 use std::sync::ledger::{Blank, Ledger};
 use std::test::Fail;
@@ -16,7 +18,25 @@ const STAYS: Effect = Effect {
     hook: None,
 };
 
-const ASKED: Fault = Fault {
+const COMES: Effect = Effect {
+    rack: None,
+    came: 1,
+    went: 0,
+    hook: None,
+};
+
+// A line that asks for nothing and goes through.
+const IDLE: FaceView = FaceView {
+    lines: 1,
+    made: 0,
+    checks: &[],
+    names: &[],
+    changes: &[],
+    segs: &[],
+    ending: Ending::Through(STAYS),
+};
+
+const NOT_ALIGNED: Fault = Fault {
     line: 0,
     reason: Reason {
         rule: Rule::NotAligned,
@@ -24,43 +44,86 @@ const ASKED: Fault = Fault {
     },
 };
 
-fn counted<L: Ledger, R: Threads>(rt: &R, blank: Blank, scratch: &mut Scratch) -> Result<(), Fail>
+const CARRIER_IS_IN: Fault = Fault {
+    line: 0,
+    reason: Reason {
+        rule: Rule::CarrierIsIn,
+        at: 1,
+    },
+};
+
+const CARRIER_IS_OUT: Fault = Fault {
+    line: 0,
+    reason: Reason {
+        rule: Rule::CarrierIsOut,
+        at: 3,
+    },
+};
+
+fn compose<L: Ledger, R: Threads>(
+    rt: &R,
+    blank: Blank,
+    first: &FaceView,
+    second: &FaceView,
+    scratch: &mut Scratch,
+) -> Result<(), Fail>
     requires name { (blank.name ≡ L.name) × (blank.parts ≡ L.parts) × (0 < L.parts) }
+    requires good { AreGood first.now second.now }
+    requires packed { IsPacked first.now }
+    requires second_packed { IsPacked second.now }
+    requires lines { first.now.lines + second.now.lines < 2 ^ 32 }
 {
-    let first = FaceView {
-        lines: 1,
-        made: 0,
-        checks: &[],
-        names: &[],
-        changes: &[],
-        segs: &[],
-        ending: Ending::Through(STAYS),
-    };
-    let second = FaceView {
-        ending: Ending::Broken(ASKED),
-        ..first
-    };
     let mut steps = Steps::<L>::start(rt, blank);
-    scratch.reserve(&room_for(&first, &second))?;
-    compose_into(&first, &second, scratch, &mut steps);
+    scratch.reserve(&room_for(first, second))?;
+    compose_into(first, second, scratch, &mut steps);
     Ok(())
 }
 
 #[test]
 fn a_later_fault_is_raised(rt: HostRuntime) -> Result<(), Fail> {
+    let broken = FaceView {
+        ending: Ending::Broken(NOT_ALIGNED),
+        ..IDLE
+    };
     let mut scratch = Scratch::new(rt.alloc());
-    counted::<Brand, _>(&rt, Blank::new(1), &mut scratch)?;
+    compose::<Brand, _>(&rt, Blank::new(1), &IDLE, &broken, &mut scratch)?;
     let face = scratch.view();
     assert_eq!(rt; face.lines, 2);
     assert_eq!(rt; face.made, 0);
     assert!(rt; face.checks.is_empty());
-    assert!(rt; face.names.is_empty());
     assert!(rt; face.changes.is_empty());
-    assert!(rt; face.segs.is_empty());
     let raised = Fault {
         line: 1,
-        reason: ASKED.reason,
+        ..NOT_ALIGNED
     };
     assert_eq!(rt; face.ending, Ending::Broken(raised));
+    Ok(())
+}
+
+#[test]
+fn a_carrier_that_came_in_is_there(rt: HostRuntime) -> Result<(), Fail> {
+    let is_out = [Check {
+        fault: CARRIER_IS_IN,
+        cond: Cond::CarrierOut(CarrierNo(0)),
+    }];
+    let is_in = [Check {
+        fault: CARRIER_IS_OUT,
+        cond: Cond::CarrierIn(CarrierNo(0)),
+    }];
+    let comes = FaceView {
+        checks: &is_out,
+        ending: Ending::Through(COMES),
+        ..IDLE
+    };
+    let misses = FaceView {
+        checks: &is_in,
+        ..IDLE
+    };
+    let mut scratch = Scratch::new(rt.alloc());
+    compose::<Brand, _>(&rt, Blank::new(1), &comes, &misses, &mut scratch)?;
+    let face = scratch.view();
+    assert_eq!(rt; face.lines, 2);
+    assert!(rt; face.checks == is_out.as_slice());
+    assert_eq!(rt; face.ending, Ending::Through(COMES));
     Ok(())
 }

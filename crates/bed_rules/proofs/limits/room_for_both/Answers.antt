@@ -2,12 +2,12 @@ use Rattle.std.proofs.Common.{nat_le, [], ◌∷◌, ◌++◌, List, ap, sym, �
 use Rattle.face_data.specs.declared.sizes.SizeAsk.{SizeAsk}
 use Rattle.face_data.specs.Conditions.{size_of, unless}
 use Rattle.face_data.specs.Sizes.{SizeRule, size_ask}
-use Rattle.bed_rules.proofs.TooMany.{both-unmet, one-asked, one-listed}
+use Rattle.bed_rules.proofs.SizeRules.{both-unmet, one-asked, one-listed}
 use Rattle.bed_rules.proofs.limits.room_for_both.Goals as goal
 
 pub returns-clause-rules : goal.returns-clause-rules
 returns-clause-rules c =
-    one-listed _ c.in_ok-ask_size.field-0 _ c.args.contents.now (record { reason = c.too_many_at.result; needles = c.args.n2 ∷ c.args.n ∷ []; most = c.args.profile.now.hold }) _
+    one-listed _ c.in_ok-ask_size.field-0 _ c.args.segments.now (record { reason = c.too_many_at.result; needles = c.args.n2 ∷ c.args.n ∷ []; most = c.args.profile.now.hold }) _
     c.new-asks.ensures c.in_ok-push.ensures.ok c.in_ok-ask_size.ensures.is (λ i. record { reason = c.too_many_at.ensures i; needles = c.args.n2 ∷ c.args.n ∷ []; most = c.args.profile.now.hold })
 
 pub returns-clause-broken : goal.returns-clause-broken

@@ -1,9 +1,11 @@
-use Rattle.std.proofs.Common.{◌+◌, Option, sym, subst}
+use Rattle.std.proofs.Common.{◌+◌, Option, sym, ap, ◌∙◌}
 use Rattle.knit_base.specs.declared.needle.Needle.{Needle}
 use Rattle.knit_base.specs.Reasons.{or_else}
-use Rattle.carriage_model.specs.Loops.{loop_of_instr}
-use Rattle.block_summary.specs.Asks.{loops_through, IsLoopOn}
-use Rattle.block_summary.proofs.Loops.{loop-formed}
+use Rattle.face_data.specs.Segments.{read_segs}
+use Rattle.bed_rules.specs.Beds.{segments_after}
+use Rattle.block_summary.specs.Asks.{fact_of_formed, needle_of_formed}
+use Rattle.block_summary.specs.declared.formed.FormedLoop.{FormedLoop}
+use Rattle.block_summary.proofs.FormedLoops.{loop-formed, needle-formed}
 use Rattle.block_summary.proofs.instr_ask.ask_instr.Goals as goal
 
 pub returns-clause-broken : goal.returns-clause-broken
@@ -16,19 +18,22 @@ returns-clause-broken c s t first read =
 
 pub returns-clause-step : goal.returns-clause-step
 returns-clause-step c s t first offset read =
-    let effect = c.in_ok-carriers.ensures.effect in
+    let effect = c.in_ok-carriers.ensures.changes in
     let line = first + offset in
+    let segments = c.args.segments.now in
     let rack = sym (effect.rack line t) in
     let ins = sym (effect.ins line t) in
     let hook = sym (effect.hook line t) in
-    let stacks = c.in_ok-beds.ensures.changed s t first offset read in
-    λ i. record { rack = rack i; ins = ins i; hook = hook i; stacks = λ n. stacks n i }
+    let on = c.in_ok-beds.ensures.makes ∙ sym (needle-formed segments c.args.instr.now) ∙ ap needle_of_formed (sym c.in_ok-formed_loop.ensures) in
+    λ i. record {
+      rack = rack i;
+      ins = ins i;
+      hook = hook i;
+      stacks = λ n. (c.in_ok-beds.ensures.changed s t first offset read n
+          ∙ ap (λ (makes : Option Needle). read_segs s first (segments_after segments c.in_ok-beds.field-0.changed makes offset n)) on) i;
+    }
 
 pub returns-clause-formed : goal.returns-clause-formed
 returns-clause-formed c s t first offset read =
-    let contents = c.args.contents.now in
-    let instr = c.args.instr.now in
-    let through = loops_through instr contents s first in
-    let fact = loop_of_instr (first + offset) instr t in
-    subst (λ (makes : Option Needle). IsLoopOn makes (first + offset) through fact) (sym c.in_ok-beds.ensures.makes)
-    (loop-formed contents instr s t first offset read)
+    loop-formed c.args.segments.now c.args.instr.now s t first (first + offset) read
+    ∙ ap (λ (formed : Option FormedLoop). fact_of_formed formed s first (first + offset)) (sym c.in_ok-formed_loop.ensures)

@@ -1,6 +1,9 @@
-use Rattle.std.proofs.Common.{◌+◌, ap, ◌∙◌}
+use Rattle.std.proofs.Common.{◌+◌, sym, ap, ◌∙◌}
+use Rattle.carriage_model.specs.Loops.{fact_made}
 use Rattle.carriage_model.specs.Rules.{broken}
 use Rattle.carriage_model.specs.Steps.{step}
+use Rattle.block_summary.specs.Asks.{line_ask}
+use Rattle.block_summary.specs.declared.line_ask.LineAsk.TheVariants.{Asks}
 use Rattle.block_summary.proofs.line_ask.ask_line.Goals as goal
 
 pub returns-in_ok-ask_instr-in-Instr-clause-broken :
@@ -14,3 +17,15 @@ pub returns-in_ok-ask_instr-in-Instr-clause-step :
 returns-in_ok-ask_instr-in-Instr-clause-step c s t first offset read =
     ap (λ line. step (first + offset) line t) c.in-Instr.is
     ∙ c.in_ok-ask_instr-in-Instr.ensures.step s t first offset read
+
+pub returns-in_ok-ask_instr-in-Instr-clause-formed :
+    goal.returns-in_ok-ask_instr-in-Instr-clause-formed
+returns-in_ok-ask_instr-in-Instr-clause-formed c s t first offset read =
+    ap (λ line. fact_made (first + offset) line t) c.in-Instr.is
+    ∙ c.in_ok-ask_instr-in-Instr.ensures.formed s t first offset read
+
+pub returns-in_ok-ask_instr-in-Instr-clause-is :
+    goal.returns-in_ok-ask_instr-in-Instr-clause-is
+returns-in_ok-ask_instr-in-Instr-clause-is c =
+    ap Asks c.in_ok-ask_instr-in-Instr.ensures.is
+    ∙ ap (λ line. line_ask c.args.profile.now.hold line c.args.segments.now) (sym c.in-Instr.is)

@@ -4,6 +4,6 @@ use Rattle.face_data.proofs.sizes.ask_size.Given as goal
 
 abbrev pub invariant-loop-n : goal.invariant-loop-n
 invariant-loop-n l = record {
-  entries : l.entries ≡ names_through l.contents (take l.n-index l.needles);
-  room : l.room ≡ (l.most + 1) - new_through l.contents (take l.n-index l.needles);
+  entries : l.entries ≡ names_through l.segments (take l.n-index l.needles);
+  room : l.room ≡ (l.most + 1) - new_through l.segments (take l.n-index l.needles);
 }

@@ -1,5 +1,5 @@
 use Rattle.std.proofs.Common.{◌+◌, ◌-◌, ◌/◌, ℕ, sym, ◌∙◌, arith}
-use Rattle.face_data.proofs.Placed.{less_at, greater_at}
+use Rattle.face_data.proofs.Places.{less_at, greater_at}
 use Rattle.face_data.proofs.symbols.search.Goals as goal
 
 pub loop-low-preserved-in-Less : goal.loop-low-preserved-in-Less
@@ -8,7 +8,7 @@ loop-low-preserved-in-Less c =
     record {
       ordered = omega arith;
       within = omega arith;
-      before = less_at c.args.held.now middle c.index-held-middle.result c.args.n c.requires (omega arith) (sym c.cmp.ensures ∙ c.in-Less.is);
+      before = less_at c.args.held.now middle c.index-held-middle.result c.args.n c.requires (omega arith) (sym c.needle_order.ensures ∙ c.in-Less.is);
       behind = c.loop-low.invariant.behind;
     }
 
@@ -19,5 +19,5 @@ loop-low-preserved c =
       ordered = omega arith;
       within = omega arith;
       before = c.loop-low.invariant.before;
-      behind = greater_at c.args.held.now middle c.index-held-middle.result c.args.n c.requires (omega arith) (sym c.cmp.ensures ∙ c.in-Greater.is);
+      behind = greater_at c.args.held.now middle c.index-held-middle.result c.args.n c.requires (omega arith) (sym c.needle_order.ensures ∙ c.in-Greater.is);
     }

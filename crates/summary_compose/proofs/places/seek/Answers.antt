@@ -1,7 +1,7 @@
 -- One link further.
 use Rattle.std.proofs.Common.{refl}
 use Rattle.std.proofs.lemmas.Bool.{false≢true}
-use Rattle.summary_compose.proofs.Contents.{seek_same, seek_other, seek_all}
+use Rattle.summary_compose.proofs.SegmentPlaces.{seek_same, seek_other, seek_all}
 use Rattle.summary_compose.proofs.places.seek.Goals.{then-is_same, else-is_same}
 use Rattle.summary_compose.proofs.places.seek.Goals as goal
 

@@ -5,10 +5,10 @@ use Rattle.face_data.specs.Goodness.{IsGood}
 use Rattle.face_data.specs.Summaries.{Summary, applied}
 use Rattle.face_data.specs.View.{summary_of}
 use Rattle.std.specs.Prelude.{◌≡◌, ◌+◌, ◌++◌}
-use Rattle.face_data.proofs.Good.{composed_good, composed_runs_both}
+use Rattle.face_data.proofs.Goodness.{composed_good, composed_runs_both}
 use Rattle.summary_compose.specs.Composing.{IsNoGreater, ScratchView}
 use Rattle.summary_compose.specs.Rooms.{room_of_both}
-use Rattle.summary_compose.proofs.Composable.{composable}
+use Rattle.summary_compose.proofs.GoodFaces.{composable}
 use Rattle.summary_compose.proofs.Rooms.{finds_room}
 use Rattle.summary_compose.proofs.scratch.compose_into.Goals as goal
 

@@ -3,8 +3,8 @@ use Rattle.face_data.specs.declared.face.Check.{Check}
 use Rattle.face_data.specs.Digests.{IsPlainCondition}
 use Rattle.face_data.specs.Summaries.{Asked}
 use Rattle.face_data.specs.View.{asked_of}
-use Rattle.block_summary.specs.Drafting.{Knows}
-use Rattle.block_summary.proofs.Drafted.{known_more, left_to_ask, plain_names, pushed_asked}
+use Rattle.block_summary.specs.DraftKnowledge.{Knows}
+use Rattle.block_summary.proofs.DraftSteps.{known_more, left_to_ask, plain_names, pushed_asked}
 use Rattle.block_summary.proofs.draft.Draft.ask.Goals as goal
 
 pub invariant_of-self-in-Silent : goal.invariant_of-self-in-Silent
@@ -17,5 +17,5 @@ invariant_of-self-in-Silent c =
     subst (λ (ks : List Asked). Knows ks inside.effect inside.symbols c.note.new.self inside.bare) (sym (pushed_asked names inside.checks.items c.push.new.self.items check items))
     (known_more kept inside.effect inside.symbols inside.digest c.note.new.self inside.bare (asked_of names check)
     (subst IsPlainCondition (sym (plain_names names c.args.cond c.requires.plain)) c.requires.plain) (c.note.ensures names)
-    (left_to_ask c.args.self.now kept inside.effect inside.symbols inside.lines inside.made names c.args.cond c.told.result c.requires.plain c.self.view_is c.told.ensures c.in-Silent.is)
+    (left_to_ask c.args.self.now kept inside.effect inside.symbols inside.lines inside.made names c.args.cond c.bearing_on.result c.requires.plain c.self.view_is c.bearing_on.ensures c.in-Silent.is)
     c.self.invariant)

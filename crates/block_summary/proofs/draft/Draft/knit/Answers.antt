@@ -1,7 +1,7 @@
 use Rattle.std.proofs.Common.{List, map}
 use Rattle.face_data.specs.Summaries.{Asked}
 use Rattle.face_data.specs.View.{asked_of}
-use Rattle.block_summary.proofs.Drafted.{where_ok, known_left, knit_more}
+use Rattle.block_summary.proofs.DraftSteps.{where_ok, known_left, knit_more}
 use Rattle.block_summary.proofs.draft.Draft.knit.Goals as goal
 
 pub invariant_of-self-2 : goal.invariant_of-self-2

@@ -4,8 +4,8 @@ use Rattle.knit_base.specs.Yarns.{without_set}
 use Rattle.face_data.specs.Conditions.Ask.{carrier_in}
 use Rattle.face_data.specs.Summaries.{Summary}
 use Rattle.face_data.specs.View.{asked_of}
-use Rattle.block_summary.specs.Drafting.{HoldsAfter}
-use Rattle.block_summary.proofs.Drafted.{carriers_held}
+use Rattle.block_summary.specs.DraftKnowledge.{HoldsAfter}
+use Rattle.block_summary.proofs.DraftSteps.{carriers_held}
 use Rattle.block_summary.proofs.draft.Draft.knows_in.Goals as goal
 
 pub returns : goal.returns

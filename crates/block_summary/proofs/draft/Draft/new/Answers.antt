@@ -1,4 +1,4 @@
-use Rattle.block_summary.proofs.Drafted.{nothing_known}
+use Rattle.block_summary.proofs.DraftSteps.{nothing_known}
 use Rattle.block_summary.proofs.draft.Draft.new.Goals as goal
 
 pub invariant_of-result : goal.invariant_of-result

@@ -1,14 +1,14 @@
 use Rattle.std.proofs.Common.{◌∙◌, sym, refl, arith}
 use Rattle.knit_base.specs.Usual.{usual_read}
 use Rattle.carriage_model.specs.Carriage.{HasRun}
-use Rattle.carriage_model.proofs.Carried.{InState, standing, run-sound, run-stopped, made-few}
+use Rattle.carriage_model.proofs.Carried.{InState, standing, run-sound, run-still, on_err-anyhow, run-stopped, made-few}
 use Rattle.carriage_model.proofs.Found.{none_from_test}
 use Rattle.carriage_model.proofs.Needs.{line_has-needles, line_has-room, usual_has-carrier}
 use Rattle.carriage_model.proofs.carriage.Carriage.carry_usual.Goals as goal
 
 pub returns-then-is_stopped-clause-over : goal.returns-then-is_stopped-clause-over
-returns-then-is_stopped-clause-over c = λ over profile telling first reads here.
-    run-stopped profile telling first reads (usual_read c.args.usual) c.args.self.now _ here refl (sym c.is_stopped.ensures ∙ c.if-is_stopped.true)
+returns-then-is_stopped-clause-over c = λ over profile with_loops first reads here.
+    run-stopped profile with_loops first reads (usual_read c.args.usual) c.args.self.now _ here refl (sym c.is_stopped.ensures ∙ c.if-is_stopped.true)
 
 pub allows-requires-clause-needles : goal.allows-requires-clause-needles
 allows-requires-clause-needles c =
@@ -29,6 +29,11 @@ pub go_over_usual-requires-clause-made : goal.go_over_usual-requires-clause-made
 go_over_usual-requires-clause-made c = omega (arith, c.requires.lines, made-few _ _ _ _ _ c.requires.running.3)
 
 pub returns-clause-over : goal.returns-clause-over
-returns-clause-over c = λ over profile telling first reads here.
-    run-sound profile telling first reads (usual_read c.args.usual) c.args.self.now _ c.go_over_usual.new.self here refl (none_from_test _ (sym c.is_stopped.ensures ∙ c.if-is_stopped.false))
-    (λ s represented. sym (c.allows.ensures c.if-not-allows.false s represented)) c.in_ok-go_over_usual.ensures
+returns-clause-over c = λ over profile with_loops first reads here.
+    run-sound profile with_loops first reads (usual_read c.args.usual) c.args.self.now c.go_over_usual.new.self here (none_from_test _ (sym c.is_stopped.ensures ∙ c.if-is_stopped.false))
+    (λ s represented. sym (c.allows.ensures c.if-not-allows.false s represented)) c.in_ok-go_over_usual.ensures.ok
+
+pub returns-in_err-go_over_usual-clause-err : goal.returns-in_err-go_over_usual-clause-err
+returns-in_err-go_over_usual-clause-err c =
+    on_err-anyhow c.from_residual.result
+    (λ profile with_loops first reads here. run-still profile with_loops first reads c.args.self.now c.go_over_usual.new.self here c.in_err-go_over_usual.ensures.err)

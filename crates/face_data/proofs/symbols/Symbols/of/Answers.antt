@@ -1,5 +1,5 @@
 use Rattle.std.proofs.Common.{sym}
-use Rattle.face_data.proofs.Placed.{found_at, missed_at}
+use Rattle.face_data.proofs.Places.{found_at, missed_at}
 use Rattle.face_data.proofs.symbols.Symbols.of.Goals as goal
 
 pub returns-in-Ok : goal.returns-in-Ok

@@ -1,6 +1,6 @@
 use Rattle.std.proofs.Common.{ap, ◌∙◌}
 use Rattle.face_data.specs.Segments.{change_at}
-use Rattle.face_data.proofs.Placed.{change_at-put}
+use Rattle.face_data.proofs.Places.{change_at-put}
 use Rattle.face_data.proofs.symbols.Symbols.set.Goals as goal
 
 pub returns-clause-ok : goal.returns-clause-ok

@@ -1,7 +1,7 @@
 use Rattle.std.proofs.Common.{rules, ◌≡◌, List, Some, refl, sym, ap, ◌∙◌}
 use Rattle.std.specs.List.{insert}
 use Rattle.face_data.specs.Segments.{Changed}
-use Rattle.face_data.proofs.Placed.{merged_in_order, found_at, missed_at, written_at, inserted_at}
+use Rattle.face_data.proofs.Places.{merged_in_order, found_at, missed_at, written_at, inserted_at}
 use Rattle.face_data.proofs.symbols.Symbols.swap.Goals as goal
 
 pub invariant_of-self : goal.invariant_of-self

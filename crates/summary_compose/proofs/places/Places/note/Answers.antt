@@ -1,5 +1,5 @@
 -- One change more.
-use Rattle.summary_compose.proofs.Contents.{tells_more, tells_all}
+use Rattle.summary_compose.proofs.SegmentPlaces.{tells_more, tells_all}
 use Rattle.summary_compose.proofs.places.Places.note.Goals as goal
 
 pub loop-place-preserved : goal.loop-place-preserved

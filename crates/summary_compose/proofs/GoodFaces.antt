@@ -1,0 +1,204 @@
+-- Two good faces whose lists are packed and whose lines add up can be composed.
+use Prim.Native.Nat.{zero}
+use Rattle.std.proofs.Common.{suc, ◌≡◌, ℕ, ◌+◌, ◌*◌, ◌≤◌, ◌<◌, ◌^◌, ◌⊎◌, inl, inr, List, [], ◌∷◌, ◌++◌, None, length, map, ap, ◌∙◌, subst, arith, get_or}
+use Rattle.std.specs.Prelude.{All}
+use Rattle.std.specs.List.{Contains}
+use Rattle.std.proofs.Math.Nat.{mul-le-mul_right}
+use Rattle.std.proofs.lemmas.List.{get_or-map, length-map}
+use Rattle.std.proofs.lemmas.List.Elements.{All-contains, All-append, Contains-get_or, Contains-append_right}
+use Rattle.std.proofs.lemmas.List.Sums.{sum_by-le}
+use Rattle.knit_base.specs.declared.needle.Needle.{Needle}
+use Rattle.face_data.specs.declared.face.Check.{Check}
+use Rattle.face_data.specs.declared.face.Cond.{Cond}
+use Rattle.face_data.specs.declared.face.Cond.TheVariants.{RackIs, CarrierIn, CarrierOut, HookFree, HookIs, HookLacks, SizeAtMost}
+use Rattle.face_data.specs.declared.face.Effect.{Effect}
+use Rattle.face_data.specs.declared.face.Ending.{Ending}
+use Rattle.face_data.specs.declared.face.Ending.TheVariants.{Through, Broken}
+use Rattle.face_data.specs.declared.face.FaceView.{FaceView}
+use Rattle.face_data.specs.declared.face.Seg.{Seg}
+use Rattle.face_data.specs.declared.face.Seg.TheVariants.{Entry, New}
+use Rattle.face_data.specs.Composition.{composed, composed_at, closed_at, changes_with, reads}
+use Rattle.face_data.specs.Conditions.{Ask, ask_of, part_of}
+use Rattle.face_data.specs.Conditions.Ask.{rack_is, carrier_in, carrier_out, hook_free, hook_is, hook_lacks, size_at_most}
+use Rattle.face_data.specs.Digests.{CarrierFits}
+use Rattle.face_data.specs.Goodness.{AskFits, ChangeFits, EndingFits, IsGood, MeetsSize}
+use Rattle.face_data.specs.Segments.{Changed, segments_on, names_through, new_of, new_through}
+use Rattle.face_data.specs.Sets.{IsDistinct, IsWithin}
+use Rattle.face_data.specs.Summaries.{Summary}
+use Rattle.face_data.specs.View.{IsPacked, asked_of, changed_of, names_of, summary_of}
+use Rattle.face_data.proofs.Bound.{at_most_bound, no_needle}
+use Rattle.face_data.proofs.Goodness.{composed_good, good_within, within_known}
+use Rattle.face_data.proofs.Items.{change_items_bound}
+use Rattle.face_data.proofs.Members.{Contains-head, Contains-tail, Contains-cons_cases}
+use Rattle.face_data.proofs.Owners.{distinct_through, member_cases}
+use Rattle.summary_compose.specs.Changes.{OffsetFits, changes_in, merged_of, segs_in}
+use Rattle.summary_compose.specs.Composing.{Composes, EndingRises}
+use Rattle.summary_compose.specs.Known.{AreGood, IsFewThrough, checks_in}
+use Rattle.summary_compose.specs.Spots.{IsNumbered, spot_of}
+use Rattle.summary_compose.proofs.NeedleSpots.{bed_place_small, spot_of-injective}
+
+-- distinct needles stand at different places
+distinct_at : (xs : List Needle) → IsDistinct xs → (k l : ℕ) (d : Needle) → k < length xs → l < k → get_or xs k d ≡ get_or xs l d → ⊥
+distinct_at [] h k l d within before same = absurd (omega arith)
+distinct_at (x ∷ xs) h zero l d within before same = absurd (omega arith)
+distinct_at (x ∷ xs) h (suc k) zero d within before same = h.0 (subst (Contains xs) same (Contains-get_or xs k d (omega arith)))
+distinct_at (x ∷ xs) h (suc k) (suc l) d within before same = distinct_at xs h.1 k l d (omega arith) (omega arith) same
+
+spot_small : (n : Needle) → IsNumbered n → spot_of n < 2 ^ 18
+unfolding spot_of
+spot_small n h = let bed = bed_place_small n.bed in omega (arith, bed, h)
+
+-- there are few distinct needles
+few_distinct : (xs : List Needle) → IsDistinct xs → ((n : Needle) → Contains xs n → IsNumbered n) → length xs ≤ 2 ^ 18
+few_distinct xs d numbers =
+    at_most_bound (λ k. spot_of (get_or xs k no_needle)) (length xs) (2 ^ 18)
+    (λ k within. spot_small (get_or xs k no_needle) (numbers (get_or xs k no_needle) (Contains-get_or xs k no_needle within)))
+    (λ k l within before same. distinct_at xs d k l no_needle within before (spot_of-injective (get_or xs k no_needle) (get_or xs l no_needle) same))
+
+few_within : (xs known : List Needle) → IsDistinct xs → IsWithin xs known → All IsNumbered known → length xs ≤ 2 ^ 18
+few_within xs known d w numbers = few_distinct xs d (λ n there. All-contains IsNumbered known n numbers (w n there))
+
+-- the same needles, each once
+record Once (known : List Needle) : Type 0 where
+  needles : List Needle
+  distinct : IsDistinct needles
+  all : IsWithin known needles
+  none_else : IsWithin needles known
+
+once_more : (x : Needle) (xs : List Needle) (o : Once xs) → Contains o.needles x ⊎ (Contains o.needles x → ⊥) → Once (x ∷ xs)
+once_more x xs o (inl there) = record {
+  needles = o.needles;
+  distinct = o.distinct;
+  all = λ n h. elim (Contains-cons_cases x xs n h) [ inl same ↦ subst (Contains o.needles) same there | inr later ↦ o.all n later ];
+  none_else = λ n h. Contains-tail x xs n (o.none_else n h);
+}
+once_more x xs o (inr absent) = record {
+  needles = x ∷ o.needles;
+  distinct = (absent, o.distinct);
+  all = λ n h. elim (Contains-cons_cases x xs n h) [
+    | inl same ↦ subst (Contains (x ∷ o.needles)) same (Contains-head x o.needles)
+    | inr later ↦ Contains-tail x o.needles n (o.all n later)
+  ];
+  none_else = λ n h. elim (Contains-cons_cases x o.needles n h) [
+    | inl same ↦ subst (Contains (x ∷ xs)) same (Contains-head x xs)
+    | inr later ↦ Contains-tail x xs n (o.none_else n later)
+  ];
+}
+
+once : (known : List Needle) → Once known
+once [] = record { needles = []; distinct = tt; all = λ n h. h; none_else = λ n h. h }
+once (x ∷ xs) = once_more x xs (once xs) (member_cases (once xs).needles x)
+
+-- a good summary has few segments
+few_segs : (carriers limit : ℕ) (known : List Needle) (f : Summary) → IsGood carriers limit known f → All IsNumbered known → limit < 2 ^ 8 → segs_in f.changes < 2 ^ 32
+few_segs carriers limit known f g numbers few_loops =
+    let o = once known in
+    let few = few_distinct o.needles o.distinct (λ n there. All-contains IsNumbered known n numbers (o.none_else n there)) in
+    let bound = change_items_bound carriers limit o.needles f (good_within carriers limit known o.needles f o.all g) in
+    let most : (limit + 2) * length o.needles ≤ 257 * length o.needles = mul-le-mul_right (length o.needles) (omega (arith, few_loops)) in
+    omega (arith, few, bound, most)
+
+meets_none : (q : Ask) → MeetsSize q (λ n. 0)
+meets_none (size_at_most names most) = omega (arith, sum_by-le (λ (n : Needle). 0) 0 names (λ k d below. omega arith))
+meets_none (rack_is x) = tt
+meets_none (carrier_in x) = tt
+meets_none (carrier_out x) = tt
+meets_none hook_free = tt
+meets_none (hook_is x) = tt
+meets_none (hook_lacks x) = tt
+
+-- each needle holds few new loops
+few_new : (carriers limit : ℕ) (known : List Needle) (f : Summary) → IsGood carriers limit known f → (n : Needle) → new_of (segments_on f.changes n) ≤ limit
+few_new carriers limit known f g n = let size = g.fair.sizes (λ m. 0) (λ m. omega arith) (λ c there. meets_none c.ask) n in omega (arith, size)
+
+few_read : (carriers limit : ℕ) (first second names : List Needle) (a : FaceView) (c : Cond) → IsGood carriers limit first (summary_of a) → All IsNumbered (first ++ second) → limit < 2 ^ 8 →
+    AskFits carriers limit second (ask_of names c) → IsFewThrough a (names_of names c)
+few_read carriers limit first second names a (SizeAtMost p most) ga numbers few_loops fits =
+    let xs = part_of names p in
+    let own : length xs ≤ 2 ^ 18 = few_distinct xs fits.distinct (λ n there. All-contains IsNumbered (first ++ second) n numbers (Contains-append_right first second n (fits.within n there))) in
+    let read = few_within (names_through (changes_in a) xs) (first ++ second) (distinct_through (changes_in a) xs ga.fair.owns fits.distinct)
+    (within_known (changes_in a) a.lines first second xs ga.fair.changes_fit fits.within) numbers in
+    let new : new_through (changes_in a) xs ≤ length xs * limit
+    = sum_by-le (λ n. new_of (segments_on (changes_in a) n)) limit xs (λ k d below. few_new carriers limit first (summary_of a) ga (get_or xs k d)) in
+    let many : length xs * limit ≤ 2 ^ 18 * limit = mul-le-mul_right limit own in
+    record { names = omega (arith, read); new = omega (arith, new, many, few_loops) }
+few_read carriers limit first second names a (RackIs q) ga numbers few_loops fits = record { names = omega arith; new = omega arith }
+few_read carriers limit first second names a (CarrierIn c) ga numbers few_loops fits = record { names = omega arith; new = omega arith }
+few_read carriers limit first second names a (CarrierOut c) ga numbers few_loops fits = record { names = omega arith; new = omega arith }
+few_read carriers limit first second names a HookFree ga numbers few_loops fits = record { names = omega arith; new = omega arith }
+few_read carriers limit first second names a (HookIs set) ga numbers few_loops fits = record { names = omega arith; new = omega arith }
+few_read carriers limit first second names a (HookLacks c) ga numbers few_loops fits = record { names = omega arith; new = omega arith }
+
+few_named : (carriers limit : ℕ) (known names : List Needle) (c : Cond) → All IsNumbered known → AskFits carriers limit known (ask_of names c) → length (names_of names c) < 2 ^ 32
+few_named carriers limit known names (SizeAtMost p most) numbers fits = omega (arith, few_within (part_of names p) known fits.distinct fits.within numbers)
+few_named carriers limit known names (RackIs q) numbers fits = omega arith
+few_named carriers limit known names (CarrierIn c) numbers fits = omega arith
+few_named carriers limit known names (CarrierOut c) numbers fits = omega arith
+few_named carriers limit known names HookFree numbers fits = omega arith
+few_named carriers limit known names (HookIs set) numbers fits = omega arith
+few_named carriers limit known names (HookLacks c) numbers fits = omega arith
+
+carrier_fits : (carriers limit : ℕ) (known names : List Needle) (c : Cond) → carriers ≤ 64 → AskFits carriers limit known (ask_of names c) → CarrierFits c
+carrier_fits carriers limit known names (SizeAtMost p most) few fits = tt
+carrier_fits carriers limit known names (RackIs q) few fits = tt
+carrier_fits carriers limit known names (CarrierIn c) few fits = omega (arith, few, fits)
+carrier_fits carriers limit known names (CarrierOut c) few fits = omega (arith, few, fits)
+carrier_fits carriers limit known names HookFree few fits = tt
+carrier_fits carriers limit known names (HookIs set) few fits = tt
+carrier_fits carriers limit known names (HookLacks c) few fits = omega (arith, few, fits)
+
+contains_mapped : {X Y : Type 0} (f : X → Y) (xs : List X) (k : ℕ) (d : X) → k < length xs → Contains (map f xs) (f (get_or xs k d))
+contains_mapped f xs k d within =
+    let size = length-map xs f in
+    subst (Contains (map f xs)) (get_or-map f xs k d (f d) within) (Contains-get_or (map f xs) k (f d) (omega (arith, size, within)))
+
+asked_at : (face : FaceView) (k : ℕ) (d : Check) → k < length face.checks.now → Contains (checks_in face) (asked_of face.names.now (get_or face.checks.now k d))
+asked_at face k d within = contains_mapped (asked_of face.names.now) face.checks.now k d within
+
+offset_fits : (lines more : ℕ) (known : List Needle) (c : Changed) → ChangeFits more known c → lines + more < 2 ^ 32 → (s : Seg) → Contains c.1 s → OffsetFits lines s
+offset_fits lines more known c fits sum (Entry n) there = tt
+offset_fits lines more known c fits sum (New offset) there = omega (arith, fits.offsets offset there, sum)
+
+ending_rises : (carriers : ℕ) (a : FaceView) (b : Summary) (e : Ending) → EndingFits carriers b e → a.lines + b.lines < 2 ^ 32 → EndingRises a e
+ending_rises carriers a b (Through effect) fits sum = tt
+ending_rises carriers a b (Broken fault) fits sum = omega (arith, fits.within, sum)
+
+-- where nothing stops, both faces' changes are merged
+merged_changes : (a b : FaceView) (effect more : Effect) → a.ending ≡ Through effect → b.ending ≡ Through more → (reads effect (changes_in a) a.lines (checks_in a) (checks_in b)).stop ≡ None →
+    (composed (summary_of a) (summary_of b)).changes ≡ merged_of a b
+merged_changes a b effect more first second goes_on =
+    ap (λ e. (composed_at e (summary_of a) (summary_of b)).changes) first
+    ∙ ap (λ o. (closed_at o (reads effect (changes_in a) a.lines (checks_in a) (checks_in b)).checks effect (summary_of a) (summary_of b)).changes) goes_on
+    ∙ ap (λ e. changes_with e (merged_of a b)) second
+
+-- All that the code asks of two faces follows.
+pub composable : (a b : FaceView) → AreGood a b → IsPacked a → IsPacked b → a.lines + b.lines < 2 ^ 32 → Composes a b
+composable a b g pa pb sum =
+    let numbers : All IsNumbered (g.first_known ++ g.second_known) = All-append IsNumbered g.first_known g.second_known g.first_numbers g.second_numbers in
+    record {
+      good = g;
+      named = record { fit = pa.checks_fit; whole = pa.names };
+      carriers = λ k d within. carrier_fits g.carriers g.limit g.first_known a.names.now (get_or a.checks.now k d).cond g.few (g.first.fair.asks_fit (asked_of a.names.now (get_or a.checks.now k d)) (asked_at a k d within));
+      few_names = λ k d within. few_named g.carriers g.limit g.first_known a.names.now (get_or a.checks.now k d).cond g.first_numbers (g.first.fair.asks_fit (asked_of a.names.now (get_or a.checks.now k d)) (asked_at a k d within));
+      readable = λ k d within.
+          let fits = g.second.fair.asks_fit (asked_of b.names.now (get_or b.checks.now k d)) (asked_at b k d within) in
+          record {
+            fit = pb.checks_fit k d within;
+            carrier = carrier_fits g.carriers g.limit g.second_known b.names.now (get_or b.checks.now k d).cond g.few fits;
+            few = few_read g.carriers g.limit g.first_known g.second_known b.names.now a (get_or b.checks.now k d).cond g.first numbers g.few_loops fits;
+          };
+      raised = λ k d within. omega (arith, g.second.fair.within (asked_of b.names.now (get_or b.checks.now k d)) (asked_at b k d within), sum);
+      fit = pa.changes_fit;
+      order = g.first.fair.in_order;
+      second_fit = pb.changes_fit;
+      offsets = λ k d within j e below.
+          let c = changed_of b.segs.now (get_or b.changes.now k d) in
+          offset_fits a.lines b.lines g.second_known c (g.second.fair.changes_fit c (contains_mapped (changed_of b.segs.now) b.changes.now k d within)) sum (get_or c.1 j e) (Contains-get_or c.1 j e below);
+      few_segs = λ effect more first second goes_on.
+          subst (λ cs. segs_in cs < 2 ^ 32) (merged_changes a b effect more first second goes_on)
+          (few_segs g.carriers g.limit (g.first_known ++ g.second_known) (composed (summary_of a) (summary_of b))
+          (composed_good g.carriers g.limit g.first_known g.second_known (summary_of a) (summary_of b) g.first g.second) numbers g.few_loops);
+      lines = sum;
+      made = omega (arith, g.first.fair.made, g.second.fair.made, sum);
+      ending = ending_rises g.carriers a (summary_of b) b.ending g.second.fair.ending sum;
+    }

@@ -1,0 +1,102 @@
+-- Summaries of one line that change no needle and ask nothing of sizes.
+use Rattle.std.proofs.Common.{◌≡◌, ◌<◌, List, [], ◌∷◌, None, refl, sym, subst, inl, inr, arith}
+use Rattle.std.specs.List.{Contains}
+use Rattle.knit_base.specs.declared.needle.Needle.{Needle}
+use Rattle.knit_base.specs.declared.rule.Fault.{Fault}
+use Rattle.knit_base.proofs.Masks.{contains_carrier-none}
+use Rattle.face_data.specs.declared.face.Effect.{Effect}
+use Rattle.face_data.specs.declared.face.Ending.{Ending}
+use Rattle.face_data.specs.declared.face.Ending.TheVariants.{Through, Broken}
+use Rattle.face_data.specs.Drafts.{no_effect}
+use Rattle.face_data.specs.Goodness.{AskFits, EndingFits, IsGood, ThroughFits, names_in}
+use Rattle.face_data.specs.Summaries.{Asked, Summary}
+use Rattle.face_data.proofs.Drafts.{no_lines_good}
+use Rattle.face_data.proofs.Members.{Contains-none, Contains-cons_cases}
+
+-- a line with these conditions and this ending
+abbrev pub one_line : List Asked → Ending → Summary
+one_line checks ending = record { lines = 1; made = 0; checks = checks; changes = []; ending = ending }
+
+unasked_good : (ending : Ending) → EndingFits 0 (one_line [] ending) ending → IsGood 0 0 [] (one_line [] ending)
+unasked_good ending fits =
+    let none = (no_lines_good 0 0 []).fair in
+    record {
+      fair = record {
+        made = omega arith;
+        asks_fit = none.asks_fit;
+        within = λ c there. absurd (Contains-none c there);
+        in_turn = none.in_turn;
+        nested = none.nested;
+        in_order = none.in_order;
+        changes_fit = λ c there. absurd (Contains-none c there);
+        owns = none.owns;
+        sizes = none.sizes;
+        ending = fits;
+      };
+      irredundant = tt;
+    }
+
+-- a line that asks and does nothing
+pub idle_good : IsGood 0 0 [] (one_line [] (Through no_effect))
+idle_good =
+    let ending = (no_lines_good 0 0 []).fair.ending in
+    unasked_good (Through no_effect) (record { lies = ending.lies; apart = ending.apart; came = ending.came; went = ending.went; hook = ending.hook })
+
+-- a line that is broken by itself
+pub broken_good : (fault : Fault) → fault.line ≡ 0 → IsGood 0 0 [] (one_line [] (Broken fault))
+broken_good fault first =
+    unasked_good (Broken fault) (record { within = omega (arith, first); last = λ c there. absurd (Contains-none c there); unchanged = refl; made = refl })
+
+-- nothing comes or goes
+pub idle_fits : ThroughFits 1 (one_line [] (Through no_effect)) no_effect
+idle_fits =
+    let ending = (no_lines_good 1 0 []).fair.ending in
+    record { lies = λ c there. absurd (Contains-none c there); apart = ending.apart; came = ending.came; went = ending.went; hook = ending.hook }
+
+-- the first carrier comes in
+abbrev pub comes : Effect
+comes = record { rack = None; came = 1; went = 0; hook = None }
+
+-- it is one of the declared ones
+pub comes_fits : ThroughFits 1 (one_line [] (Through comes)) comes
+comes_fits = record {
+  lies = λ c there. absurd (Contains-none c there);
+  apart = λ c came. contains_carrier-none c;
+  came = omega arith;
+  went = omega arith;
+  hook = tt;
+}
+
+only_check : (x c : Asked) → Contains (x ∷ []) c → x ≡ c
+only_check x c there = elim (Contains-cons_cases x [] c there) [ inl same ↦ same | inr none ↦ absurd (Contains-none c none) ]
+
+unnamed : (x c : Asked) → names_in x.ask ≡ [] → Contains (x ∷ []) c → (n : Needle) → Contains (names_in c.ask) n → ⊥
+unnamed x c none there n named =
+    Contains-none n (subst (λ ns. Contains ns n) none (subst (λ (a : Asked). Contains (names_in a.ask) n) (sym (only_check x c there)) named))
+
+-- a line with one condition that isn't on sizes
+pub one_check_good : (x : Asked) (effect : Effect) → x.fault.line ≡ 0 → names_in x.ask ≡ [] → AskFits 1 0 [] x.ask → ThroughFits 1 (one_line [] (Through effect)) effect →
+    IsGood 1 0 [] (one_line (x ∷ []) (Through effect))
+one_check_good x effect line none fits ending =
+    let idle = (no_lines_good 1 0 []).fair in
+    record {
+      fair = record {
+        made = omega arith;
+        asks_fit = λ c there. subst (λ (a : Asked). AskFits 1 0 [] a.ask) (only_check x c there) fits;
+        within = λ c there. subst (λ (a : Asked). a.fault.line < 1) (only_check x c there) (omega (arith, line));
+        in_turn = ((λ d later. absurd (Contains-none d later)), tt);
+        nested = λ c d here there. inl (λ n named. absurd (unnamed x c none here n named));
+        in_order = idle.in_order;
+        changes_fit = λ c there. absurd (Contains-none c there);
+        owns = idle.owns;
+        sizes = λ size small meets m. idle.sizes size small (λ c there. absurd (Contains-none c there)) m;
+        ending = record {
+          lies = λ c there. inr (λ m n named held. unnamed x c none there n named);
+          apart = ending.apart;
+          came = ending.came;
+          went = ending.went;
+          hook = ending.hook;
+        };
+      };
+      irredundant = ((λ d later. absurd (Contains-none d later)), tt);
+    }
