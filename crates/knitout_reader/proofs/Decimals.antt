@@ -1,7 +1,8 @@
 -- A rack's text has one sign, one whole and one fraction.
 use Rattle.std.proofs.Common.{◌≡◌, ◌≢◌, ⊎_elim, ℕ, ◌+◌, ◌<◌, ◌≤◌, Bool, true, false, List, [], ◌∷◌, ◌++◌, length, get_or, All, ap, sym, subst, ◌∙◌, refl, arith, codes, length-append, Option, None, Some, MatchOption, min}
 use Rattle.std.proofs.lemmas.List.Elements.{All-head, All-tail}
-use Rattle.knitout_reader.specs.declared.rack.WrittenRack.{WrittenRack}
+use Rattle.knitout_reader.specs.declared.number.TheConstants.{FAR}
+use Rattle.knitout_reader.specs.declared.rack.RackToken.{RackToken}
 use Rattle.knitout_reader.specs.Numbers.{IsDecimal, IsDigit, IsNoPoint, IsQuarter, IsRack, IsSign, number_of}
 use Rattle.knitout_reader.proofs.Signs.{first_byte, other_bytes}
 
@@ -115,17 +116,17 @@ abbrev pub OneSign : List ℕ → Bool → List ℕ → Type 0
 OneSign token negative text = (n : Bool) (whole fraction : List ℕ) → IsRack token n whole fraction → (negative ≡ n) × IsDecimal text whole fraction
 
 -- what the code found of a text without sign, and of a token
-abbrev pub UnsignedFound : Bool → List ℕ → Option WrittenRack → Type 0
+abbrev pub UnsignedFound : Bool → List ℕ → Option RackToken → Type 0
 UnsignedFound negative text found = MatchOption found ((whole fraction : List ℕ) → IsDecimal text whole fraction → ⊥)
-    (λ r. (r.negative ≡ negative) × ((whole : List ℕ) × (fraction : List ℕ) × IsDecimal text whole fraction × (r.whole ≡ min (number_of whole) 100000)
+    (λ r. (r.negative ≡ negative) × ((whole : List ℕ) × (fraction : List ℕ) × IsDecimal text whole fraction × (r.whole ≡ min (number_of whole) FAR)
     × MatchOption r.quarter ((q : ℕ) → IsQuarter fraction q → ⊥) (λ q. IsQuarter fraction q)))
 
-abbrev pub Found : List ℕ → Option WrittenRack → Type 0
+abbrev pub Found : List ℕ → Option RackToken → Type 0
 Found token found = MatchOption found ((negative : Bool) (whole fraction : List ℕ) → IsRack token negative whole fraction → ⊥)
-    (λ r. (whole : List ℕ) × (fraction : List ℕ) × IsRack token r.negative whole fraction × (r.whole ≡ min (number_of whole) 100000)
+    (λ r. (whole : List ℕ) × (fraction : List ℕ) × IsRack token r.negative whole fraction × (r.whole ≡ min (number_of whole) FAR)
     × MatchOption r.quarter ((q : ℕ) → IsQuarter fraction q → ⊥) (λ q. IsQuarter fraction q))
 
-pub rack-found : (token sign text : List ℕ) (negative : Bool) (found : Option WrittenRack) → token ≡ sign ++ text → IsSign sign negative → OneSign token negative text
+pub rack-found : (token sign text : List ℕ) (negative : Bool) (found : Option RackToken) → token ≡ sign ++ text → IsSign sign negative → OneSign token negative text
     → UnsignedFound negative text found → Found token found
 rack-found token sign text negative None is signed one none = λ n whole fraction rack. none whole fraction (one n whole fraction rack).1
 rack-found token sign text negative (Some r) is signed one found =

@@ -22,7 +22,7 @@ use Rattle.knit_base.proofs.Places.{by_test}
 use Rattle.knitout_reader.specs.Tokens.{is_blank, tokens_of}
 use Rattle.knitout_reader.specs.Head.{carriers_word, has_name_twice, names_declared, IsNamesText}
 use Rattle.knitout_reader.specs.declared.head.HeadFault.TheVariants.{CarrierNameTwice}
-use Rattle.knitout_reader.proofs.Splitting.{nonempty}
+use Rattle.knitout_reader.proofs.TokenRuns.{nonempty}
 
 -- what stands behind the colon is a text
 names_text-within : (line text : List ℕ) → IsLine line → length line < 65535 → bytes_eq (take 11 line) carriers_word ≡ true → text ≡ drop 11 line → IsNamesText text

@@ -8,19 +8,19 @@ use Rattle.knit_base.specs.declared.profile.Profile.{Profile}
 use Rattle.knit_base.specs.declared.needle.Bed.{Bed}
 use Rattle.knit_base.specs.declared.needle.Dir.{Dir}
 use Rattle.knit_base.specs.Reasons.{or_else}
-use Rattle.knitout_reader.specs.declared.words.Carrying.{Carrying}
-use Rattle.knitout_reader.specs.declared.words.Carrying.TheVariants as carrying
-use Rattle.knitout_reader.specs.declared.words.Forming.{Forming}
-use Rattle.knitout_reader.specs.declared.words.Forming.TheVariants as forming
-use Rattle.knitout_reader.specs.declared.words.Naming.{Naming}
-use Rattle.knitout_reader.specs.declared.words.Naming.TheVariants as naming
-use Rattle.knitout_reader.specs.declared.words.Noting.{Noting}
-use Rattle.knitout_reader.specs.declared.words.Noting.TheVariants as noting
+use Rattle.knitout_reader.specs.declared.words.CarrierOperation.{CarrierOperation}
+use Rattle.knitout_reader.specs.declared.words.CarrierOperation.TheVariants as carrier_operation
+use Rattle.knitout_reader.specs.declared.words.LoopOperation.{LoopOperation}
+use Rattle.knitout_reader.specs.declared.words.LoopOperation.TheVariants as loop_operation
+use Rattle.knitout_reader.specs.declared.words.NeedleOperation.{NeedleOperation}
+use Rattle.knitout_reader.specs.declared.words.NeedleOperation.TheVariants as needle_operation
+use Rattle.knitout_reader.specs.declared.words.FreeOperation.{FreeOperation}
+use Rattle.knitout_reader.specs.declared.words.FreeOperation.TheVariants as free_operation
 use Rattle.knitout_reader.specs.declared.words.Operation.{Operation}
 use Rattle.knitout_reader.specs.declared.words.Operation.TheVariants as operation
 use Rattle.knitout_reader.specs.Carriers.{carrier_rule, carriers_of}
-use Rattle.knitout_reader.specs.Operations.{IsNotingWord, IsWordOf, carrying_word, carrying_instr, forming_word, forming_instr, forming_slider, naming_word, naming_instr}
-use Rattle.knitout_reader.specs.Reads.{ReadsTokens, needle_on, off_bed, reading_or}
+use Rattle.knitout_reader.specs.Operations.{IsFreeWord, IsWordOf, carrier_word, carrier_instr, loop_word, loop_instr, loop_slider, needle_operation_word, needle_operation_instr}
+use Rattle.knitout_reader.specs.Reading.{TokensReadAs, needle_on, off_bed, reading_or}
 use Rattle.knitout_reader.specs.Shapes.{Shape, Spells, IsFormed, IsDivided, IsMoved, IsNamed, IsRacked, CarryInShape, CarryOutShape, HookInShape, HookOutShape, ReleaseHookShape, StitchShape, PauseShape, ExtensionShape, RackShape, KnitShape, TuckShape, MissShape, SplitShape, XferShape, DropShape, AmissShape}
 
 -- A number that differs between the words of any two kinds: 0 where the second byte is a `-`, else of the first byte and the
@@ -75,21 +75,21 @@ marks-agree word rest (DropShape bed at) spelled = marked _ _ _ _ _ spelled.spel
 marks-agree word rest (AmissShape bed at) spelled = marked _ _ _ _ _ spelled.spelled refl
 
 -- where the word is that of a kind, and the operands aren't its own, there is no shape
-pub not_formed : (which : Forming) (tokens : List (List ℕ)) → ((dir : Dir) (bed : Bed) (at : ℤ) (carriers : List (List ℕ)) → IsFormed (forming_word which) (forming_word which ∷ tokens) dir bed at carriers → ⊥)
-    → (shape : Shape) → Spells (forming_word which ∷ tokens) shape → ⊥
-not_formed forming.Knit tokens none (KnitShape dir bed at carriers) spelled = none dir bed at carriers spelled
-not_formed forming.Knit tokens none shape spelled = absurd (false≢true (marks-agree (codes "knit") tokens shape spelled))
-not_formed forming.Tuck tokens none (TuckShape dir bed at carriers) spelled = none dir bed at carriers spelled
-not_formed forming.Tuck tokens none shape spelled = absurd (false≢true (marks-agree (codes "tuck") tokens shape spelled))
-not_formed forming.Miss tokens none (MissShape dir bed at carriers) spelled = none dir bed at carriers spelled
-not_formed forming.Miss tokens none shape spelled = absurd (false≢true (marks-agree (codes "miss") tokens shape spelled))
+pub not_formed : (which : LoopOperation) (tokens : List (List ℕ)) → ((dir : Dir) (bed : Bed) (at : ℤ) (carriers : List (List ℕ)) → IsFormed (loop_word which) (loop_word which ∷ tokens) dir bed at carriers → ⊥)
+    → (shape : Shape) → Spells (loop_word which ∷ tokens) shape → ⊥
+not_formed loop_operation.Knit tokens none (KnitShape dir bed at carriers) spelled = none dir bed at carriers spelled
+not_formed loop_operation.Knit tokens none shape spelled = absurd (false≢true (marks-agree (codes "knit") tokens shape spelled))
+not_formed loop_operation.Tuck tokens none (TuckShape dir bed at carriers) spelled = none dir bed at carriers spelled
+not_formed loop_operation.Tuck tokens none shape spelled = absurd (false≢true (marks-agree (codes "tuck") tokens shape spelled))
+not_formed loop_operation.Miss tokens none (MissShape dir bed at carriers) spelled = none dir bed at carriers spelled
+not_formed loop_operation.Miss tokens none shape spelled = absurd (false≢true (marks-agree (codes "miss") tokens shape spelled))
 
-pub not_named : (which : Naming) (tokens : List (List ℕ)) → ((bed : Bed) (at : ℤ) → IsNamed (naming_word which) (naming_word which ∷ tokens) bed at → ⊥)
-    → (shape : Shape) → Spells (naming_word which ∷ tokens) shape → ⊥
-not_named naming.Drop tokens none (DropShape bed at) spelled = none bed at spelled
-not_named naming.Drop tokens none shape spelled = absurd (false≢true (marks-agree (codes "drop") tokens shape spelled))
-not_named naming.Amiss tokens none (AmissShape bed at) spelled = none bed at spelled
-not_named naming.Amiss tokens none shape spelled = absurd (false≢true (marks-agree (codes "amiss") tokens shape spelled))
+pub not_named : (which : NeedleOperation) (tokens : List (List ℕ)) → ((bed : Bed) (at : ℤ) → IsNamed (needle_operation_word which) (needle_operation_word which ∷ tokens) bed at → ⊥)
+    → (shape : Shape) → Spells (needle_operation_word which ∷ tokens) shape → ⊥
+not_named needle_operation.Drop tokens none (DropShape bed at) spelled = none bed at spelled
+not_named needle_operation.Drop tokens none shape spelled = absurd (false≢true (marks-agree (codes "drop") tokens shape spelled))
+not_named needle_operation.Amiss tokens none (AmissShape bed at) spelled = none bed at spelled
+not_named needle_operation.Amiss tokens none shape spelled = absurd (false≢true (marks-agree (codes "amiss") tokens shape spelled))
 
 pub not_divided : (tokens : List (List ℕ)) → ((dir : Dir) (bed : Bed) (at : ℤ) (bed2 : Bed) (at2 : ℤ) (carriers : List (List ℕ)) → IsDivided (codes "split") (codes "split" ∷ tokens) dir bed at bed2 at2 carriers → ⊥)
     → (shape : Shape) → Spells (codes "split" ∷ tokens) shape → ⊥
@@ -108,58 +108,58 @@ not_racked tokens none shape spelled = absurd (false≢true (marks-agree (codes 
 
 -- a word that names no operation begins no shape
 pub no_operation : (word : List ℕ) (rest : List (List ℕ)) → ((which : Operation) → IsWordOf which word → ⊥) → (shape : Shape) → Spells (word ∷ rest) shape → ⊥
-no_operation word rest none (CarryInShape carriers) spelled = none (operation.Carry carrying.In) (first_word _ _ _ _ spelled.spelled)
-no_operation word rest none (CarryOutShape carriers) spelled = none (operation.Carry carrying.Out) (first_word _ _ _ _ spelled.spelled)
-no_operation word rest none (HookInShape carriers) spelled = none (operation.Carry carrying.HookIn) (first_word _ _ _ _ spelled.spelled)
-no_operation word rest none (HookOutShape carriers) spelled = none (operation.Carry carrying.HookOut) (first_word _ _ _ _ spelled.spelled)
-no_operation word rest none (ReleaseHookShape carriers) spelled = none (operation.Carry carrying.ReleaseHook) (first_word _ _ _ _ spelled.spelled)
-no_operation word rest none (StitchShape free) spelled = none (operation.Note noting.Stitch) (first_word _ _ _ _ spelled)
-no_operation word rest none (PauseShape free) spelled = none (operation.Note noting.Pause) (first_word _ _ _ _ spelled)
-no_operation word rest none (ExtensionShape name free) spelled = none (operation.Note noting.Extension) (name, first_word _ _ _ _ spelled)
+no_operation word rest none (CarryInShape carriers) spelled = none (operation.Carrier carrier_operation.In) (first_word _ _ _ _ spelled.spelled)
+no_operation word rest none (CarryOutShape carriers) spelled = none (operation.Carrier carrier_operation.Out) (first_word _ _ _ _ spelled.spelled)
+no_operation word rest none (HookInShape carriers) spelled = none (operation.Carrier carrier_operation.HookIn) (first_word _ _ _ _ spelled.spelled)
+no_operation word rest none (HookOutShape carriers) spelled = none (operation.Carrier carrier_operation.HookOut) (first_word _ _ _ _ spelled.spelled)
+no_operation word rest none (ReleaseHookShape carriers) spelled = none (operation.Carrier carrier_operation.ReleaseHook) (first_word _ _ _ _ spelled.spelled)
+no_operation word rest none (StitchShape free) spelled = none (operation.Free free_operation.Stitch) (first_word _ _ _ _ spelled)
+no_operation word rest none (PauseShape free) spelled = none (operation.Free free_operation.Pause) (first_word _ _ _ _ spelled)
+no_operation word rest none (ExtensionShape name free) spelled = none (operation.Free free_operation.Extension) (name, first_word _ _ _ _ spelled)
 no_operation word rest none (RackShape negative whole quarters) spelled = none operation.Rack (first_word _ _ _ _ spelled.spelled)
-no_operation word rest none (KnitShape dir bed at carriers) spelled = none (operation.Form forming.Knit) (first_word _ _ _ _ spelled.spelled)
-no_operation word rest none (TuckShape dir bed at carriers) spelled = none (operation.Form forming.Tuck) (first_word _ _ _ _ spelled.spelled)
-no_operation word rest none (MissShape dir bed at carriers) spelled = none (operation.Form forming.Miss) (first_word _ _ _ _ spelled.spelled)
+no_operation word rest none (KnitShape dir bed at carriers) spelled = none (operation.Loop loop_operation.Knit) (first_word _ _ _ _ spelled.spelled)
+no_operation word rest none (TuckShape dir bed at carriers) spelled = none (operation.Loop loop_operation.Tuck) (first_word _ _ _ _ spelled.spelled)
+no_operation word rest none (MissShape dir bed at carriers) spelled = none (operation.Loop loop_operation.Miss) (first_word _ _ _ _ spelled.spelled)
 no_operation word rest none (SplitShape dir bed at bed2 at2 carriers) spelled = none operation.Split (first_word _ _ _ _ spelled.spelled)
 no_operation word rest none (XferShape bed at bed2 at2) spelled = none operation.Xfer (first_word _ _ _ _ spelled.spelled)
-no_operation word rest none (DropShape bed at) spelled = none (operation.Name naming.Drop) (first_word _ _ _ _ spelled.spelled)
-no_operation word rest none (AmissShape bed at) spelled = none (operation.Name naming.Amiss) (first_word _ _ _ _ spelled.spelled)
+no_operation word rest none (DropShape bed at) spelled = none (operation.Needle needle_operation.Drop) (first_word _ _ _ _ spelled.spelled)
+no_operation word rest none (AmissShape bed at) spelled = none (operation.Needle needle_operation.Amiss) (first_word _ _ _ _ spelled.spelled)
 
 -- readings of operations that are spelt alike
-pub carried-read : (profile : Profile) (names : List (List ℕ)) (which : Carrying) (tokens : List (List ℕ)) (r : Read) → 0 < length tokens
-    → r ≡ reading_or (carrier_rule names 1 tokens) (carrying_instr which (carriers_of names tokens)) → ReadsTokens profile names (carrying_word which ∷ tokens) r
-carried-read profile names carrying.In tokens r some is = inl (CarryInShape tokens, record { spelled = refl; some = some }, is)
-carried-read profile names carrying.Out tokens r some is = inl (CarryOutShape tokens, record { spelled = refl; some = some }, is)
-carried-read profile names carrying.HookIn tokens r some is = inl (HookInShape tokens, record { spelled = refl; some = some }, is)
-carried-read profile names carrying.HookOut tokens r some is = inl (HookOutShape tokens, record { spelled = refl; some = some }, is)
-carried-read profile names carrying.ReleaseHook tokens r some is = inl (ReleaseHookShape tokens, record { spelled = refl; some = some }, is)
+pub carrier-reading : (profile : Profile) (names : List (List ℕ)) (which : CarrierOperation) (tokens : List (List ℕ)) (r : Read) → 0 < length tokens
+    → r ≡ reading_or (carrier_rule names 1 tokens) (carrier_instr which (carriers_of names tokens)) → TokensReadAs profile names (carrier_word which ∷ tokens) r
+carrier-reading profile names carrier_operation.In tokens r some is = inl (CarryInShape tokens, record { spelled = refl; some = some }, is)
+carrier-reading profile names carrier_operation.Out tokens r some is = inl (CarryOutShape tokens, record { spelled = refl; some = some }, is)
+carrier-reading profile names carrier_operation.HookIn tokens r some is = inl (HookInShape tokens, record { spelled = refl; some = some }, is)
+carrier-reading profile names carrier_operation.HookOut tokens r some is = inl (HookOutShape tokens, record { spelled = refl; some = some }, is)
+carrier-reading profile names carrier_operation.ReleaseHook tokens r some is = inl (ReleaseHookShape tokens, record { spelled = refl; some = some }, is)
 
-pub formed-read : (profile : Profile) (names : List (List ℕ)) (which : Forming) (tokens : List (List ℕ)) (dir : Dir) (bed : Bed) (at : ℤ) (carriers : List (List ℕ)) (r : Read)
-    → IsFormed (forming_word which) (forming_word which ∷ tokens) dir bed at carriers
-    → r ≡ reading_or (or_else (off_bed profile 2 at) (or_else (forming_slider which bed carriers) (carrier_rule names 3 carriers))) (forming_instr which dir (needle_on bed at) (carriers_of names carriers))
-    → ReadsTokens profile names (forming_word which ∷ tokens) r
-formed-read profile names forming.Knit tokens dir bed at carriers r formed is = inl (KnitShape dir bed at carriers, formed, is)
-formed-read profile names forming.Tuck tokens dir bed at carriers r formed is = inl (TuckShape dir bed at carriers, formed, is)
-formed-read profile names forming.Miss tokens dir bed at carriers r formed is = inl (MissShape dir bed at carriers, formed, is)
+pub loop-reading : (profile : Profile) (names : List (List ℕ)) (which : LoopOperation) (tokens : List (List ℕ)) (dir : Dir) (bed : Bed) (at : ℤ) (carriers : List (List ℕ)) (r : Read)
+    → IsFormed (loop_word which) (loop_word which ∷ tokens) dir bed at carriers
+    → r ≡ reading_or (or_else (off_bed profile 2 at) (or_else (loop_slider which bed carriers) (carrier_rule names 3 carriers))) (loop_instr which dir (needle_on bed at) (carriers_of names carriers))
+    → TokensReadAs profile names (loop_word which ∷ tokens) r
+loop-reading profile names loop_operation.Knit tokens dir bed at carriers r formed is = inl (KnitShape dir bed at carriers, formed, is)
+loop-reading profile names loop_operation.Tuck tokens dir bed at carriers r formed is = inl (TuckShape dir bed at carriers, formed, is)
+loop-reading profile names loop_operation.Miss tokens dir bed at carriers r formed is = inl (MissShape dir bed at carriers, formed, is)
 
-pub named-read : (profile : Profile) (names : List (List ℕ)) (which : Naming) (tokens : List (List ℕ)) (bed : Bed) (at : ℤ) (r : Read)
-    → IsNamed (naming_word which) (naming_word which ∷ tokens) bed at → r ≡ reading_or (off_bed profile 1 at) (naming_instr which (needle_on bed at))
-    → ReadsTokens profile names (naming_word which ∷ tokens) r
-named-read profile names naming.Drop tokens bed at r named is = inl (DropShape bed at, named, is)
-named-read profile names naming.Amiss tokens bed at r named is = inl (AmissShape bed at, named, is)
+pub needle-reading : (profile : Profile) (names : List (List ℕ)) (which : NeedleOperation) (tokens : List (List ℕ)) (bed : Bed) (at : ℤ) (r : Read)
+    → IsNamed (needle_operation_word which) (needle_operation_word which ∷ tokens) bed at → r ≡ reading_or (off_bed profile 1 at) (needle_operation_instr which (needle_on bed at))
+    → TokensReadAs profile names (needle_operation_word which ∷ tokens) r
+needle-reading profile names needle_operation.Drop tokens bed at r named is = inl (DropShape bed at, named, is)
+needle-reading profile names needle_operation.Amiss tokens bed at r named is = inl (AmissShape bed at, named, is)
 
-abbrev pub noting_reading : Noting → Read
-noting_reading noting.Stitch = read.Instr instr.Stitch
-noting_reading noting.Pause = read.Instr instr.Pause
-noting_reading noting.Extension = read.Instr instr.Extension
+abbrev pub free_reading : FreeOperation → Read
+free_reading free_operation.Stitch = read.Instr instr.Stitch
+free_reading free_operation.Pause = read.Instr instr.Pause
+free_reading free_operation.Extension = read.Instr instr.Extension
 
-pub noting-read : (profile : Profile) (names : List (List ℕ)) (word : List ℕ) (free : List (List ℕ)) → (which : Noting) → IsNotingWord which word
-    → (r : Read) → r ≡ noting_reading which → ReadsTokens profile names (word ∷ free) r
-noting-read profile names word free noting.Stitch is r reads = inl (StitchShape free, ap (λ w. w ∷ free) is, reads)
-noting-read profile names word free noting.Pause is r reads = inl (PauseShape free, ap (λ w. w ∷ free) is, reads)
-noting-read profile names word free noting.Extension is r reads = inl (ExtensionShape is.0 free, ap (λ w. w ∷ free) is.1, reads)
+pub free-reading : (profile : Profile) (names : List (List ℕ)) (word : List ℕ) (free : List (List ℕ)) → (which : FreeOperation) → IsFreeWord which word
+    → (r : Read) → r ≡ free_reading which → TokensReadAs profile names (word ∷ free) r
+free-reading profile names word free free_operation.Stitch is r reads = inl (StitchShape free, ap (λ w. w ∷ free) is, reads)
+free-reading profile names word free free_operation.Pause is r reads = inl (PauseShape free, ap (λ w. w ∷ free) is, reads)
+free-reading profile names word free free_operation.Extension is r reads = inl (ExtensionShape is.0 free, ap (λ w. w ∷ free) is.1, reads)
 
 -- what is read behind a word is read behind one that is equal
 pub at_word : (profile : Profile) (names : List (List ℕ)) (word other : List ℕ) (tokens : List (List ℕ)) (r : Read) → word ≡ other
-    → ReadsTokens profile names (other ∷ tokens) r → ReadsTokens profile names (word ∷ tokens) r
-at_word profile names word other tokens r is reads = subst (λ w. ReadsTokens profile names (w ∷ tokens) r) (sym is) reads
+    → TokensReadAs profile names (other ∷ tokens) r → TokensReadAs profile names (word ∷ tokens) r
+at_word profile names word other tokens r is reads = subst (λ w. TokensReadAs profile names (w ∷ tokens) r) (sym is) reads

@@ -9,12 +9,12 @@ use Rattle.knit_base.specs.declared.needle.Dir.{Dir}
 use Rattle.knit_base.specs.declared.needle.Dir.TheVariants.{Right, Left}
 use Rattle.knit_base.specs.Spelling.{dir_word}
 use Rattle.knitout_reader.specs.Numbers.{IsNeedle, IsRack, IsQuarter}
-use Rattle.knitout_reader.specs.Reads.{ReadsTokens, ReadsCode, reading_of, unreadable}
+use Rattle.knitout_reader.specs.Reading.{TokensReadAs, CodeReadsAs, reading_of, unreadable}
 use Rattle.knitout_reader.specs.Shapes.{Shape, Spells, AreCarried, AreQuarters, BeginsWithNeedle, IsFormed, IsDivided, IsMoved, IsNamed, IsRacked, CarryInShape, CarryOutShape, HookInShape, HookOutShape, ReleaseHookShape, StitchShape, PauseShape, ExtensionShape, RackShape, KnitShape, TuckShape, MissShape, SplitShape, XferShape, DropShape, AmissShape}
 use Rattle.knitout_reader.proofs.Marks.{mark, mark_of, marks-agree, first_word, other_words}
 use Rattle.knitout_reader.proofs.Signs.{first_byte}
 use Rattle.knitout_reader.proofs.Decimals.{one_rack}
-use Rattle.knitout_reader.proofs.Unique.{one_needle}
+use Rattle.knitout_reader.proofs.OneNeedle.{one_needle}
 
 one_dir : (dir dir' : Dir) → dir_word dir ≡ dir_word dir' → dir ≡ dir'
 one_dir Right Right e = refl
@@ -131,7 +131,7 @@ abbrev pub FitsNone : List (List ℕ) → Read → Type 0
 FitsNone tokens r = ((shape : Shape) → Spells tokens shape → ⊥) × (r ≡ unreadable)
 
 pub one-reading : (profile : Profile) (names : List (List ℕ)) (word : List ℕ) (rest : List (List ℕ)) (r other : Read)
-    → ReadsTokens profile names (word ∷ rest) r → ReadsTokens profile names (word ∷ rest) other → other ≡ r
+    → TokensReadAs profile names (word ∷ rest) r → TokensReadAs profile names (word ∷ rest) other → other ≡ r
 one-reading profile names word rest r other one two =
     ⊎_elim
     (λ (here : Fits profile names (word ∷ rest) r).
@@ -146,11 +146,11 @@ one-reading profile names word rest r other one two =
     two)
     one
 
-reads_as : (profile : Profile) (names : List (List ℕ)) (word : List ℕ) (rest : List (List ℕ)) (comment : Bool) (r : Read) → ReadsCode profile names (word ∷ rest) comment r
-    → ReadsTokens profile names (word ∷ rest) r
+reads_as : (profile : Profile) (names : List (List ℕ)) (word : List ℕ) (rest : List (List ℕ)) (comment : Bool) (r : Read) → CodeReadsAs profile names (word ∷ rest) comment r
+    → TokensReadAs profile names (word ∷ rest) r
 reads_as profile names word rest comment r reads = reads
 
 -- the readings of a line that has tokens are those of its tokens
 pub reads-tokens : (profile : Profile) (names tokens rest : List (List ℕ)) (word : List ℕ) (comment : Bool) (r : Read) → tokens ≡ word ∷ rest
-    → ReadsCode profile names tokens comment r → ReadsTokens profile names (word ∷ rest) r
-reads-tokens profile names tokens rest word comment r is reads = reads_as profile names word rest comment r (subst (λ ts. ReadsCode profile names ts comment r) is reads)
+    → CodeReadsAs profile names tokens comment r → TokensReadAs profile names (word ∷ rest) r
+reads-tokens profile names tokens rest word comment r is reads = reads_as profile names word rest comment r (subst (λ ts. CodeReadsAs profile names ts comment r) is reads)

@@ -1,8 +1,8 @@
 -- What holds of a shape that breaks no rule.
-use Rattle.std.proofs.Common.{◌≡◌, ◌≢◌, ◌⊎◌, ⊎_elim, inl, inr, ℕ, ◌+◌, ◌<◌, ◌≤◌, ◌^◌, ℤ, ◌≤ℤ◌, int_lt, Bool, true, false, not, ◌||◌, ◌&&◌, List, [], ◌∷◌, length, All, Option, None, Some, position, ap, sym, subst, refl, arith, if◌then◌else◌}
+use Rattle.std.proofs.Common.{◌≡◌, ◌≢◌, ◌⊎◌, ⊎_elim, inl, inr, ℕ, ◌+◌, ◌*◌, ◌<◌, ◌≤◌, ◌^◌, ℤ, ◌≤ℤ◌, int_lt, nat_lt, Bool, true, false, not, ◌||◌, ◌&&◌, List, [], ◌∷◌, length, All, Option, None, Some, position, ap, sym, subst, refl, arith, if◌then◌else◌}
 use Rattle.std.proofs.lemmas.Bool.{false≢true}
 use Rattle.std.proofs.lemmas.Int.{ints}
-use Rattle.std.proofs.lemmas.List.Elements.{All-cons}
+use Rattle.std.proofs.lemmas.List.Elements.{All-cons, All-nil}
 use Rattle.std.proofs.lemmas.List.Quantifiers.{position-Some}
 use Rattle.std.specs.List.{cons_option}
 use Rattle.std.specs.Option.{option_map}
@@ -14,20 +14,24 @@ use Rattle.knit_base.specs.declared.needle.Bed.{Bed}
 use Rattle.knit_base.specs.declared.rule.Rule.{Rule}
 use Rattle.knit_base.specs.declared.rule.Reason.{Reason}
 use Rattle.knit_base.specs.declared.yarns.CarrierNo.{CarrierNo}
-use Rattle.knit_base.specs.Lawful.{AreDeclared, AreOpposite, IsFormedOnHook, IsLawful, IsLawfulRead, IsOnBed}
+use Rattle.knit_base.specs.Instr.{formed_on}
+use Rattle.knit_base.specs.Lawful.{AreDeclared, AreOpposite, IsFormedOnHook, IsLawful, IsLawfulRead, IsOnBed, IsWithinLimit}
 use Rattle.knit_base.specs.Names.{carrier_of}
 use Rattle.knit_base.specs.Needle.{is_front, is_slider}
 use Rattle.knit_base.specs.Reasons.{broken_if, or_else}
 use Rattle.knitout_reader.specs.Carriers.{carriers_of}
-use Rattle.knitout_reader.specs.Reads.{ReadsTokens, are_one_side, are_sliders, instr_of, needle_on, not_opposite, off_bed, reading_or, slider_form, static_rule}
-use Rattle.knitout_reader.specs.Shapes.{Shape, Spells, CarryInShape, CarryOutShape, HookInShape, HookOutShape, ReleaseHookShape, StitchShape, PauseShape, ExtensionShape, RackShape, KnitShape, TuckShape, MissShape, SplitShape, XferShape, DropShape, AmissShape}
+use Rattle.knitout_reader.specs.Numbers.{number_of}
+use Rattle.knitout_reader.specs.Reading.{TokensReadAs, are_one_side, are_sliders, instr_of, needle_on, not_opposite, off_bed, quarters_of, rack_rule, reading_or, slider_form, static_rule}
+use Rattle.knitout_reader.specs.Shapes.{Shape, Spells, carriers_in, CarryInShape, CarryOutShape, HookInShape, HookOutShape, ReleaseHookShape, RackShape, KnitShape, TuckShape, MissShape, SplitShape, XferShape, DropShape, AmissShape}
 use Rattle.knitout_reader.proofs.OneShape.{Fits, FitsNone}
 
-neither : (first second : Option Reason) → or_else first second ≡ None → (first ≡ None) × (second ≡ None)
+-- of two reasons neither holds
+pub neither : (first second : Option Reason) → or_else first second ≡ None → (first ≡ None) × (second ≡ None)
 neither None second e = (refl, e)
 neither (Some reason) second e = cc
 
-unbroken : (test : Bool) (rule : Rule) (at : ℕ) → broken_if test rule at ≡ None → test ≡ false
+-- a rule that isn't broken: its test says no
+pub unbroken : (test : Bool) (rule : Rule) (at : ℕ) → broken_if test rule at ≡ None → test ≡ false
 unbroken true rule at e = cc
 unbroken false rule at e = refl
 
@@ -61,13 +65,27 @@ opposite bed bed2 at at2 place e =
       hook = and_false (is_slider bed) (is_slider bed2) (unbroken _ _ _ both.1);
     }
 
-hook_formed : (bed : Bed) (at : ℤ) (cs : List CarrierNo) → is_slider bed ≡ false → IsFormedOnHook (needle_on bed at) cs
+hook_formed : (bed : Bed) (at : ℤ) (cs : List CarrierNo) → is_slider bed ≡ false → IsFormedOnHook (formed_on (needle_on bed at) cs)
 hook_formed bed at [] e = tt
 hook_formed bed at (c ∷ cs) e = e
 
-formed_on_hook : (bed : Bed) (at : ℤ) (names carriers : List (List ℕ)) → slider_form bed carriers ≡ None → IsFormedOnHook (needle_on bed at) (carriers_of names carriers)
+formed_on_hook : (bed : Bed) (at : ℤ) (names carriers : List (List ℕ)) → slider_form bed carriers ≡ None → IsFormedOnHook (formed_on (needle_on bed at) (carriers_of names carriers))
 formed_on_hook bed at names [] e = tt
 formed_on_hook bed at names (carrier ∷ carriers) e = hook_formed bed at (carriers_of names (carrier ∷ carriers)) (unbroken _ _ _ e)
+
+not_more : (a b : ℕ) → nat_lt a b ≡ false → b ≤ a
+not_more a b e = grind arith
+
+quarters_within : (profile : Profile) (negative : Bool) (whole : List ℕ) (q : ℕ) → 4 * number_of whole + q ≤ 4 * profile.rack
+    → IsWithinLimit profile (quarters_of negative whole (Some q))
+quarters_within profile false whole q few = record { left = omega (arith, ints, few); right = omega (arith, ints, few) }
+quarters_within profile true whole q few = record { left = omega (arith, ints, few); right = omega (arith, ints, few) }
+
+-- a rack that breaks no rule lies within the limit
+within_limit : (profile : Profile) (negative : Bool) (whole : List ℕ) (quarters : Option ℕ) → rack_rule profile whole quarters ≡ None
+    → IsWithinLimit profile (quarters_of negative whole quarters)
+within_limit profile negative whole None e = cc
+within_limit profile negative whole (Some q) e = quarters_within profile negative whole q (not_more _ _ (unbroken _ _ _ e))
 
 -- a carrier has the place of its name
 placed : (names : List (List ℕ)) (name : List ℕ) (place : Option ℕ) → position (bytes_eq name) names ≡ place → (c : CarrierNo) → option_map (λ i. record { 0 = i }) place ≡ Some c → c.0 < length names
@@ -97,24 +115,6 @@ no_more names (token ∷ tokens) = omega (arith, one_more (carrier_of names toke
 declared : (names tokens : List (List ℕ)) (at : ℕ) → at ≤ 4 → 4 + length tokens < 2 ^ 16 → AreDeclared (length names) at (carriers_of names tokens)
 declared names tokens at first few = record { each = each_declared names tokens; places = omega (arith, no_more names tokens) }
 
-abbrev carriers_in : Shape → List (List ℕ)
-carriers_in (CarryInShape carriers) = carriers
-carriers_in (CarryOutShape carriers) = carriers
-carriers_in (HookInShape carriers) = carriers
-carriers_in (HookOutShape carriers) = carriers
-carriers_in (ReleaseHookShape carriers) = carriers
-carriers_in (StitchShape free) = []
-carriers_in (PauseShape free) = []
-carriers_in (ExtensionShape name free) = []
-carriers_in (RackShape negative whole quarters) = []
-carriers_in (KnitShape dir bed at carriers) = carriers
-carriers_in (TuckShape dir bed at carriers) = carriers
-carriers_in (MissShape dir bed at carriers) = carriers
-carriers_in (SplitShape dir bed at bed2 at2 carriers) = carriers
-carriers_in (XferShape bed at bed2 at2) = []
-carriers_in (DropShape bed at) = []
-carriers_in (AmissShape bed at) = []
-
 no_longer : (word : List ℕ) (rest : List (List ℕ)) (shape : Shape) → Spells (word ∷ rest) shape → length (carriers_in shape) ≤ length rest
 no_longer word rest (CarryInShape carriers) spelled = omega (arith, ap length spelled.spelled)
 no_longer word rest (CarryOutShape carriers) spelled = omega (arith, ap length spelled.spelled)
@@ -127,46 +127,78 @@ no_longer word rest (MissShape dir bed at carriers) spelled = omega (arith, ap l
 no_longer word rest (SplitShape dir bed at bed2 at2 carriers) spelled = omega (arith, ap length spelled.spelled, ap length spelled.first.spelled, ap length spelled.second.spelled)
 no_longer word rest shape spelled = omega arith
 
+none_declared : (declared : ℕ) → AreDeclared declared 1 []
+none_declared declared = record { each = All-nil (λ c. c.0 < declared); places = omega arith }
+
 -- the instruction of a shape that breaks no rule is lawful
 lawful : (profile : Profile) (names : List (List ℕ)) (shape : Shape) → 4 + length (carriers_in shape) < 2 ^ 16 → static_rule profile names shape ≡ None
     → IsLawful profile (length names) (instr_of names shape)
-lawful profile names (CarryInShape carriers) few e = declared names carriers 1 (omega arith) few
-lawful profile names (CarryOutShape carriers) few e = declared names carriers 1 (omega arith) few
-lawful profile names (HookInShape carriers) few e = declared names carriers 1 (omega arith) few
-lawful profile names (HookOutShape carriers) few e = declared names carriers 1 (omega arith) few
-lawful profile names (ReleaseHookShape carriers) few e = declared names carriers 1 (omega arith) few
-lawful profile names (StitchShape free) few e = tt
-lawful profile names (PauseShape free) few e = tt
-lawful profile names (ExtensionShape name free) few e = tt
-lawful profile names (RackShape negative whole quarters) few e = tt
+lawful profile names (CarryInShape carriers) few e = record { carriers = declared names carriers 1 (omega arith) few; needles = tt; formed = tt; moved = tt; rack = tt }
+lawful profile names (CarryOutShape carriers) few e = record { carriers = declared names carriers 1 (omega arith) few; needles = tt; formed = tt; moved = tt; rack = tt }
+lawful profile names (HookInShape carriers) few e = record { carriers = declared names carriers 1 (omega arith) few; needles = tt; formed = tt; moved = tt; rack = tt }
+lawful profile names (HookOutShape carriers) few e = record { carriers = declared names carriers 1 (omega arith) few; needles = tt; formed = tt; moved = tt; rack = tt }
+lawful profile names (ReleaseHookShape carriers) few e = record { carriers = declared names carriers 1 (omega arith) few; needles = tt; formed = tt; moved = tt; rack = tt }
+lawful profile names (RackShape negative whole quarters) few e = record {
+  carriers = none_declared (length names);
+  needles = tt;
+  formed = tt;
+  moved = tt;
+  rack = within_limit profile negative whole quarters e;
+}
 lawful profile names (KnitShape dir bed at carriers) few e =
     let first = neither (off_bed profile 2 at) _ e in
     let second = neither (slider_form bed carriers) _ first.1 in
-    (on_bed profile 2 bed at first.0, formed_on_hook bed at names carriers second.0, declared names carriers 3 (omega arith) few)
+    record {
+      carriers = declared names carriers 3 (omega arith) few;
+      needles = (on_bed profile 2 bed at first.0, tt);
+      formed = formed_on_hook bed at names carriers second.0;
+      moved = tt;
+      rack = tt;
+    }
 lawful profile names (TuckShape dir bed at carriers) few e =
     let first = neither (off_bed profile 2 at) _ e in
     let second = neither (slider_form bed carriers) _ first.1 in
-    (on_bed profile 2 bed at first.0, formed_on_hook bed at names carriers second.0, declared names carriers 3 (omega arith) few)
+    record {
+      carriers = declared names carriers 3 (omega arith) few;
+      needles = (on_bed profile 2 bed at first.0, tt);
+      formed = formed_on_hook bed at names carriers second.0;
+      moved = tt;
+      rack = tt;
+    }
 lawful profile names (MissShape dir bed at carriers) few e =
     let first = neither (off_bed profile 2 at) _ e in
-    (on_bed profile 2 bed at first.0, declared names carriers 3 (omega arith) few)
+    record {
+      carriers = declared names carriers 3 (omega arith) few;
+      needles = (on_bed profile 2 bed at first.0, tt);
+      formed = tt;
+      moved = tt;
+      rack = tt;
+    }
 lawful profile names (SplitShape dir bed at bed2 at2 carriers) few e =
     let first = neither (off_bed profile 2 at) _ e in
     let second = neither (off_bed profile 3 at2) _ first.1 in
     let third = neither (slider_form bed carriers) _ second.1 in
-    let fourth = neither (not_opposite bed bed2 3) _ third.1 in (
-      on_bed profile 2 bed at first.0,
-      on_bed profile 3 bed2 at2 second.0,
-      opposite bed bed2 at at2 3 fourth.0,
-      formed_on_hook bed at names carriers third.0,
-      declared names carriers 4 (omega arith) few,
-    )
+    let fourth = neither (not_opposite bed bed2 3) _ third.1 in
+    record {
+      carriers = declared names carriers 4 (omega arith) few;
+      needles = (on_bed profile 2 bed at first.0, (on_bed profile 3 bed2 at2 second.0, tt));
+      formed = formed_on_hook bed at names carriers third.0;
+      moved = opposite bed bed2 at at2 3 fourth.0;
+      rack = tt;
+    }
 lawful profile names (XferShape bed at bed2 at2) few e =
     let first = neither (off_bed profile 1 at) _ e in
     let second = neither (off_bed profile 2 at2) _ first.1 in
-    (on_bed profile 1 bed at first.0, on_bed profile 2 bed2 at2 second.0, opposite bed bed2 at at2 2 second.1)
-lawful profile names (DropShape bed at) few e = on_bed profile 1 bed at e
-lawful profile names (AmissShape bed at) few e = on_bed profile 1 bed at e
+    record {
+      carriers = none_declared (length names);
+      needles = (on_bed profile 1 bed at first.0, (on_bed profile 2 bed2 at2 second.0, tt));
+      formed = tt;
+      moved = opposite bed bed2 at at2 2 second.1;
+      rack = tt;
+    }
+lawful profile names (DropShape bed at) few e = record { carriers = none_declared (length names); needles = (on_bed profile 1 bed at e, tt); formed = tt; moved = tt; rack = tt }
+lawful profile names (AmissShape bed at) few e = record { carriers = none_declared (length names); needles = (on_bed profile 1 bed at e, tt); formed = tt; moved = tt; rack = tt }
+lawful profile names shape few e = record { carriers = none_declared (length names); needles = tt; formed = tt; moved = tt; rack = tt }
 
 reading_lawful : (profile : Profile) (declared : ℕ) (reason : Option Reason) (i : Instr) → (reason ≡ None → IsLawful profile declared i) → IsLawfulRead profile declared (reading_or reason i)
 reading_lawful profile declared None i holds = holds refl
@@ -174,7 +206,7 @@ reading_lawful profile declared (Some reason) i holds = tt
 
 -- what tokens read as is lawful
 pub tokens-lawful : (profile : Profile) (names : List (List ℕ)) (word : List ℕ) (rest : List (List ℕ)) (r : Read) → 4 + length rest < 2 ^ 16
-    → ReadsTokens profile names (word ∷ rest) r → IsLawfulRead profile (length names) r
+    → TokensReadAs profile names (word ∷ rest) r → IsLawfulRead profile (length names) r
 tokens-lawful profile names word rest r few reads =
     ⊎_elim
     (λ (here : Fits profile names (word ∷ rest) r).

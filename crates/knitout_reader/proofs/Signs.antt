@@ -4,7 +4,8 @@ use Rattle.std.proofs.lemmas.List.{take_all, drop_more}
 use Rattle.std.proofs.lemmas.Bool.{cases_lt}
 use Rattle.std.proofs.lemmas.Int.{ints}
 use Rattle.knit_base.specs.declared.needle.Bed.{Bed}
-use Rattle.knitout_reader.specs.declared.number.Written.{Written}
+use Rattle.knitout_reader.specs.declared.number.TheConstants.{FAR}
+use Rattle.knitout_reader.specs.declared.number.NeedleToken.{NeedleToken}
 use Rattle.knit_base.specs.declared.needle.Bed.TheVariants.{Front, FrontSlider, Back, BackSlider}
 use Rattle.knit_base.specs.Spelling.{bed_word}
 use Rattle.knitout_reader.specs.Numbers.{IsDigit, IsNeedle, AreDigits, IsNear, IsSigned, number_of}
@@ -98,13 +99,13 @@ one_bed BackSlider FrontSlider number rest z same signed = apart _ _ _ _ same (�
 one_bed BackSlider Back number rest z same signed = absurd (s_is_no_number number z (subst (λ r. IsSigned r z) (sym (other_bytes _ _ _ _ same)) signed))
 one_bed BackSlider BackSlider number rest z same signed = inl (refl, other_bytes _ _ _ _ (other_bytes _ _ _ _ same))
 
-abbrev pub Found : List ℕ → Option Written → Type 0
-Found token result = MatchOption result ((bed : Bed) (z : ℤ) → IsNeedle token bed z → ⊥) (λ n. (z : ℤ) × IsNeedle token n.bed z × IsNear 100000 n.at z)
+abbrev pub Found : List ℕ → Option NeedleToken → Type 0
+Found token result = MatchOption result ((bed : Bed) (z : ℤ) → IsNeedle token bed z → ⊥) (λ n. (z : ℤ) × IsNeedle token n.bed z × IsNear FAR n.at z)
 
 -- the token begins with the word of this bed, and with no longer one
-pub needle-on_bed : (token number : List ℕ) (bed : Bed) (result : Option Written) → token ≡ bed_word bed ++ number
+pub needle-on_bed : (token number : List ℕ) (bed : Bed) (result : Option NeedleToken) → token ≡ bed_word bed ++ number
     → (is_hook bed ≡ true → (tail : List ℕ) → number ≡ 115 ∷ tail → ⊥)
-    → MatchOption result ((z : ℤ) → IsSigned number z → ⊥) (λ n. (n.bed ≡ bed) × ((z : ℤ) × IsSigned number z × IsNear 100000 n.at z))
+    → MatchOption result ((z : ℤ) → IsSigned number z → ⊥) (λ n. (n.bed ≡ bed) × ((z : ℤ) × IsSigned number z × IsNear FAR n.at z))
     → Found token result
 needle-on_bed token number bed None begins longest none = λ other z named.
     ⊎_elim

@@ -1,8 +1,7 @@
 -- Lines whose tokens have one space between two, and what they read as.
-use Rattle.std.proofs.Common.{◌≡◌, ◌≢◌, ℕ, ◌+◌, ◌-◌, ◌*◌, ◌<◌, ◌≤◌, ◌^◌, ℤ, pos, ◌≤ℤ◌, int_lt, Bool, true, false, not, ◌||◌, ◌&&◌, is_none, List, [], ◌∷◌, ◌++◌, length, take, drop, slice_index, All, Option, None, Some, position, codes, ap, sym, subst, ◌∙◌, refl, inl, arith, lit<, append_assoc, append-nil, length-append, if◌then◌else◌}
+use Rattle.std.proofs.Common.{◌≡◌, ◌≢◌, ℕ, ◌+◌, ◌-◌, ◌*◌, ◌<◌, ◌≤◌, ℤ, pos, ◌≤ℤ◌, int_lt, Bool, true, false, not, ◌||◌, ◌&&◌, is_none, List, [], ◌∷◌, ◌++◌, length, take, drop, slice_index, All, Option, None, Some, position, codes, ap, sym, subst, ◌∙◌, refl, inl, arith, lit<, append_assoc, append-nil, length-append, if◌then◌else◌}
 use Rattle.std.specs.List.{cons_option, position_or_len}
 use Rattle.std.specs.Option.{option_map}
-use Rattle.std.specs.Str.{is_utf8}
 use Rattle.std.proofs.lemmas.Int.{ints}
 use Rattle.std.proofs.lemmas.List.{take_all}
 use Rattle.std.proofs.lemmas.List.Elements.{All-append, All-cons, All-head, All-nil, All-tail}
@@ -25,27 +24,27 @@ use Rattle.knit_base.specs.declared.rule.Rule.TheVariants.{NoCarrier, OffBed, Sa
 use Rattle.knit_base.specs.declared.usual.Usual.{Usual}
 use Rattle.knit_base.specs.declared.usual.Usual.TheVariants.{Knit, Tuck, Xfer}
 use Rattle.knit_base.specs.declared.yarns.CarrierNo.{CarrierNo}
-use Rattle.knit_base.specs.Lawful.{IsLawfulRead, IsOnBed}
+use Rattle.knit_base.specs.Lawful.{IsOnBed}
 use Rattle.knit_base.specs.Lines.{lines_of}
 use Rattle.knit_base.specs.Names.{carrier_of}
 use Rattle.knit_base.specs.Needle.{is_front, is_slider}
 use Rattle.knit_base.specs.Reasons.{broken_if, or_else}
 use Rattle.knit_base.specs.Spelling.{bed_word, dir_word}
 use Rattle.knit_base.specs.Usual.{usual_read}
-use Rattle.knit_base.proofs.FirstLine.{IsInLine, lines_of-line}
+use Rattle.knit_base.proofs.FirstLine.{lines_of-line}
 use Rattle.knitout_reader.specs.declared.byte_names.ByteNames.{ByteNames}
-use Rattle.knitout_reader.specs.declared.words.Forming.{Forming}
-use Rattle.knitout_reader.specs.declared.words.Forming.TheVariants as forming
+use Rattle.knitout_reader.specs.declared.words.LoopOperation.{LoopOperation}
+use Rattle.knitout_reader.specs.declared.words.LoopOperation.TheVariants as loop_operation
 use Rattle.knitout_reader.specs.Carriers.{carrier_rule, carrier_twice, carriers_of}
 use Rattle.knitout_reader.specs.Numbers.{AreDigits, IsDigit, IsNeedle, number_of}
-use Rattle.knitout_reader.specs.Operations.{forming_instr, forming_slider, forming_word}
-use Rattle.knitout_reader.specs.Reads.{Reads, ReadsCode, ReadsTokens, needle_on, not_opposite, off_bed, reading_or, slider_form}
-use Rattle.knitout_reader.specs.Shapes.{BeginsWithNeedle, IsFormed, IsMoved, XferShape}
+use Rattle.knitout_reader.specs.Operations.{loop_instr, loop_slider, loop_word}
+use Rattle.knitout_reader.specs.Reading.{ReadsAs, CodeReadsAs, TokensReadAs, needle_on, not_opposite, off_bed, reading_or, slider_form}
+use Rattle.knitout_reader.specs.Shapes.{IsFormed, XferShape}
 use Rattle.knitout_reader.specs.Tokens.{before_comment, has_comment, is_blank, is_semicolon, tokens_of}
-use Rattle.knitout_reader.specs.Usual.{AreByteNames, BeginsWithUsual, BeginsWithUsualNeedle, BeginsWithUsualNeedles, BeginsWithUsualNumber, BeginsWithUsualOperands, IsTokenByte}
-use Rattle.knitout_reader.proofs.Marks.{formed-read}
+use Rattle.knitout_reader.specs.Usual.{AreByteNames, BeginsWithUsual, BeginsWithUsualNeedles, BeginsWithUsualNumber, BeginsWithUsualOperands, IsTokenByte}
+use Rattle.knitout_reader.proofs.Marks.{loop-reading}
 use Rattle.knitout_reader.proofs.Rules.{tokens-lawful}
-use Rattle.knitout_reader.proofs.Splitting.{tokens_of-spaced, tokens_of-token}
+use Rattle.knitout_reader.proofs.TokenRuns.{tokens_of-spaced, tokens_of-token}
 
 -- numbers of one to three digits
 pub one_digit : (text rest : List ℕ) (a end : ℕ) (at : ℤ) → IsDigit a → text ≡ a ∷ end ∷ rest → at ≡ pos (a - 48) → BeginsWithUsualNumber text at end rest
@@ -149,13 +148,13 @@ no_comment line are =
     ap (λ n. take n line) none ∙ take_all (length line) line (omega arith)
 
 reads_line : (profile : Profile) (names : List (List ℕ)) (line word : List ℕ) (rest : List (List ℕ)) (r : Read) → tokens_of (before_comment line) ≡ word ∷ rest
-    → ReadsTokens profile names (word ∷ rest) r → Reads profile names line r
-reads_line profile names line word rest r is reads = subst (λ ts. ReadsCode profile names ts (has_comment line) r) (sym is) reads
+    → TokensReadAs profile names (word ∷ rest) r → ReadsAs profile names line r
+reads_line profile names line word rest r is reads = subst (λ ts. CodeReadsAs profile names ts (has_comment line) r) (sym is) reads
 
 -- a line of such tokens begins the text
 pub begins : (profile : Profile) (names : List (List ℕ)) (text rest word : List ℕ) (tokens : List (List ℕ)) (usual : Usual)
     → text ≡ spaced (word ∷ tokens) ++ 10 ∷ rest → All IsPlainToken (word ∷ tokens) → length (spaced (word ∷ tokens)) ≤ 32 → length tokens ≤ 3 → length names ≤ 64
-    → ReadsTokens profile names (word ∷ tokens) (usual_read usual)
+    → TokensReadAs profile names (word ∷ tokens) (usual_read usual)
     → BeginsWithUsual profile names text usual (length text - length rest)
 begins profile names text rest word tokens usual is are short few carriers reads =
     let line : List ℕ = spaced (word ∷ tokens) in
@@ -244,11 +243,11 @@ three_plain a b c is_a is_b is_c =
     All-cons IsPlainToken a (b ∷ c ∷ []) is_a (All-cons IsPlainToken b (c ∷ []) is_b (All-cons IsPlainToken c [] is_c (All-nil IsPlainToken)))
 
 -- a line that forms a loop of one carrier
-formed : (profile : Profile) (names : List (List ℕ)) (table : ByteNames) (text operands rest : List ℕ) (which : Forming) (dir : Dir) (n : Needle) (c : CarrierNo) (usual : Usual)
-    → AreByteNames names table → IsPlainToken (forming_word which) → length (forming_word which) ≡ 4
-    → ((bed : Bed) (token : List ℕ) → is_slider bed ≡ false → forming_slider which bed (token ∷ []) ≡ None)
-    → usual_read usual ≡ read.Instr (forming_instr which dir n (c ∷ []))
-    → text ≡ forming_word which ++ operands → BeginsWithUsualOperands profile table operands dir n c rest
+formed : (profile : Profile) (names : List (List ℕ)) (table : ByteNames) (text operands rest : List ℕ) (which : LoopOperation) (dir : Dir) (n : Needle) (c : CarrierNo) (usual : Usual)
+    → AreByteNames names table → IsPlainToken (loop_word which) → length (loop_word which) ≡ 4
+    → ((bed : Bed) (token : List ℕ) → is_slider bed ≡ false → loop_slider which bed (token ∷ []) ≡ None)
+    → usual_read usual ≡ read.Instr (loop_instr which dir n (c ∷ []))
+    → text ≡ loop_word which ++ operands → BeginsWithUsualOperands profile table operands dir n c rest
     → BeginsWithUsual profile names text usual (length text - length rest)
 formed profile names table text operands rest which dir n c usual are word long hook said text_is front =
     let name : ℕ = front.name in
@@ -257,45 +256,45 @@ formed profile names table text operands rest which dir n c usual are word long 
     let byte = are.each name front.some front.byte in
     let named : carrier_of names (name ∷ []) ≡ Some c = byte.named ∙ ap (λ k. Some (record { 0 = k })) (sym front.carrier) in
     let tokens : List (List ℕ) = dir_word dir ∷ token ∷ (name ∷ []) ∷ [] in
-    let plain : All IsPlainToken (forming_word which ∷ tokens) =
-    All-cons IsPlainToken (forming_word which) tokens word
+    let plain : All IsPlainToken (loop_word which ∷ tokens) =
+    All-cons IsPlainToken (loop_word which) tokens word
     (three_plain (dir_word dir) token (name ∷ []) (dir_token dir) (needle_token n.bed digits front.needle.number.are) (name_token names table name are front.byte front.some)) in
     let last : (token ++ 32 ∷ name ∷ []) ++ 10 ∷ rest ≡ front.behind =
     append_assoc token (32 ∷ name ∷ []) (10 ∷ rest) ∙ append_assoc (bed_word n.bed) digits (32 ∷ name ∷ 10 ∷ rest)
     ∙ ap (λ (l : List ℕ). bed_word n.bed ++ l) (sym front.needle.number.text_is) ∙ sym front.needle.text_is in
-    let line : text ≡ spaced (forming_word which ∷ tokens) ++ 10 ∷ rest =
-    text_is ∙ ap (λ (l : List ℕ). forming_word which ++ l) (front.text_is ∙ ap (λ (l : List ℕ). 32 ∷ (dir_word dir ++ 32 ∷ l)) (sym last)
+    let line : text ≡ spaced (loop_word which ∷ tokens) ++ 10 ∷ rest =
+    text_is ∙ ap (λ (l : List ℕ). loop_word which ++ l) (front.text_is ∙ ap (λ (l : List ℕ). 32 ∷ (dir_word dir ++ 32 ∷ l)) (sym last)
     ∙ ap (λ (l : List ℕ). 32 ∷ l) (sym (append_assoc (dir_word dir) (32 ∷ (token ++ 32 ∷ name ∷ [])) (10 ∷ rest))))
-    ∙ sym (append_assoc (forming_word which) (32 ∷ (dir_word dir ++ 32 ∷ (token ++ 32 ∷ name ∷ []))) (10 ∷ rest)) in
-    let short : length (spaced (forming_word which ∷ tokens)) ≤ 32 =
+    ∙ sym (append_assoc (loop_word which) (32 ∷ (dir_word dir ++ 32 ∷ (token ++ 32 ∷ name ∷ []))) (10 ∷ rest)) in
+    let short : length (spaced (loop_word which ∷ tokens)) ≤ 32 =
     omega (
       arith,
       long,
       dir_len dir,
       bed_len n.bed,
       front.needle.number.few,
-      length-append (forming_word which) (32 ∷ (dir_word dir ++ 32 ∷ (token ++ 32 ∷ name ∷ []))),
+      length-append (loop_word which) (32 ∷ (dir_word dir ++ 32 ∷ (token ++ 32 ∷ name ∷ []))),
       length-append (dir_word dir) (32 ∷ (token ++ 32 ∷ name ∷ [])),
       length-append token (32 ∷ name ∷ []),
       length-append (bed_word n.bed) digits,
     ) in
-    let shape : IsFormed (forming_word which) (forming_word which ∷ tokens) dir n.bed n.at ((name ∷ []) ∷ []) = record {
+    let shape : IsFormed (loop_word which) (loop_word which ∷ tokens) dir n.bed n.at ((name ∷ []) ∷ []) = record {
       operands = token ∷ (name ∷ []) ∷ [];
       spelled = refl;
       first = record { needle = token; spelled = refl; named = is_needle n.bed digits n.at front.needle.number.are front.needle.number.at_is };
     } in
-    let unbroken : or_else (off_bed profile 2 n.at) (or_else (forming_slider which n.bed ((name ∷ []) ∷ [])) (carrier_rule names 3 ((name ∷ []) ∷ []))) ≡ None =
-    ap (λ o. or_else o (or_else (forming_slider which n.bed ((name ∷ []) ∷ [])) (carrier_rule names 3 ((name ∷ []) ∷ [])))) (on_bed profile n 2 front.needle.on)
+    let unbroken : or_else (off_bed profile 2 n.at) (or_else (loop_slider which n.bed ((name ∷ []) ∷ [])) (carrier_rule names 3 ((name ∷ []) ∷ []))) ≡ None =
+    ap (λ o. or_else o (or_else (loop_slider which n.bed ((name ∷ []) ∷ [])) (carrier_rule names 3 ((name ∷ []) ∷ [])))) (on_bed profile n 2 front.needle.on)
     ∙ ap (λ o. or_else o (carrier_rule names 3 ((name ∷ []) ∷ []))) (hook n.bed (name ∷ []) front.needle.hook)
     ∙ one_carrier names (name ∷ []) c named in
     let is : usual_read usual
-    ≡ reading_or (or_else (off_bed profile 2 n.at) (or_else (forming_slider which n.bed ((name ∷ []) ∷ [])) (carrier_rule names 3 ((name ∷ []) ∷ []))))
-    (forming_instr which dir (needle_on n.bed n.at) (carriers_of names ((name ∷ []) ∷ []))) =
+    ≡ reading_or (or_else (off_bed profile 2 n.at) (or_else (loop_slider which n.bed ((name ∷ []) ∷ [])) (carrier_rule names 3 ((name ∷ []) ∷ []))))
+    (loop_instr which dir (needle_on n.bed n.at) (carriers_of names ((name ∷ []) ∷ []))) =
     said
-    ∙ ap (λ cs. read.Instr (forming_instr which dir n cs)) (sym (one_named names (name ∷ []) c named))
-    ∙ ap (λ o. reading_or o (forming_instr which dir n (carriers_of names ((name ∷ []) ∷ [])))) (sym unbroken) in
-    begins profile names text rest (forming_word which) tokens usual line plain short (omega arith) are.few
-    (formed-read profile names which tokens dir n.bed n.at ((name ∷ []) ∷ []) (usual_read usual) shape is)
+    ∙ ap (λ cs. read.Instr (loop_instr which dir n cs)) (sym (one_named names (name ∷ []) c named))
+    ∙ ap (λ o. reading_or o (loop_instr which dir n (carriers_of names ((name ∷ []) ∷ [])))) (sym unbroken) in
+    begins profile names text rest (loop_word which) tokens usual line plain short (omega arith) are.few
+    (loop-reading profile names which tokens dir n.bed n.at ((name ∷ []) ∷ []) (usual_read usual) shape is)
 
 knit_token : IsPlainToken (codes "knit")
 knit_token = word_token 107 110 105 116 (letter 107 (lit< tt) (lit< tt)) (letter 110 (lit< tt) (lit< tt)) (letter 105 (lit< tt) (lit< tt)) (letter 116 (lit< tt) (lit< tt))
@@ -313,13 +312,13 @@ pub knit-begins : (profile : Profile) (names : List (List ℕ)) (table : ByteNam
     → AreByteNames names table → text ≡ codes "knit" ++ operands → BeginsWithUsualOperands profile table operands dir n c rest
     → BeginsWithUsual profile names text (Knit dir n c) (length text - length rest)
 knit-begins profile names table text operands rest dir n c are is front =
-    formed profile names table text operands rest forming.Knit dir n c (Knit dir n c) are knit_token refl no_slider refl is front
+    formed profile names table text operands rest loop_operation.Knit dir n c (Knit dir n c) are knit_token refl no_slider refl is front
 
 pub tuck-begins : (profile : Profile) (names : List (List ℕ)) (table : ByteNames) (text operands rest : List ℕ) (dir : Dir) (n : Needle) (c : CarrierNo)
     → AreByteNames names table → text ≡ codes "tuck" ++ operands → BeginsWithUsualOperands profile table operands dir n c rest
     → BeginsWithUsual profile names text (Tuck dir n c) (length text - length rest)
 tuck-begins profile names table text operands rest dir n c are is front =
-    formed profile names table text operands rest forming.Tuck dir n c (Tuck dir n c) are tuck_token refl no_slider refl is front
+    formed profile names table text operands rest loop_operation.Tuck dir n c (Tuck dir n c) are tuck_token refl no_slider refl is front
 
 sides_apart : (a b : Bool) → a ≢ b → (if a then b else not b) ≡ false
 sides_apart true true differ = absurd (differ refl)

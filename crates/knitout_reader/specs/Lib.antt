@@ -2,8 +2,8 @@ pub mod Carriers
 pub mod Head
 pub mod Numbers
 pub mod Operations
-pub mod Reads
+pub mod Reading
 pub mod Shapes
-pub mod Spelt
+pub mod Shortest
 pub mod Tokens
 pub mod Usual

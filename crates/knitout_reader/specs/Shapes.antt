@@ -3,7 +3,7 @@
 -- The operations, their words and operands, needles, directions and comments are those of the public Knitout (.k) File Format
 -- Specification. This project's own are: the list of shapes (a line of any other form is unreadable), that `split` and `xfer`
 -- name two needles, that free tokens may follow `stitch`, `pause` and an extension, and that a rack is a decimal.
-use Rattle.std.specs.Prelude.{◌≡◌, ℕ, ◌<◌, ℤ, Bool, List, [], ◌∷◌, ◌++◌, length, Option, MatchOption, codes}
+use Rattle.std.specs.Prelude.{◌≡◌, ℕ, ◌<◌, ◌≤◌, ℤ, Bool, List, [], ◌∷◌, ◌++◌, length, Option, MatchOption, codes}
 use Rattle.knit_base.specs.declared.needle.Bed.{Bed}
 use Rattle.knit_base.specs.declared.needle.Dir.{Dir}
 use Rattle.knit_base.specs.Spelling.{dir_word}
@@ -80,6 +80,19 @@ pub record IsRacked (word : List ℕ) (tokens : List (List ℕ)) (negative : Boo
   pub named : IsRack token negative whole fraction
   pub left : AreQuarters fraction quarters
 
+-- the tokens of the carriers that an operation names
+abbrev pub carriers_in : Shape → List (List ℕ)
+carriers_in (CarryInShape carriers) = carriers
+carriers_in (CarryOutShape carriers) = carriers
+carriers_in (HookInShape carriers) = carriers
+carriers_in (HookOutShape carriers) = carriers
+carriers_in (ReleaseHookShape carriers) = carriers
+carriers_in (KnitShape dir bed at carriers) = carriers
+carriers_in (TuckShape dir bed at carriers) = carriers
+carriers_in (MissShape dir bed at carriers) = carriers
+carriers_in (SplitShape dir bed at bed2 at2 carriers) = carriers
+carriers_in shape = []
+
 -- the tokens have this shape
 abbrev pub Spells : List (List ℕ) → Shape → Type 0
 Spells tokens (CarryInShape carriers) = AreCarried (codes "in") tokens carriers
@@ -98,3 +111,7 @@ Spells tokens (SplitShape dir bed at bed2 at2 carriers) = IsDivided (codes "spli
 Spells tokens (XferShape bed at bed2 at2) = IsMoved (codes "xfer") tokens bed at bed2 at2
 Spells tokens (DropShape bed at) = IsNamed (codes "drop") tokens bed at
 Spells tokens (AmissShape bed at) = IsNamed (codes "amiss") tokens bed at
+
+-- The operation that the tokens spell, if they spell one, names at most four carriers.
+abbrev pub NameFewCarriers : List (List ℕ) → Type 0
+NameFewCarriers tokens = (shape : Shape) → Spells tokens shape → length (carriers_in shape) ≤ 4

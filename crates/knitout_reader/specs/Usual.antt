@@ -1,7 +1,6 @@
 -- Lines in the spelling that most lines have.
-use Rattle.std.specs.Prelude.{◌≡◌, ◌≢◌, ℕ, ◌<◌, ◌≤◌, ℤ, pos, true, false, List, [], ◌∷◌, ◌++◌, length, drop, slice_index, Some, codes}
+use Rattle.std.specs.Prelude.{◌≡◌, ◌≢◌, ℕ, ◌<◌, ◌≤◌, ℤ, pos, true, false, List, [], ◌∷◌, ◌++◌, length, drop, slice_index, Some}
 use Rattle.std.specs.Str.{is_utf8}
-use Rattle.knit_base.specs.declared.needle.Bed.{Bed}
 use Rattle.knit_base.specs.declared.needle.Dir.{Dir}
 use Rattle.knit_base.specs.declared.needle.Needle.{Needle}
 use Rattle.knit_base.specs.declared.profile.Profile.{Profile}
@@ -15,7 +14,7 @@ use Rattle.knit_base.specs.Spelling.{bed_word, dir_word}
 use Rattle.knit_base.specs.Usual.{usual_read}
 use Rattle.knitout_reader.specs.declared.byte_names.ByteNames.{ByteNames}
 use Rattle.knitout_reader.specs.Numbers.{AreDigits, number_of}
-use Rattle.knitout_reader.specs.Reads.{Reads}
+use Rattle.knitout_reader.specs.Reading.{ReadsAs}
 use Rattle.knitout_reader.specs.Tokens.{is_blank}
 
 -- an ASCII byte that is a token alone: it ends no token and no line, and begins no comment
@@ -80,6 +79,6 @@ pub record BeginsWithUsual (profile : Profile) (names : List (List ℕ)) (text :
   pub lines : lines_of text ≡ line ∷ lines_of (drop len text)
   pub utf8 : is_utf8 line ≡ true
   pub short : length line ≤ 32
-  pub read : Reads profile names line (usual_read usual)
+  pub read : ReadsAs profile names line (usual_read usual)
   pub lawful : IsLawfulRead profile (length names) (usual_read usual)
   pub few : length names ≤ 64

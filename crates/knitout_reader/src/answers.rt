@@ -1,6 +1,6 @@
 //! Readings of lines that break a rule.
 ghost use Rattle.std.specs.Prelude.{◌≡◌};
-ghost use Rattle.knitout_reader.specs.Reads.{broken_at, unreadable};
+ghost use Rattle.knitout_reader.specs.Reading.{broken_at, unreadable};
 
 use knit_base::{Read, Reason, Rule};
 

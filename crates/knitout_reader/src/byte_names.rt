@@ -22,6 +22,7 @@ impl ByteNames {
         ensures { AreByteNames declared.now result }
     {
         let mut numbers = [NO_CARRIER; 256];
+        // Of at most 64 carriers none has the number that stands for none.
         let _few = declared.len();
         for byte in 0..128u8 {
             if is_token_byte(byte) {

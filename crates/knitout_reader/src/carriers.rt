@@ -1,19 +1,18 @@
 //! The carriers that the tokens of a line name.
-ghost use Rattle.std.specs.Prelude.{◌≡◌, ◌+◌, ◌<◌, ◌≤◌, ◌^◌, length, List, ℕ, Some, None, IfOk, IsOk, MatchResult};
+ghost use Rattle.std.specs.Prelude.{◌≡◌, ◌+◌, ◌<◌, ◌≤◌, ◌^◌, length, Some, None, IfOk, IsOk, MatchResult};
 ghost use Rattle.knit_base.specs.Lawful.{AreDeclared};
-ghost use Rattle.knit_base.specs.Yarns.{contains_carrier};
 ghost use Rattle.knitout_reader.specs.Carriers.{no_carrier, carriers_of, carrier_rule};
 ghost use Rattle.knitout_reader.specs.Tokens.{tokens_of};
 
 use crate::tokens::next_token;
-use knit_base::{CarrierNo, Declared, NoMemory, Reason, Rule, Yarns};
+use knit_base::{Declared, NoMemory, Reason, Rule, Yarns, is_in_set};
 use std::alloc::Global;
 
 /// The carriers that all the tokens of the code name, or the first rule that the list breaks: the first token that names
 /// no carrier, or else the first carrier that stands earlier in the list.
 ///
 /// `at` is the place of the first of these tokens in its line. Memory is taken, and can run out, from the fifth carrier on.
-pub(crate) fn carriers(
+pub(crate) fn read_carriers(
     alloc: Global,
     declared: &Declared,
     code: &[u8],
@@ -34,7 +33,7 @@ pub(crate) fn carriers(
         let Some(c) = declared.find_bytes(name) else {
             return Ok(Err(reason(Rule::NoCarrier, place)));
         };
-        if contains(seen, c) {
+        if is_in_set(seen, c) {
             // Every name is tried before any carrier is one too many.
             let later = first_undeclared(declared, behind, place + 1);
             return Ok(Err(later.unwrap_or(reason(Rule::CarrierTwice, place))));
@@ -69,12 +68,4 @@ fn reason(rule: Rule, at: u16) -> Reason
     ensures at { result.at ≡ at }
 {
     Reason { rule, at }
-}
-
-// Whether the set of carriers, a bit for each, has this one.
-fn contains(set: u64, c: CarrierNo) -> bool
-    requires { c.0 < 64 }
-    ensures { result ≡ contains_carrier set c }
-{
-    (set >> c.0) % 2 == 1
 }

@@ -1,14 +1,16 @@
 //! The head of a file.
-ghost use Rattle.std.specs.Prelude.{◌≡◌, ◌+◌, ◌<◌, ◌≤◌, [], ◌∷◌, All, IfOk, IfErr, IfSome, MatchOption, MatchResult, true, false, nat_eq, length, take, drop, slice_index_or};
-ghost use Rattle.std.specs.List.{list_any, list_all};
+ghost use Rattle.std.specs.Prelude.{◌≡◌, ◌+◌, ◌<◌, ◌≤◌, [], ◌∷◌, All, IfOk, IfErr, IfSome, MatchOption, MatchResult, true, false, length, take, drop};
+ghost use Rattle.std.specs.List.{list_any};
 ghost use Rattle.std.specs.Str.{bytes_eq};
 ghost use Rattle.knit_base.specs.Lines.{IsLine};
-ghost use Rattle.knitout_reader.specs.Tokens.{is_blank, tokens_of};
-ghost use Rattle.knitout_reader.specs.Head.{is_magic, is_head_line, head_len, head_of, is_carriers_line, names_of, carriers_word, carriers_headers, has_name_twice, names_declared, one_declared, IsHead, IsHeadFault, IsRefusal, IsNamesText};
+ghost use Rattle.knitout_reader.specs.Tokens.{tokens_of};
+ghost use Rattle.knitout_reader.specs.Head.{is_magic, is_head_line, head_len, is_carriers_line, carriers_word, carriers_headers, has_name_twice, names_declared, IsHead, IsHeadFault, IsRefusal, IsNamesText};
 
-use crate::tokens::next_token;
+use crate::body::nth_line;
+use crate::tokens::{is_blank_text, next_token};
 use knit_base::{AddName, Declared, Lines};
 use std::alloc::Global;
+use thiserror::Error;
 
 // What a file begins with.
 const MAGIC: &[u8] = b";!knitout-2";
@@ -16,26 +18,40 @@ const MAGIC: &[u8] = b";!knitout-2";
 // What the header that names the carriers begins with.
 const CARRIERS: &[u8] = b";;Carriers:";
 
-/// The head of a file: how many lines it has, and the carriers that its header declares.
+/// The head of a file.
 #[derive(Drop)]
 pub struct Head {
+    /// How many lines it has.
     pub lines: u32,
+    /// The carriers that its header declares.
     pub declared: Declared,
 }
 
 /// Why a head is refused. Where several reasons hold over the whole head, the first of them is told. Lines count from 1.
-#[derive(Clone, Copy, Debug, PartialEq, Eq)]
+#[derive(Clone, Copy, Debug, PartialEq, Eq, Error)]
 pub enum HeadFault {
     /// There is no first line, or it isn't `;!knitout-2` and blanks.
+    #[error("the first line isn't ;!knitout-2")]
     BadMagic,
+
     /// No line of the head begins with `;;Carriers:`.
+    #[error("no header names the carriers")]
     NoCarriers,
+
     /// This line is the second of the head that begins with `;;Carriers:`.
+    #[error("line {line} names the carriers again")]
     TwoCarriers { line: u32 },
+
     /// The header at this line gives a name twice.
+    #[error("line {line} names a carrier twice")]
     CarrierNameTwice { line: u32 },
+
     /// The header at this line gives more than 64 names.
+    #[error("line {line} names more than 64 carriers")]
     ManyCarriers { line: u32 },
+
+    /// Memory ran out.
+    #[error("out of memory")]
     NoMemory,
 }
 
@@ -47,13 +63,16 @@ struct Header<'a> {
 }
 
 /// Reads the head of a file: its first line, and the lines behind it that are blank or have a `;` as their first byte, up
-/// to the first other line.
+/// to the first other line. The names are the runs without blanks behind the colon of `;;Carriers:`, 64 at most; there may be
+/// none.
+///
+/// Of the refusals that hold, the first in the order of `HeadFault` is told, and `NoMemory` may come with any head.
 pub fn read_head(alloc: Global, lines: &Lines) -> Result<Head, HeadFault>
     requires short { All (λ line. length line < 65535) lines.now }
     ensures head { IfOk result (λ head. IsHead lines.now head) }
     ensures fault { IfErr result (λ fault. IsHeadFault lines.now fault) }
 {
-    if lines.len() == 0 || !is_magic(line_at(lines, 0).as_bytes()) {
+    if lines.len() == 0 || !is_magic(nth_line(lines, 0).as_bytes()) {
         return Err(HeadFault::BadMagic);
     }
     let len = count_head_lines(lines);
@@ -68,20 +87,6 @@ pub fn read_head(alloc: Global, lines: &Lines) -> Result<Head, HeadFault>
         lines: len,
         declared,
     })
-}
-
-fn line_at(lines: &Lines, i: u32) -> &str
-    requires { i < length lines.now }
-    ensures text { result.now ≡ slice_index_or lines.now i [] }
-    ensures line { IsLine result.now }
-{
-    lines.get(i).unwrap()
-}
-
-fn is_blank_text(text: &[u8]) -> bool
-    ensures { result ≡ list_all is_blank text.now }
-{
-    text.iter().all(|byte| *byte == b' ' || *byte == b'\t')
 }
 
 fn is_magic(line: &[u8]) -> bool
@@ -103,7 +108,7 @@ fn count_head_lines(lines: &Lines) -> u32
     ensures within { result ≤ length lines.now }
 {
     for i in 1..lines.len() {
-        if !is_head_line(line_at(lines, i).as_bytes()) {
+        if !is_head_line(nth_line(lines, i).as_bytes()) {
             return i;
         }
     }
@@ -122,7 +127,7 @@ fn next_header(lines: &Lines, from: u32, len: u32) -> Option<Header<'_>>
     ensures text { IfSome result (λ h. IsNamesText h.names.now) }
 {
     for i in from..len {
-        if let Some(names) = names_text(line_at(lines, i)) {
+        if let Some(names) = names_text(nth_line(lines, i)) {
             return Some(Header { line: i + 1, names });
         }
     }

@@ -1,6 +1,6 @@
 //! Numbers and needles, as tokens spell them.
-ghost use Rattle.std.specs.Prelude.{◌≡◌, ◌+◌, ◌-◌, ◌*◌, ◌<◌, ◌≤◌, min, length, fold, take, All, MatchOption, List, ℕ, ◌≢◌, ◌∷◌};
-ghost use Rattle.std.specs.Prelude.{ℤ, pos, ◌-ℤ◌, ◌≤ℤ◌};
+ghost use Rattle.std.specs.Prelude.{◌≡◌, ◌+◌, ◌-◌, ◌*◌, ◌<◌, min, All, MatchOption, List, ℕ, ◌≢◌, ◌∷◌};
+ghost use Rattle.std.specs.Prelude.{ℤ};
 ghost use Rattle.knitout_reader.specs.Numbers.{AreDigits, IsDigit, IsNear, IsNeedle, IsSigned, number_of};
 ghost use Rattle.knit_base.specs.declared.needle.Bed.{Bed};
 
@@ -11,15 +11,15 @@ pub(crate) const FAR: u32 = 100_000;
 
 /// A needle as it is written. Its number may be outside every bed.
 #[derive(Clone, Copy, Debug, PartialEq, Eq)]
-pub(crate) struct Written {
+pub(crate) struct NeedleToken {
     pub bed: Bed,
     /// The number itself, where that is nearer to 0 than `FAR`; else one as far on its side.
     pub at: i32,
 }
 
 /// The needle that a token names: `f`, `b`, `fs` or `bs`, an optional sign, and digits.
-pub(crate) fn needle(token: &[u8]) -> Option<Written>
-    ensures { MatchOption result ((bed : Bed) (z : ℤ) → IsNeedle token.now bed z → ⊥) (λ n. (z : ℤ) × IsNeedle token.now n.bed z × IsNear 100000 n.at z) }
+pub(crate) fn needle(token: &[u8]) -> Option<NeedleToken>
+    ensures { MatchOption result ((bed : Bed) (z : ℤ) → IsNeedle token.now bed z → ⊥) (λ n. (z : ℤ) × IsNeedle token.now n.bed z × IsNear FAR n.at z) }
 {
     if let Some(text) = after(token, b'f') {
         return match after(text, b's') {
@@ -47,16 +47,16 @@ pub(crate) fn after(text: &[u8], byte: u8) -> Option<&[u8]>
 }
 
 // A needle of this bed, with this number.
-fn on_bed(bed: Bed, number: &[u8]) -> Option<Written>
-    ensures { MatchOption result ((z : ℤ) → IsSigned number.now z → ⊥) (λ n. (n.bed ≡ bed) × ((z : ℤ) × IsSigned number.now z × IsNear 100000 n.at z)) }
+fn on_bed(bed: Bed, number: &[u8]) -> Option<NeedleToken>
+    ensures { MatchOption result ((z : ℤ) → IsSigned number.now z → ⊥) (λ n. (n.bed ≡ bed) × ((z : ℤ) × IsSigned number.now z × IsNear FAR n.at z)) }
 {
     let at = signed(number)?;
-    Some(Written { bed, at })
+    Some(NeedleToken { bed, at })
 }
 
 /// The number that an optional sign and digits spell, or one as far on its side.
 pub(crate) fn signed(text: &[u8]) -> Option<i32>
-    ensures { MatchOption result ((z : ℤ) → IsSigned text.now z → ⊥) (λ n. (z : ℤ) × IsSigned text.now z × IsNear 100000 n z) }
+    ensures { MatchOption result ((z : ℤ) → IsSigned text.now z → ⊥) (λ n. (z : ℤ) × IsSigned text.now z × IsNear FAR n z) }
 {
     match text {
         [b'+', digits @ ..] => Some(number(digits)? as i32),

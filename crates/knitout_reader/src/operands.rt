@@ -4,11 +4,11 @@ ghost use Rattle.knit_base.specs.declared.needle.Bed.{Bed};
 ghost use Rattle.knit_base.specs.declared.needle.Dir.{Dir};
 ghost use Rattle.knit_base.specs.Spelling.{dir_word};
 ghost use Rattle.knitout_reader.specs.Numbers.{IsNear};
-ghost use Rattle.knitout_reader.specs.Reads.{is_off_bed, needle_on, not_opposite};
+ghost use Rattle.knitout_reader.specs.Reading.{is_off_bed, needle_on, not_opposite};
 ghost use Rattle.knitout_reader.specs.Shapes.{BeginsWithNeedle};
 ghost use Rattle.knitout_reader.specs.Tokens.{tokens_of};
 
-use crate::number::{self, Written};
+use crate::number::{self, FAR, NeedleToken};
 use crate::tokens::next_token;
 use crate::words::direction;
 use knit_base::{Bed, Dir, Needle, Profile, Reason, Rule};
@@ -25,10 +25,10 @@ pub(crate) fn next_direction<'a>(code: &'a [u8]) -> Option<(Dir, &'a [u8])>
 }
 
 /// The needle at the front, and what stands behind it.
-pub(crate) fn next_needle<'a>(code: &'a [u8]) -> Option<(Written, &'a [u8])>
+pub(crate) fn next_needle<'a>(code: &'a [u8]) -> Option<(NeedleToken, &'a [u8])>
     ensures { MatchOption result
         ((bed : Bed) (z : ℤ) (others : List (List ℕ)) → BeginsWithNeedle (tokens_of code.now) bed z others → ⊥)
-        (λ found. (z : ℤ) × BeginsWithNeedle (tokens_of code.now) found.0.bed z (tokens_of found.1.now) × IsNear 100000 found.0.at z) }
+        (λ found. (z : ℤ) × BeginsWithNeedle (tokens_of code.now) found.0.bed z (tokens_of found.1.now) × IsNear FAR found.0.at z) }
 {
     let (token, others) = next_token(code)?;
     let needle = number::needle(token)?;
@@ -36,9 +36,9 @@ pub(crate) fn next_needle<'a>(code: &'a [u8]) -> Option<(Written, &'a [u8])>
 }
 
 /// The needle as it is written, if its number lies on the bed.
-pub(crate) fn on_bed(profile: &Profile, needle: Written) -> Option<Needle>
-    ensures off { result ≡ None → (z : ℤ) → IsNear 100000 needle.at z → is_off_bed profile.now z ≡ true }
-    ensures on { IfSome result (λ n. (z : ℤ) → IsNear 100000 needle.at z → (is_off_bed profile.now z ≡ false) × (n ≡ needle_on needle.bed z)) }
+pub(crate) fn on_bed(profile: &Profile, needle: NeedleToken) -> Option<Needle>
+    ensures off { result ≡ None → (z : ℤ) → IsNear FAR needle.at z → is_off_bed profile.now z ≡ true }
+    ensures on { IfSome result (λ n. (z : ℤ) → IsNear FAR needle.at z → (is_off_bed profile.now z ≡ false) × (n ≡ needle_on needle.bed z)) }
 {
     if needle.at < i32::from(profile.low) || i32::from(profile.high) < needle.at {
         return None;

@@ -1,12 +1,12 @@
 //! Racks, as tokens spell them.
-ghost use Rattle.std.specs.Prelude.{◌≡◌, ◌≢◌, ◌⊎◌, ◌+◌, ◌-◌, ◌*◌, ◌<◌, ◌≤◌, ◌↔◌, min, length, List, ℕ, Bool, [], ◌∷◌, ◌++◌, All, MatchOption, IsTrue, nat_lt};
+ghost use Rattle.std.specs.Prelude.{◌≡◌, ◌+◌, ◌-◌, ◌*◌, ◌<◌, ◌↔◌, min, List, ℕ, Bool, [], ◌∷◌, ◌++◌, All, MatchOption, IsTrue, nat_lt};
 ghost use Rattle.knitout_reader.specs.Numbers.{IsDecimal, IsDigit, IsNoPoint, IsQuarter, IsRack, number_of};
 
-use crate::number::{after, number, value_of};
+use crate::number::{FAR, after, number, value_of};
 
 /// A rack as it is written: its sign, the needles before the point, and the quarters behind it.
 #[derive(Clone, Copy, Debug, PartialEq, Eq)]
-pub(crate) struct WrittenRack {
+pub(crate) struct RackToken {
     /// Whether it is written with a `-`. `-0` is 0.
     pub negative: bool,
     /// The whole needles, or `FAR` where they are more.
@@ -17,10 +17,10 @@ pub(crate) struct WrittenRack {
 
 /// The rack that a token spells: an optional sign, then digits, or digits and a point and none or more digits, or a point
 /// and one or more digits. There may be any number of digits.
-pub(crate) fn rack(token: &[u8]) -> Option<WrittenRack>
+pub(crate) fn rack(token: &[u8]) -> Option<RackToken>
     ensures { MatchOption result
         ((negative : Bool) (whole fraction : List ℕ) → IsRack token.now negative whole fraction → ⊥)
-        (λ r. (whole : List ℕ) × (fraction : List ℕ) × IsRack token.now r.negative whole fraction × (r.whole ≡ min (number_of whole) 100000)
+        (λ r. (whole : List ℕ) × (fraction : List ℕ) × IsRack token.now r.negative whole fraction × (r.whole ≡ min (number_of whole) FAR)
         × MatchOption r.quarter ((q : ℕ) → IsQuarter fraction q → ⊥) (λ q. IsQuarter fraction q)) }
 {
     if let Some(text) = after(token, b'-') {
@@ -33,15 +33,15 @@ pub(crate) fn rack(token: &[u8]) -> Option<WrittenRack>
 }
 
 // The rack with this sign and this text behind it.
-fn unsigned(negative: bool, text: &[u8]) -> Option<WrittenRack>
+fn unsigned(negative: bool, text: &[u8]) -> Option<RackToken>
     ensures { MatchOption result
         ((whole fraction : List ℕ) → IsDecimal text.now whole fraction → ⊥)
-        (λ r. (r.negative ≡ negative) × ((whole : List ℕ) × (fraction : List ℕ) × IsDecimal text.now whole fraction × (r.whole ≡ min (number_of whole) 100000)
+        (λ r. (r.negative ≡ negative) × ((whole : List ℕ) × (fraction : List ℕ) × IsDecimal text.now whole fraction × (r.whole ≡ min (number_of whole) FAR)
         × MatchOption r.quarter ((q : ℕ) → IsQuarter fraction q → ⊥) (λ q. IsQuarter fraction q))) }
 {
     let Some((front, fraction)) = split_at_point(text) else {
         let whole = number(text)?;
-        return Some(WrittenRack {
+        return Some(RackToken {
             negative,
             whole,
             quarter: Some(0),
@@ -57,7 +57,7 @@ fn unsigned(negative: bool, text: &[u8]) -> Option<WrittenRack>
         return None;
     };
     let quarter = quarter(fraction);
-    Some(WrittenRack {
+    Some(RackToken {
         negative,
         whole,
         quarter,

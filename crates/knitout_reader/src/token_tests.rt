@@ -1,4 +1,4 @@
-use crate::carriers::carriers;
+use crate::carriers::read_carriers;
 use crate::number::needle;
 use crate::rack::rack;
 use crate::tokens::{code_of, next_token};
@@ -66,7 +66,7 @@ fn tries_names_before_repeats(rt: HostRuntime) {
         ("1 1 Z", Some((Rule::NoCarrier, 5))),
         ("2 1 2", Some((Rule::CarrierTwice, 5))),
     ] {
-        let found = carriers(rt.alloc(), &declared, code.as_bytes(), 3).expect(&rt, "memory");
+        let found = read_carriers(rt.alloc(), &declared, code.as_bytes(), 3).expect(&rt, "memory");
         let reason = found.err().map(|reason: Reason| (reason.rule, reason.at));
         assert_eq!(rt; reason, want, "at {code}");
     }

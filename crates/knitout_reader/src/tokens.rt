@@ -1,12 +1,13 @@
 //! The tokens of a line, pulled one by one.
 ghost use Rattle.std.specs.Prelude.{◌≡◌, ◌+◌, ◌<◌, ◌≤◌, ◌*◌, [], ◌∷◌, length, ◌-◌, position, take, drop, slice_index, true, false, All, MatchOption, IfSome};
+ghost use Rattle.std.specs.List.{list_all};
 ghost use Rattle.knitout_reader.specs.Tokens.{tokens_of, before_comment, is_blank, is_semicolon, IsToken};
 
 /// Where the comment of a line begins: at its first `;`, even inside what would else be a token.
 pub fn comment_at(line: &[u8]) -> Option<usize>
     ensures { result ≡ position is_semicolon line.now }
 {
-    // Most lines have none, which is seen at once.
+    // Most lines have none, which `contains` tells in fewer steps than `memchr` does: lines are short.
     if !line.contains(&b';') {
         return None;
     }
@@ -47,6 +48,13 @@ fn is_blank(byte: u8) -> bool
     ensures { result ≡ is_blank byte }
 {
     byte == b' ' || byte == b'\t'
+}
+
+/// Whether each byte is a space or a tab.
+pub fn is_blank_text(text: &[u8]) -> bool
+    ensures { result ≡ list_all is_blank text.now }
+{
+    text.iter().all(|byte| is_blank(*byte))
 }
 
 // The blanks in front.

@@ -1,4 +1,7 @@
 //! Lines in the spelling that most lines have, read at once.
+//!
+//! Nearly all lines of a program are such. The contract says that `read_line` reads them alike, so a caller that takes this way first
+//! need not know which way a line went. All of it stands in the caller's loop, since calls would cost as much as their work.
 ghost use Rattle.std.specs.Prelude.{◌≡◌, ◌∷◌, ◌++◌, ◌-◌, ℕ, List, pos, false, IfSome};
 ghost use Rattle.knit_base.specs.Needle.{is_slider};
 ghost use Rattle.knit_base.specs.Spelling.{bed_word, dir_word};
@@ -50,7 +53,7 @@ fn usual_operands<'a>(
 ) -> Option<(Dir, Needle, CarrierNo, &'a [u8])>
     ensures { IfSome result (λ found. BeginsWithUsualOperands profile.now names.now text.now found.0 found.1 found.2 found.3.now) }
 {
-    let (dir, behind) = usual_direction(text)?;
+    let (dir, behind) = spaced_direction(text)?;
     let (needle, behind) = usual_needle(behind, b' ', profile)?;
     let (name, behind) = last_byte(behind)?;
     let c = names.find(name)?;
@@ -83,7 +86,7 @@ pub(crate) fn behind_space<'a>(text: &'a [u8]) -> Option<&'a [u8]>
 
 // A direction between two spaces.
 #[inline(always)]
-pub(crate) fn usual_direction<'a>(text: &'a [u8]) -> Option<(Dir, &'a [u8])>
+pub(crate) fn spaced_direction<'a>(text: &'a [u8]) -> Option<(Dir, &'a [u8])>
     ensures { IfSome result (λ found. text.now ≡ 32 ∷ (dir_word found.0 ++ 32 ∷ found.1.now)) }
 {
     match text {

@@ -1,19 +1,19 @@
 //! The words of operations and directions.
-ghost use Rattle.std.specs.Prelude.{◌≡◌, ◌≢◌, ◌↔◌, IsTrue, MatchOption};
+ghost use Rattle.std.specs.Prelude.{◌≡◌, ◌≢◌, MatchOption};
 ghost use Rattle.knit_base.specs.declared.needle.Dir.{Dir};
 ghost use Rattle.knit_base.specs.Spelling.{dir_word};
-ghost use Rattle.knitout_reader.specs.declared.words.Carrying.{Carrying};
-ghost use Rattle.knitout_reader.specs.declared.words.Forming.{Forming};
-ghost use Rattle.knitout_reader.specs.declared.words.Naming.{Naming};
-ghost use Rattle.knitout_reader.specs.declared.words.Noting.{Noting};
+ghost use Rattle.knitout_reader.specs.declared.words.CarrierOperation.{CarrierOperation};
+ghost use Rattle.knitout_reader.specs.declared.words.LoopOperation.{LoopOperation};
+ghost use Rattle.knitout_reader.specs.declared.words.NeedleOperation.{NeedleOperation};
+ghost use Rattle.knitout_reader.specs.declared.words.FreeOperation.{FreeOperation};
 ghost use Rattle.knitout_reader.specs.declared.words.Operation.{Operation};
-ghost use Rattle.knitout_reader.specs.Operations.{IsNotingWord, IsWordOf, carrying_word, forming_word, naming_word};
+ghost use Rattle.knitout_reader.specs.Operations.{IsWordOf};
 
 use knit_base::Dir;
 
 /// Operations on carriers alone.
 #[derive(Clone, Copy, Debug, PartialEq, Eq)]
-pub(crate) enum Carrying {
+pub(crate) enum CarrierOperation {
     In,
     Out,
     HookIn,
@@ -23,7 +23,7 @@ pub(crate) enum Carrying {
 
 /// Operations with a direction, a needle and carriers.
 #[derive(Clone, Copy, Debug, PartialEq, Eq)]
-pub(crate) enum Forming {
+pub(crate) enum LoopOperation {
     Knit,
     Tuck,
     Miss,
@@ -31,14 +31,14 @@ pub(crate) enum Forming {
 
 /// Operations with one needle and nothing else.
 #[derive(Clone, Copy, Debug, PartialEq, Eq)]
-pub(crate) enum Naming {
+pub(crate) enum NeedleOperation {
     Drop,
     Amiss,
 }
 
 /// Operations that any tokens may follow.
 #[derive(Clone, Copy, Debug, PartialEq, Eq)]
-pub(crate) enum Noting {
+pub(crate) enum FreeOperation {
     Stitch,
     Pause,
     Extension,
@@ -47,13 +47,13 @@ pub(crate) enum Noting {
 /// The operations, those of like operands together.
 #[derive(Clone, Copy, Debug, PartialEq, Eq)]
 pub(crate) enum Operation {
-    Form(Forming),
+    Loop(LoopOperation),
     Xfer,
     Split,
-    Name(Naming),
+    Needle(NeedleOperation),
     Rack,
-    Carry(Carrying),
-    Note(Noting),
+    Carrier(CarrierOperation),
+    Free(FreeOperation),
 }
 
 /// The operation that a word names.
@@ -61,22 +61,22 @@ pub(crate) fn operation_of(word: &[u8]) -> Option<Operation>
     ensures { MatchOption result ((operation : Operation) → IsWordOf operation word.now → ⊥) (λ operation. IsWordOf operation word.now) }
 {
     match word {
-        b"knit" => Some(Operation::Form(Forming::Knit)),
-        b"tuck" => Some(Operation::Form(Forming::Tuck)),
-        b"miss" => Some(Operation::Form(Forming::Miss)),
+        b"knit" => Some(Operation::Loop(LoopOperation::Knit)),
+        b"tuck" => Some(Operation::Loop(LoopOperation::Tuck)),
+        b"miss" => Some(Operation::Loop(LoopOperation::Miss)),
         b"xfer" => Some(Operation::Xfer),
         b"split" => Some(Operation::Split),
-        b"drop" => Some(Operation::Name(Naming::Drop)),
-        b"amiss" => Some(Operation::Name(Naming::Amiss)),
+        b"drop" => Some(Operation::Needle(NeedleOperation::Drop)),
+        b"amiss" => Some(Operation::Needle(NeedleOperation::Amiss)),
         b"rack" => Some(Operation::Rack),
-        b"in" => Some(Operation::Carry(Carrying::In)),
-        b"out" => Some(Operation::Carry(Carrying::Out)),
-        b"inhook" => Some(Operation::Carry(Carrying::HookIn)),
-        b"outhook" => Some(Operation::Carry(Carrying::HookOut)),
-        b"releasehook" => Some(Operation::Carry(Carrying::ReleaseHook)),
-        b"stitch" => Some(Operation::Note(Noting::Stitch)),
-        b"pause" => Some(Operation::Note(Noting::Pause)),
-        [b'x', b'-', ..] => Some(Operation::Note(Noting::Extension)),
+        b"in" => Some(Operation::Carrier(CarrierOperation::In)),
+        b"out" => Some(Operation::Carrier(CarrierOperation::Out)),
+        b"inhook" => Some(Operation::Carrier(CarrierOperation::HookIn)),
+        b"outhook" => Some(Operation::Carrier(CarrierOperation::HookOut)),
+        b"releasehook" => Some(Operation::Carrier(CarrierOperation::ReleaseHook)),
+        b"stitch" => Some(Operation::Free(FreeOperation::Stitch)),
+        b"pause" => Some(Operation::Free(FreeOperation::Pause)),
+        [b'x', b'-', ..] => Some(Operation::Free(FreeOperation::Extension)),
         _ => None,
     }
 }

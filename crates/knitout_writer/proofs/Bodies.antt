@@ -8,11 +8,11 @@ use Rattle.std.proofs.lemmas.List.Sums.{prefix_len-le-length}
 use Rattle.knitout_reader.specs.Head.{head_len, is_head_line}
 use Rattle.knit_base.specs.declared.instr.Read.{Read}
 use Rattle.knit_base.specs.declared.profile.Profile.{Profile}
-use Rattle.knitout_reader.specs.Reads.{Reads}
+use Rattle.knitout_reader.specs.Reading.{ReadsAs}
 use Rattle.knitout_writer.specs.Canonical.{canonical, IsCanonicalLine, with_line_feeds}
 
 -- a line that was read and written is in its canonical spelling
-pub line-written : {T E : Type 0} (profile : Profile) (names : List (List ℕ)) (line bytes before after : List ℕ) (read : Read) (r : Result T E) → Reads profile names line read → bytes ≡ line
+pub line-written : {T E : Type 0} (profile : Profile) (names : List (List ℕ)) (line bytes before after : List ℕ) (read : Read) (r : Result T E) → ReadsAs profile names line read → bytes ≡ line
     → OnOk r (after ≡ before ++ canonical names read bytes) → OnOk r ((text : List ℕ) × IsCanonicalLine profile names line text × (after ≡ before ++ text))
 line-written profile names line bytes before after read (Ok x) reads same written =
     (canonical names read line, (read, reads, refl), written ∙ ap (λ b. before ++ canonical names read b) same)

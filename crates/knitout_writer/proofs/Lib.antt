@@ -1,6 +1,6 @@
 pub mod Bodies
 pub mod Numerals
-pub mod Settling
-pub mod Spacing
-pub mod SpeltLines
+pub mod SettledLines
+pub mod ShortestSpellings
+pub mod SpacedTokens
 pub mod Words

@@ -1,7 +1,7 @@
 -- What numbers are written as spells them.
-use Rattle.std.proofs.Common.{◌≡◌, inl, inr, ℕ, suc, ◌+◌, ◌-◌, ◌*◌, ◌/◌, ◌%◌, ◌^◌, ◌<◌, ◌≤◌, ℤ, pos, negsuc, ◌≤ℤ◌, true, ◌||◌, nat_eq, ◌-ℤ◌, List, [], ◌∷◌, ◌++◌, length, All, ap, sym, ◌∙◌, refl, arith, length-append, append_assoc}
+use Rattle.std.proofs.Common.{◌≡◌, inl, inr, ℕ, suc, ◌+◌, ◌-◌, ◌*◌, ◌/◌, ◌%◌, ◌^◌, ◌<◌, ◌≤◌, ℤ, pos, negsuc, ◌≤ℤ◌, true, ◌||◌, nat_eq, ◌-ℤ◌, List, [], ◌∷◌, ◌++◌, length, All, ap, sym, ◌∙◌, refl, arith, length-append}
 use Rattle.std.specs.Fmt.{decimal, signed_decimal}
-use Rattle.std.proofs.lemmas.Fmt.{decimal_by_steps, decimal_digit, decimal_step}
+use Rattle.std.proofs.lemmas.Fmt.{decimal_by_steps}
 use Rattle.std.proofs.lemmas.Int.{ints}
 use Rattle.std.proofs.lemmas.List.Sums.{fold-append}
 use Rattle.std.proofs.lemmas.List.Elements.{All-nil, All-cons, All-push}
@@ -9,7 +9,7 @@ use Rattle.knit_base.specs.declared.needle.Bed.{Bed}
 use Rattle.knit_base.specs.Spelling.{needle_text}
 use Rattle.knit_base.proofs.Places.{by_test}
 use Rattle.knitout_reader.specs.Tokens.{is_blank, is_semicolon}
-use Rattle.knitout_writer.proofs.Spacing.{IsWordByte}
+use Rattle.knitout_writer.proofs.SpacedTokens.{IsWordByte}
 use Rattle.std.proofs.lemmas.Bool.{eqb-true}
 use Rattle.knitout_reader.specs.Numbers.{IsDigit, IsSigned, IsNeedle, number_of}
 
@@ -60,15 +60,3 @@ digit_byte byte digit = (
   by_test (is_blank byte) (λ is. absurd (no_blank byte digit is)) (λ isnt. isnt),
   by_test (is_semicolon byte) (λ is. absurd (omega (arith, eqb-true byte 59 is))) (λ isnt. isnt),
 )
-
--- a number of one digit, written
-pub digit-written : (before after : List ℕ) (n : ℕ) → n < 10 → after ≡ before ++ (48 + n) ∷ [] → after ≡ before ++ decimal n
-digit-written before after n small is = is ∙ ap (λ d. before ++ d) (sym (decimal_digit n small))
-
--- its last digit, written behind the others
-pub digits-written : (before others after : List ℕ) (n : ℕ) → 10 ≤ n → n < 2 ^ 64 → others ≡ before ++ decimal (n / 10) → after ≡ others ++ (48 + n % 10) ∷ []
-    → after ≡ before ++ decimal n
-digits-written before others after n large small front is =
-    is ∙ ap (λ o. o ++ (48 + n % 10) ∷ []) front
-    ∙ append_assoc before (decimal (n / 10)) ((48 + n % 10) ∷ [])
-    ∙ ap (λ d. before ++ d) (sym (decimal_step n large small))

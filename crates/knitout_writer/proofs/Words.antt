@@ -19,16 +19,16 @@ use Rattle.knit_base.specs.declared.rule.Rule.{Rule}
 use Rattle.knit_base.specs.declared.rule.Rule.TheVariants.{NoCarrier}
 use Rattle.knit_base.specs.declared.rule.Reason.{Reason}
 use Rattle.knit_base.specs.declared.yarns.CarrierNo.{CarrierNo}
-use Rattle.knit_base.specs.Reasons.{broken_if, or_else}
 use Rattle.knit_base.specs.Spelling.{bed_word, needle_text}
 use Rattle.knit_base.proofs.Places.{by_test, list_any-none}
 use Rattle.knitout_reader.specs.Carriers.{is_undeclared, carriers_of, carrier_rule}
 use Rattle.knitout_reader.specs.Numbers.{IsDigit}
 use Rattle.knitout_reader.specs.Tokens.{tokens_of, before_comment, is_blank, is_semicolon}
-use Rattle.knitout_reader.proofs.Splitting.{nonempty}
+use Rattle.knitout_reader.proofs.Rules.{neither}
+use Rattle.knitout_reader.proofs.TokenRuns.{nonempty}
 use Rattle.knitout_writer.specs.Canonical.{carrier_names}
 use Rattle.knitout_writer.proofs.Numerals.{Spell, decimal_spells, digit_byte, IsSmall}
-use Rattle.knitout_writer.proofs.Spacing.{IsWord, IsWordByte, Clear}
+use Rattle.knitout_writer.proofs.SpacedTokens.{IsWord, IsWordByte, Clear}
 
 onto_words : (b : ℕ) (parts : List (List ℕ)) → IsWordByte b → All (All IsWordByte) parts → All (All IsWordByte) (onto_first b parts)
 onto_words b [] is are = All-cons (All IsWordByte) (b ∷ []) [] (All-cons IsWordByte b [] is (All-nil IsWordByte)) (All-nil (All IsWordByte))
@@ -95,14 +95,6 @@ needle_word bed z small = record {
   some = omega (arith, bed_some bed, length-append (bed_word bed) (signed_decimal z));
   bytes = All-append IsWordByte (bed_word bed) (signed_decimal z) (bed_bytes bed) (signed_bytes z small);
 }
-
-pub neither : (first second : Option Reason) → or_else first second ≡ None → (first ≡ None) × (second ≡ None)
-neither None second e = (refl, e)
-neither (Some reason) second e = cc
-
-pub unbroken : (test : Bool) (rule : Rule) (at : ℕ) → broken_if test rule at ≡ None → test ≡ false
-unbroken true rule at e = cc
-unbroken false rule at e = refl
 
 no_place : (place : Option ℕ) (rule : Rule) (at : ℕ) → option_map {U = Reason} (λ i. record { rule = rule; at = at + i }) place ≡ None → place ≡ None
 no_place None rule at e = refl

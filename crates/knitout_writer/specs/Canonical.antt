@@ -11,7 +11,7 @@ use Rattle.knit_base.specs.declared.profile.Profile.{Profile}
 use Rattle.knit_base.specs.declared.yarns.CarrierNo.{CarrierNo}
 use Rattle.knit_base.specs.Spelling.{dir_word, needle_text, rack_text}
 use Rattle.knitout_reader.specs.declared.head.Head.{Head}
-use Rattle.knitout_reader.specs.Reads.{Reads}
+use Rattle.knitout_reader.specs.Reading.{ReadsAs}
 use Rattle.knitout_reader.specs.Tokens.{tokens_of, before_comment, is_semicolon}
 
 -- the names of the carriers
@@ -69,7 +69,7 @@ canonical names (read.Broken reason) line = line
 
 -- the text is the canonical spelling of the line
 abbrev pub IsCanonicalLine : Profile → List (List ℕ) → List ℕ → List ℕ → Type 0
-IsCanonicalLine profile names line text = (r : Read) × Reads profile names line r × (text ≡ canonical names r line)
+IsCanonicalLine profile names line text = (r : Read) × ReadsAs profile names line r × (text ≡ canonical names r line)
 
 -- the lines, with a line feed behind each
 abbrev pub with_line_feeds : List (List ℕ) → List ℕ
@@ -84,6 +84,6 @@ IsCanonicalText profile head lines text =
 -- Where the line is an instruction, its canonical spelling reads as the same instruction, and is its own canonical spelling.
 abbrev pub IsSettled : Profile → List (List ℕ) → List ℕ → Type 0
 IsSettled profile names line =
-    (i : Instr) → Reads profile names line (read.Instr i)
-    → Reads profile names (canonical names (read.Instr i) line) (read.Instr i)
+    (i : Instr) → ReadsAs profile names line (read.Instr i)
+    → ReadsAs profile names (canonical names (read.Instr i) line) (read.Instr i)
     × (canonical names (read.Instr i) (canonical names (read.Instr i) line) ≡ canonical names (read.Instr i) line)

@@ -1,12 +1,14 @@
 //! Lines in their canonical spelling.
-ghost use Rattle.std.specs.Prelude.{◌≡◌, ◌∷◌, ◌++◌, [], OnOk, OnErr, codes, decimal};
+ghost use Rattle.std.specs.Prelude.{◌≡◌, ◌∷◌, ◌++◌, [], OnOk, OnErr, codes};
 ghost use Rattle.knit_base.specs.declared.profile.Profile.{Profile};
 ghost use Rattle.knit_base.specs.Limits.{IsLawfulProfile};
-ghost use Rattle.knit_base.specs.Spelling.{bed_word, dir_word, needle_text, rack_text};
+ghost use Rattle.knit_base.specs.Spelling.{dir_word, needle_text, rack_text};
 ghost use Rattle.knitout_reader.specs.Tokens.{before_comment, tokens_of};
 ghost use Rattle.knitout_writer.specs.Canonical.{IsSettled, canonical, canonical_tokens, carrier_names, comment_of, comment_behind, spaced, each_spaced};
 
-use knit_base::{Bed, Declared, Dir, Instr, Needle, NoMemory, Quarter, Read, Yarns, append_rack};
+use knit_base::{
+    Declared, Dir, Instr, Needle, NoMemory, Quarter, Read, Yarns, append_needle, append_rack,
+};
 use knitout_reader::{code_of, comment_at, next_token};
 use std::alloc::Global;
 
@@ -96,22 +98,22 @@ fn append_instr(
     ensures { OnOk result (out.new.items ≡ out.old.items ++ spaced (canonical_tokens declared.now instr.now (tokens_of (before_comment raw.now)))) }
 {
     match instr {
-        Instr::CarryIn(carriers) => append_carrying(b"in", carriers, declared, out),
-        Instr::CarryOut(carriers) => append_carrying(b"out", carriers, declared, out),
-        Instr::HookIn(carriers) => append_carrying(b"inhook", carriers, declared, out),
-        Instr::HookOut(carriers) => append_carrying(b"outhook", carriers, declared, out),
-        Instr::ReleaseHook(carriers) => append_carrying(b"releasehook", carriers, declared, out),
+        Instr::CarryIn(carriers) => append_carriers(b"in", carriers, declared, out),
+        Instr::CarryOut(carriers) => append_carriers(b"out", carriers, declared, out),
+        Instr::HookIn(carriers) => append_carriers(b"inhook", carriers, declared, out),
+        Instr::HookOut(carriers) => append_carriers(b"outhook", carriers, declared, out),
+        Instr::ReleaseHook(carriers) => append_carriers(b"releasehook", carriers, declared, out),
         Instr::Stitch => append_tokens(code_of(raw), out),
         Instr::Pause => append_tokens(code_of(raw), out),
         Instr::Extension => append_tokens(code_of(raw), out),
-        Instr::Rack(rack) => append_racking(*rack, out),
-        Instr::Knit(dir, n, carriers) => append_forming(b"knit", *dir, *n, carriers, declared, out),
-        Instr::Tuck(dir, n, carriers) => append_forming(b"tuck", *dir, *n, carriers, declared, out),
-        Instr::Miss(dir, n, carriers) => append_forming(b"miss", *dir, *n, carriers, declared, out),
+        Instr::Rack(rack) => append_rack_line(*rack, out),
+        Instr::Knit(dir, n, carriers) => append_loop(b"knit", *dir, *n, carriers, declared, out),
+        Instr::Tuck(dir, n, carriers) => append_loop(b"tuck", *dir, *n, carriers, declared, out),
+        Instr::Miss(dir, n, carriers) => append_loop(b"miss", *dir, *n, carriers, declared, out),
         Instr::Split(dir, n, n2, carriers) => append_split(*dir, *n, *n2, carriers, declared, out),
         Instr::Xfer(n, n2) => append_xfer(*n, *n2, out),
-        Instr::Drop(n) => append_naming(b"drop", *n, out),
-        Instr::Amiss(n) => append_naming(b"amiss", *n, out),
+        Instr::Drop(n) => append_one_needle(b"drop", *n, out),
+        Instr::Amiss(n) => append_one_needle(b"amiss", *n, out),
     }
 }
 
@@ -131,7 +133,7 @@ fn append_tokens(code: &[u8], out: &mut Vec<u8>) -> Result<(), NoMemory>
 }
 
 // Appends an operation on carriers alone.
-fn append_carrying(
+fn append_carriers(
     word: &[u8],
     carriers: &Yarns,
     declared: &Declared,
@@ -140,11 +142,11 @@ fn append_carrying(
     ensures { OnOk result (out.new.items ≡ out.old.items ++ spaced (word.now ∷ carrier_names declared.now carriers.now)) }
 {
     append(word, out)?;
-    append_carriers(carriers, declared, out)
+    append_names(carriers, declared, out)
 }
 
 // Appends a space and the name of each carrier.
-fn append_carriers(carriers: &Yarns, declared: &Declared, out: &mut Vec<u8>) -> Result<(), NoMemory>
+fn append_names(carriers: &Yarns, declared: &Declared, out: &mut Vec<u8>) -> Result<(), NoMemory>
     ensures { OnOk result (out.new.items ≡ out.old.items ++ each_spaced (carrier_names declared.now carriers.now)) }
 {
     for carrier in carriers.as_slice() {
@@ -155,7 +157,7 @@ fn append_carriers(carriers: &Yarns, declared: &Declared, out: &mut Vec<u8>) -> 
     Ok(())
 }
 
-fn append_racking(rack: Quarter, out: &mut Vec<u8>) -> Result<(), NoMemory>
+fn append_rack_line(rack: Quarter, out: &mut Vec<u8>) -> Result<(), NoMemory>
     ensures { OnOk result (out.new.items ≡ out.old.items ++ spaced (codes "rack" ∷ rack_text rack.0 ∷ [])) }
 {
     append(b"rack ", out)?;
@@ -163,7 +165,7 @@ fn append_racking(rack: Quarter, out: &mut Vec<u8>) -> Result<(), NoMemory>
 }
 
 // Appends an operation with a direction, a needle and carriers.
-fn append_forming(
+fn append_loop(
     word: &[u8; 4],
     dir: Dir,
     n: Needle,
@@ -176,7 +178,7 @@ fn append_forming(
     append(word, out)?;
     append(dir_word(dir), out)?;
     append_needle_token(n, out)?;
-    append_carriers(carriers, declared, out)
+    append_names(carriers, declared, out)
 }
 
 fn append_split(
@@ -193,7 +195,7 @@ fn append_split(
     append(dir_word(dir), out)?;
     append_needle_token(n, out)?;
     append_needle_token(n2, out)?;
-    append_carriers(carriers, declared, out)
+    append_names(carriers, declared, out)
 }
 
 fn append_xfer(n: Needle, n2: Needle, out: &mut Vec<u8>) -> Result<(), NoMemory>
@@ -205,46 +207,19 @@ fn append_xfer(n: Needle, n2: Needle, out: &mut Vec<u8>) -> Result<(), NoMemory>
 }
 
 // Appends an operation on one needle.
-fn append_naming(word: &[u8], n: Needle, out: &mut Vec<u8>) -> Result<(), NoMemory>
+fn append_one_needle(word: &[u8], n: Needle, out: &mut Vec<u8>) -> Result<(), NoMemory>
     ensures { OnOk result (out.new.items ≡ out.old.items ++ spaced (word.now ∷ needle_text n ∷ [])) }
 {
     append(word, out)?;
     append_needle_token(n, out)
 }
 
-// Appends a space and the needle, whose number has few digits.
+// Appends a space and the needle.
 fn append_needle_token(n: Needle, out: &mut Vec<u8>) -> Result<(), NoMemory>
     ensures { OnOk result (out.new.items ≡ out.old.items ++ 32 ∷ needle_text n) }
 {
-    append_bed_token(n.bed, out)?;
-    if n.at < 0 {
-        out.push(b'-')?;
-    }
-    append_digits(n.at.unsigned_abs(), out)
-}
-
-// Appends a space and the letters of a bed.
-fn append_bed_token(bed: Bed, out: &mut Vec<u8>) -> Result<(), NoMemory>
-    ensures { OnOk result (out.new.items ≡ out.old.items ++ 32 ∷ bed_word bed) }
-{
-    match bed {
-        Bed::Front => append(b" f", out),
-        Bed::FrontSlider => append(b" fs", out),
-        Bed::Back => append(b" b", out),
-        Bed::BackSlider => append(b" bs", out),
-    }
-}
-
-fn append_digits(number: u16, out: &mut Vec<u8>) -> Result<(), NoMemory>
-    ensures { OnOk result (out.new.items ≡ out.old.items ++ decimal number) }
-{
-    if number < 10 {
-        out.push(b'0' + number as u8)?;
-        return Ok(());
-    }
-    append_digits(number / 10, out)?;
-    out.push(b'0' + (number % 10) as u8)?;
-    Ok(())
+    out.push(b' ')?;
+    append_needle(n, out)
 }
 
 // The word of a direction, with a space before it.

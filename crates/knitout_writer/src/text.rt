@@ -1,12 +1,12 @@
 //! Whole files in their canonical spelling.
-ghost use Rattle.std.specs.Prelude.{◌≡◌, ◌<◌, ◌≤◌, ◌^◌, ◌++◌, [], length, take, drop, slice_index_or, IfOk, OnOk, OnErr, List, ℕ};
+ghost use Rattle.std.specs.Prelude.{◌≡◌, ◌<◌, ◌≤◌, ◌^◌, ◌++◌, length, take, drop, IfOk, OnOk, OnErr, List, ℕ};
 ghost use Rattle.std.specs.List.{AllZip};
 ghost use Rattle.knitout_reader.specs.Head.{IsHead};
 ghost use Rattle.knitout_writer.specs.Canonical.{IsCanonicalText, IsCanonicalLine, with_line_feeds};
 
 use crate::line::append_line;
 use knit_base::{Declared, Lines, NoMemory, Profile};
-use knitout_reader::{Head, is_spelt_line, read_line};
+use knitout_reader::{Head, is_shortest_spelling, nth_line, read_line};
 use std::alloc::Global;
 
 /// The canonical text of the file with these lines: the lines of its head as they are, and each line of its body in its canonical
@@ -51,17 +51,9 @@ fn len_with_line_feeds(lines: &Lines) -> usize
 {
     let mut len = 0;
     for i in 0..lines.len() {
-        len += line_at(lines, i).len() + 1;
+        len += nth_line(lines, i).len() + 1;
     }
     len
-}
-
-fn line_at(lines: &Lines, i: u32) -> &str
-    requires { i < length lines.now }
-    ensures text { result.now ≡ slice_index_or lines.now i [] }
-    ensures short { length result.now < 2 ^ 16 }
-{
-    lines.get(i).unwrap()
 }
 
 // Appends this many lines as they are, each with a line feed.
@@ -70,7 +62,7 @@ fn append_head(lines: &Lines, count: u32, out: &mut Vec<u8>) -> Result<(), NoMem
     ensures { OnOk result (out.new.items ≡ out.old.items ++ with_line_feeds (take count lines.now)) }
 {
     for i in 0..count {
-        out.extend_from_slice(line_at(lines, i).as_bytes())?;
+        out.extend_from_slice(nth_line(lines, i).as_bytes())?;
         out.push(b'\n')?;
     }
     Ok(())
@@ -88,7 +80,7 @@ fn append_body(
     ensures { OnOk result ((texts : List (List ℕ)) × AllZip (IsCanonicalLine profile.now head.now.declared) (drop head.now.lines lines.now) texts × (out.new.items ≡ out.old.items ++ with_line_feeds texts)) }
 {
     for i in head.lines..lines.len() {
-        append_body_line(alloc, line_at(lines, i), profile, &head.declared, out)?;
+        append_body_line(alloc, nth_line(lines, i), profile, &head.declared, out)?;
         out.push(b'\n')?;
     }
     Ok(())
@@ -107,7 +99,7 @@ fn append_body_line(
     ensures { OnOk result ((text : List ℕ) × IsCanonicalLine profile.now declared.now line.now text × (out.new.items ≡ out.old.items ++ text)) }
 {
     let bytes = line.as_bytes();
-    if is_spelt_line(bytes) {
+    if is_shortest_spelling(bytes) {
         out.extend_from_slice(bytes)?;
         return Ok(());
     }

@@ -1,4 +1,4 @@
-pub mod Behind
-pub mod Cutting
+pub mod CutLines
 pub mod Pieces
+pub mod PlacesBehind
 pub mod Texts

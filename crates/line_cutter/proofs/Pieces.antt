@@ -1,7 +1,7 @@
 -- The first piece of a text, and its line.
-use Rattle.std.proofs.Common.{◌≡◌, ◌≢◌, ℕ, ◌+◌, ◌-◌, ◌<◌, ◌≤◌, Bool, true, false, List, [], ◌∷◌, ◌++◌, length, take, get_or, map, All, MatchOption, Option, None, Some, ap, sym, ◌∙◌, refl, arith, ⊎_elim}
+use Rattle.std.proofs.Common.{◌≡◌, ◌≢◌, ℕ, ◌+◌, ◌-◌, ◌<◌, ◌≤◌, false, List, [], ◌∷◌, ◌++◌, length, take, get_or, map, All, MatchOption, Option, None, Some, ap, sym, ◌∙◌, refl, arith, ⊎_elim}
 use Rattle.std.specs.List.{slice_split, position_or_len, before_first, after_first}
-use Rattle.std.proofs.lemmas.Bool.{cases_lt}
+use Rattle.std.proofs.lemmas.Bool.{cases_lt, false_from_ne_true}
 use Rattle.std.proofs.lemmas.List.{take_all, drop_all, take_more}
 use Rattle.std.proofs.lemmas.List.Sums.{fails_before_first, position_or_len_is}
 use Rattle.std.proofs.lemmas.List.Splits.{slice_split_first, slice_split_none, length-slice_split}
@@ -34,18 +34,14 @@ lines_of-next text some =
     ∙ ap (λ rest. without_return (before_first is_line_feed text) ∷ lines_of rest) (sym (drop_all (position_or_len is_line_feed text + 1) text (omega arith))))
     (cases_lt (position_or_len is_line_feed text) (length text))
 
-pub false_from : (b : Bool) → (b ≡ true → ⊥) → b ≡ false
-false_from true never = absurd (never refl)
-false_from false never = refl
-
 -- what a search for a line feed gives
 pub first_feed : (text : List ℕ) (place : Option ℕ) → IsFirstByte (is_byte 10) text place
     → MatchOption place (length text ≡ position_or_len is_line_feed text) (λ k. (k ≤ length text) × (k ≡ position_or_len is_line_feed text))
 first_feed text None none =
-    sym (position_or_len_is is_line_feed text (length text) 0 (omega arith) (λ k below. false_from _ (none k (omega arith) below)) (λ within. absurd (omega arith)))
+    sym (position_or_len_is is_line_feed text (length text) 0 (omega arith) (λ k below. false_from_ne_true _ (none k (omega arith) below)) (λ within. absurd (omega arith)))
 first_feed text (Some k) found = (
   omega (arith, found.0.high),
-  sym (position_or_len_is is_line_feed text k 0 (omega (arith, found.0.high)) (λ j below. false_from _ (found.0.before j (omega arith) below)) (λ within. found.1)),
+  sym (position_or_len_is is_line_feed text k 0 (omega (arith, found.0.high)) (λ j below. false_from_ne_true _ (found.0.before j (omega arith) below)) (λ within. found.1)),
 )
 
 returned : (front : List ℕ) → without_return (front ++ 13 ∷ []) ≡ front

@@ -8,7 +8,11 @@ use crate::line::next_line;
 use knit_base::{Lines, Span};
 use std::alloc::Global;
 
-/// The lines of the bytes, which stay where they are.
+/// The lines of the bytes, which stay where they are, 16 MiB at most.
+///
+/// A line ends before a line feed, and one carriage return before it is dropped; an empty piece behind the last line feed is no line.
+/// The refusal names the first line that isn't UTF-8 (`NotUtf8`) or else has over 4,096 bytes (`LineLong`). Memory is asked
+/// for the places of the lines alone, and `NoMemory` may come with any bytes.
 pub fn cut_buffer(alloc: Global, bytes: Vec<u8>) -> Result<Lines, CutFault>
     requires { length bytes.items ≤ 16777216 }
     ensures lines { IfOk result (λ lines. lines ≡ lines_of bytes.items) }
@@ -19,7 +23,8 @@ pub fn cut_buffer(alloc: Global, bytes: Vec<u8>) -> Result<Lines, CutFault>
     Ok(Lines::in_buffer(bytes, spans))
 }
 
-/// The lines of a copy of the bytes.
+/// The lines of a copy of the bytes, for callers that keep their own. Limits and refusals are those of `cut_buffer`; memory is
+/// asked for the copy, too.
 pub fn cut(alloc: Global, bytes: &[u8]) -> Result<Lines, CutFault>
     requires { length bytes.now ≤ 16777216 }
     ensures lines { IfOk result (λ lines. lines ≡ lines_of bytes.now) }

@@ -1,7 +1,7 @@
 //! Each call with ample memory: which lines there are, and which line is refused.
 ghost use Rattle.std.specs.Prelude.{◌≡◌, ◌≤◌, ◌+◌, length, IfOk};
 
-use crate::{CutFault, LINE_LIMIT, cut, cut_buffer};
+use crate::{CutFault, LINE_LIMIT, cut, cut_buffer, line_at, place_behind};
 use knit_base::Lines;
 use std::alloc::{AllocError, Global};
 use std::process::Abort;
@@ -83,4 +83,30 @@ fn the_first_bad_line_is_named(rt: HostRuntime) -> Result<(), Fail> {
         assert_eq!(rt; fault_of(rt.alloc(), count, more)?, want);
     }
     Ok(())
+}
+
+// Of five lines the fourth is bad, and the last one has no line feed.
+const FIVE_LINES: &[u8] = b"a\r\n\n\r\r\n\xff\nb";
+
+#[test]
+fn lines_are_found_one_by_one(rt: HostRuntime) {
+    for (start, want) in [
+        (0, Some(("a", 3))),
+        (1, Some(("", 3))),
+        (3, Some(("", 4))),
+        (4, Some(("\r", 7))),
+        (7, None),
+        (9, Some(("b", 11))),
+    ] {
+        assert_eq!(rt; line_at(FIVE_LINES, start), want);
+    }
+}
+
+#[test]
+fn lines_are_passed_over(rt: HostRuntime) {
+    for (count, want) in [(0, Some(0)), (1, Some(3)), (3, Some(7)), (4, None)] {
+        assert_eq!(rt; place_behind(FIVE_LINES, count), want);
+    }
+    assert_eq!(rt; place_behind(b"a\nb", 2), Some(4));
+    assert_eq!(rt; place_behind(b"a\nb", 3), None);
 }

@@ -1,5 +1,5 @@
 use Rattle.std.proofs.Common.{◌-◌, length}
-use Rattle.knitout_reader.proofs.Named.{SoughtSoFar}
+use Rattle.knitout_reader.proofs.CarrierLists.{SoughtSoFar}
 use Rattle.knitout_reader.proofs.carriers.first_undeclared.Given as goal
 
 abbrev pub invariant-loop-name : goal.invariant-loop-name

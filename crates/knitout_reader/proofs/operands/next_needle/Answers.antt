@@ -1,4 +1,4 @@
-use Rattle.knitout_reader.proofs.Spelled.{no_needle}
+use Rattle.knitout_reader.proofs.OperandShapes.{no_needle}
 use Rattle.knitout_reader.proofs.operands.next_needle.Goals as goal
 
 pub returns-in_err-needle : goal.returns-in_err-needle

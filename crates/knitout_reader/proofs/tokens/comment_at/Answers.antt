@@ -1,5 +1,5 @@
 use Rattle.std.proofs.Common.{sym, ◌∙◌}
-use Rattle.knitout_reader.proofs.Splitting.{no_semicolon}
+use Rattle.knitout_reader.proofs.TokenRuns.{no_semicolon}
 use Rattle.knitout_reader.proofs.tokens.comment_at.Goals as goal
 
 pub returns-then-not-contains : goal.returns-then-not-contains

@@ -1,6 +1,6 @@
 use Rattle.std.proofs.Common.{sym, ◌∙◌}
 use Rattle.std.proofs.lemmas.List.Elements.{All-more}
-use Rattle.knitout_reader.proofs.Splitting.{Blank}
+use Rattle.knitout_reader.proofs.TokenRuns.{Blank}
 use Rattle.knitout_reader.proofs.tokens.count_blanks.Goals as goal
 
 pub loop-at-preserved : goal.loop-at-preserved

@@ -1,6 +1,6 @@
 use Rattle.std.proofs.Common.{sym, ◌∙◌}
 use Rattle.std.proofs.lemmas.List.Elements.{All-more}
-use Rattle.knitout_reader.proofs.Splitting.{Plain}
+use Rattle.knitout_reader.proofs.TokenRuns.{Plain}
 use Rattle.knitout_reader.proofs.tokens.count_token_bytes.Goals as goal
 
 pub loop-at-preserved : goal.loop-at-preserved

@@ -1,5 +1,5 @@
 use Rattle.std.proofs.Common.{◌<◌, length, arith}
-use Rattle.knitout_reader.proofs.Splitting.{first_token_at, no_token}
+use Rattle.knitout_reader.proofs.TokenRuns.{first_token_at, no_token}
 use Rattle.knitout_reader.proofs.tokens.next_token.Goals as goal
 
 pub returns-then-start-code-clause-split : goal.returns-then-start-code-clause-split

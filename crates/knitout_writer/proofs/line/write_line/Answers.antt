@@ -1,4 +1,4 @@
-use Rattle.knitout_writer.proofs.Settling.{settles}
+use Rattle.knitout_writer.proofs.SettledLines.{settles}
 use Rattle.knitout_writer.proofs.line.write_line.Goals as goal
 
 pub returns-in_err-append_line-clause-settled : goal.returns-in_err-append_line-clause-settled

@@ -1,8 +1,11 @@
-use Rattle.std.proofs.Common.{◌<◌, List, ℕ, length}
-use Rattle.std.proofs.lemmas.List.Elements.{All-push, All-same}
+use Rattle.std.proofs.Common.{◌<◌, ℕ, List, length, arith}
+use Rattle.std.proofs.lemmas.List.Elements.{All-weaker}
+use Rattle.std.proofs.lemmas.Result.{IfOk-weaker}
+use Rattle.line_cutter.specs.Cut.{IsGoodLine}
 use Rattle.knitout_writer.proofs.tests.lines_of.Goals as goal
 
-pub loop-text-preserved : goal.loop-text-preserved
-loop-text-preserved c =
-    All-same (λ (line : List ℕ). length line < 65535) _ _ c.in_ok-push.ensures.ok
-    (All-push (λ (line : List ℕ). length line < 65535) _ _ c.loop-text.invariant (c.is_short_line.ensures.short c.if-not-is_short_line.false))
+shorter : (line : List ℕ) → IsGoodLine line → length line < 65535
+shorter line good = omega (arith, good.short)
+
+pub returns : goal.returns
+returns c = IfOk-weaker c.cut.result _ _ (λ lines good. All-weaker IsGoodLine (λ (line : List ℕ). length line < 65535) shorter lines good) c.cut.ensures.good

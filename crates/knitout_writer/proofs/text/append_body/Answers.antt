@@ -9,7 +9,7 @@ loop-i-preserved c =
     let after : c.args.head.now.lines ≤ c.loop-i.i = omega arith in
     let within : c.loop-i.i < length c.args.lines.now = omega arith in (
       c.loop-i.invariant.0 ++ written.0 ∷ [],
-      lines-more (IsCanonicalLine c.args.profile.now c.args.head.now.declared) c.args.lines.now c.loop-i.invariant.0 c.args.head.now.lines c.loop-i.i c.line_at.result.now written.0
-          after within c.line_at.ensures.text written.1 c.loop-i.invariant.1,
+      lines-more (IsCanonicalLine c.args.profile.now c.args.head.now.declared) c.args.lines.now c.loop-i.invariant.0 c.args.head.now.lines c.loop-i.i c.nth_line.result.now written.0
+          after within c.nth_line.ensures.text written.1 c.loop-i.invariant.1,
       fed-more c.args.out.now.items c.push.new.self.items c.append_body_line.new.out.items c.loop-i.out.items c.loop-i.invariant.0 written.0 c.loop-i.invariant.2 written.2 c.in_ok-push.ensures.items,
     )

@@ -1,4 +1,4 @@
-use Rattle.line_cutter.proofs.Cutting.{cut_more}
+use Rattle.line_cutter.proofs.CutLines.{cut_more}
 use Rattle.line_cutter.proofs.cutter.cut_spans.Goals as goal
 
 pub cutting-preserved : goal.cutting-preserved

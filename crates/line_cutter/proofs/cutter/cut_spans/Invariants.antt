@@ -1,5 +1,5 @@
 use Rattle.std.proofs.Common.{◌-◌, length}
-use Rattle.line_cutter.proofs.Cutting.{CutSoFar}
+use Rattle.line_cutter.proofs.CutLines.{CutSoFar}
 use Rattle.line_cutter.proofs.cutter.cut_spans.Given as goal
 
 abbrev pub invariant-cutting : goal.invariant-cutting

@@ -1,6 +1,6 @@
 use Rattle.std.proofs.Common.{refl, arith}
 use Rattle.std.proofs.lemmas.Result.{err_from_is_err_and}
-use Rattle.line_cutter.proofs.Cutting.{bad_line, first_line, good_line}
+use Rattle.line_cutter.proofs.CutLines.{bad_line, first_line, good_line}
 use Rattle.line_cutter.proofs.line.next_line.Goals as goal
 
 pub returns-clause-ok : goal.returns-clause-ok

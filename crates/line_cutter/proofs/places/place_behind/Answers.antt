@@ -1,4 +1,4 @@
-use Rattle.line_cutter.proofs.Behind.{behind-more, behind-none}
+use Rattle.line_cutter.proofs.PlacesBehind.{behind-more, behind-none}
 use Rattle.line_cutter.proofs.places.place_behind.Goals as goal
 
 pub loop-init : goal.loop-init

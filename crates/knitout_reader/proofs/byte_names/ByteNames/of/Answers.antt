@@ -1,4 +1,4 @@
-use Rattle.std.proofs.Common.{◌≡◌, ◌≢◌, ℕ, refl}
+use Rattle.std.proofs.Common.{refl}
 use Rattle.std.proofs.lemmas.List.{get_or-replicate}
 use Rattle.knitout_reader.proofs.byte_names.ByteNames.of.Goals as goal
 

@@ -1,4 +1,0 @@
-use Rattle.knitout_writer.proofs.line.+append_digits.Given as goal
-
-abbrev pub decreases-append_digits : goal.decreases-append_digits
-decreases-append_digits l = l.number
