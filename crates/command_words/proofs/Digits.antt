@@ -15,7 +15,7 @@ use Rattle.std.specs.Prelude.{unsigned_abs}
 use Rattle.command_words.specs.Grammar.{Text}
 use Rattle.command_words.specs.Numbers.{digits_of, is_number}
 use Rattle.command_words.proofs.Looks.{by_test}
-use Rattle.command_words.proofs.Kept.{both}
+use Rattle.command_words.proofs.Rows.{both}
 
 all_digits : (ds : List ℕ) → list_all is_ascii_digit ds ≡ true → AllDigits 10 ds
 all_digits [] e = tt
@@ -54,9 +54,11 @@ abs_of true zero = refl
 abs_of true (suc n) = refl
 abs_of false n = refl
 
+-- ten digits at most are below 10 ^ 10
 pub value_small : (ds : List ℕ) → AllDigits 10 ds → length ds ≤ 10 → digits_value 10 ds < 10 ^ 10
 value_small ds all few = omega (arith, digits_value-lt 10 ds all, pow-le-pow_right {n = 10} (omega arith) few)
 
+-- what is a number has a numeral behind its sign, and its value fits 64 bits
 pub parses : (text : Text) → is_number text ≡ true → IsNumeral 10 (without_leading_sign text) × FitsSigned w64 (signed_digits_value 10 text)
 parses text e =
     let same = digits_same text e in

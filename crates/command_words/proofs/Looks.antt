@@ -8,6 +8,7 @@ use Rattle.clap.specs.Lexer.{long_of, short_of}
 use Rattle.command_words.specs.Grammar.{Text, begins_with_hyphen, is_end_of_options, option_name, option_text, option_value}
 use Rattle.command_words.proofs.Turns.{IsPlainWord, dashes}
 
+-- a word is `--`, an option, letters behind a single `-`, or a plain word
 pub data Looks (word : Text) : Type 0 where
   ends : word ≡ dashes → Looks word
   long : (text : Text) → bytes_eq word dashes ≡ false → long_of word ≡ Some (option_name text, option_value text) → option_text word ≡ Some text
@@ -16,6 +17,7 @@ pub data Looks (word : Text) : Type 0 where
       → chars flags ≡ x ∷ xs → option_text word ≡ None → begins_with_hyphen word ≡ true → Looks word
   plain : IsPlainWord word → option_text word ≡ None → Looks word
 
+-- from both cases of a test
 pub by_test : {P : Type 0} (b : Bool) → (b ≡ true → P) → (b ≡ false → P) → P
 by_test true f g = f refl
 by_test false f g = g refl
@@ -52,6 +54,7 @@ after_one (y ∷ ys) u = by_test (y == 45)
     (λ e. let c = some_char y ys u in
     short (y ∷ ys) (length ys) c.0 c.1 (other_second y ys e) (rw e refl) (rw e refl) refl c.2 (rw e refl) refl)
 
+-- every text has one of these looks
 pub looks : (word : Text) → IsUtf8 word → Looks word
 looks [] u = plain (record { other = refl; long = refl; short = refl }) refl
 looks (x ∷ xs) u = by_test (x == 45)

@@ -15,16 +15,18 @@ use Rattle.command_words.specs.Arguments.{check_app}
 use Rattle.command_words.specs.Grammar.{Name, Text, Low, High, Rack, Hold, Block, Loops, Json, is_flag, spelling}
 use Rattle.command_words.proofs.Rules.{Spot, first, second, third, rule, shape, spot_id, spot_rule}
 use Rattle.command_words.proofs.Looks.{by_test}
-use Rattle.command_words.proofs.Kept.{added_row, at_row_none, has_row_is, or_first}
+use Rattle.command_words.proofs.Rows.{added_row, at_row_none, has_row_is, or_first}
 use Rattle.command_words.proofs.Turns.{Fails, at, end_of, faults_from, place_of}
-use Rattle.command_words.proofs.Standing.{Stands, single}
-use Rattle.command_words.proofs.Whole.{walk_for}
+use Rattle.command_words.proofs.WalkItems.{Stands, single}
+use Rattle.command_words.proofs.Walks.{walk_for}
 
 -- ---- the start
 
+-- the walk before the first word
 abbrev pub start : Walk
 start = walk_for None nothing_held (Some first)
 
+-- it has kept nothing
 pub stands_first : Stands [] nothing_held (Some first)
 stands_first = record { sound = refl; skip = refl; named = λ n. refl; spots = λ s. refl; distinct = refl; count = refl }
 
@@ -45,6 +47,7 @@ unfolding defaults_fault
 all_defaults rows [] h = refl
 all_defaults rows (a ∷ rest) h = rw (h.0 rows) (all_defaults (with_default rows a) rest h.1)
 
+-- no default is at fault
 pub no_defaults_fault : (rows : List Row) → defaults_fault rows shape.rules ≡ []
 no_defaults_fault rows = all_defaults rows shape.rules (
   (λ r. no_default_fault r (rule Low) refl),
@@ -85,9 +88,11 @@ none_within : (a b c d : Kinds) → b ≡ [] → or_else a c ≡ [] → d ≡ []
 none_within (k ∷ ks) b c d none e f = e
 none_within [] b c d none e f = rw (none, e) f
 
+-- where the walk fails, the command does
 pub fault_fails : (words : List Text) → Fails (faults_from start words) → Fails (fault_of check_app words)
 fault_fails words h = fails_within (walk_fault shape [] start words) _ _ _ (below (end_of start words).stopped) h
 
+-- where the walk comes to its end with no fault, the command has none
 pub fault_none : (words : List Text) → faults_from start words ≡ [] → (end_of start words).stopped ≡ None → fault_of check_app words ≡ []
 fault_none words none at_top =
     none_within (walk_fault shape [] start words) _ _ _ (below (end_of start words).stopped) none
@@ -121,9 +126,11 @@ default_row k rows a v is = by_test (has_row a.id rows)
 
 -- ---- what the matches hold
 
+-- the rows with the flags that don't stand, which are `false`
 abbrev pub matched : List Row → List Row
 matched rows = with_default (with_default rows (rule Loops)) (rule Json)
 
+-- what the command finds are these rows
 pub finished_is : (h : Held) → finished shape.rules h ≡ matched (settled shape.rules h).rows
 finished_is h =
     let rows = (settled shape.rules h).rows in
@@ -147,14 +154,17 @@ option_matched Block rows flag = default_row _ (with_default rows (rule Loops)) 
 option_matched Loops rows flag = absurd (true≢false flag)
 option_matched Json rows flag = absurd (true≢false flag)
 
+-- they leave the positional words as they are
 pub spot_matched : (s : Spot) (rows : List Row) → all_of (spot_id s) (matched rows) ≡ all_of (spot_id s) rows
 spot_matched first rows = default_row _ (with_default rows (rule Loops)) (rule Json) _ refl ∙ sym (none_first _) ∙ default_row _ rows (rule Loops) _ refl ∙ sym (none_first _)
 spot_matched second rows = default_row _ (with_default rows (rule Loops)) (rule Json) _ refl ∙ sym (none_first _) ∙ default_row _ rows (rule Loops) _ refl ∙ sym (none_first _)
 spot_matched third rows = default_row _ (with_default rows (rule Loops)) (rule Json) _ refl ∙ sym (none_first _) ∙ default_row _ rows (rule Loops) _ refl ∙ sym (none_first _)
 
+-- `--loops` is what stands, or `false`
 pub loops_matched : (rows : List Row) → all_of (spelling Loops) (matched rows) ≡ or_first (all_of (spelling Loops) rows) (Some (codes "false" ∷ []))
 loops_matched rows = default_row _ (with_default rows (rule Loops)) (rule Json) _ refl ∙ sym (none_first _) ∙ default_row _ rows (rule Loops) _ refl
 
+-- `--json` is what stands, or `false`
 pub json_matched : (rows : List Row) → all_of (spelling Json) (matched rows) ≡ or_first (all_of (spelling Json) rows) (Some (codes "false" ∷ []))
 json_matched rows = default_row _ (with_default rows (rule Loops)) (rule Json) _ refl ∙ ap (λ o. or_first o (Some (codes "false" ∷ []))) (default_row _ rows (rule Loops) _ refl ∙ sym (none_first _))
 
@@ -166,6 +176,7 @@ first_is k rows = go (find (λ r. bytes_eq r.id k) rows)
     go None = refl
     go (Some r) = refl
 
+-- the first of a single value is that value
 pub first_single : (o : Option Text) → option_and_then (λ vs. slice_get vs 0) (single o) ≡ o
 first_single None = refl
 first_single (Some v) = refl

@@ -11,9 +11,9 @@ use Rattle.command_words.specs.Grammar.{are_distinct, begins_with_hyphen, is_fla
 use Rattle.command_words.specs.Numbers.{number_or_none}
 use Rattle.command_words.specs.Given.{IsGiven, IsLawful, now_of, parts_given, words_of}
 use Rattle.command_words.specs.Request.{Parts, command_of, command_of_words, has_numbers, is_lawful, parts_of, request_from, request_from_parts, request_of, with_options}
-use Rattle.command_words.proofs.Kept.{both}
+use Rattle.command_words.proofs.Rows.{both}
 use Rattle.command_words.proofs.Looks.{by_test}
-use Rattle.command_words.proofs.Comes.{some_of}
+use Rattle.command_words.proofs.Outcomes.{some_of}
 
 -- three places hold the positional words
 words_given : (ws : List Text) → length ws ≤ 3 → words_of (slice_get ws 0) (slice_get ws 1) (slice_get ws 2) ≡ ws

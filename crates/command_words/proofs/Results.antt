@@ -16,13 +16,14 @@ use Rattle.command_words.specs.Grammar.{Name, Text, Item, Loops, Json, are_disti
 use Rattle.command_words.specs.Taken.{taken_of}
 use Rattle.command_words.specs.Given.{Fit, is_on}
 use Rattle.command_words.proofs.Rules.{Spot, first, second, third, shape, spot_at, spot_id}
-use Rattle.command_words.proofs.Kept.{or_first}
+use Rattle.command_words.proofs.Rows.{or_first}
 use Rattle.command_words.proofs.Turns.{end_of, faults_from}
-use Rattle.command_words.proofs.Standing.{count_at, single}
-use Rattle.command_words.proofs.Comes.{Comes, bad, good}
-use Rattle.command_words.proofs.Whole.{walk_comes}
+use Rattle.command_words.proofs.WalkItems.{count_at, single}
+use Rattle.command_words.proofs.Outcomes.{Comes, bad, good}
+use Rattle.command_words.proofs.Walks.{walk_comes}
 use Rattle.command_words.proofs.Matches.{fault_fails, fault_none, finished_is, first_is, first_single, json_matched, loops_matched, matched, option_matched, spot_matched, stands_first, start}
 
+-- the words of a command line are UTF-8
 pub all_utf8 : {Z : Type 0} (words : List (String Z)) → AllByRecursion IsUtf8 (map string_bytes words)
 all_utf8 [] = tt
 all_utf8 (w ∷ ws) = (IsUtf8-string_bytes w, all_utf8 ws)
@@ -40,6 +41,7 @@ refused words u k among items is fit = go (comes_of words u)
     go (good more place spelled none stands at_top) = subst (IsAmong k) (fault_none words none at_top) among
     go (bad fails never) = never items is fit
 
+-- what is found is what the items of the words say
 pub record IsReadAs (words : List Text) (f : Found) : Type 0 where
   pub items : List Item
   pub spelled : taken_of None words ≡ Some items
@@ -60,6 +62,7 @@ on_or : (o : Option Text) → is_on (option_and_then (λ vs. slice_get vs 0) (or
 on_or None = refl
 on_or (Some v) = refl
 
+-- words without a fault spell items that fit, and these are found
 pub taken : (words : List Text) (f : Found) → AllByRecursion IsUtf8 words → fault_of check_app words ≡ [] → rows_of f ≡ matches_of check_app words → IsReadAs words f
 taken words f u none rows = go (comes_of words u)
   where

@@ -17,16 +17,19 @@ pub data Spot : Type 0 where
   second : Spot
   third : Spot
 
+-- the id of a positional word
 abbrev pub spot_id : Spot → Text
 spot_id first = codes "command"
 spot_id second = codes "rows"
 spot_id third = codes "start"
 
+-- its rule
 abbrev pub spot_rule : Spot → Rule
 spot_rule first = with_index 1 (filled (new_rule (codes "command")))
 spot_rule second = with_index 2 (filled (new_rule (codes "rows")))
 spot_rule third = with_index 3 (filled (new_rule (codes "start")))
 
+-- the rule of an option or a flag
 abbrev pub rule : Name → Rule
 rule Low = filled (option_rule (codes "low"))
 rule High = filled (option_rule (codes "high"))
@@ -36,26 +39,33 @@ rule Block = filled (option_rule (codes "block"))
 rule Loops = filled (flag_rule (codes "loops"))
 rule Json = filled (flag_rule (codes "json"))
 
+-- all rules of the command, in their order
 abbrev pub rules : List Rule
 rules = rule Low ∷ rule High ∷ rule Rack ∷ rule Hold ∷ rule Block ∷ rule Loops ∷ rule Json ∷ spot_rule first ∷ spot_rule second ∷ spot_rule third ∷ []
 
+-- the shape of the command
 abbrev pub shape : Shape
 shape = (built check_app).top
 
+-- its rules are these
 pub rules_are : shape.rules ≡ rules
 rules_are = refl
 
+-- the command is a simple one
 pub is_simple_app : is_simple check_app ≡ true
 is_simple_app = refl
 
+-- and has no ties between its arguments
 pub is_free_app : is_simple_and_free check_app ≡ true
 is_free_app = refl
 
+-- the place of a positional word, from 0
 abbrev pub spot_at : Spot → ℕ
 spot_at first = 0
 spot_at second = 1
 spot_at third = 2
 
+-- the rule under the id of an option
 pub by_id : (n : Name) → arg_by_id shape.rules (spelling n) ≡ Some (rule n)
 by_id Low = refl
 by_id High = refl
@@ -65,6 +75,7 @@ by_id Block = refl
 by_id Loops = refl
 by_id Json = refl
 
+-- the rule under the id of a positional word
 pub by_spot_id : (s : Spot) → arg_by_id shape.rules (spot_id s) ≡ Some (spot_rule s)
 by_spot_id first = refl
 by_spot_id second = refl
@@ -83,18 +94,22 @@ long_by_tests false false false false false true g = refl
 long_by_tests false false false false false false true = refl
 long_by_tests false false false false false false false = refl
 
+-- the rule of the name behind `--`
 pub by_long : (t : Text) → arg_by_long shape.rules t ≡ option_map rule (name_of t)
 by_long t = long_by_tests (bytes_eq (spelling Low) t) (bytes_eq (spelling High) t) (bytes_eq (spelling Rack) t) (bytes_eq (spelling Hold) t)
     (bytes_eq (spelling Block) t) (bytes_eq (spelling Loops) t) (bytes_eq (spelling Json) t)
 
+-- no letter has a rule
 pub by_short : (x : ℕ) → arg_by_short shape.rules x ≡ None
 by_short x = refl
 
+-- the rule at the place of a positional word
 pub by_index : (s : Spot) → arg_by_index shape.rules (1 + spot_at s) ≡ Some (spot_rule s)
 by_index first = refl
 by_index second = refl
 by_index third = refl
 
+-- there is no fourth positional word
 pub past_index : arg_by_index shape.rules 4 ≡ None
 past_index = refl
 
@@ -103,6 +118,7 @@ no_more : (ks : Kinds) → or_else ks [] ≡ ks
 no_more [] = refl
 no_more (k ∷ ks) = refl
 
+-- a value of an option is at fault only where it stands already
 pub option_use : (n : Name) (v : Text) (rows : List Row) → is_flag n ≡ false → use_fault false (rule n) (v ∷ []) rows ≡ repeat_fault false (spelling n) rows
 option_use Low v rows flag = no_more _
 option_use High v rows flag = no_more _
@@ -112,6 +128,7 @@ option_use Block v rows flag = no_more _
 option_use Loops v rows bad = absurd (true≢false bad)
 option_use Json v rows bad = absurd (true≢false bad)
 
+-- so is a flag
 pub flag_use : (n : Name) (rows : List Row) → is_flag n ≡ true → use_fault false (rule n) [] rows ≡ repeat_fault false (spelling n) rows
 flag_use Loops rows flag = no_more _
 flag_use Json rows flag = no_more _
@@ -121,6 +138,7 @@ flag_use Rack rows bad = absurd (false≢true bad)
 flag_use Hold rows bad = absurd (false≢true bad)
 flag_use Block rows bad = absurd (false≢true bad)
 
+-- so is a positional word
 pub spot_use : (s : Spot) (v : Text) (rows : List Row) → use_fault false (spot_rule s) (v ∷ []) rows ≡ repeat_fault false (spot_id s) rows
 spot_use first v rows = no_more _
 spot_use second v rows = no_more _
@@ -136,6 +154,7 @@ waiting_use Block rows flag = refl
 waiting_use Loops rows bad = absurd (true≢false bad)
 waiting_use Json rows bad = absurd (true≢false bad)
 
+-- an option takes a value where it is no flag
 pub takes_its_value : (n : Name) → takes_values (rule n) ≡ not (is_flag n)
 takes_its_value Low = refl
 takes_its_value High = refl
@@ -145,6 +164,7 @@ takes_its_value Block = refl
 takes_its_value Loops = refl
 takes_its_value Json = refl
 
+-- the id of an option is its name
 pub rule_id : (n : Name) → (rule n).id ≡ spelling n
 rule_id Low = refl
 rule_id High = refl

@@ -12,19 +12,24 @@ use Rattle.std.proofs.lemmas.Bool.{true≢false}
 use Rattle.command_words.specs.Grammar.{Name, Text, Low, High, Rack, Hold, Block, Loops, Json, spelling, is_flag, name_of}
 use Rattle.command_words.proofs.Rules.{Spot, first, second, third, shape, rule, spot_rule, spot_id, spot_at, by_long, by_index, takes_its_value, rule_id}
 
+-- there is a fault
 abbrev pub Fails : Kinds → Type 0
 Fails ks = ks ≡ [] → ⊥
 
+-- the first fault is one
 pub fails_here : (k : ErrorKind) (ks : Kinds) → Fails (k ∷ ks)
 fails_here k ks e = cc
 
+-- a fault of the first is one of both
 pub fails_first : (ks ls : Kinds) → Fails ks → Fails (or_else ks ls)
 fails_first [] ls h e = h refl
 fails_first (k ∷ ks) ls h e = h e
 
+-- the walk that holds this, waits so, and stands at this place, behind `--` or not
 abbrev pub at : Held → Waiting → ℕ → Bool → Walk
 at h waiting position is_trailing = record { held = h; waiting = waiting; position = position; is_trailing = is_trailing; stopped = None }
 
+-- the walk after the words
 abbrev pub end_of : Walk → List Text → Walk
 end_of w words = fold (walked shape.rules []) w words
 
@@ -32,10 +37,12 @@ end_of w words = fold (walked shape.rules []) w words
 abbrev pub faults_from : Walk → List Text → Kinds
 faults_from w words = or_else (walk_fault shape [] w words) (settle_fault shape.rules false (end_of w words).held)
 
+-- at the end what is pending is settled
 pub faults_at_end : (w : Walk) → faults_from w [] ≡ settle_fault shape.rules false w.held
 unfolding walk_fault
 faults_at_end w = refl
 
+-- a word without a fault is passed
 pub faults_step : (w after : Walk) (word : Text) (words : List Text) → turn_fault shape [] w word ≡ [] → walked shape.rules [] w word ≡ after
     → faults_from w (word ∷ words) ≡ faults_from after words
 unfolding walk_fault
@@ -43,10 +50,12 @@ faults_step w after word words none moves =
     ap (λ ks. or_else (or_else ks (walk_fault shape [] (walked shape.rules [] w word) words)) (settle_fault shape.rules false (end_of w (word ∷ words)).held)) none
     ∙ ap (λ v. faults_from v words) moves
 
+-- a word at fault ends the walk
 pub faults_stuck : (w : Walk) (word : Text) (words : List Text) → Fails (turn_fault shape [] w word) → Fails (faults_from w (word ∷ words))
 unfolding walk_fault
 faults_stuck w word words h = fails_first _ _ (fails_first _ _ h)
 
+-- the command has no subcommands
 pub no_subcommand : (waiting : Waiting) (word : Text) → subcommand_met [] waiting word ≡ None
 no_subcommand idle word = refl
 no_subcommand (option id) word = refl
@@ -54,14 +63,17 @@ no_subcommand positional word = refl
 
 -- ---- `--`
 
+-- the word `--`
 abbrev pub dashes : Text
 dashes = 45 ∷ 45 ∷ []
 
+-- it is no fault
 pub turn_dashes : (h : Held) (waiting : Waiting) (p : ℕ) → turn_fault shape [] (at h waiting p false) dashes ≡ []
 turn_dashes h idle p = refl
 turn_dashes h (option id) p = refl
 turn_dashes h positional p = refl
 
+-- and what follows it is positional
 pub move_dashes : (h : Held) (waiting : Waiting) (p : ℕ) → walked shape.rules [] (at h waiting p false) dashes ≡ at h waiting p true
 unfolding walked
 move_dashes h idle p = refl
@@ -70,6 +82,7 @@ move_dashes h positional p = refl
 
 -- ---- a word that begins with `--`
 
+-- an unknown option is a fault
 pub unknown_stuck : (h : Held) (waiting : Waiting) (p : ℕ) (word name : Text) (v : Option Text) → bytes_eq word dashes ≡ false → long_of word ≡ Some (name, v)
     → name_of name ≡ None → Fails (turn_fault shape [] (at h waiting p false) word)
 unknown_stuck h waiting p word name v other is unknown =
@@ -82,6 +95,7 @@ pub record IsLong (word name : Text) (v : Option Text) (n : Name) : Type 0 where
   pub long : long_of word ≡ Some (name, v)
   pub names : name_of name ≡ Some n
 
+-- an option by its long name has its rule
 pub long_rule : (word name : Text) (v : Option Text) (n : Name) → IsLong word name v n → arg_by_long shape.rules name ≡ Some (rule n)
 long_rule word name v n is = by_long name ∙ ap (option_map rule) is.names
 
@@ -110,15 +124,18 @@ pub joined_turn : (h : Held) (p : ℕ) (word name v : Text) (n : Name) → IsLon
     → turn_fault shape [] (at h idle p false) word ≡ or_else (or_else (settle_fault shape.rules false h) (use_fault false (rule n) (v ∷ []) (settled shape.rules h).rows)) []
 joined_turn h p word name v n is flag = rw (is.other, is.long, long_rule word name (Some v) n is, takes_its_value n, flag) refl
 
+-- and is kept
 pub joined_move : (h : Held) (p : ℕ) (word name v : Text) (n : Name) → IsLong word name (Some v) n → is_flag n ≡ false
     → walked shape.rules [] (at h idle p false) word ≡ at (reacted shape.rules (rule n) (v ∷ []) h) idle p false
 unfolding walked
 joined_move h p word name v n is flag = rw (is.other, is.long, long_rule word name (Some v) n is, takes_its_value n, flag) refl
 
+-- a flag isn't at fault where what is pending and it itself aren't
 pub flag_turn : (h : Held) (p : ℕ) (word name : Text) (n : Name) → IsLong word name None n → is_flag n ≡ true
     → turn_fault shape [] (at h idle p false) word ≡ or_else (or_else (settle_fault shape.rules false h) (use_fault false (rule n) [] (settled shape.rules h).rows)) []
 flag_turn h p word name n is flag = rw (is.other, is.long, long_rule word name None n is, takes_its_value n, flag) refl
 
+-- and is kept
 pub flag_move : (h : Held) (p : ℕ) (word name : Text) (n : Name) → IsLong word name None n → is_flag n ≡ true
     → walked shape.rules [] (at h idle p false) word ≡ at (reacted shape.rules (rule n) [] h) idle p false
 unfolding walked
@@ -128,10 +145,12 @@ flag_move h p word name n is flag = rw (is.other, is.long, long_rule word name N
 abbrev pub awaiting : Name → Held → Held
 awaiting n h = record (settled shape.rules h) { pending = Some (spelling n, []) }
 
+-- an option without `=` isn't at fault where what is pending isn't
 pub option_turn : (h : Held) (p : ℕ) (word name : Text) (n : Name) → IsLong word name None n → is_flag n ≡ false
     → turn_fault shape [] (at h idle p false) word ≡ or_else (settle_fault shape.rules false h) []
 option_turn h p word name n is flag = rw (is.other, is.long, long_rule word name None n is, takes_its_value n, flag) refl
 
+-- and waits for its value
 pub option_move : (h : Held) (p : ℕ) (word name : Text) (n : Name) → IsLong word name None n → is_flag n ≡ false
     → walked shape.rules [] (at h idle p false) word ≡ at (awaiting n h) (option (spelling n)) p false
 unfolding walked
@@ -139,6 +158,7 @@ option_move h p word name n is flag = rw (is.other, is.long, long_rule word name
 
 -- ---- a word that begins with one hyphen
 
+-- letters behind a single `-` are a fault
 pub short_stuck : (h : Held) (waiting : Waiting) (p : ℕ) (word flags : Text) (k x : ℕ) (xs : List ℕ) → bytes_eq word dashes ≡ false → long_of word ≡ None → short_of word ≡ Some flags
     → length flags ≡ suc k → chars flags ≡ x ∷ xs → h.skip ≡ 0 → Fails (turn_fault shape [] (at h waiting p false) word)
 unfolding flags_fault
@@ -146,6 +166,7 @@ short_stuck h waiting p word flags k x xs other long short some begins skip = rw
 
 -- ---- another word
 
+-- the word is no option, no letters and not `--`
 pub record IsPlainWord (word : Text) : Type 0 where
   pub other : bytes_eq word dashes ≡ false
   pub long : long_of word ≡ None
@@ -160,6 +181,7 @@ not_several first = refl
 not_several second = refl
 not_several third = refl
 
+-- a positional word is at fault where what is pending is
 pub place_fault : (s : Spot) (h : Held) → positional_fault shape.rules false (spot_rule s) h ≡ settle_fault shape.rules false h
 place_fault s h = rw (not_several s) (and_false _ _)
 
@@ -168,15 +190,18 @@ abbrev pub place_of : Option Spot → ℕ
 place_of (Some s) = 1 + spot_at s
 place_of None = 4
 
+-- the place behind this one
 abbrev pub next_place : Spot → Option Spot
 next_place first = Some second
 next_place second = Some third
 next_place third = None
 
+-- a positional word isn't at fault where what is pending and it itself aren't
 pub place_turn : (h : Held) (s : Spot) (word : Text) → IsPlainWord word
     → turn_fault shape [] (at h idle (place_of (Some s)) false) word ≡ settle_fault shape.rules false h
 place_turn h s word is = rw (is.other, is.long, is.short, by_index s) (place_fault s h)
 
+-- a fourth positional word is a fault
 pub past_stuck : (h : Held) (word : Text) → IsPlainWord word → Fails (turn_fault shape [] (at h idle 4 false) word)
 past_stuck h word is = rw (is.other, is.long, is.short) (fails_here _ _)
 
@@ -188,11 +213,13 @@ held_unless : (b : Bool) (h k : Held) → cond (b && false) h k ≡ k
 held_unless true h k = refl
 held_unless false h k = refl
 
+-- what is kept of a positional word
 pub place_held : (h : Held) (s : Spot) (word : Text) → positional_held shape.rules (spot_rule s) word h ≡ placed s word h
 place_held h first word = ap (pushed (spot_id first) word) (held_unless (is_pending (spot_rule first) h.pending) h (settled shape.rules h))
 place_held h second word = ap (pushed (spot_id second) word) (held_unless (is_pending (spot_rule second) h.pending) h (settled shape.rules h))
 place_held h third word = ap (pushed (spot_id third) word) (held_unless (is_pending (spot_rule third) h.pending) h (settled shape.rules h))
 
+-- a positional word is kept
 pub place_move : (h : Held) (s : Spot) (word : Text) → IsPlainWord word
     → walked shape.rules [] (at h idle (place_of (Some s)) false) word ≡ at (placed s word h) idle (place_of (next_place s)) false
 unfolding walked
@@ -204,9 +231,11 @@ place_move h third word is = rw (is.other, is.long, is.short) (ap (λ (k : Held)
 pub trailing_turn : (h : Held) (s : Spot) (waiting : Waiting) (word : Text) → turn_fault shape [] (at h waiting (place_of (Some s)) true) word ≡ settle_fault shape.rules false h
 trailing_turn h s waiting word = rw (by_index s) (place_fault s h)
 
+-- behind `--` a fourth positional word is a fault
 pub trailing_stuck : (h : Held) (waiting : Waiting) (word : Text) → Fails (turn_fault shape [] (at h waiting 4 true) word)
 trailing_stuck h waiting word = fails_here _ _
 
+-- behind `--` every word is kept as positional
 pub trailing_move : (h : Held) (s : Spot) (waiting : Waiting) (word : Text)
     → walked shape.rules [] (at h waiting (place_of (Some s)) true) word ≡ at (placed s word h) idle (place_of (next_place s)) true
 unfolding walked
@@ -218,10 +247,12 @@ trailing_move h third waiting word = ap (λ (k : Held). at k idle 4 true) (place
 abbrev pub given : Name → Text → Held → Held
 given n word h = record h { pending = Some (spelling n, word ∷ []) }
 
+-- the value that an option waits for isn't at fault where it itself isn't
 pub value_turn : (h : Held) (rows : List Row) (n : Name) (p : ℕ) (word : Text) → IsPlainWord word
     → turn_fault shape [] (at (record h { pending = Some (spelling n, []) }) (option (spelling n)) p false) word ≡ []
 value_turn h rows n p word is = rw (is.other, is.long, is.short) refl
 
+-- and is kept
 pub value_move : (h : Held) (n : Name) (p : ℕ) (word : Text) → IsPlainWord word → is_flag n ≡ false
     → walked shape.rules [] (at (record h { pending = Some (spelling n, []) }) (option (spelling n)) p false) word ≡ at (given n word h) idle p false
 unfolding walked

@@ -5,7 +5,7 @@ ghost use Rattle.std.specs.List.{list_all};
 ghost use Rattle.command_words.specs.Numbers.{count_of, digits_of, is_number, number_of};
 
 /// How many digits a number has at most.
-const MOST_DIGITS: usize = 10;
+const MAX_DIGITS: usize = 10;
 
 /// The text without a first hyphen.
 fn digits(text: &[u8]) -> &[u8]
@@ -28,7 +28,7 @@ pub fn is_numeral(text: &str) -> bool
     ensures { result ≡ is_number text.now }
 {
     let digits = digits(text.as_bytes());
-    1 <= digits.len() && digits.len() <= MOST_DIGITS && are_digits(digits)
+    1 <= digits.len() && digits.len() <= MAX_DIGITS && are_digits(digits)
 }
 
 /// The number that a text writes, if it writes one. A `+` is no part of a number.

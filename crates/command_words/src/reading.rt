@@ -10,13 +10,13 @@ use crate::{Command, Request, WordFault};
 use machine_profile::Options;
 use std::alloc::Global;
 
-const LEAST_ROWS: u32 = 1;
+const MIN_ROWS: u32 = 1;
 
-const GREATEST_ROWS: u32 = 20_000;
+const MAX_ROWS: u32 = 20_000;
 
-const LEAST_START: u32 = 0;
+const MIN_START: u32 = 0;
 
-const GREATEST_START: u32 = 2_147_483_647;
+const MAX_START: u32 = 2_147_483_647;
 
 /// The command of one word.
 fn plain_command(word: &str, loops: bool, json: bool) -> Option<Command>
@@ -44,8 +44,8 @@ fn make_command(word: &str, rows: &str, start: &str) -> Option<Command>
     if word != "make" {
         return None;
     }
-    let rows = count(rows, LEAST_ROWS, GREATEST_ROWS)?;
-    let start = count(start, LEAST_START, GREATEST_START)?;
+    let rows = count(rows, MIN_ROWS, MAX_ROWS)?;
+    let start = count(start, MIN_START, MAX_START)?;
     Some(Command::Make { rows, start })
 }
 

@@ -1,4 +1,5 @@
 pub mod Edge
 pub mod Faults
+pub mod Gates
 pub mod Memory
 pub mod Whole

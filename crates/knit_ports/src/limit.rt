@@ -1,4 +1,7 @@
-//! The limit of an input.
+//! The limits of an input and of a call.
 
 /// The greatest number of bytes of an input.
 pub const INPUT_LIMIT: usize = 16_777_216;
+
+// How often a call is made that a signal interrupts each time.
+pub(crate) const TRIES: u32 = 1_000;

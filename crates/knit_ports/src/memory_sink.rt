@@ -1,5 +1,5 @@
 //! A sink in memory that takes pieces of a stated size up to its room and fails at stated calls.
-ghost use Rattle.std.specs.Prelude.{◌≡◌, ◌<◌, ◌≤◌, [], length, Contains, IfOk, IsErr, OnOk, Some};
+ghost use Rattle.std.specs.Prelude.{◌≡◌, ◌-◌, ◌<◌, ◌≤◌, [], length, min, Contains, IfOk, IsErr, OnOk, Some};
 ghost use Rattle.std.specs.Io.{WritesAtMost};
 ghost use Rattle.std.specs.Io.KnownBytes.{WriteAppends};
 ghost use Rattle.knit_ports.specs.Faults.{HasCause};
@@ -10,7 +10,8 @@ use knit_base::NoMemory;
 use std::alloc::Global;
 use std::marker::Model;
 
-/// Takes bytes up to a room, at most a piece at each call, and the calls with the listed numbers, from 1, fail.
+/// Takes bytes up to a room, at most a piece at each call. The calls with the listed numbers, from 1, fail, and so does one
+/// that has bytes and finds the room full.
 #[derive(Drop)]
 pub struct MemorySink {
     bytes: Vec<u8>,
@@ -69,7 +70,7 @@ impl Sink for MemorySink {
         ensures cause { HasCause self.old.faults self.new.faults result }
         ensures failed { IsErr result → RefusesWrite self.old self.new.calls piece.now }
         ensures listed { RefusesWrite self.old self.new.calls piece.now → IsErr result }
-        ensures piece { IfOk result (λ n. n ≤ self.old.piece) }
+        ensures given { IfOk result (λ n. n ≡ min (min (length piece.now) (self.old.room - length self.old.taken)) self.old.piece) }
         ensures calm { OnOk result (self.new.faults ≡ self.old.faults) }
         ensures calls { self.new.calls ≡ calls_after self.old.calls }
         ensures kept { KeepsRoom self.old self.new }

@@ -4,15 +4,13 @@ ghost use Rattle.std.specs.Prelude.{◌≡◌};
 ghost use Rattle.std.specs.Io.{ReadsAtMost};
 ghost use Rattle.std.specs.Io.KnownBytes.{ReadConsumes};
 
+use crate::limit::TRIES;
 use crate::{Failed, Source};
 use std::io::{ErrorKind, Read};
 use std::marker::Model;
 
-// How often a read is made that a signal interrupts each time.
-const TRIES: u32 = 1_000;
-
-/// A source over a reader of std. Its count rises at each read that fails. A read that a signal interrupts is made again,
-/// 1,000 times at most.
+/// A source over a reader of std. Its count of faults rises at each read that fails. A read that a signal interrupts is made
+/// again, and fails if 1,000 in a row are interrupted.
 #[derive(Drop)]
 pub struct ReaderSource<R> {
     reader: R,
@@ -68,3 +66,6 @@ fn read_once<R: Read>(reader: &mut R, piece: &mut [u8]) -> Result<usize, Failed>
     }
     Err(Failed)
 }
+
+#[cfg(test)]
+mod tests;

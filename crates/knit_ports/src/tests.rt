@@ -1,17 +1,18 @@
 //! Each call once, with ample memory: which bytes come and go, and which calls fail.
-ghost use Rattle.std.specs.Prelude.{◌<◌};
+ghost use Rattle.std.specs.Prelude.{◌<◌, None};
 
 use crate::{
-    CalmSource, CountGate, Failed, Gate, IdleGate, InputFault, MemorySink, MemorySource, ReaderSource, Sink,
-    Source, WriterSink, read_input, write_report,
+    CalmSource, CountGate, Failed, Gate, IdleGate, InputFault, MemorySink, MemorySource,
+    ReaderSource, Sink, Source, WriterSink, read_input, write_report,
 };
 use std::test::Fail;
 
-// The limit of the inputs below. It is passed on, since a number that is written out computes for long in a proof.
-fn limit() -> usize
-    ensures { result < 100 }
+// A limit, passed on, since a number that is written out computes for long in a proof.
+fn within(limit: usize) -> usize
+    requires { limit < 100_000 }
+    ensures { result < 100_000 }
 {
-    7
+    limit
 }
 
 #[test]
@@ -44,17 +45,17 @@ fn a_sink_in_memory_takes_pieces_up_to_its_room(rt: HostRuntime) -> Result<(), F
 #[test]
 fn an_input_is_read_whole(rt: HostRuntime) -> Result<(), Fail> {
     let mut calm = CalmSource::of(vec![in rt.alloc(); 1, 2, 3]?);
-    let input = read_input(rt.alloc(), &mut calm, limit())?;
+    let input = read_input(rt.alloc(), &mut calm, within(7))?;
     assert_eq!(rt; input.as_slice(), [1, 2, 3].as_slice());
 
     let nine = vec![in rt.alloc(); 1, 2, 3, 4, 5, 6, 7, 8, 9]?;
     let mut large = MemorySource::of(nine, 3, Vec::new(rt.alloc()));
-    let input = read_input(rt.alloc(), &mut large, limit())?;
+    let input = read_input(rt.alloc(), &mut large, within(7))?;
     assert_eq!(rt; input.as_slice(), [1, 2, 3, 4, 5, 6, 7, 8].as_slice());
 
     let failing = vec![in rt.alloc(); 2]?;
     let mut broken = MemorySource::of(vec![in rt.alloc(); 1, 2, 3]?, 2, failing);
-    match read_input(rt.alloc(), &mut broken, limit()) {
+    match read_input(rt.alloc(), &mut broken, within(7)) {
         Ok(_) => assert!(rt; false),
         Err(fault) => assert_eq!(rt; fault, InputFault::Failed),
     }
@@ -68,6 +69,74 @@ fn a_report_is_written_whole(rt: HostRuntime) -> Result<(), Fail> {
     assert_eq!(rt; write_report(&mut sink, &[4]), Err(Failed));
     assert_eq!(rt; sink.as_slice(), [1, 2, 3].as_slice());
     Ok(())
+}
+
+// Gives a stated number of zeros at each read, or as many as it is offered, and records what it is offered.
+#[derive(Drop)]
+struct RecordingSource {
+    gives: usize,
+    offered: [usize; 3],
+    calls: usize,
+}
+
+impl Source for RecordingSource {
+    ghost left = { λ _. None };
+
+    ghost faults = { λ _. 0 };
+
+    fn read(&mut self, piece: &mut [u8]) -> Result<usize, Failed> {
+        if self.calls < 3 {
+            self.offered[self.calls] = piece.len();
+        }
+        self.calls = self.calls.saturating_add(1);
+        Ok(piece.len().min(self.gives))
+    }
+}
+
+#[test]
+fn a_read_is_offered_a_large_piece_or_what_is_missing(rt: HostRuntime) -> Result<(), Fail> {
+    let mut source = RecordingSource {
+        gives: 65_500,
+        offered: [0; 3],
+        calls: 0,
+    };
+    let input = read_input(rt.alloc(), &mut source, within(65_540))?;
+    assert_eq!(rt; input.len(), 65_541);
+    assert_eq!(rt; source.offered, [65_536, 41, 0]);
+    assert_eq!(rt; source.calls, 2);
+    Ok(())
+}
+
+// Takes two bytes at each write, or as many as it is handed, and records how many it is handed.
+#[derive(Drop)]
+struct RecordingSink {
+    handed: [usize; 4],
+    calls: usize,
+}
+
+impl Sink for RecordingSink {
+    ghost taken = { λ _. None };
+
+    ghost faults = { λ _. 0 };
+
+    fn write(&mut self, piece: &[u8]) -> Result<usize, Failed> {
+        if self.calls < 4 {
+            self.handed[self.calls] = piece.len();
+        }
+        self.calls = self.calls.saturating_add(1);
+        Ok(piece.len().min(2))
+    }
+}
+
+#[test]
+fn a_write_is_handed_all_that_is_left(rt: HostRuntime) {
+    let mut sink = RecordingSink {
+        handed: [0; 4],
+        calls: 0,
+    };
+    assert_eq!(rt; write_report(&mut sink, &[1, 2, 3, 4, 5]), Ok(()));
+    assert_eq!(rt; sink.handed, [5, 3, 1, 0]);
+    assert_eq!(rt; sink.calls, 3);
 }
 
 #[test]

@@ -36,7 +36,10 @@ impl From<AllocError> for InputFault {
 }
 
 /// Reads a source to its end, or until it has given a byte more than the limit. An input that was read whole has at most
-/// as many bytes as the limit says.
+/// as many bytes as the limit says. Each read is offered 65,536 bytes, or what is missing to one past the limit.
+///
+/// After an error the bytes that the source has given are lost: at most as many as the limit where a read failed, and one
+/// more where memory ran out, which isn't tied to a fault of the source.
 pub fn read_input<S: Source>(
     alloc: Global,
     source: &mut S,
@@ -48,6 +51,7 @@ pub fn read_input<S: Source>(
     ensures whole { IfOk result (λ bytes. length bytes.items ≤ limit → IsAtEnd (S.left source.new)) }
     ensures failed { IsErrOf result InputFault.Failed → Rose (S.faults source.old) (S.faults source.new) }
     ensures gave { IsErrOf result InputFault.Failed → GaveAtMost limit (S.left source.old) (S.left source.new) }
+    ensures lost { IsErrOf result InputFault.NoMemory → GaveAtMost (limit + 1) (S.left source.old) (S.left source.new) }
 {
     let mut bytes = Vec::new(alloc);
     let mut piece = zeros(alloc, PIECE)?;
@@ -77,6 +81,7 @@ fn read_piece<S: Source>(
     ensures ok { IfOk result (λ n. GavePiece (S.left source.old) (S.left source.new) bytes.old.items bytes.new.items (length piece.old) n) }
     ensures failed { IsErrOf result InputFault.Failed → Rose (S.faults source.old) (S.faults source.new) }
     ensures kept { IsErrOf result InputFault.Failed → Keeps (S.left source.old) (S.left source.new) }
+    ensures lost { IsErrOf result InputFault.NoMemory → GaveAtMost (length piece.old) (S.left source.old) (S.left source.new) }
     ensures later { S.faults source.old ≤ S.faults source.new }
 {
     let given = source.read(piece)?;

@@ -4,15 +4,13 @@ ghost use Rattle.std.specs.Prelude.{◌≡◌, ◌<◌, length, IfOk};
 ghost use Rattle.std.specs.Io.{WritesAtMost};
 ghost use Rattle.std.specs.Io.KnownBytes.{WriteAppends};
 
+use crate::limit::TRIES;
 use crate::{Failed, Sink};
 use std::io::{ErrorKind, Write};
 use std::marker::Model;
 
-// How often a write is made that a signal interrupts each time.
-const TRIES: u32 = 1_000;
-
-/// A sink over a writer of std. Its count rises at each write that fails or takes nothing of a piece that isn't empty. A
-/// write that a signal interrupts is made again, 1,000 times at most.
+/// A sink over a writer of std. Its count of faults rises at each write that fails or takes nothing of a piece that isn't
+/// empty. A write that a signal interrupts is made again, and fails if 1,000 in a row are interrupted.
 #[derive(Drop)]
 pub struct WriterSink<W> {
     writer: W,
@@ -74,3 +72,6 @@ fn write_once<W: Write>(writer: &mut W, piece: &[u8]) -> Result<usize, Failed>
     }
     Err(Failed)
 }
+
+#[cfg(test)]
+mod tests;

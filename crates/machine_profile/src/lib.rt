@@ -12,36 +12,36 @@ ghost use Rattle.machine_profile.specs.Bounds.{HasValues, IsBlockSize, IsChosen,
 use knit_base::Profile;
 
 // Needles, by their numbers on a bed.
-const LEAST_NEEDLE: i64 = -4096;
+const MIN_NEEDLE: i64 = -4096;
 
-const GREATEST_NEEDLE: i64 = 4096;
+const MAX_NEEDLE: i64 = 4096;
 
-const USUAL_LOW: i64 = -1024;
+const DEFAULT_LOW: i64 = -1024;
 
-const USUAL_HIGH: i64 = 1023;
+const DEFAULT_HIGH: i64 = 1023;
 
 // How far the beds rack, in needles.
-const LEAST_RACK: i64 = 0;
+const MIN_RACK: i64 = 0;
 
-const GREATEST_RACK: i64 = 64;
+const MAX_RACK: i64 = 64;
 
-const USUAL_RACK: i64 = 8;
+const DEFAULT_RACK: i64 = 8;
 
 // Loops on one needle.
-const LEAST_HOLD: i64 = 1;
+const MIN_HOLD: i64 = 1;
 
-const GREATEST_HOLD: i64 = 64;
+const MAX_HOLD: i64 = 64;
 
-const USUAL_HOLD: i64 = 16;
+const DEFAULT_HOLD: i64 = 16;
 
 // Body lines of an opening block.
-const LEAST_BLOCK: i64 = 1;
+const MIN_BLOCK: i64 = 1;
 
-const GREATEST_BLOCK: i64 = 4096;
+const MAX_BLOCK: i64 = 4096;
 
-const USUAL_BLOCK: i64 = 64;
+const DEFAULT_BLOCK: i64 = 64;
 
-/// The values that the options of a command line give; one that isn't given has its usual value.
+/// The values that the options of a command line give; one that isn't given has its default value.
 #[derive(Clone, Copy, Debug, PartialEq, Eq)]
 pub struct Options {
     /// The lowest needle of a bed.
@@ -124,16 +124,16 @@ pub fn profile_of(options: &Options) -> Result<Chosen, BadOption>
     ensures lawful { IfOk result (λ chosen. IsLawfulProfile chosen.profile) }
     ensures block { IfOk result (λ chosen. IsBlockSize chosen.block) }
 {
-    let low = options.low.unwrap_or(USUAL_LOW);
-    let low = within(Which::Low, LEAST_NEEDLE, GREATEST_NEEDLE, low)?;
-    let high = options.high.unwrap_or(USUAL_HIGH);
-    let high = within(Which::High, low, GREATEST_NEEDLE, high)?;
-    let rack = options.rack.unwrap_or(USUAL_RACK);
-    let rack = within(Which::Rack, LEAST_RACK, GREATEST_RACK, rack)?;
-    let hold = options.hold.unwrap_or(USUAL_HOLD);
-    let hold = within(Which::Hold, LEAST_HOLD, GREATEST_HOLD, hold)?;
-    let block = options.block.unwrap_or(USUAL_BLOCK);
-    let block = within(Which::Block, LEAST_BLOCK, GREATEST_BLOCK, block)?;
+    let low = options.low.unwrap_or(DEFAULT_LOW);
+    let low = within(Which::Low, MIN_NEEDLE, MAX_NEEDLE, low)?;
+    let high = options.high.unwrap_or(DEFAULT_HIGH);
+    let high = within(Which::High, low, MAX_NEEDLE, high)?;
+    let rack = options.rack.unwrap_or(DEFAULT_RACK);
+    let rack = within(Which::Rack, MIN_RACK, MAX_RACK, rack)?;
+    let hold = options.hold.unwrap_or(DEFAULT_HOLD);
+    let hold = within(Which::Hold, MIN_HOLD, MAX_HOLD, hold)?;
+    let block = options.block.unwrap_or(DEFAULT_BLOCK);
+    let block = within(Which::Block, MIN_BLOCK, MAX_BLOCK, block)?;
     Ok(chosen_with(low, high, rack, hold, block))
 }
 
@@ -150,7 +150,7 @@ mod tests {
     };
 
     #[test]
-    fn the_usual_values_are_chosen(rt: HostRuntime) {
+    fn the_defaults_are_chosen(rt: HostRuntime) {
         let profile = Profile {
             low: -1024,
             high: 1023,

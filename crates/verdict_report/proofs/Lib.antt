@@ -1,4 +1,4 @@
 pub mod Chain
+pub mod CompactText
 pub mod Names
-pub mod Plain
-pub mod Written
+pub mod PlainText

@@ -1,4 +1,4 @@
--- The text of a verdict's value piece by piece, for private clauses. `proofs/Written` shows that it is the value's compact text.
+-- The text of a verdict's value piece by piece, for private clauses. `proofs/CompactText` shows that it is the value's compact text.
 use Rattle.std.specs.Prelude.{ℕ, Option, None, Some, List, [], ◌∷◌, ◌++◌, length, flat_map, codes, decimal, unwrap_or, slice_get}
 use Rattle.json.specs.Print.{quoted}
 use Rattle.knit_base.specs.Spelling.{dir_word, needle_text, rack_text, rule_name}
@@ -23,6 +23,7 @@ next_text text item = codes "," ++ text item
 abbrev pub more_text : {A : Type 0} → (A → Text) → List A → Text
 more_text text items = flat_map (next_text text) items
 
+-- the items in brackets, with commas between
 abbrev pub list_text : {A : Type 0} → (A → Text) → List A → Text
 list_text text [] = codes "[]"
 list_text text (item ∷ items) = codes "[" ++ (text item ++ (more_text text items ++ codes "]"))
@@ -31,23 +32,23 @@ list_text text (item ∷ items) = codes "[" ++ (text item ++ (more_text text ite
 abbrev pub string_of : List Text → CarrierNo → Text
 string_of strings c = unwrap_or (slice_get strings c.0) (codes "\"\"")
 
--- lists behind their keys
-abbrev pub names_member : Text → List Text → List CarrierNo → Text
-names_member key strings carriers = key ++ list_text (string_of strings) carriers
+-- a list behind its key
+abbrev pub list_member : {A : Type 0} → Text → (A → Text) → List A → Text
+list_member key text items = key ++ list_text text items
 
-abbrev pub lines_member : Text → List ℕ → Text
-lines_member key lines = key ++ list_text decimal lines
-
+-- the names of a set of carriers, behind their key
 abbrev pub set_member : Text → List Text → ℕ → Text
-set_member key strings set = names_member key strings (carriers_in (length strings) set)
+set_member key strings set = list_member key (string_of strings) (carriers_in (length strings) set)
 
 -- the needle, behind a list or a number
 abbrev pub needle_member : Needle → Text
 needle_member needle = codes ",\"needle\":\"" ++ (needle_text needle ++ codes "\"")
 
+-- a needle and its loops
 unfoldable pub stack_json : Stack → Text
-stack_json stack = lines_member (codes "{\"loops\":") stack.loops ++ (needle_member stack.needle ++ codes "}")
+stack_json stack = list_member (codes "{\"loops\":") decimal stack.loops ++ (needle_member stack.needle ++ codes "}")
 
+-- the first member of a loop
 abbrev pub dir_member : Dir → Text
 dir_member dir = codes "{\"dir\":\"" ++ (dir_word dir ++ codes "\"")
 
@@ -55,31 +56,39 @@ dir_member dir = codes "{\"dir\":\"" ++ (dir_word dir ++ codes "\"")
 unfoldable pub loop_place : LoopFact → Text
 loop_place fact = dir_member fact.dir ++ (labelled (codes ",\"line\":") fact.line ++ needle_member fact.needle)
 
+-- a loop
 unfoldable pub loop_json : List Text → LoopFact → Text
-loop_json strings fact = loop_place fact ++ (lines_member (codes ",\"through\":") fact.through
-    ++ (names_member (codes ",\"yarns\":") strings fact.yarns ++ codes "}"))
+loop_json strings fact = loop_place fact ++ (list_member (codes ",\"through\":") decimal fact.through
+    ++ (list_member (codes ",\"yarns\":") (string_of strings) fact.yarns ++ codes "}"))
 
+-- the loops made, where they are asked for
 abbrev pub loops_member : List Text → Option (List LoopFact) → Text
 loops_member strings None = codes ""
-loops_member strings (Some facts) = codes ",\"made_loops\":" ++ list_text (loop_json strings) facts
+loops_member strings (Some facts) = list_member (codes ",\"made_loops\":") (loop_json strings) facts
 
+-- the members of a sound verdict before the loops made
 abbrev pub sound_front : List Text → Final → Text
 sound_front strings final = labelled (codes "{\"held\":") (held_of final.stacks) ++ (set_member (codes ",\"hook\":") strings final.hook
     ++ (set_member (codes ",\"in\":") strings final.ins ++ (labelled (codes ",\"lines\":") final.lines ++ labelled (codes ",\"made\":") final.made)))
 
+-- the members of a sound verdict behind the loops made
 abbrev pub sound_back : Final → Text
-sound_back final = codes ",\"needles\":" ++ (list_text stack_json final.stacks ++ (codes ",\"rack\":\"" ++ (rack_text final.rack.0 ++ codes "\",\"verdict\":\"sound\"}")))
+sound_back final = list_member (codes ",\"needles\":") stack_json final.stacks ++ (codes ",\"rack\":\"" ++ (rack_text final.rack.0 ++ codes "\",\"verdict\":\"sound\"}"))
 
+-- the members of a broken verdict before the loops made
 abbrev pub broken_front : Fault → Text
 broken_front fault = labelled (codes "{\"at\":") fault.reason.at ++ labelled (codes ",\"line\":") fault.line
 
+-- the members of a broken verdict behind the loops made
 abbrev pub broken_back : Text → Rule → Text
 broken_back line rule = codes ",\"rule\":\"" ++ (rule_name rule ++ (codes "\",\"text\":" ++ (quoted line ++ codes ",\"verdict\":\"broken\"}")))
 
+-- the members before the loops made
 abbrev pub front_text : List Text → Verdict → Text
 front_text strings (Sound final) = sound_front strings final
 front_text strings (Broken fault) = broken_front fault
 
+-- the members behind the loops made
 abbrev pub back_text : Text → Verdict → Text
 back_text line (Sound final) = sound_back final
 back_text line (Broken fault) = broken_back line fault.reason.rule

@@ -11,6 +11,7 @@ bad_line line cause = codes "bad input: line " ++ (decimal line ++ cause)
 abbrev pub bad_head_line : ℕ → List ℕ → List ℕ
 bad_head_line line cause = codes "bad input: head line " ++ (decimal line ++ cause)
 
+-- the line of a refusal
 abbrev pub refusal_text : Refusal → List ℕ
 refusal_text Usage = codes "usage: check_main check|text|passes|live|make N START [options]\n"
 refusal_text ReadFault = codes "read fault\n"

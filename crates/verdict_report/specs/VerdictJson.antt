@@ -14,22 +14,28 @@ use Rattle.carriage_model.specs.declared.verdict.Verdict.TheVariants.{Sound, Bro
 use Rattle.verdict_report.specs.Carriers.{carriers_in, name_of}
 use Rattle.verdict_report.specs.VerdictText.{Text, held_of}
 
+-- a list, item by item
 abbrev pub list_value : {A : Type 0} → (A → Data) → List A → Data
 list_value value items = array (items_of (map value items))
 
+-- a number
 abbrev pub count_value : ℕ → Data
 count_value n = number (unsigned n)
 
+-- a carrier, by its name
 abbrev pub name_value : List Text → CarrierNo → Data
 name_value names c = string (name_of names c)
 
+-- the names of a set of carriers, in the order of the header
 abbrev pub set_value : List Text → ℕ → Data
 set_value names set = list_value (name_value names) (carriers_in (length names) set)
 
+-- a needle, and the lines of its loops in the order of arrival
 abbrev pub stack_value : Stack → Data
 stack_value stack = object (member (codes "loops") (list_value count_value stack.loops)
     (member (codes "needle") (string (needle_text stack.needle)) no_members))
 
+-- a loop: its direction, line and needle, the lines of the loops that it goes through, and its carriers
 abbrev pub loop_value : List Text → LoopFact → Data
 loop_value names fact = object (member (codes "dir") (string (dir_word fact.dir))
     (member (codes "line") (count_value fact.line)
@@ -42,6 +48,7 @@ abbrev pub with_loops : List Text → Option (List LoopFact) → Members → Mem
 with_loops names None rest = rest
 with_loops names (Some facts) rest = member (codes "made_loops") (list_value (loop_value names) facts) rest
 
+-- what a sound program leaves
 abbrev pub sound_value : List Text → Final → Option (List LoopFact) → Data
 sound_value names final facts = object (member (codes "held") (count_value (held_of final.stacks))
     (member (codes "hook") (set_value names final.hook)
@@ -53,6 +60,7 @@ sound_value names final facts = object (member (codes "held") (count_value (held
     (member (codes "rack") (string (rack_text final.rack.0))
     (member (codes "verdict") (string (codes "sound")) no_members)))))))))
 
+-- the line that is at fault, as it is, the rule that it breaks, and the token at which it does
 abbrev pub broken_value : List Text → Text → Fault → Option (List LoopFact) → Data
 broken_value names line fault facts = object (member (codes "at") (count_value fault.reason.at)
     (member (codes "line") (count_value fault.line)
@@ -61,6 +69,7 @@ broken_value names line fault facts = object (member (codes "at") (count_value f
     (member (codes "text") (string line)
     (member (codes "verdict") (string (codes "broken")) no_members))))))
 
+-- a verdict, with the line of a fault as it stands in the file
 abbrev pub verdict_value : List Text → Text → Verdict → Option (List LoopFact) → Data
 verdict_value names line (Sound final) facts = sound_value names final facts
 verdict_value names line (Broken fault) facts = broken_value names line fault facts

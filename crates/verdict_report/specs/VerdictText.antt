@@ -11,6 +11,7 @@ use Rattle.carriage_model.specs.declared.verdict.Verdict.{Verdict}
 use Rattle.carriage_model.specs.declared.verdict.Verdict.TheVariants.{Sound, Broken}
 use Rattle.verdict_report.specs.Carriers.{carriers_in, name_of}
 
+-- a text, as its bytes
 abbrev pub Text : Type 0
 Text = List ℕ
 
@@ -18,6 +19,7 @@ Text = List ℕ
 abbrev pub name_word : List Text → CarrierNo → Text
 name_word names c = codes " " ++ name_of names c
 
+-- a space and the name of each carrier
 abbrev pub names_text : List Text → List CarrierNo → Text
 names_text names carriers = flat_map (name_word names) carriers
 
@@ -25,6 +27,7 @@ names_text names carriers = flat_map (name_word names) carriers
 abbrev pub line_word : ℕ → Text
 line_word line = codes " " ++ decimal line
 
+-- a space and the number of each line
 abbrev pub lines_text : List ℕ → Text
 lines_text lines = flat_map line_word lines
 
@@ -41,6 +44,7 @@ abbrev pub sound_brief : ℕ → ℕ → ℕ → ℤ → Text
 sound_brief lines made held rack =
     labelled (codes "sound lines ") lines ++ (labelled (codes " made ") made ++ (labelled (codes " held ") held ++ (codes " rack " ++ rack_text rack)))
 
+-- the name of the rule, behind its label
 abbrev pub rule_word : Rule → Text
 rule_word rule = codes " rule " ++ rule_name rule
 

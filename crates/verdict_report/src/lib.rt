@@ -8,6 +8,8 @@
 
 mod as_json;
 mod carriers;
+mod json_items;
+mod json_list;
 mod refusal;
 #[cfg(test)]
 mod tests;

@@ -5,21 +5,32 @@ ghost use Rattle.verdict_report.specs.Refusals.{bad_head_line, bad_line, refusal
 use knit_base::{NoMemory, append_number};
 use std::alloc::Global;
 
-/// Why the program refuses its words or its input. Lines are numbered from 1 in the knitout text.
+/// Why the program refuses its words or its input. A number is that of a line of the input, from 1.
 #[derive(Clone, Copy, Debug, PartialEq, Eq)]
 pub enum Refusal {
     /// The words of the command line aren't in the grammar, or an option is beyond its bounds.
     Usage,
+    /// The input couldn't be read.
     ReadFault,
+    /// The input has more than 16,777,216 bytes.
     TooManyBytes,
+    /// The body has more than 1,048,576 lines.
     TooManyLines,
+    /// The body has more than 65,536 blocks.
     TooManyBlocks,
+    /// The first line that can't be read isn't UTF-8.
     NotUtf8(u32),
+    /// The first line that can't be read has more than 4,096 bytes.
     LineLong(u32),
+    /// The first line isn't that of a knitout file.
     BadMagic,
+    /// The head doesn't declare the carriers.
     NoCarriers,
+    /// The second line of the head that declares carriers.
     TwoCarriers(u32),
+    /// The line of the head that declares a name twice.
     CarrierNameTwice(u32),
+    /// The line of the head that declares more than 64 names.
     ManyCarriers(u32),
 }
 
@@ -73,7 +84,7 @@ fn append_refusal(refusal: Refusal, out: &mut Vec<u8>) -> Result<(), NoMemory>
     }
 }
 
-/// Appends the line that says why the program refuses.
+/// Appends the line that says why the program refuses. After `NoMemory` the buffer is as before.
 pub fn report_refusal(alloc: Global, refusal: Refusal, out: &mut Vec<u8>) -> Result<(), NoMemory>
     ensures ok { OnOk result (out.new.items ≡ out.old.items ++ refusal_text refusal) }
     ensures err { OnErr result (out.new.items ≡ out.old.items) }

@@ -158,6 +158,20 @@ fn json_of_a_sound_program(rt: HostRuntime) -> Result<(), Fail> {
     Ok(())
 }
 
+const MOVED_JSON: &str =
+    "{\"held\":3,\"hook\":[\"B\"],\"in\":[\"1\",\"3\"],\"lines\":5,\"made\":3,\"made_loops\":[{\"dir\":\"-\",\"line\":4,\"needle\":\"f2\",\"through\":[],\"yarns\":[\"1\"]},{\"dir\":\"+\",\"line\":7,\"needle\":\"f2\",\"through\":[4],\"yarns\":[\"1\"]}],\"needles\":[{\"loops\":[6,4,5],\"needle\":\"bs-1\"}],\"rack\":\"-0.5\",\"verdict\":\"sound\"}\n";
+
+#[test]
+fn json_with_carriers_moved_loops_and_loops_made(rt: HostRuntime) -> Result<(), Fail> {
+    let alloc = rt.alloc();
+    let declared = carriers(alloc)?;
+    let mut out = Vec::new(alloc);
+    let facts = knitted_loops(alloc)?;
+    report_json(alloc, &moved(alloc)?, Some(&facts), &declared, "", &mut out)?;
+    assert!(rt; is(&out, MOVED_JSON));
+    Ok(())
+}
+
 // Quotes, backslashes and control bytes are escaped, and nothing else.
 const ODD_LINE: &str = "a\"b\\c\td\u{1}/é";
 

@@ -239,7 +239,9 @@ fn append_made(
 }
 
 /// Appends a verdict as text, a line for each needle that holds loops, and behind it a line for each loop made, where `facts`
-/// gives them. `broken` is the line of a broken verdict, as it stands in the file.
+/// gives them. `broken` is the line of a broken verdict, as it stands in the file. After `NoMemory` the buffer is as before.
+///
+/// It is for a report that stands in one buffer with others; `check` writes that of `text_of` as it is.
 ///
 /// The sets of carriers and the loops are those of declared carriers: of others a set says nothing, and a loop has an empty
 /// name.

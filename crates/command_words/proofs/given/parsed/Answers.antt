@@ -5,7 +5,7 @@ use Rattle.clap.specs.Matches.{found_of}
 use Rattle.command_words.specs.Grammar.{Low, High, Rack, Hold, Block, Loops, Json}
 use Rattle.command_words.specs.Arguments.{check_app}
 use Rattle.command_words.proofs.Rules.{first, second, third, is_free_app, is_simple_app}
-use Rattle.command_words.proofs.Strict.{flag_stands_is}
+use Rattle.command_words.proofs.Agreement.{flag_stands_is}
 use Rattle.command_words.proofs.Results.{all_utf8, refused, taken}
 use Rattle.clap.specs.Kinds.{IsAmong}
 use Rattle.clap.specs.Values.{kind_of}

@@ -3,7 +3,7 @@ use Rattle.std.proofs.lemmas.Bool.{true≢false}
 use Rattle.std.specs.Prelude.{unwrap_or}
 use Rattle.command_words.specs.Grammar.{Item}
 use Rattle.command_words.specs.Given.{IsGiven}
-use Rattle.command_words.proofs.Strict.{lawful_from, read_from, taken_from, test_from}
+use Rattle.command_words.proofs.Agreement.{lawful_from, read_from, taken_from, test_from}
 use Rattle.command_words.proofs.given.read_words.Goals as goal
 
 -- the items are one list

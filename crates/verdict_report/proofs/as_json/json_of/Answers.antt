@@ -2,7 +2,7 @@ use Rattle.std.proofs.Common.{◌≡◌, ◌∙◌, ◌≤◌, ◌++◌, length,
 use Rattle.std.specs.Option.{option_copied}
 use Rattle.json.specs.Print.{quoted}
 use Rattle.verdict_report.specs.JsonText.{json_line}
-use Rattle.verdict_report.proofs.Written.{line_is}
+use Rattle.verdict_report.proofs.CompactText.{line_is}
 use Rattle.verdict_report.proofs.as_json.json_of.Goals as goal
 
 pub append_json-requires : goal.append_json-requires

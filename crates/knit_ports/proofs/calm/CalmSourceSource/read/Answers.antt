@@ -1,5 +1,5 @@
 use Rattle.std.proofs.Common.{◌+◌, sym, arith}
-use Rattle.knit_ports.proofs.Copied.{copied-read}
+use Rattle.knit_ports.proofs.MemoryReads.{copied-read}
 use Rattle.knit_ports.proofs.calm.CalmSourceSource.read.Goals as goal
 
 pub returns-clause-bytes : goal.returns-clause-bytes

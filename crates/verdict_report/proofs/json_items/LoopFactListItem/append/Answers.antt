@@ -1,0 +1,16 @@
+use Rattle.std.proofs.Common.{rules, ◌≡◌, ◌∙◌, ◌++◌, ap, codes, decimal, map, string_bytes}
+use Rattle.verdict_report.specs.JsonText.{list_member, loop_json, loop_place, string_of}
+use Rattle.verdict_report.proofs.Chain.{after_four}
+use Rattle.verdict_report.proofs.json_items.LoopFactListItem.append.Goals as goal
+
+pub returns : goal.returns
+unfolding loop_json
+returns c =
+    let end : c.extend_from_slice.new.self.items ≡ c.append_list_member-2.new.out.items ++ codes "}" = search rules in
+    after_four c.args.out.now.items c.append_place.new.out.items c.append_list_member.new.out.items c.append_list_member-2.new.out.items c.extend_from_slice.new.self.items
+    (loop_place c.args.self.now) (list_member (codes ",\"through\":") decimal c.args.self.now.through)
+    (list_member (codes ",\"yarns\":") (string_of (map string_bytes c.args.strings.now)) c.args.self.now.yarns) (codes "}")
+    c.in_ok-append_place.ensures
+    (c.in_ok-append_list_member.ensures ∙ ap (λ lines. c.append_place.new.out.items ++ list_member (codes ",\"through\":") decimal lines) c.as_slice.ensures.items)
+    (c.in_ok-append_list_member-2.ensures ∙ ap (λ cs. c.append_list_member.new.out.items ++ list_member (codes ",\"yarns\":") (string_of (map string_bytes c.args.strings.now)) cs) c.as_slice-2.ensures.items)
+    end
