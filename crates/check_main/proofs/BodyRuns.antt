@@ -9,9 +9,9 @@ use Rattle.knit_base.specs.declared.profile.Profile.{Profile}
 use Rattle.knit_base.specs.Lawful.{IsLawfulRead}
 use Rattle.knitout_reader.specs.declared.head.Head.{Head}
 use Rattle.knitout_reader.specs.Head.{head_len, is_head_line, IsHead}
-use Rattle.knitout_reader.specs.Reads.{Reads}
-use Rattle.knitout_reader.proofs.ReadSoFar.{ReadSoFar, read-none, read-more, read-all}
-use Rattle.carriage_model.specs.Carriage.{HasRun, IsRunning, TellsRun}
+use Rattle.knitout_reader.specs.Reading.{ReadsAs}
+use Rattle.knitout_reader.proofs.BodyReadings.{ReadSoFar, read-none, read-more, read-all}
+use Rattle.carriage_model.specs.Carriage.{HasRun, IsRunning, TellsRun, next_line}
 use Rattle.carriage_model.specs.declared.carriage.Carriage.{Carriage}
 use Rattle.carriage_model.specs.State.{empty_state}
 use Rattle.carriage_model.specs.Run.{run}
@@ -34,7 +34,7 @@ body_len lines all head is_all is_head = omega (arith, length-drop (head_len lin
 -- a carriage has executed the lines behind the head up to this place
 pub record HasBodyRun (profile : Profile) (with_loops : Bool) (names lines : List (List ℕ)) (from i : ℕ) (carriage : Carriage) : Type 0 where
   pub readings : List Read
-  pub so_far : ReadSoFar (λ line r. Reads profile names line r) (IsLawfulRead profile (length names)) lines from i readings
+  pub so_far : ReadSoFar (λ line r. ReadsAs profile names line r) (IsLawfulRead profile (length names)) lines from i readings
   pub run : HasRun profile with_loops (from + 1) readings carriage
 
 -- a carriage over empty beds
@@ -60,8 +60,8 @@ body_run-running profile with_loops names lines from i carriage here =
 
 -- the number of the next line
 pub body_run-next : (profile : Profile) (with_loops : Bool) (names lines : List (List ℕ)) (from i : ℕ) (carriage : Carriage)
-    → HasBodyRun profile with_loops names lines from i carriage → carriage.next ≡ i + 1
-body_run-next profile with_loops names lines from i carriage here = omega (arith, here.run.next, here.so_far.counted)
+    → HasBodyRun profile with_loops names lines from i carriage → next_line carriage ≡ i + 1
+body_run-next profile with_loops names lines from i carriage here = omega (arith, here.run.first_line, here.run.lines, here.so_far.counted)
 
 -- a carriage that executed all lines behind the head tells what is made of the file
 pub body_run-all : (profile : Profile) (with_loops : Bool) (lines : List (List ℕ)) (head : Head) (i : ℕ) (carriage : Carriage) (judgement : Judgement)
@@ -70,27 +70,22 @@ pub body_run-all : (profile : Profile) (with_loops : Bool) (lines : List (List �
     → IsJudgement with_loops profile head.declared lines judgement
 body_run-all profile with_loops lines head i carriage judgement is past here tells =
     let reads : List Read = here.readings in
-    let all : AllZip (λ line r. Reads profile head.declared line r) (drop head.lines lines) reads = (read-all _ _ lines head.lines i reads past here.so_far).0 in
+    let all : AllZip (λ line r. ReadsAs profile head.declared line r) (drop head.lines lines) reads = (read-all _ _ lines head.lines i reads past here.so_far).0 in
     let first : head.lines + 1 ≡ first_of lines = ap (λ h. h + 1) is.len in
     let body : drop head.lines lines ≡ body_of lines = ap (λ h. drop h lines) is.len in
-    let count : length reads ≡ length (body_of lines) = AllZip-long (λ line r. Reads profile head.declared line r) (drop head.lines lines) reads all ∙ ap length body in
+    let count : length reads ≡ length (body_of lines) = AllZip-long (λ line r. ReadsAs profile head.declared line r) (drop head.lines lines) reads all ∙ ap length body in
     record {
       made = loops_made profile empty_state (first_of lines) reads;
       judged = record {
         readings = reads;
-        read = subst (λ ls. AllZip (λ line r. Reads profile head.declared line r) ls reads) body all;
+        read = subst (λ ls. AllZip (λ line r. ReadsAs profile head.declared line r) ls reads) body all;
         made = refl;
         judged =
             subst (λ k. IsVerdict (length (body_of lines)) judgement.verdict (run profile empty_state k reads) (loops_made profile empty_state k reads)) first
             (subst (λ n. IsVerdict n judgement.verdict (run profile empty_state (head.lines + 1) reads) (loops_made profile empty_state (head.lines + 1) reads)) count tells.verdict_is);
       };
-      loops = tells.told_is ∙ ap (λ k. loops_asked with_loops (loops_made profile empty_state k reads)) first;
+      loops = tells.loops_are ∙ ap (λ k. loops_asked with_loops (loops_made profile empty_state k reads)) first;
     }
-
--- how many lines a carriage executed
-pub body_run-count : (profile : Profile) (with_loops : Bool) (names lines : List (List ℕ)) (from i all : ℕ) (carriage : Carriage) → from ≤ all
-    → i ≡ all → (here : HasBodyRun profile with_loops names lines from i carriage) → all - from ≡ length here.readings
-body_run-count profile with_loops names lines from i all carriage within past here = omega (arith, here.so_far.counted)
 
 -- a report of what is made of the file is that of `check`
 pub check-report : (profile : Profile) (loops json : Bool) (names lines : List (List ℕ)) (text broken : List ℕ) (judgement : Judgement) (made : Status)

@@ -13,11 +13,11 @@ use Rattle.knitout_reader.specs.Usual.{BeginsWithUsual}
 use Rattle.line_cutter.specs.Cut.{IsBehind, StandsAt}
 use Rattle.line_cutter.proofs.Behind.{behind-all, behind-more, line_here}
 use Rattle.carriage_model.specs.declared.carriage.Carriage.{Carriage}
-use Rattle.carriage_model.specs.Carriage.{HasRun, IsRunning, TellsRun}
+use Rattle.carriage_model.specs.Carriage.{HasRun, IsRunning, TellsRun, next_line}
 use Rattle.check_main.specs.declared.one_pass.Run.{Run}
 use Rattle.check_main.specs.BodyRun.{ExecutesAt, IsRun}
 use Rattle.check_main.specs.CheckReport.{numbered_line}
-use Rattle.check_main.proofs.BodyRuns.{HasBodyRun, body_run-all, body_run-count, body_run-more, body_run-next, body_run-none, body_run-running}
+use Rattle.check_main.proofs.BodyRuns.{HasBodyRun, body_run-all, body_run-more, body_run-next, body_run-none, body_run-running}
 
 -- a carriage has executed the lines behind the head up to this place of the text, before which so many lines stand
 pub record HasTextRun (profile : Profile) (with_loops : Bool) (names : List (List ℕ)) (text : List ℕ) (from count start : ℕ) (carriage : Carriage) : Type 0 where
@@ -55,7 +55,7 @@ text_run-running profile with_loops names text from count start carriage here = 
 
 -- the number of the next line
 pub text_run-next : (profile : Profile) (with_loops : Bool) (names : List (List ℕ)) (text : List ℕ) (from count start : ℕ) (carriage : Carriage)
-    → HasTextRun profile with_loops names text from count start carriage → carriage.next ≡ count + 1
+    → HasTextRun profile with_loops names text from count start carriage → next_line carriage ≡ count + 1
 text_run-next profile with_loops names text from count start carriage here = body_run-next profile with_loops names (lines_of text) from count carriage here.body
 
 -- all lines were executed
@@ -70,12 +70,6 @@ text_run-all profile with_loops text head count start carriage run is past here 
       judgement = body_run-all profile with_loops (lines_of text) head count carriage run.judgement is (omega (arith, all.0)) here.body tells;
       lines = counted ∙ all.0;
     }
-
--- how many lines were executed
-pub text_run-count : (profile : Profile) (with_loops : Bool) (names : List (List ℕ)) (text : List ℕ) (from count start : ℕ) (carriage : Carriage)
-    → (here : HasTextRun profile with_loops names text from count start carriage) → count - from ≡ length here.body.readings
-text_run-count profile with_loops names text from count start carriage here =
-    body_run-count profile with_loops names (lines_of text) from count count carriage here.above refl here.body
 
 -- the line at this place says what its front says
 pub usual-executed : (profile : Profile) (names : List (List ℕ)) (text rest : List ℕ) (start len : ℕ) (usual : Usual) (old new : Carriage)

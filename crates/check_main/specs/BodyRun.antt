@@ -5,7 +5,7 @@ use Rattle.knit_base.specs.declared.profile.Profile.{Profile}
 use Rattle.knit_base.specs.Lawful.{IsLawfulRead}
 use Rattle.knit_base.specs.Lines.{lines_of}
 use Rattle.line_cutter.specs.Cut.{IsGoodLine, StandsAt}
-use Rattle.knitout_reader.specs.Reads.{Reads}
+use Rattle.knitout_reader.specs.Reading.{ReadsAs}
 use Rattle.carriage_model.specs.declared.carriage.Carriage.{Carriage}
 use Rattle.carriage_model.specs.declared.verdict.LoopFact.{LoopFact}
 use Rattle.carriage_model.specs.Carriage.{HasRun}
@@ -17,7 +17,7 @@ use Rattle.check_main.specs.CheckReport.{IsJudged}
 -- the carriage executed this line as one more of those that it had executed
 pub record ExecutesLine (profile : Profile) (names : List (List ℕ)) (line : List ℕ) (old new : Carriage) : Type 0 where
   pub reading : Read
-  pub read : Reads profile names line reading
+  pub read : ReadsAs profile names line reading
   pub lawful : IsLawfulRead profile (length names) reading
   pub ran : (p : Profile) (with_loops : Bool) (first : ℕ) (before : List Read) → HasRun p with_loops first before old → HasRun p with_loops first (before ++ reading ∷ []) new
 

@@ -4,7 +4,7 @@ use Rattle.std.specs.List.{AllZip}
 use Rattle.knit_base.specs.declared.instr.Read.{Read}
 use Rattle.knit_base.specs.declared.profile.Profile.{Profile}
 use Rattle.knitout_reader.specs.Head.{head_len}
-use Rattle.knitout_reader.specs.Reads.{Reads}
+use Rattle.knitout_reader.specs.Reading.{ReadsAs}
 use Rattle.carriage_model.specs.declared.verdict.Verdict.{Verdict}
 use Rattle.carriage_model.specs.declared.verdict.Verdict.TheVariants as verdict
 use Rattle.carriage_model.specs.declared.verdict.LoopFact.{LoopFact}
@@ -28,7 +28,7 @@ first_of lines = head_len lines + 1
 -- grammar gives it, and this is the verdict on the run of these readings, and the loops that it makes.
 pub record IsJudged (profile : Profile) (names lines : List (List ℕ)) (result : Verdict) (loops : List LoopFact) : Type 0 where
   pub readings : List Read
-  pub read : AllZip (Reads profile names) (body_of lines) readings
+  pub read : AllZip (ReadsAs profile names) (body_of lines) readings
   pub made : loops ≡ loops_made profile empty_state (first_of lines) readings
   pub judged : IsVerdict (length (body_of lines)) result (run profile empty_state (first_of lines) readings) loops
 

@@ -1,6 +1,6 @@
 //! The verdict on a file, and its report.
 ghost use Rattle.std.specs.Prelude.{◌≡◌, ◌<◌, ◌+◌, ◌^◌, length, IfOk, OnOk};
-ghost use Rattle.carriage_model.specs.Carriage.{IsRunning};
+ghost use Rattle.carriage_model.specs.Carriage.{IsRunning, next_line, profile_of};
 ghost use Rattle.check_main.specs.BodyRun.{ExecutesLine, IsJudgement};
 ghost use Rattle.check_main.specs.CheckReport.{IsCheckReport, broken_line, numbered_line, report_of, status_of};
 
@@ -10,7 +10,7 @@ use crate::outcome::Status;
 use crate::plan::Plan;
 use carriage_model::{Carriage, Facts, Verdict};
 use knit_base::{Declared, Lines, NoMemory, Profile};
-use knitout_reader::read_line;
+use knitout_reader::{nth_line, read_line};
 use std::alloc::Global;
 use verdict_report::{json_of, text_of};
 
@@ -52,12 +52,10 @@ fn run_body(
     let count = body.lines.len();
     let mut carriage = Carriage::start(alloc, profile, head.lines + 1, with_loops)?;
     for i in head.lines..count {
-        let Some(line) = body.lines.get(i) else {
-            unreachable!();
-        };
+        let line = nth_line(&body.lines, i);
         execute_line(alloc, line, profile, &head.declared, &mut carriage)?;
     }
-    let (verdict, loops) = carriage.finish(count - head.lines)?;
+    let (verdict, loops) = carriage.finish()?;
     Ok(Judgement { verdict, loops })
 }
 
@@ -71,12 +69,12 @@ pub(crate) fn execute_line(
 ) -> Result<(), NoMemory>
     requires short { length line.now < 2 ^ 16 }
     requires running { IsRunning carriage.old }
-    requires profile { carriage.old.profile ≡ profile.now }
-    requires lines { carriage.old.next + 1 < 2 ^ 32 }
+    requires profile { profile_of carriage.old ≡ profile.now }
+    requires lines { next_line carriage.old + 1 < 2 ^ 32 }
     ensures { OnOk result (ExecutesLine profile.now names.now line.now carriage.old carriage.new) }
 {
     let read = read_line(alloc, line, profile, names)?;
-    carriage.carry_out(&read)
+    carriage.execute(&read)
 }
 
 // The line at which the verdict is broken, or no text.

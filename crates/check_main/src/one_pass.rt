@@ -8,7 +8,7 @@ ghost use Rattle.std.specs.Prelude.{◌≡◌, ◌≤◌, ◌<◌, ◌+◌, ◌^
 ghost use Rattle.knit_base.specs.Lines.{lines_of};
 ghost use Rattle.knitout_reader.specs.Head.{IsHead};
 ghost use Rattle.knitout_reader.specs.Usual.{AreByteNames};
-ghost use Rattle.carriage_model.specs.Carriage.{IsRunning};
+ghost use Rattle.carriage_model.specs.Carriage.{IsRunning, next_line, profile_of};
 ghost use Rattle.command_words.specs.declared.command.Command.{Command};
 ghost use Rattle.check_main.specs.BodyRun.{ExecutesAt, IsRun};
 ghost use Rattle.check_main.specs.CheckReport.{body_of, broken_line, numbered_line};
@@ -116,7 +116,7 @@ fn run_text(
         start = next;
         lines += 1;
     }
-    let (verdict, loops) = carriage.finish(lines - head.lines)?;
+    let (verdict, loops) = carriage.finish()?;
     let judgement = Judgement { verdict, loops };
     Ok(Some(Run { judgement, lines }))
 }
@@ -136,8 +136,8 @@ fn execute_at(
     requires some { start < length text.now }
     requires names { AreByteNames names.now byte_names.now }
     requires running { IsRunning carriage.old }
-    requires profile { carriage.old.profile ≡ profile.now }
-    requires lines { carriage.old.next + 1 < 2 ^ 32 }
+    requires profile { profile_of carriage.old ≡ profile.now }
+    requires lines { next_line carriage.old + 1 < 2 ^ 32 }
     ensures { IfOk result (λ found. IfSome found (λ next. ExecutesAt profile.now names.now text.now start next carriage.old carriage.new)) }
 {
     let Some((usual, len)) = usual_line(&text[start..], profile, byte_names) else {
@@ -162,8 +162,8 @@ fn execute_any_at(
     requires size { length text.now ≤ 16777216 }
     requires some { start < length text.now }
     requires running { IsRunning carriage.old }
-    requires profile { carriage.old.profile ≡ profile.now }
-    requires lines { carriage.old.next + 1 < 2 ^ 32 }
+    requires profile { profile_of carriage.old ≡ profile.now }
+    requires lines { next_line carriage.old + 1 < 2 ^ 32 }
     ensures { IfOk result (λ found. IfSome found (λ next. ExecutesAt profile.now names.now text.now start next carriage.old carriage.new)) }
 {
     let Some((line, next)) = line_at(text, start) else {
