@@ -1,7 +1,6 @@
 -- Documents: what an opening and a journal give, version by version.
-use Rattle.std.specs.Prelude.{◌≡◌, ℕ, zero, suc, ◌+◌, ◌<◌, ◌==◌, if◌then◌else◌, List, [], ◌∷◌, length, map, find, Option, Some, None, IsSome, option_map, option_and_then}
+use Rattle.std.specs.Prelude.{◌≡◌, ℕ, zero, suc, ◌+◌, ◌==◌, if◌then◌else◌, List, [], ◌∷◌, length, find, Option, Some, IsSome, option_map, option_and_then}
 use Rattle.std.specs.List.{flat_map, slice_get}
-use Rattle.knit_base.specs.declared.setting.Setting.{Setting}
 use Rattle.edit_journal.specs.declared.edit.Anchor.{Anchor}
 use Rattle.edit_journal.specs.declared.edit.Anchor.TheVariants.{Start, After}
 use Rattle.edit_journal.specs.declared.edit.Edit.{Edit}
@@ -34,6 +33,7 @@ opened opening = record { blocks = opened_from 0 opening.texts; drawn = length o
 abbrev pub block_of : List Block → ℕ → Option Block
 block_of blocks id = find (λ b. b.id == id) blocks
 
+-- the stamp of the block with this id
 abbrev pub stamp_at : List Block → ℕ → Option ℕ
 stamp_at blocks id = option_map (λ b. b.stamp) (block_of blocks id)
 
@@ -69,13 +69,14 @@ after_all d i [] = d
 after_all d i (e ∷ es) = after_all (after d i e.edit) (i + 1) es
 
 -- The document of an opening and a journal. That of version v is the one of the journal's first v entries.
-abbrev pub doc : Opening → List Entry → Document
-doc opening journal = after_all (opened opening) 1 journal
+abbrev pub document_of : Opening → List Entry → Document
+document_of opening journal = after_all (opened opening) 1 journal
 
 -- the lines of these blocks, one block after the other
 abbrev pub lines_in : List Block → List (List ℕ)
 lines_in blocks = flat_map (λ b. b.lines) blocks
 
+-- the lines of the document, block by block
 abbrev pub body : Document → List (List ℕ)
 body d = lines_in d.blocks
 

@@ -1,5 +1,5 @@
 -- The entries of a journal.
-use Rattle.std.specs.Prelude.{ℕ, zero, suc, ◌==◌, Bool, List, Option, Some, None, option_and_then, if◌then◌else◌}
+use Rattle.std.specs.Prelude.{ℕ, zero, suc, ◌==◌, Bool, List, Option, Some, None, if◌then◌else◌}
 use Rattle.std.specs.List.{slice_get}
 use Rattle.edit_journal.specs.declared.edit.Edit.{Edit}
 use Rattle.edit_journal.specs.declared.edit.Edit.TheVariants.{Put, Add, Cut}
@@ -25,5 +25,6 @@ text_in id (Put block seen text) = if block == id then Some text else None
 text_in id (Add anchor block text) = if block == id then Some text else None
 text_in id (Cut block seen) = None
 
+-- the text that an entry gives to a block, if it gives it one
 abbrev pub text_for : ℕ → Entry → Option (List (List ℕ))
 text_for id entry = text_in id entry.edit

@@ -20,7 +20,7 @@ pub enum BlockName {
 }
 
 /// What is done to a document: a block gets another text, a new block with the next id comes in, or a block is taken out.
-/// `seen` is the stamp that the block had.
+/// `seen` is the stamp that the block had: the number of the entry that gave it its text, 0 for an opening text.
 #[derive(Drop)]
 pub enum Edit {
     Put {
@@ -40,7 +40,7 @@ pub enum Edit {
 }
 
 impl Edit {
-    /// An equal edit.
+    /// An equal edit. Fails where memory runs out.
     pub fn try_clone(&self) -> Result<Edit, NoMemory>
         ensures { IfOk result (λ edit. edit ≡ self.now) }
     {
@@ -75,7 +75,7 @@ pub struct Entry {
 }
 
 impl Entry {
-    /// An equal entry.
+    /// An equal entry. Fails where memory runs out.
     pub fn try_clone(&self) -> Result<Entry, NoMemory>
         ensures { IfOk result (λ entry. entry ≡ self.now) }
     {

@@ -35,7 +35,7 @@ impl Journal {
         }
     }
 
-    /// Makes room for one more entry.
+    /// Makes room for one more entry. Fails where memory runs out, with the journal as before.
     pub fn reserve_one(&mut self) -> Result<(), NoMemory>
         ensures ok { OnOk result (self.new.room ≡ true) }
         ensures entries { self.new.entries ≡ self.old.entries }
@@ -60,6 +60,7 @@ impl Journal {
         self.entries.push_reserved(entry);
     }
 
+    /// How many entries there are: the number of the newest one, and the document's version.
     pub fn len(&self) -> u32
         ensures len { result ≡ length self.now.entries }
         ensures few { length self.now.entries ≤ entry_limit }
@@ -67,7 +68,7 @@ impl Journal {
         self.entries.len() as u32
     }
 
-    /// The entry with this number, from 1.
+    /// The entry with this number. Numbers begin at 1; outside 1 to `len` there is none.
     pub fn get(&self, number: u32) -> Option<&Entry>
         ensures { option_copied result ≡ entry_at self.now.entries number }
     {
@@ -77,7 +78,7 @@ impl Journal {
         self.entries.get(number as usize - 1)
     }
 
-    /// A journal with equal entries.
+    /// A journal with equal entries. Fails where memory runs out.
     pub fn try_clone(&self) -> Result<Self, NoMemory>
         ensures { IfOk result (λ journal. journal.entries ≡ self.now.entries) }
     {

@@ -17,9 +17,11 @@ pub record ReadSoFar {A B : Type 0} (R : A → B → Type 0) (P : B → Type 0) 
   pub each : AllZip R (take (length ys) (drop from xs)) ys
   pub kept : All P ys
 
+-- no item is read at first
 pub read-none : {A B : Type 0} (R : A → B → Type 0) (P : B → Type 0) (xs : List A) (from : ℕ) → ReadSoFar R P xs from from []
 read-none R P xs from = record { counted = omega arith; each = tt; kept = λ i d within. absurd (omega arith) }
 
+-- one item more is read
 pub read-more : {A B : Type 0} (R : A → B → Type 0) (P : B → Type 0) (xs : List A) (from i : ℕ) (ys after : List B) (x : A) (y : B)
     → ReadSoFar R P xs from i ys → i < length xs → slice_get xs i ≡ Some x → R x y → P y → after ≡ ys ++ y ∷ [] → ReadSoFar R P xs from (i + 1) after
 read-more R P xs from i ys after x y so_far within found here kept is =
@@ -35,6 +37,7 @@ read-more R P xs from i ys after x y so_far within found here kept is =
       kept = All-push P ys y so_far.kept kept;
     })
 
+-- past the last item all are read
 pub read-all : {A B : Type 0} (R : A → B → Type 0) (P : B → Type 0) (xs : List A) (from i : ℕ) (ys : List B) → length xs ≤ i → ReadSoFar R P xs from i ys
     → AllZip R (drop from xs) ys × All P ys
 read-all R P xs from i ys past so_far = (

@@ -22,6 +22,7 @@ use Rattle.knitout_reader.specs.Carriers.{is_undeclared, carriers_of, no_carrier
 use Rattle.knitout_reader.specs.Tokens.{tokens_of}
 use Rattle.knitout_reader.proofs.TokenRuns.{rest_from}
 
+-- the rule is broken at this token
 abbrev pub broken_at : Rule → ℕ → Reason
 broken_at rule at = record { rule = rule; at = at }
 
@@ -68,6 +69,7 @@ pub record IsNext (code : List ℕ) (start : ℕ) (name behind : List ℕ) : Typ
   pub shorter : length name + length behind ≤ length (rest_from code start)
   pub suffix : behind ≡ drop (length (rest_from code start) - length behind) (rest_from code start)
 
+-- how long the rest is
 pub left_len : (code : List ℕ) (start : ℕ) → length (rest_from code start) ≡ length code - start
 left_len code start = ap length (take_rest code start) ∙ length-drop start code
 
@@ -136,6 +138,7 @@ pub record GatheredSoFar (names : List (List ℕ)) (code : List ℕ) (at place s
   pub rule : carrier_rule names at (tokens_of code) ≡ rule_behind names yarns place (tokens_of (rest_from code start))
   pub found : yarns ++ carriers_of names (tokens_of (rest_from code start)) ≡ carriers_of names (tokens_of code)
 
+-- one carrier more
 pub gathered-more : (names : List (List ℕ)) (code : List ℕ) (at place start : ℕ) (yarns after : List CarrierNo) (seen : ℕ) (name behind : List ℕ) (c : CarrierNo)
     → GatheredSoFar names code at place start yarns seen → IsNext code start name behind → Some c ≡ carrier_of names name → c.0 < length names → c.0 < 64
     → contains_carrier seen c ≡ false → after ≡ yarns ++ c ∷ []

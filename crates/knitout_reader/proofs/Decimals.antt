@@ -24,9 +24,11 @@ point_stays : (whole fraction : List ℕ) → All IsNoPoint (whole ++ 46 ∷ fra
 point_stays [] fraction none = All-head IsNoPoint 46 fraction none refl
 point_stays (b ∷ whole) fraction none = point_stays whole fraction (All-tail IsNoPoint b (whole ++ 46 ∷ fraction) none)
 
+-- digits without a point
 abbrev pub Alone : List ℕ → List ℕ → List ℕ → Type 0
 Alone text whole fraction = (text ≡ whole) × (fraction ≡ []) × (0 < length whole)
 
+-- digits with a point among them or beside them
 abbrev pub Pointed : List ℕ → List ℕ → List ℕ → Type 0
 Pointed text whole fraction = (text ≡ whole ++ 46 ∷ fraction) × (0 < length whole + length fraction)
 
@@ -121,11 +123,13 @@ UnsignedFound negative text found = MatchOption found ((whole fraction : List �
     (λ r. (r.negative ≡ negative) × ((whole : List ℕ) × (fraction : List ℕ) × IsDecimal text whole fraction × (r.whole ≡ min (number_of whole) FAR)
     × MatchOption r.quarter ((q : ℕ) → IsQuarter fraction q → ⊥) (λ q. IsQuarter fraction q)))
 
+-- what is found of a rack is the rack that the token spells
 abbrev pub Found : List ℕ → Option RackToken → Type 0
 Found token found = MatchOption found ((negative : Bool) (whole fraction : List ℕ) → IsRack token negative whole fraction → ⊥)
     (λ r. (whole : List ℕ) × (fraction : List ℕ) × IsRack token r.negative whole fraction × (r.whole ≡ min (number_of whole) FAR)
     × MatchOption r.quarter ((q : ℕ) → IsQuarter fraction q → ⊥) (λ q. IsQuarter fraction q))
 
+-- a sign and what is found behind it
 pub rack-found : (token sign text : List ℕ) (negative : Bool) (found : Option RackToken) → token ≡ sign ++ text → IsSign sign negative → OneSign token negative text
     → UnsignedFound negative text found → Found token found
 rack-found token sign text negative None is signed one none = λ n whole fraction rack. none whole fraction (one n whole fraction rack).1
@@ -137,20 +141,24 @@ pub bad-front : (text front behind : List ℕ) → text ≡ front ++ 46 ∷ behi
 bad-front text front behind parts none bad whole fraction decimal =
     bad (subst (All IsDigit) (sym (at_point text front behind whole fraction parts none decimal).0) decimal.0)
 
+-- what stands behind the point are no digits
 pub bad-behind : (text front behind : List ℕ) → text ≡ front ++ 46 ∷ behind → All IsNoPoint front → ¬ All IsDigit behind → (whole fraction : List ℕ) → IsDecimal text whole fraction → ⊥
 bad-behind text front behind parts none bad whole fraction decimal =
     bad (subst (All IsDigit) (sym (at_point text front behind whole fraction parts none decimal).1) decimal.1)
 
+-- the sign of a token that begins with a `-`
 pub minus-first : (token text : List ℕ) → token ≡ 45 ∷ text → OneSign token true text
 minus-first token text begins n whole fraction rack =
     let found : (true ≡ n) × (text ≡ rack.1) = minus_sign n rack.0 text rack.1 rack.3 (decimal_front rack.1 whole fraction rack.4) (sym begins ∙ rack.2) in
     (found.0, subst (λ t. IsDecimal t whole fraction) (sym found.1) rack.4)
 
+-- the sign of a token that begins with a `+`
 pub plus-first : (token text : List ℕ) → token ≡ 43 ∷ text → OneSign token false text
 plus-first token text begins n whole fraction rack =
     let found : (false ≡ n) × (text ≡ rack.1) = plus_sign n rack.0 text rack.1 rack.3 (decimal_front rack.1 whole fraction rack.4) (sym begins ∙ rack.2) in
     (found.0, subst (λ t. IsDecimal t whole fraction) (sym found.1) rack.4)
 
+-- a token that begins with neither has no sign
 pub sign-absent : (token : List ℕ) → ((more : List ℕ) → token ≢ 45 ∷ more) → ((more : List ℕ) → token ≢ 43 ∷ more) → OneSign token false token
 sign-absent token no_minus no_plus n whole fraction rack =
     let found : (false ≡ n) × (token ≡ rack.1) = no_sign n rack.0 token rack.1 rack.3 no_minus no_plus rack.2 in

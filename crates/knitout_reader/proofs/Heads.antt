@@ -37,6 +37,7 @@ names_text-within line text is short begins behind =
       short = omega (arith, length-drop 11 line);
     })
 
+-- what stands behind the colon is a part of the line
 pub names_text-stripped : (line bytes : List ℕ) (r : Option (Bor (List ℕ))) → IsLine line → length line < 65535 → bytes ≡ line
     → MatchOption r (bytes_eq (take 11 bytes) carriers_word ≡ false) (λ text. (bytes_eq (take 11 bytes) carriers_word ≡ true) × (text.now ≡ drop 11 bytes) × (length text.now + 11 ≡ length bytes))
     → IfSome r (λ text. IsNamesText text.now)
@@ -44,6 +45,7 @@ names_text-stripped line bytes None is short same stripped = tt
 names_text-stripped line bytes (Some text) is short same stripped =
     names_text-within line text.now is short (sym (ap (λ l. bytes_eq (take 11 l) carriers_word) same) ∙ stripped.0) (stripped.1 ∙ ap (drop 11) same)
 
+-- a result that can have no error is a value
 pub ok_result : {T E : Type 0} (r : Result T E) (P : T → Type 0) (Q : E → Type 0) → MatchResult r P Q → ((e : E) → Q e → ⊥) → is_ok r ≡ true
 ok_result (Ok x) P Q is none = refl
 ok_result (Err e) P Q is none = absurd (none e is)
@@ -112,9 +114,11 @@ names_kept (part ∷ parts) are =
     subst (All IsNameText) (sym (cond-true (nonempty part) (part ∷ filter nonempty parts) (filter nonempty parts) is)) (All-cons IsNameText part (filter nonempty parts) name rest))
     (λ isnt. subst (All IsNameText) (sym (cond-false (nonempty part) (part ∷ filter nonempty parts) (filter nonempty parts) isnt)) rest)
 
+-- the tokens of such a text can be names
 pub tokens_are_names : (text : List ℕ) → IsNamesText text → All IsNameText (tokens_of text)
 tokens_are_names text is = names_kept (slice_split is_blank text) (parts (suc (length text)) text (omega arith) (IsUtf8-from_is_utf8 text is.utf8) is.one)
 
+-- the bytes of a name, with a space
 abbrev pub size : List ℕ → ℕ
 size name = length name + 1
 
@@ -137,9 +141,11 @@ split_len (b ∷ text) =
     (λ is. omega (arith, split_len text, ap names_len (slice_split-cons_yes is_blank b text is), sum_by-cons size [] (slice_split is_blank text)))
     (λ isnt. omega (arith, split_len text, longer_first b (slice_split is_blank text) some, ap names_len (slice_split-cons_no is_blank b text isnt)))
 
+-- the names, with a space for each, take no more bytes than the text
 pub tokens_len : (text : List ℕ) → names_len (tokens_of text) ≤ length text + 1
 tokens_len text = omega (arith, kept_len (slice_split is_blank text), split_len text)
 
+-- what holds of all holds of the one in the middle
 pub in_the_middle : (P : List ℕ → Type 0) (names : List (List ℕ)) (name : List ℕ) (more : List (List ℕ)) → All P (names ++ name ∷ more) → P name
 in_the_middle P [] name more are = All-head P name more are
 in_the_middle P (n ∷ names) name more are = in_the_middle P names name more (All-tail P n (names ++ name ∷ more) are)
@@ -148,9 +154,11 @@ in_the_middle P (n ∷ names) name more are = in_the_middle P names name more (A
 pub record IsNext (text : List ℕ) (names : List (List ℕ)) (name : List ℕ) (more : List (List ℕ)) : Type 0 where
   pub so_far : names ++ name ∷ more ≡ tokens_of text
 
+-- the next token can be a name
 pub next_is_name : (text : List ℕ) (names : List (List ℕ)) (name : List ℕ) (more : List (List ℕ)) → IsNamesText text → IsNext text names name more → IsNameText name
 next_is_name text names name more is next = in_the_middle IsNameText names name more (subst (All IsNameText) (sym next.so_far) (tokens_are_names text is))
 
+-- there is room for it
 pub next_has_room : (text : List ℕ) (names : List (List ℕ)) (name : List ℕ) (more : List (List ℕ)) → IsNamesText text → IsNext text names name more → names_len (names ++ name ∷ []) ≤ 65524
 next_has_room text names name more is next =
     omega (arith, is.short, tokens_len text, ap names_len next.so_far, sum_by-append size names (name ∷ more), sum_by-append size names (name ∷ []), sum_by-cons size name more, sum_by-cons size name [])
@@ -183,6 +191,7 @@ pub next_is_twice : (text : List ℕ) (names : List (List ℕ)) (name : List ℕ
 next_is_twice text names name more next some =
     sym (ap has_name_twice next.so_far) ∙ twice_there names name more (placed names name (position (bytes_eq name) names) refl (is_placed _ (position (bytes_eq name) names) some))
 
+-- what holds of each value holds of this one
 pub ok_at : {T E : Type 0} (r : Result T E) (x : T) (P : T → Type 0) (Q : E → Type 0) → r ≡ Ok x → MatchResult r P Q → P x
 ok_at r x P Q is holds = subst (λ r. MatchResult r P Q) is holds
 
@@ -214,9 +223,11 @@ still_few names name r x is twice many few =
     (λ new. apart r x Many is (many.1 (none_there (carrier_of names name) new, omega arith))))
     (cases_lt (length names) 64)
 
+-- a header that gives a name twice is refused
 pub declared_twice : (line : ℕ) (names : List (List ℕ)) → has_name_twice names ≡ true → names_declared (record { line = line; names = names }) ≡ Err (CarrierNameTwice line)
 declared_twice line names is = cond-true (has_name_twice names) _ _ is
 
+-- a header whose names are different and few declares them
 pub declared_all : (line : ℕ) (text : List ℕ) (names : List (List ℕ)) (rest : List ℕ) → has_name_twice (tokens_of text) ≡ false → names ++ tokens_of rest ≡ tokens_of text
     → tokens_of rest ≡ [] → length names ≤ 64 → names_declared (record { line = line; names = tokens_of text }) ≡ Ok names
 declared_all line text names rest isnt so_far none few =
@@ -229,6 +240,7 @@ declared_all line text names rest isnt so_far none few =
 pub no_line_feed : (text : List ℕ) → list_any (λ byte. byte == 10) text ≡ false → HasNoLineEnd text
 no_line_feed text none k d inside e = false≢true (sym none ∙ list_any_at (λ byte. byte == 10) text k d inside (eq-eqb (get_or text k d) 10 e))
 
+-- what isn't true is false
 pub not_true : (b : Bool) → not b ≡ true → b ≡ false
 not_true true e = sym e
 not_true false e = refl

@@ -28,6 +28,7 @@ use Rattle.knitout_reader.specs.Shapes.{Shape, Spells, IsFormed, IsDivided, IsMo
 abbrev pub mark : List ℕ → ℕ
 mark word = if nat_eq (get_or word 1 0) 45 then 0 else get_or word 0 0 + 256 * length word
 
+-- the mark of the words of such a shape
 abbrev pub mark_of : Shape → ℕ
 mark_of (CarryInShape carriers) = mark (codes "in")
 mark_of (CarryOutShape carriers) = mark (codes "out")
@@ -46,9 +47,11 @@ mark_of (XferShape bed at bed2 at2) = mark (codes "xfer")
 mark_of (DropShape bed at) = mark (codes "drop")
 mark_of (AmissShape bed at) = mark (codes "amiss")
 
+-- equal lines have equal first tokens
 pub first_word : (a b : List ℕ) (xs ys : List (List ℕ)) → a ∷ xs ≡ b ∷ ys → a ≡ b
 first_word a b xs ys e = ap (λ l. get_or l 0 []) e
 
+-- and equal tokens behind them
 pub other_words : (a b : List ℕ) (xs ys : List (List ℕ)) → a ∷ xs ≡ b ∷ ys → xs ≡ ys
 other_words a b xs ys e = ap (drop 1) e
 
@@ -84,6 +87,7 @@ not_formed loop_operation.Tuck tokens none shape spelled = absurd (false≢true 
 not_formed loop_operation.Miss tokens none (MissShape dir bed at carriers) spelled = none dir bed at carriers spelled
 not_formed loop_operation.Miss tokens none shape spelled = absurd (false≢true (marks-agree (codes "miss") tokens shape spelled))
 
+-- the same of an operation on one needle
 pub not_named : (which : NeedleOperation) (tokens : List (List ℕ)) → ((bed : Bed) (at : ℤ) → IsNamed (needle_operation_word which) (needle_operation_word which ∷ tokens) bed at → ⊥)
     → (shape : Shape) → Spells (needle_operation_word which ∷ tokens) shape → ⊥
 not_named needle_operation.Drop tokens none (DropShape bed at) spelled = none bed at spelled
@@ -91,16 +95,19 @@ not_named needle_operation.Drop tokens none shape spelled = absurd (false≢true
 not_named needle_operation.Amiss tokens none (AmissShape bed at) spelled = none bed at spelled
 not_named needle_operation.Amiss tokens none shape spelled = absurd (false≢true (marks-agree (codes "amiss") tokens shape spelled))
 
+-- the same of `split`
 pub not_divided : (tokens : List (List ℕ)) → ((dir : Dir) (bed : Bed) (at : ℤ) (bed2 : Bed) (at2 : ℤ) (carriers : List (List ℕ)) → IsDivided (codes "split") (codes "split" ∷ tokens) dir bed at bed2 at2 carriers → ⊥)
     → (shape : Shape) → Spells (codes "split" ∷ tokens) shape → ⊥
 not_divided tokens none (SplitShape dir bed at bed2 at2 carriers) spelled = none dir bed at bed2 at2 carriers spelled
 not_divided tokens none shape spelled = absurd (false≢true (marks-agree (codes "split") tokens shape spelled))
 
+-- the same of `xfer`
 pub not_moved : (tokens : List (List ℕ)) → ((bed : Bed) (at : ℤ) (bed2 : Bed) (at2 : ℤ) → IsMoved (codes "xfer") (codes "xfer" ∷ tokens) bed at bed2 at2 → ⊥)
     → (shape : Shape) → Spells (codes "xfer" ∷ tokens) shape → ⊥
 not_moved tokens none (XferShape bed at bed2 at2) spelled = none bed at bed2 at2 spelled
 not_moved tokens none shape spelled = absurd (false≢true (marks-agree (codes "xfer") tokens shape spelled))
 
+-- the same of `rack`
 pub not_racked : (tokens : List (List ℕ)) → ((negative : Bool) (whole : List ℕ) (quarters : Option ℕ) → IsRacked (codes "rack") (codes "rack" ∷ tokens) negative whole quarters → ⊥)
     → (shape : Shape) → Spells (codes "rack" ∷ tokens) shape → ⊥
 not_racked tokens none (RackShape negative whole quarters) spelled = none negative whole quarters spelled
@@ -134,6 +141,7 @@ carrier-reading profile names carrier_operation.HookIn tokens r some is = inl (H
 carrier-reading profile names carrier_operation.HookOut tokens r some is = inl (HookOutShape tokens, record { spelled = refl; some = some }, is)
 carrier-reading profile names carrier_operation.ReleaseHook tokens r some is = inl (ReleaseHookShape tokens, record { spelled = refl; some = some }, is)
 
+-- the reading of `knit`, `tuck` and `miss`
 pub loop-reading : (profile : Profile) (names : List (List ℕ)) (which : LoopOperation) (tokens : List (List ℕ)) (dir : Dir) (bed : Bed) (at : ℤ) (carriers : List (List ℕ)) (r : Read)
     → IsFormed (loop_word which) (loop_word which ∷ tokens) dir bed at carriers
     → r ≡ reading_or (or_else (off_bed profile 2 at) (or_else (loop_slider which bed carriers) (carrier_rule names 3 carriers))) (loop_instr which dir (needle_on bed at) (carriers_of names carriers))
@@ -142,17 +150,20 @@ loop-reading profile names loop_operation.Knit tokens dir bed at carriers r form
 loop-reading profile names loop_operation.Tuck tokens dir bed at carriers r formed is = inl (TuckShape dir bed at carriers, formed, is)
 loop-reading profile names loop_operation.Miss tokens dir bed at carriers r formed is = inl (MissShape dir bed at carriers, formed, is)
 
+-- the reading of an operation on one needle
 pub needle-reading : (profile : Profile) (names : List (List ℕ)) (which : NeedleOperation) (tokens : List (List ℕ)) (bed : Bed) (at : ℤ) (r : Read)
     → IsNamed (needle_operation_word which) (needle_operation_word which ∷ tokens) bed at → r ≡ reading_or (off_bed profile 1 at) (needle_operation_instr which (needle_on bed at))
     → TokensReadAs profile names (needle_operation_word which ∷ tokens) r
 needle-reading profile names needle_operation.Drop tokens bed at r named is = inl (DropShape bed at, named, is)
 needle-reading profile names needle_operation.Amiss tokens bed at r named is = inl (AmissShape bed at, named, is)
 
+-- what an operation that free tokens follow says
 abbrev pub free_reading : FreeOperation → Read
 free_reading free_operation.Stitch = read.Instr instr.Stitch
 free_reading free_operation.Pause = read.Instr instr.Pause
 free_reading free_operation.Extension = read.Instr instr.Extension
 
+-- is the reading of its line
 pub free-reading : (profile : Profile) (names : List (List ℕ)) (word : List ℕ) (free : List (List ℕ)) → (which : FreeOperation) → IsFreeWord which word
     → (r : Read) → r ≡ free_reading which → TokensReadAs profile names (word ∷ free) r
 free-reading profile names word free free_operation.Stitch is r reads = inl (StitchShape free, ap (λ w. w ∷ free) is, reads)

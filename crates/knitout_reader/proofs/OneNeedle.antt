@@ -12,9 +12,11 @@ digit_first digits rest byte are is = (subst (λ (l : List ℕ). IsDigit (get_or
 abbrev pub Plain : List ℕ → List ℕ → ℤ → Type 0
 Plain text digits z = (text ≡ digits) × (z ≡ pos (number_of digits))
 
+-- a `+` and digits
 abbrev pub Plus : List ℕ → List ℕ → ℤ → Type 0
 Plus text digits z = (text ≡ 43 ∷ digits) × (z ≡ pos (number_of digits))
 
+-- a `-` and digits
 abbrev pub Minus : List ℕ → List ℕ → ℤ → Type 0
 Minus text digits z = (text ≡ 45 ∷ digits) × (z ≡ pos 0 -ℤ pos (number_of digits))
 

@@ -124,12 +124,15 @@ pub one-shape : (word : List ℕ) (rest : List (List ℕ)) (s t : Shape) → Spe
 one-shape word rest s t one other =
     alike (word ∷ rest) s t (same_eq (mark_of s) (mark_of t) (mark word) (marks-agree word rest s one) (marks-agree word rest t other)) one other
 
+-- the tokens have a shape, and this is its reading
 abbrev pub Fits : Profile → List (List ℕ) → List (List ℕ) → Read → Type 0
 Fits profile names tokens r = (shape : Shape) × Spells tokens shape × (r ≡ reading_of profile names shape)
 
+-- they have none, and this is the reading of such a line
 abbrev pub FitsNone : List (List ℕ) → Read → Type 0
 FitsNone tokens r = ((shape : Shape) → Spells tokens shape → ⊥) × (r ≡ unreadable)
 
+-- a word and tokens have one reading at most
 pub one-reading : (profile : Profile) (names : List (List ℕ)) (word : List ℕ) (rest : List (List ℕ)) (r other : Read)
     → TokensReadAs profile names (word ∷ rest) r → TokensReadAs profile names (word ∷ rest) other → other ≡ r
 one-reading profile names word rest r other one two =

@@ -6,6 +6,7 @@ use Rattle.std.proofs.lemmas.List.Elements.{All-head, All-tail}
 use Rattle.std.proofs.Math.Nat.{pow-succ', mul-le-mul_right}
 use Rattle.knitout_reader.specs.Numbers.{IsDigit, IsQuarter, number_of}
 
+-- the value of digits that stand behind such a value
 abbrev pub read_from : ℕ → List ℕ → ℕ
 read_from value digits = fold (λ value digit. 10 * value + (digit - 48)) value digits
 
@@ -24,6 +25,7 @@ number-small (d ∷ digits) are =
     let nine : (d - 48) * 10 ^ length digits ≤ 9 * 10 ^ length digits = mul-le-mul_right (10 ^ length digits) (omega (arith, digit.1)) in
     omega (arith, read_from-is digits (10 * 0 + (d - 48)), pow-succ' 10 (length digits), number-small digits (All-tail IsDigit d digits are), nine)
 
+-- the value of two digits
 abbrev pub hundredths : ℕ → ℕ → ℕ
 hundredths a b = 10 * (a - 48) + (b - 48)
 
@@ -77,9 +79,11 @@ one_first [] some few = absurd (omega arith)
 one_first (a ∷ []) some few = refl
 one_first (a ∷ b ∷ rest) some few = absurd (omega arith)
 
+-- what the digits behind a point say of quarters
 abbrev pub Quarters : List ℕ → Option ℕ → Type 0
 Quarters fraction found = MatchOption found ((q : ℕ) → IsQuarter fraction q → ⊥) (λ q. IsQuarter fraction q)
 
+-- what so many hundredths say of quarters
 abbrev pub Hundredths : ℕ → Option ℕ → Type 0
 Hundredths h found = MatchOption found ((q : ℕ) → h ≡ 25 * q → ⊥) (λ q. h ≡ 25 * q)
 
@@ -87,6 +91,7 @@ two_found : (a b : ℕ) (rest : List ℕ) (found : Option ℕ) → All IsDigit r
 two_found a b rest None are zeros none = λ q is. none q (only_quarter a b q rest are is).0
 two_found a b rest (Some q) are zeros is = is_quarter a b q rest zeros is
 
+-- two digits, and zeros behind them
 pub quarter-two : (fraction : List ℕ) (found : Option ℕ) → 2 ≤ length fraction → All IsDigit (behind_two fraction) → number_of (behind_two fraction) ≡ 0
     → Hundredths (hundredths (get_or fraction 0 0) (get_or fraction 1 0)) found → Quarters fraction found
 quarter-two fraction found some are zeros is =
@@ -103,6 +108,7 @@ one_found : (a : ℕ) (found : Option ℕ) → Hundredths (10 * (a - 48)) found 
 one_found a None none = λ q is. none q (omega (arith, is))
 one_found a (Some q) is = omega (arith, is)
 
+-- one digit
 pub quarter-one : (fraction : List ℕ) (found : Option ℕ) → 1 ≤ length fraction → length fraction < 2 → Hundredths (10 * (get_or fraction 0 0 - 48)) found → Quarters fraction found
 quarter-one fraction found some few is = subst (λ f. Quarters f found) (sym (one_first fraction some few)) (one_found (get_or fraction 0 0) found is)
 
@@ -125,6 +131,7 @@ same_factor q q' p some same =
 pub one_quarter : (fraction : List ℕ) (q q' : ℕ) → All IsDigit fraction → IsQuarter fraction q → IsQuarter fraction q' → q ≡ q'
 one_quarter fraction q q' are one other = same_factor q q' (10 ^ length fraction) (omega (arith, number-small fraction are)) (sym one ∙ other)
 
+-- less than a needle is three quarters at most
 pub few_quarters : (fraction : List ℕ) (q : ℕ) → All IsDigit fraction → IsQuarter fraction q → q < 4
 few_quarters fraction q are is =
     ⊎_elim

@@ -14,9 +14,11 @@ more n b some small is =
     ∙ ap (λ m. decimal m ++ (48 + (10 * n + (b - 48)) % 10) ∷ []) (omega (arith, is))
     ∙ ap (λ c. decimal n ++ c ∷ []) (omega (arith, is))
 
+-- one digit
 pub one_shortest : (text rest : List ℕ) (a : ℕ) → IsDigit a → text ≡ a ∷ rest → BeginsWithShortestNumber text rest
 one_shortest text rest a is text_is = record { number = a - 48; small = omega (arith, is); text_is = text_is ∙ ap (λ (l : List ℕ). l ++ rest) (sym (one a is)) }
 
+-- two digits, of which the first is no zero
 pub two_shortest : (text ones rest : List ℕ) (a b : ℕ) → IsDigit a → a ≢ 48 → IsDigit b → text ≡ a ∷ ones → ones ≡ b ∷ rest → BeginsWithShortestNumber text rest
 two_shortest text ones rest a b is other is_b text_is ones_is = record {
   number = 10 * (a - 48) + (b - 48);
@@ -26,6 +28,7 @@ two_shortest text ones rest a b is other is_b text_is ones_is = record {
       ∙ ap (λ (l : List ℕ). l ++ rest) (sym (more (a - 48) b (omega (arith, is)) (omega (arith, is)) is_b));
 }
 
+-- three digits, of which the first is no zero
 pub three_shortest : (text ones tens rest : List ℕ) (a b c : ℕ) → IsDigit a → a ≢ 48 → IsDigit b → IsDigit c → text ≡ a ∷ ones → ones ≡ b ∷ tens → tens ≡ c ∷ rest
     → BeginsWithShortestNumber text rest
 three_shortest text ones tens rest a b c is other is_b is_c text_is ones_is tens_is = record {

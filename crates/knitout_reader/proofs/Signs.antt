@@ -17,14 +17,17 @@ after_first text = take_all (length text - 1) (drop 1 text) (omega (arith, lengt
 begins : (text : List ℕ) (byte : ℕ) → 1 ≤ length text → get_or text 0 0 ≡ byte → text ≡ byte ∷ drop 1 text
 begins text byte some is = drop_more text 0 0 some ∙ ap (λ b. b ∷ drop 1 text) is
 
+-- a number that is cut off far up is near
 pub near_up : (far n number : ℕ) → far < 2 ^ 31 → n ≡ min number far → IsNear far (to_z w32 n) (pos number)
 near_up far n number small is =
     ⊎_elim (λ (lt : far < number). inr (inl (omega (arith, ints), omega (arith, ints)))) (λ (le : number ≤ far). inl (omega (arith, ints))) (cases_lt far number)
 
+-- a number that is cut off far down is near
 pub near_down : (far n number : ℕ) → far < 2 ^ 31 → n ≡ min number far → IsNear far (to_z w32 (of_z w32 (pos 0 -ℤ to_z w32 n))) (pos 0 -ℤ pos number)
 near_down far n number small is =
     ⊎_elim (λ (lt : far < number). inr (inr (omega (arith, ints), omega (arith, ints)))) (λ (le : number ≤ far). inl (omega (arith, ints))) (cases_lt far number)
 
+-- digits without a sign
 pub plain_number : (text : List ℕ) (far n : ℕ) → far < 2 ^ 31 → AreDigits text × (n ≡ min (number_of text) far)
     → (z : ℤ) × IsSigned text z × IsNear far (to_z w32 n) z
 plain_number text far n small found = (pos (number_of text), (text, found.0, inl (refl, refl)), near_up far n (number_of text) small found.1)
@@ -33,6 +36,7 @@ rest_digits : (text : List ℕ) (far n : ℕ) → AreDigits (take (length text -
     → AreDigits (drop 1 text) × (n ≡ min (number_of (drop 1 text)) far)
 rest_digits text far n found = subst (λ (ds : List ℕ). AreDigits ds × (n ≡ min (number_of ds) far)) (after_first text) found
 
+-- digits behind a `+`
 pub plus_number : (text : List ℕ) (far n : ℕ) → far < 2 ^ 31 → 1 ≤ length text → get_or text 0 0 ≡ 43
     → AreDigits (take (length text - 1) (drop 1 text)) × (n ≡ min (number_of (take (length text - 1) (drop 1 text))) far)
     → (z : ℤ) × IsSigned text z × IsNear far (to_z w32 n) z
@@ -40,6 +44,7 @@ plus_number text far n small some plus found =
     let digits : AreDigits (drop 1 text) × (n ≡ min (number_of (drop 1 text)) far) = rest_digits text far n found in
     (pos (number_of (drop 1 text)), (drop 1 text, digits.0, inr (inl (begins text 43 some plus, refl))), near_up far n (number_of (drop 1 text)) small digits.1)
 
+-- digits behind a `-`
 pub minus_number : (text : List ℕ) (far n : ℕ) → far < 2 ^ 31 → 1 ≤ length text → get_or text 0 0 ≡ 45
     → AreDigits (take (length text - 1) (drop 1 text)) × (n ≡ min (number_of (take (length text - 1) (drop 1 text))) far)
     → (z : ℤ) × IsSigned text z × IsNear far (to_z w32 (of_z w32 (pos 0 -ℤ to_z w32 n))) z
@@ -47,9 +52,11 @@ minus_number text far n small some minus found =
     let digits : AreDigits (drop 1 text) × (n ≡ min (number_of (drop 1 text)) far) = rest_digits text far n found in
     (pos 0 -ℤ pos (number_of (drop 1 text)), (drop 1 text, digits.0, inr (inr (begins text 45 some minus, refl))), near_down far n (number_of (drop 1 text)) small digits.1)
 
+-- equal texts have equal first bytes
 pub first_byte : (a b : ℕ) (xs ys : List ℕ) → a ∷ xs ≡ b ∷ ys → a ≡ b
 first_byte a b xs ys e = ap (λ l. get_or l 0 0) e
 
+-- and equal bytes behind them
 pub other_bytes : (a b : ℕ) (xs ys : List ℕ) → a ∷ xs ≡ b ∷ ys → xs ≡ ys
 other_bytes a b xs ys e = ap (drop 1) e
 
@@ -73,6 +80,7 @@ s_is_no_number text z signed =
 apart : (a b : ℕ) (xs ys : List ℕ) {P : Type 0} → a ∷ xs ≡ b ∷ ys → (a ≡ b → ⊥) → P
 apart a b xs ys e differ = absurd (differ (first_byte a b xs ys e))
 
+-- the bed is no slider
 abbrev pub is_hook : Bed → Bool
 is_hook Front = true
 is_hook FrontSlider = false
@@ -99,6 +107,7 @@ one_bed BackSlider FrontSlider number rest z same signed = apart _ _ _ _ same (�
 one_bed BackSlider Back number rest z same signed = absurd (s_is_no_number number z (subst (λ r. IsSigned r z) (sym (other_bytes _ _ _ _ same)) signed))
 one_bed BackSlider BackSlider number rest z same signed = inl (refl, other_bytes _ _ _ _ (other_bytes _ _ _ _ same))
 
+-- what is found of a needle is the needle that the token spells
 abbrev pub Found : List ℕ → Option NeedleToken → Type 0
 Found token result = MatchOption result ((bed : Bed) (z : ℤ) → IsNeedle token bed z → ⊥) (λ n. (z : ℤ) × IsNeedle token n.bed z × IsNear FAR n.at z)
 

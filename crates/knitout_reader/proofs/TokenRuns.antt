@@ -109,6 +109,7 @@ first_token_at code start end blanks left starts plain within ends =
     first_token code (rest_from code start) (take end (rest_from code start)) (rest_from (rest_from code start) end) start end
     blanks left (starts left) (take_rest code start) plain within ends refl (take_rest (rest_from code start) end)
 
+-- a text of blanks has no token
 pub no_token : (code : List ℕ) (start : ℕ) → All Blank (take start code) → length code ≤ start → tokens_of code ≡ []
 no_token code start blanks past =
     sym (ap tokens_of (take-append-drop start code))

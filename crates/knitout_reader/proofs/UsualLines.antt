@@ -56,6 +56,7 @@ one_digit text rest a end at is text_is at_is = record {
   text_is = text_is;
 }
 
+-- of two digits
 pub two_digits : (text rest : List ℕ) (a b end : ℕ) (at : ℤ) → IsDigit a → IsDigit b → text ≡ a ∷ b ∷ end ∷ rest → at ≡ pos (10 * (a - 48) + (b - 48))
     → BeginsWithUsualNumber text at end rest
 two_digits text rest a b end at is is_b text_is at_is = record {
@@ -66,6 +67,7 @@ two_digits text rest a b end at is is_b text_is at_is = record {
   text_is = text_is;
 }
 
+-- of three digits
 pub three_digits : (text rest : List ℕ) (a b c end : ℕ) (at : ℤ) → IsDigit a → IsDigit b → IsDigit c → text ≡ a ∷ b ∷ c ∷ end ∷ rest
     → at ≡ pos (100 * (a - 48) + 10 * (b - 48) + (c - 48)) → BeginsWithUsualNumber text at end rest
 three_digits text rest a b c end at is is_b is_c text_is at_is = record {
@@ -308,12 +310,14 @@ xfer_token = word_token 120 102 101 114 (letter 120 (lit< tt) (lit< tt)) (letter
 no_slider : (bed : Bed) (token : List ℕ) → is_slider bed ≡ false → slider_form bed (token ∷ []) ≡ None
 no_slider bed token hook = ap (λ b. broken_if b SliderForm 2) hook
 
+-- a usual line with `knit` begins the text
 pub knit-begins : (profile : Profile) (names : List (List ℕ)) (table : ByteNames) (text operands rest : List ℕ) (dir : Dir) (n : Needle) (c : CarrierNo)
     → AreByteNames names table → text ≡ codes "knit" ++ operands → BeginsWithUsualOperands profile table operands dir n c rest
     → BeginsWithUsual profile names text (Knit dir n c) (length text - length rest)
 knit-begins profile names table text operands rest dir n c are is front =
     formed profile names table text operands rest loop_operation.Knit dir n c (Knit dir n c) are knit_token refl no_slider refl is front
 
+-- a usual line with `tuck` begins the text
 pub tuck-begins : (profile : Profile) (names : List (List ℕ)) (table : ByteNames) (text operands rest : List ℕ) (dir : Dir) (n : Needle) (c : CarrierNo)
     → AreByteNames names table → text ≡ codes "tuck" ++ operands → BeginsWithUsualOperands profile table operands dir n c rest
     → BeginsWithUsual profile names text (Tuck dir n c) (length text - length rest)

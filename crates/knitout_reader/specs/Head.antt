@@ -8,9 +8,11 @@ use Rattle.knitout_reader.specs.declared.head.Head.{Head}
 use Rattle.knitout_reader.specs.declared.head.HeadFault.{HeadFault}
 use Rattle.knitout_reader.specs.declared.head.HeadFault.TheVariants.{BadMagic, NoCarriers, TwoCarriers, CarrierNameTwice, ManyCarriers, NoMemory}
 
+-- what a file begins with
 abbrev pub magic : List ℕ
 magic = codes ";!knitout-2"
 
+-- what the header begins with that names the carriers
 abbrev pub carriers_word : List ℕ
 carriers_word = codes ";;Carriers:"
 
@@ -27,6 +29,7 @@ abbrev pub head_len : List (List ℕ) → ℕ
 head_len [] = 0
 head_len (first ∷ lines) = 1 + prefix_len is_head_line lines
 
+-- the lines of the head
 abbrev pub head_of : List (List ℕ) → List (List ℕ)
 head_of lines = take (head_len lines) lines
 
@@ -35,6 +38,7 @@ pub record CarriersHeader : Type 0 where
   pub line : ℕ
   pub names : List (List ℕ)
 
+-- the line is a header that names the carriers
 abbrev pub is_carriers_line : List ℕ → Bool
 is_carriers_line line = starts_with nat_eq line carriers_word
 

@@ -20,6 +20,7 @@ use Rattle.knit_base.specs.declared.rule.Reason.{Reason}
 use Rattle.knitout_reader.specs.Reading.{slider_form}
 use Rattle.knitout_reader.specs.Shapes.{Shape, CarryInShape, CarryOutShape, HookInShape, HookOutShape, ReleaseHookShape, KnitShape, TuckShape, MissShape, DropShape, AmissShape}
 
+-- the word of an operation on carriers alone
 abbrev pub carrier_word : CarrierOperation → List ℕ
 carrier_word carrier_operation.In = codes "in"
 carrier_word carrier_operation.Out = codes "out"
@@ -35,6 +36,7 @@ carrier_shape carrier_operation.HookIn carriers = HookInShape carriers
 carrier_shape carrier_operation.HookOut carriers = HookOutShape carriers
 carrier_shape carrier_operation.ReleaseHook carriers = ReleaseHookShape carriers
 
+-- its instruction
 abbrev pub carrier_instr : CarrierOperation → List CarrierNo → Instr
 carrier_instr carrier_operation.In cs = instr.CarryIn cs
 carrier_instr carrier_operation.Out cs = instr.CarryOut cs
@@ -42,16 +44,19 @@ carrier_instr carrier_operation.HookIn cs = instr.HookIn cs
 carrier_instr carrier_operation.HookOut cs = instr.HookOut cs
 carrier_instr carrier_operation.ReleaseHook cs = instr.ReleaseHook cs
 
+-- the word of an operation with a direction, a needle and carriers
 abbrev pub loop_word : LoopOperation → List ℕ
 loop_word loop_operation.Knit = codes "knit"
 loop_word loop_operation.Tuck = codes "tuck"
 loop_word loop_operation.Miss = codes "miss"
 
+-- its shape
 abbrev pub loop_shape : LoopOperation → Dir → Bed → ℤ → List (List ℕ) → Shape
 loop_shape loop_operation.Knit dir bed at carriers = KnitShape dir bed at carriers
 loop_shape loop_operation.Tuck dir bed at carriers = TuckShape dir bed at carriers
 loop_shape loop_operation.Miss dir bed at carriers = MissShape dir bed at carriers
 
+-- its instruction
 abbrev pub loop_instr : LoopOperation → Dir → Needle → List CarrierNo → Instr
 loop_instr loop_operation.Knit dir n cs = instr.Knit dir n cs
 loop_instr loop_operation.Tuck dir n cs = instr.Tuck dir n cs
@@ -63,18 +68,22 @@ loop_slider loop_operation.Knit bed carriers = slider_form bed carriers
 loop_slider loop_operation.Tuck bed carriers = slider_form bed carriers
 loop_slider loop_operation.Miss bed carriers = None
 
+-- the word of an operation on one needle
 abbrev pub needle_operation_word : NeedleOperation → List ℕ
 needle_operation_word needle_operation.Drop = codes "drop"
 needle_operation_word needle_operation.Amiss = codes "amiss"
 
+-- its shape
 abbrev pub needle_operation_shape : NeedleOperation → Bed → ℤ → Shape
 needle_operation_shape needle_operation.Drop bed at = DropShape bed at
 needle_operation_shape needle_operation.Amiss bed at = AmissShape bed at
 
+-- its instruction
 abbrev pub needle_operation_instr : NeedleOperation → Needle → Instr
 needle_operation_instr needle_operation.Drop n = instr.Drop n
 needle_operation_instr needle_operation.Amiss n = instr.Amiss n
 
+-- the word is that of an operation that free tokens follow
 abbrev pub IsFreeWord : FreeOperation → List ℕ → Type 0
 IsFreeWord free_operation.Stitch word = word ≡ codes "stitch"
 IsFreeWord free_operation.Pause word = word ≡ codes "pause"

@@ -38,6 +38,7 @@ slider_form bed (carrier ∷ carriers) = broken_if (is_slider bed) SliderForm 2
 abbrev pub are_one_side : Bed → Bed → Bool
 are_one_side bed bed2 = if is_front bed then is_front bed2 else not (is_front bed2)
 
+-- both are sliders
 abbrev pub are_sliders : Bed → Bed → Bool
 are_sliders bed bed2 = is_slider bed && is_slider bed2
 
@@ -76,6 +77,7 @@ static_rule profile names (XferShape bed at bed2 at2) = or_else (off_bed profile
 static_rule profile names (DropShape bed at) = off_bed profile 1 at
 static_rule profile names (AmissShape bed at) = off_bed profile 1 at
 
+-- the needle of this bed with this number
 abbrev pub needle_on : Bed → ℤ → Needle
 needle_on bed at = record { bed = bed; at = at }
 
@@ -113,6 +115,7 @@ reading_or (Some reason) i = read.Broken reason
 abbrev pub reading_of : Profile → List (List ℕ) → Shape → Read
 reading_of profile names shape = reading_or (static_rule profile names shape) (instr_of names shape)
 
+-- the line breaks this rule at this token
 abbrev pub broken_at : Rule → ℕ → Read
 broken_at rule at = read.Broken (record { rule = rule; at = at })
 

@@ -33,6 +33,7 @@ lines-more R lines texts from i line text after within is holds so_far =
     ap (λ k. take k (drop from lines)) (omega arith) ∙ take_more (drop from lines) (i - from) [] inside ∙ ap (λ l. take (i - from) (drop from lines) ++ l ∷ []) here in
     subst (λ ls. AllZip R ls (texts ++ text ∷ [])) (sym more) (AllZip-push R (take (i - from) (drop from lines)) texts line text so_far holds)
 
+-- one line more, with its line feed
 pub fed-more : (before after pushed fed : List ℕ) (texts : List (List ℕ)) (text : List ℕ) → fed ≡ before ++ with_line_feeds texts → pushed ≡ fed ++ text → after ≡ pushed ++ 10 ∷ []
     → after ≡ before ++ with_line_feeds (texts ++ text ∷ [])
 fed-more before after pushed fed texts text so_far more feed =

@@ -29,6 +29,7 @@ more_digits n digits large front = record {
   value = fold-append (λ v d. 10 * v + (d - 48)) 0 digits ((48 + n % 10) ∷ []) ∙ omega (arith, front.value);
 }
 
+-- a number in decimal spells it
 pub decimal_spells : (n : ℕ) → n < 2 ^ 64 → Spell n (decimal n)
 decimal_spells n small = decimal_by_steps Spell one_digit more_digits n small
 
@@ -46,6 +47,7 @@ signed_spells (negsuc n) small =
     let value : negsuc n ≡ pos 0 -ℤ pos (suc n) = omega (arith, ints) in
     (decimal (suc n), (spell.some, spell.each), inr (inr (refl, value ∙ ap (λ m. pos 0 -ℤ pos m) (sym spell.value))))
 
+-- the spelling of a needle is read as that needle
 pub needle_spells : (bed : Bed) (z : ℤ) → IsSmall z → IsNeedle (needle_text (record { bed = bed; at = z })) bed z
 needle_spells bed z small = (signed_decimal z, refl, signed_spells z small)
 
@@ -55,6 +57,7 @@ no_blank byte digit is =
     (λ space. omega (arith, eqb-true byte 32 space, digit))
     (λ other. omega (arith, eqb-true byte 9 (sym (ap (λ b. b || nat_eq byte 9) other) ∙ is), digit))
 
+-- a digit can stand in a word
 pub digit_byte : (byte : ℕ) → IsDigit byte → IsWordByte byte
 digit_byte byte digit = (
   by_test (is_blank byte) (λ is. absurd (no_blank byte digit is)) (λ isnt. isnt),

@@ -432,6 +432,7 @@ rewritten profile names line new first others i new_is reads again is = (
       ∙ sym is,
 )
 
+-- the canonical spelling of a line reads as its instruction, and is its own
 pub settles : (profile : Profile) (names : List (List ℕ)) (line : List ℕ) → IsLawfulProfile profile → IsSettled profile names line
 settles profile names line lawful i reads =
     let s : Settled profile names (tokens_of (before_comment line)) i = settled_code profile names (tokens_of (before_comment line)) (has_comment line) i lawful (line_words line) reads in

@@ -18,6 +18,7 @@ use Rattle.knitout_writer.specs.Canonical.{spaced, each_spaced, comment_of, comm
 abbrev pub Clear : List ℕ → Type 0
 Clear text = All (λ byte. is_semicolon byte ≡ false) text
 
+-- the byte is no blank and begins no comment
 abbrev pub IsWordByte : ℕ → Type 0
 IsWordByte byte = (is_blank byte ≡ false) × (is_semicolon byte ≡ false)
 
@@ -32,6 +33,7 @@ plain_of token word = All-weaker IsWordByte Plain (λ b both. both.0) token word
 clear_of : (token : List ℕ) → IsWord token → Clear token
 clear_of token word = All-weaker IsWordByte (λ b. is_semicolon b ≡ false) (λ b both. both.1) token word.bytes
 
+-- the text is empty or begins with a blank
 abbrev pub Starts : List ℕ → Type 0
 Starts rest = 0 < length rest → Blank (get_or rest 0 0)
 
@@ -48,6 +50,7 @@ tokens-each (token ∷ tokens) rest are starts =
     ∙ tokens_of-token token (each_spaced tokens ++ rest) word.some (plain_of token word) (starts_each tokens rest starts)
     ∙ ap (λ ts. token ∷ ts) (tokens-each tokens rest (All-tail IsWord token tokens are) starts)
 
+-- words with one space between two are the tokens of their text
 pub tokens-spaced : (token : List ℕ) (tokens : List (List ℕ)) (rest : List ℕ) → All IsWord (token ∷ tokens) → Starts rest
     → tokens_of (spaced (token ∷ tokens) ++ rest) ≡ token ∷ (tokens ++ tokens_of rest)
 tokens-spaced token tokens rest are starts =
@@ -63,6 +66,7 @@ clear-each (token ∷ tokens) are =
     (All-cons (λ byte. is_semicolon byte ≡ false) 32 token refl (clear_of token (All-head IsWord token tokens are)))
     (clear-each tokens (All-tail IsWord token tokens are))
 
+-- no comment begins among them
 pub clear-spaced : (token : List ℕ) (tokens : List (List ℕ)) → All IsWord (token ∷ tokens) → Clear (spaced (token ∷ tokens))
 clear-spaced token tokens are =
     All-append (λ byte. is_semicolon byte ≡ false) token (each_spaced tokens) (clear_of token (All-head IsWord token tokens are)) (clear-each tokens (All-tail IsWord token tokens are))
@@ -83,6 +87,7 @@ position-first : (line : List ℕ) (n : ℕ) → position_or_len is_semicolon li
 position-first line n is inside =
     ap (λ i. cond (nat_lt i (length line)) (Some i) None) is ∙ cond-true (nat_lt n (length line)) (Some n) None (lt-ltb n (length line) inside)
 
+-- what stands before a `;` is the code of the line
 pub commented : (code more : List ℕ) → Clear code → Commented (code ++ 59 ∷ more) code (59 ∷ more) true
 commented code more clear =
     let at : position is_semicolon (code ++ 59 ∷ more) ≡ Some (length code) =
@@ -96,6 +101,7 @@ commented code more clear =
 no_semicolon : (code : List ℕ) → Clear code → position_or_len is_semicolon code ≡ length code
 no_semicolon code clear = position_or_len_is is_semicolon code (length code) 0 (omega arith) (λ k below. clear k 0 below) (λ inside. absurd (omega arith))
 
+-- a line without a `;` is all code
 pub uncommented : (code : List ℕ) → Clear code → Commented code code [] false
 uncommented code clear =
     let none : position is_semicolon code ≡ None =
@@ -122,6 +128,7 @@ pub record IsRespaced (line new : List ℕ) (tokens : List (List ℕ)) : Type 0 
   pub has : has_comment new ≡ has_comment line
   pub comment : comment_of new ≡ comment_of line
 
+-- a line of words with one space between two is its own spelling
 pub respaced : (line token : List ℕ) (tokens : List (List ℕ)) → All IsWord (token ∷ tokens)
     → IsRespaced line (spaced (token ∷ tokens) ++ comment_behind (comment_of line)) (token ∷ tokens)
 respaced line token tokens are =

@@ -68,9 +68,11 @@ line_words line = words_kept (slice_split is_blank (before_comment line)) (parts
 digits_words : (n : ℕ) (digits : List ℕ) → Spell n digits → All IsWordByte digits
 digits_words n digits spell = All-weaker IsDigit IsWordByte digit_byte digits spell.each
 
+-- a `-` and such bytes can stand in a word
 pub sign_word : (digits : List ℕ) → All IsWordByte digits → All IsWordByte (45 ∷ digits)
 sign_word digits are = All-cons IsWordByte 45 digits (refl, refl) are
 
+-- so can a number in decimal
 pub decimal_bytes : (n : ℕ) → n < 2 ^ 64 → All IsWordByte (decimal n)
 decimal_bytes n small = digits_words n (decimal n) (decimal_spells n small)
 
@@ -90,6 +92,7 @@ bed_some FrontSlider = omega arith
 bed_some Back = omega arith
 bed_some BackSlider = omega arith
 
+-- the spelling of a needle is a word
 pub needle_word : (bed : Bed) (z : ℤ) → IsSmall z → IsWord (needle_text (record { bed = bed; at = z }))
 needle_word bed z small = record {
   some = omega (arith, bed_some bed, length-append (bed_word bed) (signed_decimal z));

@@ -47,6 +47,7 @@ canonical_tokens names (Xfer n n2) tokens = codes "xfer" ∷ needle_text n ∷ n
 canonical_tokens names (Drop n) tokens = codes "drop" ∷ needle_text n ∷ []
 canonical_tokens names (Amiss n) tokens = codes "amiss" ∷ needle_text n ∷ []
 
+-- the comment that begins at this place, if one does
 abbrev pub comment_from : Option ℕ → List ℕ → List ℕ
 comment_from None line = []
 comment_from (Some at) line = drop at line

@@ -96,6 +96,7 @@ pub record FirstLine (text line : List ℕ) (start next : ℕ) : Type 0 where
   pub inside : start + length line ≤ length text
   pub one : HasNoLineEnd line
 
+-- the first line of what is left, and the lines behind it
 pub first_line : (text rest front line : List ℕ) (start len n : ℕ) → start < length text → rest ≡ take (length text - start) (drop start text)
     → len ≡ position_or_len is_line_feed rest → len ≤ length rest → front ≡ take len rest
     → n ≤ length front → take n front ≡ without_return front → line ≡ take n front

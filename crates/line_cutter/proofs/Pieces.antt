@@ -60,12 +60,14 @@ front_and_last piece some =
     let count : length piece ≡ length piece - 1 + 1 = omega arith in
     sym (take_all (length piece) piece (omega arith)) ∙ ap (λ n. take n piece) count ∙ take_more piece (length piece - 1) 0 (omega arith)
 
+-- a carriage return at the end of a piece is no part of its line
 pub return_dropped : (piece : List ℕ) → 0 < length piece → get_or piece (length piece - 1) 0 ≡ 13 → take (length piece - 1) piece ≡ without_return piece
 return_dropped piece some ends =
     sym (returned (take (length piece - 1) piece))
     ∙ ap (λ byte. without_return (take (length piece - 1) piece ++ byte ∷ [])) (sym ends)
     ∙ ap without_return (sym (front_and_last piece some))
 
+-- a piece without one is its line
 pub nothing_dropped : (piece : List ℕ) → (0 < length piece → get_or piece (length piece - 1) 0 ≢ 13) → take (length piece) piece ≡ without_return piece
 nothing_dropped [] other = refl
 nothing_dropped (byte ∷ bytes) other =

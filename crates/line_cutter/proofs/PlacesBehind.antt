@@ -5,6 +5,7 @@ use Rattle.std.proofs.lemmas.List.Elements.{All-push}
 use Rattle.knit_base.specs.Lines.{lines_of}
 use Rattle.line_cutter.specs.Cut.{IsBehind, IsGoodLine, StandsAt}
 
+-- the text begins behind no lines
 pub behind-none : (text : List ℕ) → IsBehind text 0 0
 behind-none text = record { left = refl; within = omega arith; few = omega arith; fit = omega arith; good = λ k d below. absurd (omega arith) }
 

@@ -1,6 +1,7 @@
-pub mod Passes
-pub mod Yarns
-pub mod Grouped
-pub mod Windows
 pub mod Groupings
-pub mod Listing
+pub mod OperationList
+pub mod PartialGroupings
+pub mod Passes
+pub mod Racks
+pub mod Windows
+pub mod Yarns

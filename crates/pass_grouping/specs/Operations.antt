@@ -4,6 +4,7 @@ use Rattle.std.specs.Option.{option_to_list}
 use Rattle.std.specs.List.{fold}
 use Rattle.knit_base.specs.declared.instr.Instr.{Instr}
 use Rattle.knit_base.specs.declared.instr.Instr.TheVariants.{CarryIn, CarryOut, HookIn, HookOut, ReleaseHook, Stitch, Pause, Extension, Rack, Knit, Tuck, Miss, Split, Xfer, Drop, Amiss}
+use Rattle.knit_base.specs.declared.instr.Quarter.{Quarter}
 use Rattle.knit_base.specs.declared.instr.Read.{Read}
 use Rattle.knit_base.specs.declared.instr.Read.TheVariants as read
 use Rattle.knit_base.specs.declared.needle.Bed.{Bed}
@@ -11,6 +12,7 @@ use Rattle.knit_base.specs.declared.needle.Bed.TheVariants.{Front, FrontSlider, 
 use Rattle.knit_base.specs.declared.needle.Needle.{Needle}
 use Rattle.knit_base.specs.declared.needle.Dir.{Dir}
 use Rattle.knit_base.specs.declared.yarns.CarrierNo.{CarrierNo}
+use Rattle.knit_base.specs.Instr.{rack_of}
 use Rattle.pass_grouping.specs.declared.operation.Class.{Class}
 use Rattle.pass_grouping.specs.declared.operation.Class.TheVariants as class
 use Rattle.pass_grouping.specs.declared.operation.PassOp.{PassOp}
@@ -92,31 +94,15 @@ ends_stretch read.Comment = false
 ends_stretch (read.Broken reason) = true
 ends_stretch (read.Instr i) = stops_carriage i
 
--- the rack behind an instruction, where it was this before
-abbrev pub rack_set : ℤ → Instr → ℤ
-rack_set rack (CarryIn cs) = rack
-rack_set rack (CarryOut cs) = rack
-rack_set rack (HookIn cs) = rack
-rack_set rack (HookOut cs) = rack
-rack_set rack (ReleaseHook cs) = rack
-rack_set rack Stitch = rack
-rack_set rack Pause = rack
-rack_set rack Extension = rack
-rack_set rack (Rack q) = q.0
-rack_set rack (Knit dir n cs) = rack
-rack_set rack (Tuck dir n cs) = rack
-rack_set rack (Miss dir n cs) = rack
-rack_set rack (Split dir n n2 cs) = rack
-rack_set rack (Xfer n n2) = rack
-rack_set rack (Drop n) = rack
-rack_set rack (Amiss n) = rack
+-- the rack that is set, or else this one
+abbrev pub rack_or : ℤ → Option Quarter → ℤ
+rack_or rack None = rack
+rack_or rack (Some q) = q.0
 
 -- the rack behind a line, where it was this before
 abbrev pub rack_behind : ℤ → Read → ℤ
-rack_behind rack read.Blank = rack
-rack_behind rack read.Comment = rack
-rack_behind rack (read.Broken reason) = rack
-rack_behind rack (read.Instr i) = rack_set rack i
+rack_behind rack (read.Instr i) = rack_or rack (rack_of i)
+rack_behind rack r = rack
 
 -- the rack behind these lines, which is 0 before the first
 abbrev pub rack_after : List Read → ℤ
@@ -129,31 +115,16 @@ operations_after first earlier [] = []
 operations_after first earlier (r ∷ later) =
     option_to_list (operation_of (first + length earlier) (count_by ends_stretch earlier) (rack_after earlier) r) ++ operations_after first (earlier ++ r ∷ []) later
 
--- from -256 to 256 quarters
+-- from -256 to 256 quarters, which is 64 needles to either side
 abbrev pub IsWithinGreatestRack : ℤ → Type 0
 IsWithinGreatestRack rack = (negsuc 255 ≤ℤ rack) × (rack ≤ℤ pos 256)
 
-abbrev pub IsSetWithin : Instr → Type 0
-IsSetWithin (CarryIn cs) = Unit {0}
-IsSetWithin (CarryOut cs) = Unit {0}
-IsSetWithin (HookIn cs) = Unit {0}
-IsSetWithin (HookOut cs) = Unit {0}
-IsSetWithin (ReleaseHook cs) = Unit {0}
-IsSetWithin Stitch = Unit {0}
-IsSetWithin Pause = Unit {0}
-IsSetWithin Extension = Unit {0}
-IsSetWithin (Rack q) = IsWithinGreatestRack q.0
-IsSetWithin (Knit dir n cs) = Unit {0}
-IsSetWithin (Tuck dir n cs) = Unit {0}
-IsSetWithin (Miss dir n cs) = Unit {0}
-IsSetWithin (Split dir n n2 cs) = Unit {0}
-IsSetWithin (Xfer n n2) = Unit {0}
-IsSetWithin (Drop n) = Unit {0}
-IsSetWithin (Amiss n) = Unit {0}
+-- a rack that is set lies there
+abbrev pub IsSetWithin : Option Quarter → Type 0
+IsSetWithin None = Unit {0}
+IsSetWithin (Some q) = IsWithinGreatestRack q.0
 
--- a rack that the line sets is of 64 needles at most, on either side
+-- a rack that the line sets lies there, as it does in every lawful reading (`proofs/Racks`)
 abbrev pub IsRackWithin : Read → Type 0
-IsRackWithin read.Blank = Unit {0}
-IsRackWithin read.Comment = Unit {0}
-IsRackWithin (read.Broken reason) = Unit {0}
-IsRackWithin (read.Instr i) = IsSetWithin i
+IsRackWithin (read.Instr i) = IsSetWithin (rack_of i)
+IsRackWithin r = Unit {0}

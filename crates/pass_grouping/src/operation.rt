@@ -16,7 +16,8 @@ pub enum Class {
 }
 
 /// A carriage operation: the line that it stands in, the stretch of lines without a pause, and what two operations of one
-/// pass share or differ in. `place` is in quarters of a needle, seen from the front bed. `dir` is `None` and `yarns` empty
+/// pass share or differ in. `place` is in quarters of a needle, seen from the front bed. `yarns` are the carriers in written
+/// order; two operations have the same ones where their lists are equal in that order, too. `dir` is `None` and `yarns` empty
 /// for `Move` and `Drop`.
 #[derive(Drop)]
 pub struct PassOp {
@@ -32,7 +33,8 @@ pub struct PassOp {
 pub type PassOps = ListOf<PassOp>;
 
 /// The carriage operations of these readings, of which the first is that of the line `first`. A line that the reader found
-/// broken ends a stretch.
+/// broken ends a stretch. The racks lie within the limits wherever the readings are lawful (`proofs/Racks`). Fails where memory
+/// runs out.
 pub fn operations(alloc: Global, reads: &Reads, first: u32) -> Result<PassOps, NoMemory>
     requires lines { first + length reads.now < 2 ^ 32 }
     requires racks { All IsRackWithin reads.now }
@@ -100,26 +102,22 @@ fn operation_of(
     ensures { IfOk result (λ op. op ≡ operation_of line stretch rack read.now) }
 {
     match read {
-        Read::Instr(instr) => operation_of_instr(alloc, line, stretch, rack, instr),
+        Read::Instr(instr) => {
+            let spot = Spot {
+                line,
+                stretch,
+                rack,
+            };
+            operation_of_instr(alloc, spot, instr)
+        }
         Read::Blank | Read::Comment | Read::Broken(_) => Ok(None),
     }
 }
 
-fn operation_of_instr(
-    alloc: Global,
-    line: u32,
-    stretch: u32,
-    rack: i32,
-    instr: &Instr,
-) -> Result<Option<PassOp>, NoMemory>
-    requires { IsWithinGreatestRack rack }
-    ensures { IfOk result (λ op. op ≡ operation_of_instr line stretch rack instr.now) }
+fn operation_of_instr(alloc: Global, spot: Spot, instr: &Instr) -> Result<Option<PassOp>, NoMemory>
+    requires { IsWithinGreatestRack spot.rack }
+    ensures { IfOk result (λ op. op ≡ operation_of_instr spot.line spot.stretch spot.rack instr.now) }
 {
-    let spot = Spot {
-        line,
-        stretch,
-        rack,
-    };
     match instr {
         Instr::Knit(dir, n, yarns) | Instr::Tuck(dir, n, yarns) => {
             if yarns.len() == 0 {

@@ -1,5 +1,6 @@
 //! Each public call with ample memory, on small programs.
 ghost use Rattle.std.specs.Prelude.{◌≡◌, ◌+◌, ◌<◌, ◌^◌, length, All, OnOk};
+ghost use Rattle.knit_base.specs.Instr.{rack_of};
 ghost use Rattle.pass_grouping.specs.Operations.{IsRackWithin, IsSetWithin};
 
 use crate::{Class, Window, check_certificate, group, operations};
@@ -10,7 +11,7 @@ use std::test::Fail;
 fn line(reads: &mut Reads, instr: Instr) -> Result<(), NoMemory>
     requires few { length reads.old < 100 }
     requires racks { All IsRackWithin reads.old }
-    requires rack { IsSetWithin instr }
+    requires rack { IsSetWithin (rack_of instr) }
     ensures racks { OnOk result (All IsRackWithin reads.new) }
     ensures one { OnOk result (length reads.new ≡ length reads.old + 1) }
 {

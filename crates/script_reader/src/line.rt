@@ -1,14 +1,13 @@
 //! What a line of a script says by itself.
 ghost use Rattle.std.specs.Prelude.{◌≡◌, true, drop};
-ghost use Rattle.std.specs.List.{list_all};
 ghost use Rattle.knit_base.specs.Lines.{IsLine};
-ghost use Rattle.knitout_reader.specs.Tokens.{is_blank, tokens_of};
+ghost use Rattle.knitout_reader.specs.Tokens.{tokens_of};
 ghost use Rattle.script_reader.specs.Statements.{is_live, is_skipped, is_text_line, kind_of, kind_of_one, kind_of_two, head_of};
 
 use crate::command::Place;
 use crate::words::{name, number, place};
 use edit_journal::BlockName;
-use knitout_reader::next_token;
+use knitout_reader::{is_blank_text, next_token};
 
 const LIVE: &[u8] = b"live";
 
@@ -103,12 +102,6 @@ fn is_skipped(line: &[u8]) -> bool
     ensures { result ≡ is_skipped line.now }
 {
     line.starts_with(b"#") || is_blank_text(line)
-}
-
-fn is_blank_text(text: &[u8]) -> bool
-    ensures { result ≡ list_all is_blank text.now }
-{
-    text.iter().all(|byte| *byte == b' ' || *byte == b'\t')
 }
 
 fn one_word(word: &[u8]) -> Kind

@@ -1,6 +1,5 @@
 //! A script, read from its first line to its last.
-ghost use Rattle.std.specs.Prelude.{◌≡◌, ◌⊎◌, ◌+◌, ◌<◌, ◌≤◌, false, List, ℕ, [], ◌∷◌, ◌++◌, length, drop, IfOk, IfErr, Ok, slice_index_or};
-ghost use Rattle.knit_base.specs.Lines.{IsLine};
+ghost use Rattle.std.specs.Prelude.{◌≡◌, ◌⊎◌, ◌↔◌, IsTrue, ◌+◌, ◌<◌, ◌≤◌, false, List, ℕ, [], ◌∷◌, ◌++◌, length, drop, IfOk, IfErr, Ok};
 ghost use Rattle.script_reader.specs.Script.{IsScript, IsRefusal, adds_in, adds_of, is_known, last_takes_text, names_known};
 ghost use Rattle.script_reader.specs.Reading.{BeginWithHeading, BeginWithSession, IsErr, behind_command, behind_texts, command_in_front, reading, script_of, texts_in_front, walk};
 ghost use Rattle.script_reader.specs.declared.command.Command.{Command};
@@ -11,6 +10,7 @@ use crate::fault::{Cause, ScriptFault};
 use crate::line::{Head, Kind, is_live, kind_of, text_of};
 use edit_journal::BlockName;
 use knit_base::{Lines, ListOf, NoMemory};
+use knitout_reader::nth_line;
 use std::alloc::Global;
 
 /// How many sessions a script has at most.
@@ -32,7 +32,7 @@ fn read(alloc: Global, lines: &Lines) -> Result<Script, ScriptFault>
     ensures script { IfOk result (λ script. reading lines.now ≡ Ok script) }
     ensures fault { IfErr result (IsErr (reading lines.now)) }
 {
-    if lines.len() == 0 || !is_live(line_at(lines, 0).as_bytes()) {
+    if lines.len() == 0 || !is_live(nth_line(lines, 0).as_bytes()) {
         return Err(ScriptFault::At {
             line: 1,
             cause: Cause::NoLive,
@@ -41,14 +41,6 @@ fn read(alloc: Global, lines: &Lines) -> Result<Script, ScriptFault>
     let (text, next) = read_text(alloc, lines, 1)?;
     let sessions = read_sessions(alloc, lines, next)?;
     Ok(Script { text, sessions })
-}
-
-fn line_at(lines: &Lines, i: u32) -> &str
-    requires { i < length lines.now }
-    ensures text { result.now ≡ slice_index_or lines.now i [] }
-    ensures line { IsLine result.now }
-{
-    lines.get(i).unwrap()
 }
 
 // The sessions from here on, up to the end.
@@ -61,13 +53,13 @@ fn read_sessions(alloc: Global, lines: &Lines, start: u32) -> Result<SessionScri
     let mut sessions = ListOf::new(alloc);
     let mut at = start;
     while at < lines.len() {
-        let Kind::Session = kind_of(line_at(lines, at).as_bytes()) else {
+        let Kind::Session = kind_of(nth_line(lines, at).as_bytes()) else {
             return Err(ScriptFault::At {
                 line: at + 1,
                 cause: Cause::BadLine,
             });
         };
-        if sessions.len() == SESSION_LIMIT {
+        if is_full(sessions.len()) {
             return Err(ScriptFault::At {
                 line: at + 1,
                 cause: Cause::ManySessions,
@@ -78,6 +70,13 @@ fn read_sessions(alloc: Global, lines: &Lines, start: u32) -> Result<SessionScri
         at = next;
     }
     Ok(sessions)
+}
+
+// Whether no session may begin behind so many.
+fn is_full(sessions: u32) -> bool
+    ensures { IsTrue result ↔ (sessions ≡ 64) }
+{
+    sessions == SESSION_LIMIT
 }
 
 // The commands of a session from here on, and the place of the line behind them.
@@ -96,7 +95,7 @@ fn read_commands(
     let mut adds = 0;
     let mut at = start;
     while at < lines.len() {
-        match kind_of(line_at(lines, at).as_bytes()) {
+        match kind_of(nth_line(lines, at).as_bytes()) {
             Kind::Skipped => at += 1,
             Kind::Session => return Ok((commands, at)),
             Kind::Command(head) => {
@@ -159,7 +158,7 @@ fn read_text(alloc: Global, lines: &Lines, start: u32) -> Result<(Lines, u32), N
 {
     let mut text = Lines::new(alloc);
     for i in start..lines.len() {
-        let line = line_at(lines, i);
+        let line = nth_line(lines, i);
         match kind_of(line.as_bytes()) {
             Kind::Skipped => {}
             Kind::Text => text.push(text_of(line))?,

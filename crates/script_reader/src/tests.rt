@@ -99,31 +99,27 @@ fn numbers_fit_32_bits(rt: HostRuntime) {
 }
 
 #[test]
+fn a_blank_in_front_makes_a_bad_line(rt: HostRuntime) {
+    let alloc = rt.alloc();
+    assert_eq!(rt; refusal(alloc, &["live 1", " # x"]), at(2, Cause::BadLine));
+    assert_eq!(rt; refusal(alloc, &["live 1", " |x"]), at(2, Cause::BadLine));
+}
+
+#[test]
+fn skipped_lines_are_counted(rt: HostRuntime) {
+    let alloc = rt.alloc();
+    assert_eq!(rt;
+        refusal(
+            alloc,
+            &["live 1", "# x", "session", "put 0", "", "|in 1", "add @1"]
+        ),
+        at(7, Cause::NoOwn)
+    );
+}
+
+#[test]
 fn a_script_is_read(rt: HostRuntime) -> Result<(), Fail> {
     let alloc = rt.alloc();
-    let lines = lines_of(
-        alloc,
-        &[
-            " live\t1 ",
-            "|;!knitout-2",
-            "# skipped",
-            "|",
-            " session ",
-            "put 0",
-            "",
-            "|in 1",
-            "add @1",
-            "session",
-            "verdict",
-        ],
-    )?;
-    match read_script(alloc, &lines) {
-        Err(ScriptFault::At { line, cause }) => assert_eq!(rt;
-            at(line, cause),
-            at(9, Cause::NoOwn)
-        ),
-        _ => assert!(rt; false),
-    }
     let lines = lines_of(
         alloc,
         &[

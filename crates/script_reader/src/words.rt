@@ -8,7 +8,7 @@ use crate::command::Place;
 use edit_journal::BlockName;
 
 /// How many digits a number has at most.
-const MOST_DIGITS: usize = 10;
+const MAX_DIGITS: usize = 10;
 
 /// A value from which on a number doesn't fit 32 bits.
 const TOO_GREAT: u64 = 4_294_967_296;
@@ -39,7 +39,7 @@ pub(crate) fn name(word: &[u8]) -> Option<BlockName>
 pub(crate) fn number(word: &[u8]) -> Option<u32>
     ensures { result ≡ number_in word.now }
 {
-    if word.is_empty() || word.len() > MOST_DIGITS || !are_digits(word) {
+    if word.is_empty() || word.len() > MAX_DIGITS || !are_digits(word) {
         return None;
     }
     let value = value_of(word);

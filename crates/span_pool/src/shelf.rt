@@ -58,6 +58,15 @@ fn add_lists<T: Copy>(
     Ok(())
 }
 
+// The list without its items, and with its room.
+fn emptied<T: Copy>(mut list: Vec<T>) -> Vec<T>
+    ensures items { result.items ≡ [] }
+    ensures room { vec_capacity result ≡ vec_capacity list }
+{
+    list.clear();
+    list
+}
+
 impl<T: Copy> Shelf<T> {
     /// A shelf without spans, which takes no memory.
     pub fn new(alloc: Global, room: usize) -> Self
@@ -110,10 +119,7 @@ impl<T: Copy> Shelf<T> {
     {
         match self.spare.pop() {
             None => None,
-            Some(mut fresh) => {
-                fresh.clear();
-                Some(self.out.insert_reserved(fresh))
-            }
+            Some(list) => Some(self.out.insert_reserved(emptied(list))),
         }
     }
 
@@ -136,8 +142,7 @@ impl<T: Copy> Shelf<T> {
         ensures spare { self.new.spare ≡ self.old.spare }
         ensures room { self.new.room ≡ self.old.room }
     {
-        let mut list = self.out.remove(key);
-        list.clear();
+        let mut list = emptied(self.out.remove(key));
         match list.extend_from_slice(items) {
             Ok(()) => {}
             Err(_) => unreachable!(),

@@ -1,3 +1,4 @@
-pub mod Changing
-pub mod Finding
-pub mod Needing
+pub mod Changes
+pub mod Offsets
+pub mod Needs
+pub mod Sums

@@ -1,9 +1,9 @@
 -- What always holds of a tree with its values, and the rooms that a change needs.
-use Rattle.std.specs.Prelude.{◌≡◌, ℕ, ◌+◌, ◌≤◌, List, [], ◌∷◌, ◌++◌, map, slice_index, Option, Some, None}
+use Rattle.std.specs.Prelude.{◌≡◌, ℕ, ◌≤◌, List, [], ◌∷◌, ◌++◌, map, slice_index, Option, Some}
 use Rattle.std.specs.Option.{option_map}
 use Rattle.tree_shape.specs.Numbers.{next_number}
 use Rattle.tree_shape.specs.declared.dirty.DirtyRow.{DirtyRow}
-use Rattle.tree_shape.specs.View.{ShapeView, IsLawful, leaves_of_tree, rows_above, rows_with, rows_without}
+use Rattle.tree_shape.specs.View.{ShapeView, leaves_of_tree, rows_above, rows_with, rows_without}
 use Rattle.tree_shape.specs.Values.{AreThere, KeepsAll, leaf_values, with_node, composed_all}
 
 -- each leaf has a value, these may stand in one tree, each inner node has the value composed of its leaves', and there is a place for each number drawn

@@ -1,4 +1,5 @@
 pub mod Found
 pub mod Kept
 pub mod Need
+pub mod Sums
 pub mod Walk

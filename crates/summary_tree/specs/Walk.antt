@@ -1,5 +1,5 @@
 -- A walk down a tree to the leaf that has an offset.
-use Rattle.std.specs.Prelude.{◌≡◌, ℕ, ◌+◌, ◌<◌, ◌≤◌, List, Option}
+use Rattle.std.specs.Prelude.{◌≡◌, ℕ, ◌+◌, ◌<◌, ◌≤◌, Option}
 use Rattle.tree_shape.specs.Tree.{Tree, name, leaves, height, count}
 use Rattle.tree_shape.specs.Changes.{IsPartOf}
 use Rattle.tree_shape.specs.Values.{AreThere, Keeps, gathered}

@@ -20,15 +20,19 @@ pub trait Summaries: Drop {
     /// Rooms, in the order in which they are used.
     type Need: Drop;
 
+    /// The value of the leaf with a number.
     ghost leaf_at: { Self → ℕ → Option Self.Value };
 
+    /// The value of the inner node with a number.
     ghost node_at: { Self → ℕ → Option Self.Value };
 
     /// How many numbers of leaves and of inner nodes there is a place for.
     ghost slots: { Self → ℕ };
 
+    /// Two values composed, the left one first.
     ghost join: { Self.Value → Self.Value → Self.Value };
 
+    /// The two can be composed.
     ghost fits: { Self.Value → Self.Value → Type 0 };
 
     /// Which values may be the leaves of one tree.
@@ -37,20 +41,25 @@ pub trait Summaries: Drop {
     /// A value stands for the leaves, one after the other.
     ghost stands: { List Self.Value → Self.Value → Type 0 };
 
+    /// The steps that reading or writing a value takes.
     ghost cost: { Self.Value → ℕ };
 
     /// What a value for some of these leaves costs at most.
     ghost most: { List Self.Value → ℕ };
 
+    /// The room that a value takes.
     ghost room: { Self.Value → Self.Room };
 
+    /// Room for what composing two values of these rooms may give.
     ghost after: { Self.Room → Self.Room → Self.Room };
 
+    /// The first room is no larger than the second.
     ghost within: { Self.Room → Self.Room → Type 0 };
 
     /// There is memory for values of these rooms, one after the other.
     ghost meets: { Self → List Self.Room → Type 0 };
 
+    /// The rooms of a need, in the order in which they are used.
     ghost rooms: { Self.Need → List Self.Room };
 
     /// The room of what a child has.
@@ -58,26 +67,32 @@ pub trait Summaries: Drop {
         requires { (v : Self.Value) × (part (leaf_at self.now) (node_at self.now) child ≡ Some v) }
         ensures { (v : Self.Value) → part (leaf_at self.now) (node_at self.now) child ≡ Some v → result ≡ room v };
 
+    /// Room for what composing two values of these rooms may give.
     fn both(left: Self::Room, right: Self::Room) -> Self::Room
         ensures { result ≡ after left right };
 
+    /// A need without rooms. Takes no memory.
     fn no_need() -> Self::Need
         ensures { rooms result ≡ [] };
 
+    /// Appends a room. Takes no memory: a need has 73 rooms at most.
     fn push(need: &mut Self::Need, size: Self::Room)
         requires { length (rooms need.old) < 73 }
         ensures { rooms need.new ≡ rooms need.old ++ size ∷ [] };
 
+    /// The room at a place, from 0.
     fn nth(need: &Self::Need, i: u32) -> Self::Room
         requires { i < length (rooms need.now) }
         ensures { slice_get (rooms need.now) i ≡ Some result };
 
+    /// Makes the memory that a need asks for. Fails where memory runs out, with the same values.
     fn reserve(&mut self, need: &Self::Need) -> Result<(), NoMemory>
         ensures ok { OnOk result (meets self.new (rooms need.now)) }
         ensures leaves { (k : ℕ) → leaf_at self.new k ≡ leaf_at self.old k }
         ensures nodes { (k : ℕ) → node_at self.new k ≡ node_at self.old k }
         ensures slots { slots self.old ≤ slots self.new };
 
+    /// Whether the memory that a need asks for is there.
     fn meets(&self, need: &Self::Need) -> bool
         ensures { (result ≡ true) ↔ meets self.now (rooms need.now) };
 
@@ -106,7 +121,7 @@ pub trait Summaries: Drop {
         ensures slots { slots self.new ≡ slots self.old }
         ensures memory { (needed : List Self.Room) → meets self.old needed → meets self.new needed };
 
-    /// Makes a place for so many leaves and inner nodes.
+    /// Makes a place for so many leaves and inner nodes. Fails where memory runs out, with the same values.
     fn reserve_slots(&mut self, many: u32) -> Result<(), NoMemory>
         ensures ok { OnOk result (many ≤ slots self.new) }
         ensures more { slots self.old ≤ slots self.new }
@@ -114,18 +129,22 @@ pub trait Summaries: Drop {
         ensures nodes { (k : ℕ) → node_at self.new k ≡ node_at self.old k }
         ensures memory { (needed : List Self.Room) → meets self.old needed → meets self.new needed };
 
+    /// Sound leaves have a value that stands for them: a leaf alone, and two runs of leaves composed.
     ghost stand_laws: { StandLaws sound stands join fits };
 
+    /// The room of a composed value is no larger than the one known from the rooms of its parts.
     ghost room_laws: { RoomLaws join fits room after within };
 
     /// Memory is for any order.
     ghost meets_law: { (s : Self) (r : Self.Room) (needed : List Self.Room) → meets s (needed ++ r ∷ []) → meets s (r ∷ needed) };
 
+    /// No value for some of the leaves costs more than `most` of them all.
     ghost cost_law: { (xs : List Self.Value) → sound xs → Costs stands cost (most xs) xs };
 }
 
 /// Values that can be put at a leaf.
 pub trait Takes<F>: Summaries {
+    /// The value of what is put at a leaf.
     ghost value_of: { F → Self.Value };
 
     /// Puts a value at a leaf, in place of what was there.

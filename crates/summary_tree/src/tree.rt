@@ -19,13 +19,13 @@ use tree_shape::{Child, Dirty, Shape};
 
 /// A balanced tree with a value at each leaf, and at each inner node the one composed of its leaves' values.
 #[derive(Drop)]
-pub struct SumTree<S: Summaries> {
+pub struct SummaryTree<S: Summaries> {
     pub(crate) shape: Shape,
     pub(crate) store: S,
 }
 
-impl<S: Summaries> SumTree<S> {
-    /// Puts another value at the leaf of a position.
+impl<S: Summaries> SummaryTree<S> {
+    /// Puts another value at the leaf of a position, from 0. Takes no memory.
     pub fn replace<F, L: Ledger>(&mut self, at: u32, leaf: F, steps: &mut Steps<L>)
     where
         S: Takes<F>,
@@ -46,7 +46,7 @@ impl<S: Summaries> SumTree<S> {
         refresh(&mut self.store, &dirty, steps);
     }
 
-    /// Puts a leaf at a position, into room that was made before, and answers its number.
+    /// Puts a leaf at a position, before the leaf that was there, and answers its number. Takes no memory.
     pub fn insert<F, L: Ledger>(&mut self, at: u32, leaf: F, steps: &mut Steps<L>) -> u32
     where
         S: Takes<F>,
@@ -73,7 +73,7 @@ impl<S: Summaries> SumTree<S> {
         number
     }
 
-    /// Takes the leaf at a position out and answers its number.
+    /// Takes the leaf at a position out and answers its number. Takes no memory.
     pub fn remove<L: Ledger>(&mut self, at: u32, steps: &mut Steps<L>) -> u32
         requires kept { IsKept S.join S.sound (S.leaf_at self.old.store) (S.node_at self.old.store) (S.slots self.old.store) self.old.shape }
         requires place { at < count_of self.old.shape.tree }
@@ -96,7 +96,7 @@ impl<S: Summaries> SumTree<S> {
         number
     }
 
-    /// What putting a value of this room at a position needs.
+    /// What putting a value of this room at a position needs. It stays a need until the next change.
     pub fn need_replace(&self, at: u32, room: S::Room) -> S::Need
         requires kept { IsKept S.join S.sound (S.leaf_at self.now.store) (S.node_at self.now.store) (S.slots self.now.store) self.now.shape }
         requires place { at < count_of self.now.shape.tree }
@@ -134,7 +134,8 @@ impl<S: Summaries> SumTree<S> {
         need_of(&self.store, None, &dirty)
     }
 
-    /// Makes that room. Where it is there already, it takes no memory and is `Ok`.
+    /// Makes the room that a need asks for. Where it is there already, it takes no memory and is `Ok`. Fails where memory runs
+    /// out, with the same tree.
     pub fn reserve(&mut self, need: &S::Need) -> Result<(), NoMemory>
         requires kept { IsKept S.join S.sound (S.leaf_at self.old.store) (S.node_at self.old.store) (S.slots self.old.store) self.old.shape }
         ensures kept { IsKept S.join S.sound (S.leaf_at self.new.store) (S.node_at self.new.store) (S.slots self.new.store) self.new.shape }
@@ -151,7 +152,8 @@ impl<S: Summaries> SumTree<S> {
         self.store.reserve(need)
     }
 
-    /// Makes that room, and a place for one more leaf and one more inner node.
+    /// Makes the room that a need asks for, and a place for one more leaf and one more inner node. Fails where memory runs out,
+    /// with the same tree.
     pub fn reserve_insert(&mut self, need: &S::Need) -> Result<(), NoMemory>
         requires kept { IsKept S.join S.sound (S.leaf_at self.old.store) (S.node_at self.old.store) (S.slots self.old.store) self.old.shape }
         ensures kept { IsKept S.join S.sound (S.leaf_at self.new.store) (S.node_at self.new.store) (S.slots self.new.store) self.new.shape }
@@ -176,20 +178,20 @@ impl<S: Summaries> SumTree<S> {
         })
     }
 
-    /// Whether that room is there.
+    /// Whether the room that a need asks for is there.
     pub fn meets(&self, need: &S::Need) -> bool
         ensures { (result ≡ true) ↔ S.meets self.now.store (S.rooms need.now) }
     {
         self.store.meets(need)
     }
 
-    /// A tree without leaves.
-    pub fn new(alloc: Global, store: S) -> SumTree<S>
+    /// A tree without leaves. Takes no memory.
+    pub fn new(alloc: Global, store: S) -> SummaryTree<S>
         requires none { S.sound [] }
         ensures kept { IsKept S.join S.sound (S.leaf_at result.store) (S.node_at result.store) (S.slots result.store) result.shape }
         ensures empty { leaf_values (S.leaf_at result.store) result.shape.tree ≡ [] }
     {
-        SumTree {
+        SummaryTree {
             shape: Shape::new(alloc),
             store,
         }

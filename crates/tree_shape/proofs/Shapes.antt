@@ -8,7 +8,7 @@ use Rattle.tree_shape.specs.declared.node.Child.{Child}
 use Rattle.tree_shape.specs.declared.node.Child.TheVariants.{Leaf, Inner}
 use Rattle.tree_shape.specs.declared.node.Node.{Node}
 use Rattle.tree_shape.specs.Tree.{Tree, leaf, inner, name, count, leaves, inners, IsBalanced, Stands}
-use Rattle.tree_shape.specs.Changes.{IsPart, IsPartOf, BoundsHeight, numbers_below}
+use Rattle.tree_shape.specs.Changes.{IsPart, IsPartOf, IsListing, BoundsHeight, numbers_below}
 use Rattle.tree_shape.specs.declared.dirty.DirtyRow.{DirtyRow}
 use Rattle.tree_shape.specs.Plan.{grown, erase, rows}
 use Rattle.tree_shape.specs.Apply.{mark, times}
@@ -16,12 +16,12 @@ use Rattle.tree_shape.specs.Removal.{shrunk, gone}
 use Rattle.tree_shape.specs.Fewest.{inserted, removed}
 use Rattle.tree_shape.specs.Numbers.{NumbersView, times_in, next_number, taken, given_back, IsCounted}
 use Rattle.tree_shape.specs.View.{ShapeView, tree_at, count_of, leaves_of_tree, inners_of_tree, IsBalancedTree, IsSound, IsRoot, IsShape, IsLawful, IsSameShape, tree_without, inners_without}
-use Rattle.tree_shape.proofs.Standing.{length_leaves}
-use Rattle.tree_shape.proofs.Growing.{times_grown, leaves_grown}
-use Rattle.tree_shape.proofs.Shrinking.{leaves_shrunk, IsInner}
-use Rattle.tree_shape.proofs.Listing.{IsListing, listing_grown, listing_shrunk, few_grown, few_shrunk}
-use Rattle.tree_shape.proofs.Reading.{sound_read, count_grown, count_shrunk, shrunk_times, sound_leaf}
-use Rattle.tree_shape.proofs.Counting.{times_in-append, counted_taken, counted_back, counted_none, fresh, comes, drawn_new, free_again}
+use Rattle.tree_shape.proofs.ArenaTrees.{length_leaves}
+use Rattle.tree_shape.proofs.Insertions.{times_grown, leaves_grown}
+use Rattle.tree_shape.proofs.Removals.{leaves_shrunk, IsInner}
+use Rattle.tree_shape.proofs.Listings.{listing_grown, listing_shrunk, few_grown, few_shrunk}
+use Rattle.tree_shape.proofs.Roots.{rooted, sound_read, count_grown, count_shrunk, shrunk_times, sound_leaf}
+use Rattle.tree_shape.proofs.NumberCounts.{times_in-append, counted_taken, counted_back, counted_none, fresh, comes, drawn_new, free_again}
 
 pub times_inners : (k : ℕ) (t : Tree) → times_in k (inners t) ≡ times k t
 times_inners k (leaf n) = refl
@@ -148,6 +148,18 @@ taken_drawn v = elim (comes v) [ drawn_new e n f d ↦ omega (arith, d) | free_a
 
 pub shape_at : (nodes : List Node) (top : Option Child) (child : Child) (l i : NumbersView) → top ≡ Some child → IsShape nodes top l i → IsShape nodes (Some child) l i
 shape_at nodes top child l i e c = subst (λ v. IsShape nodes v l i) e c
+
+-- the tree below a root that is there, and what is known of it
+pub record TreeBelow (nodes : List Node) (child : Child) (l i : NumbersView) (tree : Option Tree) : Type 0 where
+  pub t : Tree
+  pub sound : IsSound nodes child t
+  pub seen : tree ≡ Some t
+  pub shape : IsShape nodes (Some child) l i
+
+pub tree_below : (nodes : List Node) (root : Option Child) (child : Child) (l i : NumbersView) (tree : Option Tree) → root ≡ Some child → option_map (tree_at nodes) root ≡ tree → IsShape nodes root l i → TreeBelow nodes child l i tree
+tree_below nodes root child l i tree is view shape =
+    let r = rooted nodes root child is shape.sound in
+    record { t = r.t; sound = r.sound; seen = sym view ∙ r.seen; shape = shape_at nodes root child l i is shape }
 
 pub inside : (n : ℕ) (t : Tree) → Inner n ≡ name t → IsInner t
 inside n (leaf m) e = cc

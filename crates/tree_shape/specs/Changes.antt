@@ -1,5 +1,6 @@
 -- What a list of rows says of a tree before and after a change.
 use Rattle.std.specs.Prelude.{◌≡◌, ℕ, zero, suc, ◌+◌, ◌<◌, ◌≤◌, ◌⊎◌, List, [], ◌∷◌, ◌++◌, Option, Some, None}
+use Rattle.std.specs.List.{All}
 use Rattle.tree_shape.specs.declared.node.Child.{Child}
 use Rattle.tree_shape.specs.declared.node.Child.TheVariants.{Leaf, Inner}
 use Rattle.tree_shape.specs.declared.dirty.DirtyRow.{DirtyRow}
@@ -46,6 +47,14 @@ IsNotListed (Inner k) rows = times_listed k rows ≡ 0
 abbrev pub IsOrdered : List DirtyRow → Type 0
 IsOrdered [] = Unit {0}
 IsOrdered (row ∷ rest) = IsNotListed row.left (row ∷ rest) × IsNotListed row.right (row ∷ rest) × IsOrdered rest
+
+-- What rows say of a tree before and after a change: each has the children that its node has then, every other inner node is as
+-- it was, children stand before parents, and none stands twice.
+pub record IsListing (old new : Option Tree) (rows : List DirtyRow) : Type 0 where
+  pub children : All (HasChildren new) rows
+  pub others : LeavesOthers old new rows
+  pub ordered : IsOrdered rows
+  pub once : (k : ℕ) → times_listed k rows ≤ 1
 
 -- a part of a tree, with so many of the tree's leaves before it
 abbrev pub IsPartAt : Tree → ℕ → Tree → Type 0

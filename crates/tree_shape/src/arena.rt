@@ -1,4 +1,4 @@
-// Writing the rows of a change into the arena.
+//! Writing the rows of a change into the arena.
 ghost use Rattle.std.specs.Prelude.{◌≡◌, ◌+◌, ◌<◌};
 ghost use Rattle.tree_shape.specs.Tree.{stored_height};
 ghost use Rattle.tree_shape.specs.Apply.{IsIn, stored_leaves, node_from, FitsRow, FitRows, applied};

@@ -1,4 +1,4 @@
-// The rows that a change lists.
+//! The rows that a change lists.
 ghost use Rattle.std.specs.Prelude.{◌≡◌, ◌+◌, ◌<◌, ◌≤◌, List, [], ◌∷◌, ◌++◌, length, take};
 ghost use Rattle.std.specs.List.{slice_get};
 ghost use Rattle.tree_shape.specs.Plan.{dirty_row};

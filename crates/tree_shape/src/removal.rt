@@ -1,4 +1,4 @@
-// Taking a leaf out, and the nodes above a leaf.
+//! Taking a leaf out, and the nodes above a leaf.
 ghost use Rattle.std.specs.Prelude.{◌≡◌, ◌+◌, ◌-◌, ◌<◌, ◌≤◌, List, ◌++◌, length};
 ghost use Rattle.tree_shape.specs.Tree.{Tree, name, height, Stands, IsTreeAt};
 ghost use Rattle.tree_shape.specs.Plan.{Plan, rows, over};

@@ -1,6 +1,5 @@
 //! The tree by positions: an arena of inner nodes, its root and the numbers of its leaves and its inner nodes.
 ghost use Rattle.std.specs.Prelude.{◌≡◌, ℕ, ◌+◌, ◌-◌, ◌*◌, ◌<◌, ◌≤◌, max, [], length, Option, Some, None, true, IfOk, OnOk, nat_lt, slice_index, vec_len, vec_capacity};
-ghost use Rattle.std.specs.List.{All};
 ghost use Rattle.std.specs.Option.{option_map};
 ghost use Rattle.tree_shape.specs.declared.node.Child.TheVariants.{Inner};
 ghost use Rattle.tree_shape.specs.Tree.{Tree, name, height, count, Stands};
@@ -9,7 +8,7 @@ ghost use Rattle.tree_shape.specs.Apply.{times};
 ghost use Rattle.tree_shape.specs.Removal.{shrunk};
 ghost use Rattle.tree_shape.specs.Numbers.{next_number, taken, given_back};
 ghost use Rattle.tree_shape.specs.View.{ShapeView, count_of, leaves_of_tree, height_of_tree, IsSound, HasPlace, HasSoundLeaf, IsLawful, IsSameShape, tree_with, rows_with, inners_with, tree_without, rows_without, inners_without, rows_above};
-ghost use Rattle.tree_shape.specs.Changes.{IsPartOf, HasBelow, HasInner, times_listed, HasChildren, LeavesOthers, IsOrdered, BoundsHeight, IsOver, numbers_below};
+ghost use Rattle.tree_shape.specs.Changes.{IsPartOf, HasBelow, HasInner, times_listed, IsListing, BoundsHeight, IsOver, numbers_below};
 ghost use Rattle.tree_shape.specs.Fewest.{inserted, removed};
 
 use crate::arena::apply;
@@ -205,10 +204,7 @@ impl Shape {
         ensures leaf_numbers { self.new.leaf_numbers ≡ taken self.old.leaf_numbers }
         ensures inner_numbers { self.new.inner_numbers ≡ inners_with self.old.tree self.old.inner_numbers }
         ensures listed { dirty.new ≡ rows_with at (next_number self.old.leaf_numbers) (next_number self.old.inner_numbers) self.old.tree }
-        ensures children { All (HasChildren self.new.tree) dirty.new }
-        ensures others { LeavesOthers self.old.tree self.new.tree dirty.new }
-        ensures ordered { IsOrdered dirty.new }
-        ensures once { (k : ℕ) → times_listed k dirty.new ≤ 1 }
+        ensures listing { IsListing self.old.tree self.new.tree dirty.new }
         ensures few { (high : ℕ) → BoundsHeight (count_of self.new.tree) high → length dirty.new ≤ 3 * (high + 2) }
     {
         dirty.clear();
@@ -252,10 +248,7 @@ impl Shape {
         ensures leaf_numbers { self.new.leaf_numbers ≡ given_back (slice_index (leaves_of_tree self.old.tree) at) self.old.leaf_numbers }
         ensures inner_numbers { self.new.inner_numbers ≡ inners_without at self.old.tree self.old.inner_numbers }
         ensures listed { dirty.new ≡ rows_without at self.old.tree }
-        ensures children { All (HasChildren self.new.tree) dirty.new }
-        ensures others { LeavesOthers self.old.tree self.new.tree dirty.new }
-        ensures ordered { IsOrdered dirty.new }
-        ensures once { (k : ℕ) → times_listed k dirty.new ≤ 1 }
+        ensures listing { IsListing self.old.tree self.new.tree dirty.new }
         ensures few { (high : ℕ) → BoundsHeight (count_of self.old.tree) high → length dirty.new ≤ 3 * (high + 2) }
     {
         dirty.clear();
@@ -285,8 +278,7 @@ impl Shape {
         ensures listed { dirty.new ≡ rows_above at self.now.tree }
         ensures above { (n : ℕ) → IsOver self.now.tree at n → times_listed n dirty.new ≡ 1 }
         ensures no_other { (n : ℕ) → 1 ≤ times_listed n dirty.new → IsOver self.now.tree at n }
-        ensures children { All (HasChildren self.now.tree) dirty.new }
-        ensures ordered { IsOrdered dirty.new }
+        ensures listing { IsListing self.now.tree self.now.tree dirty.new }
         ensures few { (high : ℕ) → BoundsHeight (count_of self.now.tree) high → length dirty.new ≤ high }
     {
         dirty.clear();

@@ -1,11 +1,8 @@
 use Rattle.std.proofs.Common.{◌+◌, Option, sym, ap, ◌∙◌}
-use Rattle.knit_base.specs.declared.needle.Needle.{Needle}
 use Rattle.knit_base.specs.Reasons.{or_else}
-use Rattle.face_data.specs.Segments.{read_segs}
-use Rattle.bed_rules.specs.Beds.{segments_after}
-use Rattle.block_summary.specs.Asks.{fact_of_formed, needle_of_formed}
+use Rattle.block_summary.specs.Asks.{fact_of_formed}
 use Rattle.block_summary.specs.declared.formed.FormedLoop.{FormedLoop}
-use Rattle.block_summary.proofs.FormedLoops.{loop-formed, needle-formed}
+use Rattle.block_summary.proofs.FormedLoops.{loop-formed, stacks-read}
 use Rattle.block_summary.proofs.instr_ask.ask_instr.Goals as goal
 
 pub returns-clause-broken : goal.returns-clause-broken
@@ -24,13 +21,11 @@ returns-clause-step c s t first offset read =
     let rack = sym (effect.rack line t) in
     let ins = sym (effect.ins line t) in
     let hook = sym (effect.hook line t) in
-    let on = c.in_ok-beds.ensures.makes ∙ sym (needle-formed segments c.args.instr.now) ∙ ap needle_of_formed (sym c.in_ok-formed_loop.ensures) in
     λ i. record {
       rack = rack i;
       ins = ins i;
       hook = hook i;
-      stacks = λ n. (c.in_ok-beds.ensures.changed s t first offset read n
-          ∙ ap (λ (makes : Option Needle). read_segs s first (segments_after segments c.in_ok-beds.field-0.changed makes offset n)) on) i;
+      stacks = λ n. stacks-read segments c.args.instr.now s t first offset read _ _ c.in_ok-beds.ensures.changes c.in_ok-formed_loop.ensures n i;
     }
 
 pub returns-clause-formed : goal.returns-clause-formed

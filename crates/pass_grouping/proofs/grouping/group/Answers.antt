@@ -2,7 +2,7 @@ use Rattle.std.proofs.Common.{List, subst}
 use Rattle.pass_grouping.specs.declared.operation.PassOp.{PassOp}
 use Rattle.pass_grouping.specs.Groupings.{IsCertificate, IsFewest}
 use Rattle.pass_grouping.proofs.Groupings.{certificate-fewest}
-use Rattle.pass_grouping.proofs.Grouped.{grouped-next, grouped-end}
+use Rattle.pass_grouping.proofs.PartialGroupings.{grouped-next, grouped-end}
 use Rattle.pass_grouping.proofs.grouping.group.Goals as goal
 
 pub loop-behind-preserved : goal.loop-behind-preserved

@@ -1,5 +1,5 @@
 use Rattle.std.proofs.Common.{◌-◌, length}
-use Rattle.pass_grouping.proofs.Grouped.{Grouped}
+use Rattle.pass_grouping.proofs.PartialGroupings.{Grouped}
 use Rattle.pass_grouping.proofs.grouping.group.Given as goal
 
 abbrev pub invariant-loop-behind : goal.invariant-loop-behind

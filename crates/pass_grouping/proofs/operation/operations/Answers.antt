@@ -1,7 +1,7 @@
 use Rattle.std.proofs.Common.{◌≡◌, ◌+◌, arith, ap, All, sym, subst, ◌∙◌, to_z, of_z, w32}
 use Rattle.std.proofs.lemmas.Int.{ints}
 use Rattle.pass_grouping.specs.Operations.{IsRackWithin}
-use Rattle.pass_grouping.proofs.Listing.{listed-next}
+use Rattle.pass_grouping.proofs.OperationList.{listed-next}
 use Rattle.pass_grouping.proofs.operation.operations.Goals as goal
 
 pub loop-i-preserved : goal.loop-i-preserved

@@ -1,4 +1,4 @@
-use Rattle.pass_grouping.proofs.Listing.{Listed}
+use Rattle.pass_grouping.proofs.OperationList.{Listed}
 use Rattle.pass_grouping.proofs.operation.operations.Given as goal
 
 abbrev pub invariant-loop-i : goal.invariant-loop-i

@@ -13,7 +13,7 @@ push-requires c = let short = c.loop-at.invariant.short in omega arith
 
 pub loop-at-preserved : goal.loop-at-preserved
 loop-at-preserved c =
-    let is : kind_of (get_or c.args.lines.now c.loop-at.at []) ≡ kind.Command c.in-Command.head = sym (c.in-Command.ensures ∙ ap kind_of (c.as_bytes.ensures.value ∙ c.line_at.ensures.text)) in
+    let is : kind_of (get_or c.args.lines.now c.loop-at.at []) ≡ kind.Command c.in-Command.head = sym (c.in-Command.ensures ∙ ap kind_of (c.as_bytes.ensures.value ∙ c.nth_line.ensures.text)) in
     let read = c.in_ok-command-in-Command.ensures in
     rw (c.in_ok-push-in-Command.ensures.ok, c.adds_of-adds.ensures)
     (command_more c.args.lines.now c.loop-at.at (omega arith) c.args.start c.loop-at.commands c.loop-at.adds c.loop-at.invariant c.in-Command.head c.in_ok-command-in-Command.command c.in_ok-command-in-Command.next is (cc)
@@ -21,7 +21,7 @@ loop-at-preserved c =
 
 pub returns-in-Text-clause-fault : goal.returns-in-Text-clause-fault
 returns-in-Text-clause-fault c =
-    let here : kind_of (get_or c.args.lines.now c.loop-at.at []) ≡ c.kind_of.result = sym (c.kind_of.ensures ∙ ap kind_of (c.as_bytes.ensures.value ∙ c.line_at.ensures.text)) in
+    let here : kind_of (get_or c.args.lines.now c.loop-at.at []) ≡ c.kind_of.result = sym (c.kind_of.ensures ∙ ap kind_of (c.as_bytes.ensures.value ∙ c.nth_line.ensures.text)) in
     ⊎_elim
     (λ is. text_stops c.args.lines.now c.loop-at.at (omega arith) c.args.start c.loop-at.commands c.loop-at.adds c.loop-at.invariant (here ∙ is))
     (λ is. other_stops c.args.lines.now c.loop-at.at (omega arith) c.args.start c.loop-at.commands c.loop-at.adds c.loop-at.invariant (here ∙ is))

@@ -1,4 +1,4 @@
-use Rattle.std.proofs.Common.{arith, ap, sym, ◌∙◌, ◌≡◌, get_or, []}
+use Rattle.std.proofs.Common.{arith, rules, ap, sym, ◌∙◌, ◌≡◌, get_or, []}
 use Rattle.std.proofs.lemmas.Result.{err_from_is_err_and}
 use Rattle.script_reader.specs.Statements.{kind_of}
 use Rattle.script_reader.specs.declared.line.Kind.TheVariants as kind
@@ -8,7 +8,7 @@ use Rattle.script_reader.proofs.reader.read_sessions.Goals as goal
 pub returns-in_err-commands-clause-fault : goal.returns-in_err-commands-clause-fault
 returns-in_err-commands-clause-fault c =
     let p = err_from_is_err_and c.from_residual.result c.from_residual.ensures.1 in
-    let is : kind_of (get_or c.args.lines.now c.loop-at.at []) ≡ kind.Session = sym (c.in-Session.ensures ∙ ap kind_of (c.as_bytes.ensures.value ∙ c.line_at.ensures.text)) in
+    let is : kind_of (get_or c.args.lines.now c.loop-at.at []) ≡ kind.Session = sym (c.in-Session.ensures ∙ ap kind_of (c.as_bytes.ensures.value ∙ c.nth_line.ensures.text)) in
     rw (p.1, p.2)
     (session_refused c.args.lines.now c.loop-at.at (omega arith) c.args.start c.loop-at.sessions c.loop-at.invariant c.in_err-commands.field-0.0 is
-    (λ e. c.if-len-eq-SESSION_LIMIT.false (c.len-in-loop-at.ensures ∙ e)) c.in_err-commands.ensures.fault)
+    (search rules) c.in_err-commands.ensures.fault)

@@ -1,9 +1,8 @@
-use Rattle.std.proofs.Common.{◌≡◌, ◌≢◌, ℕ, ◌+◌, ◌<◌, ◌≤◌, cond, eqb, List, [], ◌∷◌, drop, length, Option, Some, None, refl, sym, ◌∙◌, ap, arith}
+use Rattle.std.proofs.Common.{◌≡◌, cond, eqb, [], drop, length, Option, Some, None, refl, sym, ◌∙◌, ap, arith}
 use Rattle.std.proofs.Math.Seq.{drop-length}
-use Rattle.tree_shape.specs.declared.dirty.DirtyRow.{DirtyRow}
-use Rattle.tree_shape.specs.Composing.{latest, found_or}
+use Rattle.tree_shape.specs.Composing.{found_or}
 use Rattle.tree_shape.proofs.Rows.{some_row}
-use Rattle.tree_shape.proofs.Finding.{cond_same, cond_other, latest_step, latest-short}
+use Rattle.tree_shape.proofs.Rooms.{cond_same, cond_other, latest_step, latest-short}
 use Rattle.summary_tree.proofs.need.found.Goals as goal
 use Rattle.summary_tree.proofs.need.found.Goals.{in-Some+then-row-node, in-Some+else-row-node, in_default}
 

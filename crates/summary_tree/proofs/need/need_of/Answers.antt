@@ -1,12 +1,11 @@
-use Rattle.std.proofs.Common.{◌≡◌, ℕ, ◌+◌, ◌<◌, ◌≤◌, List, [], ◌∷◌, ◌++◌, map, drop, length, Option, Some, None, refl, sym, ◌∙◌, ap, subst, arith}
-use Rattle.std.specs.Option.{option_map}
+use Rattle.std.proofs.Common.{◌≡◌, ℕ, List, [], ◌∷◌, ◌++◌, Option, Some, refl, sym, ◌∙◌, ap, arith}
 use Rattle.tree_shape.specs.declared.node.Child.{Child}
 use Rattle.tree_shape.specs.declared.node.Child.TheVariants.{Leaf, Inner}
 use Rattle.tree_shape.specs.declared.dirty.DirtyRow.{DirtyRow}
-use Rattle.tree_shape.specs.Values.{part, composed_all}
-use Rattle.tree_shape.specs.Composing.{latest, IsFinding}
+use Rattle.tree_shape.specs.Values.{part}
+use Rattle.tree_shape.specs.Composing.{IsFinding}
 use Rattle.tree_shape.proofs.Rows.{some_row}
-use Rattle.tree_shape.proofs.Finding.{latest-none, finding_next, next_there}
+use Rattle.tree_shape.proofs.Rooms.{latest-none, finding_next, next_there}
 use Rattle.summary_tree.specs.Need.{leaf_rooms, node_rooms, found_at}
 use Rattle.summary_tree.proofs.need.need_of.Goals as goal
 use Rattle.summary_tree.proofs.need.need_of.Goals.{in-Some, in_default}

@@ -3,11 +3,10 @@ use Rattle.std.specs.Option.{option_map}
 use Rattle.tree_shape.specs.declared.node.Child.{Child}
 use Rattle.tree_shape.specs.declared.node.Child.TheVariants.{Inner}
 use Rattle.tree_shape.specs.declared.dirty.DirtyRow.{DirtyRow}
-use Rattle.tree_shape.specs.Values.{part}
 use Rattle.tree_shape.specs.Composing.{latest, found_or}
-use Rattle.tree_shape.proofs.Finding.{latest-or}
+use Rattle.tree_shape.proofs.Rooms.{latest-or}
 use Rattle.summary_tree.specs.declared.need.NewLeaf.{NewLeaf}
-use Rattle.summary_tree.specs.Need.{leaf_rooms, node_rooms, found_at}
+use Rattle.summary_tree.specs.Need.{node_rooms, found_at}
 use Rattle.summary_tree.proofs.need.room_at.Goals as goal
 
 module _ {V R : Type 0} (room : V → R) (leaf_at node_at : ℕ → Option V) (new : Option (NewLeaf R)) (rows : List DirtyRow) (rs : List R) where

@@ -1,11 +1,10 @@
-use Rattle.std.proofs.Common.{◌≡◌, ◌≤◌, ◌+◌, ◌*◌, ◌<◌, ℕ, List, [], ◌∷◌, drop, length, refl, sym, ◌∙◌, ap, subst, arith, add-one, Some}
+use Rattle.std.proofs.Common.{◌≡◌, ◌+◌, ◌<◌, ℕ, [], drop, length, refl, sym, ◌∙◌, ap, arith}
 use Rattle.std.proofs.Math.Seq.{drop-length}
-use Rattle.std.specs.List.{All, slice_get}
 use Rattle.tree_shape.specs.declared.dirty.DirtyRow.{DirtyRow}
 use Rattle.tree_shape.specs.Values.{refreshed}
 use Rattle.tree_shape.specs.Composing.{spent}
 use Rattle.tree_shape.proofs.Rows.{some_row}
-use Rattle.tree_shape.proofs.Refreshing.{next_of, all_get}
+use Rattle.tree_shape.proofs.RowWalks.{next_of, all_get}
 use Rattle.summary_tree.proofs.refresh.refresh.Goals as goal
 use Rattle.summary_tree.proofs.refresh.refresh.Goals.{in-Some, in_default}
 

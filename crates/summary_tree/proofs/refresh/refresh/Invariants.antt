@@ -1,4 +1,4 @@
-use Rattle.std.proofs.Common.{◌≡◌, ◌≤◌, ◌+◌, ◌*◌, ℕ}
+use Rattle.std.proofs.Common.{◌≡◌, ◌+◌, ℕ}
 use Rattle.tree_shape.specs.Composing.{IsUnderway, spent}
 use Rattle.summary_tree.proofs.refresh.refresh.Given as goal
 

@@ -5,9 +5,9 @@ use Rattle.tree_shape.specs.declared.insertion.Grown.{Grown}
 use Rattle.tree_shape.specs.declared.dirty.DirtyRow.{DirtyRow}
 use Rattle.tree_shape.specs.Tree.{Tree, name, height, count, row_of}
 use Rattle.tree_shape.specs.Plan.{grown, below, IsPending, FitsLean}
-use Rattle.tree_shape.proofs.Standing.{opened}
-use Rattle.tree_shape.proofs.Turning.{height_pending}
-use Rattle.tree_shape.proofs.Bounds.{grown_high, grown_listed}
+use Rattle.tree_shape.proofs.ArenaTrees.{opened}
+use Rattle.tree_shape.proofs.Turns.{height_pending}
+use Rattle.tree_shape.proofs.InsertionBounds.{grown_high, grown_listed}
 use Rattle.tree_shape.proofs.insertion.+grow.Goals as goal
 
 left_is : {node : Node} (l r : Tree) → node ≡ row_of l r → node.left ≡ name l

@@ -4,7 +4,7 @@ use Rattle.tree_shape.specs.Tree.{height}
 use Rattle.tree_shape.specs.Plan.{erase, way_through}
 use Rattle.tree_shape.specs.declared.node.Side.{Side}
 use Rattle.tree_shape.specs.declared.insertion.Way.TheVariants.{Twice}
-use Rattle.tree_shape.proofs.Turning.{height_pending, leaned_turned, leaned_is_over, way_over, way_over_turned, set_over}
+use Rattle.tree_shape.proofs.Turns.{height_pending, leaned_turned, leaned_is_over, way_over, way_over_turned, set_over}
 use Rattle.tree_shape.proofs.insertion.lean.Goals as goal
 use Rattle.tree_shape.proofs.insertion.lean.Goals.{in-Twice+else-above-upper, in_default, in-Turned, in_default-way}
 

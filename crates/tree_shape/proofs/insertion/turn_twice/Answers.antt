@@ -1,5 +1,5 @@
 use Rattle.std.proofs.Common.{refl, sym, ◌∙◌}
-use Rattle.tree_shape.proofs.Turning.{two_steps, own_turn, other_turn, back_again}
+use Rattle.tree_shape.proofs.Turns.{two_steps, own_turn, other_turn, back_again}
 use Rattle.tree_shape.proofs.insertion.turn_twice.Goals as goal
 
 pub returns-then-same : goal.returns-then-same

@@ -5,7 +5,7 @@ use Rattle.tree_shape.specs.declared.node.Child.{Child}
 use Rattle.tree_shape.specs.declared.node.Child.TheVariants.{Inner}
 use Rattle.tree_shape.specs.declared.node.Node.{Node}
 use Rattle.tree_shape.specs.Tree.{Tree, name, height, count, Stands, HasLeafAt, stored_height}
-use Rattle.tree_shape.proofs.Standing.{opened, stored, length_leaves}
+use Rattle.tree_shape.proofs.ArenaTrees.{opened, stored, length_leaves}
 use Rattle.tree_shape.proofs.node.+leaf_at.Goals as goal
 
 pub leaves_of-before-requires : goal.leaves_of-before-requires

@@ -7,9 +7,9 @@ use Rattle.tree_shape.specs.declared.dirty.DirtyRow.{DirtyRow}
 use Rattle.tree_shape.specs.Tree.{Tree, leaf, inner, name, height, count, IsBalanced}
 use Rattle.tree_shape.specs.Plan.{Plan, rows}
 use Rattle.tree_shape.specs.Removal.{shrunk, sunk, without}
-use Rattle.tree_shape.proofs.Standing.{opened, stored}
-use Rattle.tree_shape.proofs.Shrinking.{listed_shrunk, low_shrunk, Lower, as_high, one_lower}
-use Rattle.tree_shape.proofs.Bounds.{plan_height}
+use Rattle.tree_shape.proofs.ArenaTrees.{opened, stored}
+use Rattle.tree_shape.proofs.Removals.{listed_shrunk, low_shrunk, Lower, as_high, one_lower}
+use Rattle.tree_shape.proofs.InsertionBounds.{plan_height}
 use Rattle.tree_shape.proofs.removal.+shrink.Goals as goal
 
 not_higher : (before : ℕ) (p : Plan) → Lower before p → plan_height p ≤ before

@@ -4,8 +4,8 @@ use Rattle.tree_shape.specs.declared.dirty.DirtyRow.{DirtyRow}
 use Rattle.tree_shape.specs.Tree.{Tree, inner, height, count}
 use Rattle.tree_shape.specs.Plan.{rows}
 use Rattle.tree_shape.specs.Removal.{touched}
-use Rattle.tree_shape.proofs.Standing.{opened, stored}
-use Rattle.tree_shape.proofs.Touching.{rows_most}
+use Rattle.tree_shape.proofs.ArenaTrees.{opened, stored}
+use Rattle.tree_shape.proofs.NodesAbove.{rows_most}
 use Rattle.tree_shape.proofs.removal.+touch_below.Goals as goal
 
 -- the list has room for the node's own row after the rows below it

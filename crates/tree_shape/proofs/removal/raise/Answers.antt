@@ -1,6 +1,6 @@
 use Rattle.std.proofs.Common.{arith, sym, ◌∙◌}
 use Rattle.tree_shape.specs.Removal.{beside, outer}
-use Rattle.tree_shape.proofs.Raising.{opened_on, once_is, twice_is}
+use Rattle.tree_shape.proofs.OtherParts.{opened_on, once_is, twice_is}
 use Rattle.tree_shape.proofs.removal.raise.Goals as goal
 
 pub returns-then-beside-outer : goal.returns-then-beside-outer

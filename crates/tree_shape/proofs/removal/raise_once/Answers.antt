@@ -1,7 +1,7 @@
 use Rattle.std.proofs.Common.{◌≡◌, [], ◌∷◌, ◌++◌, arith, sym, ◌∙◌, append_assoc, append-nil}
 use Rattle.tree_shape.specs.Tree.{name}
 use Rattle.tree_shape.specs.Plan.{erase, rows, inner_on, dirty_row}
-use Rattle.tree_shape.proofs.Turning.{name_inner_on, height_inner_on}
+use Rattle.tree_shape.proofs.Turns.{name_inner_on, height_inner_on}
 use Rattle.tree_shape.proofs.removal.raise_once.Goals as goal
 
 pub returns : goal.returns

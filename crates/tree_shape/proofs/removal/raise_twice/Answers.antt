@@ -2,8 +2,8 @@ use Rattle.std.proofs.Common.{◌≡◌, [], ◌∷◌, ◌++◌, arith, sym, �
 use Rattle.tree_shape.specs.Tree.{name}
 use Rattle.tree_shape.specs.Plan.{erase, rows, inner_on, dirty_row}
 use Rattle.tree_shape.specs.Removal.{beside, outer}
-use Rattle.tree_shape.proofs.Turning.{name_inner_on, height_inner_on}
-use Rattle.tree_shape.proofs.Raising.{opened_on}
+use Rattle.tree_shape.proofs.Turns.{name_inner_on, height_inner_on}
+use Rattle.tree_shape.proofs.OtherParts.{opened_on}
 use Rattle.tree_shape.proofs.removal.raise_twice.Goals as goal
 
 pub returns : goal.returns

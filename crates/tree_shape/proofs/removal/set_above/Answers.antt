@@ -1,7 +1,7 @@
 use Rattle.std.proofs.Common.{◌≡◌, [], ◌∷◌, ◌++◌, arith, sym, ◌∙◌, append_assoc, append-nil}
 use Rattle.tree_shape.specs.Tree.{name}
 use Rattle.tree_shape.specs.Plan.{erase, rows, dirty_row}
-use Rattle.tree_shape.proofs.Turning.{name_inner_on, height_inner_on}
+use Rattle.tree_shape.proofs.Turns.{name_inner_on, height_inner_on}
 use Rattle.tree_shape.proofs.removal.set_above.Goals as goal
 
 pub returns : goal.returns

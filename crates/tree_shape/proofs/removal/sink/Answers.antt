@@ -1,7 +1,7 @@
 use Rattle.std.proofs.Common.{◌≡◌, ◌+◌, ◌≤◌, arith, sym, ◌∙◌}
 use Rattle.tree_shape.specs.Tree.{height}
 use Rattle.tree_shape.specs.Plan.{erase}
-use Rattle.tree_shape.proofs.Raising.{no_inner, sunk_raised, sunk_over}
+use Rattle.tree_shape.proofs.OtherParts.{no_inner, sunk_raised, sunk_over}
 use Rattle.tree_shape.proofs.removal.sink.Goals as goal
 use Rattle.tree_shape.proofs.removal.sink.Goals.{in-Inner+else-far_height-part, in_default}
 

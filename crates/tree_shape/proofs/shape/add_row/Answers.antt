@@ -1,4 +1,4 @@
-use Rattle.tree_shape.proofs.Reading.{stands_longer}
+use Rattle.tree_shape.proofs.Roots.{stands_longer}
 use Rattle.tree_shape.specs.Tree.{Stands}
 use Rattle.std.proofs.Common.{sym, subst}
 use Rattle.tree_shape.proofs.shape.add_row.Goals as goal

@@ -3,8 +3,8 @@ use Rattle.tree_shape.specs.declared.insertion.Grown.{Grown}
 use Rattle.tree_shape.specs.declared.dirty.DirtyRow.{DirtyRow}
 use Rattle.tree_shape.specs.Plan.{Plan, grown, rows, below, IsPending, dirty_row}
 use Rattle.tree_shape.proofs.Heights.{at_most_22}
-use Rattle.tree_shape.proofs.Bounds.{grown_listed}
-use Rattle.tree_shape.proofs.Turning.{rows_pending, name_pending}
+use Rattle.tree_shape.proofs.InsertionBounds.{grown_listed}
+use Rattle.tree_shape.proofs.Turns.{rows_pending, name_pending}
 use Rattle.tree_shape.proofs.shape.plan_put.Goals as goal
 
 pub grow-grown-requires : goal.grow-grown-requires

@@ -2,7 +2,7 @@ use Rattle.std.proofs.Common.{◌≡◌, ℕ, List, ◌++◌, length, sym, subst
 use Rattle.std.proofs.lemmas.List.{take_at}
 use Rattle.tree_shape.specs.declared.node.Node.{Node}
 use Rattle.tree_shape.specs.View.{IsSound}
-use Rattle.tree_shape.proofs.Reading.{sound_in, fits_grown, sound_grown}
+use Rattle.tree_shape.proofs.Roots.{sound_in, fits_grown, sound_grown}
 use Rattle.tree_shape.proofs.shape.put.Goals as goal
 
 -- what a slice of a whole vector writes back

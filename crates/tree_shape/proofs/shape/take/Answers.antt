@@ -4,8 +4,8 @@ use Rattle.tree_shape.specs.declared.node.Child.TheVariants.{Inner}
 use Rattle.tree_shape.specs.declared.node.Node.{Node}
 use Rattle.tree_shape.specs.Tree.{Tree, name, leaf, inner}
 use Rattle.tree_shape.specs.View.{IsSound}
-use Rattle.tree_shape.proofs.Reading.{fits_shrunk, sound_shrunk}
-use Rattle.tree_shape.proofs.Shrinking.{IsInner}
+use Rattle.tree_shape.proofs.Roots.{fits_shrunk, sound_shrunk}
+use Rattle.tree_shape.proofs.Removals.{IsInner}
 use Rattle.tree_shape.proofs.shape.take.Goals as goal
 
 -- what a slice of a whole vector writes back

@@ -1,5 +1,5 @@
 use Rattle.std.proofs.Common.{sym, ◌∙◌}
-use Rattle.tree_shape.proofs.Listing.{listed_inner}
+use Rattle.tree_shape.proofs.Listings.{listed_inner}
 use Rattle.tree_shape.proofs.tests.beside.Goals as goal
 
 pub children-requires : goal.children-requires

@@ -1,7 +1,7 @@
-use Rattle.std.proofs.Common.{◌≡◌, ℕ, ◌+◌, ◌<◌, ◌≤◌, Some, sym, ◌∙◌, ap, subst, arith, rules}
+use Rattle.std.proofs.Common.{◌≡◌, ◌+◌, ◌≤◌, ◌∙◌, ap, arith}
 use Rattle.tree_shape.specs.Tree.{name, count}
 use Rattle.tree_shape.specs.Values.{part}
-use Rattle.summary_tree.proofs.Finding.{at_inner, near_value, near_counts, near_is_part, go_near, go_far}
+use Rattle.summary_tree.proofs.Offsets.{at_inner, near_value, near_is_part, go_near, go_far}
 use Rattle.summary_tree.proofs.find.step.step.Goals as goal
 
 pub children-near-requires : goal.children-near-requires

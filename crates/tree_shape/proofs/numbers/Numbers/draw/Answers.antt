@@ -1,6 +1,6 @@
 use Rattle.std.proofs.Common.{sym, ◌∙◌, ap}
 use Rattle.tree_shape.specs.Numbers.{last_or, taken_from}
-use Rattle.tree_shape.proofs.Counting.{last_of_append, taken_append}
+use Rattle.tree_shape.proofs.NumberCounts.{last_of_append, taken_append}
 use Rattle.tree_shape.proofs.numbers.Numbers.draw.Goals as goal
 
 pub returns-in-Some-clause-number : goal.returns-in-Some-clause-number

@@ -1,7 +1,7 @@
 use Rattle.std.proofs.Common.{◌≡◌, ◌-◌, length, Some, sym, ◌∙◌, ap}
 use Rattle.std.specs.List.{slice_get}
 use Rattle.std.specs.Option.{option_copied}
-use Rattle.tree_shape.proofs.Counting.{last_is}
+use Rattle.tree_shape.proofs.NumberCounts.{last_is}
 use Rattle.tree_shape.proofs.numbers.Numbers.next.Goals as goal
 
 pub returns-in-Some : goal.returns-in-Some

@@ -4,9 +4,9 @@ use Rattle.tree_shape.specs.Plan.{grown, erase}
 use Rattle.tree_shape.specs.Apply.{times}
 use Rattle.tree_shape.specs.Numbers.{NumbersView, numbers_of, next_number}
 use Rattle.tree_shape.specs.View.{ShapeView, IsShape, IsSound, count_of}
-use Rattle.tree_shape.proofs.Counting.{next_place}
-use Rattle.tree_shape.proofs.Reading.{rooted, sound_read, leaves_with}
-use Rattle.tree_shape.proofs.Shapes.{rooms, taken_drawn, shape_at, shape_first, shape_grown, next_free, counted_inners, listing_put, few_put}
+use Rattle.tree_shape.proofs.NumberCounts.{next_place}
+use Rattle.tree_shape.proofs.Roots.{sound_read, leaves_with}
+use Rattle.tree_shape.proofs.Shapes.{tree_below, rooms, taken_drawn, shape_first, shape_grown, next_free, counted_inners, listing_put, few_put}
 use Rattle.tree_shape.proofs.shape.Shape.insert.Goals as goal
 
 pub invariant_of-self : goal.invariant_of-self
@@ -21,35 +21,30 @@ invariant_of-self c =
 
 pub put-requires-clause-near : goal.put-requires-clause-near
 put-requires-clause-near c =
-    let r = rooted _ _ c.in-Some.child c.in-Some.is c.self.invariant.0.sound in
-    let seen : c.args.self.now.tree ≡ Some r.t = ap (λ (v : ShapeView). v.tree) (sym c.self.view_is) ∙ r.seen in
-    let shape = shape_at c.self.inside.nodes.items c.self.inside.root c.in-Some.child (numbers_of c.self.inside.leaves) (numbers_of c.self.inside.inners) c.in-Some.is c.self.invariant.0 in
-    let near = (next_place (numbers_of c.self.inside.inners) (inners r.t) (counted_inners _ _ r.t _ _ shape r.sound)).0 in
+    let r = tree_below _ _ c.in-Some.child _ _ _ c.in-Some.is (ap (λ (v : ShapeView). v.tree) c.self.view_is) c.self.invariant.0 in
+    let near = (next_place (numbers_of c.self.inside.inners) (inners r.t) (counted_inners _ _ r.t _ _ r.shape r.sound)).0 in
     omega (arith, near, c.draw-number.ensures.number, c.self.invariant.1)
 
 pub put-requires-clause-place : goal.put-requires-clause-place
 put-requires-clause-place c =
-    let r = rooted _ _ c.in-Some.child c.in-Some.is c.self.invariant.0.sound in
-    let seen : c.args.self.now.tree ≡ Some r.t = ap (λ (v : ShapeView). v.tree) (sym c.self.view_is) ∙ r.seen in
-    let shape = shape_at c.self.inside.nodes.items c.self.inside.root c.in-Some.child (numbers_of c.self.inside.leaves) (numbers_of c.self.inside.inners) c.in-Some.is c.self.invariant.0 in
-    let place = subst (λ v. c.args.at ≤ count_of v) seen c.requires.place in
-    let few = subst (λ v. count_of v < 65536) seen c.requires.few in
-    let free : times c.draw-number.result r.t ≡ 0 = rw c.draw-number.ensures.number (next_free _ _ r.t _ _ shape r.sound) in
+    let r = tree_below _ _ c.in-Some.child _ _ _ c.in-Some.is (ap (λ (v : ShapeView). v.tree) c.self.view_is) c.self.invariant.0 in
+    let place = subst (λ v. c.args.at ≤ count_of v) r.seen c.requires.place in
+    let few = subst (λ v. count_of v < 65536) r.seen c.requires.few in
+    let free : times c.draw-number.result r.t ≡ 0 = rw c.draw-number.ensures.number (next_free _ _ r.t _ _ r.shape r.sound) in
     (r.t, r.sound, place, few, free)
 
 pub invariant_of-self-in-Some : goal.invariant_of-self-in-Some
 invariant_of-self-in-Some c =
-    let r = rooted _ _ c.in-Some.child c.in-Some.is c.self.invariant.0.sound in
-    let seen : c.args.self.now.tree ≡ Some r.t = ap (λ (v : ShapeView). v.tree) (sym c.self.view_is) ∙ r.seen in
-    let shape = shape_at c.self.inside.nodes.items c.self.inside.root c.in-Some.child (numbers_of c.self.inside.leaves) (numbers_of c.self.inside.inners) c.in-Some.is c.self.invariant.0 in
-    let place = subst (λ v. c.args.at ≤ count_of v) seen c.requires.place in
-    let few = subst (λ v. count_of v < 65536) seen c.requires.few in
-    let free : times c.draw-number.result r.t ≡ 0 = rw c.draw-number.ensures.number (next_free _ _ r.t _ _ shape r.sound) in
+    let r = tree_below _ _ c.in-Some.child _ _ _ c.in-Some.is (ap (λ (v : ShapeView). v.tree) c.self.view_is) c.self.invariant.0 in
+    let place = subst (λ v. c.args.at ≤ count_of v) r.seen c.requires.place in
+    let few = subst (λ v. count_of v < 65536) r.seen c.requires.few in
+    let free : times c.draw-number.result r.t ≡ 0 = rw c.draw-number.ensures.number (next_free _ _ r.t _ _ r.shape r.sound) in
+    let written = c.put.ensures.sound r.t r.sound place few free in
     let after : IsSound c.put.new.nodes.items c.put.result (erase (grown c.args.at (next_number (numbers_of c.self.inside.leaves)) (next_number (numbers_of c.self.inside.inners)) r.t)) =
-    rw (← c.draw-new.ensures.number, ← c.draw-number.ensures.number) (c.put.ensures.sound r.t r.sound place few free) in
+    rw (← c.draw-new.ensures.number, ← c.draw-number.ensures.number) written in
     let room = rooms c.self.inside.leaves.drawn (vec_capacity c.self.inside.leaves.free) c.self.inside.inners.drawn (vec_capacity c.self.inside.inners.free) (vec_len c.self.inside.nodes) (vec_capacity c.self.inside.nodes) (ap (λ (v : ShapeView). v.room) c.self.view_is ∙ c.requires.room) in
-    let whole = shape_grown _ _ _ _ r.t c.args.at _ _ shape r.sound place few after in
-    let at = (next_place (numbers_of c.self.inside.inners) (inners r.t) (counted_inners _ _ r.t _ _ shape r.sound)).1 in
+    let whole = shape_grown _ _ _ _ r.t c.args.at _ _ r.shape r.sound place few after in
+    let at = (next_place (numbers_of c.self.inside.inners) (inners r.t) (counted_inners _ _ r.t _ _ r.shape r.sound)).1 in
     let drawn = ap (λ (v : NumbersView). v.drawn) c.draw-number.ensures.numbers in (
       rw (c.draw-new.ensures.numbers, c.draw-number.ensures.numbers) whole,
       omega (arith, c.put.ensures.len, at, drawn, c.self.invariant.1, c.draw-number.ensures.number),
@@ -57,91 +52,25 @@ invariant_of-self-in-Some c =
       omega (arith, drawn, taken_drawn (numbers_of c.self.inside.inners), room.1, c.draw-number.ensures.capacity),
     )
 
-pub returns-in-Some-clause-tree : goal.returns-in-Some-clause-tree
-returns-in-Some-clause-tree c =
-    let r = rooted _ _ c.in-Some.child c.in-Some.is c.self.invariant.0.sound in
-    let seen : c.args.self.now.tree ≡ Some r.t = ap (λ (v : ShapeView). v.tree) (sym c.self.view_is) ∙ r.seen in
-    let shape = shape_at c.self.inside.nodes.items c.self.inside.root c.in-Some.child (numbers_of c.self.inside.leaves) (numbers_of c.self.inside.inners) c.in-Some.is c.self.invariant.0 in
-    let place = subst (λ v. c.args.at ≤ count_of v) seen c.requires.place in
-    let few = subst (λ v. count_of v < 65536) seen c.requires.few in
-    let free : times c.draw-number.result r.t ≡ 0 = rw c.draw-number.ensures.number (next_free _ _ r.t _ _ shape r.sound) in
+pub returns-in-Some : goal.returns-in-Some
+returns-in-Some c =
+    let r = tree_below _ _ c.in-Some.child _ _ _ c.in-Some.is (ap (λ (v : ShapeView). v.tree) c.self.view_is) c.self.invariant.0 in
+    let place = subst (λ v. c.args.at ≤ count_of v) r.seen c.requires.place in
+    let few = subst (λ v. count_of v < 65536) r.seen c.requires.few in
+    let free : times c.draw-number.result r.t ≡ 0 = rw c.draw-number.ensures.number (next_free _ _ r.t _ _ r.shape r.sound) in
+    let written = c.put.ensures.sound r.t r.sound place few free in
     let after : IsSound c.put.new.nodes.items c.put.result (erase (grown c.args.at (next_number (numbers_of c.self.inside.leaves)) (next_number (numbers_of c.self.inside.inners)) r.t)) =
-    rw (← c.draw-new.ensures.number, ← c.draw-number.ensures.number) (c.put.ensures.sound r.t r.sound place few free) in
-    let fresh_leaf : c.args.self.now.leaf_numbers ≡ numbers_of c.self.inside.leaves = ap (λ (v : ShapeView). v.leaf_numbers) (sym c.self.view_is) in
-    let fresh_inner : c.args.self.now.inner_numbers ≡ numbers_of c.self.inside.inners = ap (λ (v : ShapeView). v.inner_numbers) (sym c.self.view_is) in
-    rw (seen, fresh_leaf, fresh_inner) (ap (λ v. Some v) (sound_read _ _ _ after))
-
-pub returns-in-Some-clause-leaves : goal.returns-in-Some-clause-leaves
-returns-in-Some-clause-leaves c =
-    let r = rooted _ _ c.in-Some.child c.in-Some.is c.self.invariant.0.sound in
-    let seen : c.args.self.now.tree ≡ Some r.t = ap (λ (v : ShapeView). v.tree) (sym c.self.view_is) ∙ r.seen in
-    let shape = shape_at c.self.inside.nodes.items c.self.inside.root c.in-Some.child (numbers_of c.self.inside.leaves) (numbers_of c.self.inside.inners) c.in-Some.is c.self.invariant.0 in
-    let place = subst (λ v. c.args.at ≤ count_of v) seen c.requires.place in
-    let few = subst (λ v. count_of v < 65536) seen c.requires.few in
-    let free : times c.draw-number.result r.t ≡ 0 = rw c.draw-number.ensures.number (next_free _ _ r.t _ _ shape r.sound) in
-    let after : IsSound c.put.new.nodes.items c.put.result (erase (grown c.args.at (next_number (numbers_of c.self.inside.leaves)) (next_number (numbers_of c.self.inside.inners)) r.t)) =
-    rw (← c.draw-new.ensures.number, ← c.draw-number.ensures.number) (c.put.ensures.sound r.t r.sound place few free) in
-    rw (seen, c.draw-new.ensures.number) (ap leaves (sound_read _ _ _ after) ∙ leaves_with c.args.at (next_number (numbers_of c.self.inside.leaves)) (next_number (numbers_of c.self.inside.inners)) (Some r.t) place)
-
-pub returns-in-Some-clause-listed : goal.returns-in-Some-clause-listed
-returns-in-Some-clause-listed c =
-    let r = rooted _ _ c.in-Some.child c.in-Some.is c.self.invariant.0.sound in
-    let seen : c.args.self.now.tree ≡ Some r.t = ap (λ (v : ShapeView). v.tree) (sym c.self.view_is) ∙ r.seen in
-    let fresh_leaf : c.args.self.now.leaf_numbers ≡ numbers_of c.self.inside.leaves = ap (λ (v : ShapeView). v.leaf_numbers) (sym c.self.view_is) in
-    let fresh_inner : c.args.self.now.inner_numbers ≡ numbers_of c.self.inside.inners = ap (λ (v : ShapeView). v.inner_numbers) (sym c.self.view_is) in
-    rw (seen, fresh_leaf, fresh_inner, ← c.draw-new.ensures.number, ← c.draw-number.ensures.number) (c.put.ensures.listed r.t r.sound)
-
-pub returns-in-Some-clause-children : goal.returns-in-Some-clause-children
-returns-in-Some-clause-children c =
-    let r = rooted _ _ c.in-Some.child c.in-Some.is c.self.invariant.0.sound in
-    let seen : c.args.self.now.tree ≡ Some r.t = ap (λ (v : ShapeView). v.tree) (sym c.self.view_is) ∙ r.seen in
-    let shape = shape_at c.self.inside.nodes.items c.self.inside.root c.in-Some.child (numbers_of c.self.inside.leaves) (numbers_of c.self.inside.inners) c.in-Some.is c.self.invariant.0 in
-    let place = subst (λ v. c.args.at ≤ count_of v) seen c.requires.place in
-    let few = subst (λ v. count_of v < 65536) seen c.requires.few in
-    let free : times c.draw-number.result r.t ≡ 0 = rw c.draw-number.ensures.number (next_free _ _ r.t _ _ shape r.sound) in
-    let after = c.put.ensures.sound r.t r.sound place few free in
-    (listing_put _ _ r.t c.args.at c.draw-new.result c.draw-number.result c.args.self.now.tree c.put.new.dirty after seen (c.put.ensures.listed r.t r.sound)).children
-
-pub returns-in-Some-clause-others : goal.returns-in-Some-clause-others
-returns-in-Some-clause-others c =
-    let r = rooted _ _ c.in-Some.child c.in-Some.is c.self.invariant.0.sound in
-    let seen : c.args.self.now.tree ≡ Some r.t = ap (λ (v : ShapeView). v.tree) (sym c.self.view_is) ∙ r.seen in
-    let shape = shape_at c.self.inside.nodes.items c.self.inside.root c.in-Some.child (numbers_of c.self.inside.leaves) (numbers_of c.self.inside.inners) c.in-Some.is c.self.invariant.0 in
-    let place = subst (λ v. c.args.at ≤ count_of v) seen c.requires.place in
-    let few = subst (λ v. count_of v < 65536) seen c.requires.few in
-    let free : times c.draw-number.result r.t ≡ 0 = rw c.draw-number.ensures.number (next_free _ _ r.t _ _ shape r.sound) in
-    let after = c.put.ensures.sound r.t r.sound place few free in
-    (listing_put _ _ r.t c.args.at c.draw-new.result c.draw-number.result c.args.self.now.tree c.put.new.dirty after seen (c.put.ensures.listed r.t r.sound)).others
-
-pub returns-in-Some-clause-ordered : goal.returns-in-Some-clause-ordered
-returns-in-Some-clause-ordered c =
-    let r = rooted _ _ c.in-Some.child c.in-Some.is c.self.invariant.0.sound in
-    let seen : c.args.self.now.tree ≡ Some r.t = ap (λ (v : ShapeView). v.tree) (sym c.self.view_is) ∙ r.seen in
-    let shape = shape_at c.self.inside.nodes.items c.self.inside.root c.in-Some.child (numbers_of c.self.inside.leaves) (numbers_of c.self.inside.inners) c.in-Some.is c.self.invariant.0 in
-    let place = subst (λ v. c.args.at ≤ count_of v) seen c.requires.place in
-    let few = subst (λ v. count_of v < 65536) seen c.requires.few in
-    let free : times c.draw-number.result r.t ≡ 0 = rw c.draw-number.ensures.number (next_free _ _ r.t _ _ shape r.sound) in
-    let after = c.put.ensures.sound r.t r.sound place few free in
-    (listing_put _ _ r.t c.args.at c.draw-new.result c.draw-number.result c.args.self.now.tree c.put.new.dirty after seen (c.put.ensures.listed r.t r.sound)).ordered
-
-pub returns-in-Some-clause-once : goal.returns-in-Some-clause-once
-returns-in-Some-clause-once c =
-    let r = rooted _ _ c.in-Some.child c.in-Some.is c.self.invariant.0.sound in
-    let seen : c.args.self.now.tree ≡ Some r.t = ap (λ (v : ShapeView). v.tree) (sym c.self.view_is) ∙ r.seen in
-    let shape = shape_at c.self.inside.nodes.items c.self.inside.root c.in-Some.child (numbers_of c.self.inside.leaves) (numbers_of c.self.inside.inners) c.in-Some.is c.self.invariant.0 in
-    let place = subst (λ v. c.args.at ≤ count_of v) seen c.requires.place in
-    let few = subst (λ v. count_of v < 65536) seen c.requires.few in
-    let free : times c.draw-number.result r.t ≡ 0 = rw c.draw-number.ensures.number (next_free _ _ r.t _ _ shape r.sound) in
-    let after = c.put.ensures.sound r.t r.sound place few free in
-    (listing_put _ _ r.t c.args.at c.draw-new.result c.draw-number.result c.args.self.now.tree c.put.new.dirty after seen (c.put.ensures.listed r.t r.sound)).once
-
-pub returns-in-Some-clause-few : goal.returns-in-Some-clause-few
-returns-in-Some-clause-few c =
-    let r = rooted _ _ c.in-Some.child c.in-Some.is c.self.invariant.0.sound in
-    let seen : c.args.self.now.tree ≡ Some r.t = ap (λ (v : ShapeView). v.tree) (sym c.self.view_is) ∙ r.seen in
-    let shape = shape_at c.self.inside.nodes.items c.self.inside.root c.in-Some.child (numbers_of c.self.inside.leaves) (numbers_of c.self.inside.inners) c.in-Some.is c.self.invariant.0 in
-    let place = subst (λ v. c.args.at ≤ count_of v) seen c.requires.place in
-    let few = subst (λ v. count_of v < 65536) seen c.requires.few in
-    let free : times c.draw-number.result r.t ≡ 0 = rw c.draw-number.ensures.number (next_free _ _ r.t _ _ shape r.sound) in
-    let after = c.put.ensures.sound r.t r.sound place few free in
-    few_put _ _ r.t c.args.at c.draw-new.result c.draw-number.result c.put.new.dirty after r.sound.balanced (c.put.ensures.listed r.t r.sound)
+    rw (← c.draw-new.ensures.number, ← c.draw-number.ensures.number) written in
+    let listed = c.put.ensures.listed r.t r.sound in
+    let leaf_numbers : c.args.self.now.leaf_numbers ≡ numbers_of c.self.inside.leaves = ap (λ (v : ShapeView). v.leaf_numbers) (sym c.self.view_is) in
+    let inner_numbers : c.args.self.now.inner_numbers ≡ numbers_of c.self.inside.inners = ap (λ (v : ShapeView). v.inner_numbers) (sym c.self.view_is) in
+    record {
+      number = rw leaf_numbers c.draw-new.ensures.number;
+      leaves = rw (r.seen, c.draw-new.ensures.number) (ap leaves (sound_read _ _ _ after) ∙ leaves_with c.args.at (next_number (numbers_of c.self.inside.leaves)) (next_number (numbers_of c.self.inside.inners)) (Some r.t) place);
+      tree = rw (leaf_numbers, inner_numbers, r.seen) (ap (λ v. Some v) (sound_read _ _ _ after));
+      leaf_numbers = rw leaf_numbers c.draw-new.ensures.numbers;
+      inner_numbers = rw (inner_numbers, r.seen) c.draw-number.ensures.numbers;
+      listed = rw (leaf_numbers, inner_numbers, r.seen, ← c.draw-new.ensures.number, ← c.draw-number.ensures.number) listed;
+      listing = listing_put _ _ r.t c.args.at c.draw-new.result c.draw-number.result c.args.self.now.tree c.put.new.dirty written r.seen listed;
+      few = few_put _ _ r.t c.args.at c.draw-new.result c.draw-number.result c.put.new.dirty written r.sound.balanced listed;
+    }

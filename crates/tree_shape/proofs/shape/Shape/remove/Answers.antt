@@ -3,10 +3,10 @@ use Rattle.tree_shape.specs.declared.node.Child.TheVariants.{Leaf, Inner}
 use Rattle.tree_shape.specs.Tree.{Stands, count, leaves}
 use Rattle.tree_shape.specs.Numbers.{NumbersView, numbers_of, given_back}
 use Rattle.tree_shape.specs.View.{ShapeView, count_of}
-use Rattle.tree_shape.proofs.Reading.{rooted, sound_read}
+use Rattle.tree_shape.proofs.Roots.{sound_read}
 use Rattle.tree_shape.proofs.Shapes.{shape_at, shape_shrunk, shape_emptied}
-use Rattle.tree_shape.proofs.Shrinking.{leaves_shrunk}
-use Rattle.tree_shape.proofs.Shapes.{inside, leaf_room, inner_room, tree_without_inner, inners_without_inner, listing_taken, few_taken}
+use Rattle.tree_shape.proofs.Removals.{leaves_shrunk}
+use Rattle.tree_shape.proofs.Shapes.{tree_below, inside, leaf_room, inner_room, tree_without_inner, inners_without_inner, listing_taken, few_taken}
 use Rattle.tree_shape.proofs.shape.Shape.remove.Goals as goal
 
 pub invariant_of-self : goal.invariant_of-self
@@ -21,177 +21,61 @@ invariant_of-self c =
 
 pub leaf_at-number-requires : goal.leaf_at-number-requires
 leaf_at-number-requires c =
-    let top : c.self.inside.root ≡ Some (Inner c.in-Inner.top) = c.in-Some.is ∙ ap (λ v. Some v) c.in-Inner.is in
-    let r = rooted _ _ (Inner c.in-Inner.top) top c.self.invariant.0.sound in
-    let seen : c.args.self.now.tree ≡ Some r.t = ap (λ (v : ShapeView). v.tree) (sym c.self.view_is) ∙ r.seen in
-    let place : c.args.at < count r.t = subst (λ v. c.args.at < count_of v) seen c.requires in
-    let within = inside c.in-Inner.top r.t r.sound.named in
-    let shape = shape_at c.self.inside.nodes.items c.self.inside.root (Inner c.in-Inner.top) (numbers_of c.self.inside.leaves) (numbers_of c.self.inside.inners) top c.self.invariant.0 in
-    (r.t, r.sound.named, subst (λ v. Stands v r.t) (sym c.as_slice.ensures.value) r.sound.stands, place)
+    let r = tree_below _ _ (Inner c.in-Inner.top) _ _ _ (c.in-Some.is ∙ ap (λ v. Some v) c.in-Inner.is) (ap (λ (v : ShapeView). v.tree) c.self.view_is) c.self.invariant.0 in
+    (r.t, r.sound.named, subst (λ v. Stands v r.t) (sym c.as_slice.ensures.value) r.sound.stands, subst (λ v. c.args.at < count_of v) r.seen c.requires)
 
 pub parent_of-gone-requires : goal.parent_of-gone-requires
 parent_of-gone-requires c =
-    let top : c.self.inside.root ≡ Some (Inner c.in-Inner.top) = c.in-Some.is ∙ ap (λ v. Some v) c.in-Inner.is in
-    let r = rooted _ _ (Inner c.in-Inner.top) top c.self.invariant.0.sound in
-    let seen : c.args.self.now.tree ≡ Some r.t = ap (λ (v : ShapeView). v.tree) (sym c.self.view_is) ∙ r.seen in
-    let place : c.args.at < count r.t = subst (λ v. c.args.at < count_of v) seen c.requires in
-    let within = inside c.in-Inner.top r.t r.sound.named in
-    let shape = shape_at c.self.inside.nodes.items c.self.inside.root (Inner c.in-Inner.top) (numbers_of c.self.inside.leaves) (numbers_of c.self.inside.inners) top c.self.invariant.0 in
-    (r.t, r.sound.named, subst (λ v. Stands v r.t) (sym c.as_slice-in-Inner.ensures.value) r.sound.stands, place)
+    let r = tree_below _ _ (Inner c.in-Inner.top) _ _ _ (c.in-Some.is ∙ ap (λ v. Some v) c.in-Inner.is) (ap (λ (v : ShapeView). v.tree) c.self.view_is) c.self.invariant.0 in
+    (r.t, r.sound.named, subst (λ v. Stands v r.t) (sym c.as_slice-in-Inner.ensures.value) r.sound.stands, subst (λ v. c.args.at < count_of v) r.seen c.requires)
 
 pub take-requires-clause-place : goal.take-requires-clause-place
 take-requires-clause-place c =
-    let top : c.self.inside.root ≡ Some (Inner c.in-Inner.top) = c.in-Some.is ∙ ap (λ v. Some v) c.in-Inner.is in
-    let r = rooted _ _ (Inner c.in-Inner.top) top c.self.invariant.0.sound in
-    let seen : c.args.self.now.tree ≡ Some r.t = ap (λ (v : ShapeView). v.tree) (sym c.self.view_is) ∙ r.seen in
-    let place : c.args.at < count r.t = subst (λ v. c.args.at < count_of v) seen c.requires in
-    let within = inside c.in-Inner.top r.t r.sound.named in
-    let shape = shape_at c.self.inside.nodes.items c.self.inside.root (Inner c.in-Inner.top) (numbers_of c.self.inside.leaves) (numbers_of c.self.inside.inners) top c.self.invariant.0 in
-    (r.t, r.sound, place)
+    let r = tree_below _ _ (Inner c.in-Inner.top) _ _ _ (c.in-Some.is ∙ ap (λ v. Some v) c.in-Inner.is) (ap (λ (v : ShapeView). v.tree) c.self.view_is) c.self.invariant.0 in
+    (r.t, r.sound, subst (λ v. c.args.at < count_of v) r.seen c.requires)
 
 pub give_back-requires-in-Inner : goal.give_back-requires-in-Inner
 give_back-requires-in-Inner c =
-    let top : c.self.inside.root ≡ Some (Inner c.in-Inner.top) = c.in-Some.is ∙ ap (λ v. Some v) c.in-Inner.is in
-    let r = rooted _ _ (Inner c.in-Inner.top) top c.self.invariant.0.sound in
-    let seen : c.args.self.now.tree ≡ Some r.t = ap (λ (v : ShapeView). v.tree) (sym c.self.view_is) ∙ r.seen in
-    let place : c.args.at < count r.t = subst (λ v. c.args.at < count_of v) seen c.requires in
-    let within = inside c.in-Inner.top r.t r.sound.named in
-    let shape = shape_at c.self.inside.nodes.items c.self.inside.root (Inner c.in-Inner.top) (numbers_of c.self.inside.leaves) (numbers_of c.self.inside.inners) top c.self.invariant.0 in
-    omega (arith, leaf_room _ _ r.t _ _ shape r.sound, c.self.invariant.2)
+    let r = tree_below _ _ (Inner c.in-Inner.top) _ _ _ (c.in-Some.is ∙ ap (λ v. Some v) c.in-Inner.is) (ap (λ (v : ShapeView). v.tree) c.self.view_is) c.self.invariant.0 in
+    omega (arith, leaf_room _ _ r.t _ _ r.shape r.sound, c.self.invariant.2)
 
 pub give_back-requires-in-Inner-2 : goal.give_back-requires-in-Inner-2
 give_back-requires-in-Inner-2 c =
-    let top : c.self.inside.root ≡ Some (Inner c.in-Inner.top) = c.in-Some.is ∙ ap (λ v. Some v) c.in-Inner.is in
-    let r = rooted _ _ (Inner c.in-Inner.top) top c.self.invariant.0.sound in
-    let seen : c.args.self.now.tree ≡ Some r.t = ap (λ (v : ShapeView). v.tree) (sym c.self.view_is) ∙ r.seen in
-    let place : c.args.at < count r.t = subst (λ v. c.args.at < count_of v) seen c.requires in
-    let within = inside c.in-Inner.top r.t r.sound.named in
-    let shape = shape_at c.self.inside.nodes.items c.self.inside.root (Inner c.in-Inner.top) (numbers_of c.self.inside.leaves) (numbers_of c.self.inside.inners) top c.self.invariant.0 in
-    omega (arith, inner_room _ _ r.t _ _ shape r.sound within, c.self.invariant.3)
+    let r = tree_below _ _ (Inner c.in-Inner.top) _ _ _ (c.in-Some.is ∙ ap (λ v. Some v) c.in-Inner.is) (ap (λ (v : ShapeView). v.tree) c.self.view_is) c.self.invariant.0 in
+    omega (arith, inner_room _ _ r.t _ _ r.shape r.sound (inside c.in-Inner.top r.t r.sound.named), c.self.invariant.3)
 
 pub invariant_of-self-in-Inner : goal.invariant_of-self-in-Inner
 invariant_of-self-in-Inner c =
-    let top : c.self.inside.root ≡ Some (Inner c.in-Inner.top) = c.in-Some.is ∙ ap (λ v. Some v) c.in-Inner.is in
-    let r = rooted _ _ (Inner c.in-Inner.top) top c.self.invariant.0.sound in
-    let seen : c.args.self.now.tree ≡ Some r.t = ap (λ (v : ShapeView). v.tree) (sym c.self.view_is) ∙ r.seen in
-    let place : c.args.at < count r.t = subst (λ v. c.args.at < count_of v) seen c.requires in
-    let within = inside c.in-Inner.top r.t r.sound.named in
-    let shape = shape_at c.self.inside.nodes.items c.self.inside.root (Inner c.in-Inner.top) (numbers_of c.self.inside.leaves) (numbers_of c.self.inside.inners) top c.self.invariant.0 in
+    let r = tree_below _ _ (Inner c.in-Inner.top) _ _ _ (c.in-Some.is ∙ ap (λ v. Some v) c.in-Inner.is) (ap (λ (v : ShapeView). v.tree) c.self.view_is) c.self.invariant.0 in
+    let place : c.args.at < count r.t = subst (λ v. c.args.at < count_of v) r.seen c.requires in
     let number = c.leaf_at-number.ensures r.t r.sound.named (subst (λ v. Stands v r.t) (sym c.as_slice.ensures.value) r.sound.stands) in
     let parent = c.parent_of-gone.ensures r.t r.sound.named (subst (λ v. Stands v r.t) (sym c.as_slice-in-Inner.ensures.value) r.sound.stands) in
-    let whole = shape_shrunk _ _ _ _ r.t c.args.at _ _ shape r.sound place within (c.take.ensures.sound r.t r.sound place) in (
+    let after = c.take.ensures.sound r.t r.sound place in
+    let whole = shape_shrunk _ _ _ _ r.t c.args.at _ _ r.shape r.sound place (inside c.in-Inner.top r.t r.sound.named) after in (
       rw (c.give_back-in-Inner.ensures.numbers, c.give_back-in-Inner-2.ensures.numbers, number, parent) whole,
       omega (arith, c.take.ensures.len, c.self.invariant.1, ap (λ (v : NumbersView). v.drawn) c.give_back-in-Inner-2.ensures.numbers),
       omega (arith, c.self.invariant.2, c.give_back-in-Inner.ensures.capacity, ap (λ (v : NumbersView). v.drawn) c.give_back-in-Inner.ensures.numbers),
       omega (arith, c.self.invariant.3, c.give_back-in-Inner-2.ensures.capacity, ap (λ (v : NumbersView). v.drawn) c.give_back-in-Inner-2.ensures.numbers),
     )
 
-pub returns-in-Inner-clause-number : goal.returns-in-Inner-clause-number
-returns-in-Inner-clause-number c =
-    let top : c.self.inside.root ≡ Some (Inner c.in-Inner.top) = c.in-Some.is ∙ ap (λ v. Some v) c.in-Inner.is in
-    let r = rooted _ _ (Inner c.in-Inner.top) top c.self.invariant.0.sound in
-    let seen : c.args.self.now.tree ≡ Some r.t = ap (λ (v : ShapeView). v.tree) (sym c.self.view_is) ∙ r.seen in
-    let place : c.args.at < count r.t = subst (λ v. c.args.at < count_of v) seen c.requires in
+pub returns-in-Inner : goal.returns-in-Inner
+returns-in-Inner c =
+    let r = tree_below _ _ (Inner c.in-Inner.top) _ _ _ (c.in-Some.is ∙ ap (λ v. Some v) c.in-Inner.is) (ap (λ (v : ShapeView). v.tree) c.self.view_is) c.self.invariant.0 in
+    let place : c.args.at < count r.t = subst (λ v. c.args.at < count_of v) r.seen c.requires in
     let within = inside c.in-Inner.top r.t r.sound.named in
-    let shape = shape_at c.self.inside.nodes.items c.self.inside.root (Inner c.in-Inner.top) (numbers_of c.self.inside.leaves) (numbers_of c.self.inside.inners) top c.self.invariant.0 in
     let number = c.leaf_at-number.ensures r.t r.sound.named (subst (λ v. Stands v r.t) (sym c.as_slice.ensures.value) r.sound.stands) in
     let parent = c.parent_of-gone.ensures r.t r.sound.named (subst (λ v. Stands v r.t) (sym c.as_slice-in-Inner.ensures.value) r.sound.stands) in
-    rw seen number
-
-pub returns-in-Inner-clause-leaves : goal.returns-in-Inner-clause-leaves
-returns-in-Inner-clause-leaves c =
-    let top : c.self.inside.root ≡ Some (Inner c.in-Inner.top) = c.in-Some.is ∙ ap (λ v. Some v) c.in-Inner.is in
-    let r = rooted _ _ (Inner c.in-Inner.top) top c.self.invariant.0.sound in
-    let seen : c.args.self.now.tree ≡ Some r.t = ap (λ (v : ShapeView). v.tree) (sym c.self.view_is) ∙ r.seen in
-    let place : c.args.at < count r.t = subst (λ v. c.args.at < count_of v) seen c.requires in
-    let within = inside c.in-Inner.top r.t r.sound.named in
-    let shape = shape_at c.self.inside.nodes.items c.self.inside.root (Inner c.in-Inner.top) (numbers_of c.self.inside.leaves) (numbers_of c.self.inside.inners) top c.self.invariant.0 in
-    rw seen (ap leaves (sound_read _ _ _ (c.take.ensures.sound r.t r.sound place)) ∙ leaves_shrunk c.args.at r.t place within)
-
-pub returns-in-Inner-clause-tree : goal.returns-in-Inner-clause-tree
-returns-in-Inner-clause-tree c =
-    let top : c.self.inside.root ≡ Some (Inner c.in-Inner.top) = c.in-Some.is ∙ ap (λ v. Some v) c.in-Inner.is in
-    let r = rooted _ _ (Inner c.in-Inner.top) top c.self.invariant.0.sound in
-    let seen : c.args.self.now.tree ≡ Some r.t = ap (λ (v : ShapeView). v.tree) (sym c.self.view_is) ∙ r.seen in
-    let place : c.args.at < count r.t = subst (λ v. c.args.at < count_of v) seen c.requires in
-    let within = inside c.in-Inner.top r.t r.sound.named in
-    let shape = shape_at c.self.inside.nodes.items c.self.inside.root (Inner c.in-Inner.top) (numbers_of c.self.inside.leaves) (numbers_of c.self.inside.inners) top c.self.invariant.0 in
-    rw seen (ap (λ v. Some v) (sound_read _ _ _ (c.take.ensures.sound r.t r.sound place)) ∙ sym (tree_without_inner c.args.at r.t within))
-
-pub returns-in-Inner-clause-leaf_numbers : goal.returns-in-Inner-clause-leaf_numbers
-returns-in-Inner-clause-leaf_numbers c =
-    let top : c.self.inside.root ≡ Some (Inner c.in-Inner.top) = c.in-Some.is ∙ ap (λ v. Some v) c.in-Inner.is in
-    let r = rooted _ _ (Inner c.in-Inner.top) top c.self.invariant.0.sound in
-    let seen : c.args.self.now.tree ≡ Some r.t = ap (λ (v : ShapeView). v.tree) (sym c.self.view_is) ∙ r.seen in
-    let place : c.args.at < count r.t = subst (λ v. c.args.at < count_of v) seen c.requires in
-    let within = inside c.in-Inner.top r.t r.sound.named in
-    let shape = shape_at c.self.inside.nodes.items c.self.inside.root (Inner c.in-Inner.top) (numbers_of c.self.inside.leaves) (numbers_of c.self.inside.inners) top c.self.invariant.0 in
-    let number = c.leaf_at-number.ensures r.t r.sound.named (subst (λ v. Stands v r.t) (sym c.as_slice.ensures.value) r.sound.stands) in
-    let parent = c.parent_of-gone.ensures r.t r.sound.named (subst (λ v. Stands v r.t) (sym c.as_slice-in-Inner.ensures.value) r.sound.stands) in
+    let after = c.take.ensures.sound r.t r.sound place in
+    let listed = c.take.ensures.listed r.t r.sound in
     let leaf_numbers : c.args.self.now.leaf_numbers ≡ numbers_of c.self.inside.leaves = ap (λ (v : ShapeView). v.leaf_numbers) (sym c.self.view_is) in
     let inner_numbers : c.args.self.now.inner_numbers ≡ numbers_of c.self.inside.inners = ap (λ (v : ShapeView). v.inner_numbers) (sym c.self.view_is) in
-    rw (seen, leaf_numbers, ← number) c.give_back-in-Inner.ensures.numbers
-
-pub returns-in-Inner-clause-inner_numbers : goal.returns-in-Inner-clause-inner_numbers
-returns-in-Inner-clause-inner_numbers c =
-    let top : c.self.inside.root ≡ Some (Inner c.in-Inner.top) = c.in-Some.is ∙ ap (λ v. Some v) c.in-Inner.is in
-    let r = rooted _ _ (Inner c.in-Inner.top) top c.self.invariant.0.sound in
-    let seen : c.args.self.now.tree ≡ Some r.t = ap (λ (v : ShapeView). v.tree) (sym c.self.view_is) ∙ r.seen in
-    let place : c.args.at < count r.t = subst (λ v. c.args.at < count_of v) seen c.requires in
-    let within = inside c.in-Inner.top r.t r.sound.named in
-    let shape = shape_at c.self.inside.nodes.items c.self.inside.root (Inner c.in-Inner.top) (numbers_of c.self.inside.leaves) (numbers_of c.self.inside.inners) top c.self.invariant.0 in
-    let number = c.leaf_at-number.ensures r.t r.sound.named (subst (λ v. Stands v r.t) (sym c.as_slice.ensures.value) r.sound.stands) in
-    let parent = c.parent_of-gone.ensures r.t r.sound.named (subst (λ v. Stands v r.t) (sym c.as_slice-in-Inner.ensures.value) r.sound.stands) in
-    let leaf_numbers : c.args.self.now.leaf_numbers ≡ numbers_of c.self.inside.leaves = ap (λ (v : ShapeView). v.leaf_numbers) (sym c.self.view_is) in
-    let inner_numbers : c.args.self.now.inner_numbers ≡ numbers_of c.self.inside.inners = ap (λ (v : ShapeView). v.inner_numbers) (sym c.self.view_is) in
-    rw (seen, inner_numbers) (c.give_back-in-Inner-2.ensures.numbers ∙ (ap (λ n. given_back n (numbers_of c.self.inside.inners)) parent ∙ sym (inners_without_inner c.args.at r.t (numbers_of c.self.inside.inners) within)))
-
-pub returns-in-Inner-clause-listed : goal.returns-in-Inner-clause-listed
-returns-in-Inner-clause-listed c =
-    let top : c.self.inside.root ≡ Some (Inner c.in-Inner.top) = c.in-Some.is ∙ ap (λ v. Some v) c.in-Inner.is in
-    let r = rooted _ _ (Inner c.in-Inner.top) top c.self.invariant.0.sound in
-    let seen : c.args.self.now.tree ≡ Some r.t = ap (λ (v : ShapeView). v.tree) (sym c.self.view_is) ∙ r.seen in
-    let place : c.args.at < count r.t = subst (λ v. c.args.at < count_of v) seen c.requires in
-    let within = inside c.in-Inner.top r.t r.sound.named in
-    let shape = shape_at c.self.inside.nodes.items c.self.inside.root (Inner c.in-Inner.top) (numbers_of c.self.inside.leaves) (numbers_of c.self.inside.inners) top c.self.invariant.0 in
-    rw seen (c.take.ensures.listed r.t r.sound)
-
-pub returns-in-Inner-clause-children : goal.returns-in-Inner-clause-children
-returns-in-Inner-clause-children c =
-    let top : c.self.inside.root ≡ Some (Inner c.in-Inner.top) = c.in-Some.is ∙ ap (λ v. Some v) c.in-Inner.is in
-    let r = rooted _ _ (Inner c.in-Inner.top) top c.self.invariant.0.sound in
-    let seen : c.args.self.now.tree ≡ Some r.t = ap (λ (v : ShapeView). v.tree) (sym c.self.view_is) ∙ r.seen in
-    let place : c.args.at < count r.t = subst (λ v. c.args.at < count_of v) seen c.requires in
-    (listing_taken _ _ r.t c.args.at c.args.self.now.tree c.take.new.dirty (c.take.ensures.sound r.t r.sound place) seen (c.take.ensures.listed r.t r.sound)).children
-
-pub returns-in-Inner-clause-others : goal.returns-in-Inner-clause-others
-returns-in-Inner-clause-others c =
-    let top : c.self.inside.root ≡ Some (Inner c.in-Inner.top) = c.in-Some.is ∙ ap (λ v. Some v) c.in-Inner.is in
-    let r = rooted _ _ (Inner c.in-Inner.top) top c.self.invariant.0.sound in
-    let seen : c.args.self.now.tree ≡ Some r.t = ap (λ (v : ShapeView). v.tree) (sym c.self.view_is) ∙ r.seen in
-    let place : c.args.at < count r.t = subst (λ v. c.args.at < count_of v) seen c.requires in
-    (listing_taken _ _ r.t c.args.at c.args.self.now.tree c.take.new.dirty (c.take.ensures.sound r.t r.sound place) seen (c.take.ensures.listed r.t r.sound)).others
-
-pub returns-in-Inner-clause-ordered : goal.returns-in-Inner-clause-ordered
-returns-in-Inner-clause-ordered c =
-    let top : c.self.inside.root ≡ Some (Inner c.in-Inner.top) = c.in-Some.is ∙ ap (λ v. Some v) c.in-Inner.is in
-    let r = rooted _ _ (Inner c.in-Inner.top) top c.self.invariant.0.sound in
-    let seen : c.args.self.now.tree ≡ Some r.t = ap (λ (v : ShapeView). v.tree) (sym c.self.view_is) ∙ r.seen in
-    let place : c.args.at < count r.t = subst (λ v. c.args.at < count_of v) seen c.requires in
-    (listing_taken _ _ r.t c.args.at c.args.self.now.tree c.take.new.dirty (c.take.ensures.sound r.t r.sound place) seen (c.take.ensures.listed r.t r.sound)).ordered
-
-pub returns-in-Inner-clause-once : goal.returns-in-Inner-clause-once
-returns-in-Inner-clause-once c =
-    let top : c.self.inside.root ≡ Some (Inner c.in-Inner.top) = c.in-Some.is ∙ ap (λ v. Some v) c.in-Inner.is in
-    let r = rooted _ _ (Inner c.in-Inner.top) top c.self.invariant.0.sound in
-    let seen : c.args.self.now.tree ≡ Some r.t = ap (λ (v : ShapeView). v.tree) (sym c.self.view_is) ∙ r.seen in
-    let place : c.args.at < count r.t = subst (λ v. c.args.at < count_of v) seen c.requires in
-    (listing_taken _ _ r.t c.args.at c.args.self.now.tree c.take.new.dirty (c.take.ensures.sound r.t r.sound place) seen (c.take.ensures.listed r.t r.sound)).once
-
-pub returns-in-Inner-clause-few : goal.returns-in-Inner-clause-few
-returns-in-Inner-clause-few c =
-    let top : c.self.inside.root ≡ Some (Inner c.in-Inner.top) = c.in-Some.is ∙ ap (λ v. Some v) c.in-Inner.is in
-    let r = rooted _ _ (Inner c.in-Inner.top) top c.self.invariant.0.sound in
-    let seen : c.args.self.now.tree ≡ Some r.t = ap (λ (v : ShapeView). v.tree) (sym c.self.view_is) ∙ r.seen in
-    let place : c.args.at < count r.t = subst (λ v. c.args.at < count_of v) seen c.requires in
-    few_taken r.t c.args.at c.args.self.now.tree c.take.new.dirty r.sound.balanced seen (c.take.ensures.listed r.t r.sound)
+    record {
+      number = rw r.seen number;
+      leaves = rw r.seen (ap leaves (sound_read _ _ _ after) ∙ leaves_shrunk c.args.at r.t place within);
+      tree = rw r.seen (ap (λ v. Some v) (sound_read _ _ _ after) ∙ sym (tree_without_inner c.args.at r.t within));
+      leaf_numbers = rw (leaf_numbers, r.seen, ← number) c.give_back-in-Inner.ensures.numbers;
+      inner_numbers = rw (inner_numbers, r.seen) (c.give_back-in-Inner-2.ensures.numbers ∙ (ap (λ n. given_back n (numbers_of c.self.inside.inners)) parent ∙ sym (inners_without_inner c.args.at r.t (numbers_of c.self.inside.inners) within)));
+      listed = rw r.seen listed;
+      listing = listing_taken _ _ r.t c.args.at c.args.self.now.tree c.take.new.dirty after r.seen listed;
+      few = few_taken r.t c.args.at c.args.self.now.tree c.take.new.dirty r.sound.balanced r.seen listed;
+    }
