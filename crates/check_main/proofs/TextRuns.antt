@@ -1,5 +1,5 @@
 -- What one carriage makes of the lines of a text as they are found.
-use Rattle.std.proofs.Common.{◌≡◌, ℕ, ◌+◌, ◌-◌, ◌<◌, ◌≤◌, Bool, List, [], ◌∷◌, ◌++◌, length, take, drop, get_or, slice_get, Some, ap, sym, subst, ◌∙◌, refl, arith, length-drop}
+use Rattle.std.proofs.Common.{◌≡◌, ℕ, ◌+◌, ◌-◌, ◌<◌, ◌≤◌, Bool, List, [], ◌∷◌, ◌++◌, length, take, drop, get_or, Some, ap, sym, subst, ◌∙◌, arith, length-drop}
 use Rattle.std.proofs.lemmas.List.{drop-drop, take_all}
 use Rattle.std.proofs.lemmas.Option.{slice_get-get_or, unwrap_or-slice_get}
 use Rattle.knit_base.specs.declared.profile.Profile.{Profile}
@@ -11,7 +11,7 @@ use Rattle.knitout_reader.specs.declared.head.Head.{Head}
 use Rattle.knitout_reader.specs.Head.{IsHead}
 use Rattle.knitout_reader.specs.Usual.{BeginsWithUsual}
 use Rattle.line_cutter.specs.Cut.{IsBehind, StandsAt}
-use Rattle.line_cutter.proofs.Behind.{behind-all, behind-more, line_here}
+use Rattle.line_cutter.proofs.PlacesBehind.{behind-all, behind-more, line_here}
 use Rattle.carriage_model.specs.declared.carriage.Carriage.{Carriage}
 use Rattle.carriage_model.specs.Carriage.{HasRun, IsRunning, TellsRun, next_line}
 use Rattle.check_main.specs.declared.one_pass.Run.{Run}

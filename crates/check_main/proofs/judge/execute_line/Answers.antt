@@ -13,4 +13,4 @@ pub returns : goal.returns
 returns c =
     on_ok_weaker c.execute.result
     (λ ran. record { reading = c.in_ok-read.read; read = c.in_ok-read.ensures.reads; lawful = c.in_ok-read.ensures.lawful; ran = ran })
-    c.execute.ensures
+    c.execute.ensures.ok

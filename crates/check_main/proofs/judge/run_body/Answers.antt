@@ -1,4 +1,4 @@
-use Rattle.std.proofs.Common.{◌≡◌, ◌+◌, ◌<◌, ◌≤◌, length, Some, slice_get, ap, sym, ◌∙◌, [], arith}
+use Rattle.std.proofs.Common.{◌+◌, ◌<◌, ◌≤◌, length, Some, ap, sym, ◌∙◌, [], arith}
 use Rattle.std.proofs.lemmas.Option.{slice_get-get_or}
 use Rattle.check_main.proofs.BodyRuns.{HasBodyRun, body_run-all, body_run-more, head_len-le}
 use Rattle.check_main.proofs.judge.run_body.Goals as goal

@@ -1,5 +1,4 @@
-use Rattle.std.proofs.Common.{length, refl, subst, sym, arith}
-use Rattle.std.proofs.lemmas.Result.{IfOk-weaker}
+use Rattle.std.proofs.Common.{length, subst, sym}
 use Rattle.knit_base.specs.Lawful.{IsLawfulRead}
 use Rattle.knit_base.specs.Usual.{usual_read}
 use Rattle.check_main.proofs.one_pass.execute_at.Goals as goal

@@ -1,6 +1,6 @@
 use Rattle.std.proofs.lemmas.Result.{IfOk-weaker}
 use Rattle.check_main.proofs.Dues.{due-bad_line}
-use Rattle.check_main.proofs.answer.answer.Goals as goal
+use Rattle.check_main.proofs.answer.answer_by_lines.Goals as goal
 
 pub returns-in_ok-refusal_of_lines-in-Err : goal.returns-in_ok-refusal_of_lines-in-Err
 returns-in_ok-refusal_of_lines-in-Err c =
