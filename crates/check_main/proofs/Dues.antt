@@ -14,7 +14,8 @@ use Rattle.verdict_report.specs.Refusals.{refusal_text}
 use Rattle.check_main.specs.declared.outcome.Status.{Status}
 use Rattle.check_main.specs.declared.outcome.Status.TheVariants as status
 use Rattle.knitout_writer.specs.Canonical.{IsCanonicalText}
-use Rattle.check_main.specs.Due.{Due, bad_line, bad_head, too_large, judged, canonical, Fits, HasHead, IsCheckReply, IsSizeRefusal, body_of, cut_refusal, head_refusal}
+use Rattle.check_main.specs.CheckReport.{IsCheckReport, body_of}
+use Rattle.check_main.specs.Due.{Due, bad_line, bad_head, too_large, judged, canonical, Fits, HasHead, IsSizeRefusal, cut_refusal, head_refusal}
 
 -- this text and this status are those that are due
 said_so : (command : Command) (chosen : Chosen) (input text said : List ℕ) (result ends : Status) → Due command chosen input said ends → text ≡ said → result ≡ ends
@@ -22,12 +23,14 @@ said_so : (command : Command) (chosen : Chosen) (input text said : List ℕ) (re
 said_so command chosen input text said result ends due is ended =
     subst (λ (t : List ℕ). Due command chosen input t result) (sym is) (subst (λ (s : Status). Due command chosen input said s) (sym ended) due)
 
+-- the first bad line
 pub due-bad_line : (command : Command) (chosen : Chosen) (input text : List ℕ) (result : Status) (fault : CutFault) (said : Refusal)
     → IsFirstBad (lines_of input) fault → cut_refusal fault ≡ Some said → (text ≡ refusal_text said) × (result ≡ status.BadInput)
     → Due command chosen input text result
 due-bad_line command chosen input text result fault said bad tells reply =
     said_so command chosen input text (refusal_text said) result status.BadInput (bad_line fault said bad tells) reply.0 reply.1
 
+-- the refusal of a head
 pub due-bad_head : (command : Command) (chosen : Chosen) (input text : List ℕ) (result : Status) (lines : List (List ℕ)) (fault : HeadFault) (said : Refusal)
     → lines ≡ lines_of input → All IsGoodLine lines → IsHeadFault lines fault → head_refusal fault ≡ Some said
     → (text ≡ refusal_text said) × (result ≡ status.BadInput) → Due command chosen input text result
@@ -42,6 +45,7 @@ has_head input lines head are good is = record {
   head_is = subst (λ ls. IsHead ls head) are is;
 }
 
+-- a body that is too large
 pub due-too_large : (loops json : Bool) (chosen : Chosen) (input text : List ℕ) (result : Status) (lines : List (List ℕ)) (head : Head) (count : ℕ) (said : Refusal)
     → lines ≡ lines_of input → All IsGoodLine lines → IsHead lines head → count ≡ length (body_of lines) → IsSizeRefusal chosen.block count said
     → (text ≡ refusal_text said) × (result ≡ status.TooLarge) → Due (Check loops json) chosen input text result
@@ -50,14 +54,16 @@ due-too_large loops json chosen input text result lines head count said are good
     said_so (Check loops json) chosen input text (refusal_text said) result status.TooLarge
     (too_large loops json head said refl (has_head input lines head are good is) (subst (λ (n : ℕ). IsSizeRefusal chosen.block n said) counts large)) reply.0 reply.1
 
+-- the report of a check
 pub due-judged : (loops json : Bool) (chosen : Chosen) (input text : List ℕ) (result : Status) (lines : List (List ℕ)) (head : Head)
     → lines ≡ lines_of input → All IsGoodLine lines → IsHead lines head → Fits chosen.block (length (body_of lines))
-    → IsCheckReply chosen.profile loops json head.declared lines text result → Due (Check loops json) chosen input text result
+    → IsCheckReport chosen.profile loops json head.declared lines text result → Due (Check loops json) chosen input text result
 due-judged loops json chosen input text result lines head are good is fits reply =
     judged loops json head text result refl (has_head input lines head are good is)
     (subst (λ ls. Fits chosen.block (length (body_of ls))) are fits)
-    (subst (λ ls. IsCheckReply chosen.profile loops json head.declared ls text result) are reply)
+    (subst (λ ls. IsCheckReport chosen.profile loops json head.declared ls text result) are reply)
 
+-- the canonical text
 pub due-canonical : (chosen : Chosen) (input text out : List ℕ) (lines : List (List ℕ)) (head : Head)
     → lines ≡ lines_of input → All IsGoodLine lines → IsHead lines head → IsCanonicalText chosen.profile head lines text → out ≡ text
     → Due Text chosen input out status.Done

@@ -1,4 +1,4 @@
-pub mod Bodies
+pub mod BodyRuns
 pub mod Calls
 pub mod Dues
 pub mod Fronts

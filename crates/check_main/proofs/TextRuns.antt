@@ -1,92 +1,82 @@
--- A carriage that carries out the lines of a text as they are found.
-use Rattle.std.proofs.Common.{◌≡◌, ℕ, ◌+◌, ◌-◌, ◌<◌, ◌≤◌, Bool, List, [], ◌∷◌, ◌++◌, length, take, drop, get_or, slice_get, Some, ap, sym, subst, ◌∙◌, refl, arith, length-drop}
+-- What one carriage makes of the lines of a text as they are found.
+use Rattle.std.proofs.Common.{◌≡◌, ℕ, ◌+◌, ◌-◌, ◌<◌, ◌≤◌, Bool, List, [], ◌∷◌, ◌++◌, length, take, drop, get_or, Some, ap, sym, subst, ◌∙◌, arith, length-drop}
 use Rattle.std.proofs.lemmas.List.{drop-drop, take_all}
 use Rattle.std.proofs.lemmas.Option.{slice_get-get_or, unwrap_or-slice_get}
 use Rattle.knit_base.specs.declared.profile.Profile.{Profile}
+use Rattle.knit_base.specs.declared.usual.Usual.{Usual}
+use Rattle.knit_base.specs.declared.instr.Read.{Read}
 use Rattle.knit_base.specs.Lines.{lines_of}
+use Rattle.knit_base.specs.Usual.{usual_read}
 use Rattle.knitout_reader.specs.declared.head.Head.{Head}
 use Rattle.knitout_reader.specs.Head.{IsHead}
 use Rattle.knitout_reader.specs.Usual.{BeginsWithUsual}
-use Rattle.knit_base.specs.declared.usual.Usual.{Usual}
-use Rattle.knit_base.specs.Usual.{usual_read}
-use Rattle.knit_base.specs.declared.instr.Read.{Read}
 use Rattle.line_cutter.specs.Cut.{IsBehind, StandsAt}
-use Rattle.line_cutter.proofs.Behind.{behind-all, behind-more, line_here}
+use Rattle.line_cutter.proofs.PlacesBehind.{behind-all, behind-more, line_here}
 use Rattle.carriage_model.specs.declared.carriage.Carriage.{Carriage}
-use Rattle.carriage_model.specs.declared.verdict.Verdict.{Verdict}
-use Rattle.carriage_model.specs.declared.verdict.LoopFact.{LoopFact}
-use Rattle.carriage_model.specs.Carriage.{HasRun, IsRunning, TellsRun}
-use Rattle.std.specs.declared.option.Option.{Option}
-use Rattle.check_main.specs.declared.in_text.Run.{Run}
-use Rattle.check_main.specs.Due.{numbered_line}
-use Rattle.check_main.specs.InText.{CarriesOutAt, IsRunOf}
-use Rattle.check_main.proofs.Bodies.{Carried, carried-all, carried-count, carried-more, carried-next, carried-none, carried-runs}
+use Rattle.carriage_model.specs.Carriage.{HasRun, IsRunning, TellsRun, next_line}
+use Rattle.check_main.specs.declared.one_pass.Run.{Run}
+use Rattle.check_main.specs.BodyRun.{ExecutesAt, IsRun}
+use Rattle.check_main.specs.CheckReport.{numbered_line}
+use Rattle.check_main.proofs.BodyRuns.{HasBodyRun, body_run-all, body_run-more, body_run-next, body_run-none, body_run-running}
 
--- a carriage has carried out the lines behind the head up to this place of the text
-pub record CarriedTo (profile : Profile) (telling : Bool) (names : List (List ℕ)) (text : List ℕ) (from start : ℕ) (carriage : Carriage) : Type 0 where
-  pub count : ℕ
+-- a carriage has executed the lines behind the head up to this place of the text, before which so many lines stand
+pub record HasTextRun (profile : Profile) (with_loops : Bool) (names : List (List ℕ)) (text : List ℕ) (from count start : ℕ) (carriage : Carriage) : Type 0 where
   pub behind : IsBehind text count start
   pub above : from ≤ count
-  pub carried : Carried profile telling names (lines_of text) from count carriage
+  pub body : HasBodyRun profile with_loops names (lines_of text) from count carriage
 
 -- a carriage over empty beds
-pub carried_to-none : (profile : Profile) (telling : Bool) (names : List (List ℕ)) (text : List ℕ) (from start : ℕ) (carriage : Carriage)
-    → IsBehind text from start → HasRun profile telling (from + 1) [] carriage → CarriedTo profile telling names text from start carriage
-carried_to-none profile telling names text from start carriage behind new = record {
-  count = from;
+pub text_run-none : (profile : Profile) (with_loops : Bool) (names : List (List ℕ)) (text : List ℕ) (from start : ℕ) (carriage : Carriage)
+    → IsBehind text from start → HasRun profile with_loops (from + 1) [] carriage → HasTextRun profile with_loops names text from from start carriage
+text_run-none profile with_loops names text from start carriage behind new = record {
   behind = behind;
   above = omega arith;
-  carried = carried-none profile telling names (lines_of text) from carriage new;
+  body = body_run-none profile with_loops names (lines_of text) from carriage new;
 }
 
 -- one line more
-pub carried_to-more : (profile : Profile) (telling : Bool) (names : List (List ℕ)) (text : List ℕ) (from start next : ℕ) (old new : Carriage) → start < length text
-    → CarriedTo profile telling names text from start old → CarriesOutAt profile names text start next old new → CarriedTo profile telling names text from next new
-carried_to-more profile telling names text from start next old new some here more =
-    let found : (here.count < length (lines_of text)) × (get_or (lines_of text) here.count [] ≡ more.line) =
-    line_here text more.line here.count start next here.behind more.stands in
+pub text_run-more : (profile : Profile) (with_loops : Bool) (names : List (List ℕ)) (text : List ℕ) (from count start next : ℕ) (old new : Carriage) → start < length text
+    → HasTextRun profile with_loops names text from count start old → ExecutesAt profile names text start next old new
+    → HasTextRun profile with_loops names text from (count + 1) next new
+text_run-more profile with_loops names text from count start next old new some here more =
+    let found : (count < length (lines_of text)) × (get_or (lines_of text) count [] ≡ more.line) =
+    line_here text more.line count start next here.behind more.stands in
     record {
-      count = here.count + 1;
-      behind = behind-more text more.line here.count start next some here.behind more.stands;
+      behind = behind-more text more.line count start next some here.behind more.stands;
       above = omega (arith, here.above);
-      carried = carried-more profile telling names (lines_of text) from here.count old new more.line here.carried found.0
-          (slice_get-get_or (lines_of text) here.count [] found.0 ∙ ap Some found.1) more.out;
+      body = body_run-more profile with_loops names (lines_of text) from count old new more.line here.body found.0
+          (slice_get-get_or (lines_of text) count [] found.0 ∙ ap Some found.1) more.executed;
     }
 
-pub carried_to-runs : (profile : Profile) (telling : Bool) (names : List (List ℕ)) (text : List ℕ) (from start : ℕ) (carriage : Carriage)
-    → CarriedTo profile telling names text from start carriage → IsRunning carriage
-carried_to-runs profile telling names text from start carriage here = carried-runs profile telling names (lines_of text) from here.count carriage here.carried
+-- the carriage is ready for a line more
+pub text_run-running : (profile : Profile) (with_loops : Bool) (names : List (List ℕ)) (text : List ℕ) (from count start : ℕ) (carriage : Carriage)
+    → HasTextRun profile with_loops names text from count start carriage → IsRunning carriage
+text_run-running profile with_loops names text from count start carriage here = body_run-running profile with_loops names (lines_of text) from count carriage here.body
 
 -- the number of the next line
-pub carried_to-next : (profile : Profile) (telling : Bool) (names : List (List ℕ)) (text : List ℕ) (from start : ℕ) (carriage : Carriage)
-    → (here : CarriedTo profile telling names text from start carriage) → carriage.next ≡ here.count + 1
-carried_to-next profile telling names text from start carriage here = carried-next profile telling names (lines_of text) from here.count carriage here.carried
+pub text_run-next : (profile : Profile) (with_loops : Bool) (names : List (List ℕ)) (text : List ℕ) (from count start : ℕ) (carriage : Carriage)
+    → HasTextRun profile with_loops names text from count start carriage → next_line carriage ≡ count + 1
+text_run-next profile with_loops names text from count start carriage here = body_run-next profile with_loops names (lines_of text) from count carriage here.body
 
--- all lines were carried out
-pub run-of : (profile : Profile) (telling : Bool) (text : List ℕ) (head : Head) (start : ℕ) (carriage : Carriage) (run : Run) → IsHead (lines_of text) head
-    → length text ≤ start → (here : CarriedTo profile telling head.declared text head.lines start carriage) → run.lines ≡ here.count
-    → TellsRun profile telling (head.lines + 1) here.carried.readings run.verdict run.told
-    → IsRunOf telling profile head.declared text run
-run-of profile telling text head start carriage run is past here counted tells =
-    let all = behind-all text here.count start here.behind past in
+-- all lines were executed
+pub text_run-all : (profile : Profile) (with_loops : Bool) (text : List ℕ) (head : Head) (count start : ℕ) (carriage : Carriage) (run : Run) → IsHead (lines_of text) head
+    → length text ≤ start → (here : HasTextRun profile with_loops head.declared text head.lines count start carriage) → run.lines ≡ count
+    → TellsRun profile with_loops (head.lines + 1) here.body.readings run.judgement.verdict run.judgement.loops
+    → IsRun with_loops profile head.declared text run
+text_run-all profile with_loops text head count start carriage run is past here counted tells =
+    let all = behind-all text count start here.behind past in
     record {
       good = all.1;
-      judged = carried-all profile telling (lines_of text) head here.count carriage run.verdict run.told is (omega (arith, all.0)) here.carried tells;
-      counted = counted ∙ all.0;
+      judgement = body_run-all profile with_loops (lines_of text) head count carriage run.judgement is (omega (arith, all.0)) here.body tells;
+      lines = counted ∙ all.0;
     }
 
--- how many lines stand behind the head
-pub run-count : (profile : Profile) (telling : Bool) (names : List (List ℕ)) (text : List ℕ) (from start lines : ℕ) (carriage : Carriage)
-    → (here : CarriedTo profile telling names text from start carriage) → lines ≡ here.count → lines - from ≡ length here.carried.readings
-run-count profile telling names text from start lines carriage here is =
-    carried-count profile telling names (lines_of text) from here.count lines carriage (omega (arith, here.above, is)) (sym is) here.carried
-
--- the front of a text from this place on says what its line says
-pub usual-carries : (profile : Profile) (names : List (List ℕ)) (text rest : List ℕ) (start len : ℕ) (usual : Usual) (old new : Carriage)
+-- the line at this place says what its front says
+pub usual-executed : (profile : Profile) (names : List (List ℕ)) (text rest : List ℕ) (start len : ℕ) (usual : Usual) (old new : Carriage)
     → rest ≡ take (length text - start) (drop start text) → BeginsWithUsual profile names rest usual len
-    → ((p : Profile) (telling : Bool) (first : ℕ) (before : List Read) → HasRun p telling first before old → HasRun p telling first (before ++ usual_read usual ∷ []) new)
-    → CarriesOutAt profile names text start (start + len) old new
-usual-carries profile names text rest start len usual old new is begins ran =
+    → ((p : Profile) (with_loops : Bool) (first : ℕ) (before : List Read) → HasRun p with_loops first before old → HasRun p with_loops first (before ++ usual_read usual ∷ []) new)
+    → ExecutesAt profile names text start (start + len) old new
+usual-executed profile names text rest start len usual old new is begins ran =
     let left : rest ≡ drop start text = is ∙ take_all (length text - start) (drop start text) (omega (arith, length-drop start text)) in
     let behind : drop len rest ≡ drop (start + len) text = ap (drop len) left ∙ drop-drop len start text ∙ ap (λ k. drop k text) (omega arith) in
     record {
@@ -96,13 +86,13 @@ usual-carries profile names text rest start len usual old new is begins ran =
         first = ap lines_of (sym left) ∙ begins.lines ∙ ap (λ (l : List ℕ). begins.line ∷ lines_of l) behind;
         good = record { utf8 = begins.utf8; short = omega (arith, begins.short) };
       };
-      out = record { reading = usual_read usual; read = begins.read; lawful = begins.lawful; ran = ran };
+      executed = record { reading = usual_read usual; read = begins.read; lawful = begins.lawful; ran = ran };
     }
 
--- what is carried out from a carriage is carried out from one that is equal
-pub carries-from : (profile : Profile) (names : List (List ℕ)) (text : List ℕ) (start next : ℕ) (old mid new : Carriage) → mid ≡ old
-    → CarriesOutAt profile names text start next mid new → CarriesOutAt profile names text start next old new
-carries-from profile names text start next old mid new same carries = subst (λ (c : Carriage). CarriesOutAt profile names text start next c new) same carries
+-- what is executed from a carriage is executed from one that is equal
+pub executed-from : (profile : Profile) (names : List (List ℕ)) (text : List ℕ) (start next : ℕ) (old mid new : Carriage) → mid ≡ old
+    → ExecutesAt profile names text start next mid new → ExecutesAt profile names text start next old new
+executed-from profile names text start next old mid new same executes = subst (λ (c : Carriage). ExecutesAt profile names text start next c new) same executes
 
 -- the line with a number, found behind those before it
 pub line-numbered : (text line : List ℕ) (number count start next : ℕ) → IsBehind text count start → StandsAt text start line next → count ≡ number - 1 → line ≡ numbered_line (lines_of text) number

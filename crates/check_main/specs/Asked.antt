@@ -17,6 +17,21 @@ pub record Ask (words : List (List ℕ)) (command : Command) (chosen : Chosen) :
   pub within : refused request.options ≡ None
   pub values : IsChosen request.options chosen
 
+-- the commands that are there
+abbrev pub is_built : Command → Bool
+is_built (Check loops json) = true
+is_built Text = true
+is_built Passes = false
+is_built Live = false
+is_built (Make rows start) = false
+
+-- the words ask for a command that isn't there yet
+pub record AskUnbuilt (words : List (List ℕ)) : Type 0 where
+  pub command : Command
+  pub chosen : Chosen
+  pub ask : Ask words command chosen
+  pub unbuilt : is_built command ≡ false
+
 -- the words are outside the grammar, or one of their options is outside its bounds
 pub data AreRefused (words : List (List ℕ)) : Type 0 where
   outside : request_of words ≡ None → AreRefused words
@@ -26,11 +41,3 @@ pub data AreRefused (words : List (List ℕ)) : Type 0 where
 pub record IsLawfulChosen (chosen : Chosen) : Type 0 where
   pub profile : IsLawfulProfile chosen.profile
   pub block : IsBlockSize chosen.block
-
--- the commands that are there
-abbrev pub is_built : Command → Bool
-is_built (Check loops json) = true
-is_built Text = true
-is_built Passes = false
-is_built Live = false
-is_built (Make rows start) = false

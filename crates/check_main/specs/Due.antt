@@ -1,9 +1,5 @@
 -- What is due for an input that was read whole: the text and the status.
-use Rattle.std.specs.Prelude.{◌≡◌, ◌⊎◌, ℕ, ◌+◌, ◌-◌, ◌/◌, ◌<◌, ◌≤◌, Bool, true, false, List, [], ◌∷◌, ◌++◌, length, drop, Option, None, Some, All, unwrap_or, slice_get}
-use Rattle.std.specs.List.{AllZip}
-use Rattle.knit_base.specs.declared.instr.Read.{Read}
-use Rattle.knit_base.specs.declared.profile.Profile.{Profile}
-use Rattle.knit_base.specs.Lawful.{IsLawfulRead}
+use Rattle.std.specs.Prelude.{◌≡◌, ◌⊎◌, ℕ, ◌+◌, ◌-◌, ◌/◌, ◌<◌, ◌≤◌, Bool, List, length, Option, None, Some, All}
 use Rattle.knit_base.specs.Lines.{lines_of}
 use Rattle.line_cutter.specs.declared.fault.CutFault.{CutFault}
 use Rattle.line_cutter.specs.declared.fault.CutFault.TheVariants as cut
@@ -11,82 +7,17 @@ use Rattle.line_cutter.specs.Cut.{IsFirstBad, IsGoodLine}
 use Rattle.knitout_reader.specs.declared.head.HeadFault.{HeadFault}
 use Rattle.knitout_reader.specs.declared.head.HeadFault.TheVariants as head
 use Rattle.knitout_reader.specs.declared.head.Head.{Head}
-use Rattle.knitout_reader.specs.Head.{head_len, IsHead, IsHeadFault}
+use Rattle.knitout_reader.specs.Head.{IsHead, IsHeadFault}
 use Rattle.knitout_writer.specs.Canonical.{IsCanonicalText}
-use Rattle.knitout_reader.specs.Reads.{Reads}
-use Rattle.carriage_model.specs.declared.verdict.Verdict.{Verdict}
-use Rattle.carriage_model.specs.declared.verdict.Verdict.TheVariants as verdict
-use Rattle.carriage_model.specs.declared.verdict.LoopFact.{LoopFact}
-use Rattle.carriage_model.specs.declared.carriage.Carriage.{Carriage}
-use Rattle.carriage_model.specs.Carriage.{HasRun}
-use Rattle.carriage_model.specs.State.{empty_state}
-use Rattle.carriage_model.specs.Run.{run}
-use Rattle.carriage_model.specs.Loops.{loops_made, loops_asked}
-use Rattle.carriage_model.specs.Verdict.{IsVerdict}
 use Rattle.machine_profile.specs.declared.Chosen.{Chosen}
 use Rattle.command_words.specs.declared.command.Command.{Command}
 use Rattle.command_words.specs.declared.command.Command.TheVariants.{Check, Text}
 use Rattle.verdict_report.specs.declared.refusal.Refusal.{Refusal}
 use Rattle.verdict_report.specs.declared.refusal.Refusal.TheVariants as refusal
 use Rattle.verdict_report.specs.Refusals.{refusal_text}
-use Rattle.verdict_report.specs.VerdictText.{verdict_text}
-use Rattle.verdict_report.specs.VerdictJson.{verdict_json}
 use Rattle.check_main.specs.declared.outcome.Status.{Status}
 use Rattle.check_main.specs.declared.outcome.Status.TheVariants as status
-
--- the lines behind the head, and the number of the first of them in the file
-abbrev pub body_of : List (List ℕ) → List (List ℕ)
-body_of lines = drop (head_len lines) lines
-
-abbrev pub first_of : List (List ℕ) → ℕ
-first_of lines = head_len lines + 1
-
--- What one carriage makes of the file's lines, run one by one from empty beds: each line of the body has the reading that the
--- grammar gives it, and this is the verdict on the run of these readings, and the loops that it makes.
-pub record IsJudged (profile : Profile) (names lines : List (List ℕ)) (result : Verdict) (loops : List LoopFact) : Type 0 where
-  pub readings : List Read
-  pub read : AllZip (Reads profile names) (body_of lines) readings
-  pub made : loops ≡ loops_made profile empty_state (first_of lines) readings
-  pub judged : IsVerdict (length (body_of lines)) result (run profile empty_state (first_of lines) readings) loops
-
--- the carriage carried out this line as one more of those that it had carried out
-pub record CarriesOut (profile : Profile) (names : List (List ℕ)) (line : List ℕ) (old new : Carriage) : Type 0 where
-  pub reading : Read
-  pub read : Reads profile names line reading
-  pub lawful : IsLawfulRead profile (length names) reading
-  pub ran : (p : Profile) (telling : Bool) (first : ℕ) (before : List Read) → HasRun p telling first before old → HasRun p telling first (before ++ reading ∷ []) new
-
--- the line with this number
-abbrev pub numbered_line : List (List ℕ) → ℕ → List ℕ
-numbered_line lines number = unwrap_or (slice_get lines (number - 1)) []
-
--- the line at which a verdict is broken
-abbrev pub broken_line : List (List ℕ) → Verdict → List ℕ
-broken_line lines (verdict.Sound final) = []
-broken_line lines (verdict.Broken fault) = numbered_line lines fault.line
-
--- the verdict, with the loops made, where these are asked for
-abbrev pub IsJudgedTelling : Bool → Profile → List (List ℕ) → List (List ℕ) → Verdict → Option (List LoopFact) → Type 0
-IsJudgedTelling telling profile names lines result told =
-    (loops : List LoopFact) × IsJudged profile names lines result loops × (told ≡ loops_asked telling loops)
-
--- the report of a verdict, as text or as JSON
-abbrev pub report_of : Bool → List (List ℕ) → List ℕ → Verdict → Option (List LoopFact) → List ℕ
-report_of false names line result loops = verdict_text names line result loops
-report_of true names line result loops = verdict_json names line result loops
-
-abbrev pub status_of : Verdict → Status
-status_of (verdict.Sound final) = status.Done
-status_of (verdict.Broken fault) = status.Broken
-
--- the text reports what one carriage makes of the lines, with the loops and as JSON where that was asked for, and the status
--- says whether the program is sound
-pub record IsCheckReply (profile : Profile) (loops json : Bool) (names lines : List (List ℕ)) (text : List ℕ) (result : Status) : Type 0 where
-  pub verdict_given : Verdict
-  pub made : List LoopFact
-  pub judged : IsJudged profile names lines verdict_given made
-  pub reported : text ≡ report_of json names (broken_line lines verdict_given) verdict_given (loops_asked loops made)
-  pub ended : result ≡ status_of verdict_given
+use Rattle.check_main.specs.CheckReport.{IsCheckReport, body_of}
 
 -- what is said of bytes that aren't lines; of want of memory nothing is
 abbrev pub cut_refusal : CutFault → Option Refusal
@@ -94,7 +25,7 @@ cut_refusal (cut.NotUtf8 line) = Some (refusal.NotUtf8 line)
 cut_refusal (cut.LineLong line) = Some (refusal.LineLong line)
 cut_refusal cut.NoMemory = None
 
--- what is said of a head that is none
+-- what is said of a head that is none; of want of memory nothing is
 abbrev pub head_refusal : HeadFault → Option Refusal
 head_refusal head.BadMagic = Some refusal.BadMagic
 head_refusal head.NoCarriers = Some refusal.NoCarriers
@@ -123,6 +54,7 @@ IsSizeRefusal size count said =
     ((said ≡ refusal.TooManyLines) × (1048576 < count))
     ⊎ ((said ≡ refusal.TooManyBlocks) × (count ≤ 1048576) × (65536 < blocks_of size count))
 
+-- the text and the status that are due for this input, where the words ask for this command with these limits
 pub data Due (command : Command) (chosen : Chosen) (input : List ℕ) : List ℕ → Status → Type 0 where
   -- a line isn't text or is too long: the first such line is named
   bad_line : (fault : CutFault) (said : Refusal) → IsFirstBad (lines_of input) fault → cut_refusal fault ≡ Some said
@@ -137,7 +69,7 @@ pub data Due (command : Command) (chosen : Chosen) (input : List ℕ) : List ℕ
   -- the verdict on the program
   judged : (loops json : Bool) (head : Head) (text : List ℕ) (result : Status)
       → command ≡ Check loops json → HasHead input head → Fits chosen.block (length (body_of (lines_of input)))
-      → IsCheckReply chosen.profile loops json head.declared (lines_of input) text result
+      → IsCheckReport chosen.profile loops json head.declared (lines_of input) text result
       → Due command chosen input text result
   -- the canonical text of the file
   canonical : (head : Head) (text : List ℕ) → command ≡ Text → HasHead input head → IsCanonicalText chosen.profile head (lines_of input) text

@@ -1,5 +1,6 @@
 pub mod Asked
+pub mod BodyRun
+pub mod CheckReport
 pub mod Codes
 pub mod Due
-pub mod InText
 pub mod Top

@@ -1,5 +1,5 @@
--- What the whole program does for each status.
-use Rattle.std.specs.Prelude.{◌≡◌, ◌⊎◌, ℕ, ◌+◌, ◌≤◌, true, false, List, length, codes}
+-- What the whole program does: the report that is due, the status, and the causes of every other end.
+use Rattle.std.specs.Prelude.{◌≡◌, ℕ, ◌+◌, ◌≤◌, true, List, length, codes}
 use Rattle.std.specs.declared.option.Option.{Option}
 use Rattle.std.specs.Io.KnownBytes.{Appends, Consumes, IsAtEnd, Keeps}
 use Rattle.knit_ports.specs.declared.limit.TheConstants.{INPUT_LIMIT}
@@ -11,56 +11,64 @@ use Rattle.verdict_report.specs.declared.refusal.Refusal.TheVariants as refusal
 use Rattle.verdict_report.specs.Refusals.{refusal_text}
 use Rattle.check_main.specs.declared.outcome.Status.{Status}
 use Rattle.check_main.specs.declared.outcome.Status.TheVariants.{Usage, Unbuilt, ReadFault, TooLarge, WriteFault, NoMemory}
-use Rattle.check_main.specs.Asked.{Ask, AreRefused, is_built}
+use Rattle.check_main.specs.Asked.{Ask, AreRefused, AskUnbuilt, is_built}
 use Rattle.check_main.specs.Due.{Due}
+
+-- the source before and after a run: the bytes that it has left, where it tells them, and how many of its reads have failed
+pub record SourceUse : Type 0 where
+  pub left_before : Option (List ℕ)
+  pub left_after : Option (List ℕ)
+  pub faults_before : ℕ
+  pub faults_after : ℕ
+
+-- what became of a source that tells these things of itself
+abbrev pub source_use : {S : Type 0} → (S → Option (List ℕ)) → (S → ℕ) → S → S → SourceUse
+source_use left faults old new = record { left_before = left old; left_after = left new; faults_before = faults old; faults_after = faults new }
+
+-- no read was tried
+pub record IsUntouched (source : SourceUse) : Type 0 where
+  pub left : source.left_after ≡ source.left_before
+  pub faults : source.faults_after ≡ source.faults_before
+
+-- the sink before and after a run: the bytes that it has taken, where it tells them, and how many of its writes have failed
+pub record SinkUse : Type 0 where
+  pub taken_before : Option (List ℕ)
+  pub taken_after : Option (List ℕ)
+  pub faults_before : ℕ
+  pub faults_after : ℕ
+
+-- what became of a sink that tells these things of itself
+abbrev pub sink_use : {K : Type 0} → (K → Option (List ℕ)) → (K → ℕ) → K → K → SinkUse
+sink_use taken faults old new = record { taken_before = taken old; taken_after = taken new; faults_before = faults old; faults_after = faults new }
 
 abbrev pub unbuilt_text : List ℕ
 unbuilt_text = codes "unbuilt\n"
 
--- In all that follows, `left` and `left'` are the bytes that the source had left before and after, and `reads` and `reads'` its
--- counts of faults; `taken` and `taken'` are the bytes that the sink had taken, and `writes` and `writes'` its counts of faults.
-
--- The text and the status that are due for the words and for what the source gave.
-pub data Called (words : List (List ℕ)) (left left' : Option (List ℕ)) (reads reads' : ℕ) : List ℕ → Status → Type 0 where
+-- the text and the status that are due for the words and for what the source gave
+pub data Called (words : List (List ℕ)) (source : SourceUse) : List ℕ → Status → Type 0 where
   -- the words are refused, and the source isn't touched
-  usage : AreRefused words → left' ≡ left → reads' ≡ reads → Called words left left' reads reads' (refusal_text refusal.Usage) Usage
+  usage : AreRefused words → IsUntouched source → Called words source (refusal_text refusal.Usage) Usage
   -- the command isn't there yet, and the source isn't touched
-  unbuilt : (command : Command) (chosen : Chosen) → Ask words command chosen → is_built command ≡ false
-      → left' ≡ left → reads' ≡ reads → Called words left left' reads reads' unbuilt_text Unbuilt
+  unbuilt : AskUnbuilt words → IsUntouched source → Called words source unbuilt_text Unbuilt
   -- the source was read to its end
   whole : (command : Command) (chosen : Chosen) (input text : List ℕ) (status : Status) → Ask words command chosen → is_built command ≡ true
-      → Consumes left left' input → IsAtEnd left' → length input ≤ INPUT_LIMIT
-      → Due command chosen input text status → Called words left left' reads reads' text status
+      → Consumes source.left_before source.left_after input → IsAtEnd source.left_after → length input ≤ INPUT_LIMIT
+      → Due command chosen input text status → Called words source text status
   -- the source was read to one byte past the limit
   large : (command : Command) (chosen : Chosen) (input : List ℕ) → Ask words command chosen → is_built command ≡ true
-      → Consumes left left' input → length input ≡ INPUT_LIMIT + 1
-      → Called words left left' reads reads' (refusal_text refusal.TooManyBytes) TooLarge
+      → Consumes source.left_before source.left_after input → length input ≡ INPUT_LIMIT + 1
+      → Called words source (refusal_text refusal.TooManyBytes) TooLarge
   -- a read failed before that
   broke : (command : Command) (chosen : Chosen) → Ask words command chosen → is_built command ≡ true
-      → Rose reads reads' → GaveAtMost INPUT_LIMIT left left'
-      → Called words left left' reads reads' (refusal_text refusal.ReadFault) ReadFault
+      → Rose source.faults_before source.faults_after → GaveAtMost INPUT_LIMIT source.left_before source.left_after
+      → Called words source (refusal_text refusal.ReadFault) ReadFault
 
--- the text was written whole, with this status, or the sink failed after a front of it
-abbrev pub Finished : Option (List ℕ) → Option (List ℕ) → ℕ → ℕ → List ℕ → Status → Status → Type 0
-Finished taken taken' writes writes' text status result =
-    ((result ≡ status) × Appends taken taken' text)
-    ⊎ ((result ≡ WriteFault) × Rose writes writes' × TookFront taken taken' text)
-
--- memory ran out, and nothing was written
-abbrev pub Stopped : Option (List ℕ) → Option (List ℕ) → Status → Type 0
-Stopped taken taken' result = (result ≡ NoMemory) × Keeps taken taken'
-
--- what is due for an input was written, or memory ran out before
-abbrev pub Responds : Command → Chosen → List ℕ → Option (List ℕ) → Option (List ℕ) → ℕ → ℕ → Status → Type 0
-Responds command chosen input taken taken' writes writes' result =
-    Stopped taken taken' result
-    ⊎ ((text : List ℕ) × (status : Status) × Due command chosen input text status × Finished taken taken' writes writes' text status result)
-
--- this text was written, or memory ran out before
-abbrev pub Says : List ℕ → Status → Option (List ℕ) → Option (List ℕ) → ℕ → ℕ → Status → Type 0
-Says text status taken taken' writes writes' result = Stopped taken taken' result ⊎ Finished taken taken' writes writes' text status result
-
--- What the program did: the text that is due was written, or a write failed, or memory ran out before anything was written.
-pub record Ran (words : List (List ℕ)) (left left' : Option (List ℕ)) (reads reads' : ℕ) (taken taken' : Option (List ℕ)) (writes writes' : ℕ) (result : Status) : Type 0 where
-  pub outcome : Stopped taken taken' result
-      ⊎ ((text : List ℕ) × (status : Status) × Called words left left' reads reads' text status × Finished taken taken' writes writes' text status result)
+-- what the program did, and the status with which it ended
+pub data Ran (words : List (List ℕ)) (source : SourceUse) (sink : SinkUse) (result : Status) : Type 0 where
+  -- the sink took the whole text that is due, and the status is the one that is due
+  written : (text : List ℕ) → Called words source text result → Appends sink.taken_before sink.taken_after text → Ran words source sink result
+  -- a write failed, and the sink took a front of the text that is due
+  cut_short : (text : List ℕ) (status : Status) → Called words source text status → result ≡ WriteFault
+      → Rose sink.faults_before sink.faults_after → TookFront sink.taken_before sink.taken_after text → Ran words source sink result
+  -- memory ran out, and the sink took nothing
+  stopped : result ≡ NoMemory → Keeps sink.taken_before sink.taken_after → Ran words source sink result

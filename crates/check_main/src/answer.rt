@@ -1,126 +1,108 @@
-//! What is said of an input that was read whole.
-ghost use Rattle.std.specs.Prelude.{◌≡◌, ◌≤◌, ◌<◌, true, All, length, Some, None, IfOk, MatchOption, List, ℕ};
+//! What is due for an input that was read whole.
+ghost use Rattle.std.specs.Prelude.{◌≡◌, ◌≤◌, All, List, ℕ, length, IfOk, MatchOption, Some};
 ghost use Rattle.knit_base.specs.Lines.{lines_of};
-ghost use Rattle.line_cutter.specs.Cut.{IsFirstBad, IsGoodLine};
-ghost use Rattle.knitout_reader.specs.Head.{IsHead, IsHeadFault};
-ghost use Rattle.command_words.specs.declared.command.Command.{Command};
+ghost use Rattle.line_cutter.specs.Cut.{IsGoodLine};
 ghost use Rattle.machine_profile.specs.Bounds.{IsBlockSize};
-ghost use Rattle.verdict_report.specs.Refusals.{refusal_text};
-ghost use Rattle.check_main.specs.Asked.{IsLawfulChosen, is_built};
-ghost use Rattle.check_main.specs.Due.{Due, Fits, IsSizeRefusal, body_of, blocks_of, cut_refusal, head_refusal};
+ghost use Rattle.check_main.specs.Due.{Due, Fits, IsSizeRefusal, cut_refusal, head_refusal};
 
-use crate::in_text::check_text;
+use crate::body::Body;
+use crate::ending::Ending;
 use crate::judge::{Style, judge};
+use crate::one_pass::check_in_one_pass;
 use crate::outcome::Status;
 use crate::plan::Plan;
 use command_words::Command;
 use knit_base::{Lines, NoMemory};
-use knitout_reader::{Head, HeadFault, read_head};
+use knitout_reader::HeadFault;
 use knitout_writer::canonical_text;
 use line_cutter::{CutFault, cut_buffer};
-use machine_profile::Chosen;
 use std::alloc::Global;
-use verdict_report::{Refusal, report_refusal};
+use verdict_report::Refusal;
 
-// A body has at most so many lines, in at most so many blocks.
+// A body that is checked has at most so many lines, in at most so many blocks.
 const BODY_LIMIT: u32 = 1_048_576;
 
 const BLOCK_LIMIT: u32 = 65_536;
 
-/// A text to be written, and the status with which the program then ends.
-#[derive(Drop)]
-pub struct Reply {
-    pub status: Status,
-    pub text: Vec<u8>,
-}
-
-/// What is due for an input that was read whole: its lines are cut, its head is read, and then its body is judged. Where all
-/// is well, a check finds the lines one by one instead, and keeps none.
-pub fn answer(alloc: Global, plan: &Plan, input: Vec<u8>) -> Result<Reply, NoMemory>
-    requires size { length input.items ≤ 16777216 }
-    requires lawful { IsLawfulChosen plan.now.chosen }
-    requires built { is_built plan.now.command ≡ true }
-    ensures { IfOk result (λ reply. Due plan.now.command plan.now.chosen input.items reply.text.items reply.status) }
+/// What is due for an input that was read whole. A check is first tried in one pass over the bytes, which settles nearly every
+/// file in less time and memory; what that doesn't settle goes the general way: the lines are cut, the head is read, and then
+/// the body is judged.
+pub fn answer(alloc: Global, plan: &Plan, input: Vec<u8>) -> Result<Ending, NoMemory>
+    requires { length input.items ≤ 16777216 }
+    ensures { IfOk result (λ ending. Due plan.now.command plan.now.chosen input.items ending.text.items ending.status) }
 {
     if let Command::Check { loops, json } = plan.command {
-        if let Some(reply) = check_text(alloc, Style { loops, json }, &plan.chosen, &input)? {
-            return Ok(reply);
+        if let Some(ending) = check_in_one_pass(alloc, Style { loops, json }, plan, &input)? {
+            return Ok(ending);
         }
     }
+    answer_by_lines(alloc, plan, input)
+}
+
+/// The same, in the general way.
+pub(crate) fn answer_by_lines(
+    alloc: Global,
+    plan: &Plan,
+    input: Vec<u8>,
+) -> Result<Ending, NoMemory>
+    requires { length input.items ≤ 16777216 }
+    ensures { IfOk result (λ ending. Due plan.now.command plan.now.chosen input.items ending.text.items ending.status) }
+{
     match cut_buffer(alloc, input) {
-        Ok(lines) => answer_lines(alloc, plan, &lines),
-        Err(fault) => refuse(alloc, said_of_lines(fault)?, Status::BadInput),
+        Ok(lines) => answer_lines(alloc, plan, lines),
+        Err(fault) => Ending::refusal(alloc, refusal_of_lines(fault)?, Status::BadInput),
     }
 }
 
 // What is due for an input with these lines.
-fn answer_lines(alloc: Global, plan: &Plan, lines: &Lines) -> Result<Reply, NoMemory>
-    requires good { All IsGoodLine lines.now }
-    requires lawful { IsLawfulChosen plan.now.chosen }
-    requires built { is_built plan.now.command ≡ true }
-    ensures { IfOk result (λ reply. (input : List ℕ) → lines.now ≡ lines_of input
-        → Due plan.now.command plan.now.chosen input reply.text.items reply.status) }
+fn answer_lines(alloc: Global, plan: &Plan, lines: Lines) -> Result<Ending, NoMemory>
+    requires { All IsGoodLine lines }
+    ensures { IfOk result (λ ending. (input : List ℕ) → lines ≡ lines_of input
+        → Due plan.now.command plan.now.chosen input ending.text.items ending.status) }
 {
-    match read_head(alloc, lines) {
-        Ok(head) => answer_command(alloc, plan, lines, &head),
-        Err(fault) => refuse(alloc, said_of_head(fault)?, Status::BadInput),
+    match Body::of(alloc, lines) {
+        Ok(body) => answer_body(alloc, plan, &body),
+        Err(fault) => Ending::refusal(alloc, refusal_of_head(fault)?, Status::BadInput),
     }
 }
 
-// What the command gives for an input with these lines and this head.
-fn answer_command(alloc: Global, plan: &Plan, lines: &Lines, head: &Head) -> Result<Reply, NoMemory>
-    requires good { All IsGoodLine lines.now }
-    requires head { IsHead lines.now head.now }
-    requires lawful { IsLawfulChosen plan.now.chosen }
-    requires built { is_built plan.now.command ≡ true }
-    ensures { IfOk result (λ reply. (input : List ℕ) → lines.now ≡ lines_of input
-        → Due plan.now.command plan.now.chosen input reply.text.items reply.status) }
+// What is due for an input with this body.
+fn answer_body(alloc: Global, plan: &Plan, body: &Body) -> Result<Ending, NoMemory>
+    ensures { IfOk result (λ ending. (input : List ℕ) → body.now.lines ≡ lines_of input
+        → Due plan.now.command plan.now.chosen input ending.text.items ending.status) }
 {
-    let chosen = &plan.chosen;
     match plan.command {
-        Command::Check { loops, json } => check(alloc, Style { loops, json }, chosen, lines, head),
-        Command::Text => normalise(alloc, chosen, lines, head),
+        Command::Check { loops, json } => check(alloc, Style { loops, json }, plan, body),
+        Command::Text => normalise(alloc, plan, body),
         Command::Passes | Command::Live | Command::Make { .. } => unreachable!(),
     }
 }
 
-// The verdict on a file with these lines and this head, unless its body is too large.
-fn check(
-    alloc: Global,
-    style: Style,
-    chosen: &Chosen,
-    lines: &Lines,
-    head: &Head,
-) -> Result<Reply, NoMemory>
-    requires good { All IsGoodLine lines.now }
-    requires head { IsHead lines.now head.now }
-    requires lawful { IsLawfulChosen chosen.now }
-    ensures { IfOk result (λ reply. (input : List ℕ) → lines.now ≡ lines_of input
-        → Due (Command.Check style.loops style.json) chosen.now input reply.text.items reply.status) }
+// The verdict on a file with this body, unless that is too large.
+fn check(alloc: Global, style: Style, plan: &Plan, body: &Body) -> Result<Ending, NoMemory>
+    ensures { IfOk result (λ ending. (input : List ℕ) → body.now.lines ≡ lines_of input
+        → Due (Command.Check style.loops style.json) plan.now.chosen input ending.text.items ending.status) }
 {
-    match said_of_size(lines.len() - head.lines, chosen.block) {
-        Some(refusal) => refuse(alloc, refusal, Status::TooLarge),
-        None => judge(alloc, style, &chosen.profile, lines, head),
+    match refusal_of_size(body.len(), plan.chosen.block) {
+        Some(refusal) => Ending::refusal(alloc, refusal, Status::TooLarge),
+        None => judge(alloc, style, plan, body),
     }
 }
 
-// The canonical text of a file with these lines and this head.
-fn normalise(alloc: Global, chosen: &Chosen, lines: &Lines, head: &Head) -> Result<Reply, NoMemory>
-    requires good { All IsGoodLine lines.now }
-    requires head { IsHead lines.now head.now }
-    requires lawful { IsLawfulChosen chosen.now }
-    ensures { IfOk result (λ reply. (input : List ℕ) → lines.now ≡ lines_of input
-        → Due Command.Text chosen.now input reply.text.items reply.status) }
+// The canonical text of a file with this body.
+fn normalise(alloc: Global, plan: &Plan, body: &Body) -> Result<Ending, NoMemory>
+    ensures { IfOk result (λ ending. (input : List ℕ) → body.now.lines ≡ lines_of input
+        → Due Command.Text plan.now.chosen input ending.text.items ending.status) }
 {
-    let text = canonical_text(alloc, lines, head, &chosen.profile)?;
-    Ok(Reply {
+    let text = canonical_text(alloc, &body.lines, &body.head, &plan.chosen.profile)?;
+    Ok(Ending {
         status: Status::Done,
         text,
     })
 }
 
 /// What is said of a body with so many lines, where these are too many, or too many blocks of this size.
-pub(crate) fn said_of_size(lines: u32, block: u32) -> Option<Refusal>
+pub(crate) fn refusal_of_size(lines: u32, block: u32) -> Option<Refusal>
     requires { IsBlockSize block }
     ensures { MatchOption result (Fits block lines) (λ refusal. IsSizeRefusal block lines refusal) }
 {
@@ -134,7 +116,7 @@ pub(crate) fn said_of_size(lines: u32, block: u32) -> Option<Refusal>
 }
 
 // What is said of bytes that aren't lines.
-fn said_of_lines(fault: CutFault) -> Result<Refusal, NoMemory>
+fn refusal_of_lines(fault: CutFault) -> Result<Refusal, NoMemory>
     ensures { IfOk result (λ refusal. cut_refusal fault ≡ Some refusal) }
 {
     match fault {
@@ -145,7 +127,7 @@ fn said_of_lines(fault: CutFault) -> Result<Refusal, NoMemory>
 }
 
 // What is said of a head that is none.
-fn said_of_head(fault: HeadFault) -> Result<Refusal, NoMemory>
+fn refusal_of_head(fault: HeadFault) -> Result<Refusal, NoMemory>
     ensures { IfOk result (λ refusal. head_refusal fault ≡ Some refusal) }
 {
     match fault {
@@ -156,13 +138,4 @@ fn said_of_head(fault: HeadFault) -> Result<Refusal, NoMemory>
         HeadFault::ManyCarriers { line } => Ok(Refusal::ManyCarriers(line)),
         HeadFault::NoMemory => Err(NoMemory),
     }
-}
-
-/// The line of a refusal, and this status.
-pub(crate) fn refuse(alloc: Global, refusal: Refusal, status: Status) -> Result<Reply, NoMemory>
-    ensures { IfOk result (λ reply. (reply.text.items ≡ refusal_text refusal) × (reply.status ≡ status)) }
-{
-    let mut text = Vec::new(alloc);
-    report_refusal(alloc, refusal, &mut text)?;
-    Ok(Reply { status, text })
 }

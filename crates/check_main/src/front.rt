@@ -8,11 +8,11 @@ use knitout_reader::{Head, read_head};
 use line_cutter::cut;
 use std::alloc::Global;
 
-// Most heads are shorter than this.
+// Only so many bytes are cut to find the head. Nearly every head is shorter.
 const FRONT_LEN: usize = 8_192;
 
-/// The head of a text, where it ends within the front. `None` says nothing.
-pub fn front_head(alloc: Global, text: &[u8]) -> Result<Option<Head>, NoMemory>
+/// The head of a text that ends within the front. `None` where it doesn't, or where there may be none.
+pub fn head_in_front(alloc: Global, text: &[u8]) -> Result<Option<Head>, NoMemory>
     requires { length text.now ≤ 16777216 }
     ensures { IfOk result (λ found. IfSome found (λ head. IsHead (lines_of text.now) head)) }
 {

@@ -1,18 +1,16 @@
 //! The verdict on a file, and its report.
-ghost use Rattle.std.specs.Prelude.{◌≡◌, ◌≤◌, ◌<◌, ◌+◌, ◌^◌, ◌-◌, drop, All, length, Some, None, Option, IfOk, List, ℕ, unwrap_or, slice_get, OnOk};
-ghost use Rattle.std.specs.Option.{option_copied};
-ghost use Rattle.knit_base.specs.Lawful.{IsLawfulRead};
-ghost use Rattle.knit_base.specs.Limits.{IsLawfulProfile};
-ghost use Rattle.line_cutter.specs.Cut.{IsGoodLine};
-ghost use Rattle.knitout_reader.specs.Head.{IsHead};
-ghost use Rattle.carriage_model.specs.Carriage.{IsRunning};
-ghost use Rattle.check_main.specs.Due.{CarriesOut, IsCheckReply, IsJudgedTelling, body_of, broken_line, numbered_line, report_of, status_of};
+ghost use Rattle.std.specs.Prelude.{◌≡◌, ◌<◌, ◌+◌, ◌^◌, length, IfOk, OnOk};
+ghost use Rattle.carriage_model.specs.Carriage.{IsRunning, next_line, profile_of};
+ghost use Rattle.check_main.specs.BodyRun.{ExecutesLine, IsJudgement};
+ghost use Rattle.check_main.specs.CheckReport.{IsCheckReport, broken_line, numbered_line, report_of, status_of};
 
-use crate::answer::Reply;
+use crate::body::Body;
+use crate::ending::Ending;
 use crate::outcome::Status;
+use crate::plan::Plan;
 use carriage_model::{Carriage, Facts, Verdict};
 use knit_base::{Declared, Lines, NoMemory, Profile};
-use knitout_reader::{Head, read_line};
+use knitout_reader::{nth_line, read_line};
 use std::alloc::Global;
 use verdict_report::{json_of, text_of};
 
@@ -23,56 +21,46 @@ pub struct Style {
     pub json: bool,
 }
 
-/// The report of the verdict on a file with these lines and this head.
-pub fn judge(
-    alloc: Global,
-    style: Style,
-    profile: &Profile,
-    lines: &Lines,
-    head: &Head,
-) -> Result<Reply, NoMemory>
-    requires profile { IsLawfulProfile profile.now }
-    requires good { All IsGoodLine lines.now }
-    requires head { IsHead lines.now head.now }
-    requires lines { length lines.now ≤ 16777217 }
-    requires few { length (body_of lines.now) ≤ 1048576 }
-    ensures { IfOk result (λ reply. IsCheckReply profile.now style.loops style.json head.now.declared lines.now reply.text.items reply.status) }
-{
-    let (verdict, told) = run_body(alloc, style.loops, profile, lines, head)?;
-    let broken = line_of(lines, &verdict);
-    let text = report(alloc, style.json, &verdict, &told, &head.declared, broken)?;
-    Ok(Reply {
-        status: status_of(&verdict),
-        text,
-    })
+/// What one carriage makes of a file: the verdict, and the loops made, where these are asked for.
+#[derive(Drop)]
+pub struct Judgement {
+    pub verdict: Verdict,
+    pub loops: Option<Facts>,
 }
 
-// What one carriage makes of the lines behind the head: the verdict, and the loops made, where these are asked for.
+/// The report of the verdict on a file.
+pub fn judge(alloc: Global, style: Style, plan: &Plan, body: &Body) -> Result<Ending, NoMemory>
+    ensures { IfOk result (λ ending. IsCheckReport plan.now.chosen.profile style.loops style.json body.now.head.declared body.now.lines
+        ending.text.items ending.status) }
+{
+    let judgement = run_body(alloc, style.loops, plan, body)?;
+    let broken = line_of(&body.lines, &judgement.verdict);
+    report(alloc, style.json, &judgement, &body.head.declared, broken)
+}
+
+// What one carriage makes of the lines behind the head.
 fn run_body(
     alloc: Global,
-    telling: bool,
-    profile: &Profile,
-    lines: &Lines,
-    head: &Head,
-) -> Result<(Verdict, Option<Facts>), NoMemory>
-    requires profile { IsLawfulProfile profile.now }
-    requires good { All IsGoodLine lines.now }
-    requires head { IsHead lines.now head.now }
-    requires lines { length lines.now ≤ 16777217 }
-    ensures { IfOk result (λ ended. IsJudgedTelling telling profile.now head.now.declared lines.now ended.0 ended.1) }
+    with_loops: bool,
+    plan: &Plan,
+    body: &Body,
+) -> Result<Judgement, NoMemory>
+    ensures { IfOk result (λ judgement. IsJudgement with_loops plan.now.chosen.profile body.now.head.declared body.now.lines judgement) }
 {
-    let mut carriage = Carriage::start(alloc, profile, head.lines + 1, telling)?;
-    for i in head.lines..lines.len() {
-        let Some(line) = lines.get(i) else {
-            unreachable!();
-        };
-        carry_out(alloc, line, profile, &head.declared, &mut carriage)?;
+    let profile = &plan.chosen.profile;
+    let head = &body.head;
+    let count = body.lines.len();
+    let mut carriage = Carriage::start(alloc, profile, head.lines + 1, with_loops)?;
+    for i in head.lines..count {
+        let line = nth_line(&body.lines, i);
+        execute_line(alloc, line, profile, &head.declared, &mut carriage)?;
     }
-    carriage.finish(lines.len() - head.lines)
+    let (verdict, loops) = carriage.finish()?;
+    Ok(Judgement { verdict, loops })
 }
 
-/// Reads a line, and carries it out.
-pub(crate) fn carry_out(
+/// Reads a line, and executes it.
+pub(crate) fn execute_line(
     alloc: Global,
     line: &str,
     profile: &Profile,
@@ -81,12 +69,12 @@ pub(crate) fn carry_out(
 ) -> Result<(), NoMemory>
     requires short { length line.now < 2 ^ 16 }
     requires running { IsRunning carriage.old }
-    requires profile { carriage.old.profile ≡ profile.now }
-    requires lines { carriage.old.next + 1 < 2 ^ 32 }
-    ensures { OnOk result (CarriesOut profile.now names.now line.now carriage.old carriage.new) }
+    requires profile { profile_of carriage.old ≡ profile.now }
+    requires lines { next_line carriage.old + 1 < 2 ^ 32 }
+    ensures { OnOk result (ExecutesLine profile.now names.now line.now carriage.old carriage.new) }
 {
     let read = read_line(alloc, line, profile, names)?;
-    carriage.carry_out(&read)
+    carriage.execute(&read)
 }
 
 // The line at which the verdict is broken, or no text.
@@ -109,25 +97,29 @@ fn numbered_line(lines: &Lines, number: u32) -> &str
     }
 }
 
-/// The report, as text or as JSON.
+/// The report, as text or as JSON, and the status that says whether the program is sound.
 pub(crate) fn report(
     alloc: Global,
     json: bool,
-    verdict: &Verdict,
-    facts: &Option<Facts>,
+    judgement: &Judgement,
     names: &Declared,
     broken: &str,
-) -> Result<Vec<u8>, NoMemory>
-    ensures { IfOk result (λ text. text.items ≡ report_of json names.now broken.now verdict.now facts.now) }
+) -> Result<Ending, NoMemory>
+    ensures text { IfOk result (λ ending. ending.text.items ≡ report_of json names.now broken.now judgement.now.verdict judgement.now.loops) }
+    ensures status { IfOk result (λ ending. ending.status ≡ status_of judgement.now.verdict) }
 {
-    if json {
-        json_of(alloc, verdict, facts.as_ref(), names, broken)
+    let Judgement { verdict, loops } = judgement;
+    let status = status_of(verdict);
+    let text = if json {
+        json_of(alloc, verdict, loops.as_ref(), names, broken)?
     } else {
-        text_of(alloc, verdict, facts.as_ref(), names, broken)
-    }
+        text_of(alloc, verdict, loops.as_ref(), names, broken)?
+    };
+    Ok(Ending { status, text })
 }
 
-pub(crate) fn status_of(verdict: &Verdict) -> Status
+// Whether the program is sound.
+fn status_of(verdict: &Verdict) -> Status
     ensures { result ≡ status_of verdict.now }
 {
     match verdict {

@@ -7,11 +7,15 @@
 #![tactic(auto)]
 
 mod answer;
+mod body;
+mod ending;
 #[cfg(test)]
 mod example_tests;
 mod front;
-mod in_text;
 mod judge;
+mod one_pass;
+#[cfg(test)]
+mod one_pass_tests;
 mod outcome;
 mod plan;
 #[cfg(test)]

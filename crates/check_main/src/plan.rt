@@ -1,45 +1,60 @@
 //! What the words of the command line ask for.
-ghost use Rattle.std.specs.Prelude.{◌≡◌, map, string_bytes, IfOk, IsErrOf};
-ghost use Rattle.check_main.specs.Asked.{AreRefused, Ask, IsLawfulChosen, is_built};
+ghost use Rattle.std.specs.Prelude.{◌≡◌, true, map, string_bytes, IfOk, IsErrOf};
+ghost use Rattle.check_main.specs.Asked.{AreRefused, Ask, AskUnbuilt, IsLawfulChosen, is_built};
 
 use command_words::{Command, WordFault, request};
 use machine_profile::{Chosen, profile_of};
 use std::alloc::Global;
 
-/// A command, and the limits that its options choose.
-#[derive(Clone, Copy, Debug, PartialEq, Eq)]
+/// A command that is there, and the limits that its options choose.
+#[derive(Drop)]
 pub struct Plan {
     pub command: Command,
     pub chosen: Chosen,
+    ghost lawful: { IsLawfulChosen chosen },
+    ghost built: { is_built command ≡ true },
 }
 
-impl Plan {
-    /// Whether the command is there.
-    pub fn is_built(&self) -> bool
-        ensures { result ≡ is_built self.now.command }
-    {
-        match self.command {
-            Command::Check { .. } | Command::Text => true,
-            Command::Passes | Command::Live | Command::Make { .. } => false,
-        }
-    }
+/// Why there is no plan.
+#[derive(Clone, Copy, Debug, PartialEq, Eq)]
+pub enum PlanFault {
+    /// The words are outside the grammar, or an option is out of its bounds.
+    Usage,
+    /// The words ask for a command that isn't there yet.
+    Unbuilt,
+    /// Memory ran out.
+    NoMemory,
 }
 
-/// What the words ask for. They are refused where they are outside the grammar or an option is out of its bounds.
-pub fn plan_of(alloc: Global, words: &[String]) -> Result<Plan, WordFault>
+/// What the words ask for.
+pub fn plan_of(alloc: Global, words: &[String]) -> Result<Plan, PlanFault>
     ensures ok { IfOk result (λ plan. Ask (map string_bytes words.now) plan.command plan.chosen) }
-    ensures lawful { IfOk result (λ plan. IsLawfulChosen plan.chosen) }
-    ensures usage { IsErrOf result WordFault.Usage → AreRefused (map string_bytes words.now) }
+    ensures usage { IsErrOf result PlanFault.Usage → AreRefused (map string_bytes words.now) }
+    ensures unbuilt { IsErrOf result PlanFault.Unbuilt → AskUnbuilt (map string_bytes words.now) }
 {
     let request = match request(alloc, words) {
         Ok(request) => request,
-        Err(fault) => return Err(fault),
+        Err(WordFault::Usage) => return Err(PlanFault::Usage),
+        Err(WordFault::NoMemory) => return Err(PlanFault::NoMemory),
     };
+    let command = request.command;
     match profile_of(&request.options) {
-        Ok(chosen) => Ok(Plan {
-            command: request.command,
-            chosen,
-        }),
-        Err(_) => Err(WordFault::Usage),
+        Ok(chosen) => {
+            if !is_built(command) {
+                return Err(PlanFault::Unbuilt);
+            }
+            Ok(Plan { command, chosen })
+        }
+        Err(_) => Err(PlanFault::Usage),
+    }
+}
+
+// Whether the command is there.
+fn is_built(command: Command) -> bool
+    ensures { result ≡ is_built command }
+{
+    match command {
+        Command::Check { .. } | Command::Text => true,
+        Command::Passes | Command::Live | Command::Make { .. } => false,
     }
 }

@@ -46,10 +46,14 @@ const BY_THE_MACHINE: [Row; 9] = [
     ),
 ];
 
-const BY_THE_LINE: [Row; 11] = [
+const BY_THE_LINE: [Row; 12] = [
     (
         "knit f1\n",
         "broken line 3 rule Unreadable at 0\n> knit f1\n",
+    ),
+    (
+        "knit + f\n",
+        "broken line 3 rule Unreadable at 0\n> knit + f\n",
     ),
     (
         "drop f1023\ndrop f-1024\ndrop f1024\n",

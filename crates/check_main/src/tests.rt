@@ -12,7 +12,7 @@ pub(crate) struct Written {
     text: Vec<u8>,
 }
 
-fn texts(alloc: Global, words: &[&str]) -> Result<Vec<String>, Fail> {
+pub(crate) fn texts(alloc: Global, words: &[&str]) -> Result<Vec<String>, Fail> {
     let mut texts = Vec::new(alloc);
     for word in words {
         texts.push(String::from_str(alloc, word)?)?;
@@ -163,6 +163,16 @@ fn json(rt: HostRuntime) -> Result<(), Fail> {
     Ok(())
 }
 
+const SCARF_JSON_LOOPS: &str =
+    "{\"held\":2,\"hook\":[],\"in\":[],\"lines\":6,\"made\":4,\"made_loops\":[{\"dir\":\"-\",\"line\":4,\"needle\":\"f2\",\"through\":[],\"yarns\":[\"1\"]},{\"dir\":\"-\",\"line\":5,\"needle\":\"f1\",\"through\":[],\"yarns\":[\"1\"]},{\"dir\":\"+\",\"line\":6,\"needle\":\"f1\",\"through\":[5],\"yarns\":[\"1\"]},{\"dir\":\"+\",\"line\":7,\"needle\":\"f2\",\"through\":[4],\"yarns\":[\"1\"]}],\"needles\":[{\"loops\":[6],\"needle\":\"f1\"},{\"loops\":[7],\"needle\":\"f2\"}],\"rack\":\"0\",\"verdict\":\"sound\"}\n";
+
+#[test]
+fn json_with_loops(rt: HostRuntime) -> Result<(), Fail> {
+    let said = said(rt.alloc(), &["check", "--json", "--loops"], SCARF)?;
+    assert!(rt; is(&said, Status::Done, SCARF_JSON_LOOPS));
+    Ok(())
+}
+
 const USAGE: &str = "usage: check_main check|text|passes|live|make N START [options]\n";
 
 // Whether the words are refused.
@@ -277,13 +287,46 @@ fn devices_that_fail(rt: HostRuntime) -> Result<(), Fail> {
     let outcome = top(alloc, &words, &mut source, &mut sink);
     assert!(rt; outcome.status == Status::WriteFault);
     assert!(rt; sink.as_slice() == b"sound line".as_slice());
-    // The second read fails.
+    Ok(())
+}
+
+// What `check` says where this read of the input fails.
+fn said_of_failing_read(alloc: Global, read: u32) -> Result<Written, Fail> {
+    let words = texts(alloc, &["check"])?;
     let bytes = Vec::from_slice(alloc, SCARF)?;
-    let mut source = MemorySource::of(bytes, 16, Vec::from_slice(alloc, &[2])?);
+    let mut source = MemorySource::of(bytes, 16, Vec::from_slice(alloc, &[read])?);
     let mut sink = MemorySink::of(alloc, 65_536, 65_536, Vec::new(alloc))?;
     let outcome = top(alloc, &words, &mut source, &mut sink);
-    assert!(rt; outcome.status == Status::ReadFault);
-    assert!(rt; sink.as_slice() == b"read fault\n".as_slice());
+    let text = Vec::from_slice(alloc, sink.as_slice())?;
+    Ok(Written {
+        status: outcome.status,
+        text,
+    })
+}
+
+#[test]
+fn reads_that_fail(rt: HostRuntime) -> Result<(), Fail> {
+    let alloc = rt.alloc();
+    // A closed input fails at its first read.
+    for read in [1, 2] {
+        let said = said_of_failing_read(alloc, read)?;
+        assert!(rt; is(&said, Status::ReadFault, "read fault\n"));
+    }
+    Ok(())
+}
+
+const FIVE: &str = "in 1 2 3 4 5\ntuck + f1 1 2 3 4 5\n";
+
+#[test]
+fn a_line_with_five_carriers(rt: HostRuntime) -> Result<(), Fail> {
+    let alloc = rt.alloc();
+    let file = format!(in alloc; ";!knitout-2\n;;Carriers: 1 2 3 4 5\n{FIVE}")?;
+    let checked = said(alloc, &["check", "--loops"], file.as_bytes())?;
+    let verdict =
+        "sound lines 2 made 1 held 1 rack 0\nin: 1 2 3 4 5\nhook:\nf1: 4\nloop 4 on f1 + with 1 2 3 4 5 through\n";
+    assert!(rt; is(&checked, Status::Done, verdict));
+    let spelt = said(alloc, &["text"], file.as_bytes())?;
+    assert!(rt; is(&spelt, Status::Done, &file));
     Ok(())
 }
 

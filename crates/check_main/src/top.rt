@@ -1,92 +1,94 @@
 //! The whole program, over any source and sink.
-ghost use Rattle.std.specs.Prelude.{◌≡◌, true, ◌<◌, ◌≤◌, List, ℕ, length, map, string_bytes};
-ghost use Rattle.verdict_report.specs.Refusals.{refusal_text};
-ghost use Rattle.check_main.specs.Asked.{Ask, IsLawfulChosen, is_built};
-ghost use Rattle.check_main.specs.Top.{Finished, Ran, Responds, Says};
+ghost use Rattle.std.specs.Prelude.{◌≡◌, List, ℕ, map, string_bytes, IfOk};
+ghost use Rattle.check_main.specs.Asked.{Ask};
+ghost use Rattle.check_main.specs.Top.{Called, Ran, SourceUse, sink_use, source_use};
 
 use crate::answer::answer;
+use crate::ending::Ending;
 use crate::outcome::{Outcome, Status};
-use crate::plan::{Plan, plan_of};
-use command_words::WordFault;
+use crate::plan::{Plan, PlanFault, plan_of};
 use knit_base::NoMemory;
 use knit_ports::{INPUT_LIMIT, InputFault, Sink, Source, read_input, write_report};
 use std::alloc::Global;
-use verdict_report::{Refusal, report_refusal};
+use verdict_report::Refusal;
 
-/// Reads the source to its end, makes the whole report, and only then writes it. For words that are refused, or that ask
-/// for a command that isn't there yet, nothing is read.
+/// Does what the words behind the program's name ask for: reads the source to its end, makes the whole report, and only then
+/// writes it to the sink. For words that are refused, or that ask for a command that isn't there yet, nothing is read.
+///
+/// Where the source tells the bytes that it has left and the sink those that it has taken, the report is the one that is due
+/// for these very bytes, and the sink takes nothing else. Of a source that tells nothing, as standard input, the report
+/// is due for some bytes. An input has at most 16,777,216 bytes; one byte more is read to see that it has not.
+///
+/// The statuses are decided in this order:
+/// - `Usage`: exactly where the words are outside the grammar or an option is out of its bounds.
+/// - `Unbuilt`: exactly where the words ask for a command that isn't there yet.
+/// - `ReadFault`: only where a read failed before the input was whole.
+/// - `TooLarge`: exactly where the source gave a byte past the limit.
+/// - `BadInput`: exactly where a line isn't UTF-8 or has more than 4,096 bytes, or else where the head is refused.
+/// - `TooLarge`: exactly where the body that is to be checked has more than 1,048,576 lines, or more than 65,536 blocks.
+/// - `Broken`: exactly where a line of the body that is checked breaks a rule.
+/// - `Done` otherwise.
+///
+/// `WriteFault` takes the place of any of these, only where a write failed; the sink then took a front of the report.
+/// `NoMemory` may take it at any time before the first write, and the sink then took nothing.
 pub fn top<S: Source, K: Sink>(
     alloc: Global,
     words: &[String],
     source: &mut S,
     sink: &mut K,
 ) -> Outcome
-    ensures { Ran (map string_bytes words.now)
-        (S.left source.old) (S.left source.new) (S.faults source.old) (S.faults source.new)
-        (K.taken sink.old) (K.taken sink.new) (K.faults sink.old) (K.faults sink.new)
-        result.status }
+    ensures { Ran (map string_bytes words.now) (source_use S.left S.faults source.old source.new)
+        (sink_use K.taken K.faults sink.old sink.new) result.status }
 {
-    let status = match plan_of(alloc, words) {
-        Ok(plan) => run(alloc, &plan, source, sink),
-        Err(WordFault::Usage) => refuse(alloc, Refusal::Usage, Status::Usage, sink),
-        Err(WordFault::NoMemory) => Status::NoMemory,
+    let status = match make_ending(alloc, words, source) {
+        Ok(ending) => write_ending(&ending, sink),
+        Err(NoMemory) => Status::NoMemory,
     };
     Outcome { status }
 }
 
-// Carries out what the words ask for.
-fn run<S: Source, K: Sink>(alloc: Global, plan: &Plan, source: &mut S, sink: &mut K) -> Status
-    requires { IsLawfulChosen plan.now.chosen }
-    ensures { (words : List (List ℕ)) → Ask words plan.now.command plan.now.chosen → Ran words
-        (S.left source.old) (S.left source.new) (S.faults source.old) (S.faults source.new)
-        (K.taken sink.old) (K.taken sink.new) (K.faults sink.old) (K.faults sink.new)
-        result }
+// What is due for the words and for what the source gives.
+fn make_ending<S: Source>(
+    alloc: Global,
+    words: &[String],
+    source: &mut S,
+) -> Result<Ending, NoMemory>
+    ensures { IfOk result (λ ending. Called (map string_bytes words.now) (source_use S.left S.faults source.old source.new)
+        ending.text.items ending.status) }
 {
-    if !plan.is_built() {
-        return finish(b"unbuilt\n", Status::Unbuilt, sink);
-    }
-    match read_input(alloc, source, INPUT_LIMIT) {
-        Ok(input) => respond(alloc, plan, input, sink),
-        Err(InputFault::Failed) => refuse(alloc, Refusal::ReadFault, Status::ReadFault, sink),
-        Err(InputFault::NoMemory) => Status::NoMemory,
+    match plan_of(alloc, words) {
+        Ok(plan) => answer_source(alloc, &plan, source),
+        Err(PlanFault::Usage) => Ending::refusal(alloc, Refusal::Usage, Status::Usage),
+        Err(PlanFault::Unbuilt) => Ending::unbuilt(alloc),
+        Err(PlanFault::NoMemory) => Err(NoMemory),
     }
 }
 
-// Writes what is due for an input, or that it is too large.
-fn respond<K: Sink>(alloc: Global, plan: &Plan, input: Vec<u8>, sink: &mut K) -> Status
-    requires lawful { IsLawfulChosen plan.now.chosen }
-    requires built { is_built plan.now.command ≡ true }
-    ensures large { INPUT_LIMIT < length input.items → Says (refusal_text Refusal.TooManyBytes) Status.TooLarge
-        (K.taken sink.old) (K.taken sink.new) (K.faults sink.old) (K.faults sink.new) result }
-    ensures within { length input.items ≤ INPUT_LIMIT → Responds plan.now.command plan.now.chosen input.items
-        (K.taken sink.old) (K.taken sink.new) (K.faults sink.old) (K.faults sink.new) result }
+// Reads the whole input. What is then due for it.
+fn answer_source<S: Source>(alloc: Global, plan: &Plan, source: &mut S) -> Result<Ending, NoMemory>
+    ensures { IfOk result (λ ending. (words : List (List ℕ)) → Ask words plan.now.command plan.now.chosen
+        → Called words (source_use S.left S.faults source.old source.new) ending.text.items ending.status) }
 {
+    let input = match read_input(alloc, source, INPUT_LIMIT) {
+        Ok(input) => input,
+        Err(InputFault::Failed) => {
+            return Ending::refusal(alloc, Refusal::ReadFault, Status::ReadFault);
+        }
+        Err(InputFault::NoMemory) => return Err(NoMemory),
+    };
     if input.len() > INPUT_LIMIT {
-        return refuse(alloc, Refusal::TooManyBytes, Status::TooLarge, sink);
+        return Ending::refusal(alloc, Refusal::TooManyBytes, Status::TooLarge);
     }
-    match answer(alloc, plan, input) {
-        Ok(reply) => finish(&reply.text, reply.status, sink),
-        Err(NoMemory) => Status::NoMemory,
-    }
+    answer(alloc, plan, input)
 }
 
-// Writes the line that says why the program refuses, and then the status is this one.
-fn refuse<K: Sink>(alloc: Global, refusal: Refusal, status: Status, sink: &mut K) -> Status
-    ensures { Says (refusal_text refusal) status (K.taken sink.old) (K.taken sink.new) (K.faults sink.old) (K.faults sink.new) result }
+// Writes the text that is due. The status with which the program then ends.
+fn write_ending<K: Sink>(ending: &Ending, sink: &mut K) -> Status
+    ensures { (words : List (List ℕ)) (source : SourceUse) → Called words source ending.now.text.items ending.now.status
+        → Ran words source (sink_use K.taken K.faults sink.old sink.new) result }
 {
-    let mut text = Vec::new(alloc);
-    match report_refusal(alloc, refusal, &mut text) {
-        Ok(()) => finish(&text, status, sink),
-        Err(NoMemory) => Status::NoMemory,
-    }
-}
-
-// Writes the text, and then the status is this one.
-fn finish<K: Sink>(text: &[u8], status: Status, sink: &mut K) -> Status
-    ensures { Finished (K.taken sink.old) (K.taken sink.new) (K.faults sink.old) (K.faults sink.new) text.now status result }
-{
-    match write_report(sink, text) {
-        Ok(()) => status,
+    match write_report(sink, &ending.text) {
+        Ok(()) => ending.status,
         Err(_) => Status::WriteFault,
     }
 }

@@ -2,10 +2,10 @@ use Rattle.std.proofs.lemmas.Result.{IfOk-weaker}
 use Rattle.check_main.proofs.Dues.{due-bad_head}
 use Rattle.check_main.proofs.answer.answer_lines.Goals as goal
 
-pub returns-in_ok-said_of_head-in-Err : goal.returns-in_ok-said_of_head-in-Err
-returns-in_ok-said_of_head-in-Err c =
-    IfOk-weaker c.refuse.result _ _
-    (λ reply is input are.
-    due-bad_head c.args.plan.now.command c.args.plan.now.chosen input reply.text.items reply.status c.args.lines.now _ _ are c.requires.good c.in-Err.ensures.fault
-    c.in_ok-said_of_head-in-Err.ensures is)
-    c.refuse.ensures
+pub returns-in_ok-refusal_of_head-in-Err : goal.returns-in_ok-refusal_of_head-in-Err
+returns-in_ok-refusal_of_head-in-Err c =
+    IfOk-weaker c.refusal.result _ _
+    (λ ending is input are.
+    due-bad_head c.args.plan.now.command c.args.plan.now.chosen input ending.text.items ending.status c.args.lines _ _ are c.requires c.in-Err.ensures.fault
+    c.in_ok-refusal_of_head-in-Err.ensures is)
+    c.refusal.ensures

@@ -4,4 +4,5 @@ use Rattle.check_main.proofs.answer.normalise.Goals as goal
 
 pub returns : goal.returns
 returns c = λ input are.
-    due-canonical c.args.chosen.now input c.in_ok-text.text.items c.in_ok-text.text.items c.args.lines.now c.args.head.now are c.requires.good c.requires.head c.in_ok-text.ensures refl
+    due-canonical c.args.plan.now.chosen input c.in_ok-text.text.items c.in_ok-text.text.items c.args.body.now.lines c.args.body.now.head are c.args.body.now.good c.args.body.now.headed
+    c.in_ok-text.ensures refl

@@ -1,9 +1,0 @@
-use Rattle.std.proofs.lemmas.Result.{IfOk-weaker}
-use Rattle.check_main.proofs.Dues.{due-bad_line}
-use Rattle.check_main.proofs.answer.answer.Goals as goal
-
-pub returns-in_ok-said_of_lines-in-Err : goal.returns-in_ok-said_of_lines-in-Err
-returns-in_ok-said_of_lines-in-Err c =
-    IfOk-weaker c.refuse.result _ _
-    (λ reply is. due-bad_line c.args.plan.now.command c.args.plan.now.chosen c.args.input.items reply.text.items reply.status _ _ c.in-Err.ensures.fault c.in_ok-said_of_lines-in-Err.ensures is)
-    c.refuse.ensures
