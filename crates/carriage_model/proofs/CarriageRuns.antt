@@ -229,6 +229,23 @@ run-stopped profile with_loops first reads r old new here is some =
       loops = ap (λ (c : Carriage). c.loops) is ∙ here.loops ∙ sym (ap (loops_asked with_loops) loops);
     }
 
+-- all lines behind the one that broke a rule are passed over
+pub run-passed : (profile : Profile) (with_loops : Bool) (first : ℕ) (reads more : List Read) (old new : Carriage) → HasRun profile with_loops first reads old
+    → new ≡ record old { lines = old.lines + length more } → is_some old.fault ≡ true
+    → HasRun profile with_loops first (reads ++ more) new
+run-passed profile with_loops first reads [] old new here is some =
+    let same : old.lines + 0 ≡ old.lines = omega arith in
+    let stands : new ≡ old = is ∙ (λ i. record old { lines = same i }) in
+    subst (λ (c : Carriage). HasRun profile with_loops first (reads ++ []) c) (sym stands)
+    (subst (λ (rs : List Read). HasRun profile with_loops first rs old) (sym (append-nil reads)) here)
+run-passed profile with_loops first reads (r ∷ more) old new here is some =
+    let next : Carriage = record old { lines = old.lines + 1 } in
+    let over : HasRun profile with_loops first (reads ++ r ∷ []) next = run-stopped profile with_loops first reads r old next here refl some in
+    let count : old.lines + length (r ∷ more) ≡ old.lines + 1 + length more = omega arith in
+    let stands : new ≡ record next { lines = next.lines + length more } = is ∙ (λ i. record old { lines = count i }) in
+    subst (λ (rs : List Read). HasRun profile with_loops first rs new) (append_assoc reads (r ∷ []) more)
+    (run-passed profile with_loops first (reads ++ r ∷ []) more next new over stands some)
+
 asked-few : (with_loops : Bool) (loops : List LoopFact) (most : ℕ) → length loops + 1 < most → IfSome (loops_asked with_loops loops) (λ ls. length ls + 1 < most)
 asked-few true loops most few = few
 asked-few false loops most few = tt

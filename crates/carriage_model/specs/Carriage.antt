@@ -1,5 +1,5 @@
 -- Which run a carriage stands for that carried out some lines.
-use Rattle.std.specs.Prelude.{◌≡◌, ℕ, ◌+◌, Bool, List, ◌++◌, length, Option, None, Some}
+use Rattle.std.specs.Prelude.{◌≡◌, ℕ, ◌+◌, Bool, List, ◌++◌, length, Option, None, Some, is_some}
 use Rattle.std.specs.Option.{option_to_list}
 use Rattle.knit_base.specs.Limits.{IsLawfulProfile}
 use Rattle.knit_base.specs.declared.instr.Read.{Read}
@@ -22,6 +22,10 @@ profile_of carriage = carriage.profile
 -- how many lines the carriage has carried out or passed over
 abbrev pub line_count : Carriage → ℕ
 line_count carriage = carriage.lines
+
+-- whether the carriage has come to a line that breaks a rule
+abbrev pub is_stopped : Carriage → Bool
+is_stopped carriage = is_some carriage.fault
 
 -- the number of the line that comes next
 abbrev pub next_line : Carriage → ℕ

@@ -1,10 +1,10 @@
 //! A carriage that carries out a program line by line.
-ghost use Rattle.std.specs.Prelude.{◌≡◌, ◌+◌, ◌<◌, ◌≤◌, ◌^◌, ℕ, Bool, true, false, List, [], ◌∷◌, ◌++◌, length, IfOk, IfSome, is_some, None, OnOk, OnErr};
+ghost use Rattle.std.specs.Prelude.{◌≡◌, ◌+◌, ◌<◌, ◌≤◌, ◌^◌, ℕ, Bool, true, false, List, [], ◌∷◌, ◌++◌, length, IfOk, IfSome, None, OnOk, OnErr};
 ghost use Rattle.knit_base.specs.declared.instr.Read.{Read};
 ghost use Rattle.knit_base.specs.Lawful.{IsLawfulRead};
 ghost use Rattle.knit_base.specs.Limits.{IsLawfulProfile};
 ghost use Rattle.knit_base.specs.Usual.{usual_read};
-ghost use Rattle.carriage_model.specs.Carriage.{HasRun, IsRunning, TellsRun, WentOver, StandsStill, profile_of, line_count, next_line};
+ghost use Rattle.carriage_model.specs.Carriage.{HasRun, IsRunning, TellsRun, WentOver, StandsStill, profile_of, line_count, next_line, is_stopped};
 ghost use Rattle.carriage_model.specs.Machine.{HasNeedlesInLine, HasRoomInLine};
 
 use crate::facts::{loops_of, loops_of_usual};
@@ -108,6 +108,24 @@ impl Carriage {
         Ok(true)
     }
 
+    /// Whether a line broke a rule. Every later line is then passed over, whatever it says.
+    #[inline(always)]
+    pub fn is_stopped(&self) -> bool
+        ensures { result ≡ is_stopped self.now }
+    {
+        self.fault.is_some()
+    }
+
+    /// Passes over so many lines behind one that broke a rule, whatever they say.
+    pub fn pass_over(&mut self, count: u32)
+        requires stopped { is_stopped self.old ≡ true }
+        requires lines { next_line self.old + count < 2 ^ 32 }
+        ensures { (profile : Profile) (with_loops : Bool) (first : ℕ) (reads more : List Read) → length more ≡ count
+            → HasRun profile with_loops first reads self.old → HasRun profile with_loops first (reads ++ more) self.new }
+    {
+        self.lines += count;
+    }
+
     /// How many lines were carried out or passed over.
     pub fn line_count(&self) -> u32
         ensures { result ≡ line_count self.now }
@@ -128,14 +146,6 @@ impl Carriage {
                 Ok((Verdict::Sound(last), self.loops))
             }
         }
-    }
-
-    // Whether a line broke a rule.
-    #[inline(always)]
-    fn is_stopped(&self) -> bool
-        ensures { result ≡ is_some self.now.fault }
-    {
-        self.fault.is_some()
     }
 
     // Carries out a line that breaks no rule.

@@ -93,6 +93,7 @@ fn a_refused_knit_stops_the_carriage(rt: HostRuntime) -> Result<(), Fail> {
     let mut carriage = Carriage::start(alloc, &MACHINE, 3, false)?;
     let knit = Instr::Knit(Dir::Right, FRONT, first_carrier(alloc)?);
     carriage.execute(&Read::Instr(knit))?;
+    assert!(rt; carriage.is_stopped());
     assert_eq!(rt; carriage.line_count(), 1);
     let (verdict, _) = carriage.finish()?;
     assert!(rt; matches!(verdict, Verdict::Broken(_)));
