@@ -1,4 +1,5 @@
--- What a line that breaks no rule does to the machine. All of it is from the knitout specification.
+-- What a line that breaks no rule does to the machine. All of it is from the knitout specification, but that `tuck` without
+-- carriers does nothing, which is this project's own.
 use Rattle.std.specs.Prelude.{ℕ, List, [], ◌∷◌, ◌++◌}
 use Rattle.knit_base.specs.declared.instr.Instr.{Instr}
 use Rattle.knit_base.specs.declared.instr.Instr.TheVariants.{CarryIn, CarryOut, HookIn, HookOut, ReleaseHook, Stitch, Pause, Extension, Rack, Knit, Tuck, Miss, Split, Xfer, Drop, Amiss}

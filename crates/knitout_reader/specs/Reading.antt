@@ -1,6 +1,7 @@
 -- What a line says: a relation between its tokens and a reading.
 --
--- The rules are this project's own. Each is tried on the whole line before the next one, and of two needles the first is tried
+-- From the knitout specification: a line has one of the shapes, loops go to the other bed, and carriers are declared. The other
+-- rules are this project's own. Each is tried on the whole line before the next one, and of two needles the first is tried
 -- first. The place of a token is its number in the line, where the word of the operation has place 0.
 use Rattle.std.specs.Prelude.{◌≡◌, ◌⊎◌, ℕ, ◌+◌, ◌*◌, ℤ, pos, Bool, true, false, not, ◌||◌, ◌&&◌, nat_lt, int_lt, List, [], ◌∷◌, Option, None, Some, if◌then◌else◌}
 use Rattle.knit_base.specs.declared.instr.Instr.{Instr}
