@@ -6,7 +6,7 @@ use Rattle.summary_compose.proofs.PlainFaces.{one_check_good, comes_fits, idle_f
 use Rattle.summary_compose.proofs.tests.a_carrier_that_came_in_is_there.Goals as goal
 
 pub compose-requires-clause-good : goal.compose-requires-clause-good
-compose-requires-clause-good c = record {
+compose-requires-clause-good t c = record {
   carriers = 1;
   limit = 0;
   first_known = [];

@@ -7,7 +7,7 @@ use Rattle.summary_compose.proofs.PlainFaces.{idle_good, broken_good}
 use Rattle.summary_compose.proofs.tests.a_later_fault_is_raised.Goals as goal
 
 pub compose-requires-clause-good : goal.compose-requires-clause-good
-compose-requires-clause-good c = record {
+compose-requires-clause-good t c = record {
   carriers = 0;
   limit = 0;
   first_known = [];
