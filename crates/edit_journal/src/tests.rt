@@ -1,5 +1,5 @@
 //! Each call once with ample memory, over an entry of each kind.
-ghost use Rattle.std.specs.Prelude.{◌<◌, length};
+ghost use Rattle.std.specs.Prelude.{◌≡◌, ◌+◌, ◌<◌, length, OnOk};
 ghost use Rattle.knit_base.specs.Lines.{IsLine};
 ghost use Rattle.edit_journal.specs.Entries.{entry_limit};
 
@@ -18,6 +18,7 @@ fn text(alloc: Global, len: u32) -> Result<BlockText, NoMemory> {
 
 fn append(journal: &mut Journal, session: u32, edit: Edit) -> Result<(), NoMemory>
     requires { length journal.old.entries < entry_limit }
+    ensures { OnOk result (length journal.new.entries ≡ length journal.old.entries + 1) }
 {
     journal.reserve_one()?;
     journal.push(Entry { session, edit });
