@@ -1,5 +1,5 @@
 -- Lines that are their own canonical spelling, whatever they read as.
-use Rattle.std.proofs.Common.{◌≡◌, ◌⊎◌, ⊎_elim, ℕ, ◌+◌, ◌≤◌, ℤ, pos, false, List, [], ◌∷◌, ◌++◌, All, Option, None, Some, codes, ap, sym, subst, ◌∙◌, refl, inl, arith, append_assoc, append-nil}
+use Rattle.std.proofs.Common.{◌≡◌, ◌⊎◌, ⊎_elim, ℕ, ◌≤◌, ℤ, pos, false, List, [], ◌∷◌, ◌++◌, All, Option, None, Some, codes, ap, sym, subst, ◌∙◌, refl, inl, arith, append_assoc, append-nil}
 use Rattle.std.specs.Fmt.{decimal}
 use Rattle.std.proofs.lemmas.Int.{ints}
 use Rattle.std.proofs.lemmas.List.Elements.{All-cons, All-nil}

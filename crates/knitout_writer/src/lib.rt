@@ -6,9 +6,11 @@
 #![tactic(auto)]
 
 mod line;
+mod one_pass;
 mod text;
 
 pub use line::write_line;
+pub use one_pass::canonical_text_in_one_pass;
 pub use text::{canonical_text, write_text};
 
 #[cfg(test)]

@@ -88,7 +88,7 @@ fn append_body(
 
 // Appends the canonical spelling of a line.
 #[inline(always)]
-fn append_body_line(
+pub(crate) fn append_body_line(
     alloc: Global,
     line: &str,
     profile: &Profile,

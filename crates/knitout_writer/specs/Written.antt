@@ -1,0 +1,39 @@
+-- What of a text was written in its canonical spelling. No public contract speaks of it.
+use Rattle.std.specs.Prelude.{◌≡◌, ◌≢◌, ℕ, ◌<◌, ◌≤◌, List, [], ◌∷◌, ◌++◌, length, take, drop, All}
+use Rattle.std.specs.List.{AllZip}
+use Rattle.knit_base.specs.declared.profile.Profile.{Profile}
+use Rattle.knit_base.specs.Lines.{lines_of}
+use Rattle.line_cutter.specs.Cut.{IsGoodLine}
+use Rattle.knitout_reader.specs.Shortest.{IsShortestSpelling}
+use Rattle.knitout_writer.specs.Canonical.{IsCanonicalLine, with_line_feeds}
+
+-- an ASCII byte that ends no line
+pub record IsPlainByte (byte : ℕ) : Type 0 where
+  pub ascii : byte < 128
+  pub feed : byte ≢ 10
+  pub back : byte ≢ 13
+
+-- a line in its shortest spelling begins the text, and takes so many bytes with its line feed
+pub record BeginsWithCopy (text : List ℕ) (len : ℕ) : Type 0 where
+  pub line : List ℕ
+  pub some : 0 < len
+  pub within : len ≤ length text
+  pub bytes : take len text ≡ line ++ 10 ∷ []
+  pub lines : lines_of text ≡ line ∷ lines_of (drop len text)
+  pub good : IsGoodLine line
+  pub shortest : IsShortestSpelling line
+
+-- the lines of the text between two places are good, and this is their canonical text
+pub record IsWritten (profile : Profile) (names : List (List ℕ)) (text : List ℕ) (from to : ℕ) (written : List ℕ) : Type 0 where
+  pub lines : List (List ℕ)
+  pub texts : List (List ℕ)
+  pub first : lines_of (drop from text) ≡ lines ++ lines_of (drop to text)
+  pub good : All IsGoodLine lines
+  pub canonical : AllZip (IsCanonicalLine profile names) lines texts
+  pub spelt : written ≡ with_line_feeds texts
+
+-- such a text was appended
+pub record WroteOn (profile : Profile) (names : List (List ℕ)) (text : List ℕ) (from to : ℕ) (old new : List ℕ) : Type 0 where
+  pub written : List ℕ
+  pub is : IsWritten profile names text from to written
+  pub appended : new ≡ old ++ written
