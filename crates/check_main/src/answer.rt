@@ -1,5 +1,5 @@
 //! What is due for an input that was read whole.
-ghost use Rattle.std.specs.Prelude.{◌≡◌, ◌≤◌, All, List, ℕ, length, IfOk, MatchOption, Some};
+ghost use Rattle.std.specs.Prelude.{◌≡◌, ◌≤◌, All, List, ℕ, length, IfOk, IfSome, MatchOption, Some};
 ghost use Rattle.knit_base.specs.Lines.{lines_of};
 ghost use Rattle.line_cutter.specs.Cut.{IsGoodLine};
 ghost use Rattle.machine_profile.specs.Bounds.{IsBlockSize};
@@ -11,6 +11,7 @@ use crate::judge::{Style, judge};
 use crate::one_pass::check_in_one_pass;
 use crate::outcome::Status;
 use crate::plan::Plan;
+use crate::text_pass::text_in_one_pass;
 use command_words::Command;
 use knit_base::{Lines, NoMemory};
 use knitout_reader::HeadFault;
@@ -24,19 +25,32 @@ const BODY_LIMIT: u32 = 1_048_576;
 
 const BLOCK_LIMIT: u32 = 65_536;
 
-/// What is due for an input that was read whole. A check is first tried in one pass over the bytes, which settles nearly every
-/// file in less time and memory; what that doesn't settle goes the general way: the lines are cut, the head is read, and then
-/// the body is judged.
+/// What is due for an input that was read whole. One pass over the bytes is tried first, which settles nearly every file in less
+/// time and memory; what that doesn't settle goes the general way: the lines are cut, the head is read, and then the body is
+/// judged or written.
 pub fn answer(alloc: Global, plan: &Plan, input: Vec<u8>) -> Result<Ending, NoMemory>
     requires { length input.items ≤ 16777216 }
     ensures { IfOk result (λ ending. Due plan.now.command plan.now.chosen input.items ending.text.items ending.status) }
 {
-    if let Command::Check { loops, json } = plan.command {
-        if let Some(ending) = check_in_one_pass(alloc, Style { loops, json }, plan, &input)? {
-            return Ok(ending);
-        }
+    match answer_in_one_pass(alloc, plan, &input)? {
+        Some(ending) => Ok(ending),
+        None => answer_by_lines(alloc, plan, input),
     }
-    answer_by_lines(alloc, plan, input)
+}
+
+// The same, in one pass over the bytes. `None` says that this doesn't settle the file.
+fn answer_in_one_pass(alloc: Global, plan: &Plan, input: &[u8]) -> Result<Option<Ending>, NoMemory>
+    requires { length input.now ≤ 16777216 }
+    ensures { IfOk result (λ found. IfSome found (λ ending.
+        Due plan.now.command plan.now.chosen input.now ending.text.items ending.status)) }
+{
+    match plan.command {
+        Command::Check { loops, json } => {
+            check_in_one_pass(alloc, Style { loops, json }, plan, input)
+        }
+        Command::Text => text_in_one_pass(alloc, plan, input),
+        Command::Passes | Command::Live | Command::Make { .. } => Ok(None),
+    }
 }
 
 /// The same, in the general way.

@@ -22,6 +22,7 @@ mod plan;
 mod rule_tests;
 #[cfg(test)]
 mod tests;
+mod text_pass;
 mod top;
 
 use knit_ports::{ReaderSource, WriterSink};
