@@ -23,6 +23,8 @@ mod rule_tests;
 #[cfg(test)]
 mod tests;
 mod text_pass;
+#[cfg(test)]
+mod text_pass_tests;
 mod top;
 
 use knit_ports::{ReaderSource, WriterSink};
