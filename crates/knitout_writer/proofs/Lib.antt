@@ -1,4 +1,5 @@
 pub mod Bodies
+pub mod CopiedLines
 pub mod Numerals
 pub mod PlainBytes
 pub mod SettledLines

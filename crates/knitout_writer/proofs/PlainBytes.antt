@@ -15,10 +15,11 @@ use Rattle.knitout_writer.proofs.Numerals.{decimal_spells}
 printable : (byte : ℕ) → 31 < byte → byte < 128 → IsPlainByte byte
 printable byte low high = record { ascii = high; feed = λ e. omega arith; back = λ e. omega arith }
 
--- the text isn't empty, and its bytes are plain if the last one is
-pub record IsPlainBeforeLast (text : List ℕ) : Type 0 where
+-- the last byte of the text is this one, and all are plain if it is
+pub record IsPlainBefore (last : ℕ) (text : List ℕ) : Type 0 where
   pub some : 0 < length text
-  pub bytes : IsPlainByte (get_or text (length text - 1) 0) → All IsPlainByte text
+  pub is_last : get_or text (length text - 1) 0 ≡ last
+  pub bytes : IsPlainByte last → All IsPlainByte text
 
 last_behind : (front text : List ℕ) → 0 < length text → get_or (front ++ text) (length (front ++ text) - 1) 0 ≡ get_or text (length text - 1) 0
 last_behind front text some =
@@ -26,14 +27,15 @@ last_behind front text some =
     ∙ ap (λ k. get_or text k 0) {x = length (front ++ text) - 1 - length front} (omega (arith, some, length-append front text))
 
 -- plain bytes stand before it
-plain_behind : (front text : List ℕ) → All IsPlainByte front → IsPlainBeforeLast text → IsPlainBeforeLast (front ++ text)
-plain_behind front text are ends = record {
+plain_behind : (last : ℕ) (front text : List ℕ) → All IsPlainByte front → IsPlainBefore last text → IsPlainBefore last (front ++ text)
+plain_behind last front text are ends = record {
   some = omega (arith, ends.some, length-append front text);
-  bytes = λ last. All-append IsPlainByte front text are (ends.bytes (subst IsPlainByte (last_behind front text ends.some) last));
+  is_last = last_behind front text ends.some ∙ ends.is_last;
+  bytes = λ plain. All-append IsPlainByte front text are (ends.bytes plain);
 }
 
-space_behind : (text : List ℕ) → IsPlainBeforeLast text → IsPlainBeforeLast (32 ∷ text)
-space_behind text ends = plain_behind (32 ∷ []) text (All-cons IsPlainByte 32 [] (printable 32 (lit< tt) (lit< tt)) (All-nil IsPlainByte)) ends
+space_behind : (last : ℕ) (text : List ℕ) → IsPlainBefore last text → IsPlainBefore last (32 ∷ text)
+space_behind last text ends = plain_behind last (32 ∷ []) text (All-cons IsPlainByte 32 [] (printable 32 (lit< tt) (lit< tt)) (All-nil IsPlainByte)) ends
 
 word_bytes : (a b c d : ℕ) → IsPlainByte a → IsPlainByte b → IsPlainByte c → IsPlainByte d → All IsPlainByte (a ∷ b ∷ c ∷ d ∷ [])
 word_bytes a b c d is_a is_b is_c is_d =
@@ -63,50 +65,76 @@ number_bytes n small =
     let spelled = decimal_spells n (omega arith) in
     λ k d below. let digit = spelled.each k d below in printable _ (omega (arith, digit.0)) (omega (arith, digit.1))
 
-needle_before : (text rest : List ℕ) → BeginsWithShortestNeedle text rest → IsPlainBeforeLast rest → IsPlainBeforeLast text
-needle_before text rest begins ends =
-    subst IsPlainBeforeLast (sym begins.text_is)
-    (plain_behind (bed_word begins.bed) begins.behind (bed_bytes begins.bed)
-    (subst IsPlainBeforeLast (sym begins.number.text_is) (plain_behind (decimal begins.number.number) rest (number_bytes begins.number.number begins.number.small) ends)))
+needle_before : (last : ℕ) (text rest : List ℕ) → BeginsWithShortestNeedle text rest → IsPlainBefore last rest → IsPlainBefore last text
+needle_before last text rest begins ends =
+    subst (IsPlainBefore last) (sym begins.text_is)
+    (plain_behind last (bed_word begins.bed) begins.behind (bed_bytes begins.bed)
+    (subst (IsPlainBefore last) (sym begins.number.text_is)
+    (plain_behind last (decimal begins.number.number) rest (number_bytes begins.number.number begins.number.small) ends)))
+
+-- the last byte of a text
+abbrev last_of : List ℕ → ℕ
+last_of text = get_or text (length text - 1) 0
 
 -- a needle with nothing behind it
-needle_alone : (text : List ℕ) → BeginsWithShortestNeedle text [] → IsPlainBeforeLast text
+needle_alone : (text : List ℕ) → BeginsWithShortestNeedle text [] → IsPlainBefore (last_of text) text
 needle_alone text begins =
     let spelled = decimal_spells begins.number.number (omega (arith, begins.number.small)) in
-    let digits : All IsPlainByte begins.behind =
-    subst (All IsPlainByte) (sym begins.number.text_is) (All-append IsPlainByte (decimal begins.number.number) [] (number_bytes begins.number.number begins.number.small) (All-nil IsPlainByte)) in
-    let count : length begins.behind ≡ length (decimal begins.number.number) = ap length (begins.number.text_is ∙ append-nil (decimal begins.number.number)) in
-    subst IsPlainBeforeLast (sym begins.text_is)
-    (plain_behind (bed_word begins.bed) begins.behind (bed_bytes begins.bed) (record { some = omega (arith, count, spelled.some); bytes = λ last. digits }))
+    let digits : begins.behind ≡ decimal begins.number.number = begins.number.text_is ∙ append-nil (decimal begins.number.number) in
+    let is : text ≡ bed_word begins.bed ++ decimal begins.number.number = begins.text_is ∙ ap (λ l. bed_word begins.bed ++ l) digits in
+    record {
+      some = omega (arith, ap length is, length-append (bed_word begins.bed) (decimal begins.number.number), spelled.some);
+      is_last = refl;
+      bytes = λ plain. subst (All IsPlainByte) (sym is)
+          (All-append IsPlainByte (bed_word begins.bed) (decimal begins.number.number) (bed_bytes begins.bed) (number_bytes begins.number.number begins.number.small));
+    }
 
-name_last : (text : List ℕ) → IsLastName text → IsPlainBeforeLast text
+name_last : (text : List ℕ) (last : IsLastName text) → IsPlainBefore last.name text
 name_last text last =
-    subst IsPlainBeforeLast (sym last.text_is)
-    (space_behind (last.name ∷ []) (record { some = omega arith; bytes = λ plain. All-cons IsPlainByte last.name [] plain (All-nil IsPlainByte) }))
+    subst (IsPlainBefore last.name) (sym last.text_is)
+    (space_behind last.name (last.name ∷ []) (record { some = omega arith; is_last = refl; bytes = λ plain. All-cons IsPlainByte last.name [] plain (All-nil IsPlainByte) }))
 
-operands_before : (text : List ℕ) → AreShortestOperands text → IsPlainBeforeLast text
+operands_before : (text : List ℕ) (spelled : AreShortestOperands text) → IsPlainBefore spelled.last.name text
 operands_before text spelled =
-    subst IsPlainBeforeLast (sym spelled.text_is)
-    (space_behind (dir_word spelled.dir ++ 32 ∷ spelled.behind) (plain_behind (dir_word spelled.dir) (32 ∷ spelled.behind) (dir_bytes spelled.dir)
-    (space_behind spelled.behind (needle_before spelled.behind spelled.rest spelled.needle (name_last spelled.rest spelled.last)))))
+    let name : ℕ = spelled.last.name in
+    subst (IsPlainBefore name) (sym spelled.text_is)
+    (space_behind name (dir_word spelled.dir ++ 32 ∷ spelled.behind) (plain_behind name (dir_word spelled.dir) (32 ∷ spelled.behind) (dir_bytes spelled.dir)
+    (space_behind name spelled.behind (needle_before name spelled.behind spelled.rest spelled.needle (name_last spelled.rest spelled.last)))))
 
-needles_before : (text : List ℕ) → AreShortestNeedles text → IsPlainBeforeLast text
-needles_before text spelled =
-    subst IsPlainBeforeLast (sym spelled.text_is)
-    (space_behind spelled.behind (needle_before spelled.behind (32 ∷ spelled.behind2) spelled.needle (space_behind spelled.behind2 (needle_alone spelled.behind2 spelled.needle2))))
+-- a `knit` has plain bytes if the carrier's name is one
+pub knit-plain : (line operands : List ℕ) → line ≡ codes "knit" ++ operands → (spelled : AreShortestOperands operands) → IsPlainBefore spelled.last.name line
+knit-plain line operands is spelled =
+    subst (IsPlainBefore spelled.last.name) (sym is) (plain_behind spelled.last.name (codes "knit") operands knit_bytes (operands_before operands spelled))
+
+-- so has a `tuck`
+pub tuck-plain : (line operands : List ℕ) → line ≡ codes "tuck" ++ operands → (spelled : AreShortestOperands operands) → IsPlainBefore spelled.last.name line
+tuck-plain line operands is spelled =
+    subst (IsPlainBefore spelled.last.name) (sym is) (plain_behind spelled.last.name (codes "tuck") operands tuck_bytes (operands_before operands spelled))
+
+xfer_plain : (line operands : List ℕ) → line ≡ codes "xfer" ++ operands → (spelled : AreShortestNeedles operands) → IsPlainBefore (last_of spelled.behind2) line
+xfer_plain line operands is spelled =
+    let last : ℕ = last_of spelled.behind2 in
+    let here : IsPlainBefore (last_of spelled.behind2) operands =
+    subst (IsPlainBefore last) (sym spelled.text_is)
+    (space_behind last spelled.behind
+    (needle_before last spelled.behind (32 ∷ spelled.behind2) spelled.needle (space_behind last spelled.behind2 (needle_alone spelled.behind2 spelled.needle2)))) in
+    subst (IsPlainBefore last) (sym is) (plain_behind last (codes "xfer") operands xfer_bytes here)
+
+all_plain : (last : ℕ) (line : List ℕ) → IsPlainBefore last line → IsPlainByte (last_of line) → All IsPlainByte line
+all_plain last line ends plain = ends.bytes (subst IsPlainByte ends.is_last plain)
 
 -- a line in its shortest spelling has plain bytes if its last one is plain
-pub shortest-plain : (line : List ℕ) → IsShortestSpelling line → IsPlainBeforeLast line
-shortest-plain line is =
+pub shortest-plain : (line : List ℕ) → IsShortestSpelling line → IsPlainByte (get_or line (length line - 1) 0) → All IsPlainByte line
+shortest-plain line is plain =
     ⊎_elim
     (λ (knit : (operands : List ℕ) × (line ≡ codes "knit" ++ operands) × AreShortestOperands operands).
-    subst IsPlainBeforeLast (sym knit.1) (plain_behind (codes "knit") knit.0 knit_bytes (operands_before knit.0 knit.2)))
+    all_plain knit.2.last.name line (knit-plain line knit.0 knit.1 knit.2) plain)
     (λ (others : ((operands : List ℕ) × (line ≡ codes "tuck" ++ operands) × AreShortestOperands operands)
     ⊎ ((operands : List ℕ) × (line ≡ codes "xfer" ++ operands) × AreShortestNeedles operands)).
     ⊎_elim
     (λ (tuck : (operands : List ℕ) × (line ≡ codes "tuck" ++ operands) × AreShortestOperands operands).
-    subst IsPlainBeforeLast (sym tuck.1) (plain_behind (codes "tuck") tuck.0 tuck_bytes (operands_before tuck.0 tuck.2)))
+    all_plain tuck.2.last.name line (tuck-plain line tuck.0 tuck.1 tuck.2) plain)
     (λ (xfer : (operands : List ℕ) × (line ≡ codes "xfer" ++ operands) × AreShortestNeedles operands).
-    subst IsPlainBeforeLast (sym xfer.1) (plain_behind (codes "xfer") xfer.0 xfer_bytes (needles_before xfer.0 xfer.2)))
+    all_plain (last_of xfer.2.behind2) line (xfer_plain line xfer.0 xfer.1 xfer.2) plain)
     others)
     is

@@ -1,5 +1,5 @@
 -- Lines that are their own canonical spelling, whatever they read as.
-use Rattle.std.proofs.Common.{◌≡◌, ◌⊎◌, ⊎_elim, ℕ, ◌≤◌, ℤ, pos, false, List, [], ◌∷◌, ◌++◌, All, Option, None, Some, codes, ap, sym, subst, ◌∙◌, refl, inl, arith, append_assoc, append-nil}
+use Rattle.std.proofs.Common.{◌≡◌, ◌⊎◌, ⊎_elim, ℕ, ◌<◌, ◌≤◌, ℤ, pos, false, List, length, [], ◌∷◌, ◌++◌, All, Option, None, Some, codes, ap, sym, subst, ◌∙◌, refl, inl, arith, append_assoc, append-nil}
 use Rattle.std.specs.Fmt.{decimal}
 use Rattle.std.proofs.lemmas.Int.{ints}
 use Rattle.std.proofs.lemmas.List.Elements.{All-cons, All-nil}
@@ -14,7 +14,7 @@ use Rattle.knitout_reader.specs.Reading.{CodeReadsAs, TokensReadAs, instr_of, of
 use Rattle.knitout_reader.specs.Shapes.{Shape, Spells, KnitShape, TuckShape, XferShape}
 use Rattle.knitout_reader.specs.Shortest.{AreShortestNeedles, AreShortestOperands, BeginsWithShortestNeedle, IsShortestSpelling}
 use Rattle.knitout_reader.specs.Tokens.{before_comment, has_comment, is_blank, is_semicolon, tokens_of}
-use Rattle.knitout_writer.specs.Canonical.{IsCanonicalLine, canonical, canonical_tokens, comment_behind, comment_of, spaced}
+use Rattle.knitout_writer.specs.Canonical.{IsCanonicalLine, canonical, canonical_tokens, comment_behind, comment_of, each_spaced, spaced}
 use Rattle.knitout_writer.proofs.Numerals.{IsSmall, needle_spells}
 use Rattle.knitout_writer.proofs.SpacedTokens.{Commented, IsWord, IsWordByte, clear-spaced, tokens-spaced, uncommented}
 use Rattle.knitout_reader.proofs.Rules.{neither}
@@ -86,57 +86,85 @@ needle_front text rest begins =
 last_rule : (first second third : Option Reason) → or_else first (or_else second third) ≡ None → third ≡ None
 last_rule first second third e = (neither second third (neither first (or_else second third) e).1).1
 
--- two and three words behind a first one, with their spaces
+-- two words behind a first one, with their spaces
 spaced_three : (a b c : List ℕ) → spaced (a ∷ b ∷ c ∷ []) ≡ a ++ 32 ∷ (b ++ 32 ∷ c)
 spaced_three a b c = ap (λ (l : List ℕ). a ++ 32 ∷ (b ++ 32 ∷ l)) (append-nil c)
 
-spaced_four : (a b c d : List ℕ) → spaced (a ∷ b ∷ c ∷ d ∷ []) ≡ a ++ 32 ∷ (b ++ 32 ∷ (c ++ 32 ∷ d))
-spaced_four a b c d = ap (λ (l : List ℕ). a ++ 32 ∷ (b ++ 32 ∷ (c ++ 32 ∷ l))) (append-nil d)
+-- and the names of carriers behind three words
+names_spaced : (names : List (List ℕ)) → 0 < length names → each_spaced names ≡ 32 ∷ spaced names
+names_spaced [] some = absurd (omega arith)
+names_spaced (name ∷ names) some = refl
 
--- the words of a line that forms loops
-formed_spaced : (word : List ℕ) (text : List ℕ) (operands : List ℕ) (spelled : AreShortestOperands operands) → text ≡ word ++ operands
-    → text ≡ spaced (word ∷ dir_word spelled.dir ∷ needle_text (record { bed = spelled.needle.bed; at = pos spelled.needle.number.number }) ∷ (spelled.last.name ∷ []) ∷ [])
-formed_spaced word text operands spelled is =
+-- The words of a line that forms loops. Behind its front, which ends with the first byte of the carriers' names, stands the rest
+-- of these.
+formed_spaced : (word text operands more : List ℕ) (carriers : List (List ℕ)) (spelled : AreShortestOperands operands) → text ≡ word ++ (operands ++ more)
+    → spelled.last.name ∷ more ≡ spaced carriers → 0 < length carriers
+    → text ≡ spaced (word ∷ dir_word spelled.dir ∷ needle_text (record { bed = spelled.needle.bed; at = pos spelled.needle.number.number }) ∷ carriers)
+formed_spaced word text operands more carriers spelled is named some =
     let needle : List ℕ = needle_text (record { bed = spelled.needle.bed; at = pos spelled.needle.number.number }) in
-    let behind : spelled.behind ≡ needle ++ 32 ∷ spelled.last.name ∷ [] = needle_front spelled.behind spelled.rest spelled.needle ∙ ap (λ (l : List ℕ). needle ++ l) spelled.last.text_is in
-    is ∙ ap (λ (l : List ℕ). word ++ l) (spelled.text_is ∙ ap (λ (l : List ℕ). 32 ∷ (dir_word spelled.dir ++ 32 ∷ l)) behind)
-    ∙ sym (spaced_four word (dir_word spelled.dir) needle (spelled.last.name ∷ []))
+    let behind : spelled.behind ++ more ≡ needle ++ each_spaced carriers =
+    ap (λ (l : List ℕ). l ++ more) (needle_front spelled.behind spelled.rest spelled.needle ∙ ap (λ (l : List ℕ). needle ++ l) spelled.last.text_is)
+    ∙ append_assoc needle (32 ∷ spelled.last.name ∷ []) more
+    ∙ ap (λ (l : List ℕ). needle ++ 32 ∷ l) named ∙ ap (λ (l : List ℕ). needle ++ l) (sym (names_spaced carriers some)) in
+    is
+    ∙ ap (λ (l : List ℕ). word ++ (l ++ more)) spelled.text_is
+    ∙ ap (λ (l : List ℕ). word ++ 32 ∷ l) (append_assoc (dir_word spelled.dir) (32 ∷ spelled.behind) more)
+    ∙ ap (λ (l : List ℕ). word ++ 32 ∷ (dir_word spelled.dir ++ 32 ∷ l)) behind
 
-knit_line : (profile : Profile) (names : List (List ℕ)) (line operands : List ℕ) → line ≡ codes "knit" ++ operands → AreShortestOperands operands → IsCanonicalLine profile names line line
-knit_line profile names line operands is spelled =
+-- a `knit` whose front is in its shortest spelling, with the rest of its carriers' names behind that
+pub knit-canonical : (profile : Profile) (names : List (List ℕ)) (line operands more : List ℕ) (carriers : List (List ℕ)) → line ≡ codes "knit" ++ (operands ++ more)
+    → (spelled : AreShortestOperands operands) → spelled.last.name ∷ more ≡ spaced carriers → 0 < length carriers → All IsWord carriers → IsCanonicalLine profile names line line
+knit-canonical profile names line operands more carriers is spelled named some words =
     let at : ℤ = pos spelled.needle.number.number in
     let small : IsSmall at = small_number spelled.needle.number.number spelled.needle.number.small in
     let needle : List ℕ = needle_text (record { bed = spelled.needle.bed; at = at }) in
-    let name : List ℕ = spelled.last.name ∷ [] in
-    spelt profile names line (codes "knit") (dir_word spelled.dir ∷ needle ∷ name ∷ []) (KnitShape spelled.dir spelled.needle.bed at (name ∷ []))
-    (formed_spaced (codes "knit") line operands spelled is)
-    (All-cons IsWord (codes "knit") (dir_word spelled.dir ∷ needle ∷ name ∷ []) knit_word
-    (three_words (dir_word spelled.dir) needle name (dir_words spelled.dir) (needle_word spelled.needle.bed at small) (name_word spelled.last.name spelled.last.plain spelled.last.comment)))
+    spelt profile names line (codes "knit") (dir_word spelled.dir ∷ needle ∷ carriers) (KnitShape spelled.dir spelled.needle.bed at carriers)
+    (formed_spaced (codes "knit") line operands more carriers spelled is named some)
+    (All-cons IsWord (codes "knit") (dir_word spelled.dir ∷ needle ∷ carriers) knit_word
+    (All-cons IsWord (dir_word spelled.dir) (needle ∷ carriers) (dir_words spelled.dir)
+    (All-cons IsWord needle carriers (needle_word spelled.needle.bed at small) words)))
     (record {
-      operands = needle ∷ name ∷ [];
+      operands = needle ∷ carriers;
       spelled = refl;
       first = record { needle = needle; spelled = refl; named = needle_spells spelled.needle.bed at small };
     })
     (λ none. ap (λ cs. codes "knit" ∷ dir_word spelled.dir ∷ needle ∷ cs)
-    (carriers_back names (name ∷ []) 3 (last_rule (off_bed profile 2 at) (slider_form spelled.needle.bed (name ∷ [])) (carrier_rule names 3 (name ∷ [])) none)))
+    (carriers_back names carriers 3 (last_rule (off_bed profile 2 at) (slider_form spelled.needle.bed carriers) (carrier_rule names 3 carriers) none)))
 
-tuck_line : (profile : Profile) (names : List (List ℕ)) (line operands : List ℕ) → line ≡ codes "tuck" ++ operands → AreShortestOperands operands → IsCanonicalLine profile names line line
-tuck_line profile names line operands is spelled =
+-- a `tuck` whose front is in its shortest spelling, with the rest of its carriers' names behind that
+pub tuck-canonical : (profile : Profile) (names : List (List ℕ)) (line operands more : List ℕ) (carriers : List (List ℕ)) → line ≡ codes "tuck" ++ (operands ++ more)
+    → (spelled : AreShortestOperands operands) → spelled.last.name ∷ more ≡ spaced carriers → 0 < length carriers → All IsWord carriers → IsCanonicalLine profile names line line
+tuck-canonical profile names line operands more carriers is spelled named some words =
     let at : ℤ = pos spelled.needle.number.number in
     let small : IsSmall at = small_number spelled.needle.number.number spelled.needle.number.small in
     let needle : List ℕ = needle_text (record { bed = spelled.needle.bed; at = at }) in
-    let name : List ℕ = spelled.last.name ∷ [] in
-    spelt profile names line (codes "tuck") (dir_word spelled.dir ∷ needle ∷ name ∷ []) (TuckShape spelled.dir spelled.needle.bed at (name ∷ []))
-    (formed_spaced (codes "tuck") line operands spelled is)
-    (All-cons IsWord (codes "tuck") (dir_word spelled.dir ∷ needle ∷ name ∷ []) tuck_word
-    (three_words (dir_word spelled.dir) needle name (dir_words spelled.dir) (needle_word spelled.needle.bed at small) (name_word spelled.last.name spelled.last.plain spelled.last.comment)))
+    spelt profile names line (codes "tuck") (dir_word spelled.dir ∷ needle ∷ carriers) (TuckShape spelled.dir spelled.needle.bed at carriers)
+    (formed_spaced (codes "tuck") line operands more carriers spelled is named some)
+    (All-cons IsWord (codes "tuck") (dir_word spelled.dir ∷ needle ∷ carriers) tuck_word
+    (All-cons IsWord (dir_word spelled.dir) (needle ∷ carriers) (dir_words spelled.dir)
+    (All-cons IsWord needle carriers (needle_word spelled.needle.bed at small) words)))
     (record {
-      operands = needle ∷ name ∷ [];
+      operands = needle ∷ carriers;
       spelled = refl;
       first = record { needle = needle; spelled = refl; named = needle_spells spelled.needle.bed at small };
     })
     (λ none. ap (λ cs. codes "tuck" ∷ dir_word spelled.dir ∷ needle ∷ cs)
-    (carriers_back names (name ∷ []) 3 (last_rule (off_bed profile 2 at) (slider_form spelled.needle.bed (name ∷ [])) (carrier_rule names 3 (name ∷ [])) none)))
+    (carriers_back names carriers 3 (last_rule (off_bed profile 2 at) (slider_form spelled.needle.bed carriers) (carrier_rule names 3 carriers) none)))
+
+-- with one carrier whose name is one byte
+name_alone : (operands : List ℕ) (spelled : AreShortestOperands operands) → All IsWord ((spelled.last.name ∷ []) ∷ [])
+name_alone operands spelled =
+    All-cons IsWord (spelled.last.name ∷ []) [] (name_word spelled.last.name spelled.last.plain spelled.last.comment) (All-nil IsWord)
+
+knit_line : (profile : Profile) (names : List (List ℕ)) (line operands : List ℕ) → line ≡ codes "knit" ++ operands → AreShortestOperands operands → IsCanonicalLine profile names line line
+knit_line profile names line operands is spelled =
+    knit-canonical profile names line operands [] ((spelled.last.name ∷ []) ∷ []) (is ∙ ap (λ (l : List ℕ). codes "knit" ++ l) (sym (append-nil operands)))
+    spelled refl (omega arith) (name_alone operands spelled)
+
+tuck_line : (profile : Profile) (names : List (List ℕ)) (line operands : List ℕ) → line ≡ codes "tuck" ++ operands → AreShortestOperands operands → IsCanonicalLine profile names line line
+tuck_line profile names line operands is spelled =
+    tuck-canonical profile names line operands [] ((spelled.last.name ∷ []) ∷ []) (is ∙ ap (λ (l : List ℕ). codes "tuck" ++ l) (sym (append-nil operands)))
+    spelled refl (omega arith) (name_alone operands spelled)
 
 xfer_line : (profile : Profile) (names : List (List ℕ)) (line operands : List ℕ) → line ≡ codes "xfer" ++ operands → AreShortestNeedles operands → IsCanonicalLine profile names line line
 xfer_line profile names line operands is spelled =

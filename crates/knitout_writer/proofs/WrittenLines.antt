@@ -13,19 +13,15 @@ use Rattle.knit_base.proofs.FirstLine.{lines_of-line}
 use Rattle.line_cutter.specs.Cut.{IsBehind, IsGoodLine, StandsAt}
 use Rattle.line_cutter.proofs.PlacesBehind.{behind-more, behind-none, line_here}
 use Rattle.knitout_reader.specs.declared.head.Head.{Head}
-use Rattle.knitout_reader.specs.Shortest.{IsShortestSpelling}
 use Rattle.knitout_writer.specs.Canonical.{IsCanonicalLine, IsCanonicalText, with_line_feeds}
-use Rattle.knitout_writer.specs.Written.{BeginsWithCopy, IsPlainByte, IsWritten, WroteOn}
+use Rattle.knitout_writer.specs.Written.{BeginsWithCopy, IsCopiedLine, IsPlainByte, IsWritten, WroteOn}
 use Rattle.knitout_writer.proofs.Bodies.{fed-more}
-use Rattle.knitout_writer.proofs.PlainBytes.{shortest-plain}
-use Rattle.knitout_writer.proofs.ShortestSpellings.{shortest-canonical}
 
--- a line in its shortest spelling whose last byte is plain, and a line feed behind it
-pub copy-begins : (text line : List ℕ) (len : ℕ) → len < length text → len ≤ 14 → get_or text len 0 ≡ 10 → line ≡ take len text
-    → IsPlainByte (get_or line (len - 1) 0) → IsShortestSpelling line → BeginsWithCopy text (len + 1)
-copy-begins text line len within few feed is last spelled =
+-- a line that is copied, and a line feed behind it
+pub copy-begins : (text line : List ℕ) (len : ℕ) → len < length text → len ≤ 32 → get_or text len 0 ≡ 10 → line ≡ take len text → IsCopiedLine line → BeginsWithCopy text (len + 1)
+copy-begins text line len within few feed is copied =
     let count : length line ≡ len = ap length is ∙ omega (arith, length-take len text) in
-    let bytes : All IsPlainByte line = (shortest-plain line spelled).bytes (subst (λ k. IsPlainByte (get_or line (k - 1) 0)) (sym count) last) in
+    let bytes : All IsPlainByte line = copied.bytes in
     let front : take (len + 1) text ≡ line ++ 10 ∷ [] = take_more text len 0 within ∙ ap (λ byte. take len text ++ byte ∷ []) feed ∙ ap (λ l. l ++ 10 ∷ []) (sym is) in
     let whole : text ≡ line ++ 10 ∷ drop (len + 1) text =
     sym (take-append-drop (len + 1) text) ∙ ap (λ l. l ++ drop (len + 1) text) front ∙ append_assoc line (10 ∷ []) (drop (len + 1) text) in
@@ -39,7 +35,7 @@ copy-begins text line len within few feed is last spelled =
         utf8 = is_utf8-from_IsUtf8 line (IsUtf8-from_ascii line (IsAscii-from_all line (λ k d below. (bytes k d below).ascii)));
         short = omega (arith, count);
       };
-      shortest = spelled;
+      copied = copied;
     }
 
 zip-append : {X Y : Type 0} (R : X → Y → Type 0) (xs zs : List X) (ys ws : List Y) → AllZip R xs ys → AllZip R zs ws → AllZip R (xs ++ zs) (ys ++ ws)
@@ -87,7 +83,7 @@ written-copy profile names text rest start len is begins =
       texts = begins.line ∷ [];
       first = ap lines_of (sym left) ∙ begins.lines ∙ ap (λ (l : List ℕ). begins.line ∷ lines_of l) behind;
       good = All-cons IsGoodLine begins.line [] begins.good (All-nil IsGoodLine);
-      canonical = (shortest-canonical profile names begins.line begins.shortest, tt);
+      canonical = (begins.copied.canonical profile names, tt);
       spelt = ap (take len) (sym left) ∙ begins.bytes ∙ sym (append-nil (begins.line ++ 10 ∷ []));
     }
 

@@ -1,11 +1,11 @@
 -- What of a text was written in its canonical spelling. No public contract speaks of it.
-use Rattle.std.specs.Prelude.{◌≡◌, ◌≢◌, ℕ, ◌<◌, ◌≤◌, List, [], ◌∷◌, ◌++◌, length, take, drop, All}
+use Rattle.std.specs.Prelude.{◌≡◌, ◌≢◌, ℕ, ◌<◌, ◌≤◌, false, List, [], ◌∷◌, ◌++◌, length, take, drop, All}
 use Rattle.std.specs.List.{AllZip}
 use Rattle.knit_base.specs.declared.profile.Profile.{Profile}
 use Rattle.knit_base.specs.Lines.{lines_of}
 use Rattle.line_cutter.specs.Cut.{IsGoodLine}
-use Rattle.knitout_reader.specs.Shortest.{IsShortestSpelling}
-use Rattle.knitout_writer.specs.Canonical.{IsCanonicalLine, with_line_feeds}
+use Rattle.knitout_reader.specs.Tokens.{is_blank, is_semicolon}
+use Rattle.knitout_writer.specs.Canonical.{IsCanonicalLine, spaced, with_line_feeds}
 
 -- an ASCII byte that ends no line
 pub record IsPlainByte (byte : ℕ) : Type 0 where
@@ -13,7 +13,31 @@ pub record IsPlainByte (byte : ℕ) : Type 0 where
   pub feed : byte ≢ 10
   pub back : byte ≢ 13
 
--- a line in its shortest spelling begins the text, and takes so many bytes with its line feed
+-- a byte of a carrier's name, which begins no comment
+pub record IsNameByte (byte : ℕ) : Type 0 where
+  pub plain : IsPlainByte byte
+  pub blank : is_blank byte ≡ false
+  pub comment : is_semicolon byte ≡ false
+
+-- a name of such bytes
+pub record IsName (name : List ℕ) : Type 0 where
+  pub some : 0 < length name
+  pub bytes : All IsNameByte name
+
+-- some names, with one space between two
+pub record AreNames (text : List ℕ) : Type 0 where
+  pub names : List (List ℕ)
+  pub some : 0 < length names
+  pub each : All IsName names
+  pub spelt : text ≡ spaced names
+  pub bytes : All IsPlainByte text
+
+-- a line of plain bytes that is its own canonical spelling, whatever the profile and the carriers are
+pub record IsCopiedLine (line : List ℕ) : Type 0 where
+  pub bytes : All IsPlainByte line
+  pub canonical : (profile : Profile) (names : List (List ℕ)) → IsCanonicalLine profile names line line
+
+-- such a line begins the text, and takes so many bytes with its line feed
 pub record BeginsWithCopy (text : List ℕ) (len : ℕ) : Type 0 where
   pub line : List ℕ
   pub some : 0 < len
@@ -21,7 +45,7 @@ pub record BeginsWithCopy (text : List ℕ) (len : ℕ) : Type 0 where
   pub bytes : take len text ≡ line ++ 10 ∷ []
   pub lines : lines_of text ≡ line ∷ lines_of (drop len text)
   pub good : IsGoodLine line
-  pub shortest : IsShortestSpelling line
+  pub copied : IsCopiedLine line
 
 -- the lines of the text between two places are good, and this is their canonical text
 pub record IsWritten (profile : Profile) (names : List (List ℕ)) (text : List ℕ) (from to : ℕ) (written : List ℕ) : Type 0 where

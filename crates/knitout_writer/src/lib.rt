@@ -5,6 +5,7 @@
 //! `knit_base`.
 #![tactic(auto)]
 
+mod copied_line;
 mod line;
 mod one_pass;
 mod text;

@@ -3,25 +3,20 @@
 //! Most lines of a file that a program wrote are their own canonical spelling. Runs of these are copied at once, with their
 //! line feeds, and every other line is read and written. Nothing is refused here: `None` says that a line is bad, and the
 //! general way, which cuts all lines first, has to tell which one.
-ghost use Rattle.std.specs.Prelude.{◌≡◌, ◌≢◌, ◌<◌, ◌≤◌, ◌-◌, ◌++◌, ℕ, List, length, take, drop, slice_index, All, IfOk, IfSome, IsTrue};
+ghost use Rattle.std.specs.Prelude.{◌≡◌, ◌≤◌, ◌-◌, ◌++◌, ℕ, List, length, take, drop, All, IfOk, IfSome, IsTrue};
 ghost use Rattle.knit_base.specs.declared.profile.Profile.{Profile};
 ghost use Rattle.knit_base.specs.Lines.{lines_of};
 ghost use Rattle.line_cutter.specs.Cut.{IsBehind, IsGoodLine};
 ghost use Rattle.knitout_reader.specs.Head.{IsHead};
 ghost use Rattle.knitout_writer.specs.Canonical.{IsCanonicalText, with_line_feeds};
-ghost use Rattle.knitout_writer.specs.Written.{BeginsWithCopy, IsPlainByte, IsWritten, WroteOn};
+ghost use Rattle.knitout_writer.specs.Written.{IsWritten, WroteOn};
 
+use crate::copied_line::copied_len;
 use crate::text::append_body_line;
 use knit_base::{NoMemory, Profile};
-use knitout_reader::{Head, is_shortest_spelling};
+use knitout_reader::Head;
 use line_cutter::line_at;
 use std::alloc::Global;
-
-// A line that is copied is at least so long, as `xfer f0 b0` is.
-const SHORTEST: usize = 10;
-
-// And at most so long, as `xfer f100 b100` is.
-const LONGEST: usize = 14;
 
 /// The canonical text of a file with this head, as `canonical_text` gives it. `None` says that a line isn't UTF-8 or is too long.
 pub fn canonical_text_in_one_pass(
@@ -109,38 +104,4 @@ fn copied_end(text: &[u8], start: usize) -> usize
         end += len;
     }
     end
-}
-
-// How many bytes the first line takes with its line feed, if it is one that is copied.
-#[inline(always)]
-fn copied_len(text: &[u8]) -> Option<usize>
-    ensures { IfSome result (λ len. BeginsWithCopy text.now len) }
-{
-    let len = first_feed(text)?;
-    let line = &text[..len];
-    if is_plain(line[len - 1]) && is_shortest_spelling(line) {
-        return Some(len + 1);
-    }
-    None
-}
-
-// Where a line feed stands that may end a line that is copied.
-#[inline(always)]
-fn first_feed(text: &[u8]) -> Option<usize>
-    ensures { IfSome result (λ at. (at < length text.now) × (10 ≤ at) × (at ≤ 14) × (slice_index text.now at ≡ 10)) }
-{
-    for at in SHORTEST..LONGEST + 1 {
-        if at < text.len() && text[at] == b'\n' {
-            return Some(at);
-        }
-    }
-    None
-}
-
-// Whether the byte is ASCII and ends no line. A carriage return before a line feed would be dropped.
-#[inline(always)]
-fn is_plain(byte: u8) -> bool
-    ensures { IsTrue result → IsPlainByte byte }
-{
-    byte < 128 && byte != b'\n' && byte != b'\r'
 }
