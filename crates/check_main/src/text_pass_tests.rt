@@ -61,6 +61,22 @@ const SPELLINGS: [Row; 4] = [
     ),
 ];
 
+// Names that are copied, and some that are spelt otherwise.
+const NAMES: [Row; 3] = [
+    (
+        b";!knitout-2\n;;Carriers: 1 20\nknit + f1 1 20\ntuck - b10 20\nknit + f1 20 30\nmiss + f1 1 20\n",
+        b";!knitout-2\n;;Carriers: 1 20\nknit + f1 1 20\ntuck - b10 20\nknit + f1 20 30\nmiss + f1 1 20\n",
+    ),
+    (
+        b";!knitout-2\n;;Carriers: 1 20\nknit + f1 1  20\nknit + f1 1\t20\nknit + f1 1 20 \ntuck + f1 1 20\r\nknit + f1 1 20",
+        b";!knitout-2\n;;Carriers: 1 20\nknit + f1 1 20\nknit + f1 1 20\nknit + f1 1 20\ntuck + f1 1 20\nknit + f1 1 20\n",
+    ),
+    (
+        b";!knitout-2\n;;Carriers: 1 2;\nxfer f1 bs1\nxfer f10 b1 \nxfer f1 b1 1\nknit + f1 1 2;\nknit + f1 2; 1\n",
+        b";!knitout-2\n;;Carriers: 1 2;\nxfer f1 bs1\nxfer f10 b1\nxfer f1 b1 1\nknit + f1 1 2;\nknit + f1 2; 1\n",
+    ),
+];
+
 // A carriage return before a line feed and a `;` are no names, though carriers have these names.
 const ENDS: [Row; 3] = [
     (
@@ -80,6 +96,12 @@ const ENDS: [Row; 3] = [
 #[test]
 fn nearly_canonical_spellings(rt: HostRuntime) -> Result<(), Fail> {
     assert!(rt; all_agree(rt.alloc(), &SPELLINGS)?);
+    Ok(())
+}
+
+#[test]
+fn nearly_canonical_names(rt: HostRuntime) -> Result<(), Fail> {
+    assert!(rt; all_agree(rt.alloc(), &NAMES)?);
     Ok(())
 }
 
