@@ -6,11 +6,11 @@ use Rattle.std.proofs.lemmas.List.Sums.{prefix_len-le-length}
 use Rattle.std.proofs.lemmas.Slice.Zip.{AllZip-long}
 use Rattle.knit_base.specs.declared.instr.Read.{Read}
 use Rattle.knit_base.specs.declared.profile.Profile.{Profile}
-use Rattle.knit_base.specs.Lawful.{IsLawfulRead}
 use Rattle.knitout_reader.specs.declared.head.Head.{Head}
 use Rattle.knitout_reader.specs.Head.{head_len, is_head_line, IsHead}
 use Rattle.knitout_reader.specs.Reading.{ReadsAs}
-use Rattle.knitout_reader.proofs.BodyReadings.{ReadSoFar, read-none, read-more, read-all}
+use Rattle.knitout_reader.proofs.BodyReadings.{ReadSoFar, read-none, read-more, read-rest, read-all}
+use Rattle.knitout_reader.proofs.SomeReading.{each-reads}
 use Rattle.carriage_model.specs.Carriage.{HasRun, IsRunning, TellsRun, next_line}
 use Rattle.carriage_model.specs.declared.carriage.Carriage.{Carriage}
 use Rattle.carriage_model.specs.State.{empty_state}
@@ -34,7 +34,7 @@ body_len lines all head is_all is_head = omega (arith, length-drop (head_len lin
 -- a carriage has executed the lines behind the head up to this place
 pub record HasBodyRun (profile : Profile) (with_loops : Bool) (names lines : List (List ℕ)) (from i : ℕ) (carriage : Carriage) : Type 0 where
   pub readings : List Read
-  pub so_far : ReadSoFar (λ line r. ReadsAs profile names line r) (IsLawfulRead profile (length names)) lines from i readings
+  pub so_far : ReadSoFar (λ line r. ReadsAs profile names line r) (λ r. Unit {0}) lines from i readings
   pub run : HasRun profile with_loops (from + 1) readings carriage
 
 -- a carriage over empty beds
@@ -48,9 +48,24 @@ pub body_run-more : (profile : Profile) (with_loops : Bool) (names lines : List 
     → HasBodyRun profile with_loops names lines from (i + 1) new
 body_run-more profile with_loops names lines from i old new line here within found next = record {
   readings = here.readings ++ next.reading ∷ [];
-  so_far = read-more _ _ lines from i here.readings (here.readings ++ next.reading ∷ []) line next.reading here.so_far within found next.read next.lawful refl;
+  so_far = read-more _ _ lines from i here.readings (here.readings ++ next.reading ∷ []) line next.reading here.so_far within found next.read tt refl;
   run = next.ran profile with_loops (from + 1) here.readings here.run;
 }
+
+-- all lines that are left are passed over. Each has a reading
+pub body_run-rest : (profile : Profile) (with_loops : Bool) (names lines : List (List ℕ)) (from i count : ℕ) (old new : Carriage)
+    → HasBodyRun profile with_loops names lines from i old → length (drop i lines) ≡ count
+    → ((before more : List Read) → length more ≡ count → HasRun profile with_loops (from + 1) before old → HasRun profile with_loops (from + 1) (before ++ more) new)
+    → HasBodyRun profile with_loops names lines from (i + count) new
+body_run-rest profile with_loops names lines from i count old new here left over =
+    let rest = each-reads profile names (drop i lines) in
+    let counted : length rest.0 ≡ count = AllZip-long (ReadsAs profile names) (drop i lines) rest.0 rest.1 ∙ left in
+    record {
+      readings = here.readings ++ rest.0;
+      so_far = subst (λ n. ReadSoFar (λ line r. ReadsAs profile names line r) (λ r. Unit {0}) lines from (i + n) (here.readings ++ rest.0)) counted
+          (read-rest _ _ lines from i here.readings rest.0 here.so_far rest.1 (λ k d below. tt));
+      run = over here.readings rest.0 counted here.run;
+    }
 
 -- the carriage is ready for a line more
 pub body_run-running : (profile : Profile) (with_loops : Bool) (names lines : List (List ℕ)) (from i : ℕ) (carriage : Carriage)

@@ -11,13 +11,13 @@ use Rattle.knitout_reader.specs.declared.head.Head.{Head}
 use Rattle.knitout_reader.specs.Head.{IsHead}
 use Rattle.knitout_reader.specs.Usual.{BeginsWithUsual}
 use Rattle.line_cutter.specs.Cut.{IsBehind, StandsAt}
-use Rattle.line_cutter.proofs.PlacesBehind.{behind-all, behind-more, line_here}
+use Rattle.line_cutter.proofs.PlacesBehind.{behind-all, behind-between, behind-more, between-rest, line_here}
 use Rattle.carriage_model.specs.declared.carriage.Carriage.{Carriage}
 use Rattle.carriage_model.specs.Carriage.{HasRun, IsRunning, TellsRun, next_line}
 use Rattle.check_main.specs.declared.one_pass.Run.{Run}
-use Rattle.check_main.specs.BodyRun.{ExecutesAt, IsRun}
+use Rattle.check_main.specs.BodyRun.{ExecutesAt, IsRun, PassesOver}
 use Rattle.check_main.specs.CheckReport.{numbered_line}
-use Rattle.check_main.proofs.BodyRuns.{HasBodyRun, body_run-all, body_run-more, body_run-next, body_run-none, body_run-running}
+use Rattle.check_main.proofs.BodyRuns.{HasBodyRun, body_run-all, body_run-more, body_run-next, body_run-none, body_run-rest, body_run-running}
 
 -- a carriage has executed the lines behind the head up to this place of the text, before which so many lines stand
 pub record HasTextRun (profile : Profile) (with_loops : Bool) (names : List (List ℕ)) (text : List ℕ) (from count start : ℕ) (carriage : Carriage) : Type 0 where
@@ -47,6 +47,17 @@ text_run-more profile with_loops names text from count start next old new some h
       body = body_run-more profile with_loops names (lines_of text) from count old new more.line here.body found.0
           (slice_get-get_or (lines_of text) count [] found.0 ∙ ap Some found.1) more.executed;
     }
+
+-- all lines that are left are passed over
+pub text_run-rest : (profile : Profile) (with_loops : Bool) (names : List (List ℕ)) (text : List ℕ) (from count start more : ℕ) (old new : Carriage) → start < length text
+    → HasTextRun profile with_loops names text from count start old → PassesOver text start more old new
+    → HasTextRun profile with_loops names text from (count + more) (length text) new
+text_run-rest profile with_loops names text from count start more old new some here over = record {
+  behind = behind-between text count start more (length text) here.behind (between-rest text start more some over.good);
+  above = omega (arith, here.above);
+  body = body_run-rest profile with_loops names (lines_of text) from count more old new here.body (ap length here.behind.left ∙ sym over.good.counted)
+      (λ before readings counted run. over.ran profile with_loops (from + 1) before readings counted run);
+}
 
 -- the carriage is ready for a line more
 pub text_run-running : (profile : Profile) (with_loops : Bool) (names : List (List ℕ)) (text : List ℕ) (from count start : ℕ) (carriage : Carriage)
@@ -86,7 +97,7 @@ usual-executed profile names text rest start len usual old new is begins ran =
         first = ap lines_of (sym left) ∙ begins.lines ∙ ap (λ (l : List ℕ). begins.line ∷ lines_of l) behind;
         good = record { utf8 = begins.utf8; short = omega (arith, begins.short) };
       };
-      executed = record { reading = usual_read usual; read = begins.read; lawful = begins.lawful; ran = ran };
+      executed = record { reading = usual_read usual; read = begins.read; ran = ran };
     }
 
 -- what is executed from a carriage is executed from one that is equal

@@ -1,10 +1,9 @@
 -- What a carriage makes of the lines of a file one by one. No public contract speaks of it.
-use Rattle.std.specs.Prelude.{◌≡◌, ℕ, Bool, List, [], ◌∷◌, ◌++◌, length, All}
+use Rattle.std.specs.Prelude.{◌≡◌, ℕ, Bool, List, [], ◌∷◌, ◌++◌, length, drop, All}
 use Rattle.knit_base.specs.declared.instr.Read.{Read}
 use Rattle.knit_base.specs.declared.profile.Profile.{Profile}
-use Rattle.knit_base.specs.Lawful.{IsLawfulRead}
 use Rattle.knit_base.specs.Lines.{lines_of}
-use Rattle.line_cutter.specs.Cut.{IsGoodLine, StandsAt}
+use Rattle.line_cutter.specs.Cut.{HasGoodLines, IsGoodLine, StandsAt}
 use Rattle.knitout_reader.specs.Reading.{ReadsAs}
 use Rattle.carriage_model.specs.declared.carriage.Carriage.{Carriage}
 use Rattle.carriage_model.specs.declared.verdict.LoopFact.{LoopFact}
@@ -18,7 +17,6 @@ use Rattle.check_main.specs.CheckReport.{IsJudged}
 pub record ExecutesLine (profile : Profile) (names : List (List ℕ)) (line : List ℕ) (old new : Carriage) : Type 0 where
   pub reading : Read
   pub read : ReadsAs profile names line reading
-  pub lawful : IsLawfulRead profile (length names) reading
   pub ran : (p : Profile) (with_loops : Bool) (first : ℕ) (before : List Read) → HasRun p with_loops first before old → HasRun p with_loops first (before ++ reading ∷ []) new
 
 -- the carriage executed the good line that begins at this place of the text, and the next line begins there
@@ -26,6 +24,12 @@ pub record ExecutesAt (profile : Profile) (names : List (List ℕ)) (text : List
   pub line : List ℕ
   pub stands : StandsAt text start line next
   pub executed : ExecutesLine profile names line old new
+
+-- from this place of the text on so many good lines stand, and the carriage passed over them, whatever they say
+pub record PassesOver (text : List ℕ) (start count : ℕ) (old new : Carriage) : Type 0 where
+  pub good : HasGoodLines (drop start text) count
+  pub ran : (p : Profile) (with_loops : Bool) (first : ℕ) (before more : List Read) → length more ≡ count
+      → HasRun p with_loops first before old → HasRun p with_loops first (before ++ more) new
 
 -- what one carriage makes of the file's lines, with the loops made where these are asked for
 pub record IsJudgement (with_loops : Bool) (profile : Profile) (names lines : List (List ℕ)) (judgement : Judgement) : Type 0 where

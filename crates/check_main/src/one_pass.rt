@@ -2,15 +2,16 @@
 //!
 //! The general way cuts all lines first, since a file with a bad line is refused whatever stands before it, and reads each by
 //! the whole grammar. Most files have good lines only, and most of their lines are plain knits, tucks and transfers. So here a
-//! line is found as it is reached, and one of these plain kinds goes straight from its bytes to the carriage. Nothing is
-//! refused here but a body that is too large: `None` says that this way doesn't settle the file, and the general way has to.
-ghost use Rattle.std.specs.Prelude.{◌≡◌, ◌≤◌, ◌<◌, ◌+◌, ◌^◌, length, IfOk, IfSome};
+//! line is found as it is reached, and one of these plain kinds goes straight from its bytes to the carriage. Behind a fault no
+//! line is read: each of them says something, whatever it is, so they are only counted. Nothing is refused here but a body that
+//! is too large: `None` says that this way doesn't settle the file, and the general way has to.
+ghost use Rattle.std.specs.Prelude.{◌≡◌, ◌≤◌, ◌<◌, ◌+◌, ◌^◌, true, length, IfOk, IfSome};
 ghost use Rattle.knit_base.specs.Lines.{lines_of};
 ghost use Rattle.knitout_reader.specs.Head.{IsHead};
 ghost use Rattle.knitout_reader.specs.Usual.{AreByteNames};
-ghost use Rattle.carriage_model.specs.Carriage.{IsRunning, next_line, profile_of};
+ghost use Rattle.carriage_model.specs.Carriage.{IsRunning, is_stopped, next_line, profile_of};
 ghost use Rattle.command_words.specs.declared.command.Command.{Command};
-ghost use Rattle.check_main.specs.BodyRun.{ExecutesAt, IsRun};
+ghost use Rattle.check_main.specs.BodyRun.{ExecutesAt, IsRun, PassesOver};
 ghost use Rattle.check_main.specs.CheckReport.{body_of, broken_line, numbered_line};
 ghost use Rattle.check_main.specs.Due.{Due, Fits};
 
@@ -24,7 +25,7 @@ use carriage_model::{Carriage, Verdict};
 use command_words::Command;
 use knit_base::{Declared, NoMemory, Profile};
 use knitout_reader::{ByteNames, Head, usual_line};
-use line_cutter::{line_at, place_behind};
+use line_cutter::{count_lines, line_at, place_behind};
 use std::alloc::Global;
 
 /// What one carriage makes of a file, and how many lines the file has.
@@ -101,6 +102,14 @@ fn run_text(
     let mut carriage = Carriage::start(alloc, profile, head.lines + 1, with_loops)?;
     let mut lines = head.lines;
     'running: while start < text.len() {
+        if carriage.is_stopped() {
+            let Some(count) = pass_over_rest(text, start, &mut carriage) else {
+                return Ok(None);
+            };
+            lines += count;
+            start = text.len();
+            continue;
+        }
         let Some(next) = execute_at(
             alloc,
             text,
@@ -119,6 +128,19 @@ fn run_text(
     let (verdict, loops) = carriage.finish()?;
     let judgement = Judgement { verdict, loops };
     Ok(Some(Run { judgement, lines }))
+}
+
+// Passes over all lines from `start` on, which a fault stands before, and says how many they are. `None` where one is bad.
+fn pass_over_rest(text: &[u8], start: usize, carriage: &mut Carriage) -> Option<u32>
+    requires size { length text.now ≤ 16777216 }
+    requires some { start < length text.now }
+    requires stopped { is_stopped carriage.old ≡ true }
+    requires lines { next_line carriage.old + length text.now < 2 ^ 32 }
+    ensures { IfSome result (λ count. PassesOver text.now start count carriage.old carriage.new) }
+{
+    let count = count_lines(&text[start..])?;
+    carriage.pass_over(count);
+    Some(count)
 }
 
 // Executes the line that begins at `start`, and says where the next one begins. `None` where the line is bad.

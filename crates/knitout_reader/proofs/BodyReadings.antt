@@ -1,15 +1,16 @@
 -- The lines of a body, read so far.
-use Rattle.std.proofs.Common.{◌≡◌, ℕ, ◌+◌, ◌<◌, ◌≤◌, List, [], ◌∷◌, ◌++◌, length, take, drop, get_or, All, Some, sym, ap, subst, ◌∙◌, arith, length-drop, slice_get}
+use Rattle.std.proofs.Common.{◌≡◌, ℕ, ◌+◌, ◌<◌, ◌≤◌, List, [], ◌∷◌, ◌++◌, length, take, drop, get_or, All, Some, sym, ap, subst, ◌∙◌, arith, length-append, length-drop, slice_get}
 use Rattle.std.specs.List.{AllZip}
-use Rattle.std.proofs.lemmas.List.{take_more, take_all, length_push, get_or-drop}
+use Rattle.std.proofs.lemmas.List.{take_more, take_all, take-append-drop, drop-drop, length_push, get_or-drop}
 use Rattle.std.proofs.lemmas.Option.{get_or_from_slice_get}
-use Rattle.std.proofs.lemmas.List.Elements.{All-push}
+use Rattle.std.proofs.lemmas.List.Elements.{All-append, All-push}
+use Rattle.std.proofs.lemmas.Slice.Zip.{AllZip-long}
 
-zip-push : {A B : Type 0} (R : A → B → Type 0) (xs : List A) (ys : List B) (x : A) (y : B) → AllZip R xs ys → R x y → AllZip R (xs ++ x ∷ []) (ys ++ y ∷ [])
-zip-push R [] [] x y all here = (here, tt)
-zip-push R [] (v ∷ vs) x y all here = absurd all
-zip-push R (u ∷ us) [] x y all here = absurd all
-zip-push R (u ∷ us) (v ∷ vs) x y all here = (all.0, zip-push R us vs x y all.1 here)
+zip-append : {A B : Type 0} (R : A → B → Type 0) (xs us : List A) (ys vs : List B) → AllZip R xs ys → AllZip R us vs → AllZip R (xs ++ us) (ys ++ vs)
+zip-append R [] us [] vs all more = more
+zip-append R [] us (y ∷ ys) vs all more = absurd all
+zip-append R (x ∷ xs) us [] vs all more = absurd all
+zip-append R (x ∷ xs) us (y ∷ ys) vs all more = (all.0, zip-append R xs us ys vs all.1 more)
 
 -- so many items on, each of the first list stands beside one of the second; and each of the second is as it should be
 pub record ReadSoFar {A B : Type 0} (R : A → B → Type 0) (P : B → Type 0) (xs : List A) (from i : ℕ) (ys : List B) : Type 0 where
@@ -33,9 +34,25 @@ read-more R P xs from i ys after x y so_far within found here kept is =
     subst (ReadSoFar R P xs from (i + 1)) (sym is) (record {
       counted = omega (arith, so_far.counted, length_push ys y);
       each = subst (λ n. AllZip R (take n (drop from xs)) (ys ++ y ∷ [])) (sym (length_push ys y))
-          (subst (λ us. AllZip R us (ys ++ y ∷ [])) (sym taken) (zip-push R _ ys x y so_far.each here));
+          (subst (λ us. AllZip R us (ys ++ y ∷ [])) (sym taken) (zip-append R _ (x ∷ []) ys (y ∷ []) so_far.each (here, tt)));
       kept = All-push P ys y so_far.kept kept;
     })
+
+-- the items that are left are read at once
+pub read-rest : {A B : Type 0} (R : A → B → Type 0) (P : B → Type 0) (xs : List A) (from i : ℕ) (ys more : List B)
+    → ReadSoFar R P xs from i ys → AllZip R (drop i xs) more → All P more → ReadSoFar R P xs from (i + length more) (ys ++ more)
+read-rest R P xs from i ys more so_far here kept =
+    let rest : drop (length ys) (drop from xs) ≡ drop i xs = drop-drop (length ys) from xs ∙ ap (λ n. drop n xs) (omega (arith, so_far.counted)) in
+    let whole : take (length ys) (drop from xs) ++ drop i xs ≡ drop from xs =
+    ap (λ us. take (length ys) (drop from xs) ++ us) (sym rest) ∙ take-append-drop (length ys) (drop from xs) in
+    let past : length (drop from xs) ≤ length (ys ++ more) =
+    omega (arith, so_far.counted, length-append ys more, AllZip-long R (drop i xs) more here, length-drop i xs, length-drop from xs) in
+    record {
+      counted = omega (arith, so_far.counted, length-append ys more);
+      each = subst (λ us. AllZip R us (ys ++ more)) (whole ∙ sym (take_all (length (ys ++ more)) (drop from xs) past))
+          (zip-append R (take (length ys) (drop from xs)) (drop i xs) ys more so_far.each here);
+      kept = All-append P ys more so_far.kept kept;
+    }
 
 -- past the last item all are read
 pub read-all : {A B : Type 0} (R : A → B → Type 0) (P : B → Type 0) (xs : List A) (from i : ℕ) (ys : List B) → length xs ≤ i → ReadSoFar R P xs from i ys

@@ -1,6 +1,6 @@
 -- Each line has a reading.
 use Rattle.std.proofs.Common.{◌≡◌, ◌≢◌, ◌⊎◌, ⊎_elim, inl, inr, ℕ, ◌+◌, ◌-◌, ◌*◌, ◌/◌, ◌^◌, ◌<◌, ◌≤◌, ℤ, pos, ◌-ℤ◌, Bool, true, false, nat_eq, List, [], ◌∷◌, ◌++◌, length, get_or, All, Option, None, Some, codes, ap, sym, subst, ◌∙◌, refl, arith}
-use Rattle.std.specs.List.{after_first, before_first, position_or_len}
+use Rattle.std.specs.List.{AllZip, after_first, before_first, position_or_len}
 use Rattle.std.specs.Str.{bytes_eq}
 use Rattle.std.proofs.Math.Nat.{mul-div_cancel, one-le-pow}
 use Rattle.std.proofs.lemmas.Bool.{cases_lt, eqb-true, false≢true}
@@ -544,3 +544,11 @@ reading profile names (word ∷ tokens) comment =
 -- each line has a reading
 pub reads-total : (profile : Profile) (names : List (List ℕ)) (line : List ℕ) → (r : Read) × ReadsAs profile names line r
 reads-total profile names line = reading profile names (tokens_of (before_comment line)) (has_comment line)
+
+-- each of some lines has a reading
+pub each-reads : (profile : Profile) (names lines : List (List ℕ)) → (readings : List Read) × AllZip (ReadsAs profile names) lines readings
+each-reads profile names [] = ([], tt)
+each-reads profile names (line ∷ lines) =
+    let here = reads-total profile names line in
+    let later = each-reads profile names lines in
+    (here.0 ∷ later.0, (here.1, later.1))

@@ -9,7 +9,7 @@ use Rattle.knit_base.specs.Lines.{is_line_feed, lines_of, without_empty_end, wit
 use Rattle.memchr.specs.Find.{IsFirstByte, is_byte}
 
 -- a piece that others follow stays, also where it is empty
-not_last : (piece : List ℕ) (pieces : List (List ℕ)) → 0 < length pieces → without_empty_end (piece ∷ pieces) ≡ piece ∷ without_empty_end pieces
+pub not_last : (piece : List ℕ) (pieces : List (List ℕ)) → 0 < length pieces → without_empty_end (piece ∷ pieces) ≡ piece ∷ without_empty_end pieces
 not_last piece [] some = absurd (omega arith)
 not_last [] (next ∷ pieces) some = refl
 not_last (byte ∷ bytes) (next ∷ pieces) some = refl

@@ -72,6 +72,22 @@ pub record StandsAt (text : List ℕ) (start : ℕ) (line : List ℕ) (next : �
   pub first : lines_of (drop start text) ≡ line ∷ lines_of (drop next text)
   pub good : IsGoodLine line
 
+-- so many good lines stand between these two places, where lines begin
+pub record StandBetween (text : List ℕ) (start count next : ℕ) : Type 0 where
+  pub lines : List (List ℕ)
+  pub further : start < next
+  pub first : lines_of (drop start text) ≡ lines ++ lines_of (drop next text)
+  pub counted : length lines ≡ count
+  pub few : start + count ≤ next
+  pub within : start + count ≤ length text
+  pub good : All IsGoodLine lines
+
+-- the text has so many lines, and they are good
+pub record HasGoodLines (text : List ℕ) (count : ℕ) : Type 0 where
+  pub counted : count ≡ length (lines_of text)
+  pub fit : count ≤ length text
+  pub good : All IsGoodLine (lines_of text)
+
 -- So many lines stand before this place, and they are good.
 pub record IsBehind (text : List ℕ) (count start : ℕ) : Type 0 where
   pub left : drop count (lines_of text) ≡ lines_of (drop start text)

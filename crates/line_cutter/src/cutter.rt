@@ -4,6 +4,7 @@ ghost use Rattle.knit_base.specs.Lines.{lines_of};
 ghost use Rattle.line_cutter.specs.Cut.{AreCut, IsFirstBad, IsGoodLine};
 
 use crate::CutFault;
+use crate::counter::line_feeds;
 use crate::line::next_line;
 use knit_base::{Lines, Span};
 use std::alloc::Global;
@@ -50,26 +51,4 @@ fn cut_spans(alloc: Global, text: &[u8]) -> Result<Vec<Span>, CutFault>
         start = found.next;
     }
     Ok(spans)
-}
-
-// How many line feeds there are. They are counted in bytes, which takes many at a time.
-fn line_feeds(text: &[u8]) -> usize
-    ensures { result ≤ length text.now }
-{
-    let mut count = 0;
-    for chunk in text.chunks(255) {
-        count += usize::from(line_feeds_of_few(chunk));
-    }
-    count
-}
-
-fn line_feeds_of_few(bytes: &[u8]) -> u8
-    requires { length bytes.now < 256 }
-    ensures { result ≤ length bytes.now }
-{
-    let mut count = 0;
-    for byte in bytes {
-        count += u8::from(*byte == b'\n');
-    }
-    count
 }

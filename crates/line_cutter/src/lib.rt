@@ -6,11 +6,13 @@
 //! `specs/Cut`. Below it stand std, `memchr`, `thiserror` and `knit_base`.
 #![tactic(auto)]
 
+mod counter;
 mod cutter;
 mod fault;
 mod line;
 mod places;
 
+pub use counter::count_lines;
 pub use cutter::{cut, cut_buffer};
 pub use fault::CutFault;
 pub use line::LINE_LIMIT;

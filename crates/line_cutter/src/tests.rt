@@ -1,7 +1,7 @@
 //! Each call with ample memory: which lines there are, and which line is refused.
 ghost use Rattle.std.specs.Prelude.{◌≡◌, ◌≤◌, ◌+◌, length, IfOk};
 
-use crate::{CutFault, LINE_LIMIT, cut, cut_buffer, line_at, place_behind};
+use crate::{CutFault, LINE_LIMIT, count_lines, cut, cut_buffer, line_at, place_behind};
 use knit_base::Lines;
 use std::alloc::{AllocError, Global};
 use std::process::Abort;
@@ -109,4 +109,27 @@ fn lines_are_passed_over(rt: HostRuntime) {
     }
     assert_eq!(rt; place_behind(b"a\nb", 2), Some(4));
     assert_eq!(rt; place_behind(b"a\nb", 3), None);
+}
+
+#[test]
+fn good_lines_are_counted(rt: HostRuntime) {
+    for (text, want) in [
+        (b"".as_slice(), Some(0)),
+        (b"\n\n".as_slice(), Some(2)),
+        (b"a\r\n\xc3\xa9\nb\nc".as_slice(), Some(4)),
+        (FIVE_LINES, None),
+    ] {
+        assert!(rt; text.len() < 100);
+        assert_eq!(rt; count_lines(text), want);
+    }
+}
+
+#[test]
+fn the_longest_line_is_counted(rt: HostRuntime) -> Result<(), Fail> {
+    for (len, want) in [(LINE_LIMIT, Some(2)), (LINE_LIMIT + 1, None)] {
+        let text = long_text(rt.alloc(), len, b"\nb\n")?;
+        assert!(rt; text.len() < 10_000);
+        assert_eq!(rt; count_lines(&text), want);
+    }
+    Ok(())
 }

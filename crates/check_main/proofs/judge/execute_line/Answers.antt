@@ -12,5 +12,5 @@ execute-requires-clause-lawful c = (
 pub returns : goal.returns
 returns c =
     on_ok_weaker c.execute.result
-    (λ ran. record { reading = c.in_ok-read.read; read = c.in_ok-read.ensures.reads; lawful = c.in_ok-read.ensures.lawful; ran = ran })
+    (λ ran. record { reading = c.in_ok-read.read; read = c.in_ok-read.ensures.reads; ran = ran })
     c.execute.ensures.ok

@@ -1,6 +1,6 @@
 use Rattle.std.proofs.Common.{◌+◌, IfSome, subst, refl}
-use Rattle.check_main.specs.BodyRun.{ExecutesAt}
-use Rattle.check_main.proofs.TextRuns.{HasTextRun, text_run-all, text_run-more}
+use Rattle.check_main.specs.BodyRun.{ExecutesAt, PassesOver}
+use Rattle.check_main.proofs.TextRuns.{HasTextRun, text_run-all, text_run-more, text_run-rest}
 use Rattle.check_main.proofs.one_pass.run_text.Goals as goal
 
 pub running-preserved : goal.running-preserved
@@ -9,6 +9,13 @@ running-preserved c =
     subst (λ o. IfSome o (λ next. ExecutesAt c.args.plan.now.chosen.profile c.args.head.now.declared c.args.text.now c.running.start next c.running.carriage c.execute_at.new.carriage)) c.in-Some-2.is c.in_ok-next.ensures in
     text_run-more c.args.plan.now.chosen.profile c.args.with_loops c.args.head.now.declared c.args.text.now c.args.head.now.lines c.running.lines c.running.start c.in-Some-2.next c.running.carriage
     c.execute_at.new.carriage c.running-test.true c.running.invariant executes
+
+pub running-preserved-then-is_stopped : goal.running-preserved-then-is_stopped
+running-preserved-then-is_stopped c =
+    let over : PassesOver c.args.text.now c.running.start c.in-Some-pass_over_rest.count c.running.carriage c.pass_over_rest.new.carriage =
+    subst (λ o. IfSome o (λ count. PassesOver c.args.text.now c.running.start count c.running.carriage c.pass_over_rest.new.carriage)) c.in-Some-pass_over_rest.is c.pass_over_rest.ensures in
+    text_run-rest c.args.plan.now.chosen.profile c.args.with_loops c.args.head.now.declared c.args.text.now c.args.head.now.lines c.running.lines c.running.start c.in-Some-pass_over_rest.count
+    c.running.carriage c.pass_over_rest.new.carriage c.running-test.true c.running.invariant over
 
 pub returns : goal.returns
 returns c =
