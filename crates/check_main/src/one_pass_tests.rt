@@ -139,7 +139,12 @@ const SPELLINGS: [Row; 5] = [
 ];
 
 // A file with a bad line is refused for that line alone, also behind a fault.
-const FAULTS: [Row; 5] = [
+const FAULTS: [Row; 6] = [
+    (
+        true,
+        b";!knitout-2\n;;Carriers: 1\nin 1\nin 1\n;\xc3\xa9\n\nknit + f1 1\r\n\n",
+        "broken line 4 rule CarrierIsIn at 1\n> in 1\n",
+    ),
     (
         true,
         b";!knitout-2\n;;Carriers: 1\nin 1\nin 1\nknit + f1 1\nknit\n",
@@ -185,14 +190,30 @@ fn nearly_usual_spellings(rt: HostRuntime) -> Result<(), Fail> {
     Ok(())
 }
 
+// A fault on the second line of the body, and behind it this byte so many times.
+fn behind_a_fault(alloc: Global, byte: u8, count: usize) -> Result<Vec<u8>, Fail> {
+    let mut file = Vec::from_slice(alloc, b";!knitout-2\n;;Carriers: 1\nin 1\nin 1\n")?;
+    file.extend_from_slice(&vec![in alloc; byte; count]?)?;
+    Ok(file)
+}
+
 #[test]
 fn lines_behind_a_fault(rt: HostRuntime) -> Result<(), Fail> {
     let alloc = rt.alloc();
     assert_eq!(rt; first_other(alloc, &FAULTS)?, None);
-    // A line of 4,097 bytes behind a fault.
-    let mut file = Vec::from_slice(alloc, b";!knitout-2\n;;Carriers: 1\nin 1\nin 1\n")?;
-    file.extend_from_slice(&vec![in alloc; b';'; 4_097]?)?;
-    let said = said(alloc, &["check"], &file)?;
+    let said = said(alloc, &["check"], &behind_a_fault(alloc, b';', 4_097)?)?;
     assert!(rt; is(&said, Status::BadInput, "bad input: line 5 LineLong\n"));
+    Ok(())
+}
+
+#[test]
+fn blocks_behind_a_fault(rt: HostRuntime) -> Result<(), Fail> {
+    let alloc = rt.alloc();
+    let words = ["check", "--block", "1"];
+    let most = said(alloc, &words, &behind_a_fault(alloc, b'\n', 65_534)?)?;
+    let broken = "broken line 4 rule CarrierIsIn at 1\n> in 1\n";
+    assert!(rt; is(&most, Status::Broken, broken));
+    let many = said(alloc, &words, &behind_a_fault(alloc, b'\n', 65_535)?)?;
+    assert!(rt; is(&many, Status::TooLarge, "too large: blocks\n"));
     Ok(())
 }
