@@ -26,6 +26,7 @@ mod text_pass;
 #[cfg(test)]
 mod text_pass_tests;
 mod top;
+mod usual;
 
 use knit_ports::{ReaderSource, WriterSink};
 use outcome::Status;

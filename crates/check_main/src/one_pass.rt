@@ -21,6 +21,7 @@ use crate::front::head_in_front;
 use crate::judge::{Judgement, Style, execute_line, report};
 use crate::outcome::Status;
 use crate::plan::Plan;
+use crate::usual::execute_usual;
 use carriage_model::{Carriage, Verdict};
 use command_words::Command;
 use knit_base::{Declared, NoMemory, Profile};
@@ -168,7 +169,8 @@ fn execute_at(
     if carriage.carry_usual(usual)? {
         return Ok(Some(start + len));
     }
-    execute_any_at(alloc, text, start, profile, names, carriage)
+    execute_usual(alloc, usual, carriage)?;
+    Ok(Some(start + len))
 }
 
 // The same, by the whole grammar. It is seldom called, so it stays out of the loop above.

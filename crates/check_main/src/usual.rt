@@ -1,0 +1,52 @@
+//! Usual lines that the carriage has to look at whole: loops are kept, or a rule is broken.
+ghost use Rattle.std.specs.Prelude.{◌≡◌, ◌≤◌, ◌<◌, ◌+◌, ◌^◌, ℕ, Bool, List, [], ◌∷◌, ◌++◌, IfOk, OnOk};
+ghost use Rattle.knit_base.specs.declared.instr.Read.{Read};
+ghost use Rattle.knit_base.specs.declared.profile.Profile.{Profile};
+ghost use Rattle.knit_base.specs.Lawful.{IsLawfulRead};
+ghost use Rattle.knit_base.specs.Usual.{usual_read};
+ghost use Rattle.carriage_model.specs.Carriage.{HasRun, IsRunning, next_line, profile_of};
+
+use carriage_model::Carriage;
+use knit_base::{CarrierNo, Instr, NoMemory, Read, Usual, Yarns};
+use std::alloc::Global;
+
+/// Carries out a usual line as any other, without reading it again. It stays out of the loop that most usual lines take.
+#[inline(never)]
+pub fn execute_usual(alloc: Global, usual: Usual, carriage: &mut Carriage) -> Result<(), NoMemory>
+    requires running { IsRunning carriage.old }
+    requires lawful { (carriers : ℕ) × (carriers ≤ 64) × IsLawfulRead (profile_of carriage.old) carriers (usual_read usual) }
+    requires lines { next_line carriage.old + 1 < 2 ^ 32 }
+    ensures { OnOk result ((profile : Profile) (with_loops : Bool) (first : ℕ) (reads : List Read)
+        → HasRun profile with_loops first reads carriage.old → HasRun profile with_loops first (reads ++ usual_read usual ∷ []) carriage.new) }
+{
+    let read = read_of(alloc, usual)?;
+    carriage.execute(&read)
+}
+
+// The same, as a reading. It takes no memory, since it names one carrier at most.
+fn read_of(alloc: Global, usual: Usual) -> Result<Read, NoMemory>
+    requires { (profile : Profile) × (carriers : ℕ) × (carriers ≤ 64) × IsLawfulRead profile carriers (usual_read usual) }
+    ensures { IfOk result (λ read. read ≡ usual_read usual) }
+{
+    match usual {
+        Usual::Knit(dir, needle, c) => {
+            let yarns = one_carrier(alloc, c)?;
+            Ok(Read::Instr(Instr::Knit(dir, needle, yarns)))
+        }
+        Usual::Tuck(dir, needle, c) => {
+            let yarns = one_carrier(alloc, c)?;
+            Ok(Read::Instr(Instr::Tuck(dir, needle, yarns)))
+        }
+        Usual::Xfer(needle, needle2) => Ok(Read::Instr(Instr::Xfer(needle, needle2))),
+    }
+}
+
+// One carrier alone.
+fn one_carrier(alloc: Global, c: CarrierNo) -> Result<Yarns, NoMemory>
+    requires { c.0 < 64 }
+    ensures { IfOk result (λ yarns. yarns ≡ c ∷ []) }
+{
+    let mut yarns = Yarns::new(alloc);
+    yarns.push(c)?;
+    Ok(yarns)
+}
