@@ -14,7 +14,7 @@ use Rattle.std.proofs.Math.Nat.{pow-le-pow_right}
 use Rattle.std.specs.Prelude.{unsigned_abs}
 use Rattle.command_words.specs.Grammar.{Text}
 use Rattle.command_words.specs.Numbers.{digits_of, is_number}
-use Rattle.command_words.proofs.Looks.{by_test}
+use Rattle.knit_base.proofs.Places.{by_test}
 use Rattle.command_words.proofs.Rows.{both}
 
 all_digits : (ds : List ℕ) → list_all is_ascii_digit ds ≡ true → AllDigits 10 ds

@@ -5,6 +5,7 @@ use Rattle.std.specs.Char.{encode_utf8}
 use Rattle.std.specs.Str.{bytes_eq, chars}
 use Rattle.std.proofs.lemmas.Str.{chars_past_char, encodes-chars}
 use Rattle.clap.specs.Lexer.{long_of, short_of}
+use Rattle.knit_base.proofs.Places.{by_test}
 use Rattle.command_words.specs.Grammar.{Text, begins_with_hyphen, is_end_of_options, option_name, option_text, option_value}
 use Rattle.command_words.proofs.Turns.{IsPlainWord, dashes}
 
@@ -16,11 +17,6 @@ pub data Looks (word : Text) : Type 0 where
   short : (flags : Text) (k x : ℕ) (xs : List ℕ) → bytes_eq word dashes ≡ false → long_of word ≡ None → short_of word ≡ Some flags → length flags ≡ suc k
       → chars flags ≡ x ∷ xs → option_text word ≡ None → begins_with_hyphen word ≡ true → Looks word
   plain : IsPlainWord word → option_text word ≡ None → Looks word
-
--- from both cases of a test
-pub by_test : {P : Type 0} (b : Bool) → (b ≡ true → P) → (b ≡ false → P) → P
-by_test true f g = f refl
-by_test false f g = g refl
 
 -- what follows a hyphen has a character
 some_char : (y : ℕ) (ys : List ℕ) → IsUtf8 (45 ∷ y ∷ ys) → (x : ℕ) × (xs : List ℕ) × (chars (y ∷ ys) ≡ x ∷ xs)

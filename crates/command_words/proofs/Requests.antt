@@ -12,7 +12,7 @@ use Rattle.command_words.specs.Numbers.{number_or_none}
 use Rattle.command_words.specs.Given.{IsGiven, IsLawful, now_of, parts_given, words_of}
 use Rattle.command_words.specs.Request.{Parts, command_of, command_of_words, has_numbers, is_lawful, parts_of, request_from, request_from_parts, request_of, with_options}
 use Rattle.command_words.proofs.Rows.{both}
-use Rattle.command_words.proofs.Looks.{by_test}
+use Rattle.knit_base.proofs.Places.{by_test}
 use Rattle.command_words.proofs.Outcomes.{some_of}
 
 -- three places hold the positional words

@@ -5,6 +5,7 @@ use Rattle.std.proofs.lemmas.List.{take_rest}
 use Rattle.std.proofs.lemmas.List.Elements.{All-head, All-tail}
 use Rattle.std.proofs.Math.Nat.{pow-succ', mul-le-mul_right}
 use Rattle.knitout_reader.specs.Numbers.{IsDigit, IsQuarter, number_of}
+use Rattle.knitout_reader.specs.Shapes.{AreQuarters}
 
 -- the value of digits that stand behind such a value
 abbrev pub read_from : ℕ → List ℕ → ℕ
@@ -79,23 +80,19 @@ one_first [] some few = absurd (omega arith)
 one_first (a ∷ []) some few = refl
 one_first (a ∷ b ∷ rest) some few = absurd (omega arith)
 
--- what the digits behind a point say of quarters
-abbrev pub Quarters : List ℕ → Option ℕ → Type 0
-Quarters fraction found = MatchOption found ((q : ℕ) → IsQuarter fraction q → ⊥) (λ q. IsQuarter fraction q)
-
 -- what so many hundredths say of quarters
 abbrev pub Hundredths : ℕ → Option ℕ → Type 0
 Hundredths h found = MatchOption found ((q : ℕ) → h ≡ 25 * q → ⊥) (λ q. h ≡ 25 * q)
 
-two_found : (a b : ℕ) (rest : List ℕ) (found : Option ℕ) → All IsDigit rest → number_of rest ≡ 0 → Hundredths (hundredths a b) found → Quarters (a ∷ b ∷ rest) found
+two_found : (a b : ℕ) (rest : List ℕ) (found : Option ℕ) → All IsDigit rest → number_of rest ≡ 0 → Hundredths (hundredths a b) found → AreQuarters (a ∷ b ∷ rest) found
 two_found a b rest None are zeros none = λ q is. none q (only_quarter a b q rest are is).0
 two_found a b rest (Some q) are zeros is = is_quarter a b q rest zeros is
 
 -- two digits, and zeros behind them
 pub quarter-two : (fraction : List ℕ) (found : Option ℕ) → 2 ≤ length fraction → All IsDigit (behind_two fraction) → number_of (behind_two fraction) ≡ 0
-    → Hundredths (hundredths (get_or fraction 0 0) (get_or fraction 1 0)) found → Quarters fraction found
+    → Hundredths (hundredths (get_or fraction 0 0) (get_or fraction 1 0)) found → AreQuarters fraction found
 quarter-two fraction found some are zeros is =
-    subst (λ f. Quarters f found) (sym (two_first fraction some)) (two_found (get_or fraction 0 0) (get_or fraction 1 0) (behind_two fraction) found are zeros is)
+    subst (λ f. AreQuarters f found) (sym (two_first fraction some)) (two_found (get_or fraction 0 0) (get_or fraction 1 0) (behind_two fraction) found are zeros is)
 
 -- more than zeros behind the first two digits
 pub no_quarter : (fraction : List ℕ) → 2 ≤ length fraction → All IsDigit (behind_two fraction) → 0 < number_of (behind_two fraction) → (q : ℕ) → IsQuarter fraction q → ⊥
@@ -104,13 +101,13 @@ no_quarter fraction some are more q is =
     (only_quarter (get_or fraction 0 0) (get_or fraction 1 0) q (behind_two fraction) are (subst (λ f. IsQuarter f q) (two_first fraction some) is)).1 in
     omega arith
 
-one_found : (a : ℕ) (found : Option ℕ) → Hundredths (10 * (a - 48)) found → Quarters (a ∷ []) found
+one_found : (a : ℕ) (found : Option ℕ) → Hundredths (10 * (a - 48)) found → AreQuarters (a ∷ []) found
 one_found a None none = λ q is. none q (omega (arith, is))
 one_found a (Some q) is = omega (arith, is)
 
 -- one digit
-pub quarter-one : (fraction : List ℕ) (found : Option ℕ) → 1 ≤ length fraction → length fraction < 2 → Hundredths (10 * (get_or fraction 0 0 - 48)) found → Quarters fraction found
-quarter-one fraction found some few is = subst (λ f. Quarters f found) (sym (one_first fraction some few)) (one_found (get_or fraction 0 0) found is)
+pub quarter-one : (fraction : List ℕ) (found : Option ℕ) → 1 ≤ length fraction → length fraction < 2 → Hundredths (10 * (get_or fraction 0 0 - 48)) found → AreQuarters fraction found
+quarter-one fraction found some few is = subst (λ f. AreQuarters f found) (sym (one_first fraction some few)) (one_found (get_or fraction 0 0) found is)
 
 same_factor : (q q' p : ℕ) → 0 < p → q * p ≡ q' * p → q ≡ q'
 same_factor q q' p some same =

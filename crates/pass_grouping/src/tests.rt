@@ -84,27 +84,32 @@ fn a_rack_moves_the_back_bed(rt: HostRuntime) -> Result<(), Fail> {
     Ok(())
 }
 
+// Two needles of a course, one after the other, knitted in this direction.
+fn course(
+    alloc: Global,
+    reads: &mut Reads,
+    dir: Dir,
+    first: i16,
+    second: i16,
+) -> Result<(), NoMemory>
+    requires few { length reads.old < 90 }
+    requires racks { All IsRackWithin reads.old }
+    ensures racks { OnOk result (All IsRackWithin reads.new) }
+    ensures two { OnOk result (length reads.new ≡ length reads.old + 2) }
+{
+    let yarn = yarns(alloc)?;
+    let other = yarns(alloc)?;
+    line(reads, Instr::Knit(dir, needle(Bed::Front, first), yarn))?;
+    line(reads, Instr::Knit(dir, needle(Bed::Front, second), other))
+}
+
 #[test]
 fn rows_there_and_back_and_a_transfer(rt: HostRuntime) -> Result<(), Fail> {
     let alloc = rt.alloc();
     let mut reads = Reads::new(alloc);
     line(&mut reads, Instr::CarryIn(yarns(alloc)?))?;
-    line(
-        &mut reads,
-        Instr::Knit(Dir::Right, needle(Bed::Front, 1), yarns(alloc)?),
-    )?;
-    line(
-        &mut reads,
-        Instr::Knit(Dir::Right, needle(Bed::Front, 2), yarns(alloc)?),
-    )?;
-    line(
-        &mut reads,
-        Instr::Knit(Dir::Left, needle(Bed::Front, 2), yarns(alloc)?),
-    )?;
-    line(
-        &mut reads,
-        Instr::Knit(Dir::Left, needle(Bed::Front, 1), yarns(alloc)?),
-    )?;
+    course(alloc, &mut reads, Dir::Right, 1, 2)?;
+    course(alloc, &mut reads, Dir::Left, 2, 1)?;
     line(
         &mut reads,
         Instr::Xfer(needle(Bed::Front, 1), needle(Bed::Back, 1)),

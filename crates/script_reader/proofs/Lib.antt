@@ -2,6 +2,6 @@ pub mod Texts
 pub mod Walks
 pub mod Steps
 pub mod Sessions
-pub mod Grown
-pub mod Spelled
-pub mod Answered
+pub mod LawfulScripts
+pub mod Runs
+pub mod Scripts

@@ -4,7 +4,7 @@ use Rattle.std.proofs.lemmas.Bool.{lt-ltb}
 use Rattle.std.proofs.lemmas.List.{drop_more, drop_all, length-drop}
 use Rattle.std.proofs.lemmas.List.Sums.{sum_by_push}
 use Rattle.script_reader.specs.Reading.{command_of, command_in_front, behind_command, script_of, with_statement, unless, walk, reading, behind_texts, texts_in_front, IsErr, IsHeading, BeginWithHeading, BeginWithSession}
-use Rattle.script_reader.specs.Script.{adds_in, adds_of, head_in, takes_text, last_takes_text, cause_of, command_cause, names_known}
+use Rattle.script_reader.specs.Script.{adds_in, adds_of, command_line_in, takes_text, last_takes_text, cause_of, command_cause, names_known}
 use Rattle.script_reader.specs.Statements.{said, kind_of, is_live}
 use Rattle.script_reader.specs.declared.command.Command as declared
 use Rattle.script_reader.specs.declared.command.Script.{Script}
@@ -12,31 +12,31 @@ use Rattle.script_reader.specs.declared.fault.Cause.{Cause}
 use Rattle.script_reader.specs.declared.fault.Cause.TheVariants.{NoLive, BadLine, ManySessions, NoOwn}
 use Rattle.script_reader.specs.declared.fault.ScriptFault.{ScriptFault}
 use Rattle.script_reader.specs.declared.fault.ScriptFault.TheVariants.{At}
-use Rattle.script_reader.specs.declared.line.Head.{Head}
-use Rattle.script_reader.specs.declared.line.Head.TheVariants as head
+use Rattle.script_reader.specs.declared.line.CommandLine.{CommandLine}
+use Rattle.script_reader.specs.declared.line.CommandLine.TheVariants as command_lines
 use Rattle.script_reader.specs.declared.line.Kind.{Kind}
 use Rattle.script_reader.specs.declared.line.Kind.TheVariants as kind
-use Rattle.script_reader.proofs.Walks.{walk_line, writing, on_last-snoc, last_session-snoc, last_takes-snoc, text_cause-snoc, head_of_command, walk_read, walk_opening, behind_is_heading}
+use Rattle.script_reader.proofs.Walks.{walk_line, writing, on_last-snoc, last_session-snoc, last_takes-snoc, text_cause-snoc, line_of_command, walk_read, walk_opening, behind_is_heading}
 
 -- why a command can't stand behind the last of these sessions
-pub command_cause-snoc : (done : List (List declared.Command)) (session : List declared.Command) (h : Head) → command_cause (done ++ session ∷ []) h ≡ cond (names_known (adds_in session) h) None (Some NoOwn)
+pub command_cause-snoc : (done : List (List declared.Command)) (session : List declared.Command) (h : CommandLine) → command_cause (done ++ session ∷ []) h ≡ cond (names_known (adds_in session) h) None (Some NoOwn)
 command_cause-snoc [] session h = refl
 command_cause-snoc (s ∷ ss) session h = ap (λ (l : List declared.Command). cond (names_known (adds_in l) h) None (Some NoOwn)) (last_session-snoc (s ∷ ss) session)
 
-front_head : (h : Head) (lines : List (List ℕ)) → head_in (command_in_front h lines) ≡ h
-front_head h lines = head_of_command h (cond (takes_text h) (texts_in_front lines) [])
+front_line : (h : CommandLine) (lines : List (List ℕ)) → command_line_in (command_in_front h lines) ≡ h
+front_line h lines = line_of_command h (cond (takes_text h) (texts_in_front lines) [])
 
-pub adds-snoc : (commands : List declared.Command) (command : declared.Command) (h : Head) → head_in command ≡ h → adds_in (commands ++ command ∷ []) ≡ adds_in commands + adds_of h
+pub adds-snoc : (commands : List declared.Command) (command : declared.Command) (h : CommandLine) → command_line_in command ≡ h → adds_in (commands ++ command ∷ []) ≡ adds_in commands + adds_of h
 adds-snoc commands command h is =
-    sum_by_push (λ c. adds_of (head_in c)) commands command ∙ ap (λ n. adds_in commands + n) (ap adds_of is)
+    sum_by_push (λ c. adds_of (command_line_in c)) commands command ∙ ap (λ n. adds_in commands + n) (ap adds_of is)
 
-few_adds : (h : Head) → adds_of h ≤ 1
-few_adds (head.Look name) = omega arith
-few_adds (head.Put name) = omega arith
-few_adds (head.Add place) = omega arith
-few_adds (head.Cut name) = omega arith
-few_adds (head.LoopAt line) = omega arith
-few_adds head.Verdict = omega arith
+few_adds : (h : CommandLine) → adds_of h ≤ 1
+few_adds (command_lines.Look name) = omega arith
+few_adds (command_lines.Put name) = omega arith
+few_adds (command_lines.Add place) = omega arith
+few_adds (command_lines.Cut name) = omega arith
+few_adds (command_lines.LoopAt line) = omega arith
+few_adds command_lines.Verdict = omega arith
 
 -- the commands of a session that were read from these lines, up to the place `at`
 pub record CommandsSoFar (lines : List (List ℕ)) (start at : ℕ) (commands : List declared.Command) (adds : ℕ) : Type 0 where
@@ -105,17 +105,17 @@ module _ (lines : List (List ℕ)) (at : ℕ) (within : at < length lines) where
         (λ heading. absurd (subst IsHeading is (heading_here heading)))
         s.next
 
-    pub unknown_stops : (h : Head) → kind_of this ≡ kind.Command h → names_known adds h ≡ false → (text : List (List ℕ)) (done : List (List declared.Command)) → walk (length lines) (script_of text (done ++ [] ∷ [])) (drop start lines) ≡ Err (At (at + 1) NoOwn)
+    pub unknown_stops : (h : CommandLine) → kind_of this ≡ kind.Command h → names_known adds h ≡ false → (text : List (List ℕ)) (done : List (List declared.Command)) → walk (length lines) (script_of text (done ++ [] ∷ [])) (drop start lines) ≡ Err (At (at + 1) NoOwn)
     unknown_stops h is unknown = stops NoOwn (kind.Command h) is
         (λ text done. command_cause-snoc done commands h ∙ ap (λ n. cond (names_known n h) None (Some NoOwn)) (sym s.counted) ∙ ap (λ b. cond b None (Some NoOwn)) unknown)
 
-    pub command_more : (h : Head) (command : declared.Command) (next : ℕ) → kind_of this ≡ kind.Command h → names_known adds h ≡ true
+    pub command_more : (h : CommandLine) (command : declared.Command) (next : ℕ) → kind_of this ≡ kind.Command h → names_known adds h ≡ true
         → command ≡ command_in_front h (drop (at + 1) lines) → drop next lines ≡ behind_command h (drop (at + 1) lines) → at + 1 ≤ next → next ≤ length lines
         → CommandsSoFar lines start next (commands ++ command ∷ []) (adds + adds_of h)
     command_more h command next is known command_is rest_is low high = record {
       low = let before = s.low in omega arith;
       high = high;
-      counted = ap (λ n. n + adds_of h) s.counted ∙ sym (adds-snoc commands command h head_is);
+      counted = ap (λ n. n + adds_of h) s.counted ∙ sym (adds-snoc commands command h line_is);
       few = let few = s.few in omega (arith, few_adds h);
       short = let short = s.short in omega (arith, length-append commands (command ∷ []));
       next = ends (takes_text h) refl;
@@ -128,11 +128,11 @@ module _ (lines : List (List ℕ)) (at : ℕ) (within : at < length lines) where
           ∙ ap (λ (p : List (List ℕ) × declared.Command). walk (length lines) (script_of text (done ++ (commands ++ p.1 ∷ []) ∷ [])) p.0) (λ i. (sym rest_is i, sym command_is i));
     }
       where
-        head_is : head_in command ≡ h
-        head_is = ap head_in command_is ∙ front_head h (drop (at + 1) lines)
+        line_is : command_line_in command ≡ h
+        line_is = ap command_line_in command_is ∙ front_line h (drop (at + 1) lines)
 
         ends : (b : Bool) → takes_text h ≡ b → (last_takes_text (commands ++ command ∷ []) ≡ false) ⊎ BeginWithHeading (drop next lines)
-        ends false none = inl (last_takes-snoc commands command ∙ ap takes_text head_is ∙ none)
+        ends false none = inl (last_takes-snoc commands command ∙ ap takes_text line_is ∙ none)
         ends true takes = inr (subst BeginWithHeading (sym (rest_is ∙ ap (λ b. cond b (behind_texts (drop (at + 1) lines)) (drop (at + 1) lines)) takes)) (behind_is_heading (drop (at + 1) lines)))
 
 pub all_read : (lines : List (List ℕ)) (at : ℕ) → length lines ≤ at → BeginWithSession (drop at lines)
@@ -172,7 +172,7 @@ module _ (lines : List (List ℕ)) (at : ℕ) (within : at < length lines) (star
   heading_bad text kind.Skipped isnt h = absurd h
   heading_bad text kind.Text isnt h = absurd h
   heading_bad text kind.Session isnt h = absurd (isnt refl)
-  heading_bad text (kind.Command head) isnt h = refl
+  heading_bad text (kind.Command command_line) isnt h = refl
   heading_bad text kind.Other isnt h = refl
 
   pub no_session_stops : kind_of here ≢ kind.Session → (text : List (List ℕ)) → walk (length lines) (script_of text []) (drop start lines) ≡ Err (At (at + 1) BadLine)

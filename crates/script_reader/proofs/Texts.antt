@@ -5,9 +5,9 @@ use Rattle.std.proofs.lemmas.List.Elements.{All-drop}
 use Rattle.std.proofs.lemmas.Slice.Eq.{bytes_eq-Decides}
 use Rattle.std.proofs.lemmas.Str.{IsUtf8-from_is_utf8, is_utf8-from_IsUtf8, IsUtf8-drop, IsCharBoundary-after_ascii}
 use Rattle.knit_base.specs.Lines.{IsLine}
-use Rattle.script_reader.specs.Statements.{is_skipped, is_text_line, kind_of, kind_of_words, head_of}
-use Rattle.script_reader.specs.declared.line.Head.{Head}
-use Rattle.script_reader.specs.declared.line.Head.TheVariants.{Verdict}
+use Rattle.script_reader.specs.Statements.{is_skipped, is_text_line, kind_of, kind_of_words, command_line_of}
+use Rattle.script_reader.specs.declared.line.CommandLine.{CommandLine}
+use Rattle.script_reader.specs.declared.line.CommandLine.TheVariants.{Verdict}
 use Rattle.script_reader.specs.declared.line.Kind.TheVariants as kind
 use Rattle.knitout_reader.specs.Tokens.{tokens_of}
 use Rattle.std.specs.Option.{option_map_or}
@@ -31,14 +31,14 @@ one_word_no_text true b is = cc
 one_word_no_text false true is = cc
 one_word_no_text false false is = cc
 
-two_words_no_text : (o : Option Head) → option_map_or kind.Command o kind.Other ≡ kind.Text → ⊥
+two_words_no_text : (o : Option CommandLine) → option_map_or kind.Command o kind.Other ≡ kind.Text → ⊥
 two_words_no_text None is = cc
 two_words_no_text (Some h) is = cc
 
 words_no_text : (words : List (List ℕ)) → kind_of_words words ≡ kind.Text → ⊥
 words_no_text [] is = cc
 words_no_text (word ∷ []) is = one_word_no_text (bytes_eq word (codes "session")) (bytes_eq word (codes "verdict")) is
-words_no_text (word ∷ operand ∷ []) is = two_words_no_text (head_of word operand) is
+words_no_text (word ∷ operand ∷ []) is = two_words_no_text (command_line_of word operand) is
 words_no_text (word ∷ operand ∷ more ∷ words) is = cc
 
 -- a text line is what its first byte says

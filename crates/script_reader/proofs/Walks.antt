@@ -1,13 +1,13 @@
 -- How the walk goes over text lines and commands.
 use Rattle.std.proofs.Common.{◌≡◌, ℕ, ◌-◌, Bool, true, false, cond, List, [], ◌∷◌, ◌++◌, length, drop, Some, None, Ok, sym, ap, ◌∙◌, refl, subst, append_assoc, append-nil}
 use Rattle.script_reader.specs.Reading.{command_of, longer, on_last, script_of, with_text, with_statement, unless, walk, texts_in_front, text_before, behind_texts, rest_from, command_in_front, behind_command, IsHeading, BeginWithHeading}
-use Rattle.script_reader.specs.Script.{head_in, takes_text, last_takes_text, last_session, cause_of, text_cause}
+use Rattle.script_reader.specs.Script.{command_line_in, takes_text, last_takes_text, last_session, cause_of, text_cause}
 use Rattle.script_reader.specs.Statements.{said, kind_of}
 use Rattle.script_reader.specs.declared.command.Command as declared
 use Rattle.script_reader.specs.declared.command.Script.{Script}
 use Rattle.script_reader.specs.declared.fault.Cause.TheVariants.{BadLine}
-use Rattle.script_reader.specs.declared.line.Head.{Head}
-use Rattle.script_reader.specs.declared.line.Head.TheVariants as head
+use Rattle.script_reader.specs.declared.line.CommandLine.{CommandLine}
+use Rattle.script_reader.specs.declared.line.CommandLine.TheVariants as command_lines
 use Rattle.script_reader.specs.declared.line.Kind.{Kind}
 use Rattle.script_reader.specs.declared.line.Kind.TheVariants as kind
 
@@ -27,7 +27,7 @@ last_session-snoc [] session = refl
 last_session-snoc (s ∷ []) session = refl
 last_session-snoc (s ∷ t ∷ ss) session = last_session-snoc (t ∷ ss) session
 
-pub last_takes-snoc : (commands : List declared.Command) (command : declared.Command) → last_takes_text (commands ++ command ∷ []) ≡ takes_text (head_in command)
+pub last_takes-snoc : (commands : List declared.Command) (command : declared.Command) → last_takes_text (commands ++ command ∷ []) ≡ takes_text (command_line_in command)
 last_takes-snoc [] command = refl
 last_takes-snoc (c ∷ []) command = refl
 last_takes-snoc (c ∷ d ∷ cs) command = last_takes-snoc (d ∷ cs) command
@@ -41,40 +41,40 @@ pub with_text-snoc : (text : List (List ℕ)) (done : List (List declared.Comman
 with_text-snoc text [] session line = refl
 with_text-snoc text (s ∷ ss) session line = ap (script_of text) (on_last-snoc (on_last (longer line)) (s ∷ ss) session)
 
-pub head_of_command : (h : Head) (text : List (List ℕ)) → head_in (command_of h text) ≡ h
-head_of_command (head.Look name) text = refl
-head_of_command (head.Put name) text = refl
-head_of_command (head.Add place) text = refl
-head_of_command (head.Cut name) text = refl
-head_of_command (head.LoopAt line) text = refl
-head_of_command head.Verdict text = refl
+pub line_of_command : (h : CommandLine) (text : List (List ℕ)) → command_line_in (command_of h text) ≡ h
+line_of_command (command_lines.Look name) text = refl
+line_of_command (command_lines.Put name) text = refl
+line_of_command (command_lines.Add place) text = refl
+line_of_command (command_lines.Cut name) text = refl
+line_of_command (command_lines.LoopAt line) text = refl
+line_of_command command_lines.Verdict text = refl
 
-pub longer-command : (h : Head) (text : List (List ℕ)) (line : List ℕ) → takes_text h ≡ true → longer line (command_of h text) ≡ command_of h (text ++ line ∷ [])
-longer-command (head.Look name) text line takes = absurd (cc)
-longer-command (head.Put name) text line takes = refl
-longer-command (head.Add place) text line takes = refl
-longer-command (head.Cut name) text line takes = absurd (cc)
-longer-command (head.LoopAt at) text line takes = absurd (cc)
-longer-command head.Verdict text line takes = absurd (cc)
+pub longer-command : (h : CommandLine) (text : List (List ℕ)) (line : List ℕ) → takes_text h ≡ true → longer line (command_of h text) ≡ command_of h (text ++ line ∷ [])
+longer-command (command_lines.Look name) text line takes = absurd (cc)
+longer-command (command_lines.Put name) text line takes = refl
+longer-command (command_lines.Add place) text line takes = refl
+longer-command (command_lines.Cut name) text line takes = absurd (cc)
+longer-command (command_lines.LoopAt at) text line takes = absurd (cc)
+longer-command command_lines.Verdict text line takes = absurd (cc)
 
 -- the script of an open command
-abbrev pub writing : List (List ℕ) → List (List declared.Command) → List declared.Command → Head → List (List ℕ) → Script
+abbrev pub writing : List (List ℕ) → List (List declared.Command) → List declared.Command → CommandLine → List (List ℕ) → Script
 writing text done commands h lines = script_of text (done ++ (commands ++ command_of h lines ∷ []) ∷ [])
 
-pub writing-cause : (text : List (List ℕ)) (done : List (List declared.Command)) (commands : List declared.Command) (h : Head) (lines : List (List ℕ)) → takes_text h ≡ true
+pub writing-cause : (text : List (List ℕ)) (done : List (List declared.Command)) (commands : List declared.Command) (h : CommandLine) (lines : List (List ℕ)) → takes_text h ≡ true
     → text_cause (done ++ (commands ++ command_of h lines ∷ []) ∷ []) ≡ None
 writing-cause text done commands h lines takes =
     text_cause-snoc done (commands ++ command_of h lines ∷ [])
-    ∙ ap (λ b. cond b None (Some BadLine)) (last_takes-snoc commands (command_of h lines) ∙ ap takes_text (head_of_command h lines) ∙ takes)
+    ∙ ap (λ b. cond b None (Some BadLine)) (last_takes-snoc commands (command_of h lines) ∙ ap takes_text (line_of_command h lines) ∙ takes)
 
-pub writing-text : (text : List (List ℕ)) (done : List (List declared.Command)) (commands : List declared.Command) (h : Head) (lines : List (List ℕ)) (line : List ℕ) → takes_text h ≡ true
+pub writing-text : (text : List (List ℕ)) (done : List (List declared.Command)) (commands : List declared.Command) (h : CommandLine) (lines : List (List ℕ)) (line : List ℕ) → takes_text h ≡ true
     → with_text text (done ++ (commands ++ command_of h lines ∷ []) ∷ []) line ≡ writing text done commands h (lines ++ line ∷ [])
 writing-text text done commands h lines line takes =
     with_text-snoc text done (commands ++ command_of h lines ∷ []) line
     ∙ ap (λ (cs : List declared.Command). script_of text (done ++ cs ∷ [])) (on_last-snoc (longer line) commands (command_of h lines) ∙ ap (λ (c : declared.Command). commands ++ c ∷ []) (longer-command h lines line takes))
 
 -- over the text lines of a command
-pub walk_command : (count : ℕ) (text : List (List ℕ)) (done : List (List declared.Command)) (commands : List declared.Command) (h : Head) (so_far lines : List (List ℕ)) → takes_text h ≡ true
+pub walk_command : (count : ℕ) (text : List (List ℕ)) (done : List (List declared.Command)) (commands : List declared.Command) (h : CommandLine) (so_far lines : List (List ℕ)) → takes_text h ≡ true
     → walk count (writing text done commands h so_far) lines ≡ walk count (writing text done commands h (so_far ++ texts_in_front lines)) (behind_texts lines)
 walk_command count text done commands h so_far [] takes = ap (λ (l : List (List ℕ)). Ok (writing text done commands h l)) (sym (append-nil so_far))
 walk_command count text done commands h so_far (line ∷ lines) takes = go (λ l. walk_command count text done commands h l lines takes) (kind_of line) refl
@@ -93,7 +93,7 @@ walk_command count text done commands h so_far (line ∷ lines) takes = go (λ l
         ∙ rest (so_far ++ drop 1 line ∷ [])
         ∙ ap (λ (l : List (List ℕ)). walk count (writing text done commands h l) (behind_texts lines)) (append_assoc so_far (drop 1 line ∷ []) (texts_in_front lines))
     go rest kind.Session is = stays kind.Session is
-    go rest (kind.Command head) is = stays (kind.Command head) is
+    go rest (kind.Command command_line) is = stays (kind.Command command_line) is
     go rest kind.Other is = stays kind.Other is
 
 -- over the opening text
@@ -113,11 +113,11 @@ walk_opening count so_far (line ∷ lines) = go (λ l. walk_opening count l line
         ∙ rest (so_far ++ drop 1 line ∷ [])
         ∙ ap (λ (l : List (List ℕ)). walk count (script_of l []) (behind_texts lines)) (append_assoc so_far (drop 1 line ∷ []) (texts_in_front lines))
     go rest kind.Session is = stays
-    go rest (kind.Command head) is = stays
+    go rest (kind.Command command_line) is = stays
     go rest kind.Other is = stays
 
 -- over a command and its text
-pub walk_read : (count : ℕ) (text : List (List ℕ)) (done : List (List declared.Command)) (commands : List declared.Command) (h : Head) (lines : List (List ℕ))
+pub walk_read : (count : ℕ) (text : List (List ℕ)) (done : List (List declared.Command)) (commands : List declared.Command) (h : CommandLine) (lines : List (List ℕ))
     → walk count (writing text done commands h []) lines ≡ walk count (script_of text (done ++ (commands ++ command_in_front h lines ∷ []) ∷ [])) (behind_command h lines)
 walk_read count text done commands h lines = go (takes_text h) refl
   where
@@ -135,5 +135,5 @@ behind_is_heading (line ∷ lines) = go (behind_is_heading lines) (kind_of line)
     go rest kind.Skipped is = rest
     go rest kind.Text is = rest
     go rest kind.Session is = subst IsHeading (sym is) tt
-    go rest (kind.Command head) is = subst IsHeading (sym is) tt
+    go rest (kind.Command command_line) is = subst IsHeading (sym is) tt
     go rest kind.Other is = subst IsHeading (sym is) tt

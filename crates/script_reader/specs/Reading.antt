@@ -9,19 +9,19 @@ use Rattle.script_reader.specs.declared.fault.Cause.{Cause}
 use Rattle.script_reader.specs.declared.fault.Cause.TheVariants.{NoLive}
 use Rattle.script_reader.specs.declared.fault.ScriptFault.{ScriptFault}
 use Rattle.script_reader.specs.declared.fault.ScriptFault.TheVariants.{At, NoMemory}
-use Rattle.script_reader.specs.declared.line.Head.{Head}
-use Rattle.script_reader.specs.declared.line.Head.TheVariants as head
+use Rattle.script_reader.specs.declared.line.CommandLine.{CommandLine}
+use Rattle.script_reader.specs.declared.line.CommandLine.TheVariants as command_lines
 use Rattle.script_reader.specs.declared.line.Kind.{Kind}
 use Rattle.script_reader.specs.declared.line.Kind.TheVariants as kind
 
 -- the command of a line and a text; a command that takes none has none
-abbrev pub command_of : Head → List (List ℕ) → declared.Command
-command_of (head.Look name) text = command.Look name
-command_of (head.Put name) text = command.Put name text
-command_of (head.Add place) text = command.Add place text
-command_of (head.Cut name) text = command.Cut name
-command_of (head.LoopAt line) text = command.LoopAt line
-command_of head.Verdict text = command.Verdict
+abbrev pub command_of : CommandLine → List (List ℕ) → declared.Command
+command_of (command_lines.Look name) text = command.Look name
+command_of (command_lines.Put name) text = command.Put name text
+command_of (command_lines.Add place) text = command.Add place text
+command_of (command_lines.Cut name) text = command.Cut name
+command_of (command_lines.LoopAt line) text = command.LoopAt line
+command_of command_lines.Verdict text = command.Verdict
 
 -- with one more line of text
 abbrev pub longer : List ℕ → declared.Command → declared.Command
@@ -50,7 +50,7 @@ abbrev pub with_statement : Script → Statement → Script
 with_statement script Nothing = script
 with_statement script (Text line) = with_text script.text script.sessions line
 with_statement script Session = script_of script.text (script.sessions ++ [] ∷ [])
-with_statement script (Command head) = script_of script.text (on_last (λ commands. commands ++ command_of head [] ∷ []) script.sessions)
+with_statement script (Command command_line) = script_of script.text (on_last (λ commands. commands ++ command_of command_line [] ∷ []) script.sessions)
 with_statement script Nonsense = script
 
 -- refused at the line with this number, if there is a cause
@@ -77,7 +77,7 @@ abbrev pub text_before : Kind → List ℕ → List (List ℕ) → List (List �
 text_before kind.Skipped line texts = texts
 text_before kind.Text line texts = drop 1 line ∷ texts
 text_before kind.Session line texts = []
-text_before (kind.Command head) line texts = []
+text_before (kind.Command command_line) line texts = []
 text_before kind.Other line texts = []
 
 abbrev pub texts_in_front : List (List ℕ) → List (List ℕ)
@@ -89,7 +89,7 @@ abbrev pub rest_from : Kind → List (List ℕ) → List (List ℕ) → List (Li
 rest_from kind.Skipped here rest = rest
 rest_from kind.Text here rest = rest
 rest_from kind.Session here rest = here
-rest_from (kind.Command head) here rest = here
+rest_from (kind.Command command_line) here rest = here
 rest_from kind.Other here rest = here
 
 abbrev pub behind_texts : List (List ℕ) → List (List ℕ)
@@ -97,18 +97,18 @@ behind_texts [] = []
 behind_texts (line ∷ lines) = rest_from (kind_of line) (line ∷ lines) (behind_texts lines)
 
 -- the command whose line stands before these lines, and what stands behind it
-abbrev pub command_in_front : Head → List (List ℕ) → declared.Command
-command_in_front head lines = command_of head (if takes_text head then texts_in_front lines else [])
+abbrev pub command_in_front : CommandLine → List (List ℕ) → declared.Command
+command_in_front command_line lines = command_of command_line (if takes_text command_line then texts_in_front lines else [])
 
-abbrev pub behind_command : Head → List (List ℕ) → List (List ℕ)
-behind_command head lines = if takes_text head then behind_texts lines else lines
+abbrev pub behind_command : CommandLine → List (List ℕ) → List (List ℕ)
+behind_command command_line lines = if takes_text command_line then behind_texts lines else lines
 
 -- the line is neither a text nor skipped
 abbrev pub IsHeading : Kind → Type 0
 IsHeading kind.Skipped = ⊥
 IsHeading kind.Text = ⊥
 IsHeading kind.Session = Unit {0}
-IsHeading (kind.Command head) = Unit {0}
+IsHeading (kind.Command command_line) = Unit {0}
 IsHeading kind.Other = Unit {0}
 
 -- the first of the lines, if there is one, is neither

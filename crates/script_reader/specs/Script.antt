@@ -16,17 +16,17 @@ use Rattle.script_reader.specs.declared.fault.Cause.{Cause}
 use Rattle.script_reader.specs.declared.fault.Cause.TheVariants.{NoLive, BadLine, ManySessions, NoOwn}
 use Rattle.script_reader.specs.declared.fault.ScriptFault.{ScriptFault}
 use Rattle.script_reader.specs.declared.fault.ScriptFault.TheVariants.{At, NoMemory}
-use Rattle.script_reader.specs.declared.line.Head.{Head}
-use Rattle.script_reader.specs.declared.line.Head.TheVariants as head
+use Rattle.script_reader.specs.declared.line.CommandLine.{CommandLine}
+use Rattle.script_reader.specs.declared.line.CommandLine.TheVariants as command_lines
 
 -- the line of a command
-abbrev pub head_in : declared.Command → Head
-head_in (command.Look name) = head.Look name
-head_in (command.Put name text) = head.Put name
-head_in (command.Add place text) = head.Add place
-head_in (command.Cut name) = head.Cut name
-head_in (command.LoopAt line) = head.LoopAt line
-head_in command.Verdict = head.Verdict
+abbrev pub command_line_in : declared.Command → CommandLine
+command_line_in (command.Look name) = command_lines.Look name
+command_line_in (command.Put name text) = command_lines.Put name
+command_line_in (command.Add place text) = command_lines.Add place
+command_line_in (command.Cut name) = command_lines.Cut name
+command_line_in (command.LoopAt line) = command_lines.LoopAt line
+command_line_in command.Verdict = command_lines.Verdict
 
 -- and its text
 abbrev pub text_in : declared.Command → List (List ℕ)
@@ -39,7 +39,7 @@ text_in command.Verdict = []
 
 -- a command is its line, and the lines of its text
 abbrev pub command_statements : declared.Command → List Statement
-command_statements command = Command (head_in command) ∷ map Text (text_in command)
+command_statements command = Command (command_line_in command) ∷ map Text (text_in command)
 
 -- a session is the line `session`, and its commands
 abbrev pub session_statements : List declared.Command → List Statement
@@ -53,7 +53,7 @@ abbrev pub says_something : Statement → Bool
 says_something Nothing = false
 says_something (Text text) = true
 says_something Session = true
-says_something (Command head) = true
+says_something (Command command_line) = true
 says_something Nonsense = true
 
 -- the name is an id, or that of an add command among so many
@@ -66,31 +66,31 @@ is_known_place adds Start = true
 is_known_place adds (After name) = is_known adds name
 
 -- the command names a block that can have been made, behind so many add commands of its session
-abbrev pub names_known : ℕ → Head → Bool
-names_known adds (head.Look name) = is_known adds name
-names_known adds (head.Put name) = is_known adds name
-names_known adds (head.Add place) = is_known_place adds place
-names_known adds (head.Cut name) = is_known adds name
-names_known adds (head.LoopAt line) = true
-names_known adds head.Verdict = true
+abbrev pub names_known : ℕ → CommandLine → Bool
+names_known adds (command_lines.Look name) = is_known adds name
+names_known adds (command_lines.Put name) = is_known adds name
+names_known adds (command_lines.Add place) = is_known_place adds place
+names_known adds (command_lines.Cut name) = is_known adds name
+names_known adds (command_lines.LoopAt line) = true
+names_known adds command_lines.Verdict = true
 
 -- one for an add command
-abbrev pub adds_of : Head → ℕ
-adds_of (head.Look name) = 0
-adds_of (head.Put name) = 0
-adds_of (head.Add place) = 1
-adds_of (head.Cut name) = 0
-adds_of (head.LoopAt line) = 0
-adds_of head.Verdict = 0
+abbrev pub adds_of : CommandLine → ℕ
+adds_of (command_lines.Look name) = 0
+adds_of (command_lines.Put name) = 0
+adds_of (command_lines.Add place) = 1
+adds_of (command_lines.Cut name) = 0
+adds_of (command_lines.LoopAt line) = 0
+adds_of command_lines.Verdict = 0
 
 -- how many add commands there are
 abbrev pub adds_in : List declared.Command → ℕ
-adds_in commands = sum_by (λ command. adds_of (head_in command)) commands
+adds_in commands = sum_by (λ command. adds_of (command_line_in command)) commands
 
 -- each command names blocks of add commands before it
 abbrev pub all_known : ℕ → List declared.Command → Bool
 all_known adds [] = true
-all_known adds (command ∷ commands) = names_known adds (head_in command) && all_known (adds + adds_of (head_in command)) commands
+all_known adds (command ∷ commands) = names_known adds (command_line_in command) && all_known (adds + adds_of (command_line_in command)) commands
 
 -- the lines spell this script
 pub record Spells (first : List ℕ) (lines : List (List ℕ)) (script : Script) : Type 0 where
@@ -105,18 +105,18 @@ IsScript [] script = ⊥
 IsScript (first ∷ lines) script = Spells first lines script
 
 -- text lines may stand behind the command
-abbrev pub takes_text : Head → Bool
-takes_text (head.Look name) = false
-takes_text (head.Put name) = true
-takes_text (head.Add place) = true
-takes_text (head.Cut name) = false
-takes_text (head.LoopAt line) = false
-takes_text head.Verdict = false
+abbrev pub takes_text : CommandLine → Bool
+takes_text (command_lines.Look name) = false
+takes_text (command_lines.Put name) = true
+takes_text (command_lines.Add place) = true
+takes_text (command_lines.Cut name) = false
+takes_text (command_lines.LoopAt line) = false
+takes_text command_lines.Verdict = false
 
 -- behind the last of the commands
 abbrev pub last_takes_text : List declared.Command → Bool
 last_takes_text [] = false
-last_takes_text (command ∷ []) = takes_text (head_in command)
+last_takes_text (command ∷ []) = takes_text (command_line_in command)
 last_takes_text (command ∷ next ∷ commands) = last_takes_text (next ∷ commands)
 
 abbrev pub last_session : List (List declared.Command) → List declared.Command
@@ -134,16 +134,16 @@ abbrev pub session_cause : List (List declared.Command) → Option Cause
 session_cause sessions = if nat_lt (length sessions) 64 then None else Some ManySessions
 
 -- why a command can't stand there: there is no session, or the name is that of an add command to come
-abbrev pub command_cause : List (List declared.Command) → Head → Option Cause
-command_cause [] head = Some BadLine
-command_cause (session ∷ sessions) head = if names_known (adds_in (last_session (session ∷ sessions))) head then None else Some NoOwn
+abbrev pub command_cause : List (List declared.Command) → CommandLine → Option Cause
+command_cause [] command_line = Some BadLine
+command_cause (session ∷ sessions) command_line = if names_known (adds_in (last_session (session ∷ sessions))) command_line then None else Some NoOwn
 
 -- why a line that says this can't stand behind the lines of the script
 abbrev pub cause_of : Script → Statement → Option Cause
 cause_of script Nothing = None
 cause_of script (Text text) = text_cause script.sessions
 cause_of script Session = session_cause script.sessions
-cause_of script (Command head) = command_cause script.sessions head
+cause_of script (Command command_line) = command_cause script.sessions command_line
 cause_of script Nonsense = Some BadLine
 
 -- no script begins with these lines

@@ -5,8 +5,8 @@ use Rattle.std.specs.Option.{option_map, option_map_or}
 use Rattle.std.specs.Str.{bytes_eq}
 use Rattle.knitout_reader.specs.Tokens.{is_blank, tokens_of}
 use Rattle.script_reader.specs.Words.{name_in, number_in, place_in}
-use Rattle.script_reader.specs.declared.line.Head.{Head}
-use Rattle.script_reader.specs.declared.line.Head.TheVariants.{Look, Put, Add, Cut, LoopAt, Verdict}
+use Rattle.script_reader.specs.declared.line.CommandLine.{CommandLine}
+use Rattle.script_reader.specs.declared.line.CommandLine.TheVariants.{Look, Put, Add, Cut, LoopAt, Verdict}
 use Rattle.script_reader.specs.declared.line.Kind.{Kind}
 use Rattle.script_reader.specs.declared.line.Kind.TheVariants as kind
 
@@ -29,8 +29,8 @@ abbrev pub is_text_line : List ℕ → Bool
 is_text_line line = starts_with nat_eq line (codes "|")
 
 -- the command of a line of two words
-abbrev pub head_of : List ℕ → List ℕ → Option Head
-head_of word operand =
+abbrev pub command_line_of : List ℕ → List ℕ → Option CommandLine
+command_line_of word operand =
     if bytes_eq word (codes "look") then option_map Look (name_in operand)
     else (if bytes_eq word (codes "put") then option_map Put (name_in operand)
     else (if bytes_eq word (codes "add") then option_map Add (place_in operand)
@@ -39,7 +39,7 @@ head_of word operand =
     else None))))
 
 abbrev pub kind_of_two : List ℕ → List ℕ → Kind
-kind_of_two word operand = option_map_or kind.Command (head_of word operand) kind.Other
+kind_of_two word operand = option_map_or kind.Command (command_line_of word operand) kind.Other
 
 abbrev pub kind_of_one : List ℕ → Kind
 kind_of_one word = if bytes_eq word (codes "session") then kind.Session else (if bytes_eq word (codes "verdict") then kind.Command Verdict else kind.Other)
@@ -58,14 +58,14 @@ pub data Statement : Type 0 where
   Nothing : Statement
   Text : List ℕ → Statement
   Session : Statement
-  Command : Head → Statement
+  Command : CommandLine → Statement
   Nonsense : Statement
 
 abbrev pub said : List ℕ → Kind → Statement
 said line kind.Skipped = Nothing
 said line kind.Text = Text (drop 1 line)
 said line kind.Session = Session
-said line (kind.Command head) = Command head
+said line (kind.Command command_line) = Command command_line
 said line kind.Other = Nonsense
 
 abbrev pub statement_of : List ℕ → Statement

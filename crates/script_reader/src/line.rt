@@ -2,7 +2,7 @@
 ghost use Rattle.std.specs.Prelude.{◌≡◌, true, drop};
 ghost use Rattle.knit_base.specs.Lines.{IsLine};
 ghost use Rattle.knitout_reader.specs.Tokens.{tokens_of};
-ghost use Rattle.script_reader.specs.Statements.{is_live, is_skipped, is_text_line, kind_of, kind_of_one, kind_of_two, head_of};
+ghost use Rattle.script_reader.specs.Statements.{is_live, is_skipped, is_text_line, kind_of, kind_of_one, kind_of_two, command_line_of};
 
 use crate::command::Place;
 use crate::words::{name, number, place};
@@ -29,7 +29,7 @@ const VERDICT: &[u8] = b"verdict";
 
 /// A command without its text.
 #[derive(Clone, Copy, Debug, PartialEq, Eq)]
-pub(crate) enum Head {
+pub(crate) enum CommandLine {
     Look(BlockName),
     Put(BlockName),
     Add(Place),
@@ -48,7 +48,7 @@ pub(crate) enum Kind {
     /// It begins a session.
     Session,
     /// It is a command line.
-    Command(Head),
+    Command(CommandLine),
     /// It is none of these.
     Other,
 }
@@ -111,7 +111,7 @@ fn one_word(word: &[u8]) -> Kind
         return Kind::Session;
     }
     if word == VERDICT {
-        return Kind::Command(Head::Verdict);
+        return Kind::Command(CommandLine::Verdict);
     }
     Kind::Other
 }
@@ -119,29 +119,29 @@ fn one_word(word: &[u8]) -> Kind
 fn two_words(word: &[u8], operand: &[u8]) -> Kind
     ensures { result ≡ kind_of_two word.now operand.now }
 {
-    match head_of(word, operand) {
-        Some(head) => Kind::Command(head),
+    match command_line_of(word, operand) {
+        Some(command_line) => Kind::Command(command_line),
         None => Kind::Other,
     }
 }
 
-fn head_of(word: &[u8], operand: &[u8]) -> Option<Head>
-    ensures { result ≡ head_of word.now operand.now }
+fn command_line_of(word: &[u8], operand: &[u8]) -> Option<CommandLine>
+    ensures { result ≡ command_line_of word.now operand.now }
 {
     if word == LOOK {
-        return Some(Head::Look(name(operand)?));
+        return Some(CommandLine::Look(name(operand)?));
     }
     if word == PUT {
-        return Some(Head::Put(name(operand)?));
+        return Some(CommandLine::Put(name(operand)?));
     }
     if word == ADD {
-        return Some(Head::Add(place(operand)?));
+        return Some(CommandLine::Add(place(operand)?));
     }
     if word == CUT {
-        return Some(Head::Cut(name(operand)?));
+        return Some(CommandLine::Cut(name(operand)?));
     }
     if word == LOOP {
-        return Some(Head::LoopAt(number(operand)?));
+        return Some(CommandLine::LoopAt(number(operand)?));
     }
     None
 }

@@ -7,7 +7,7 @@ ghost use Rattle.script_reader.specs.declared.command.Script.{Script};
 
 use crate::command::{Command, CommandList, Place, Script, SessionScripts};
 use crate::fault::{Cause, ScriptFault};
-use crate::line::{Head, Kind, is_live, kind_of, text_of};
+use crate::line::{CommandLine, Kind, is_live, kind_of, text_of};
 use edit_journal::BlockName;
 use knit_base::{Lines, ListOf, NoMemory};
 use knitout_reader::nth_line;
@@ -98,16 +98,16 @@ fn read_commands(
         match kind_of(nth_line(lines, at).as_bytes()) {
             Kind::Skipped => at += 1,
             Kind::Session => return Ok((commands, at)),
-            Kind::Command(head) => {
-                if !names_known(adds, head) {
+            Kind::Command(command_line) => {
+                if !names_known(adds, command_line) {
                     return Err(ScriptFault::At {
                         line: at + 1,
                         cause: Cause::NoOwn,
                     });
                 }
-                let (command, next) = read_command(alloc, head, lines, at + 1)?;
+                let (command, next) = read_command(alloc, command_line, lines, at + 1)?;
                 commands.push(command)?;
-                adds += adds_of(head);
+                adds += adds_of(command_line);
                 at = next;
             }
             Kind::Text | Kind::Other => {
@@ -124,28 +124,28 @@ fn read_commands(
 // The command with this line, whose text, if it takes one, begins here, and the place of the line behind it.
 fn read_command(
     alloc: Global,
-    head: Head,
+    command_line: CommandLine,
     lines: &Lines,
     start: u32,
 ) -> Result<(Command, u32), NoMemory>
     requires start { start ≤ length lines.now }
     ensures within { IfOk result (λ read. (start ≤ read.1) × (read.1 ≤ length lines.now)) }
-    ensures command { IfOk result (λ read. read.0 ≡ command_in_front head (drop start lines.now)) }
-    ensures behind { IfOk result (λ read. drop read.1 lines.now ≡ behind_command head (drop start lines.now)) }
+    ensures command { IfOk result (λ read. read.0 ≡ command_in_front command_line (drop start lines.now)) }
+    ensures behind { IfOk result (λ read. drop read.1 lines.now ≡ behind_command command_line (drop start lines.now)) }
 {
-    match head {
-        Head::Look(name) => Ok((Command::Look(name), start)),
-        Head::Put(name) => {
+    match command_line {
+        CommandLine::Look(name) => Ok((Command::Look(name), start)),
+        CommandLine::Put(name) => {
             let (text, next) = read_text(alloc, lines, start)?;
             Ok((Command::Put(name, text), next))
         }
-        Head::Add(place) => {
+        CommandLine::Add(place) => {
             let (text, next) = read_text(alloc, lines, start)?;
             Ok((Command::Add(place, text), next))
         }
-        Head::Cut(name) => Ok((Command::Cut(name), start)),
-        Head::LoopAt(line) => Ok((Command::LoopAt(line), start)),
-        Head::Verdict => Ok((Command::Verdict, start)),
+        CommandLine::Cut(name) => Ok((Command::Cut(name), start)),
+        CommandLine::LoopAt(line) => Ok((Command::LoopAt(line), start)),
+        CommandLine::Verdict => Ok((Command::Verdict, start)),
     }
 }
 
@@ -169,13 +169,13 @@ fn read_text(alloc: Global, lines: &Lines, start: u32) -> Result<(Lines, u32), N
 }
 
 // Whether a command names blocks that can have been made, behind so many add commands of its session.
-fn names_known(adds: u32, head: Head) -> bool
-    ensures { result ≡ names_known adds head }
+fn names_known(adds: u32, command_line: CommandLine) -> bool
+    ensures { result ≡ names_known adds command_line }
 {
-    match head {
-        Head::Look(name) | Head::Put(name) | Head::Cut(name) => is_known(adds, name),
-        Head::Add(Place::After(name)) => is_known(adds, name),
-        Head::Add(Place::Start) | Head::LoopAt(_) | Head::Verdict => true,
+    match command_line {
+        CommandLine::Look(name) | CommandLine::Put(name) | CommandLine::Cut(name) => is_known(adds, name),
+        CommandLine::Add(Place::After(name)) => is_known(adds, name),
+        CommandLine::Add(Place::Start) | CommandLine::LoopAt(_) | CommandLine::Verdict => true,
     }
 }
 
@@ -188,11 +188,11 @@ fn is_known(adds: u32, name: BlockName) -> bool
     }
 }
 
-fn adds_of(head: Head) -> u32
-    ensures { result ≡ adds_of head }
+fn adds_of(command_line: CommandLine) -> u32
+    ensures { result ≡ adds_of command_line }
 {
-    match head {
-        Head::Add(_) => 1,
+    match command_line {
+        CommandLine::Add(_) => 1,
         _ => 0,
     }
 }

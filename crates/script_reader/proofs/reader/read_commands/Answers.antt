@@ -6,17 +6,17 @@ use Rattle.script_reader.proofs.reader.read_commands.Goals as goal
 
 pub returns-then-not-names_known-clause-fault : goal.returns-then-not-names_known-clause-fault
 returns-then-not-names_known-clause-fault c =
-    unknown_stops c.args.lines.now c.loop-at.at (omega arith) c.args.start c.loop-at.commands c.loop-at.adds c.loop-at.invariant c.in-Command.head (cc) (cc)
+    unknown_stops c.args.lines.now c.loop-at.at (omega arith) c.args.start c.loop-at.commands c.loop-at.adds c.loop-at.invariant c.in-Command.command_line (cc) (cc)
 
 pub push-requires : goal.push-requires
 push-requires c = let short = c.loop-at.invariant.short in omega arith
 
 pub loop-at-preserved : goal.loop-at-preserved
 loop-at-preserved c =
-    let is : kind_of (get_or c.args.lines.now c.loop-at.at []) ≡ kind.Command c.in-Command.head = sym (c.in-Command.ensures ∙ ap kind_of (c.as_bytes.ensures.value ∙ c.nth_line.ensures.text)) in
+    let is : kind_of (get_or c.args.lines.now c.loop-at.at []) ≡ kind.Command c.in-Command.command_line = sym (c.in-Command.ensures ∙ ap kind_of (c.as_bytes.ensures.value ∙ c.nth_line.ensures.text)) in
     let read = c.in_ok-command-in-Command.ensures in
     rw (c.in_ok-push-in-Command.ensures.ok, c.adds_of-adds.ensures)
-    (command_more c.args.lines.now c.loop-at.at (omega arith) c.args.start c.loop-at.commands c.loop-at.adds c.loop-at.invariant c.in-Command.head c.in_ok-command-in-Command.command c.in_ok-command-in-Command.next is (cc)
+    (command_more c.args.lines.now c.loop-at.at (omega arith) c.args.start c.loop-at.commands c.loop-at.adds c.loop-at.invariant c.in-Command.command_line c.in_ok-command-in-Command.command c.in_ok-command-in-Command.next is (cc)
     read.command read.behind read.within.0 read.within.1)
 
 pub returns-in-Text-clause-fault : goal.returns-in-Text-clause-fault

@@ -1,5 +1,5 @@
 use Rattle.std.proofs.lemmas.Result.{IfOk-weaker, IfErr-weaker}
-use Rattle.script_reader.proofs.Answered.{is_script, only_script, is_refusal}
+use Rattle.script_reader.proofs.Scripts.{is_script, only_script, is_refusal}
 use Rattle.script_reader.proofs.reader.read_script.Goals as goal
 
 pub returns-clause-script : goal.returns-clause-script

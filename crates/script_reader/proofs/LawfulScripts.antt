@@ -6,15 +6,15 @@ use Rattle.std.proofs.lemmas.Grind.{flat_map-append}
 use Rattle.std.proofs.lemmas.List.{map-append}
 use Rattle.std.proofs.lemmas.List.Sums.{sum_by-cons}
 use Rattle.script_reader.specs.Reading.{command_of, longer, on_last, script_of, with_statement, unless, walk}
-use Rattle.script_reader.specs.Script.{statements, session_statements, command_statements, says_something, head_in, names_known, adds_of, adds_in, all_known, takes_text, last_takes_text, last_session, cause_of}
+use Rattle.script_reader.specs.Script.{statements, session_statements, command_statements, says_something, command_line_in, names_known, adds_of, adds_in, all_known, takes_text, last_takes_text, last_session, cause_of}
 use Rattle.script_reader.specs.Statements.{Statement, Nothing, Text, Session, Command, Nonsense, statement_of}
 use Rattle.script_reader.specs.declared.command.Command as declared
 use Rattle.script_reader.specs.declared.command.Command.TheVariants as command
 use Rattle.script_reader.specs.declared.command.Script.{Script}
 use Rattle.script_reader.specs.declared.fault.Cause.{Cause}
 use Rattle.script_reader.specs.declared.fault.Cause.TheVariants.{BadLine, ManySessions, NoOwn}
-use Rattle.script_reader.specs.declared.line.Head.{Head}
-use Rattle.script_reader.specs.declared.line.Head.TheVariants as head
+use Rattle.script_reader.specs.declared.line.CommandLine.{CommandLine}
+use Rattle.script_reader.specs.declared.line.CommandLine.TheVariants as command_lines
 
 pub record IsLawful (script : Script) : Type 0 where
   pub few : length script.sessions ≤ 64
@@ -72,12 +72,12 @@ ends_always : {A : Type 0} (P : A → Type 0) → ((x : A) → P x) → (x : A) 
 ends_always P always x [] = always x
 ends_always P always x (y ∷ ys) = ends_always P always y ys
 
-ends_taking : (commands : List declared.Command) → last_takes_text commands ≡ true → EndsWith (λ c. takes_text (head_in c) ≡ true) commands
+ends_taking : (commands : List declared.Command) → last_takes_text commands ≡ true → EndsWith (λ c. takes_text (command_line_in c) ≡ true) commands
 ends_taking [] takes = absurd (cc)
 ends_taking (c ∷ []) takes = takes
 ends_taking (c ∷ d ∷ cs) takes = ends_taking (d ∷ cs) takes
 
-longer_head : (line : List ℕ) (c : declared.Command) → head_in (longer line c) ≡ head_in c
+longer_head : (line : List ℕ) (c : declared.Command) → command_line_in (longer line c) ≡ command_line_in c
 longer_head line (command.Look name) = refl
 longer_head line (command.Put name text) = refl
 longer_head line (command.Add place text) = refl
@@ -85,10 +85,10 @@ longer_head line (command.Cut name) = refl
 longer_head line (command.LoopAt at) = refl
 longer_head line command.Verdict = refl
 
-longer_said : (line : List ℕ) (c : declared.Command) → takes_text (head_in c) ≡ true → command_statements (longer line c) ≡ command_statements c ++ Text line ∷ []
+longer_said : (line : List ℕ) (c : declared.Command) → takes_text (command_line_in c) ≡ true → command_statements (longer line c) ≡ command_statements c ++ Text line ∷ []
 longer_said line (command.Look name) takes = absurd (cc)
-longer_said line (command.Put name text) takes = ap (λ l. Command (head.Put name) ∷ l) (map-append Text text (line ∷ []))
-longer_said line (command.Add place text) takes = ap (λ l. Command (head.Add place) ∷ l) (map-append Text text (line ∷ []))
+longer_said line (command.Put name text) takes = ap (λ l. Command (command_lines.Put name) ∷ l) (map-append Text text (line ∷ []))
+longer_said line (command.Add place text) takes = ap (λ l. Command (command_lines.Add place) ∷ l) (map-append Text text (line ∷ []))
 longer_said line (command.Cut name) takes = absurd (cc)
 longer_said line (command.LoopAt at) takes = absurd (cc)
 longer_said line command.Verdict takes = absurd (cc)
@@ -96,33 +96,33 @@ longer_said line command.Verdict takes = absurd (cc)
 longer_known : (adds : ℕ) (line : List ℕ) (commands : List declared.Command) → all_known adds (on_last (longer line) commands) ≡ all_known adds commands
 longer_known adds line [] = refl
 longer_known adds line (c ∷ []) = ap (λ h. names_known adds h && true) (longer_head line c)
-longer_known adds line (c ∷ d ∷ cs) = ap (λ b. names_known adds (head_in c) && b) (longer_known (adds + adds_of (head_in c)) line (d ∷ cs))
+longer_known adds line (c ∷ d ∷ cs) = ap (λ b. names_known adds (command_line_in c) && b) (longer_known (adds + adds_of (command_line_in c)) line (d ∷ cs))
 
-known_snoc : (adds : ℕ) (commands : List declared.Command) (c : declared.Command) → all_known adds commands ≡ true → names_known (adds + adds_in commands) (head_in c) ≡ true → all_known adds (commands ++ c ∷ []) ≡ true
-known_snoc adds [] c all known = both_true (names_known adds (head_in c)) true (subst (λ n. names_known n (head_in c) ≡ true) (omega arith) known) refl
+known_snoc : (adds : ℕ) (commands : List declared.Command) (c : declared.Command) → all_known adds commands ≡ true → names_known (adds + adds_in commands) (command_line_in c) ≡ true → all_known adds (commands ++ c ∷ []) ≡ true
+known_snoc adds [] c all known = both_true (names_known adds (command_line_in c)) true (subst (λ n. names_known n (command_line_in c) ≡ true) (omega arith) known) refl
 known_snoc adds (d ∷ ds) c all known =
-    let count : adds + adds_in (d ∷ ds) ≡ adds + adds_of (head_in d) + adds_in ds = omega (arith, sum_by-cons (λ c. adds_of (head_in c)) d ds) in
-    both_true (names_known adds (head_in d)) (all_known (adds + adds_of (head_in d)) (ds ++ c ∷ []))
-    (first_true (names_known adds (head_in d)) (all_known (adds + adds_of (head_in d)) ds) all)
-    (known_snoc (adds + adds_of (head_in d)) ds c (second_true (names_known adds (head_in d)) (all_known (adds + adds_of (head_in d)) ds) all) (subst (λ n. names_known n (head_in c) ≡ true) count known))
+    let count : adds + adds_in (d ∷ ds) ≡ adds + adds_of (command_line_in d) + adds_in ds = omega (arith, sum_by-cons (λ c. adds_of (command_line_in c)) d ds) in
+    both_true (names_known adds (command_line_in d)) (all_known (adds + adds_of (command_line_in d)) (ds ++ c ∷ []))
+    (first_true (names_known adds (command_line_in d)) (all_known (adds + adds_of (command_line_in d)) ds) all)
+    (known_snoc (adds + adds_of (command_line_in d)) ds c (second_true (names_known adds (command_line_in d)) (all_known (adds + adds_of (command_line_in d)) ds) all) (subst (λ n. names_known n (command_line_in c) ≡ true) count known))
 
-bare_said : (h : Head) → command_statements (command_of h []) ≡ Command h ∷ []
-bare_said (head.Look name) = refl
-bare_said (head.Put name) = refl
-bare_said (head.Add place) = refl
-bare_said (head.Cut name) = refl
-bare_said (head.LoopAt line) = refl
-bare_said head.Verdict = refl
+bare_said : (h : CommandLine) → command_statements (command_of h []) ≡ Command h ∷ []
+bare_said (command_lines.Look name) = refl
+bare_said (command_lines.Put name) = refl
+bare_said (command_lines.Add place) = refl
+bare_said (command_lines.Cut name) = refl
+bare_said (command_lines.LoopAt line) = refl
+bare_said command_lines.Verdict = refl
 
-bare_head : (h : Head) → head_in (command_of h []) ≡ h
-bare_head (head.Look name) = refl
-bare_head (head.Put name) = refl
-bare_head (head.Add place) = refl
-bare_head (head.Cut name) = refl
-bare_head (head.LoopAt line) = refl
-bare_head head.Verdict = refl
+bare_line : (h : CommandLine) → command_line_in (command_of h []) ≡ h
+bare_line (command_lines.Look name) = refl
+bare_line (command_lines.Put name) = refl
+bare_line (command_lines.Add place) = refl
+bare_line (command_lines.Cut name) = refl
+bare_line (command_lines.LoopAt line) = refl
+bare_line command_lines.Verdict = refl
 
-session_more : (commands : List declared.Command) (h : Head) → session_statements (commands ++ command_of h [] ∷ []) ≡ session_statements commands ++ Command h ∷ []
+session_more : (commands : List declared.Command) (h : CommandLine) → session_statements (commands ++ command_of h [] ∷ []) ≡ session_statements commands ++ Command h ∷ []
 session_more commands h = ap (λ l. Session ∷ l)
     (flat_map-append command_statements commands (command_of h [] ∷ []) ∙ ap (λ l. flat_map command_statements commands ++ l) (append-nil (command_statements (command_of h [])) ∙ bare_said h))
 
@@ -151,7 +151,7 @@ grows_text text (s ∷ ss) line free lawful =
     let said : EndsWith (λ cs. session_statements (on_last (longer line) cs) ≡ session_statements cs ++ Text line ∷ []) (s ∷ ss) =
     ends_weaker (λ cs. last_takes_text cs ≡ true) (λ cs. session_statements (on_last (longer line) cs) ≡ session_statements cs ++ Text line ∷ [])
     (λ cs takes. ap (λ l. Session ∷ l) (flat_last command_statements (longer line) (Text line ∷ []) cs
-    (ends_weaker (λ c. takes_text (head_in c) ≡ true) (λ c. command_statements (longer line c) ≡ command_statements c ++ Text line ∷ []) (longer_said line) cs (ends_taking cs takes)))) (s ∷ ss) ends in (
+    (ends_weaker (λ c. takes_text (command_line_in c) ≡ true) (λ c. command_statements (longer line c) ≡ command_statements c ++ Text line ∷ []) (longer_said line) cs (ends_taking cs takes)))) (s ∷ ss) ends in (
       ap (λ l. map Text text ++ l) (flat_last session_statements (on_last (longer line)) (Text line ∷ []) (s ∷ ss) said)
           ∙ sym (append_assoc (map Text text) (flat_map session_statements (s ∷ ss)) (Text line ∷ [])),
       record {
@@ -160,7 +160,7 @@ grows_text text (s ∷ ss) line free lawful =
       },
     )
 
-grows_command : (text : List (List ℕ)) (sessions : List (List declared.Command)) (h : Head) → cause_of (script_of text sessions) (Command h) ≡ None → IsLawful (script_of text sessions) → Grows (script_of text sessions) (Command h)
+grows_command : (text : List (List ℕ)) (sessions : List (List declared.Command)) (h : CommandLine) → cause_of (script_of text sessions) (Command h) ≡ None → IsLawful (script_of text sessions) → Grows (script_of text sessions) (Command h)
 grows_command text [] h free lawful = absurd (cc)
 grows_command text (s ∷ ss) h free lawful =
     let more : List declared.Command → List declared.Command = λ cs. cs ++ command_of h [] ∷ [] in
@@ -171,7 +171,7 @@ grows_command text (s ∷ ss) h free lawful =
         few = let few = lawful.few in omega (arith, length_last more (s ∷ ss));
         known = all_last (all_known 0) more (s ∷ ss)
             (ends_weaker (λ cs. names_known (adds_in cs) h ≡ true) (λ cs. all_known 0 cs ≡ true → all_known 0 (more cs) ≡ true)
-            (λ cs is all. known_snoc 0 cs (command_of h []) all (subst (λ n. names_known n (head_in (command_of h [])) ≡ true) (sym (zero-add (adds_in cs))) (ap (names_known (adds_in cs)) (bare_head h) ∙ is))) (s ∷ ss)
+            (λ cs is all. known_snoc 0 cs (command_of h []) all (subst (λ n. names_known n (command_line_in (command_of h [])) ≡ true) (sym (zero-add (adds_in cs))) (ap (names_known (adds_in cs)) (bare_line h) ∙ is))) (s ∷ ss)
             (ends_last (λ cs. names_known (adds_in cs) h ≡ true) s ss known)) lawful.known;
       },
     )

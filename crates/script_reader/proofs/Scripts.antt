@@ -8,8 +8,8 @@ use Rattle.script_reader.specs.declared.fault.Cause.{Cause}
 use Rattle.script_reader.specs.declared.fault.Cause.TheVariants.{NoLive}
 use Rattle.script_reader.specs.declared.fault.ScriptFault.{ScriptFault}
 use Rattle.script_reader.specs.declared.fault.ScriptFault.TheVariants.{At, NoMemory}
-use Rattle.script_reader.proofs.Grown.{grown}
-use Rattle.script_reader.proofs.Spelled.{runs, walk_runs, runs_something, runs_script}
+use Rattle.script_reader.proofs.LawfulScripts.{grown}
+use Rattle.script_reader.proofs.Runs.{runs, walk_runs, runs_something, runs_script}
 
 read_ok : (first : List ℕ) (lines : List (List ℕ)) (script : Script) → reading (first ∷ lines) ≡ Ok script → (is_live first ≡ true) × (walk (length lines + 1) (script_of [] []) lines ≡ Ok script)
 read_ok first lines script is = go (is_live first) refl is

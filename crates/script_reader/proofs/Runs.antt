@@ -3,17 +3,17 @@ use Rattle.std.proofs.Common.{◌≡◌, ℕ, ◌+◌, ◌-◌, ◌<◌, ◌≤�
 use Rattle.std.specs.List.{flat_map, list_all}
 use Rattle.std.proofs.lemmas.Bool.{lt-ltb}
 use Rattle.script_reader.specs.Reading.{command_of, script_of, with_statement, unless, walk}
-use Rattle.script_reader.specs.Script.{statements, session_statements, command_statements, says_something, head_in, text_in, names_known, adds_of, adds_in, all_known, takes_text, cause_of}
+use Rattle.script_reader.specs.Script.{statements, session_statements, command_statements, says_something, command_line_in, text_in, names_known, adds_of, adds_in, all_known, takes_text, cause_of}
 use Rattle.script_reader.specs.Statements.{Statement, Nothing, Text, Session, Command, Nonsense, statement_of}
 use Rattle.script_reader.specs.declared.command.Command as declared
 use Rattle.script_reader.specs.declared.command.Command.TheVariants as command
 use Rattle.script_reader.specs.declared.command.Script.{Script}
 use Rattle.script_reader.specs.declared.fault.Cause.{Cause}
 use Rattle.script_reader.specs.declared.fault.Cause.TheVariants.{ManySessions, NoOwn}
-use Rattle.script_reader.specs.declared.line.Head.{Head}
+use Rattle.script_reader.specs.declared.line.CommandLine.{CommandLine}
 use Rattle.script_reader.proofs.Walks.{writing, writing-cause, writing-text, on_last-snoc}
 use Rattle.script_reader.proofs.Sessions.{command_cause-snoc, adds-snoc}
-use Rattle.script_reader.proofs.Grown.{first_true, second_true}
+use Rattle.script_reader.proofs.LawfulScripts.{first_true, second_true}
 
 abbrev pub onward : Option Cause → Option Script → Option Script
 onward None result = result
@@ -58,7 +58,7 @@ opening_texts so_far [] = ap (λ (l : List (List ℕ)). Some (script_of l [])) (
 opening_texts so_far (t ∷ ts) = opening_texts (so_far ++ t ∷ []) ts ∙ ap (λ (l : List (List ℕ)). Some (script_of l [])) (append_assoc so_far (t ∷ []) ts)
 
 module _ (text : List (List ℕ)) where
-  command_texts : (done : List (List declared.Command)) (commands : List declared.Command) (h : Head) (so_far texts : List (List ℕ)) → takes_text h ≡ true
+  command_texts : (done : List (List declared.Command)) (commands : List declared.Command) (h : CommandLine) (so_far texts : List (List ℕ)) → takes_text h ≡ true
       → runs (writing text done commands h so_far) (map Text texts) ≡ Some (writing text done commands h (so_far ++ texts))
   command_texts done commands h so_far [] takes = ap (λ (l : List (List ℕ)). Some (writing text done commands h l)) (sym (append-nil so_far))
   command_texts done commands h so_far (t ∷ ts) takes =
@@ -67,20 +67,20 @@ module _ (text : List (List ℕ)) where
       ∙ ap (λ (l : List (List ℕ)). Some (writing text done commands h l)) (append_assoc so_far (t ∷ []) ts)
 
   command_text : (done : List (List declared.Command)) (commands : List declared.Command) (c : declared.Command)
-      → runs (writing text done commands (head_in c) []) (map Text (text_in c)) ≡ Some (script_of text (done ++ (commands ++ c ∷ []) ∷ []))
+      → runs (writing text done commands (command_line_in c) []) (map Text (text_in c)) ≡ Some (script_of text (done ++ (commands ++ c ∷ []) ∷ []))
   command_text done commands (command.Look name) = refl
-  command_text done commands (command.Put name lines) = command_texts done commands (head_in (command.Put name lines)) [] lines refl
-  command_text done commands (command.Add place lines) = command_texts done commands (head_in (command.Add place lines)) [] lines refl
+  command_text done commands (command.Put name lines) = command_texts done commands (command_line_in (command.Put name lines)) [] lines refl
+  command_text done commands (command.Add place lines) = command_texts done commands (command_line_in (command.Add place lines)) [] lines refl
   command_text done commands (command.Cut name) = refl
   command_text done commands (command.LoopAt line) = refl
   command_text done commands command.Verdict = refl
 
-  one_command : (done : List (List declared.Command)) (commands : List declared.Command) (c : declared.Command) → names_known (adds_in commands) (head_in c) ≡ true
+  one_command : (done : List (List declared.Command)) (commands : List declared.Command) (c : declared.Command) → names_known (adds_in commands) (command_line_in c) ≡ true
       → runs (script_of text (done ++ commands ∷ [])) (command_statements c) ≡ Some (script_of text (done ++ (commands ++ c ∷ []) ∷ []))
   one_command done commands c known =
-      runs_step (script_of text (done ++ commands ∷ [])) (writing text done commands (head_in c) []) (Command (head_in c)) (map Text (text_in c))
-      (command_cause-snoc done commands (head_in c) ∙ ap (λ b. cond b None (Some NoOwn)) known)
-      (ap (script_of text) (on_last-snoc (λ cs. cs ++ command_of (head_in c) [] ∷ []) done commands))
+      runs_step (script_of text (done ++ commands ∷ [])) (writing text done commands (command_line_in c) []) (Command (command_line_in c)) (map Text (text_in c))
+      (command_cause-snoc done commands (command_line_in c) ∙ ap (λ b. cond b None (Some NoOwn)) known)
+      (ap (script_of text) (on_last-snoc (λ cs. cs ++ command_of (command_line_in c) [] ∷ []) done commands))
       ∙ command_text done commands c
 
   all_commands : (done : List (List declared.Command)) (commands more : List declared.Command) → all_known (adds_in commands) more ≡ true
@@ -88,8 +88,8 @@ module _ (text : List (List ℕ)) where
   all_commands done commands [] known = ap (λ (l : List declared.Command). Some (script_of text (done ++ l ∷ []))) (sym (append-nil commands))
   all_commands done commands (c ∷ cs) known =
       runs_append (script_of text (done ++ commands ∷ [])) (script_of text (done ++ (commands ++ c ∷ []) ∷ [])) (command_statements c) (flat_map command_statements cs)
-      (one_command done commands c (first_true (names_known (adds_in commands) (head_in c)) (all_known (adds_in commands + adds_of (head_in c)) cs) known))
-      ∙ all_commands done (commands ++ c ∷ []) cs (subst (λ n. all_known n cs ≡ true) (sym (adds-snoc commands c (head_in c) refl)) (second_true (names_known (adds_in commands) (head_in c)) (all_known (adds_in commands + adds_of (head_in c)) cs) known))
+      (one_command done commands c (first_true (names_known (adds_in commands) (command_line_in c)) (all_known (adds_in commands + adds_of (command_line_in c)) cs) known))
+      ∙ all_commands done (commands ++ c ∷ []) cs (subst (λ n. all_known n cs ≡ true) (sym (adds-snoc commands c (command_line_in c) refl)) (second_true (names_known (adds_in commands) (command_line_in c)) (all_known (adds_in commands + adds_of (command_line_in c)) cs) known))
       ∙ ap (λ (l : List declared.Command). Some (script_of text (done ++ l ∷ []))) (append_assoc commands (c ∷ []) cs)
 
   one_session : (done : List (List declared.Command)) (commands : List declared.Command) → length done < 64 → all_known 0 commands ≡ true
