@@ -13,7 +13,7 @@ use Rattle.command_words.specs.Grammar.{Low, High, Rack, Hold, Block, Loops, Jso
 use Rattle.command_words.proofs.Rows.{stands_is}
 use Rattle.command_words.proofs.Walks.{MayWait}
 use Rattle.std.proofs.lemmas.Slice.Eq.{bytes_eq-Decides}
-use Rattle.command_words.proofs.Looks.{by_test}
+use Rattle.knit_base.proofs.Places.{by_test}
 use Rattle.command_words.proofs.Outcomes.{put_some, some_of}
 
 -- the value of an option is a number

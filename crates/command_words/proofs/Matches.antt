@@ -14,7 +14,7 @@ use Rattle.clap.specs.Walk.{more_values}
 use Rattle.command_words.specs.Arguments.{check_app}
 use Rattle.command_words.specs.Grammar.{Name, Text, Low, High, Rack, Hold, Block, Loops, Json, is_flag, spelling}
 use Rattle.command_words.proofs.Rules.{Spot, first, second, third, rule, shape, spot_id, spot_rule}
-use Rattle.command_words.proofs.Looks.{by_test}
+use Rattle.knit_base.proofs.Places.{by_test}
 use Rattle.command_words.proofs.Rows.{added_row, at_row_none, has_row_is, or_first}
 use Rattle.command_words.proofs.Turns.{Fails, at, end_of, faults_from, place_of}
 use Rattle.command_words.proofs.WalkItems.{Stands, single}

@@ -10,7 +10,7 @@ use Rattle.clap.specs.declared.builder.value_parser.Reading.{Reading}
 use Rattle.clap.specs.declared.parser.matches.ValueSource.TheVariants.{CommandLine}
 use Rattle.command_words.specs.Grammar.{Name, Text, Item, Flag, Setting, Place, are_distinct, names_in, places_in, same_name, spelling, value_in, Low, High, Rack, Hold, Block, Loops, Json}
 use Rattle.command_words.proofs.Rules.{Spot, first, second, third, spot_at, spot_id}
-use Rattle.command_words.proofs.Looks.{by_test}
+use Rattle.knit_base.proofs.Places.{by_test}
 
 -- the first of the two that is there
 abbrev pub or_first : {X : Type 0} → Option X → Option X → Option X

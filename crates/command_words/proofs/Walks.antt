@@ -12,7 +12,8 @@ use Rattle.command_words.specs.Grammar.{Name, Text, Item, Flag, Setting, Place, 
 use Rattle.command_words.specs.Taken.{is_value, taken_of}
 use Rattle.command_words.specs.Given.{Fit}
 use Rattle.command_words.proofs.Rules.{Spot, flag_use, option_use, rule, shape}
-use Rattle.command_words.proofs.Looks.{Looks, ends, long, short, plain, by_test, looks}
+use Rattle.knit_base.proofs.Places.{by_test}
+use Rattle.command_words.proofs.Looks.{Looks, ends, long, short, plain, looks}
 use Rattle.command_words.proofs.Turns.{Fails, IsLong, IsPlainWord, at, awaiting, dashes, end_of, fails_here, faults_at_end, faults_from, faults_step, faults_stuck, flag_move, flag_turn, joined_move, joined_turn, move_dashes, next_place, option_move, option_turn, past_stuck, place_move, place_of, place_turn, placed, short_stuck, trailing_move, trailing_stuck, trailing_turn, turn_dashes, unknown_stuck, valued_flag_stuck, value_move, value_turn}
 use Rattle.command_words.proofs.Failures.{idle_doomed, waiting_doomed, waiting_fails}
 use Rattle.command_words.proofs.WalkItems.{Stands, flag_named, setting_named}
