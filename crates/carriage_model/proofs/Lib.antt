@@ -1,6 +1,7 @@
 pub mod BedChanges
 pub mod CarriageRuns
 pub mod DeclaredCarriers
+pub mod FactLists
 pub mod LawfulLines
 pub mod LoopCounts
 pub mod LoopOfLine

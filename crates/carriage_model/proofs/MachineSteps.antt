@@ -1,5 +1,5 @@
 -- One step of the machine is one step of the state that it stands for.
-use Rattle.std.proofs.Common.{◌≡◌, ◌<◌, ℕ, List, [], ◌∷◌, length, sym, ap, subst, ◌∙◌, arith}
+use Rattle.std.proofs.Common.{◌≡◌, ◌<◌, ℕ, List, [], ◌∷◌, length, refl, sym, ap, subst, ◌∙◌, arith}
 use Rattle.knit_base.specs.declared.instr.Instr.{Instr}
 use Rattle.knit_base.specs.declared.instr.Instr.TheVariants.{Xfer}
 use Rattle.knit_base.specs.declared.needle.Needle.{Needle}
@@ -9,6 +9,13 @@ use Rattle.carriage_model.specs.State.{State, transferred}
 use Rattle.carriage_model.specs.Steps.{step_split, step_instr}
 use Rattle.carriage_model.specs.Beds.{Holds}
 use Rattle.carriage_model.specs.Machine.{Represents, stack_of}
+
+-- the state for which the machine stands
+abbrev pub state_of : Machine → State
+state_of machine = record { rack = machine.rack.0; ins = machine.ins; hook = machine.hook; stacks = stack_of machine }
+
+pub state_of-represented : (machine : Machine) → Represents machine (state_of machine)
+state_of-represented machine = record { rack = refl; ins = refl; hook = refl; stacks = λ n. refl }
 
 -- the machines differ only in what their needles hold
 pub record IsSameButBeds (old new : Machine) : Type 0 where

@@ -1,5 +1,6 @@
 pub mod Beds
 pub mod Carriage
+pub mod FactList
 pub mod Loops
 pub mod Machine
 pub mod Places

@@ -51,14 +51,23 @@ impl Beds {
         self.stacks[self.place(n)].len()
     }
 
+    /// A needle's loops.
+    #[inline(always)]
+    pub fn stack(&self, n: Needle) -> &[u32]
+        requires { IsOn self.now n.at }
+        ensures is { result.now ≡ loops_at self.now n }
+        ensures small { length result.now < 2 ^ 32 }
+    {
+        self.stacks[self.place(n)].as_slice()
+    }
+
     /// A copy of a needle's loops.
     pub fn copied(&self, n: Needle) -> Result<LoopLines, NoMemory>
         requires { IsOn self.now n.at }
         ensures { IfOk result (λ loops. loops ≡ loops_at self.now n) }
     {
-        let loops = self.stacks[self.place(n)].as_slice();
         let mut copy = LoopLines::new(self.alloc);
-        copy.extend_from_slice(loops)?;
+        copy.extend_from_slice(self.stack(n))?;
         Ok(copy)
     }
 

@@ -80,7 +80,7 @@ impl Carriage {
         }
     }
 
-    /// Carries out the next line, if no loops are kept and it breaks no rule, or passes it over behind a line that broke one.
+    /// Carries out the next line, if it breaks no rule, or passes it over behind a line that broke one.
     /// `false` says that the line is to be carried out by `execute`, and that nothing was done.
     #[inline(always)]
     pub fn carry_usual(&mut self, usual: Usual) -> Result<bool, NoMemory>
@@ -96,9 +96,6 @@ impl Carriage {
         if self.is_stopped() {
             self.lines += 1;
             return Ok(true);
-        }
-        if self.loops.is_some() {
-            return Ok(false);
         }
         if !self.machine.allows(&self.profile, usual) {
             return Ok(false);
@@ -167,18 +164,21 @@ impl Carriage {
         Ok(())
     }
 
-    // Carries out a line that breaks no rule, where no loops are kept.
+    // Carries out a line that breaks no rule, if most lines say the like.
     #[inline(always)]
     fn go_over_usual(&mut self, line: u32, usual: Usual) -> Result<(), NoMemory>
         requires needles { HasNeedlesInLine self.old.machine (usual_read usual) }
         requires room { HasRoomInLine self.old.machine (usual_read usual) }
         requires lines { self.old.lines + 1 < 2 ^ 32 }
         requires made { self.old.made + 1 < 2 ^ 32 }
-        requires unkept { self.old.loops ≡ None }
+        requires loops { IfSome self.old.loops (λ loops. length loops + 1 < 2 ^ 32) }
         ensures ok { OnOk result (WentOver line (usual_read usual) self.old self.new) }
         ensures err { OnErr result (StandsStill self.old self.new) }
     {
-        self.machine.step_usual(line, usual)?;
+        match &mut self.loops {
+            None => self.machine.step_usual(line, usual)?,
+            Some(loops) => self.machine.step_usual_with_loop(line, usual, loops)?,
+        }
         self.made += loops_of_usual(usual);
         self.lines += 1;
         Ok(())

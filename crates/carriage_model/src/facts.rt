@@ -1,5 +1,5 @@
 //! The loops that a program makes.
-ghost use Rattle.std.specs.Prelude.{◌≡◌, ℕ, ◌+◌, ◌<◌, ◌≤◌, ◌^◌, ◌-◌, ◌++◌, length, All, IfOk, IfSome, OnOk, OnErr};
+ghost use Rattle.std.specs.Prelude.{◌≡◌, ℕ, ◌+◌, ◌<◌, ◌≤◌, ◌^◌, ◌-◌, [], ◌∷◌, ◌++◌, length, All, IfOk, IfSome, OnOk, OnErr};
 ghost use Rattle.std.specs.Option.{option_to_list};
 ghost use Rattle.knit_base.specs.Lawful.{IsLawfulRead};
 ghost use Rattle.knit_base.specs.Limits.{IsLawfulProfile};
@@ -68,15 +68,65 @@ impl Machine {
         ensures err { OnErr result (StandsAsBefore self.old self.new) }
         ensures err_loops { OnErr result (loops.new ≡ loops.old) }
     {
-        let Some(fact) = self.fact_made(line, read)? else {
-            return self.step(line, read);
-        };
-        loops.push(fact)?;
+        let count = loops.len();
+        self.push_made(line, read, loops)?;
         let stepped = self.step(line, read);
         if stepped.is_err() {
-            loops.pop();
+            loops.truncate(count);
         }
         stepped
+    }
+
+    /// Carries out this line, which breaks no rule, and appends the loop that it makes, if most lines say the like.
+    pub fn step_usual_with_loop(
+        &mut self,
+        line: u32,
+        usual: Usual,
+        loops: &mut Facts,
+    ) -> Result<(), NoMemory>
+        requires needles { HasNeedlesInLine self.old (usual_read usual) }
+        requires room { HasRoomInLine self.old (usual_read usual) }
+        requires loops { length loops.old < 2 ^ 32 - 1 }
+        ensures loops { OnOk result ((s : State) → Represents self.old s → loops.new ≡ loops.old ++ option_to_list (fact_made line (usual_read usual) s)) }
+        ensures ok { OnOk result ((s : State) → Represents self.old s → Represents self.new (step line (usual_read usual) s)) }
+        ensures kept { OnOk result (SameBeds self.old.beds self.new.beds) }
+        ensures err { OnErr result (StandsAsBefore self.old self.new) }
+        ensures err_loops { OnErr result (loops.new ≡ loops.old) }
+    {
+        let made = loops.len();
+        self.push_usual(line, usual, loops)?;
+        let stepped = self.step_usual(line, usual);
+        if stepped.is_err() {
+            loops.truncate(made);
+        }
+        stepped
+    }
+
+    // Appends the loop that this line makes if it breaks no rule.
+    fn push_made(&self, line: u32, read: &Read, loops: &mut Facts) -> Result<(), NoMemory>
+        requires needles { HasNeedlesInLine self.now read.now }
+        requires loops { length loops.old < 2 ^ 32 - 1 }
+        ensures ok { OnOk result ((s : State) → Represents self.now s → loops.new ≡ loops.old ++ option_to_list (fact_made line read.now s)) }
+        ensures err { OnErr result (loops.new ≡ loops.old) }
+    {
+        match self.fact_made(line, read)? {
+            Some(fact) => push_fact(&fact, loops),
+            None => Ok(()),
+        }
+    }
+
+    // Appends the loop that this line makes if it breaks no rule, if most lines say the like.
+    fn push_usual(&self, line: u32, usual: Usual, loops: &mut Facts) -> Result<(), NoMemory>
+        requires needles { HasNeedlesInLine self.now (usual_read usual) }
+        requires loops { length loops.old < 2 ^ 32 - 1 }
+        ensures ok { OnOk result ((s : State) → Represents self.now s → loops.new ≡ loops.old ++ option_to_list (fact_made line (usual_read usual) s)) }
+        ensures err { OnErr result (loops.new ≡ loops.old) }
+    {
+        match usual {
+            Usual::Knit(dir, n, c) => loops.push(line, n, dir, &[c], self.beds.stack(n)),
+            Usual::Tuck(dir, n, c) => loops.push(line, n, dir, &[c], &[]),
+            Usual::Xfer(_, _) => Ok(()),
+        }
     }
 
     // The loop that this line makes if it breaks no rule.
@@ -103,6 +153,17 @@ impl Machine {
             _ => Ok(None),
         }
     }
+}
+
+// Appends a copy of the loop.
+fn push_fact(fact: &LoopFact, loops: &mut Facts) -> Result<(), NoMemory>
+    requires { length loops.old < 2 ^ 32 - 1 }
+    ensures ok { OnOk result (loops.new ≡ loops.old ++ fact.now ∷ []) }
+    ensures err { OnErr result (loops.new ≡ loops.old) }
+{
+    let yarns = fact.yarns.as_slice();
+    let through = fact.through.as_slice();
+    loops.push(fact.line, fact.needle, fact.dir, yarns, through)
 }
 
 fn formed(

@@ -8,11 +8,12 @@
 //! the hook, on the rack, on sliders, on sizes, in this order), `specs/Steps` (what a line does), `specs/Run` (lines one after
 //! the other), `specs/Loops` (the loops that they make), `specs/Verdict`, and `specs/Carriage` (which run a carriage stands
 //! for). `specs/Machine` says which state the code's own `Machine` stands for, `specs/Beds` and `specs/Places` how it keeps the
-//! loops. Below it stand std and `knit_base`.
+//! loops on needles, `specs/FactList` how the loops made are kept. Below it stand std and `knit_base`.
 #![tactic(auto)]
 
 mod beds;
 mod carriage;
+mod fact_list;
 mod facts;
 mod machine;
 mod rules;
@@ -23,6 +24,7 @@ mod tests;
 mod verdict;
 
 pub use carriage::Carriage;
+pub use fact_list::{FactRef, Facts};
 pub use facts::fact_plain;
 pub use run::run_plain;
-pub use verdict::{Brief, Facts, Final, LoopFact, LoopLines, Stack, Stacks, Verdict};
+pub use verdict::{Brief, Final, LoopFact, LoopLines, Stack, Stacks, Verdict};

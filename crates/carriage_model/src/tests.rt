@@ -1,7 +1,7 @@
 //! Each public call once with ample memory.
 ghost use Rattle.std.specs.Prelude.{◌∷◌, [], ◌≡◌, IfOk};
 
-use crate::{Brief, Carriage, Verdict, fact_plain, run_plain};
+use crate::{Brief, Carriage, Facts, Verdict, fact_plain, run_plain};
 use knit_base::{
     Bed, CarrierNo, Declared, Dir, Instr, Needle, NoMemory, Profile, Quarter, Read, Reads, Usual,
     Yarns,
@@ -66,6 +66,30 @@ fn the_loops_of_a_carriage(rt: HostRuntime) -> Result<(), Fail> {
     let (verdict, loops) = carriage.finish()?;
     assert!(rt; matches!(verdict, Verdict::Sound(_)));
     assert_eq!(rt; loops.map(|loops| loops.len()), Some(0));
+    Ok(())
+}
+
+// Whether the loop at this place was made by this line, with these yarns and through these loops.
+fn is_loop(loops: &Facts, i: u32, line: u32, yarns: &[CarrierNo], through: &[u32]) -> bool {
+    match loops.get(i) {
+        Some(fact) => fact.line == line && fact.yarns == yarns && fact.through == through,
+        None => false,
+    }
+}
+
+#[test]
+fn loops_in_lists_that_they_share(rt: HostRuntime) -> Result<(), Fail> {
+    let mut loops = Facts::new(rt.alloc());
+    let both = [CarrierNo(1), CarrierNo(0)];
+    loops.push(4, FRONT, Dir::Left, &both[..1], &[])?;
+    loops.push(5, BACK, Dir::Right, &both, &[4, 3])?;
+    loops.push(6, BACK, Dir::Right, &both[1..], &[5])?;
+    loops.truncate(2);
+    loops.push(7, FRONT, Dir::Left, &both[1..], &[4])?;
+    assert!(rt; is_loop(&loops, 0, 4, &both[..1], &[]));
+    assert!(rt; is_loop(&loops, 1, 5, &both, &[4, 3]));
+    assert!(rt; is_loop(&loops, 2, 7, &both[1..], &[4]));
+    assert!(rt; loops.get(3).is_none());
     Ok(())
 }
 

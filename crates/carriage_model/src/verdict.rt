@@ -87,6 +87,3 @@ pub struct LoopFact {
     pub yarns: Yarns,
     pub through: LoopLines,
 }
-
-/// Loops in the order of their lines.
-pub type Facts = ListOf<LoopFact>;

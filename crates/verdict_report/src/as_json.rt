@@ -9,6 +9,7 @@ ghost use Rattle.verdict_report.specs.VerdictJson.{verdict_json};
 
 use crate::json_items::append_set;
 use crate::json_list::append_list_member;
+use crate::json_loops::append_loops_member;
 use crate::text::{append_labelled, held};
 use carriage_model::{Facts, Final, Verdict};
 use knit_base::{CarrierNo, Declared, Fault, NoMemory, Rule, append_rack};
@@ -54,7 +55,7 @@ fn append_made(facts: Option<&Facts>, strings: &[String], out: &mut Vec<u8>) -> 
     ensures { OnOk result (out.new.items ≡ out.old.items ++ loops_member (map string_bytes strings.now) (option_copied facts.entry)) }
 {
     match facts {
-        Some(facts) => append_list_member(",\"made_loops\":", facts.as_slice(), strings, out),
+        Some(facts) => append_loops_member(facts, strings, out),
         None => Ok(()),
     }
 }

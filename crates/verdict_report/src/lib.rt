@@ -10,6 +10,7 @@ mod as_json;
 mod carriers;
 mod json_items;
 mod json_list;
+mod json_loops;
 mod refusal;
 #[cfg(test)]
 mod tests;

@@ -2,10 +2,8 @@
 ghost use Rattle.std.specs.Prelude.{◌<◌, length};
 
 use crate::{Refusal, report_json, report_refusal, report_text};
-use carriage_model::{Facts, Final, LoopFact, LoopLines, Stack, Stacks, Verdict};
-use knit_base::{
-    Bed, CarrierNo, Declared, Dir, Fault, Needle, Quarter, Reason, Rule, Yarns, append_rack,
-};
+use carriage_model::{Facts, Final, LoopLines, Stack, Stacks, Verdict};
+use knit_base::{Bed, CarrierNo, Declared, Dir, Fault, Needle, Quarter, Reason, Rule, append_rack};
 use std::alloc::Global;
 use std::test::Fail;
 
@@ -33,25 +31,6 @@ fn stack(alloc: Global, bed: Bed, at: i16, loops: &[u32]) -> Result<Stack, Fail>
     Ok(Stack { needle, loops })
 }
 
-fn fact(alloc: Global, line: u32, at: i16, dir: Dir, through: &[u32]) -> Result<LoopFact, Fail>
-    requires { length through.now < 100 }
-{
-    let mut yarns = Yarns::new(alloc);
-    yarns.push(CarrierNo(0))?;
-    let needle = Needle {
-        bed: Bed::Front,
-        at,
-    };
-    let through = lines_of(alloc, through)?;
-    Ok(LoopFact {
-        line,
-        needle,
-        dir,
-        yarns,
-        through,
-    })
-}
-
 // Two stitches cast on to the left, and knitted to the right.
 fn knitted(alloc: Global) -> Result<Verdict, Fail> {
     let mut stacks = Stacks::new(alloc);
@@ -70,8 +49,12 @@ fn knitted(alloc: Global) -> Result<Verdict, Fail> {
 
 fn knitted_loops(alloc: Global) -> Result<Facts, Fail> {
     let mut facts = Facts::new(alloc);
-    facts.push(fact(alloc, 4, 2, Dir::Left, &[])?)?;
-    facts.push(fact(alloc, 7, 2, Dir::Right, &[4])?)?;
+    let needle = Needle {
+        bed: Bed::Front,
+        at: 2,
+    };
+    facts.push(4, needle, Dir::Left, &[CarrierNo(0)], &[])?;
+    facts.push(7, needle, Dir::Right, &[CarrierNo(0)], &[4])?;
     Ok(facts)
 }
 

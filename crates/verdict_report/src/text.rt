@@ -1,10 +1,11 @@
 //! A verdict as text.
-ghost use Rattle.std.specs.Prelude.{◌≡◌, ◌++◌, ◌<◌, ◌^◌, [], length, codes, decimal, flat_map, IfOk, OnOk, OnErr};
+ghost use Rattle.std.specs.Prelude.{◌≡◌, ◌+◌, ◌++◌, ◌<◌, ◌^◌, [], length, drop, codes, decimal, flat_map, IfOk, OnOk, OnErr};
 ghost use Rattle.std.specs.Option.{option_copied};
+ghost use Rattle.carriage_model.specs.FactList.{lent_fact};
 ghost use Rattle.verdict_report.specs.VerdictText.{broken_brief, broken_text, end_text, held_of, labelled, line_word, lines_text, loop_text, loops_text, name_word, names_text, place_text, rule_word, set_text, sound_brief, sound_text, stack_text, verdict_text};
 
 use crate::carriers::carriers_of;
-use carriage_model::{Facts, Final, LoopFact, Stack, Verdict};
+use carriage_model::{FactRef, Facts, Final, Stack, Verdict};
 use knit_base::{
     CarrierNo, Declared, Fault, NoMemory, Quarter, Rule, append_needle, append_number, append_rack,
 };
@@ -190,8 +191,8 @@ fn append_end(
 }
 
 // Appends the line that made a loop, its needle and its direction.
-fn append_place(fact: &LoopFact, out: &mut Vec<u8>) -> Result<(), NoMemory>
-    ensures { OnOk result (out.new.items ≡ out.old.items ++ place_text fact.now) }
+fn append_place(fact: &FactRef, out: &mut Vec<u8>) -> Result<(), NoMemory>
+    ensures { OnOk result (out.new.items ≡ out.old.items ++ place_text (lent_fact fact.now)) }
 {
     append_labelled("loop ", u64::from(fact.line), out)?;
     out.extend_from_slice(b" on ")?;
@@ -202,24 +203,39 @@ fn append_place(fact: &LoopFact, out: &mut Vec<u8>) -> Result<(), NoMemory>
 }
 
 // Appends the line of a loop.
-fn append_loop(fact: &LoopFact, declared: &Declared, out: &mut Vec<u8>) -> Result<(), NoMemory>
-    ensures { OnOk result (out.new.items ≡ out.old.items ++ loop_text declared.now fact.now) }
+fn append_loop(fact: &FactRef, declared: &Declared, out: &mut Vec<u8>) -> Result<(), NoMemory>
+    ensures { OnOk result (out.new.items ≡ out.old.items ++ loop_text declared.now (lent_fact fact.now)) }
 {
     append_place(fact, out)?;
     out.extend_from_slice(b" with")?;
-    append_names(fact.yarns.as_slice(), declared, out)?;
+    append_names(fact.yarns, declared, out)?;
     out.extend_from_slice(b" through")?;
-    append_lines(fact.through.as_slice(), out)?;
+    append_lines(fact.through, out)?;
     out.extend_from_slice(b"\n")?;
     Ok(())
 }
 
+// Appends the line of the loop at this place, if there is one.
+fn append_loop_at(
+    i: u32,
+    facts: &Facts,
+    declared: &Declared,
+    out: &mut Vec<u8>,
+) -> Result<(), NoMemory>
+    ensures { OnOk result (out.new.items ++ flat_map (loop_text declared.now) (drop (i + 1) facts.now) ≡ out.old.items ++ flat_map (loop_text declared.now) (drop i facts.now)) }
+{
+    match facts.get(i) {
+        Some(fact) => append_loop(&fact, declared, out),
+        None => Ok(()),
+    }
+}
+
 // Appends a line for each loop.
-fn append_loops(facts: &[LoopFact], declared: &Declared, out: &mut Vec<u8>) -> Result<(), NoMemory>
+fn append_loops(facts: &Facts, declared: &Declared, out: &mut Vec<u8>) -> Result<(), NoMemory>
     ensures { OnOk result (out.new.items ≡ out.old.items ++ flat_map (loop_text declared.now) facts.now) }
 {
-    'facts: for fact in facts {
-        append_loop(fact, declared, out)?;
+    'facts: for i in 0..facts.len() {
+        append_loop_at(i, facts, declared, out)?;
     }
     Ok(())
 }
@@ -233,7 +249,7 @@ fn append_made(
     ensures { OnOk result (out.new.items ≡ out.old.items ++ loops_text declared.now (option_copied facts.entry)) }
 {
     match facts {
-        Some(facts) => append_loops(facts.as_slice(), declared, out),
+        Some(facts) => append_loops(facts, declared, out),
         None => Ok(()),
     }
 }

@@ -1,7 +1,7 @@
 use Rattle.std.proofs.Common.{◌∙◌, sym, refl, arith}
 use Rattle.knit_base.specs.Usual.{usual_read}
 use Rattle.carriage_model.specs.Carriage.{HasRun}
-use Rattle.carriage_model.proofs.CarriageRuns.{InState, standing, run-sound, run-still, on_err-anyhow, run-stopped, made-few}
+use Rattle.carriage_model.proofs.CarriageRuns.{InState, standing, run-sound, run-still, on_err-anyhow, run-stopped, kept-few, made-few}
 use Rattle.carriage_model.proofs.LawfulLines.{none_from_test, line_has-needles, line_has-room, usual_has-carrier}
 use Rattle.carriage_model.proofs.carriage.Carriage.carry_usual.Goals as goal
 
@@ -26,6 +26,9 @@ go_over_usual-requires-clause-room c =
 
 pub go_over_usual-requires-clause-made : goal.go_over_usual-requires-clause-made
 go_over_usual-requires-clause-made c = omega (arith, c.requires.lines, made-few _ _ _ _ _ c.requires.running.3)
+
+pub go_over_usual-requires-clause-loops : goal.go_over_usual-requires-clause-loops
+go_over_usual-requires-clause-loops c = kept-few _ _ _ _ _ 4294967296 c.requires.running.3 (omega (arith, c.requires.lines))
 
 pub returns-clause-over : goal.returns-clause-over
 returns-clause-over c = λ over profile with_loops first reads here.

@@ -2,7 +2,7 @@ use Rattle.std.proofs.Common.{rules, ◌≡◌, ◌∙◌, ◌++◌, ap, codes}
 use Rattle.verdict_report.specs.JsonText.{dir_member, loop_place, needle_member}
 use Rattle.verdict_report.specs.VerdictText.{labelled}
 use Rattle.verdict_report.proofs.Chain.{after_three}
-use Rattle.verdict_report.proofs.json_items.append_place.Goals as goal
+use Rattle.verdict_report.proofs.json_loops.append_place.Goals as goal
 
 pub returns : goal.returns
 unfolding loop_place

@@ -1,0 +1,34 @@
+-- The texts of the items of a list, written one by one from some place on.
+use Rattle.std.proofs.Common.{◌≡◌, ◌∙◌, ℕ, zero, suc, ◌+◌, ◌<◌, ◌≤◌, Option, None, Some, List, [], ◌∷◌, ◌++◌, length, drop, flat_map, slice_get, refl, ap, sym, arith, append_assoc, append-nil}
+use Rattle.std.proofs.lemmas.List.{drop_more, drop_all}
+use Rattle.std.proofs.lemmas.Option.{slice_get_within, get_or_from_slice_get, none-some}
+use Rattle.verdict_report.specs.VerdictText.{Text}
+
+-- the list from a place on begins with the item there
+pub rest-at : {A : Type 0} (xs : List A) (i : ℕ) (x : A) → slice_get xs i ≡ Some x → drop i xs ≡ x ∷ drop (i + 1) xs
+rest-at xs i x is = drop_more xs i x (slice_get_within xs i x is) ∙ ap (λ y. y ∷ drop (i + 1) xs) (get_or_from_slice_get xs i x x is)
+
+-- nothing stands behind the end of a list
+rest-past : {A : Type 0} (xs : List A) (i : ℕ) → slice_get xs i ≡ None → drop (i + 1) xs ≡ drop i xs
+rest-past [] i none = drop_all (i + 1) [] (omega arith) ∙ sym (drop_all i [] (omega arith))
+rest-past (x ∷ xs) zero none = absurd (none-some x (sym none))
+rest-past (x ∷ xs) (suc i) none =
+    let next : suc i + 1 ≡ suc (i + 1) = omega arith in
+    ap (λ n. drop n (x ∷ xs)) next ∙ rest-past xs i none
+
+-- an item's text was written
+pub written-one : {A : Type 0} (text : A → Text) (xs : List A) (i : ℕ) (x : A) (start end : Text) → slice_get xs i ≡ Some x → end ≡ start ++ text x
+    → end ++ flat_map text (drop (i + 1) xs) ≡ start ++ flat_map text (drop i xs)
+written-one text xs i x start end is written =
+    ap (λ t. t ++ flat_map text (drop (i + 1) xs)) written
+    ∙ append_assoc start (text x) (flat_map text (drop (i + 1) xs))
+    ∙ ap (λ rest. start ++ flat_map text rest) (sym (rest-at xs i x is))
+
+-- nothing was written
+pub written-none : {A : Type 0} (text : A → Text) (xs : List A) (i : ℕ) (start : Text) → slice_get xs i ≡ None
+    → start ++ flat_map text (drop (i + 1) xs) ≡ start ++ flat_map text (drop i xs)
+written-none text xs i start none = ap (λ rest. start ++ flat_map text rest) (rest-past xs i none)
+
+-- all was written
+pub written-all : {A : Type 0} (text : A → Text) (xs : List A) (i : ℕ) (whole end : Text) → length xs ≤ i → end ++ flat_map text (drop i xs) ≡ whole → end ≡ whole
+written-all text xs i whole end past is = sym (append-nil end) ∙ ap (λ rest. end ++ flat_map text rest) (sym (drop_all i xs past)) ∙ is
