@@ -18,3 +18,6 @@ pub mod PlanSteps
 pub mod LeafChanges
 pub mod Rooms
 pub mod HeightBounds
+pub mod ParentLinks
+pub mod Climbs
+pub mod Halves

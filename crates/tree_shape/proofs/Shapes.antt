@@ -122,7 +122,7 @@ pub root_name : (nodes : List Node) (top : Option Child) → IsRoot nodes top �
 root_name nodes None r = refl
 root_name nodes (Some child) r = ap (λ v. Some v) (r.1.named ∙ ap name (sym (sound_read nodes child r.0 r.1)))
 
-part_stands_in : (nodes : List Node) (part t : Tree) → Stands nodes t → IsPart part t → Stands nodes part
+pub part_stands_in : (nodes : List Node) (part t : Tree) → Stands nodes t → IsPart part t → Stands nodes part
 part_stands_in nodes part (leaf n) s p = subst (Stands nodes) (sym p) s
 part_stands_in nodes part (inner n l r) s (inl p) = subst (Stands nodes) (sym p) s
 part_stands_in nodes part (inner n l r) s (inr (inl p)) = part_stands_in nodes part l s.1 p
@@ -137,11 +137,13 @@ both : (b c : Bool) → (b && c) ≡ true → (b ≡ true) × (c ≡ true)
 both true c e = (refl, e)
 both false c e = cc
 
-pub rooms : (a b c d e f : ℕ) → ((nat_lt a b && nat_lt c d) && nat_lt e f) ≡ true → (a < b) × (c < d) × (e < f)
-rooms a b c d e f h =
-    let w = both (nat_lt a b && nat_lt c d) (nat_lt e f) h in
+pub rooms : (a b c d e f p q : ℕ) → (((nat_lt a b && nat_lt c d) && nat_lt e f) && (nat_lt a p && nat_lt c q)) ≡ true → (a < b) × (c < d) × (e < f) × (a < p) × (c < q)
+rooms a b c d e f p q h =
+    let u = both ((nat_lt a b && nat_lt c d) && nat_lt e f) (nat_lt a p && nat_lt c q) h in
+    let w = both (nat_lt a b && nat_lt c d) (nat_lt e f) u.0 in
     let v = both (nat_lt a b) (nat_lt c d) w.0 in
-    (ltb-true a b v.0, ltb-true c d v.1, ltb-true e f w.1)
+    let x = both (nat_lt a p) (nat_lt c q) u.1 in
+    (ltb-true a b v.0, ltb-true c d v.1, ltb-true e f w.1, ltb-true a p x.0, ltb-true c q x.1)
 
 pub taken_drawn : (v : NumbersView) → (taken v).drawn ≤ v.drawn + 1
 taken_drawn v = elim (comes v) [ drawn_new e n f d ↦ omega (arith, d) | free_again e d ↦ omega (arith, d) ]
@@ -191,35 +193,6 @@ inners_without_inner at (inner n l r) v i = refl
 pub length_tree : (t : Option Tree) → length (leaves_of_tree t) ≡ count_of t
 length_tree None = refl
 length_tree (Some t) = length_leaves t
-
--- one more leaf at the end of a shape that was built so far
-pub appended : {X : Type 0} (n : ℕ) (x : X) (xs : List X) → length xs ≡ n → inserted n x xs ≡ xs ++ x ∷ []
-appended n x [] e = ap (λ k. inserted k x []) (sym e)
-appended zero x (y ∷ ys) e = absurd (omega arith)
-appended (suc n) x (y ∷ ys) e = ap (λ v. y ∷ v) (appended n x ys (omega arith))
-
--- a shape with so many leaves, numbered in order, where no number was given back
-pub record IsBuilt (n : ℕ) (shape : ShapeView) : Type 0 where
-  pub leaves : leaves_of_tree shape.tree ≡ numbers_below n
-  pub leaf_numbers : shape.leaf_numbers ≡ record { free = []; drawn = n }
-  pub count : count_of shape.tree ≡ n
-
-pub built_none : (shape : ShapeView) → shape.tree ≡ None → shape.leaf_numbers ≡ record { free = []; drawn = 0 } → IsBuilt 0 shape
-built_none shape e f = record { leaves = ap leaves_of_tree e; leaf_numbers = f; count = ap count_of e }
-
-pub built_more : (n : ℕ) (shape roomy larger : ShapeView) (x : ℕ) → IsBuilt n shape → IsSameShape shape roomy → x ≡ next_number roomy.leaf_numbers → leaves_of_tree larger.tree ≡ inserted n x (leaves_of_tree roomy.tree)
-    → larger.leaf_numbers ≡ taken roomy.leaf_numbers → IsBuilt (n + 1) larger
-built_more n shape roomy larger x b same number list numbers =
-    let before : roomy.leaf_numbers ≡ record { free = []; drawn = n } = same.leaf_numbers ∙ b.leaf_numbers in
-    let old : leaves_of_tree roomy.tree ≡ numbers_below n = ap leaves_of_tree same.tree ∙ b.leaves in
-    let many : length (leaves_of_tree roomy.tree) ≡ n = length_tree roomy.tree ∙ (ap count_of same.tree ∙ b.count) in
-    let fresh : x ≡ n = number ∙ ap next_number before in
-    let whole : leaves_of_tree larger.tree ≡ leaves_of_tree roomy.tree ++ x ∷ [] = list ∙ appended n x (leaves_of_tree roomy.tree) many in
-    record {
-      leaves = whole ∙ (cc (old, fresh) ∙ ap numbers_below (sym (add-one n)));
-      leaf_numbers = numbers ∙ ap taken before;
-      count = omega (arith, ap length whole, length-append (leaves_of_tree roomy.tree) (x ∷ []), length_tree larger.tree, many);
-    }
 
 -- What is listed, of the trees that are read off the arena.
 

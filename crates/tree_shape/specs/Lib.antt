@@ -8,3 +8,5 @@ pub mod Numbers
 pub mod Changes
 pub mod Values
 pub mod Composing
+pub mod Parents
+pub mod Building

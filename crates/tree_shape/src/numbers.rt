@@ -76,16 +76,12 @@ impl Numbers {
         self.free.push_reserved(number);
     }
 
-    /// The same numbers, with room for all of them to be given back.
-    pub(crate) fn try_clone(&self) -> Result<Numbers, NoMemory>
-        ensures same { IfOk result (λ copy. numbers_of copy ≡ numbers_of self.now) }
-        ensures room { IfOk result (λ copy. copy.drawn ≤ vec_capacity copy.free) }
+    /// So many numbers drawn and none free, with room for all of them to be given back.
+    pub(crate) fn of(alloc: Global, drawn: u32) -> Result<Numbers, NoMemory>
+        ensures numbers { IfOk result (λ numbers. numbers_of numbers ≡ record { free = []; drawn = drawn }) }
+        ensures room { IfOk result (λ numbers. drawn ≤ vec_capacity numbers.free) }
     {
-        let mut free = Vec::with_capacity(*self.free.allocator(), self.drawn as usize)?;
-        free.extend_from_slice(self.free.as_slice())?;
-        Ok(Numbers {
-            free,
-            drawn: self.drawn,
-        })
+        let free = Vec::with_capacity(alloc, drawn as usize)?;
+        Ok(Numbers { free, drawn })
     }
 }

@@ -1,5 +1,6 @@
 //! The tree by positions: an arena of inner nodes, its root and the numbers of its leaves and its inner nodes.
 ghost use Rattle.std.specs.Prelude.{◌≡◌, ℕ, ◌+◌, ◌-◌, ◌*◌, ◌<◌, ◌≤◌, max, [], length, Option, Some, None, true, IfOk, OnOk, nat_lt, slice_index, vec_len, vec_capacity};
+ghost use Rattle.std.specs.List.{slice_get};
 ghost use Rattle.std.specs.Option.{option_map};
 ghost use Rattle.tree_shape.specs.declared.node.Child.TheVariants.{Inner};
 ghost use Rattle.tree_shape.specs.Tree.{Tree, name, height, count, Stands};
@@ -10,12 +11,16 @@ ghost use Rattle.tree_shape.specs.Numbers.{next_number, taken, given_back};
 ghost use Rattle.tree_shape.specs.View.{ShapeView, count_of, leaves_of_tree, height_of_tree, IsSound, HasPlace, HasSoundLeaf, IsLawful, IsSameShape, tree_with, rows_with, inners_with, tree_without, rows_without, inners_without, rows_above};
 ghost use Rattle.tree_shape.specs.Changes.{IsPartOf, HasBelow, HasInner, times_listed, IsListing, BoundsHeight, IsOver, numbers_below};
 ghost use Rattle.tree_shape.specs.Fewest.{inserted, removed};
+ghost use Rattle.tree_shape.specs.Building.{inners_upward};
 
 use crate::arena::apply;
+use crate::building::build_below;
+use crate::climbing::climbed;
 use crate::dirty::{Dirty, row_on};
 use crate::insertion::grow;
 use crate::node::{Child, Node, height_of, leaf_at, leaves_of, row};
 use crate::numbers::Numbers;
+use crate::parents::Parents;
 use crate::removal::{parent_of, shrink, touch_below};
 use knit_base::NoMemory;
 use std::alloc::Global;
@@ -29,21 +34,23 @@ pub struct Shape {
     root: Option<Child>,
     leaves: Numbers,
     inners: Numbers,
+    parents: Parents,
 }
 
 impl Model for Shape {
-    ghost use Rattle.std.specs.Prelude.{◌≡◌, ◌≤◌, ◌&&◌, vec_len, vec_capacity, nat_lt};
+    ghost use Rattle.std.specs.Prelude.{◌≡◌, ◌≤◌, ◌&&◌, length, vec_len, vec_capacity, nat_lt};
     ghost use Rattle.std.specs.Option.{option_map};
     ghost use Rattle.tree_shape.specs.Numbers.{numbers_of};
     ghost use Rattle.tree_shape.specs.View.{ShapeView, shape_code, tree_at, IsShape};
+    ghost use Rattle.tree_shape.specs.Parents.{parents_of, AreLinked, HavePlaces};
 
     ghost Value = { ShapeView };
 
     ghost coded = { shape_code };
 
-    ghost view = { λ s. record { tree = option_map (tree_at s.nodes.items) s.root; leaf_numbers = numbers_of s.leaves; inner_numbers = numbers_of s.inners; room = (nat_lt s.leaves.drawn (vec_capacity s.leaves.free) && nat_lt s.inners.drawn (vec_capacity s.inners.free)) && nat_lt (vec_len s.nodes) (vec_capacity s.nodes) } };
+    ghost view = { λ s. record { tree = option_map (tree_at s.nodes.items) s.root; leaf_numbers = numbers_of s.leaves; inner_numbers = numbers_of s.inners; room = ((nat_lt s.leaves.drawn (vec_capacity s.leaves.free) && nat_lt s.inners.drawn (vec_capacity s.inners.free)) && nat_lt (vec_len s.nodes) (vec_capacity s.nodes)) && (nat_lt s.leaves.drawn (length s.parents.leaves.items) && nat_lt s.inners.drawn (length s.parents.inners.items)) } };
 
-    ghost invariant = { λ s. IsShape s.nodes.items s.root (numbers_of s.leaves) (numbers_of s.inners) × (vec_len s.nodes ≡ s.inners.drawn) × (s.leaves.drawn ≤ vec_capacity s.leaves.free) × (s.inners.drawn ≤ vec_capacity s.inners.free) };
+    ghost invariant = { λ s. IsShape s.nodes.items s.root (numbers_of s.leaves) (numbers_of s.inners) × (vec_len s.nodes ≡ s.inners.drawn) × (s.leaves.drawn ≤ vec_capacity s.leaves.free) × (s.inners.drawn ≤ vec_capacity s.inners.free) × AreLinked (parents_of s.parents) (option_map (tree_at s.nodes.items) s.root) × HavePlaces (parents_of s.parents) s.leaves.drawn s.inners.drawn };
 }
 
 impl Shape {
@@ -58,22 +65,36 @@ impl Shape {
             root: None,
             leaves: Numbers::new(alloc),
             inners: Numbers::new(alloc),
+            parents: Parents::new(alloc),
         }
     }
 
-    /// A shape whose leaves are numbered in order from 0.
+    /// A shape whose leaves are numbered in order from 0, and whose inner nodes are numbered from 0, too, each after those
+    /// below it.
     pub fn build(alloc: Global, leaves: u32) -> Result<Shape, NoMemory>
         requires { leaves ≤ 65536 }
         ensures leaves { IfOk result (λ shape. leaves_of_tree shape.tree ≡ numbers_below leaves) }
         ensures leaf_numbers { IfOk result (λ shape. shape.leaf_numbers ≡ record { free = []; drawn = leaves }) }
+        ensures inners { IfOk result (λ shape. inners_upward shape.tree ≡ numbers_below (leaves - 1)) }
+        ensures inner_numbers { IfOk result (λ shape. shape.inner_numbers ≡ record { free = []; drawn = leaves - 1 }) }
     {
-        let mut shape = Shape::new(alloc);
-        let mut dirty = Dirty::new();
-        for at in 0..leaves {
-            shape.reserve_one()?;
-            shape.insert(at, &mut dirty);
+        if leaves == 0 {
+            return Ok(Shape::new(alloc));
         }
-        Ok(shape)
+        let mut nodes = Vec::with_capacity(alloc, leaves as usize)?;
+        let root = build_below(&mut nodes, 0, leaves);
+        let mut parents = Parents::new(alloc);
+        parents.reserve(leaves, leaves - 1)?;
+        parents.note_nodes(nodes.as_slice());
+        let inners = Numbers::of(alloc, leaves - 1)?;
+        let leaves = Numbers::of(alloc, leaves)?;
+        Ok(Shape {
+            nodes,
+            root: Some(root),
+            leaves,
+            inners,
+            parents,
+        })
     }
 
     /// The number of leaves.
@@ -155,11 +176,27 @@ impl Shape {
         }
     }
 
+    /// The position of the leaf with a number. Takes no more steps than the tree is high.
+    pub fn position(&self, number: u32) -> u32
+        requires { (at : ℕ) × (slice_get (leaves_of_tree self.now.tree) at ≡ Some number) }
+        ensures { slice_get (leaves_of_tree self.now.tree) result ≡ Some number }
+    {
+        match self.root {
+            None => 0,
+            Some(root) => climbed(self.nodes.as_slice(), &self.parents, root, number),
+        }
+    }
+
     /// Whether one more leaf can be inserted without memory.
     pub fn has_room(&self) -> bool
         ensures { result ≡ self.now.room }
     {
-        self.leaves.has_room() && self.inners.has_room() && self.nodes.len() < self.nodes.capacity()
+        self.leaves.has_room()
+            && self.inners.has_room()
+            && self.nodes.len() < self.nodes.capacity()
+            && self
+                .parents
+                .have_places(self.leaves.drawn, self.inners.drawn)
     }
 
     /// Makes room for one more leaf.
@@ -170,7 +207,8 @@ impl Shape {
         self.leaves.reserve_one()?;
         self.inners.reserve_one()?;
         self.nodes.reserve(1)?;
-        Ok(())
+        self.parents
+            .reserve(self.leaves.drawn + 1, self.inners.drawn + 1)
     }
 
     /// What `insert` at this position lists and answers.
@@ -217,6 +255,7 @@ impl Shape {
             Some(child) => {
                 let number = self.inners.draw();
                 self.root = Some(put(&mut self.nodes, child, at, new, number, dirty));
+                self.parents.note(dirty);
                 new
             }
         }
@@ -264,6 +303,7 @@ impl Shape {
                     let number = leaf_at(self.nodes.as_slice(), child, at);
                     let gone = parent_of(self.nodes.as_slice(), top, at);
                     self.root = Some(take(&mut self.nodes, top, at, dirty));
+                    self.parents.note(dirty);
                     self.leaves.give_back(number);
                     self.inners.give_back(gone);
                     number
@@ -286,22 +326,6 @@ impl Shape {
             None => {}
             Some(child) => touch_below(self.nodes.as_slice(), child, at, dirty),
         }
-    }
-
-    /// An equal shape.
-    pub fn try_clone(&self) -> Result<Shape, NoMemory>
-        ensures { IfOk result (λ copy. IsSameShape self.now copy) }
-    {
-        let leaves = self.leaves.try_clone()?;
-        let inners = self.inners.try_clone()?;
-        let mut nodes = Vec::with_capacity(*self.nodes.allocator(), self.nodes.len())?;
-        nodes.extend_from_slice(self.nodes.as_slice())?;
-        Ok(Shape {
-            nodes,
-            root: self.root,
-            leaves,
-            inners,
-        })
     }
 }
 

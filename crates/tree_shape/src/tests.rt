@@ -157,27 +157,6 @@ fn a_removal_turns_what_leans(rt: HostRuntime) -> Result<(), Fail> {
     Ok(())
 }
 
-fn planned_cut(shape: &Shape, at: u32, dirty: &mut Dirty) -> Option<u32> {
-    if at < shape.len() {
-        Some(shape.plan_remove(at, dirty))
-    } else {
-        None
-    }
-}
-
-#[test]
-fn a_copy_is_left_as_it_was(rt: HostRuntime) -> Result<(), Fail> {
-    let mut dirty = Dirty::new();
-    let mut shape = Shape::build(rt.alloc(), 3)?;
-    let copy = shape.try_clone()?;
-    assert_eq!(rt; cut(&mut shape, 1, &mut dirty), Some(1));
-    assert_eq!(rt; leaf(&shape, 1), Some(2));
-    assert_eq!(rt; leaf(&copy, 1), Some(1));
-    assert_eq!(rt; planned_cut(&copy, 1, &mut dirty), Some(1));
-    assert_eq!(rt; leaf(&copy, 1), Some(1));
-    Ok(())
-}
-
 /// The children of the lowest inner node above a leaf.
 fn beside(shape: &Shape, at: u32, dirty: &mut Dirty) -> Option<(Child, Child)> {
     if at >= shape.len() {
@@ -204,5 +183,38 @@ fn room_is_made_for_one_leaf(rt: HostRuntime) -> Result<(), Fail> {
             Some((Child::Leaf(2), Child::Leaf(1)))
         )
     );
+    Ok(())
+}
+
+/// Where the leaf of a position is found by its number.
+fn found(shape: &Shape, at: u32) -> Option<u32> {
+    if at < shape.len() {
+        let number = shape.leaf(at);
+        Some(shape.position(number))
+    } else {
+        None
+    }
+}
+
+#[test]
+fn leaves_are_found_by_their_numbers(rt: HostRuntime) -> Result<(), Fail> {
+    let mut dirty = Dirty::new();
+    let mut shape = Shape::new(rt.alloc());
+    four(&mut shape, &mut dirty)?;
+    assert_eq!(rt; cut(&mut shape, 0, &mut dirty), Some(3));
+    assert_eq!(rt; found(&shape, 0), Some(0));
+    assert_eq!(rt; found(&shape, 1), Some(1));
+    assert_eq!(rt; found(&shape, 2), Some(2));
+    Ok(())
+}
+
+/// Of seven leaves three lie left of the root, so the inner nodes are numbered left, right and root within each half.
+#[test]
+fn a_built_shape_numbers_its_nodes_upward(rt: HostRuntime) -> Result<(), Fail> {
+    let shape = Shape::build(rt.alloc(), 7)?;
+    assert_eq!(rt; shape.height(), 3);
+    assert!(rt; is_inner(top_of(&shape), 5));
+    assert_eq!(rt; shape.inner_numbers(), 6);
+    assert_eq!(rt; found(&shape, 4), Some(4));
     Ok(())
 }

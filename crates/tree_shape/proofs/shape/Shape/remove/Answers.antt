@@ -1,8 +1,15 @@
-use Rattle.std.proofs.Common.{◌≡◌, ◌<◌, sym, ◌∙◌, ap, subst, arith, Some}
+use Rattle.std.proofs.Common.{◌≡◌, ◌<◌, length, sym, ◌∙◌, ap, subst, arith, Some}
 use Rattle.tree_shape.specs.declared.node.Child.TheVariants.{Leaf, Inner}
 use Rattle.tree_shape.specs.Tree.{Stands, count, leaves}
 use Rattle.tree_shape.specs.Numbers.{NumbersView, numbers_of, given_back}
 use Rattle.tree_shape.specs.View.{ShapeView, count_of}
+use Rattle.std.specs.List.{All}
+use Rattle.std.specs.Prelude.{slice_index}
+use Rattle.tree_shape.specs.Plan.{erase, rows}
+use Rattle.tree_shape.specs.Removal.{shrunk, gone}
+use Rattle.tree_shape.specs.Parents.{parents_of, with_parents, AreLinked, RowIsPlaced}
+use Rattle.tree_shape.proofs.Listings.{listing_shrunk}
+use Rattle.tree_shape.proofs.ParentLinks.{linked_none, rows_are_placed, shape_linked}
 use Rattle.tree_shape.proofs.Roots.{sound_read}
 use Rattle.tree_shape.proofs.Shapes.{shape_at, shape_shrunk, shape_emptied}
 use Rattle.tree_shape.proofs.Removals.{leaves_shrunk}
@@ -17,6 +24,8 @@ invariant_of-self c =
       c.self.invariant.1,
       omega (arith, ap (λ (v : NumbersView). v.drawn) c.give_back.ensures.numbers, c.give_back.ensures.capacity, c.self.invariant.2),
       c.self.invariant.3,
+      linked_none (parents_of c.self.inside.parents),
+      record { leaves = omega (arith, ap (λ (v : NumbersView). v.drawn) c.give_back.ensures.numbers, c.self.invariant.5.leaves); inners = c.self.invariant.5.inners },
     )
 
 pub leaf_at-number-requires : goal.leaf_at-number-requires
@@ -33,6 +42,17 @@ pub take-requires-clause-place : goal.take-requires-clause-place
 take-requires-clause-place c =
     let r = tree_below _ _ (Inner c.in-Inner.top) _ _ _ (c.in-Some.is ∙ ap (λ v. Some v) c.in-Inner.is) (ap (λ (v : ShapeView). v.tree) c.self.view_is) c.self.invariant.0 in
     (r.t, r.sound, subst (λ v. c.args.at < count_of v) r.seen c.requires)
+
+pub note-requires : goal.note-requires
+note-requires c =
+    let r = tree_below _ _ (Inner c.in-Inner.top) _ _ _ (c.in-Some.is ∙ ap (λ v. Some v) c.in-Inner.is) (ap (λ (v : ShapeView). v.tree) c.self.view_is) c.self.invariant.0 in
+    let place : c.args.at < count r.t = subst (λ v. c.args.at < count_of v) r.seen c.requires in
+    let after = c.take.ensures.sound r.t r.sound place in
+    let whole = shape_shrunk _ _ _ _ r.t c.args.at _ _ r.shape r.sound place (inside c.in-Inner.top r.t r.sound.named) after in
+    let v = parents_of c.self.inside.parents in
+    let linked : AreLinked v (Some r.t) = subst (AreLinked v) (ap (λ (s : ShapeView). s.tree) c.self.view_is ∙ r.seen) c.self.invariant.4 in
+    let listing = listing_shrunk r.t c.args.at after.once in
+    subst (All (RowIsPlaced (length v.leaves) (length v.inners))) (sym (c.take.ensures.listed r.t r.sound)) (rows_are_placed v (Some r.t) c.take.new.nodes.items c.take.result (erase (shrunk c.args.at r.t)) (rows (shrunk c.args.at r.t)) (given_back (slice_index (leaves r.t) c.args.at) (numbers_of c.self.inside.leaves)) (given_back (gone c.args.at r.t) (numbers_of c.self.inside.inners)) linked listing after whole c.self.invariant.5.leaves c.self.invariant.5.inners)
 
 pub give_back-requires-in-Inner : goal.give_back-requires-in-Inner
 give_back-requires-in-Inner c =
@@ -51,11 +71,20 @@ invariant_of-self-in-Inner c =
     let number = c.leaf_at-number.ensures r.t r.sound.named (subst (λ v. Stands v r.t) (sym c.as_slice.ensures.value) r.sound.stands) in
     let parent = c.parent_of-gone.ensures r.t r.sound.named (subst (λ v. Stands v r.t) (sym c.as_slice-in-Inner.ensures.value) r.sound.stands) in
     let after = c.take.ensures.sound r.t r.sound place in
-    let whole = shape_shrunk _ _ _ _ r.t c.args.at _ _ r.shape r.sound place (inside c.in-Inner.top r.t r.sound.named) after in (
+    let whole = shape_shrunk _ _ _ _ r.t c.args.at _ _ r.shape r.sound place (inside c.in-Inner.top r.t r.sound.named) after in
+    let v = parents_of c.self.inside.parents in
+    let linked : AreLinked v (Some r.t) = subst (AreLinked v) (ap (λ (s : ShapeView). s.tree) c.self.view_is ∙ r.seen) c.self.invariant.4 in
+    let listing = listing_shrunk r.t c.args.at after.once in
+    let noted : parents_of c.note.new.self ≡ with_parents v (rows (shrunk c.args.at r.t)) = c.note.ensures.noted ∙ ap (with_parents v) (c.take.ensures.listed r.t r.sound) in (
       rw (c.give_back-in-Inner.ensures.numbers, c.give_back-in-Inner-2.ensures.numbers, number, parent) whole,
       omega (arith, c.take.ensures.len, c.self.invariant.1, ap (λ (v : NumbersView). v.drawn) c.give_back-in-Inner-2.ensures.numbers),
       omega (arith, c.self.invariant.2, c.give_back-in-Inner.ensures.capacity, ap (λ (v : NumbersView). v.drawn) c.give_back-in-Inner.ensures.numbers),
       omega (arith, c.self.invariant.3, c.give_back-in-Inner-2.ensures.capacity, ap (λ (v : NumbersView). v.drawn) c.give_back-in-Inner-2.ensures.numbers),
+      shape_linked v (Some r.t) c.take.new.nodes.items c.take.result (erase (shrunk c.args.at r.t)) (rows (shrunk c.args.at r.t)) (given_back (slice_index (leaves r.t) c.args.at) (numbers_of c.self.inside.leaves)) (given_back (gone c.args.at r.t) (numbers_of c.self.inside.inners)) linked listing after whole c.self.invariant.5.leaves c.self.invariant.5.inners (parents_of c.note.new.self) noted,
+      record {
+        leaves = omega (arith, c.self.invariant.5.leaves, c.note.ensures.leaves, ap (λ (v : NumbersView). v.drawn) c.give_back-in-Inner.ensures.numbers);
+        inners = omega (arith, c.self.invariant.5.inners, c.note.ensures.inners, ap (λ (v : NumbersView). v.drawn) c.give_back-in-Inner-2.ensures.numbers);
+      },
     )
 
 pub returns-in-Inner : goal.returns-in-Inner

@@ -1,6 +1,0 @@
-use Rattle.std.proofs.Common.{refl}
-use Rattle.summary_tree.proofs.Changes.{rooms_replace}
-use Rattle.summary_tree.proofs.tree.SummaryTree.need_replace.Goals as goal
-
-pub need_of-requires : goal.need_of-requires
-need_of-requires g c = record { there = rw (c.touch.ensures.listed) (rooms_replace g.S.Summaries.join g.S.Summaries.room g.S.Summaries.after (g.S.Summaries.leaf_at c.args.self.now.store) (g.S.Summaries.node_at c.args.self.now.store) c.leaf-number.result c.args.at c.args.room c.args.self.now.shape.tree c.args.self.now.shape c.len-len.ensures.lawful refl c.requires.kept.there c.requires.kept.keeps) }

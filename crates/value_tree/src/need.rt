@@ -1,0 +1,87 @@
+//! The room that a change needs, known before its values are.
+ghost use Rattle.std.specs.Prelude.{◌≡◌, ℕ, ◌+◌, ◌<◌, ◌≤◌, List, [], ◌∷◌, ◌++◌, map, length, Option, Some, None};
+ghost use Rattle.std.specs.Option.{option_map};
+ghost use Rattle.tree_shape.specs.declared.node.Child.TheVariants.{Leaf};
+ghost use Rattle.tree_shape.specs.Values.{part, composed_all};
+ghost use Rattle.tree_shape.specs.Composing.{latest};
+ghost use Rattle.value_tree.specs.Need.{leaf_rooms, node_rooms, more_rooms, found_at};
+
+use crate::values::Values;
+use tree_shape::{Child, Dirty};
+
+/// A leaf's new room, by its number.
+#[derive(Clone, Copy)]
+pub(crate) struct NewLeaf<R> {
+    pub number: u32,
+    pub room: R,
+}
+
+/// The room found last for an inner node among the rows that have one.
+fn found<S: Values>(need: &S::Need, dirty: &Dirty, rows: u32, node: u32) -> Option<S::Room>
+    requires rows { rows ≡ length (S.rooms need.now) }
+    requires few { rows ≤ length dirty.now }
+    ensures { result ≡ latest node dirty.now (S.rooms need.now) None }
+{
+    let mut room = None;
+    for i in 0..rows {
+        if let Some(row) = dirty.get(i) {
+            if row.node == node {
+                room = Some(S::nth(need, i));
+            }
+        }
+    }
+    room
+}
+
+/// The room of a child: that of the new leaf, or found among the rows, or that of what it has.
+fn room_at<S: Values>(
+    store: &S,
+    new: Option<NewLeaf<S::Room>>,
+    need: &S::Need,
+    dirty: &Dirty,
+    rows: u32,
+    child: Child,
+) -> S::Room
+    requires rows { rows ≡ length (S.rooms need.now) }
+    requires few { rows ≤ length dirty.now }
+    requires there { (r : S.Room) × (found_at S.room (S.leaf_at store.now) (S.node_at store.now) new dirty.now (S.rooms need.now) child ≡ Some r) }
+    ensures { Some result ≡ found_at S.room (S.leaf_at store.now) (S.node_at store.now) new dirty.now (S.rooms need.now) child }
+{
+    match child {
+        Child::Leaf(number) => {
+            if let Some(leaf) = new {
+                if leaf.number == number {
+                    return leaf.room;
+                }
+            }
+            store.room_of(child)
+        }
+        Child::Inner(node) => match found::<S>(need, dirty, rows, node) {
+            Some(room) => room,
+            None => store.room_of(child),
+        },
+    }
+}
+
+/// The rooms of a change's rows, and then that of its new leaf.
+pub(crate) fn need_of<S: Values>(
+    store: &S,
+    new: Option<NewLeaf<S::Room>>,
+    dirty: &Dirty,
+) -> S::Need
+    requires there { (all : List S.Room) × (map (λ r. Some r) all ≡ composed_all S.after (leaf_rooms S.room (S.leaf_at store.now) new) (node_rooms S.room (S.node_at store.now)) dirty.now) }
+    ensures { (rest : List S.Room) × (S.rooms result ≡ rest ++ more_rooms new) × (map (λ r. Some r) rest ≡ composed_all S.after (leaf_rooms S.room (S.leaf_at store.now) new) (node_rooms S.room (S.node_at store.now)) dirty.now) }
+{
+    let mut need = S::no_need();
+    for i in 0..dirty.len() {
+        if let Some(row) = dirty.get(i) {
+            let left = room_at(store, new, &need, dirty, i, row.left);
+            let right = room_at(store, new, &need, dirty, i, row.right);
+            S::push(&mut need, S::both(left, right));
+        }
+    }
+    if let Some(leaf) = new {
+        S::push(&mut need, leaf.room);
+    }
+    need
+}

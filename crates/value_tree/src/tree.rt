@@ -1,0 +1,248 @@
+//! The tree: its shape, and the values at its leaves and inner nodes.
+ghost use Rattle.std.specs.Prelude.{◌≡◌, ℕ, ◌+◌, ◌*◌, ◌<◌, ◌≤◌, List, [], ◌∷◌, length, Option, Some, true, slice_index, slice_set, OnOk, IsOk, IfSome, IsNone, ◌↔◌};
+ghost use Rattle.std.specs.Option.{option_map};
+ghost use Rattle.tree_shape.specs.Fewest.{inserted, removed};
+ghost use Rattle.tree_shape.specs.Numbers.{next_number};
+ghost use Rattle.tree_shape.specs.View.{ShapeView, IsSameShape, count_of, leaves_of_tree, rows_above, rows_with, rows_without};
+ghost use Rattle.tree_shape.specs.Composing.{Costs};
+ghost use Rattle.tree_shape.specs.Values.{leaf_values, part, with_node};
+ghost use Rattle.value_tree.specs.Found.{found_in};
+ghost use Rattle.value_tree.specs.Kept.{IsKept, IsReplaceNeed, IsInsertNeed, IsRemoveNeed, KeepsNeeds};
+
+use crate::find::{Counts, Walk, step};
+use crate::need::{NewLeaf, need_of};
+use crate::refresh::refresh;
+use crate::values::{Values, Takes};
+use knit_base::{NoMemory, Steps};
+use std::alloc::Global;
+use std::sync::ledger::Ledger;
+use tree_shape::{Child, Dirty, Shape};
+
+/// A balanced tree with a value at each leaf, and at each inner node the one composed of its leaves' values.
+#[derive(Drop)]
+pub struct ValueTree<S: Values> {
+    pub(crate) shape: Shape,
+    pub(crate) store: S,
+}
+
+impl<S: Values> ValueTree<S> {
+    /// Puts another value at the leaf of a position, from 0. Takes no memory.
+    pub fn replace<F, L: Ledger>(&mut self, at: u32, leaf: F, steps: &mut Steps<L>)
+    where
+        S: Takes<F>,
+        requires kept { IsKept S.join S.sound (S.leaf_at self.old.store) (S.node_at self.old.store) (S.slots self.old.store) self.old.shape }
+        requires place { at < count_of self.old.shape.tree }
+        requires sound { S.sound (slice_set (leaf_values (S.leaf_at self.old.store) self.old.shape.tree) at (S.value_of leaf)) }
+        requires need { (needed : List S.Room) × S.meets self.old.store needed × IsReplaceNeed S.room S.after (S.leaf_at self.old.store) (S.node_at self.old.store) self.old.shape at (S.room (S.value_of leaf)) needed }
+        ensures kept { IsKept S.join S.sound (S.leaf_at self.new.store) (S.node_at self.new.store) (S.slots self.new.store) self.new.shape }
+        ensures leaves { leaf_values (S.leaf_at self.new.store) self.new.shape.tree ≡ slice_set (leaf_values (S.leaf_at self.old.store) self.old.shape.tree) at (S.value_of leaf) }
+        ensures shape { self.new.shape ≡ self.old.shape }
+        ensures steps { (each : ℕ) → Costs S.stands S.cost each (slice_set (leaf_values (S.leaf_at self.old.store) self.old.shape.tree) at (S.value_of leaf)) → steps.new ≤ steps.old + 3 * each * length (rows_above at self.old.shape.tree) }
+    {
+        let mut dirty = Dirty::new();
+        let _len = self.shape.len();
+        let number = self.shape.leaf(at);
+        self.shape.touch(at, &mut dirty);
+        self.store.set_leaf(number, leaf);
+        refresh(&mut self.store, &dirty, steps);
+    }
+
+    /// Puts a leaf at a position, before the leaf that was there, and answers its number. Takes no memory.
+    pub fn insert<F, L: Ledger>(&mut self, at: u32, leaf: F, steps: &mut Steps<L>) -> u32
+    where
+        S: Takes<F>,
+        requires kept { IsKept S.join S.sound (S.leaf_at self.old.store) (S.node_at self.old.store) (S.slots self.old.store) self.old.shape }
+        requires place { at ≤ count_of self.old.shape.tree }
+        requires few { count_of self.old.shape.tree < 65536 }
+        requires room { self.old.shape.room ≡ true }
+        requires leaf_slot { self.old.shape.leaf_numbers.drawn < S.slots self.old.store }
+        requires inner_slot { self.old.shape.inner_numbers.drawn < S.slots self.old.store }
+        requires sound { S.sound (inserted at (S.value_of leaf) (leaf_values (S.leaf_at self.old.store) self.old.shape.tree)) }
+        requires need { (needed : List S.Room) × S.meets self.old.store needed × IsInsertNeed S.room S.after (S.leaf_at self.old.store) (S.node_at self.old.store) self.old.shape at (S.room (S.value_of leaf)) needed }
+        ensures kept { IsKept S.join S.sound (S.leaf_at self.new.store) (S.node_at self.new.store) (S.slots self.new.store) self.new.shape }
+        ensures leaves { leaf_values (S.leaf_at self.new.store) self.new.shape.tree ≡ inserted at (S.value_of leaf) (leaf_values (S.leaf_at self.old.store) self.old.shape.tree) }
+        ensures number { result ≡ next_number self.old.shape.leaf_numbers }
+        ensures numbers { leaves_of_tree self.new.shape.tree ≡ inserted at result (leaves_of_tree self.old.shape.tree) }
+        ensures steps { (each : ℕ) → Costs S.stands S.cost each (inserted at (S.value_of leaf) (leaf_values (S.leaf_at self.old.store) self.old.shape.tree)) → steps.new ≤ steps.old + 3 * each * length (rows_with at (next_number self.old.shape.leaf_numbers) (next_number self.old.shape.inner_numbers) self.old.shape.tree) }
+    {
+        let mut dirty = Dirty::new();
+        let _before = self.shape.len();
+        let number = self.shape.insert(at, &mut dirty);
+        let _after = self.shape.len();
+        self.store.set_leaf(number, leaf);
+        refresh(&mut self.store, &dirty, steps);
+        number
+    }
+
+    /// Takes the leaf at a position out and answers its number. Takes no memory.
+    pub fn remove<L: Ledger>(&mut self, at: u32, steps: &mut Steps<L>) -> u32
+        requires kept { IsKept S.join S.sound (S.leaf_at self.old.store) (S.node_at self.old.store) (S.slots self.old.store) self.old.shape }
+        requires place { at < count_of self.old.shape.tree }
+        requires sound { S.sound (removed at (leaf_values (S.leaf_at self.old.store) self.old.shape.tree)) }
+        requires need { (needed : List S.Room) × S.meets self.old.store needed × IsRemoveNeed S.room S.after (S.leaf_at self.old.store) (S.node_at self.old.store) self.old.shape at needed }
+        ensures kept { IsKept S.join S.sound (S.leaf_at self.new.store) (S.node_at self.new.store) (S.slots self.new.store) self.new.shape }
+        ensures leaves { leaf_values (S.leaf_at self.new.store) self.new.shape.tree ≡ removed at (leaf_values (S.leaf_at self.old.store) self.old.shape.tree) }
+        ensures number { result ≡ slice_index (leaves_of_tree self.old.shape.tree) at }
+        ensures numbers { leaves_of_tree self.new.shape.tree ≡ removed at (leaves_of_tree self.old.shape.tree) }
+        ensures steps { (each : ℕ) → Costs S.stands S.cost each (removed at (leaf_values (S.leaf_at self.old.store) self.old.shape.tree)) → steps.new ≤ steps.old + 3 * each * length (rows_without at self.old.shape.tree) }
+    {
+        let mut dirty = Dirty::new();
+        let _before = self.shape.len();
+        let number = self.shape.remove(at, &mut dirty);
+        let _after = self.shape.len();
+        refresh(&mut self.store, &dirty, steps);
+        self.store.clear_leaf(number);
+        let gone = self.shape.next_inner();
+        self.store.clear_node(gone);
+        number
+    }
+
+    /// What putting a value of this room at a position needs. It stays a need until the next change.
+    pub fn need_replace(&self, at: u32, room: S::Room) -> S::Need
+        requires kept { IsKept S.join S.sound (S.leaf_at self.now.store) (S.node_at self.now.store) (S.slots self.now.store) self.now.shape }
+        requires place { at < count_of self.now.shape.tree }
+        ensures need { IsReplaceNeed S.room S.after (S.leaf_at self.now.store) (S.node_at self.now.store) self.now.shape at room (S.rooms result) }
+    {
+        let mut dirty = Dirty::new();
+        let _len = self.shape.len();
+        let number = self.shape.leaf(at);
+        self.shape.touch(at, &mut dirty);
+        need_of(&self.store, Some(NewLeaf { number, room }), &dirty)
+    }
+
+    /// What inserting a value of this room at a position needs.
+    pub fn need_insert(&self, at: u32, room: S::Room) -> S::Need
+        requires kept { IsKept S.join S.sound (S.leaf_at self.now.store) (S.node_at self.now.store) (S.slots self.now.store) self.now.shape }
+        requires place { at ≤ count_of self.now.shape.tree }
+        requires few { count_of self.now.shape.tree < 65536 }
+        ensures need { IsInsertNeed S.room S.after (S.leaf_at self.now.store) (S.node_at self.now.store) self.now.shape at room (S.rooms result) }
+    {
+        let mut dirty = Dirty::new();
+        let _len = self.shape.len();
+        let number = self.shape.plan_insert(at, &mut dirty);
+        need_of(&self.store, Some(NewLeaf { number, room }), &dirty)
+    }
+
+    /// What taking out the leaf of a position needs.
+    pub fn need_remove(&self, at: u32) -> S::Need
+        requires kept { IsKept S.join S.sound (S.leaf_at self.now.store) (S.node_at self.now.store) (S.slots self.now.store) self.now.shape }
+        requires place { at < count_of self.now.shape.tree }
+        ensures need { IsRemoveNeed S.room S.after (S.leaf_at self.now.store) (S.node_at self.now.store) self.now.shape at (S.rooms result) }
+    {
+        let mut dirty = Dirty::new();
+        let _len = self.shape.len();
+        self.shape.plan_remove(at, &mut dirty);
+        need_of(&self.store, None, &dirty)
+    }
+
+    /// Makes the room that a need asks for. Where it is there already, it takes no memory and is `Ok`. Fails where memory runs
+    /// out, with the same tree.
+    pub fn reserve(&mut self, need: &S::Need) -> Result<(), NoMemory>
+        requires kept { IsKept S.join S.sound (S.leaf_at self.old.store) (S.node_at self.old.store) (S.slots self.old.store) self.old.shape }
+        ensures kept { IsKept S.join S.sound (S.leaf_at self.new.store) (S.node_at self.new.store) (S.slots self.new.store) self.new.shape }
+        ensures leaves { (k : ℕ) → S.leaf_at self.new.store k ≡ S.leaf_at self.old.store k }
+        ensures nodes { (k : ℕ) → S.node_at self.new.store k ≡ S.node_at self.old.store k }
+        ensures shape { self.new.shape ≡ self.old.shape }
+        ensures needs { KeepsNeeds S.room S.after (S.leaf_at self.old.store) (S.node_at self.old.store) self.old.shape (S.leaf_at self.new.store) (S.node_at self.new.store) self.new.shape }
+        ensures met { OnOk result (S.meets self.new.store (S.rooms need.now)) }
+        ensures ready { S.meets self.old.store (S.rooms need.now) → IsOk result }
+    {
+        if self.store.meets(need) {
+            return Ok(());
+        }
+        self.store.reserve(need)
+    }
+
+    /// Makes the room that a need asks for, and a place for one more leaf and one more inner node. Fails where memory runs out,
+    /// with the same tree.
+    pub fn reserve_insert(&mut self, need: &S::Need) -> Result<(), NoMemory>
+        requires kept { IsKept S.join S.sound (S.leaf_at self.old.store) (S.node_at self.old.store) (S.slots self.old.store) self.old.shape }
+        ensures kept { IsKept S.join S.sound (S.leaf_at self.new.store) (S.node_at self.new.store) (S.slots self.new.store) self.new.shape }
+        ensures leaves { (k : ℕ) → S.leaf_at self.new.store k ≡ S.leaf_at self.old.store k }
+        ensures nodes { (k : ℕ) → S.node_at self.new.store k ≡ S.node_at self.old.store k }
+        ensures shape { IsSameShape self.old.shape self.new.shape }
+        ensures needs { KeepsNeeds S.room S.after (S.leaf_at self.old.store) (S.node_at self.old.store) self.old.shape (S.leaf_at self.new.store) (S.node_at self.new.store) self.new.shape }
+        ensures met { OnOk result (S.meets self.new.store (S.rooms need.now)) }
+        ensures room { OnOk result (self.new.shape.room ≡ true) }
+        ensures leaf_slot { OnOk result (self.new.shape.leaf_numbers.drawn < S.slots self.new.store) }
+        ensures inner_slot { OnOk result (self.new.shape.inner_numbers.drawn < S.slots self.new.store) }
+    {
+        self.shape.reserve_one()?;
+        self.store.reserve(need)?;
+        let _len = self.shape.len();
+        let leaves = self.shape.leaf_numbers();
+        let inners = self.shape.inner_numbers();
+        self.store.reserve_slots(if leaves < inners {
+            inners + 1
+        } else {
+            leaves + 1
+        })
+    }
+
+    /// Whether the room that a need asks for is there.
+    pub fn meets(&self, need: &S::Need) -> bool
+        ensures { (result ≡ true) ↔ S.meets self.now.store (S.rooms need.now) }
+    {
+        self.store.meets(need)
+    }
+
+    /// A tree without leaves. Takes no memory.
+    pub fn new(alloc: Global, store: S) -> ValueTree<S>
+        requires none { S.sound [] }
+        ensures kept { IsKept S.join S.sound (S.leaf_at result.store) (S.node_at result.store) (S.slots result.store) result.shape }
+        ensures empty { leaf_values (S.leaf_at result.store) result.shape.tree ≡ [] }
+    {
+        ValueTree {
+            shape: Shape::new(alloc),
+            store,
+        }
+    }
+
+    /// The number of leaves.
+    pub fn len(&self) -> u32
+        ensures { result ≡ count_of self.now.shape.tree }
+    {
+        self.shape.len()
+    }
+
+    /// The root, if there is a leaf: what it has stands for all leaves.
+    pub fn root(&self) -> Option<Child>
+        requires kept { IsKept S.join S.sound (S.leaf_at self.now.store) (S.node_at self.now.store) (S.slots self.now.store) self.now.shape }
+        ensures none { IsNone result → leaf_values (S.leaf_at self.now.store) self.now.shape.tree ≡ [] }
+        ensures stands { IfSome result (λ child. (v : S.Value) × (part (S.leaf_at self.now.store) (S.node_at self.now.store) child ≡ Some v) × S.stands (leaf_values (S.leaf_at self.now.store) self.now.shape.tree) v) }
+    {
+        self.shape.root()
+    }
+
+    /// The position of the leaf that has the offset, where each leaf counts so many, and the offset within it.
+    pub fn find(&self, offset: u64) -> Option<(u32, u64)>
+    where
+        S: Counts,
+        requires kept { IsKept S.join S.sound (S.leaf_at self.now.store) (S.node_at self.now.store) (S.slots self.now.store) self.now.shape }
+        ensures { result ≡ found_in S.count (leaf_values (S.leaf_at self.now.store) self.now.shape.tree) offset }
+    {
+        let _len = self.shape.len();
+        let Some(root) = self.shape.root() else {
+            return None;
+        };
+        if self.store.count_of(root) <= offset {
+            return None;
+        }
+        let mut walk = Walk {
+            child: root,
+            at: 0,
+            left: offset,
+        };
+        for _i in 0..self.shape.height() {
+            walk = step(&self.shape, &self.store, walk);
+        }
+        Some((walk.at, walk.left))
+    }
+
+    /// The values, by the numbers of leaves and inner nodes.
+    pub fn store(&self) -> &S
+        ensures { result.now ≡ self.now.store }
+    {
+        &self.store
+    }
+}
