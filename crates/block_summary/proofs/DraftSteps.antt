@@ -1,5 +1,5 @@
 -- What stays known while lines are read.
-use Rattle.std.proofs.Common.{map, ◌≡◌, ◌+◌, ◌^◌, ℕ, Bool, true, false, not, ◌&&◌, ◌||◌, bit_and, bit_or, inl, inr, ◌⊎◌, arith, if◌then◌else◌, List, [], ◌∷◌, ◌++◌, Option, Some, None, unwrap_or, refl, sym, ap, ◌∙◌, subst}
+use Rattle.std.proofs.Common.{map, length, ◌≡◌, ◌+◌, ◌-◌, ◌≤◌, ◌^◌, ℕ, pos, ◌-ℤ◌, ◌<ℤ◌, Bool, true, false, not, ◌&&◌, ◌||◌, bit_and, bit_or, inl, inr, ◌⊎◌, arith, if◌then◌else◌, List, [], ◌∷◌, ◌++◌, Option, Some, None, unwrap_or, refl, sym, ap, ◌∙◌, subst}
 use Rattle.std.specs.Int.{bit_at}
 use Rattle.std.specs.List.{All, Contains, flat_map, sum_by}
 use Rattle.std.specs.Prelude.{nat_eq, Result, Ok, Err, OnOk}
@@ -8,42 +8,45 @@ use Rattle.std.proofs.lemmas.Nat.Bits.{bit_at_or, bit_at_and, bit_at-lt, bit_at-
 use Rattle.knit_base.specs.declared.yarns.CarrierNo.{CarrierNo}
 use Rattle.knit_base.specs.Yarns.{mask_of, contains_carrier, without_set}
 use Rattle.face_data.specs.declared.digest.Digest.{Digest}
-use Rattle.face_data.specs.Digests.{blank, digest_of, effect_bearing, noted, digest_bearing, IsPlainCondition}
-use Rattle.face_data.specs.Goodness.{IsIrredundant}
+use Rattle.face_data.specs.Digests.{digest_of, effect_bearing, digest_bearing, IsPlainCondition}
+use Rattle.face_data.specs.Goodness.{IsInOrder, IsIrredundant}
 use Rattle.face_data.specs.Answers.Answer.{no_it_does_not, asks}
 use Rattle.face_data.specs.Composition.{from_bearing, settled}
 use Rattle.face_data.specs.Conditions.Ask.{carrier_in}
 use Rattle.face_data.specs.Bearings.{if_so}
 use Rattle.face_data.specs.declared.bearing.Bearing.TheVariants.{Implied, Refuted, Silent}
 use Rattle.face_data.proofs.Carriers.{has-bit_or, has-without}
-use Rattle.face_data.proofs.Digests.{digest_of-push, read-plain, settled-plain}
-use Rattle.face_data.proofs.KeptChecks.{against_asks, irredundant_push}
+use Rattle.face_data.proofs.Digests.{read-plain, settled-plain}
+use Rattle.face_data.proofs.KeptChecks.{against_asks}
 use Rattle.face_data.specs.Bearings.{bearing}
-use Rattle.face_data.specs.Conditions.{Ask, ask_of}
+use Rattle.face_data.specs.Conditions.{Ask}
 use Rattle.face_data.specs.declared.bearing.Bearing.{Bearing}
-use Rattle.face_data.specs.declared.face.Check.{Check}
-use Rattle.face_data.specs.View.{asked_of}
-use Rattle.face_data.specs.declared.face.Cond.{Cond}
-use Rattle.face_data.specs.declared.face.Cond.TheVariants.{RackIs, CarrierIn, CarrierOut, HookFree, HookIs, HookLacks, SizeAtMost}
 use Rattle.face_data.proofs.Members.{Contains-none, Contains-head, Contains-tail, Contains-cons_cases}
-use Rattle.std.proofs.lemmas.Bool.{true≢false}
+use Rattle.knit_base.specs.declared.rule.Fault.{Fault}
+use Rattle.knit_base.specs.declared.rule.Reason.{Reason}
+use Rattle.std.proofs.lemmas.Bool.{true≢false, le-ltb}
 use Rattle.knit_base.specs.declared.needle.Needle.{Needle}
 use Rattle.knit_base.specs.Needle.{is_slider, own_slider, same_needle, same_needle-true}
 use Rattle.face_data.specs.declared.face.Effect.{Effect}
 use Rattle.face_data.specs.declared.face.Seg.{Seg}
 use Rattle.face_data.specs.declared.face.Seg.TheVariants.{Entry, New}
-use Rattle.face_data.specs.Answers.{Answer, read_answer, size_answer}
+use Rattle.face_data.specs.Answers.{Answer, read_answer, size_answer, size_left}
 use Rattle.face_data.specs.Answers.Answer.{yes_it_does}
-use Rattle.face_data.specs.Composition.{merged, against_kept, composed}
+use Rattle.face_data.specs.Composition.{merged, against_kept, composed, effect_of_both}
 use Rattle.face_data.specs.Conditions.Ask.{size_at_most}
-use Rattle.face_data.specs.Segments.{Changed, change_at, segments_on, entries_of, new_of}
+use Rattle.face_data.specs.Segments.{Changed, change_at, segments_on, entries_of, new_of, names_through, new_through}
+use Rattle.face_data.specs.Sizes.{SizeRule, size_ask}
+use Rattle.face_data.specs.declared.sizes.SizeAsk.{SizeAsk}
+use Rattle.face_data.proofs.Answers.{size_answer_over}
+use Rattle.face_data.proofs.ChangeLists.{none_in_order}
+use Rattle.std.proofs.lemmas.Int.{ints}
 use Rattle.face_data.specs.Summaries.{Asked, Summary}
 use Rattle.face_data.proofs.Places.{change_at-put}
 use Rattle.knit_base.specs.declared.instr.Instr.TheVariants.{Knit}
 use Rattle.knit_base.specs.declared.instr.Read.TheVariants as read
 use Rattle.knit_base.specs.declared.needle.Dir.{Dir}
 use Rattle.face_data.specs.declared.face.Ending.TheVariants.{Through}
-use Rattle.block_summary.specs.DraftKnowledge.{effect_in, Holds, HoldsAfter, IsBare, Knows}
+use Rattle.block_summary.specs.DraftKnowledge.{effect_in, Holds, HoldsAfter, HasAsked, IsBare, IsDraft, Took}
 use Rattle.block_summary.specs.LineSummaries.{asked_by, line_summary, plainly_asked, slider_asked}
 use Rattle.face_data.proofs.Front.{AllHold}
 use Rattle.block_summary.proofs.LineFront.{front_knit}
@@ -133,13 +136,37 @@ pub where_ok : (X E : Type 0) (r : Result X E) (P : Type 0) → P → OnOk r P
 where_ok X E (Ok x) P p = p
 where_ok X E (Err e) P p = tt
 
+-- none of the hooks is known to be bare
+all_bare : (kept : List Asked) (e : Effect) (changes : List Changed) (bare : List (Option Needle)) → All (λ (o : Option Needle). o ≡ None) bare → All (IsBare kept e changes) bare
+all_bare kept e changes bare none = All-weaker (λ (o : Option Needle). o ≡ None) (IsBare kept e changes) (λ o same. subst (IsBare kept e changes) (sym same) tt) bare none
+
 -- what stays known after a hook got other segments
-pub known_left : (kept : List Asked) (e : Effect) (a b : List Changed) (digest : Digest) (bare : List (Option Needle)) (n : Needle) (segs : List Seg) → is_slider n.bed ≡ false →
-    b ≡ merged a ((n, segs) ∷ []) → Knows kept e a digest bare → Knows kept e b digest bare
-known_left kept e a b digest bare n segs hook is knows = record {
-  digest_is = knows.digest_is;
-  irredundant = knows.irredundant;
-  bare_are = All-weaker (IsBare kept e a) (IsBare kept e b) (λ o p. subst (λ changes. IsBare kept e changes o) (sym is) (bare_left kept e a n segs o hook p)) bare knows.bare_are;
+pub put_on_hook : (lines made : ℕ) (kept : List Asked) (e : Effect) (a b : List Changed) (bare : List (Option Needle)) (n : Needle) (segs : List Seg) → is_slider n.bed ≡ false →
+    made ≤ lines → IsInOrder b → b ≡ merged a ((n, segs) ∷ []) → All (IsBare kept e a) bare → IsDraft lines made kept e b bare
+put_on_hook lines made kept e a b bare n segs hook few order is bare_are = record {
+  few = few;
+  order = order;
+  bare_are = All-weaker (IsBare kept e a) (IsBare kept e b) (λ o p. subst (λ changes. IsBare kept e changes o) (sym is) (bare_left kept e a n segs o hook p)) bare bare_are;
+}
+
+-- where no hook is known to be bare
+pub put_anywhere : (lines made : ℕ) (kept : List Asked) (e : Effect) (b : List Changed) (bare : List (Option Needle)) → made ≤ lines → IsInOrder b →
+    All (λ (o : Option Needle). o ≡ None) bare → IsDraft lines made kept e b bare
+put_anywhere lines made kept e b bare few order none = record { few = few; order = order; bare_are = all_bare kept e b bare none }
+
+-- a condition on sizes doesn't ask what the lines did to rack, carriers and hook
+bare_effect : (kept : List Asked) (e f : Effect) (a : List Changed) (o : Option Needle) → IsBare kept e a o → IsBare kept f a o
+unfolding read_answer
+bare_effect kept e f a None bare = tt
+bare_effect kept e f a (Some n) bare = bare
+
+-- lines that are carried out leave what is known of sliders
+pub moved_on : (lines made more_lines more_made : ℕ) (kept : List Asked) (e f : Effect) (a : List Changed) (bare : List (Option Needle)) → more_made ≤ more_lines →
+    IsDraft lines made kept e a bare → IsDraft more_lines more_made kept f a bare
+moved_on lines made more_lines more_made kept e f a bare few draft = record {
+  few = few;
+  order = draft.order;
+  bare_are = All-weaker (IsBare kept e a) (IsBare kept f a) (λ o p. bare_effect kept e f a o p) bare draft.bare_are;
 }
 
 -- carriers that are known to be in action are asked for in vain
@@ -191,16 +218,6 @@ digest_known kept e a digest q r plain silence is each said =
     ∙ settled-plain kept q plain each
     ∙ ap (λ b. from_bearing b (asks q)) (ap (λ (d : Digest). digest_bearing d q) (sym is) ∙ sym said)
 
--- conditions that aren't on sizes name no needles
-pub plain_names : (names : List Needle) (cond : Cond) → IsPlainCondition (ask_of [] cond) → ask_of names cond ≡ ask_of [] cond
-plain_names names (RackIs q) plain = refl
-plain_names names (CarrierIn c) plain = refl
-plain_names names (CarrierOut c) plain = refl
-plain_names names HookFree plain = refl
-plain_names names (HookIs set) plain = refl
-plain_names names (HookLacks c) plain = refl
-plain_names names (SizeAtMost p most) plain = absurd plain
-
 more_by : (r : Bearing) (rest more : Answer) → (rest ≡ yes_it_does → more ≡ yes_it_does) → from_bearing r rest ≡ yes_it_does → from_bearing r more ≡ yes_it_does
 more_by Implied rest more step h = refl
 more_by Refuted rest more step h = absurd (cc)
@@ -220,40 +237,115 @@ bare_more : (kept : List Asked) (c : Asked) (e : Effect) (a : List Changed) (o :
 bare_more kept c e a None bare = tt
 bare_more kept c e a (Some n) bare = held_more kept c (read_answer e a (size_at_most (own_slider n ∷ []) 0)) bare
 
--- what stays known after a condition was kept that isn't on sizes
-pub known_more : (kept : List Asked) (e : Effect) (a : List Changed) (digest new : Digest) (bare : List (Option Needle)) (c : Asked) → IsPlainCondition c.ask → new ≡ noted digest c.ask →
-    against_kept kept (read_answer e a c.ask) ≡ asks c.ask → Knows kept e a digest bare → Knows (kept ++ c ∷ []) e a new bare
-known_more kept e a digest new bare c plain is left knows = record {
-  digest_is = is ∙ ap (λ (d : Digest). noted d c.ask) knows.digest_is ∙ sym (digest_of-push kept c);
-  irredundant = irredundant_push kept c knows.irredundant (against_asks kept (read_answer e a c.ask) c.ask left).1;
-  bare_are = All-weaker (IsBare kept e a) (IsBare (kept ++ c ∷ []) e a) (λ o p. bare_more kept c e a o p) bare knows.bare_are;
-}
-
--- one more condition, with its needles written out
-pushed_all : (names : List Needle) (checks : List Check) (check : Check) → map (asked_of names) (checks ++ check ∷ []) ≡ map (asked_of names) checks ++ asked_of names check ∷ []
-pushed_all names [] check = refl
-pushed_all names (c ∷ cs) check = ap (λ ks. asked_of names c ∷ ks) (pushed_all names cs check)
-
--- one check more
-pub pushed_asked : (names : List Needle) (checks new : List Check) (check : Check) → new ≡ checks ++ check ∷ [] → map (asked_of names) new ≡ map (asked_of names) checks ++ asked_of names check ∷ []
-pushed_asked names checks new check is = ap (map (asked_of names)) is ∙ pushed_all names checks check
+-- what stays known after a condition was kept
+pub kept_more : (lines made : ℕ) (kept now : List Asked) (e : Effect) (a : List Changed) (bare : List (Option Needle)) (c : Asked) → now ≡ kept ++ c ∷ [] →
+    IsDraft lines made kept e a bare → IsDraft lines made now e a bare
+kept_more lines made kept now e a bare c is draft = subst (λ (ks : List Asked). IsDraft lines made ks e a bare) (sym is) (record {
+  few = draft.few;
+  order = draft.order;
+  bare_are = All-weaker (IsBare kept e a) (IsBare (kept ++ c ∷ []) e a) (λ o p. bare_more kept c e a o p) bare draft.bare_are;
+})
 
 -- the condition is left to ask
-pub left_to_ask : (old : Summary) (kept : List Asked) (e : Effect) (a : List Changed) (lines made : ℕ) (names : List Needle) (cond : Cond) (r : Bearing) → IsPlainCondition (ask_of [] cond) →
+pub left_to_ask : (old : Summary) (kept : List Asked) (e : Effect) (a : List Changed) (lines made : ℕ) (q : Ask) (r : Bearing) →
     record { lines = lines; made = made; checks = kept; changes = a; ending = Through e } ≡ old →
-    against_kept old.checks (read_answer (effect_in old.ending) old.changes (ask_of [] cond)) ≡ from_bearing r (asks (ask_of [] cond)) → r ≡ Silent →
-    against_kept kept (read_answer e a (ask_of names cond)) ≡ asks (ask_of names cond)
-left_to_ask old kept e a lines made names cond r plain seen said silence =
-    subst (λ q. against_kept kept (read_answer e a q) ≡ asks q) (sym (plain_names names cond plain))
-    (subst (λ (s : Summary). against_kept s.checks (read_answer (effect_in s.ending) s.changes (ask_of [] cond)) ≡ asks (ask_of [] cond)) (sym seen)
-    (said ∙ ap (λ b. from_bearing b (asks (ask_of [] cond))) silence))
+    against_kept old.checks (read_answer (effect_in old.ending) old.changes q) ≡ from_bearing r (asks q) → r ≡ Silent → settled kept q ≡ asks q
+left_to_ask old kept e a lines made q r seen said silence =
+    let left : against_kept kept (read_answer e a q) ≡ asks q =
+    subst (λ (s : Summary). against_kept s.checks (read_answer (effect_in s.ending) s.changes q) ≡ asks q) (sym seen) (said ∙ ap (λ b. from_bearing b (asks q)) silence) in
+    ap (against_kept kept) (sym ((against_asks kept (read_answer e a q) q left).0)) ∙ left
 
 -- nothing is known of no line
-pub nothing_known : (e : Effect) (checks : List Check) (names : List Needle) (changes : List Changed) (digest : Digest) (bare : List (Option Needle)) → checks ≡ [] → digest ≡ blank →
-    All (λ (o : Option Needle). o ≡ None) bare → Knows (map (asked_of names) checks) e changes digest bare
-nothing_known e checks names changes digest bare none is empty =
-    subst (λ cs. Knows (map (asked_of names) cs) e changes digest bare) (sym none) (record {
-      digest_is = is;
-      irredundant = tt;
-      bare_are = All-weaker (λ (o : Option Needle). o ≡ None) (IsBare [] e changes) (λ o same. subst (IsBare [] e changes) (sym same) tt) bare empty;
-    })
+pub nothing_known : (kept : List Asked) (e : Effect) (changes : List Changed) (bare : List (Option Needle)) → changes ≡ [] → All (λ (o : Option Needle). o ≡ None) bare →
+    IsDraft 0 0 kept e changes bare
+nothing_known kept e changes bare none empty =
+    put_anywhere 0 0 kept e changes bare (omega arith) (subst (λ (cs : List Changed). IsInOrder cs) (sym none) none_in_order) empty
+
+-- what a condition on sizes comes to, where there are too many loops already
+sizes_over : (a : List Changed) (rule : SizeRule) (ask : SizeAsk) → ask.max <ℤ pos 0 → ask ≡ size_ask a rule →
+    size_answer (names_through a rule.needles) (new_through a rule.needles) rule.most ≡ no_it_does_not
+sizes_over a rule ask below is =
+    let max : ask.max ≡ (pos ((rule.most + 1) - new_through a rule.needles) -ℤ pos 1) = ap (λ (q : SizeAsk). q.max) is in
+    sym (size_answer_over (names_through a rule.needles) (new_through a rule.needles) rule.most (omega (arith, ints, max, below)))
+
+-- and where there may be so many at the entry
+sizes_left : (a : List Changed) (rule : SizeRule) (ask : SizeAsk) (most : ℕ) → ask.max ≡ pos most → ask ≡ size_ask a rule →
+    size_answer (names_through a rule.needles) (new_through a rule.needles) rule.most ≡ size_left ask.entries most
+unfolding size_answer
+sizes_left a rule ask most is_most is =
+    let max : ask.max ≡ (pos ((rule.most + 1) - new_through a rule.needles) -ℤ pos 1) = ap (λ (q : SizeAsk). q.max) is in
+    let entries : names_through a rule.needles ≡ ask.entries = sym (ap (λ (q : SizeAsk). q.entries) is) in
+    let left : rule.most - new_through a rule.needles ≡ most = omega (arith, ints, max, is_most) in
+    let room : new_through a rule.needles ≤ rule.most = omega (arith, ints, max, is_most) in
+    ap (λ b. if b then no_it_does_not else size_left (names_through a rule.needles) (rule.most - new_through a rule.needles)) (le-ltb rule.most (new_through a rule.needles) room)
+    ∙ (λ i. size_left (entries i) (left i))
+
+took_known : (old new : Summary) (ask : SizeAsk) (rule : SizeRule) (r : Answer) (goes : Bool) → ask ≡ size_ask old.changes rule →
+    size_answer (names_through old.changes rule.needles) (new_through old.changes rule.needles) rule.most ≡ r →
+    Took (against_kept old.checks r) old new (record { line = old.lines; reason = ask.reason }) goes →
+    HasAsked old new (record { line = old.lines; reason = rule.reason }) (size_at_most rule.needles rule.most) goes
+unfolding read_answer
+took_known old new ask rule r goes is says took =
+    subst (λ answer. Took (against_kept old.checks answer) old new (record { line = old.lines; reason = rule.reason }) goes) (sym says)
+    (subst (λ reason. Took (against_kept old.checks r) old new (record { line = old.lines; reason = reason }) goes) (ap (λ (q : SizeAsk). q.reason) is) took)
+
+-- asking a condition on sizes that can't hold
+pub took_over : (old : Summary) (ask : SizeAsk) (rule : SizeRule) → ask.max <ℤ pos 0 → ask ≡ size_ask old.changes rule →
+    HasAsked old old (record { line = old.lines; reason = rule.reason }) (size_at_most rule.needles rule.most) false
+took_over old ask rule below is = took_known old old ask rule no_it_does_not false is (sizes_over old.changes rule ask below is) (refl, refl)
+
+-- asking one that may hold
+pub took_left : (old new : Summary) (ask : SizeAsk) (rule : SizeRule) (entries : List Needle) (most : ℕ) (goes : Bool) → ask.max ≡ pos most → entries ≡ ask.entries → ask ≡ size_ask old.changes rule →
+    Took (against_kept old.checks (size_left entries most)) old new (record { line = old.lines; reason = ask.reason }) goes →
+    HasAsked old new (record { line = old.lines; reason = rule.reason }) (size_at_most rule.needles rule.most) goes
+took_left old new ask rule entries most goes is_most are is took =
+    took_known old new ask rule (size_left ask.entries most) goes is (sizes_left old.changes rule ask most is_most is)
+    (subst (λ (ns : List Needle). Took (against_kept old.checks (size_left ns most)) old new (record { line = old.lines; reason = ask.reason }) goes) are took)
+
+-- asking changes the conditions alone
+pub took_rest : (r : Answer) (old new : Summary) (fault : Fault) (goes : Bool) → Took r old new fault goes → new ≡ record old { checks = new.checks }
+took_rest yes_it_does old new fault goes took = took.1 ∙ ap (λ (s : Summary). record old { checks = s.checks }) (sym took.1)
+took_rest no_it_does_not old new fault goes took = took.1 ∙ ap (λ (s : Summary). record old { checks = s.checks }) (sym took.1)
+took_rest (asks q) old new fault goes took = took.1 ∙ ap (λ (s : Summary). record old { checks = s.checks }) (sym took.1)
+
+-- no needle is to be asked
+pub entries_none : (old : Summary) (entries : List Needle) (most : ℕ) (fault : Fault) → length entries ≡ 0 → Took (against_kept old.checks (size_left entries most)) old old fault true
+entries_none old [] most fault none = (refl, refl)
+entries_none old (n ∷ entries) most fault none = absurd (omega (arith, none))
+
+left_to_kept : (kept : List Asked) (entries : List Needle) (most : ℕ) → 1 ≤ length entries → against_kept kept (size_left entries most) ≡ settled kept (size_at_most entries most)
+left_to_kept kept [] most some = absurd (omega (arith, some))
+left_to_kept kept (n ∷ entries) most some = refl
+
+-- the kept conditions tell
+pub entries_known : (old : Summary) (lines made : ℕ) (kept : List Asked) (a : List Changed) (e : Effect) (entries : List Needle) (most : ℕ) (fault : Fault) →
+    record { lines = lines; made = made; checks = kept; changes = a; ending = Through e } ≡ old → 1 ≤ length entries → settled kept (size_at_most entries most) ≡ yes_it_does →
+    Took (against_kept old.checks (size_left entries most)) old old fault true
+entries_known old lines made kept a e entries most fault seen some known =
+    let says : against_kept old.checks (size_left entries most) ≡ yes_it_does =
+    ap (λ (s : Summary). against_kept s.checks (size_left entries most)) (sym seen) ∙ left_to_kept kept entries most some ∙ known in
+    subst (λ r. Took r old old fault true) (sym says) (refl, refl)
+
+-- one more condition is kept
+pub entries_kept : (old : Summary) (lines made : ℕ) (kept now : List Asked) (a : List Changed) (e : Effect) (entries : List Needle) (most : ℕ) (reason : Reason) →
+    record { lines = lines; made = made; checks = kept; changes = a; ending = Through e } ≡ old → 1 ≤ length entries →
+    settled kept (size_at_most entries most) ≡ asks (size_at_most entries most) →
+    now ≡ kept ++ record { fault = record { line = lines; reason = reason }; ask = size_at_most entries most } ∷ [] →
+    Took (against_kept old.checks (size_left entries most)) old (record { lines = lines; made = made; checks = now; changes = a; ending = Through e }) (record { line = old.lines; reason = reason }) true
+entries_kept old lines made kept now a e entries most reason seen some silent more =
+    let says : against_kept old.checks (size_left entries most) ≡ asks (size_at_most entries most) =
+    ap (λ (s : Summary). against_kept s.checks (size_left entries most)) (sym seen) ∙ left_to_kept kept entries most some ∙ silent in
+    subst (λ r. Took r old (record { lines = lines; made = made; checks = now; changes = a; ending = Through e }) (record { line = old.lines; reason = reason }) true) (sym says) (
+      refl,
+      (λ i. record { lines = lines; made = made; checks = more i; changes = a; ending = Through e })
+      ∙ ap (λ (s : Summary). record s { checks = s.checks ++ record { fault = record { line = s.lines; reason = reason }; ask = size_at_most entries most } ∷ [] }) seen,
+    )
+
+-- the conditions of lines that were drafted, one more line carried out
+pub goes_on : (lines made loops : ℕ) (kept : List Asked) (a : List Changed) (e both effect : Effect) (old : Summary) →
+    record { lines = lines; made = made; checks = kept; changes = a; ending = Through e } ≡ old → both ≡ effect_of_both e effect →
+    record { lines = lines + 1; made = made + loops; checks = kept; changes = a; ending = Through both }
+    ≡ record old { lines = old.lines + 1; made = old.made + loops; ending = Through (effect_of_both (effect_in old.ending) effect) }
+goes_on lines made loops kept a e both effect old seen is =
+    (λ i. record { lines = lines + 1; made = made + loops; checks = kept; changes = a; ending = Through (is i) })
+    ∙ ap (λ (s : Summary). record s { lines = s.lines + 1; made = s.made + loops; ending = Through (effect_of_both (effect_in s.ending) effect) }) seen

@@ -1,4 +1,6 @@
 pub mod DraftSteps
+pub mod KeptConditions
+pub mod LineChanges
 pub mod LineChecks
 pub mod LineGoodness
 pub mod LineFront

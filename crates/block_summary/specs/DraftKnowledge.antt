@@ -1,22 +1,29 @@
 -- What is known of the lines read so far.
-use Rattle.std.specs.Prelude.{◌≡◌, Bool, true, false, List, [], ◌∷◌, ◌++◌, All, Option, None, Some}
+use Rattle.std.specs.Prelude.{◌≡◌, ◌≤◌, ◌<ℤ◌, ℕ, pos, Bool, true, false, List, [], ◌∷◌, ◌++◌, All, Option, None, Some, map, fold}
+use Rattle.std.specs.List.{flat_map}
 use Rattle.knit_base.specs.declared.needle.Needle.{Needle}
 use Rattle.knit_base.specs.declared.rule.Fault.{Fault}
+use Rattle.knit_base.specs.declared.rule.Reason.{Reason}
 use Rattle.knit_base.specs.Needle.{own_slider}
 use Rattle.face_data.specs.declared.digest.Digest.{Digest}
+use Rattle.face_data.specs.declared.face.Check.{Check}
+use Rattle.face_data.specs.declared.face.Cond.{Cond}
 use Rattle.face_data.specs.declared.face.Effect.{Effect}
 use Rattle.face_data.specs.declared.face.Ending.{Ending}
 use Rattle.face_data.specs.declared.face.Ending.TheVariants.{Through, Broken}
+use Rattle.face_data.specs.declared.face.Seg.TheVariants.{New}
+use Rattle.face_data.specs.declared.sizes.SizeAsk.{SizeAsk}
 use Rattle.face_data.specs.Answers.{Answer, read_answer}
 use Rattle.face_data.specs.Answers.Answer.{yes_it_does, no_it_does_not, asks}
-use Rattle.face_data.specs.Composition.{against_kept}
-use Rattle.face_data.specs.Conditions.{Ask}
+use Rattle.face_data.specs.Composition.{against_kept, merged, reads, Gathering}
+use Rattle.face_data.specs.Conditions.{Ask, ask_of}
 use Rattle.face_data.specs.Conditions.Ask.{size_at_most}
-use Rattle.face_data.specs.Digests.{digest_of}
+use Rattle.face_data.specs.Digests.{CarrierFits, IsPlainCondition, digest_of}
 use Rattle.face_data.specs.Drafts.{no_effect}
-use Rattle.face_data.specs.Goodness.{IsIrredundant}
-use Rattle.face_data.specs.Segments.{Changed}
+use Rattle.face_data.specs.Goodness.{IsInOrder, IsIrredundant}
+use Rattle.face_data.specs.Segments.{Changed, segments_on}
 use Rattle.face_data.specs.Summaries.{Asked, Summary}
+use Rattle.face_data.specs.View.{ChecksFit, asked_of, names_of}
 
 -- what lines do that go through
 abbrev pub effect_in : Ending → Effect
@@ -36,10 +43,17 @@ abbrev pub IsBare : List Asked → Effect → List Changed → Option Needle →
 IsBare kept effect changes None = Unit {0}
 IsBare kept effect changes (Some n) = Holds kept effect changes (size_at_most (own_slider n ∷ []) 0)
 
--- the digest is that of the conditions, none of which says anything of a later one, and the needles of the table are bare
-pub record Knows (kept : List Asked) (effect : Effect) (changes : List Changed) (digest : Digest) (bare : List (Option Needle)) : Type 0 where
-  pub digest_is : digest ≡ digest_of kept
-  pub irredundant : IsIrredundant kept
+-- the parts of the kept conditions make up the list of names, the digest is that of the conditions, and none of them says anything of a later one
+pub record AreKept (names : List Needle) (checks : List Check) (digest : Digest) : Type 0 where
+  pub fit : ChecksFit names checks
+  pub whole : flat_map (λ (c : Check). names_of names c.cond) checks ≡ names
+  pub digest_is : digest ≡ digest_of (map (asked_of names) checks)
+  pub irredundant : IsIrredundant (map (asked_of names) checks)
+
+-- there are no more loops than lines, the changes stand in the order of needles, and the needles of the table are bare
+pub record IsDraft (lines made : ℕ) (kept : List Asked) (effect : Effect) (changes : List Changed) (bare : List (Option Needle)) : Type 0 where
+  pub few : made ≤ lines
+  pub order : IsInOrder changes
   pub bare_are : All (IsBare kept effect changes) bare
 
 -- what asking makes of a summary, where this is known of the condition: it is kept with this fault if it is left to ask, and
@@ -52,3 +66,43 @@ Took (asks ask) old new fault goes = (goes ≡ true) × (new ≡ record old { ch
 -- the condition was asked after the lines of a summary
 abbrev pub HasAsked : Summary → Summary → Fault → Ask → Bool → Type 0
 HasAsked old new fault ask goes = Took (against_kept old.checks (read_answer (effect_in old.ending) old.changes ask)) old new fault goes
+
+-- the conditions that are left, read after the lines of a summary
+abbrev pub reads_after : Summary → List Asked → Gathering
+reads_after summary left = reads (effect_in summary.ending) summary.changes summary.lines summary.checks left
+
+-- the same after one that can't hold for this reason, and after none
+abbrev pub reads_or_stops : Option Reason → Summary → List Asked → Gathering
+reads_or_stops None summary left = reads_after summary left
+reads_or_stops (Some reason) summary left = record { checks = summary.checks; stop = Some (record { line = summary.lines; reason = reason }) }
+
+-- some of the conditions were asked after the lines of a summary, one after the other, and these are left
+pub record HaveAsked (old new : Summary) (all left : List Asked) : Type 0 where
+  pub rest_stays : new ≡ record old { checks = new.checks }
+  pub so_far : (more : List Asked) → reads_after old (all ++ more) ≡ reads_after new (left ++ more)
+
+-- the conditions were asked after the lines of a summary, one after the other, up to one that can't hold, if there is one
+pub record HasAskedAll (old new : Summary) (all : List Asked) (stop : Option Reason) : Type 0 where
+  pub rest_stays : new ≡ record old { checks = new.checks }
+  pub asked_are : (more : List Asked) → reads_after old (all ++ more) ≡ reads_or_stops stop new more
+
+-- the condition isn't on sizes, and its carrier is one of 64
+abbrev pub CanBeAsked : Reason × Cond → Type 0
+CanBeAsked c = CarrierFits c.1 × IsPlainCondition (ask_of [] c.1)
+
+-- a condition on sizes allows fewer loops than a byte counts
+abbrev pub IsSmall : SizeAsk → Type 0
+IsSmall ask = ask.max <ℤ pos 256
+
+-- one change after the other is put into the changes
+abbrev pub written : List Changed → List Changed → List Changed
+written changes more = fold (λ held (c : Changed). merged held (c ∷ [])) changes more
+
+-- one more loop, of the line with this offset, on the needle
+abbrev pub with_loop_on : Option Needle → ℕ → List Changed → List Changed
+with_loop_on None offset changes = changes
+with_loop_on (Some n) offset changes = merged changes ((n, segments_on changes n ++ New offset ∷ []) ∷ [])
+
+-- the lines of a summary, known to stop at this fault
+abbrev pub stopped_at : Fault → Summary → Summary
+stopped_at fault summary = record { lines = summary.lines; made = 0; checks = summary.checks; changes = []; ending = Broken fault }

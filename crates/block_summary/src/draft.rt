@@ -1,5 +1,5 @@
 //! The summary of the lines read so far.
-ghost use Rattle.std.specs.Prelude.{◌≡◌, ℕ, ◌-◌, ◌<◌, ◌^◌, List, [], ◌∷◌, false, All, Option, IsTrue, IfOk, OnOk};
+ghost use Rattle.std.specs.Prelude.{◌≡◌, ℕ, pos, ◌+◌, ◌-◌, ◌<◌, ◌≤◌, ◌^◌, ◌<ℤ◌, List, [], ◌∷◌, ◌++◌, false, All, Option, IsTrue, IfOk, OnOk, MatchOption, length};
 ghost use Rattle.std.specs.List.{Contains};
 ghost use Rattle.knit_base.specs.declared.instr.Instr.TheVariants.{Knit};
 ghost use Rattle.knit_base.specs.declared.instr.Read.TheVariants as read;
@@ -7,18 +7,22 @@ ghost use Rattle.knit_base.specs.declared.needle.Dir.{Dir};
 ghost use Rattle.knit_base.specs.declared.yarns.CarrierNo.{CarrierNo};
 ghost use Rattle.knit_base.specs.declared.needle.Needle.{Needle};
 ghost use Rattle.knit_base.specs.Needle.{is_slider, own_slider};
-ghost use Rattle.face_data.specs.Answers.{read_answer};
+ghost use Rattle.face_data.specs.declared.face.Ending.TheVariants.{Through};
+ghost use Rattle.face_data.specs.Answers.{read_answer, size_left};
 ghost use Rattle.face_data.specs.Answers.Answer.{asks};
-ghost use Rattle.face_data.specs.Composition.{composed, against_kept, from_bearing};
+ghost use Rattle.face_data.specs.Composition.{composed, against_kept, effect_of_both, from_bearing, merged};
 ghost use Rattle.face_data.specs.Conditions.{ask_of};
 ghost use Rattle.face_data.specs.Digests.{CarrierFits, IsPlainCondition};
+ghost use Rattle.face_data.specs.Goodness.{IsInOrder};
 ghost use Rattle.face_data.specs.Conditions.Ask.{carrier_in, size_at_most};
-ghost use Rattle.face_data.specs.Segments.{segments_on};
+ghost use Rattle.face_data.specs.Segments.{change_at, segments_on};
+ghost use Rattle.face_data.specs.Sizes.{SizeRule, size_ask};
 ghost use Rattle.face_data.specs.Drafts.{no_lines};
-ghost use Rattle.block_summary.specs.DraftKnowledge.{HoldsAfter, HasAsked, effect_in};
+ghost use Rattle.block_summary.specs.DraftKnowledge.{HoldsAfter, HasAsked, IsSmall, Took, effect_in};
 ghost use Rattle.block_summary.specs.LineSummaries.{line_summary};
 
-use face_data::{Bearing, Check, Cond, Digest, Effect, Seg, Segs, Symbols, slot_of};
+use crate::kept::Kept;
+use face_data::{Bearing, Cond, Effect, Seg, Segs, SizeAsk, Symbols, slot_of};
 use knit_base::{Fault, Needle, NoMemory, Reason, Yarns};
 use std::alloc::Global;
 use std::marker::Model;
@@ -32,26 +36,22 @@ pub struct Draft {
     alloc: Global,
     lines: u32,
     made: u32,
-    checks: Vec<Check>,
-    names: Vec<Needle>,
+    kept: Kept,
     symbols: Symbols,
     effect: Effect,
-    digest: Digest,
     bare: [Option<Needle>; 64],
 }
 
 impl Model for Draft {
-    ghost use Rattle.std.specs.Prelude.{map};
     ghost use Rattle.face_data.specs.declared.face.Ending.TheVariants.{Through};
     ghost use Rattle.face_data.specs.Summaries.{Summary};
-    ghost use Rattle.face_data.specs.View.{asked_of};
-    ghost use Rattle.block_summary.specs.DraftKnowledge.{Knows};
+    ghost use Rattle.block_summary.specs.DraftKnowledge.{IsDraft};
 
     ghost Value = { Summary };
 
-    ghost view = { λ d. record { lines = d.lines; made = d.made; checks = map (asked_of d.names.items) d.checks.items; changes = d.symbols; ending = Through d.effect } };
+    ghost view = { λ d. record { lines = d.lines; made = d.made; checks = d.kept; changes = d.symbols; ending = Through d.effect } };
 
-    ghost invariant = { λ d. Knows (map (asked_of d.names.items) d.checks.items) d.effect d.symbols d.digest d.bare };
+    ghost invariant = { λ d. IsDraft d.lines d.made d.kept d.effect d.symbols d.bare };
 }
 
 impl Draft {
@@ -63,8 +63,7 @@ impl Draft {
             alloc,
             lines: 0,
             made: 0,
-            checks: Vec::new(alloc),
-            names: Vec::new(alloc),
+            kept: Kept::new(alloc),
             symbols: Symbols::new(alloc),
             effect: Effect {
                 rack: None,
@@ -72,9 +71,27 @@ impl Draft {
                 went: 0,
                 hook: None,
             },
-            digest: Digest::blank(),
             bare: none_bare(),
         }
+    }
+
+    /// What the needles hold after the lines.
+    pub fn contents(&self) -> &Symbols
+        ensures contents { result.now ≡ self.now.changes }
+        ensures rising { IsInOrder self.now.changes }
+    {
+        &self.symbols
+    }
+
+    /// How many lines were read.
+    pub fn lines(&self) -> u32
+        ensures { result ≡ self.now.lines }
+    {
+        self.lines
+    }
+
+    pub(crate) fn allocator(&self) -> Global {
+        self.alloc
     }
 
     /// Keeps in mind that the own slider of the needle is known to hold nothing.
@@ -91,7 +108,7 @@ impl Draft {
     {
         let came = self.effect.came;
         let went = self.effect.went;
-        let asked = self.digest.ins;
+        let asked = self.kept.digest().ins;
         let known = came | (asked ^ (asked & went));
         let mask = yarns.mask();
         (mask & known) == mask
@@ -122,8 +139,7 @@ impl Draft {
                     line: self.lines,
                     reason,
                 };
-                self.checks.push(Check { fault, cond })?;
-                self.digest.note(cond);
+                self.kept.keep(fault, cond)?;
                 Ok(true)
             }
         }
@@ -138,8 +154,90 @@ impl Draft {
         match self.effect.bearing_on(cond) {
             Bearing::Implied => Bearing::Implied,
             Bearing::Refuted => Bearing::Refuted,
-            Bearing::Silent => self.digest.bearing_on(cond),
+            Bearing::Silent => self.kept.digest().bearing_on(cond),
         }
+    }
+
+    /// A condition on sizes, read through the contents so far, is asked of the line that comes next: it is kept where it isn't
+    /// known. Answers as `ask` does.
+    pub fn ask_size(&mut self, ask: &SizeAsk) -> Result<bool, NoMemory>
+        requires { IsSmall ask.now }
+        ensures rest_stays { OnOk result (self.new ≡ record self.old { checks = self.new.checks }) }
+        ensures asked { IfOk result (λ goes. (rule : SizeRule) → ask.now ≡ size_ask self.old.changes rule → HasAsked self.old self.new (record { line = self.old.lines; reason = rule.reason }) (size_at_most rule.needles rule.most) goes) }
+    {
+        match most_of(ask.max) {
+            None => Ok(false),
+            Some(most) => self.ask_entries(ask.entries.as_slice(), most, ask.reason),
+        }
+    }
+
+    // These needles are to hold at most so many loops at the block's entry.
+    fn ask_entries(
+        &mut self,
+        entries: &[Needle],
+        most: u8,
+        reason: Reason,
+    ) -> Result<bool, NoMemory>
+        requires { length entries.now < 2 ^ 32 }
+        ensures { IfOk result (Took (against_kept self.old.checks (size_left entries.now most)) self.old self.new (record { line = self.old.lines; reason = reason })) }
+    {
+        if entries.is_empty() {
+            return Ok(true);
+        }
+        if self.kept.implies(entries, most) {
+            return Ok(true);
+        }
+        let fault = Fault {
+            line: self.lines,
+            reason,
+        };
+        self.kept.keep_size(fault, entries, most)?;
+        Ok(true)
+    }
+
+    /// The needle holds these segments from now on.
+    pub(crate) fn put(&mut self, n: Needle, segs: Segs) -> Result<(), NoMemory>
+        ensures { OnOk result (self.new ≡ record self.old { changes = merged self.old.changes ((n, segs) ∷ []) }) }
+    {
+        if n.bed.is_slider() {
+            return self.put_on_slider(n, segs);
+        }
+        self.symbols.swap(n, segs)?;
+        Ok(())
+    }
+
+    // The same of a slider, or of any needle: no hook is known to be bare any more.
+    fn put_on_slider(&mut self, n: Needle, segs: Segs) -> Result<(), NoMemory>
+        ensures { OnOk result (self.new ≡ record self.old { changes = merged self.old.changes ((n, segs) ∷ []) }) }
+    {
+        self.bare = none_bare();
+        self.symbols.swap(n, segs)?;
+        Ok(())
+    }
+
+    /// One line more was carried out, which does this to rack, carriers and hook and forms so many loops.
+    pub(crate) fn move_on(&mut self, effect: &Effect, loops: u32)
+        requires few { self.old.lines < 2 ^ 32 - 1 }
+        requires one { loops ≤ 1 }
+        ensures { self.new ≡ record self.old { lines = self.old.lines + 1; made = self.old.made + loops; ending = Through (effect_of_both (effect_in self.old.ending) effect.now) } }
+    {
+        self.lines += 1;
+        self.made += loops;
+        self.effect = self.effect.then(effect);
+    }
+
+    /// One line more was read, which can't be carried out for this reason. Answers with its fault.
+    pub(crate) fn stop(&mut self, reason: Reason) -> Fault
+        requires { self.old.lines < 2 ^ 32 - 1 }
+        ensures fault { result ≡ record { line = self.old.lines; reason = reason } }
+        ensures line { self.new ≡ record self.old { lines = self.old.lines + 1 } }
+    {
+        let fault = Fault {
+            line: self.lines,
+            reason,
+        };
+        self.lines += 1;
+        fault
     }
 
     /// One line more: a knit with carriers that are known to be in action, on a hook whose own slider is known to hold nothing.
@@ -147,7 +245,6 @@ impl Draft {
     pub fn knit(&mut self, n: Needle) -> Result<Segs, NoMemory>
         requires hook { is_slider n.bed ≡ false }
         requires few { self.old.lines < 2 ^ 32 - 1 }
-        requires few_made { self.old.made < 2 ^ 32 - 1 }
         requires slider { HoldsAfter self.old (size_at_most (own_slider n ∷ []) 0) }
         ensures summary { OnOk result ((hold : ℕ) (dir : Dir) (c : CarrierNo) (cs : List CarrierNo) → ((x : CarrierNo) → Contains (c ∷ cs) x → HoldsAfter self.old (carrier_in x)) → self.new ≡ composed self.old (line_summary hold (read.Instr (Knit dir n (c ∷ cs))))) }
         ensures through { IfOk result (λ through. through ≡ segments_on self.old.changes n) }
@@ -168,4 +265,15 @@ fn none_bare() -> [Option<Needle>; 64]
     ensures { All (λ (o : Option Needle). o ≡ None) result }
 {
     [None; 64]
+}
+
+// How many loops there may be, and `None` where it can't be so few.
+fn most_of(max: i16) -> Option<u8>
+    requires { max <ℤ pos 256 }
+    ensures { MatchOption result (max <ℤ pos 0) (λ most. max ≡ pos most) }
+{
+    if max < 0 {
+        return None;
+    }
+    Some(max.unsigned_abs() as u8)
 }

@@ -14,6 +14,7 @@
 mod draft;
 mod formed;
 mod instr_ask;
+mod kept;
 mod line_ask;
 #[cfg(test)]
 mod tests;

@@ -1,0 +1,35 @@
+use Rattle.std.proofs.lemmas.Grind.{common_steps}
+use Rattle.std.proofs.Common.{arith, rules, ◌≡◌, [], ◌∷◌, ◌++◌, List, length, map, sym, ap, ◌∙◌, subst}
+use Rattle.face_data.specs.declared.face.Cond.TheVariants.{SizeAtMost}
+use Rattle.face_data.specs.Answers.Answer.{asks}
+use Rattle.face_data.specs.Composition.{settled}
+use Rattle.face_data.specs.Conditions.Ask.{size_at_most}
+use Rattle.face_data.specs.Summaries.{Asked}
+use Rattle.face_data.specs.View.{asked_of}
+use Rattle.block_summary.proofs.KeptConditions.{size_kept}
+use Rattle.block_summary.proofs.kept.Kept.keep_size.Goals as goal
+
+pub invariant_of-self-2 : goal.invariant_of-self-2
+invariant_of-self-2 c =
+    let inside = c.self.inside in
+    let needles = c.args.needles.now in
+    let begins : c.len.result ≡ length inside.names.items = grind (arith, common_steps) in
+    let names : c.extend_from_slice.new.self.items ≡ inside.names.items ++ needles = search rules in
+    let items : c.push_reserved.new.self.items ≡ inside.checks.items ++ record { fault = c.args.fault; cond = SizeAtMost (record { start = c.len.result; len = length needles }) c.args.most } ∷ [] = search rules in
+    let silent : settled (map (asked_of inside.names.items) inside.checks.items) (size_at_most needles c.args.most) ≡ asks (size_at_most needles c.args.most) =
+    subst (λ (kept : List Asked). settled kept (size_at_most needles c.args.most) ≡ asks (size_at_most needles c.args.most)) (sym c.self.view_is) c.requires.silent in
+    (size_kept inside.names.items c.extend_from_slice.new.self.items inside.checks.items c.push_reserved.new.self.items inside.digest c.args.fault needles c.args.most c.len.result (length needles) names
+    begins (λ i. length needles) items silent c.self.invariant).kept
+
+pub returns-clause-ok : goal.returns-clause-ok
+returns-clause-ok c =
+    let inside = c.self.inside in
+    let needles = c.args.needles.now in
+    let begins : c.len.result ≡ length inside.names.items = grind (arith, common_steps) in
+    let names : c.extend_from_slice.new.self.items ≡ inside.names.items ++ needles = search rules in
+    let items : c.push_reserved.new.self.items ≡ inside.checks.items ++ record { fault = c.args.fault; cond = SizeAtMost (record { start = c.len.result; len = length needles }) c.args.most } ∷ [] = search rules in
+    let silent : settled (map (asked_of inside.names.items) inside.checks.items) (size_at_most needles c.args.most) ≡ asks (size_at_most needles c.args.most) =
+    subst (λ (kept : List Asked). settled kept (size_at_most needles c.args.most) ≡ asks (size_at_most needles c.args.most)) (sym c.self.view_is) c.requires.silent in
+    (size_kept inside.names.items c.extend_from_slice.new.self.items inside.checks.items c.push_reserved.new.self.items inside.digest c.args.fault needles c.args.most c.len.result (length needles) names
+    begins (λ i. length needles) items silent c.self.invariant).asked
+    ∙ ap (λ (kept : List Asked). kept ++ record { fault = c.args.fault; ask = size_at_most needles c.args.most } ∷ []) c.self.view_is

@@ -1,0 +1,154 @@
+//! Conditions that are kept, with the needles that they name.
+ghost use Rattle.std.specs.Prelude.{◌≡◌, ◌<◌, ◌≤◌, ◌+◌, ◌^◌, [], ◌∷◌, ◌++◌, length, map, OnOk, OnErr};
+ghost use Rattle.std.specs.List.{flat_map, list_any};
+ghost use Rattle.knit_base.specs.Needle.{same_needle};
+ghost use Rattle.face_data.specs.declared.bearing.Bearing.TheVariants.{Implied};
+ghost use Rattle.face_data.specs.declared.face.Check.{Check};
+ghost use Rattle.face_data.specs.Answers.Answer.{asks};
+ghost use Rattle.face_data.specs.Bearings.{all_in, bearing, if_so};
+ghost use Rattle.face_data.specs.Composition.{from_bearing, settled};
+ghost use Rattle.face_data.specs.Conditions.{ask_of, part_of};
+ghost use Rattle.face_data.specs.Conditions.Ask.{size_at_most};
+ghost use Rattle.face_data.specs.Digests.{CarrierFits, IsPlainCondition, digest_of};
+ghost use Rattle.face_data.specs.Goodness.{IsIrredundant};
+ghost use Rattle.face_data.specs.View.{asked_of, names_of, ChecksFit, CondFits};
+
+use face_data::{Check, Cond, Digest, Part};
+use knit_base::{Fault, Needle, NoMemory};
+use std::alloc::Global;
+use std::marker::Model;
+
+/// Conditions that are kept, in the order in which they were asked. The needles of those on sizes stand in one list.
+#[derive(Drop)]
+pub struct Kept {
+    checks: Vec<Check>,
+    names: Vec<Needle>,
+    digest: Digest,
+}
+
+impl Model for Kept {
+    ghost use Rattle.std.specs.Prelude.{List, map};
+    ghost use Rattle.face_data.specs.Summaries.{Asked};
+    ghost use Rattle.face_data.specs.View.{asked_of};
+    ghost use Rattle.block_summary.specs.DraftKnowledge.{AreKept};
+
+    ghost Value = { List Asked };
+
+    ghost view = { λ k. map (asked_of k.names.items) k.checks.items };
+
+    ghost invariant = { λ k. AreKept k.names.items k.checks.items k.digest };
+}
+
+impl Kept {
+    /// Nothing is kept. Takes no memory.
+    pub fn new(alloc: Global) -> Self
+        ensures { result ≡ [] }
+    {
+        Kept {
+            checks: Vec::new(alloc),
+            names: Vec::new(alloc),
+            digest: Digest::blank(),
+        }
+    }
+
+    /// What the conditions ask of rack, carriers and hook.
+    pub fn digest(&self) -> Digest
+        ensures digest { result ≡ digest_of self.now }
+        ensures irredundant { IsIrredundant self.now }
+    {
+        self.digest
+    }
+
+    /// The conditions, and the names in which their needles stand.
+    pub fn lists(&self) -> (&[Check], &[Needle])
+        ensures checks { map (asked_of result.1.now) result.0.now ≡ self.now }
+        ensures fit { ChecksFit result.1.now result.0.now }
+        ensures whole { flat_map (λ (c : Check). names_of result.1.now c.cond) result.0.now ≡ result.1.now }
+    {
+        (&self.checks, &self.names)
+    }
+
+    /// Keeps a condition on the rack, on a carrier or on the hook.
+    pub fn keep(&mut self, fault: Fault, cond: Cond) -> Result<(), NoMemory>
+        requires fits { CarrierFits cond }
+        requires plain { IsPlainCondition (ask_of [] cond) }
+        requires silent { settled self.old (ask_of [] cond) ≡ asks (ask_of [] cond) }
+        ensures ok { OnOk result (self.new ≡ self.old ++ record { fault = fault; ask = ask_of [] cond } ∷ []) }
+        ensures err { OnErr result (self.new ≡ self.old) }
+    {
+        self.checks.push(Check { fault, cond })?;
+        self.digest.note(cond);
+        Ok(())
+    }
+
+    /// Whether a kept condition says that these needles hold at most so many loops together.
+    pub fn implies(&self, needles: &[Needle], most: u8) -> bool
+        ensures { settled self.now (size_at_most needles.now most) ≡ from_bearing (if_so result Implied) (asks (size_at_most needles.now most)) }
+    {
+        for check in &self.checks {
+            if implies_size(&self.names, check.cond, needles, most) {
+                return true;
+            }
+        }
+        false
+    }
+
+    /// Keeps the condition that these needles hold at most so many loops together.
+    pub fn keep_size(&mut self, fault: Fault, needles: &[Needle], most: u8) -> Result<(), NoMemory>
+        requires few { length needles.now < 2 ^ 32 }
+        requires silent { settled self.old (size_at_most needles.now most) ≡ asks (size_at_most needles.now most) }
+        ensures ok { OnOk result (self.new ≡ self.old ++ record { fault = fault; ask = size_at_most needles.now most } ∷ []) }
+        ensures err { OnErr result (self.new ≡ self.old) }
+    {
+        let part = Part {
+            start: self.names.len() as u64,
+            len: needles.len() as u32,
+        };
+        self.checks.reserve(1)?;
+        self.names.extend_from_slice(needles)?;
+        let cond = Cond::SizeAtMost(part, most);
+        self.checks.push_reserved(Check { fault, cond });
+        Ok(())
+    }
+}
+
+// Whether this condition says that these needles hold at most so many loops together.
+#[tactic(auto, unfolding(face_data::specs::Bearings::bearing))]
+fn implies_size(names: &[Needle], cond: Cond, needles: &[Needle], most: u8) -> bool
+    requires { CondFits names.now cond }
+    ensures { bearing (ask_of names.now cond) (size_at_most needles.now most) ≡ if_so result Implied }
+{
+    match cond {
+        Cond::SizeAtMost(part, least) => least <= most && are_within(needles, named(names, part)),
+        _ => false,
+    }
+}
+
+// The needles of a part.
+fn named(names: &[Needle], part: Part) -> &[Needle]
+    requires { part.start + part.len ≤ length names.now }
+    ensures { result.now ≡ part_of names.now part }
+{
+    let start = part.start as usize;
+    let end = start + part.len as usize;
+    &names[start..end]
+}
+
+// Whether each of the needles is one of these names.
+fn are_within(needles: &[Needle], names: &[Needle]) -> bool
+    ensures { result ≡ all_in needles.now names.now }
+{
+    needles.iter().all(|n| is_named(*n, names))
+}
+
+fn is_named(n: Needle, names: &[Needle]) -> bool
+    ensures { result ≡ list_any (same_needle n) names.now }
+{
+    names.iter().any(|m| is_same(n, *m))
+}
+
+fn is_same(n: Needle, m: Needle) -> bool
+    ensures { result ≡ same_needle n m }
+{
+    n == m
+}
