@@ -1,0 +1,3 @@
+pub mod MadeFiles
+pub mod MadeLines
+pub mod PlainLines

@@ -1,0 +1,13 @@
+//! Long programs of one shape, to try a checker on.
+//!
+//! Promises that `make` gives exactly the lines that `specs/Made` tells. Below it stand std and `knit_base`.
+#![tactic(auto)]
+
+mod course;
+mod program;
+mod stitch;
+#[cfg(test)]
+mod tests;
+
+pub use program::make;
+pub use stitch::Stitch;
