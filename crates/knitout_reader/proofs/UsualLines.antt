@@ -1,5 +1,5 @@
 -- Lines whose tokens have one space between two, and what they read as.
-use Rattle.std.proofs.Common.{◌≡◌, ◌≢◌, ℕ, ◌+◌, ◌-◌, ◌*◌, ◌<◌, ◌≤◌, ℤ, pos, ◌≤ℤ◌, int_lt, Bool, true, false, not, ◌||◌, ◌&&◌, is_none, List, [], ◌∷◌, ◌++◌, length, take, drop, slice_index, All, Option, None, Some, position, codes, ap, sym, subst, ◌∙◌, refl, inl, arith, lit<, append_assoc, append-nil, length-append, if◌then◌else◌}
+use Rattle.std.proofs.Common.{◌≡◌, ◌≢◌, ℕ, ◌+◌, ◌-◌, ◌*◌, ◌/◌, ◌%◌, ◌<◌, ◌≤◌, ℤ, pos, ◌≤ℤ◌, int_lt, Bool, true, false, not, ◌||◌, ◌&&◌, is_none, List, [], ◌∷◌, ◌++◌, length, take, drop, slice_index, All, Option, None, Some, position, codes, ap, sym, subst, ◌∙◌, refl, inl, arith, lit<, append_assoc, append-nil, length-append, if◌then◌else◌}
 use Rattle.std.specs.List.{cons_option, position_or_len}
 use Rattle.std.specs.Option.{option_map}
 use Rattle.std.proofs.lemmas.Int.{ints}
@@ -41,7 +41,7 @@ use Rattle.knitout_reader.specs.Operations.{loop_instr, loop_slider, loop_word}
 use Rattle.knitout_reader.specs.Reading.{ReadsAs, CodeReadsAs, TokensReadAs, needle_on, not_opposite, off_bed, reading_or, slider_form}
 use Rattle.knitout_reader.specs.Shapes.{IsFormed, XferShape}
 use Rattle.knitout_reader.specs.Tokens.{before_comment, has_comment, is_blank, is_semicolon, tokens_of}
-use Rattle.knitout_reader.specs.Usual.{AreByteNames, BeginsWithUsual, BeginsWithUsualNeedles, BeginsWithUsualNumber, BeginsWithUsualOperands, IsTokenByte}
+use Rattle.knitout_reader.specs.Usual.{AreByteNames, BeginsWithUsual, BeginsWithUsualName, BeginsWithUsualNeedles, BeginsWithUsualNumber, BeginsWithUsualOperands, IsByteName, IsPairName, IsTokenByte, pair_text}
 use Rattle.knitout_reader.proofs.Marks.{loop-reading}
 use Rattle.knitout_reader.proofs.Rules.{tokens-lawful}
 use Rattle.knitout_reader.proofs.TokenRuns.{tokens_of-spaced, tokens_of-token}
@@ -236,38 +236,66 @@ one_named : (names : List (List ℕ)) (token : List ℕ) (c : CarrierNo) → car
 one_named names token c named = ap (λ found. cons_option found []) named
 
 -- a name of one byte
-name_token : (names : List (List ℕ)) (table : ByteNames) (name : ℕ) → AreByteNames names table → name < 256 → slice_index table.numbers name ≢ 255 → IsPlainToken (name ∷ [])
-name_token names table name are byte some =
-    record { some = omega arith; bytes = All-cons IsTokenByte name [] (are.each name some byte).token (All-nil IsTokenByte) }
+pub byte-name : (names : List (List ℕ)) (table : ByteNames) (text rest : List ℕ) (name : ℕ) (c : CarrierNo) → AreByteNames names table → text ≡ name ∷ 10 ∷ rest → name < 256
+    → slice_index table.numbers name ≢ 255 → c.0 ≡ slice_index table.numbers name → BeginsWithUsualName names text c rest
+byte-name names table text rest name c are text_is byte some is =
+    let here : IsByteName names name (slice_index table.numbers name) = are.each name some byte in
+    record {
+      name = name ∷ [];
+      some = omega arith;
+      short = omega arith;
+      bytes = All-cons IsTokenByte name [] here.token (All-nil IsTokenByte);
+      named = here.named ∙ ap (λ k. Some (record { 0 = k })) (sym is);
+      text_is = text_is;
+    }
+
+-- a name of two digits
+pub pair-name : (names : List (List ℕ)) (table : ByteNames) (text rest : List ℕ) (tens ones : ℕ) (c : CarrierNo) → AreByteNames names table → IsDigit tens → IsDigit ones
+    → text ≡ tens ∷ ones ∷ 10 ∷ rest → slice_index table.pairs (10 * (tens - 48) + (ones - 48)) ≢ 255 → c.0 ≡ slice_index table.pairs (10 * (tens - 48) + (ones - 48))
+    → BeginsWithUsualName names text c rest
+pair-name names table text rest tens ones c are is_tens is_ones text_is some is =
+    let pair : ℕ = 10 * (tens - 48) + (ones - 48) in
+    let here : IsPairName names pair (slice_index table.pairs pair) = are.pairs pair some (omega (arith, is_tens, is_ones)) in
+    let first : 48 + (10 * (tens - 48) + (ones - 48)) / 10 ≡ tens = omega (arith, is_tens, is_ones) in
+    let second : 48 + (10 * (tens - 48) + (ones - 48)) % 10 ≡ ones = omega (arith, is_tens, is_ones) in
+    let spelled : pair_text pair ≡ tens ∷ ones ∷ [] = λ i. first i ∷ second i ∷ [] in
+    record {
+      name = tens ∷ ones ∷ [];
+      some = omega arith;
+      short = omega arith;
+      bytes = digit_bytes (tens ∷ ones ∷ []) (All-cons IsDigit tens (ones ∷ []) is_tens (All-cons IsDigit ones [] is_ones (All-nil IsDigit)));
+      named = ap (carrier_of names) (sym spelled) ∙ here.named ∙ ap (λ k. Some (record { 0 = k })) (sym is);
+      text_is = text_is;
+    }
 
 three_plain : (a b c : List ℕ) → IsPlainToken a → IsPlainToken b → IsPlainToken c → All IsPlainToken (a ∷ b ∷ c ∷ [])
 three_plain a b c is_a is_b is_c =
     All-cons IsPlainToken a (b ∷ c ∷ []) is_a (All-cons IsPlainToken b (c ∷ []) is_b (All-cons IsPlainToken c [] is_c (All-nil IsPlainToken)))
 
 -- a line that forms a loop of one carrier
-formed : (profile : Profile) (names : List (List ℕ)) (table : ByteNames) (text operands rest : List ℕ) (which : LoopOperation) (dir : Dir) (n : Needle) (c : CarrierNo) (usual : Usual)
-    → AreByteNames names table → IsPlainToken (loop_word which) → length (loop_word which) ≡ 4
+formed : (profile : Profile) (names : List (List ℕ)) (text operands rest : List ℕ) (which : LoopOperation) (dir : Dir) (n : Needle) (c : CarrierNo) (usual : Usual)
+    → length names ≤ 64 → IsPlainToken (loop_word which) → length (loop_word which) ≡ 4
     → ((bed : Bed) (token : List ℕ) → is_slider bed ≡ false → loop_slider which bed (token ∷ []) ≡ None)
     → usual_read usual ≡ read.Instr (loop_instr which dir n (c ∷ []))
-    → text ≡ loop_word which ++ operands → BeginsWithUsualOperands profile table operands dir n c rest
+    → text ≡ loop_word which ++ operands → BeginsWithUsualOperands profile names operands dir n c rest
     → BeginsWithUsual profile names text usual (length text - length rest)
-formed profile names table text operands rest which dir n c usual are word long hook said text_is front =
-    let name : ℕ = front.name in
+formed profile names text operands rest which dir n c usual few word long hook said text_is front =
+    let name : List ℕ = front.name.name in
     let digits : List ℕ = front.needle.number.digits in
     let token : List ℕ = bed_word n.bed ++ digits in
-    let byte = are.each name front.some front.byte in
-    let named : carrier_of names (name ∷ []) ≡ Some c = byte.named ∙ ap (λ k. Some (record { 0 = k })) (sym front.carrier) in
-    let tokens : List (List ℕ) = dir_word dir ∷ token ∷ (name ∷ []) ∷ [] in
+    let named : carrier_of names name ≡ Some c = front.name.named in
+    let tokens : List (List ℕ) = dir_word dir ∷ token ∷ name ∷ [] in
     let plain : All IsPlainToken (loop_word which ∷ tokens) =
     All-cons IsPlainToken (loop_word which) tokens word
-    (three_plain (dir_word dir) token (name ∷ []) (dir_token dir) (needle_token n.bed digits front.needle.number.are) (name_token names table name are front.byte front.some)) in
-    let last : (token ++ 32 ∷ name ∷ []) ++ 10 ∷ rest ≡ front.behind =
-    append_assoc token (32 ∷ name ∷ []) (10 ∷ rest) ∙ append_assoc (bed_word n.bed) digits (32 ∷ name ∷ 10 ∷ rest)
+    (three_plain (dir_word dir) token name (dir_token dir) (needle_token n.bed digits front.needle.number.are) (record { some = front.name.some; bytes = front.name.bytes })) in
+    let last : (token ++ 32 ∷ name) ++ 10 ∷ rest ≡ front.behind =
+    append_assoc token (32 ∷ name) (10 ∷ rest) ∙ append_assoc (bed_word n.bed) digits (32 ∷ (name ++ 10 ∷ rest))
+    ∙ ap (λ (l : List ℕ). bed_word n.bed ++ (digits ++ 32 ∷ l)) (sym front.name.text_is)
     ∙ ap (λ (l : List ℕ). bed_word n.bed ++ l) (sym front.needle.number.text_is) ∙ sym front.needle.text_is in
     let line : text ≡ spaced (loop_word which ∷ tokens) ++ 10 ∷ rest =
     text_is ∙ ap (λ (l : List ℕ). loop_word which ++ l) (front.text_is ∙ ap (λ (l : List ℕ). 32 ∷ (dir_word dir ++ 32 ∷ l)) (sym last)
-    ∙ ap (λ (l : List ℕ). 32 ∷ l) (sym (append_assoc (dir_word dir) (32 ∷ (token ++ 32 ∷ name ∷ [])) (10 ∷ rest))))
-    ∙ sym (append_assoc (loop_word which) (32 ∷ (dir_word dir ++ 32 ∷ (token ++ 32 ∷ name ∷ []))) (10 ∷ rest)) in
+    ∙ ap (λ (l : List ℕ). 32 ∷ l) (sym (append_assoc (dir_word dir) (32 ∷ (token ++ 32 ∷ name)) (10 ∷ rest))))
+    ∙ sym (append_assoc (loop_word which) (32 ∷ (dir_word dir ++ 32 ∷ (token ++ 32 ∷ name))) (10 ∷ rest)) in
     let short : length (spaced (loop_word which ∷ tokens)) ≤ 32 =
     omega (
       arith,
@@ -275,28 +303,29 @@ formed profile names table text operands rest which dir n c usual are word long 
       dir_len dir,
       bed_len n.bed,
       front.needle.number.few,
-      length-append (loop_word which) (32 ∷ (dir_word dir ++ 32 ∷ (token ++ 32 ∷ name ∷ []))),
-      length-append (dir_word dir) (32 ∷ (token ++ 32 ∷ name ∷ [])),
-      length-append token (32 ∷ name ∷ []),
+      front.name.short,
+      length-append (loop_word which) (32 ∷ (dir_word dir ++ 32 ∷ (token ++ 32 ∷ name))),
+      length-append (dir_word dir) (32 ∷ (token ++ 32 ∷ name)),
+      length-append token (32 ∷ name),
       length-append (bed_word n.bed) digits,
     ) in
-    let shape : IsFormed (loop_word which) (loop_word which ∷ tokens) dir n.bed n.at ((name ∷ []) ∷ []) = record {
-      operands = token ∷ (name ∷ []) ∷ [];
+    let shape : IsFormed (loop_word which) (loop_word which ∷ tokens) dir n.bed n.at (name ∷ []) = record {
+      operands = token ∷ name ∷ [];
       spelled = refl;
       first = record { needle = token; spelled = refl; named = is_needle n.bed digits n.at front.needle.number.are front.needle.number.at_is };
     } in
-    let unbroken : or_else (off_bed profile 2 n.at) (or_else (loop_slider which n.bed ((name ∷ []) ∷ [])) (carrier_rule names 3 ((name ∷ []) ∷ []))) ≡ None =
-    ap (λ o. or_else o (or_else (loop_slider which n.bed ((name ∷ []) ∷ [])) (carrier_rule names 3 ((name ∷ []) ∷ [])))) (on_bed profile n 2 front.needle.on)
-    ∙ ap (λ o. or_else o (carrier_rule names 3 ((name ∷ []) ∷ []))) (hook n.bed (name ∷ []) front.needle.hook)
-    ∙ one_carrier names (name ∷ []) c named in
+    let unbroken : or_else (off_bed profile 2 n.at) (or_else (loop_slider which n.bed (name ∷ [])) (carrier_rule names 3 (name ∷ []))) ≡ None =
+    ap (λ o. or_else o (or_else (loop_slider which n.bed (name ∷ [])) (carrier_rule names 3 (name ∷ [])))) (on_bed profile n 2 front.needle.on)
+    ∙ ap (λ o. or_else o (carrier_rule names 3 (name ∷ []))) (hook n.bed name front.needle.hook)
+    ∙ one_carrier names name c named in
     let is : usual_read usual
-    ≡ reading_or (or_else (off_bed profile 2 n.at) (or_else (loop_slider which n.bed ((name ∷ []) ∷ [])) (carrier_rule names 3 ((name ∷ []) ∷ []))))
-    (loop_instr which dir (needle_on n.bed n.at) (carriers_of names ((name ∷ []) ∷ []))) =
+    ≡ reading_or (or_else (off_bed profile 2 n.at) (or_else (loop_slider which n.bed (name ∷ [])) (carrier_rule names 3 (name ∷ []))))
+    (loop_instr which dir (needle_on n.bed n.at) (carriers_of names (name ∷ []))) =
     said
-    ∙ ap (λ cs. read.Instr (loop_instr which dir n cs)) (sym (one_named names (name ∷ []) c named))
-    ∙ ap (λ o. reading_or o (loop_instr which dir n (carriers_of names ((name ∷ []) ∷ [])))) (sym unbroken) in
-    begins profile names text rest (loop_word which) tokens usual line plain short (omega arith) are.few
-    (loop-reading profile names which tokens dir n.bed n.at ((name ∷ []) ∷ []) (usual_read usual) shape is)
+    ∙ ap (λ cs. read.Instr (loop_instr which dir n cs)) (sym (one_named names name c named))
+    ∙ ap (λ o. reading_or o (loop_instr which dir n (carriers_of names (name ∷ [])))) (sym unbroken) in
+    begins profile names text rest (loop_word which) tokens usual line plain short (omega arith) few
+    (loop-reading profile names which tokens dir n.bed n.at (name ∷ []) (usual_read usual) shape is)
 
 knit_token : IsPlainToken (codes "knit")
 knit_token = word_token 107 110 105 116 (letter 107 (lit< tt) (lit< tt)) (letter 110 (lit< tt) (lit< tt)) (letter 105 (lit< tt) (lit< tt)) (letter 116 (lit< tt) (lit< tt))
@@ -312,17 +341,17 @@ no_slider bed token hook = ap (λ b. broken_if b SliderForm 2) hook
 
 -- a usual line with `knit` begins the text
 pub knit-begins : (profile : Profile) (names : List (List ℕ)) (table : ByteNames) (text operands rest : List ℕ) (dir : Dir) (n : Needle) (c : CarrierNo)
-    → AreByteNames names table → text ≡ codes "knit" ++ operands → BeginsWithUsualOperands profile table operands dir n c rest
+    → AreByteNames names table → text ≡ codes "knit" ++ operands → BeginsWithUsualOperands profile names operands dir n c rest
     → BeginsWithUsual profile names text (Knit dir n c) (length text - length rest)
 knit-begins profile names table text operands rest dir n c are is front =
-    formed profile names table text operands rest loop_operation.Knit dir n c (Knit dir n c) are knit_token refl no_slider refl is front
+    formed profile names text operands rest loop_operation.Knit dir n c (Knit dir n c) are.few knit_token refl no_slider refl is front
 
 -- a usual line with `tuck` begins the text
 pub tuck-begins : (profile : Profile) (names : List (List ℕ)) (table : ByteNames) (text operands rest : List ℕ) (dir : Dir) (n : Needle) (c : CarrierNo)
-    → AreByteNames names table → text ≡ codes "tuck" ++ operands → BeginsWithUsualOperands profile table operands dir n c rest
+    → AreByteNames names table → text ≡ codes "tuck" ++ operands → BeginsWithUsualOperands profile names operands dir n c rest
     → BeginsWithUsual profile names text (Tuck dir n c) (length text - length rest)
 tuck-begins profile names table text operands rest dir n c are is front =
-    formed profile names table text operands rest loop_operation.Tuck dir n c (Tuck dir n c) are tuck_token refl no_slider refl is front
+    formed profile names text operands rest loop_operation.Tuck dir n c (Tuck dir n c) are.few tuck_token refl no_slider refl is front
 
 sides_apart : (a b : Bool) → a ≢ b → (if a then b else not b) ≡ false
 sides_apart true true differ = absurd (differ refl)

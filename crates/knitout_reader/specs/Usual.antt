@@ -1,5 +1,5 @@
 -- Lines in the spelling that most lines have.
-use Rattle.std.specs.Prelude.{◌≡◌, ◌≢◌, ℕ, ◌<◌, ◌≤◌, ℤ, pos, true, false, List, [], ◌∷◌, ◌++◌, length, drop, slice_index, Some}
+use Rattle.std.specs.Prelude.{◌≡◌, ◌≢◌, ℕ, ◌+◌, ◌/◌, ◌%◌, ◌<◌, ◌≤◌, ℤ, pos, true, false, List, [], ◌∷◌, ◌++◌, length, drop, slice_index, All, Some}
 use Rattle.std.specs.Str.{is_utf8}
 use Rattle.knit_base.specs.declared.needle.Dir.{Dir}
 use Rattle.knit_base.specs.declared.needle.Needle.{Needle}
@@ -31,10 +31,37 @@ pub record IsByteName (names : List (List ℕ)) (byte number : ℕ) : Type 0 whe
   pub named : carrier_of names (byte ∷ []) ≡ Some (record { 0 = number })
   pub declared : number < length names
 
--- the table has carriers whose names are one byte; 255 stands for none
+-- a number below 100 in two digits
+abbrev pub pair_text : ℕ → List ℕ
+pair_text n = (48 + n / 10) ∷ (48 + n % 10) ∷ []
+
+-- this number in two digits is the name of this carrier
+pub record IsPairName (names : List (List ℕ)) (pair number : ℕ) : Type 0 where
+  pub named : carrier_of names (pair_text pair) ≡ Some (record { 0 = number })
+  pub declared : number < length names
+
+-- the list has the carriers whose names are one byte, each at the place of that byte; 255 stands for none
+abbrev pub AreByteNumbers : List (List ℕ) → List ℕ → Type 0
+AreByteNumbers names numbers = (byte : ℕ) → slice_index numbers byte ≢ 255 → byte < 256 → IsByteName names byte (slice_index numbers byte)
+
+-- the list has carriers whose names are two digits, each at the place of that number; 255 stands for none
+abbrev pub ArePairNumbers : List (List ℕ) → List ℕ → Type 0
+ArePairNumbers names pairs = (pair : ℕ) → slice_index pairs pair ≢ 255 → pair < 100 → IsPairName names pair (slice_index pairs pair)
+
+-- the table has carriers of these names
 pub record AreByteNames (names : List (List ℕ)) (table : ByteNames) : Type 0 where
   pub few : length names ≤ 64
-  pub each : (byte : ℕ) → slice_index table.numbers byte ≢ 255 → byte < 256 → IsByteName names byte (slice_index table.numbers byte)
+  pub each : AreByteNumbers names table.numbers
+  pub pairs : ArePairNumbers names table.pairs
+
+-- the text begins with the name of a carrier, which is a token of one or two bytes, and a line feed
+pub record BeginsWithUsualName (names : List (List ℕ)) (text : List ℕ) (c : CarrierNo) (rest : List ℕ) : Type 0 where
+  pub name : List ℕ
+  pub some : 0 < length name
+  pub short : length name ≤ 2
+  pub bytes : All IsTokenByte name
+  pub named : carrier_of names name ≡ Some c
+  pub text_is : text ≡ name ++ 10 ∷ rest
 
 -- the text begins with a number of one to three digits, and this byte
 pub record BeginsWithUsualNumber (text : List ℕ) (at : ℤ) (end : ℕ) (rest : List ℕ) : Type 0 where
@@ -52,15 +79,13 @@ pub record BeginsWithUsualNeedle (profile : Profile) (text : List ℕ) (n : Need
   pub hook : is_slider n.bed ≡ false
   pub text_is : text ≡ bed_word n.bed ++ behind
 
--- the text begins with a direction, such a needle, a carrier's name of one byte and a line feed, with one space before each
-pub record BeginsWithUsualOperands (profile : Profile) (table : ByteNames) (text : List ℕ) (dir : Dir) (n : Needle) (c : CarrierNo) (rest : List ℕ) : Type 0 where
+-- the text begins with a direction, such a needle, such a name and a line feed, with one space before each
+pub record BeginsWithUsualOperands (profile : Profile) (names : List (List ℕ)) (text : List ℕ) (dir : Dir) (n : Needle) (c : CarrierNo) (rest : List ℕ) : Type 0 where
   pub behind : List ℕ
-  pub name : ℕ
+  pub behind2 : List ℕ
   pub text_is : text ≡ 32 ∷ (dir_word dir ++ 32 ∷ behind)
-  pub needle : BeginsWithUsualNeedle profile behind n 32 (name ∷ 10 ∷ rest)
-  pub byte : name < 256
-  pub some : slice_index table.numbers name ≢ 255
-  pub carrier : c.0 ≡ slice_index table.numbers name
+  pub needle : BeginsWithUsualNeedle profile behind n 32 behind2
+  pub name : BeginsWithUsualName names behind2 c rest
 
 -- the text begins with two such needles on different sides, one space before each, and a line feed
 pub record BeginsWithUsualNeedles (profile : Profile) (text : List ℕ) (n n2 : Needle) (rest : List ℕ) : Type 0 where

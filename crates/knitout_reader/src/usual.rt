@@ -2,18 +2,18 @@
 //!
 //! Nearly all lines of a program are such. The contract says that `read_line` reads them alike, so a caller that takes this way first
 //! need not know which way a line went. All of it stands in the caller's loop, since calls would cost as much as their work.
-ghost use Rattle.std.specs.Prelude.{◌≡◌, ◌∷◌, ◌++◌, ◌-◌, ℕ, List, pos, false, IfSome};
+ghost use Rattle.std.specs.Prelude.{◌≡◌, ◌∷◌, ◌++◌, ◌-◌, ◌≤◌, ℕ, List, length, pos, false, IfSome};
 ghost use Rattle.knit_base.specs.Needle.{is_slider};
 ghost use Rattle.knit_base.specs.Spelling.{bed_word, dir_word};
 ghost use Rattle.knitout_reader.specs.Numbers.{IsDigit};
-ghost use Rattle.knitout_reader.specs.Usual.{AreByteNames, BeginsWithUsual, BeginsWithUsualNeedle, BeginsWithUsualNeedles, BeginsWithUsualNumber, BeginsWithUsualOperands};
+ghost use Rattle.knitout_reader.specs.Usual.{AreByteNames, BeginsWithUsual, BeginsWithUsualName, BeginsWithUsualNeedle, BeginsWithUsualNeedles, BeginsWithUsualNumber, BeginsWithUsualOperands};
 
 use crate::ByteNames;
 use knit_base::{Bed, CarrierNo, Dir, Needle, Profile, Usual};
 
 /// What the first line of a text says, where it is spelt as most lines are, and how many bytes it takes with its line feed:
-/// `knit` or `tuck` with one carrier whose name is one byte, or `xfer`, with one space between two tokens and needles of one
-/// to three digits. `None` says nothing of the line.
+/// `knit` or `tuck` with one carrier whose name is one byte or two digits, or `xfer`, with one space between two tokens and
+/// needles of one to three digits. `None` says nothing of the line.
 #[inline(always)]
 pub fn usual_line(text: &[u8], profile: &Profile, names: &ByteNames) -> Option<(Usual, usize)>
     ensures { IfSome result (λ found. (declared : List (List ℕ)) → AreByteNames declared names.now
@@ -51,13 +51,30 @@ fn usual_operands<'a>(
     profile: &Profile,
     names: &ByteNames,
 ) -> Option<(Dir, Needle, CarrierNo, &'a [u8])>
-    ensures { IfSome result (λ found. BeginsWithUsualOperands profile.now names.now text.now found.0 found.1 found.2 found.3.now) }
+    ensures operands { IfSome result (λ found. (declared : List (List ℕ)) → AreByteNames declared names.now
+        → BeginsWithUsualOperands profile.now declared text.now found.0 found.1 found.2 found.3.now) }
+    ensures behind { IfSome result (λ found. length found.3.now ≤ length text.now) }
 {
     let (dir, behind) = spaced_direction(text)?;
     let (needle, behind) = usual_needle(behind, b' ', profile)?;
-    let (name, behind) = last_byte(behind)?;
-    let c = names.find(name)?;
+    let (c, behind) = usual_name(behind, names)?;
     Some((dir, needle, c, behind))
+}
+
+// The carrier whose name stands at the end of a line.
+#[inline(always)]
+fn usual_name<'a>(text: &'a [u8], names: &ByteNames) -> Option<(CarrierNo, &'a [u8])>
+    ensures name { IfSome result (λ found. (declared : List (List ℕ)) → AreByteNames declared names.now
+        → BeginsWithUsualName declared text.now found.0 found.1.now) }
+    ensures behind { IfSome result (λ found. length found.1.now ≤ length text.now) }
+{
+    if let Some((name, behind)) = last_byte(text) {
+        let c = names.find(name)?;
+        return Some((c, behind));
+    }
+    let (tens, ones, behind) = two_digits(text, b'\n')?;
+    let c = names.find_pair(tens, ones)?;
+    Some((c, behind))
 }
 
 // Two needles on different sides, and what stands behind their line.

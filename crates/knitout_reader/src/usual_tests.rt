@@ -13,12 +13,15 @@ const PROFILE: Profile = Profile {
     hold: 16,
 };
 
-// The carriers `A`, `;` and a carriage return.
+// The carriers `A`, `;`, a carriage return, `1`, `10` and `01`.
 fn declared(alloc: Global) -> Option<Declared> {
     let mut declared = Declared::new(alloc);
     declared.add("A").ok()?;
     declared.add(";").ok()?;
     declared.add("\r").ok()?;
+    declared.add("1").ok()?;
+    declared.add("10").ok()?;
+    declared.add("01").ok()?;
     Some(declared)
 }
 
@@ -35,6 +38,12 @@ fn what_is_read_at_once(rt: HostRuntime) {
         ("knit + f1 A\nxfer", Some(12)),
         ("tuck - b250 A\n", Some(14)),
         ("xfer f001 b20\n", Some(14)),
+        ("knit + f1 10\n", Some(13)),
+        ("tuck - b250 01\n", Some(15)),
+        ("knit + f1 10", None),
+        ("knit + f1 10 \n", None),
+        ("knit + f1 10;\n", None),
+        ("knit + f1 1 10\n", None),
         ("knit + f1 A", None),
         ("knit + f1 A \n", None),
         ("knit + f1 A;\n", None),
@@ -58,6 +67,8 @@ fn what_isnt_lawful_isnt_read_at_once(rt: HostRuntime) {
         "knit + f-1 A\n",
         "knit + fs1 A\n",
         "knit + f1 B\n",
+        "knit + f1 11\n",
+        "knit + f1 100\n",
         "knit + f1 ;\n",
         "knit + f1 \r\n",
         "xfer f1 f2\n",
@@ -98,6 +109,9 @@ fn both_ways_read_alike(rt: HostRuntime) {
         ("knit + f1 A", "knit + f1 A\nknit"),
         ("knit - b250 A", "knit - b250 A\n"),
         ("tuck + f007 A", "tuck + f007 A\n\n"),
+        ("knit + f1 1", "knit + f1 1\n"),
+        ("tuck + f1 10", "tuck + f1 10\n"),
+        ("knit - b23 01", "knit - b23 01\n"),
         ("xfer f23 b4", "xfer f23 b4\n"),
         ("xfer b99 f100", "xfer b99 f100\n"),
     ] {

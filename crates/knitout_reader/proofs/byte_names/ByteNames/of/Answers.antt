@@ -1,6 +1,0 @@
-use Rattle.std.proofs.Common.{refl}
-use Rattle.std.proofs.lemmas.List.{get_or-replicate}
-use Rattle.knitout_reader.proofs.byte_names.ByteNames.of.Goals as goal
-
-pub loop-byte-init : goal.loop-byte-init
-loop-byte-init c = (refl, record { few = c.len-few.ensures.few; each = λ byte some below. absurd (some (get_or-replicate 256 byte 255 0 below)) })
