@@ -5,4 +5,5 @@ pub mod LineChecks
 pub mod LineGoodness
 pub mod LineFront
 pub mod LineStands
+pub mod LineSteps
 mod FormedLoops

@@ -49,7 +49,7 @@ put_beside : (changes : List Changed) (n m : Needle) (segs : List Seg) → (m �
 put_beside changes n m segs apart =
     ap (λ o. unwrap_or o (Entry m ∷ [])) (put_at changes n m segs ∙ ap (λ b. or_change (if_here b segs) (change_at changes m)) (same_needle-false m n apart))
 
-merged_nothing : (changes : List Changed) → merged changes [] ≡ changes
+pub merged_nothing : (changes : List Changed) → merged changes [] ≡ changes
 merged_nothing [] = refl
 merged_nothing (c ∷ cs) = ap (λ rest. c ∷ rest) (merged_nothing cs)
 

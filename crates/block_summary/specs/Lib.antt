@@ -1,3 +1,4 @@
 pub mod Asks
 pub mod DraftKnowledge
+pub mod LineEnds
 pub mod LineSummaries

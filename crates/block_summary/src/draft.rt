@@ -79,6 +79,7 @@ impl Draft {
     pub fn contents(&self) -> &Symbols
         ensures contents { result.now ≡ self.now.changes }
         ensures rising { IsInOrder self.now.changes }
+        ensures through { self.now.ending ≡ Through (effect_in self.now.ending) }
     {
         &self.symbols
     }
@@ -226,11 +227,21 @@ impl Draft {
         self.effect = self.effect.then(effect);
     }
 
+    /// One line more was read, which asks and changes nothing.
+    pub(crate) fn pass(&mut self)
+        requires { self.old.lines < 2 ^ 32 - 1 }
+        ensures line { self.new ≡ record self.old { lines = self.old.lines + 1 } }
+        ensures through { self.old.ending ≡ Through (effect_in self.old.ending) }
+    {
+        self.lines += 1;
+    }
+
     /// One line more was read, which can't be carried out for this reason. Answers with its fault.
     pub(crate) fn stop(&mut self, reason: Reason) -> Fault
         requires { self.old.lines < 2 ^ 32 - 1 }
         ensures fault { result ≡ record { line = self.old.lines; reason = reason } }
         ensures line { self.new ≡ record self.old { lines = self.old.lines + 1 } }
+        ensures through { self.old.ending ≡ Through (effect_in self.old.ending) }
     {
         let fault = Fault {
             line: self.lines,

@@ -15,6 +15,7 @@ mod draft;
 mod formed;
 mod instr_ask;
 mod kept;
+mod line;
 mod line_ask;
 #[cfg(test)]
 mod tests;
@@ -22,4 +23,5 @@ mod tests;
 pub use draft::Draft;
 pub use formed::FormedLoop;
 pub use instr_ask::{InstrAsk, ask_instr};
+pub use line::LineEnd;
 pub use line_ask::{LineAsk, ask_line};
