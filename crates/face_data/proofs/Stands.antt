@@ -19,7 +19,7 @@ use Rattle.face_data.specs.declared.face.Ending.{Ending}
 use Rattle.face_data.specs.declared.face.Ending.TheVariants.{Through, Broken}
 use Rattle.face_data.specs.Composition.{reads, composed, composed_at, closed_at, made_with, ending_after, and_then}
 use Rattle.face_data.specs.Goodness.{IsGood, IsFair}
-use Rattle.face_data.specs.Segments.{Changed}
+use Rattle.face_data.specs.Segments.{AreRead, Changed}
 use Rattle.face_data.specs.Stands.{StandsFor, outcome_of_run}
 use Rattle.face_data.specs.Summaries.{Asked, Summary, Outcome, applied, first_fault, outcome_of}
 use Rattle.face_data.specs.Summaries.Outcome.{went_on, faulted}
@@ -62,6 +62,22 @@ through_outcome None (Through e) changes s t first goes = (e, refl)
 -- a block that goes on from some state doesn't end broken
 pub goes_through : (a : Summary) (s t : State) (first : ℕ) → applied a s first ≡ went_on t → (e : Effect) × (a.ending ≡ Through e)
 goes_through a s t first goes = through_outcome (first_fault a.checks s) a.ending a.changes s t first goes
+
+-- the state in which a block ends that goes on
+abbrev state_in : Outcome → State → State
+state_in (went_on t) s = t
+state_in (faulted fault) s = s
+
+ends_read_at : (found : Option Fault) (ending : Ending) (changes : List Changed) (s t : State) (first : ℕ) → outcome_of found ending changes s first ≡ went_on t → AreRead changes s first t.stacks
+ends_read_at (Some fault) ending changes s t first goes n = absurd (cc)
+ends_read_at None (Broken fault) changes s t first goes n = absurd (cc)
+ends_read_at None (Through e) changes s t first goes n = sym (ap (λ o. (state_in o s).stacks n) goes)
+
+-- where lines are carried out, the needles hold what their summary says
+pub ends_read : (profile : Profile) (summary : Summary) (lines : List Read) → StandsFor profile summary lines → (s t : State) (first : ℕ) → run profile s first lines ≡ Ends t →
+    AreRead summary.changes s first t.stacks
+ends_read profile summary lines stands s t first ends =
+    ends_read_at (first_fault summary.checks s) summary.ending summary.changes s t first (stands.outcome s first ∙ ap outcome_of_run ends)
 
 -- one block after another
 pub and_then_same : (o : Outcome) (f g : State → Outcome) → ((t : State) → f t ≡ g t) → and_then o f ≡ and_then o g

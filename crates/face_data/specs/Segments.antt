@@ -1,5 +1,5 @@
 -- What needles hold at the end of a block, in terms of what stood on the needles at its entry.
-use Rattle.std.specs.Prelude.{◌≡◌, ℕ, ◌+◌, List, [], ◌∷◌, Option, unwrap_or}
+use Rattle.std.specs.Prelude.{◌≡◌, ℕ, ◌+◌, ◌<◌, ◌^◌, List, [], ◌∷◌, Option, unwrap_or}
 use Rattle.std.specs.List.{flat_map, sum_by}
 use Rattle.std.specs.Map.{lookup}
 use Rattle.knit_base.specs.declared.needle.Needle.{Needle}
@@ -32,6 +32,11 @@ read_seg s first (New offset) = (first + offset) ∷ []
 -- segments read in the state at entry, one after the other
 abbrev pub read_segs : State → ℕ → List Seg → List ℕ
 read_segs s first segs = flat_map (read_seg s first) segs
+
+-- the line of a new loop has a number of 32 bits, where the block begins at line `first`
+abbrev pub OffsetFits : ℕ → Seg → Type 0
+OffsetFits first (Entry n) = Unit {0}
+OffsetFits first (New offset) = first + offset < 2 ^ 32
 
 -- the needle whose stack at entry a segment stands for
 abbrev pub entries_in : Seg → List Needle

@@ -48,6 +48,16 @@ ChecksFit names checks = All (λ (c : Check). CondFits names c.cond) checks
 abbrev pub PartsFit : List Seg → List Change → Type 0
 PartsFit segs changes = All (λ (c : Change). c.part.start + c.part.len ≤ length segs) changes
 
+-- the parts of the conditions lie in the list of names, and make it up
+pub record AreNamed (names : List Needle) (checks : List Check) : Type 0 where
+  pub fit : ChecksFit names checks
+  pub whole : flat_map (λ (c : Check). names_of names c.cond) checks ≡ names
+
+-- the parts of the changes lie in the list of segments, and make it up
+pub record ArePacked (segs : List Seg) (changes : List Change) : Type 0 where
+  pub fit : PartsFit segs changes
+  pub whole : flat_map (λ (c : Change). part_of segs c.part) changes ≡ segs
+
 -- each part lies in its list; those of the checks, in their order, make up the list of names, and those of the changes the
 -- list of segments
 pub record IsPacked (view : FaceView) : Type 0 where

@@ -1,5 +1,5 @@
 //! Lists that are mostly short.
-ghost use Rattle.std.specs.Prelude.{◌≡◌, ◌==◌, ◌+◌, ◌<◌, ◌≤◌, ◌^◌, ◌-◌, [], ◌∷◌, ◌++◌, length, OnOk, OnErr, IsOk, slice_get};
+ghost use Rattle.std.specs.Prelude.{◌≡◌, ◌==◌, ◌+◌, ◌<◌, ◌≤◌, ◌^◌, ◌-◌, [], ◌∷◌, ◌++◌, length, OnOk, OnErr, IfOk, IsOk, slice_get};
 ghost use Rattle.std.specs.Option.{option_copied};
 
 use crate::storage::Storage;
@@ -98,5 +98,15 @@ impl<T: Copy + Drop> ShortList<T> {
     {
         let alloc = self.alloc;
         self.storage.extend_from_slice(alloc, more)
+    }
+
+    /// An equal list. Of up to four items it takes no memory, of more as much as they need.
+    pub fn try_clone(&self) -> Result<Self, NoMemory>
+        ensures ok { IfOk result (λ list. list ≡ self.now) }
+        ensures in_place { length self.now ≤ 4 → IsOk result }
+    {
+        let mut list = ShortList::new(self.alloc);
+        list.extend_from_slice(self.as_slice())?;
+        Ok(list)
     }
 }

@@ -7,7 +7,7 @@ use Rattle.std.proofs.lemmas.Bool.{true≢false}
 use Rattle.std.proofs.lemmas.List.Folds.{list_any-append}
 use Rattle.knit_base.specs.declared.needle.Needle.{Needle}
 use Rattle.knit_base.specs.declared.rule.Fault.{Fault}
-use Rattle.knit_base.specs.Needle.{same_needle, same_needle-true}
+use Rattle.knit_base.specs.Needle.{same_needle}
 use Rattle.knit_base.specs.Yarns.{contains_carrier, lacks_carrier}
 use Rattle.face_data.specs.declared.bearing.Bearing.TheVariants.{Implied, Refuted}
 use Rattle.face_data.specs.declared.digest.Digest.{Digest}

@@ -1,11 +1,10 @@
 -- Conditions whose needles stand one after the other in one list.
 use Rattle.std.proofs.Common.{◌≡◌, ℕ, ◌+◌, List, [], ◌∷◌, ◌++◌, length, map, refl, sym, ap, ◌∙◌, subst, arith, length-append}
-use Rattle.std.specs.Prelude.{All}
 use Rattle.std.specs.List.{flat_map}
 use Rattle.std.proofs.Math.Path.{ap₂}
 use Rattle.std.proofs.lemmas.Grind.{flat_map-append}
 use Rattle.std.proofs.lemmas.List.{map-append, append-nil}
-use Rattle.std.proofs.lemmas.List.Elements.{All-head, All-tail, All-cons, All-push, All-nil}
+use Rattle.std.proofs.lemmas.List.Elements.{All-push}
 use Rattle.std.proofs.lemmas.List.Sums.{sum_by-cons}
 use Rattle.knit_base.specs.declared.needle.Needle.{Needle}
 use Rattle.face_data.specs.declared.face.Check.{Check}
@@ -16,8 +15,8 @@ use Rattle.face_data.specs.Conditions.{ask_of}
 use Rattle.face_data.specs.Conditions.Ask.{size_at_most}
 use Rattle.face_data.specs.Goodness.{names_in}
 use Rattle.face_data.specs.Summaries.{Asked}
-use Rattle.face_data.specs.View.{asked_of, names_of, CondFits}
-use Rattle.summary_compose.specs.Known.{AreNamed, names_count}
+use Rattle.face_data.specs.View.{asked_of, names_of, AreNamed, CondFits}
+use Rattle.summary_compose.specs.Known.{names_count}
 use Rattle.summary_compose.specs.declared.sizes.SizeWord.TheVariants.{Asks}
 use Rattle.summary_compose.proofs.Parts.{part_of-end}
 use Rattle.face_data.proofs.Parts.{checks-more, checks_fit-more, names-more}

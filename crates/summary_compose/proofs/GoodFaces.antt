@@ -22,7 +22,7 @@ use Rattle.face_data.specs.Conditions.{Ask, ask_of, part_of}
 use Rattle.face_data.specs.Conditions.Ask.{rack_is, carrier_in, carrier_out, hook_free, hook_is, hook_lacks, size_at_most}
 use Rattle.face_data.specs.Digests.{CarrierFits}
 use Rattle.face_data.specs.Goodness.{AskFits, ChangeFits, EndingFits, IsGood, MeetsSize}
-use Rattle.face_data.specs.Segments.{Changed, segments_on, names_through, new_of, new_through}
+use Rattle.face_data.specs.Segments.{Changed, OffsetFits, segments_on, names_through, new_of, new_through}
 use Rattle.face_data.specs.Sets.{IsDistinct, IsWithin}
 use Rattle.face_data.specs.Summaries.{Summary}
 use Rattle.face_data.specs.View.{IsPacked, asked_of, changed_of, names_of, summary_of}
@@ -31,7 +31,7 @@ use Rattle.face_data.proofs.Goodness.{composed_good, good_within, within_known}
 use Rattle.face_data.proofs.Items.{change_items_bound}
 use Rattle.face_data.proofs.Members.{Contains-head, Contains-tail, Contains-cons_cases}
 use Rattle.face_data.proofs.Owners.{distinct_through, member_cases}
-use Rattle.summary_compose.specs.Changes.{OffsetFits, changes_in, merged_of, segs_in}
+use Rattle.summary_compose.specs.Changes.{changes_in, merged_of, segs_in}
 use Rattle.summary_compose.specs.Composing.{Composes, EndingRises}
 use Rattle.summary_compose.specs.Known.{AreGood, IsFewThrough, checks_in}
 use Rattle.summary_compose.specs.Spots.{IsNumbered, spot_of}

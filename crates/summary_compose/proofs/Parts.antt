@@ -8,16 +8,16 @@ use Rattle.std.specs.List.{flat_map}
 use Rattle.std.proofs.Math.Path.{ap₂}
 use Rattle.std.proofs.Math.Seq.{drop-append_seam, take-length}
 use Rattle.std.proofs.lemmas.Grind.{flat_map-append}
-use Rattle.std.proofs.lemmas.List.{drop-append-le, take-append-le, length-drop, map-append, append-nil}
-use Rattle.std.proofs.lemmas.List.Elements.{All-head, All-tail, All-cons, All-push, All-nil}
+use Rattle.std.proofs.lemmas.List.{map-append, append-nil}
+use Rattle.std.proofs.lemmas.List.Elements.{All-push}
 use Rattle.std.proofs.lemmas.List.Sums.{sum_by-cons}
 use Rattle.face_data.specs.declared.face.Change.{Change}
 use Rattle.face_data.specs.declared.face.Part.{Part}
 use Rattle.face_data.specs.declared.face.Seg.{Seg}
 use Rattle.face_data.specs.Conditions.{part_of}
 use Rattle.face_data.specs.Segments.{Changed}
-use Rattle.face_data.specs.View.{changed_of, PartsFit}
-use Rattle.summary_compose.specs.Changes.{ArePacked, segs_in}
+use Rattle.face_data.specs.View.{changed_of, ArePacked, PartsFit}
+use Rattle.summary_compose.specs.Changes.{segs_in}
 use Rattle.face_data.proofs.Parts.{changes-more, changes_fit-more, segs-more}
 
 -- a part that is the end of a list

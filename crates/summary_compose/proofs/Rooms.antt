@@ -18,9 +18,8 @@ use Rattle.face_data.specs.declared.face.FaceView.{FaceView}
 use Rattle.face_data.specs.declared.face.Seg.{Seg}
 use Rattle.face_data.specs.declared.face.Seg.TheVariants.{Entry, New}
 use Rattle.face_data.specs.Composition.{by_order, merged, merged_from}
-use Rattle.face_data.specs.Conditions.{Ask, part_of}
-use Rattle.face_data.specs.Conditions.Ask.{rack_is, carrier_in, carrier_out, hook_free, hook_is, hook_lacks, size_at_most}
-use Rattle.face_data.specs.Goodness.{AskFits, IsInOrder, OwnsOnce, entries_on, names_in}
+use Rattle.face_data.specs.Conditions.{part_of}
+use Rattle.face_data.specs.Goodness.{IsInOrder, OwnsOnce, entries_on, names_in}
 use Rattle.face_data.specs.Segments.{Changed, change_at, segments_on, entries_in, entries_of, names_through, new_in, new_of, new_through, segs_or_own}
 use Rattle.face_data.specs.Sets.{IsDistinct}
 use Rattle.face_data.specs.Summaries.{Asked}

@@ -1,30 +1,19 @@
 -- Changes whose segments stand in one list.
-use Rattle.std.specs.Prelude.{◌≡◌, ℕ, ◌+◌, ◌≤◌, ◌<◌, ◌^◌, List, length, map, All}
-use Rattle.std.specs.List.{flat_map, sum_by}
+use Rattle.std.specs.Prelude.{ℕ, List, length, map, All}
+use Rattle.std.specs.List.{sum_by}
 use Rattle.knit_base.specs.declared.needle.Needle.{Needle}
 use Rattle.face_data.specs.declared.face.Change.{Change}
 use Rattle.face_data.specs.declared.face.Seg.{Seg}
-use Rattle.face_data.specs.declared.face.Seg.TheVariants.{Entry, New}
 use Rattle.face_data.specs.Conditions.{part_of}
 use Rattle.face_data.specs.declared.face.FaceView.{FaceView}
 use Rattle.face_data.specs.Composition.{merged}
-use Rattle.face_data.specs.Segments.{Changed}
+use Rattle.face_data.specs.Segments.{Changed, OffsetFits}
 use Rattle.face_data.specs.Through.{changes_through}
-use Rattle.face_data.specs.View.{changed_of, PartsFit}
+use Rattle.face_data.specs.View.{changed_of}
 
 -- the needles of changes
 abbrev pub changed_needles : List Change → List Needle
 changed_needles changes = map (λ (c : Change). c.needle) changes
-
--- the parts of the changes lie in the list of segments, and make it up
-pub record ArePacked (segs : List Seg) (changes : List Change) : Type 0 where
-  pub fit : PartsFit segs changes
-  pub whole : flat_map (λ (c : Change). part_of segs c.part) changes ≡ segs
-
--- raising the line of a new loop stays within the numbers of lines
-abbrev pub OffsetFits : ℕ → Seg → Type 0
-OffsetFits lines (Entry n) = Unit {0}
-OffsetFits lines (New offset) = lines + offset < 2 ^ 32
 
 -- how many segments changes have together
 abbrev pub segs_in : List Changed → ℕ

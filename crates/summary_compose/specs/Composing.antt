@@ -9,9 +9,9 @@ use Rattle.face_data.specs.Composition.{reads}
 use Rattle.face_data.specs.Digests.{CarrierFits}
 use Rattle.face_data.specs.Goodness.{IsInOrder}
 use Rattle.face_data.specs.Summaries.{Summary}
-use Rattle.face_data.specs.View.{names_of, PartsFit}
+use Rattle.face_data.specs.View.{names_of, AreNamed, PartsFit}
 use Rattle.summary_compose.specs.Changes.{changes_in, merged_of, segs_in, HaveOffsets}
-use Rattle.summary_compose.specs.Known.{AreGood, AreNamed, IsReadable, checks_in, names_count, names_read_count}
+use Rattle.summary_compose.specs.Known.{AreGood, IsReadable, checks_in, names_count, names_read_count}
 use Rattle.summary_compose.specs.declared.making.Making.{Making}
 use Rattle.summary_compose.specs.declared.room.Room.{Room}
 

@@ -14,13 +14,12 @@ use Rattle.face_data.specs.Digests.{CarrierFits, digest_of}
 use Rattle.face_data.specs.Segments.{Changed, names_through, new_through}
 use Rattle.face_data.specs.Goodness.{IsGood, names_in}
 use Rattle.face_data.specs.Summaries.{Asked}
-use Rattle.face_data.specs.declared.face.Check.{Check}
 use Rattle.face_data.specs.declared.face.FaceView.{FaceView}
 use Rattle.summary_compose.specs.Changes.{changes_in}
 use Rattle.face_data.specs.Answers.{Answer}
 use Rattle.face_data.specs.Answers.Answer.{yes_it_does, no_it_does_not, asks}
 use Rattle.face_data.specs.Composition.{from_bearing}
-use Rattle.face_data.specs.View.{asked_of, summary_of, CondFits, ChecksFit, names_of}
+use Rattle.face_data.specs.View.{asked_of, summary_of, CondFits, names_of}
 use Rattle.summary_compose.specs.Spots.{IsNumbered}
 use Rattle.summary_compose.specs.Tables.{Note, suits}
 use Rattle.summary_compose.specs.declared.sizes.SizeWord.{SizeWord}
@@ -59,11 +58,6 @@ abbrev pub answer_in : List Needle → SizeWord → Answer
 answer_in names Holds = yes_it_does
 answer_in names Fails = no_it_does_not
 answer_in names (Asks left) = asks (size_at_most names left)
-
--- the parts of the conditions lie in the list of names, and make it up
-pub record AreNamed (names : List Needle) (checks : List Check) : Type 0 where
-  pub fit : ChecksFit names checks
-  pub whole : flat_map (λ (c : Check). names_of names c.cond) checks ≡ names
 
 -- how many needles the conditions name
 abbrev pub names_count : List Asked → ℕ

@@ -5,9 +5,9 @@ ghost use Rattle.face_data.specs.Conditions.{ask_of};
 ghost use Rattle.face_data.specs.Conditions.Ask.{size_at_most};
 ghost use Rattle.face_data.specs.Goodness.{IsInOrder};
 ghost use Rattle.face_data.specs.Segments.{names_through, new_through};
-ghost use Rattle.face_data.specs.View.{asked_of, PartsFit};
+ghost use Rattle.face_data.specs.View.{asked_of, AreNamed, PartsFit};
 ghost use Rattle.summary_compose.specs.Changes.{changed_needles, changes_in};
-ghost use Rattle.summary_compose.specs.Known.{AreNamed, IsPlainCond, answer_in, checks_in, names_count, noted_answer, notes_in};
+ghost use Rattle.summary_compose.specs.Known.{IsPlainCond, answer_in, checks_in, names_count, noted_answer, notes_in};
 ghost use Rattle.summary_compose.specs.Tables.{IsTableOf};
 
 use crate::index::Index;
@@ -28,8 +28,8 @@ pub struct Kept {
 
 impl Model for Kept {
     ghost use Rattle.std.specs.Prelude.{map, vec_capacity};
-    ghost use Rattle.face_data.specs.View.{asked_of};
-    ghost use Rattle.summary_compose.specs.Known.{KeptView, AreNamed};
+    ghost use Rattle.face_data.specs.View.{asked_of, AreNamed};
+    ghost use Rattle.summary_compose.specs.Known.{KeptView};
 
     ghost Value = { KeptView };
 

@@ -2,11 +2,11 @@
 ghost use Rattle.std.specs.Prelude.{◌≡◌, ◌<◌, ◌≤◌, ◌+◌, ◌^◌, [], ◌∷◌, ◌++◌, All, drop, length, map, vec_len, vec_capacity, OnOk};
 ghost use Rattle.face_data.specs.Conditions.{part_of};
 ghost use Rattle.face_data.specs.Goodness.{IsInOrder};
-ghost use Rattle.face_data.specs.Segments.{entries_of, new_of};
+ghost use Rattle.face_data.specs.Segments.{OffsetFits, entries_of, new_of};
 ghost use Rattle.face_data.specs.Through.{piece, through, change_through, changes_through};
 ghost use Rattle.face_data.specs.Composition.{merged};
-ghost use Rattle.face_data.specs.View.{changed_of, PartsFit};
-ghost use Rattle.summary_compose.specs.Changes.{changed_needles, ArePacked, OffsetFits, segs_in};
+ghost use Rattle.face_data.specs.View.{changed_of, ArePacked, PartsFit};
+ghost use Rattle.summary_compose.specs.Changes.{changed_needles, segs_in};
 ghost use Rattle.summary_compose.specs.Tables.{IsTableOf};
 
 use crate::places::Places;
@@ -24,8 +24,8 @@ pub struct Laid {
 
 impl Model for Laid {
     ghost use Rattle.std.specs.Prelude.{map, vec_capacity};
-    ghost use Rattle.face_data.specs.View.{changed_of};
-    ghost use Rattle.summary_compose.specs.Changes.{LaidView, ArePacked};
+    ghost use Rattle.face_data.specs.View.{changed_of, ArePacked};
+    ghost use Rattle.summary_compose.specs.Changes.{LaidView};
 
     ghost Value = { LaidView };
 

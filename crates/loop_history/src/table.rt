@@ -1,0 +1,119 @@
+//! The loops of a block.
+ghost use Rattle.std.specs.Prelude.{◌≡◌, ◌==◌, ◌+◌, ◌<◌, ◌≤◌, [], ◌∷◌, ◌++◌, All, IfOk, OnErr, OnOk, Some, length, position, slice_get};
+ghost use Rattle.loop_history.specs.Rows.{OffsetsRise};
+ghost use Rattle.loop_history.specs.declared.row.LoopRow.{LoopRow};
+
+use crate::LoopRow;
+use knit_base::{NoMemory, Steps};
+use std::alloc::Global;
+use std::marker::Model;
+use std::sync::ledger::Ledger;
+
+/// The loops that a block makes, in the order of their lines. There are at most 4,096 of them.
+#[derive(Drop)]
+pub struct LoopTable {
+    rows: Vec<LoopRow>,
+}
+
+impl Model for LoopTable {
+    ghost use Rattle.std.specs.Prelude.{List};
+    ghost use Rattle.loop_history.specs.declared.row.LoopRow.{LoopRow};
+    ghost use Rattle.loop_history.specs.Rows.{IsTable};
+
+    ghost Value = { List LoopRow };
+
+    ghost view = { λ t. t.rows.items };
+
+    ghost invariant = { λ t. IsTable t.rows.items };
+}
+
+impl LoopTable {
+    /// The table of no loop, which takes no memory.
+    pub fn new(alloc: Global) -> Self
+        ensures { result ≡ [] }
+    {
+        LoopTable {
+            rows: Vec::new(alloc),
+        }
+    }
+
+    /// Appends the loop of a line behind those of all rows. After `NoMemory` the table is as before.
+    pub fn push(&mut self, row: LoopRow) -> Result<(), NoMemory>
+        requires last { All (λ (earlier : LoopRow). earlier.offset < row.offset) self.old }
+        requires few { length self.old < 4096 }
+        ensures ok { OnOk result (self.new ≡ self.old ++ row ∷ []) }
+        ensures err { OnErr result (self.new ≡ self.old) }
+    {
+        self.rows.push(row)?;
+        Ok(())
+    }
+
+    /// Lets go of room that no row takes.
+    pub fn shrink_to_fit(&mut self)
+        ensures { self.new ≡ self.old }
+    {
+        self.rows.shrink_to_fit();
+    }
+
+    /// How many loops there are.
+    pub fn len(&self) -> u32
+        ensures len { result ≡ length self.now }
+        ensures few { length self.now ≤ 4096 }
+        ensures rising { OffsetsRise self.now }
+    {
+        self.rows.len() as u32
+    }
+
+    /// Whether there is none.
+    pub fn is_empty(&self) -> bool
+        ensures { result ≡ (length self.now == 0) }
+    {
+        self.rows.is_empty()
+    }
+
+    /// The row at this place, from 0. It costs a step.
+    pub fn row<L: Ledger>(&self, i: u32, steps: &mut Steps<L>) -> &LoopRow
+        requires { i < length self.now }
+        ensures row { slice_get self.now i ≡ Some result.now }
+        ensures steps { steps.new ≡ steps.old + 1 }
+    {
+        steps.tick();
+        &self.rows[i as usize]
+    }
+
+    /// The place of the row of the line with this offset. It costs a step for each row that it looks at.
+    pub fn find<L: Ledger>(&self, offset: u32, steps: &mut Steps<L>) -> Option<u32>
+        ensures place { result ≡ position (λ (row : LoopRow). row.offset == offset) self.now }
+        ensures steps { steps.new ≤ steps.old + 13 }
+    {
+        let mut low = 0;
+        let mut high = self.len();
+        for _probe in 0..13u32 {
+            if low >= high {
+                return None;
+            }
+            let middle = low + (high - low) / 2;
+            let found = self.row(middle, steps).offset;
+            if found == offset {
+                return Some(middle);
+            }
+            if found < offset {
+                low = middle + 1;
+            } else {
+                high = middle;
+            }
+        }
+        None
+    }
+
+    /// An equal table, without room beyond its rows.
+    pub fn try_clone(&self) -> Result<Self, NoMemory>
+        ensures { IfOk result (λ table. table ≡ self.now) }
+    {
+        let mut rows = Vec::with_capacity(*self.rows.allocator(), self.rows.len())?;
+        for row in &self.rows {
+            rows.push(row.try_clone()?)?;
+        }
+        Ok(LoopTable { rows })
+    }
+}
