@@ -338,7 +338,7 @@ entries_kept old lines made kept now a e entries most reason seen some silent mo
     subst (λ r. Took r old (record { lines = lines; made = made; checks = now; changes = a; ending = Through e }) (record { line = old.lines; reason = reason }) true) (sym says) (
       refl,
       (λ i. record { lines = lines; made = made; checks = more i; changes = a; ending = Through e })
-      ∙ ap (λ (s : Summary). record s { checks = s.checks ++ record { fault = record { line = s.lines; reason = reason }; ask = size_at_most entries most } ∷ [] }) seen,
+          ∙ ap (λ (s : Summary). record s { checks = s.checks ++ record { fault = record { line = s.lines; reason = reason }; ask = size_at_most entries most } ∷ [] }) seen,
     )
 
 -- the conditions of lines that were drafted, one more line carried out

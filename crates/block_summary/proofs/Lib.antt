@@ -1,5 +1,7 @@
+pub mod Blocks
 pub mod DraftSteps
 pub mod KeptConditions
+pub mod LaidChanges
 pub mod LineChanges
 pub mod LineChecks
 pub mod LineGoodness

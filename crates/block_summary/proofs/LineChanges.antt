@@ -85,7 +85,7 @@ over_through a lines n n2 left = go (needle_cmp n2 n)
   where
     go : (o : Ordering) → changes_through a lines (by_order o ((n2, Entry n2 ∷ Entry n ∷ []) ∷ (n, left) ∷ []) ((n, left) ∷ []) ((n, left) ∷ (n2, Entry n2 ∷ Entry n ∷ []) ∷ []))
         ≡ by_order o ((n2, through a lines (Entry n2 ∷ Entry n ∷ [])) ∷ (n, through a lines left) ∷ []) ((n, through a lines left) ∷ [])
-          ((n, through a lines left) ∷ (n2, through a lines (Entry n2 ∷ Entry n ∷ [])) ∷ [])
+        ((n, through a lines left) ∷ (n2, through a lines (Entry n2 ∷ Entry n ∷ [])) ∷ [])
     go Less = refl
     go Equal = refl
     go Greater = refl

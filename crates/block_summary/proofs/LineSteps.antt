@@ -165,8 +165,8 @@ rule_at old mid sizes i d rules within rest is =
     let inside : i < length rules = omega (arith, within, ap length is, length-map rules (size_ask old.changes)) in (
       inside,
       ap (λ (xs : List SizeAsk). get_or xs i d) is
-      ∙ get_or-map (size_ask old.changes) rules i (some_rule d) d inside
-      ∙ ap (λ (s : Summary). size_ask s.changes (get_or rules i (some_rule d))) (sym rest),
+          ∙ get_or-map (size_ask old.changes) rules i (some_rule d) d inside
+          ∙ ap (λ (s : Summary). size_ask s.changes (get_or rules i (some_rule d))) (sym rest),
     )
 
 sizes_left_at : (old mid : Summary) (i : ℕ) (d : SizeAsk) (rules : List SizeRule) → i < length rules →

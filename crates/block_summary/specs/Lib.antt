@@ -2,3 +2,4 @@ pub mod Asks
 pub mod DraftKnowledge
 pub mod LineEnds
 pub mod LineSummaries
+pub mod Prepared

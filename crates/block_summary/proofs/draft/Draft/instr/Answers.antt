@@ -46,7 +46,7 @@ returns-in_ok-carry_out-in-None c =
     let is = c.in_ok-ask.ensures.is ∙ ap (instr_ask hold instr) c.contents.ensures.contents in
     let lawful = c.requires.lawful in (
       c.in_ok-carry_out-in-None.ensures
-      ∙ line_goes c.args.profile.now lawful.0 hold instr old mid c.in_ok-ask.ask c.contents.ensures.through c.contents.ensures.rising lawful.2 is
-      (subst (λ (stop : Option Reason). HasAskedAll old mid (asked_by hold instr) stop) c.in-None.is (c.in_ok-reason.ensures hold instr is)),
+          ∙ line_goes c.args.profile.now lawful.0 hold instr old mid c.in_ok-ask.ask c.contents.ensures.through c.contents.ensures.rising lawful.2 is
+          (subst (λ (stop : Option Reason). HasAskedAll old mid (asked_by hold instr) stop) c.in-None.is (c.in_ok-reason.ensures hold instr is)),
       ap (λ (a : InstrAsk). a.formed) is,
     )
