@@ -2,10 +2,9 @@
 use Rattle.std.proofs.Common.{◌≡◌, ℕ, zero, suc, ◌+◌, ◌<◌, ◌≤◌, List, [], ◌∷◌, ◌++◌, length, take, drop, get_or, slice_get, All, Option, Some, None, IfSome, refl, sym, ap, ◌∙◌, subst, arith, inl, inr, append_assoc, length-append}
 use Rattle.std.specs.List.{AllZip, Contains}
 use Rattle.std.specs.Option.{option_map, option_to_list}
-use Rattle.std.proofs.lemmas.List.{append-nil, drop_more, length-take-le, take_all, take_more, take-append-drop}
+use Rattle.std.proofs.lemmas.List.{append-nil, drop_more, take_all, take_more, take-append-drop}
 use Rattle.std.proofs.lemmas.List.Sums.{fold_push}
 use Rattle.std.proofs.lemmas.List.Elements.{All-cons, All-contains_itself, All-nil, All-push, All-weaker, Contains-append_left, Contains-append_right, Contains-push_cases}
-use Rattle.knit_base.specs.declared.instr.Instr.{Instr}
 use Rattle.knit_base.specs.declared.instr.Instr.TheVariants.{Knit, Tuck, Split}
 use Rattle.knit_base.specs.declared.instr.Read.{Read}
 use Rattle.knit_base.specs.declared.instr.Read.TheVariants as read
@@ -27,7 +26,6 @@ use Rattle.face_data.specs.declared.face.Seg.TheVariants.{Entry, New}
 use Rattle.face_data.specs.Composition.{composed}
 use Rattle.face_data.specs.Drafts.{no_lines}
 use Rattle.face_data.specs.Goodness.{IsGood}
-use Rattle.face_data.specs.Items.{items, most_items}
 use Rattle.face_data.specs.Segments.{AreRead, Changed, segments_on}
 use Rattle.face_data.specs.Sets.{IsWithin}
 use Rattle.face_data.specs.Stands.{StandsFor, outcome_of_run}
@@ -45,7 +43,7 @@ use Rattle.block_summary.specs.Asks.{fact_of_formed}
 use Rattle.block_summary.specs.DraftKnowledge.{stopped_at}
 use Rattle.block_summary.specs.declared.line.LineEnd.TheVariants.{GoesOn, Stops as StopsAt}
 use Rattle.block_summary.specs.LineEnds.{EndsAs, loop_of_line}
-use Rattle.block_summary.specs.LineSummaries.{NeedlesKnown, NeedlesKnownInLine, SliderKnown, block_summary_of, line_summary}
+use Rattle.block_summary.specs.LineSummaries.{NeedlesKnownInLine, SliderKnown, block_summary_of, line_summary}
 use Rattle.block_summary.specs.Prepared.{AddsLine, AreKnown, AreRowsOf, HasRead, IsMadeOf, row_of}
 use Rattle.block_summary.proofs.FormedLoops.{loop-formed}
 use Rattle.block_summary.proofs.LineGoodness.{block_good, block_stands}

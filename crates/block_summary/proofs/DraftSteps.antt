@@ -53,9 +53,6 @@ use Rattle.block_summary.proofs.LineFront.{front_knit}
 use Rattle.carrier_rules.specs.declared.conds.OfEach.TheVariants.{InAction}
 use Rattle.carrier_rules.specs.Carriers.{conds_of_each}
 use Rattle.std.proofs.lemmas.List.Elements.{Contains-append_cases}
-use Rattle.knit_base.specs.declared.needle.Bed.{Bed}
-use Rattle.knit_base.specs.declared.needle.Bed.TheVariants.{Front, FrontSlider, Back, BackSlider}
-use Rattle.knit_base.specs.Needle.{slider_bed}
 use Rattle.knit_base.proofs.Needles.{slider_bed-is_slider}
 
 -- no hook is a slider

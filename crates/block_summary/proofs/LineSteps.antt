@@ -1,5 +1,5 @@
 -- One line more: its conditions one after the other, and what it changes.
-use Rattle.std.proofs.Common.{◌≡◌, ℕ, ◌+◌, ◌-◌, ◌<◌, ◌≤◌, pos, ◌-ℤ◌, ◌<ℤ◌, Bool, true, false, List, [], ◌∷◌, ◌++◌, length, drop, get_or, map, All, Option, None, Some, IfSome, refl, sym, ap, ◌∙◌, subst, arith, append_assoc}
+use Rattle.std.proofs.Common.{◌≡◌, ℕ, ◌+◌, ◌-◌, ◌<◌, ◌≤◌, Bool, true, false, List, [], ◌∷◌, ◌++◌, length, drop, get_or, map, All, Option, None, Some, IfSome, refl, sym, ap, ◌∙◌, subst, arith, append_assoc}
 use Rattle.std.specs.Option.{option_map, option_to_list}
 use Rattle.std.proofs.lemmas.Int.{ints}
 use Rattle.std.proofs.lemmas.List.{append-nil, drop_more, drop_all, get_or-map, length-map}
@@ -18,7 +18,7 @@ use Rattle.face_data.specs.declared.face.Ending.TheVariants.{Through, Broken}
 use Rattle.face_data.specs.declared.sizes.SizeAsk.{SizeAsk}
 use Rattle.face_data.specs.Answers.{Answer, read_answer}
 use Rattle.face_data.specs.Answers.Answer.{yes_it_does, no_it_does_not, asks}
-use Rattle.face_data.specs.Composition.{Gathering, against_kept, closed, composed, composed_at, effect_of_both, ending_after, merged, next, reads}
+use Rattle.face_data.specs.Composition.{Gathering, against_kept, closed, composed, composed_at, effect_of_both, merged, next, reads}
 use Rattle.face_data.specs.Conditions.{Ask, ask_of, unless}
 use Rattle.face_data.specs.Conditions.Ask.{size_at_most}
 use Rattle.face_data.specs.Drafts.{no_effect}
@@ -33,7 +33,7 @@ use Rattle.bed_rules.specs.Beds.{changes_of, crowded, size_rules}
 use Rattle.carrier_rules.specs.declared.conds.OfEach.{OfEach}
 use Rattle.carrier_rules.specs.declared.conds.OfEach.TheVariants.{InAction, NotInAction, NotInHook}
 use Rattle.carrier_rules.specs.Carriers.{cond_of, conds_of, conds_of_each, effect_of, rule_of}
-use Rattle.slider_rules.specs.Sliders.{bare_slider, slider_rule}
+use Rattle.slider_rules.specs.Sliders.{bare_slider}
 use Rattle.block_summary.specs.declared.formed.FormedLoop.{FormedLoop}
 use Rattle.block_summary.specs.declared.instr_ask.InstrAsk.{InstrAsk}
 use Rattle.block_summary.specs.Asks.{formed_loop, instr_ask, needle_of_formed}

@@ -1,5 +1,5 @@
 -- Blocks of lines that are prepared.
-use Rattle.std.specs.Prelude.{◌≡◌, ◌≤◌, ◌<◌, ◌+◌, ℕ, List, ◌++◌, All, Option, None, Some, length, take}
+use Rattle.std.specs.Prelude.{◌≡◌, ◌≤◌, ◌<◌, ℕ, List, ◌++◌, All, Option, None, Some, length, take}
 use Rattle.std.specs.List.{AllZip, Contains}
 use Rattle.std.specs.Option.{option_map, option_to_list}
 use Rattle.knit_base.specs.declared.instr.Read.{Read}
