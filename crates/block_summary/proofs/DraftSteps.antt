@@ -53,9 +53,6 @@ use Rattle.block_summary.proofs.LineFront.{front_knit}
 use Rattle.carrier_rules.specs.declared.conds.OfEach.TheVariants.{InAction}
 use Rattle.carrier_rules.specs.Carriers.{conds_of_each}
 use Rattle.std.proofs.lemmas.List.Elements.{Contains-append_cases}
-use Rattle.knit_base.specs.declared.needle.Bed.{Bed}
-use Rattle.knit_base.specs.declared.needle.Bed.TheVariants.{Front, FrontSlider, Back, BackSlider}
-use Rattle.knit_base.specs.Needle.{slider_bed}
 use Rattle.knit_base.proofs.Needles.{slider_bed-is_slider}
 
 -- no hook is a slider
@@ -338,7 +335,7 @@ entries_kept old lines made kept now a e entries most reason seen some silent mo
     subst (λ r. Took r old (record { lines = lines; made = made; checks = now; changes = a; ending = Through e }) (record { line = old.lines; reason = reason }) true) (sym says) (
       refl,
       (λ i. record { lines = lines; made = made; checks = more i; changes = a; ending = Through e })
-      ∙ ap (λ (s : Summary). record s { checks = s.checks ++ record { fault = record { line = s.lines; reason = reason }; ask = size_at_most entries most } ∷ [] }) seen,
+          ∙ ap (λ (s : Summary). record s { checks = s.checks ++ record { fault = record { line = s.lines; reason = reason }; ask = size_at_most entries most } ∷ [] }) seen,
     )
 
 -- the conditions of lines that were drafted, one more line carried out

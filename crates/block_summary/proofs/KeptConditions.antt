@@ -1,6 +1,5 @@
 -- Conditions that are kept, one more at a time, and what they say of a condition on sizes.
 use Rattle.std.proofs.Common.{◌≡◌, ℕ, ◌+◌, ◌<◌, ◌≤◌, Bool, true, false, List, [], ◌∷◌, ◌++◌, length, drop, get_or, map, refl, sym, ap, ◌∙◌, subst, arith, length-append}
-use Rattle.std.specs.List.{All, Contains, flat_map}
 use Rattle.std.proofs.Math.Path.{ap₂}
 use Rattle.std.proofs.lemmas.Grind.{flat_map-append}
 use Rattle.std.proofs.lemmas.List.{append-nil, drop_more, drop_all}
@@ -13,7 +12,6 @@ use Rattle.face_data.specs.declared.digest.Digest.{Digest}
 use Rattle.face_data.specs.declared.face.Check.{Check}
 use Rattle.face_data.specs.declared.face.Cond.{Cond}
 use Rattle.face_data.specs.declared.face.Cond.TheVariants.{RackIs, CarrierIn, CarrierOut, HookFree, HookIs, HookLacks, SizeAtMost}
-use Rattle.face_data.specs.declared.face.Part.{Part}
 use Rattle.face_data.specs.Answers.{Answer}
 use Rattle.face_data.specs.Answers.Answer.{yes_it_does, asks}
 use Rattle.face_data.specs.Bearings.{bearing, if_so}

@@ -1,8 +1,11 @@
+pub mod Blocks
 pub mod DraftSteps
 pub mod KeptConditions
+pub mod LaidChanges
 pub mod LineChanges
 pub mod LineChecks
 pub mod LineGoodness
 pub mod LineFront
 pub mod LineStands
+pub mod LineSteps
 mod FormedLoops

@@ -1,5 +1,5 @@
 -- What a line changes, put into the changes before it one needle after the other.
-use Rattle.std.proofs.Common.{◌≡◌, ℕ, ◌+◌, Bool, true, false, cond, List, [], ◌∷◌, ◌++◌, Option, None, Some, unwrap_or, refl, sym, ap, ◌∙◌, subst, arith}
+use Rattle.std.proofs.Common.{◌≡◌, ℕ, ◌+◌, Bool, true, false, cond, List, [], ◌∷◌, ◌++◌, Option, None, Some, unwrap_or, refl, sym, ap, ◌∙◌, arith}
 use Rattle.std.specs.List.Sorted.{IsStrictlySortedBy}
 use Rattle.std.specs.declared.cmp.Ordering.{Ordering}
 use Rattle.std.specs.declared.cmp.Ordering.TheVariants.{Less, Equal, Greater}
@@ -49,7 +49,7 @@ put_beside : (changes : List Changed) (n m : Needle) (segs : List Seg) → (m �
 put_beside changes n m segs apart =
     ap (λ o. unwrap_or o (Entry m ∷ [])) (put_at changes n m segs ∙ ap (λ b. or_change (if_here b segs) (change_at changes m)) (same_needle-false m n apart))
 
-merged_nothing : (changes : List Changed) → merged changes [] ≡ changes
+pub merged_nothing : (changes : List Changed) → merged changes [] ≡ changes
 merged_nothing [] = refl
 merged_nothing (c ∷ cs) = ap (λ rest. c ∷ rest) (merged_nothing cs)
 
@@ -85,7 +85,7 @@ over_through a lines n n2 left = go (needle_cmp n2 n)
   where
     go : (o : Ordering) → changes_through a lines (by_order o ((n2, Entry n2 ∷ Entry n ∷ []) ∷ (n, left) ∷ []) ((n, left) ∷ []) ((n, left) ∷ (n2, Entry n2 ∷ Entry n ∷ []) ∷ []))
         ≡ by_order o ((n2, through a lines (Entry n2 ∷ Entry n ∷ [])) ∷ (n, through a lines left) ∷ []) ((n, through a lines left) ∷ [])
-          ((n, through a lines left) ∷ (n2, through a lines (Entry n2 ∷ Entry n ∷ [])) ∷ [])
+        ((n, through a lines left) ∷ (n2, through a lines (Entry n2 ∷ Entry n ∷ [])) ∷ [])
     go Less = refl
     go Equal = refl
     go Greater = refl

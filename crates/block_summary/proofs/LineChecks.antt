@@ -4,22 +4,17 @@ use Rattle.std.specs.List.{Contains}
 use Rattle.std.proofs.lemmas.List.{map-append}
 use Rattle.std.proofs.lemmas.List.Elements.{All-head, All-tail, Contains-append_cases}
 use Rattle.std.proofs.lemmas.Bool.{true≢false}
-use Rattle.std.proofs.lemmas.Nat.{or_lt, pow_pos}
-use Rattle.std.proofs.lemmas.Nat.Bits.{bit_at-zero}
-use Rattle.std.proofs.Math.Pow.{pow-lt}
-use Rattle.std.specs.Prelude.{nat_eq}
+use Rattle.std.proofs.lemmas.Nat.{pow_pos}
 use Rattle.knit_base.specs.declared.instr.Instr.{Instr}
 use Rattle.knit_base.specs.declared.instr.Instr.TheVariants.{CarryIn, CarryOut, HookIn, HookOut, ReleaseHook, Knit, Tuck, Miss, Split, Xfer}
 use Rattle.knit_base.specs.declared.needle.Needle.{Needle}
-use Rattle.knit_base.specs.declared.needle.Bed.{Bed}
-use Rattle.knit_base.specs.declared.needle.Bed.TheVariants.{Front, FrontSlider, Back, BackSlider}
 use Rattle.knit_base.specs.declared.profile.Profile.{Profile}
 use Rattle.knit_base.specs.declared.rule.Reason.{Reason}
 use Rattle.knit_base.specs.declared.rule.Rule.{Rule}
 use Rattle.knit_base.specs.declared.rule.Rule.TheVariants.{NotAligned, HookBusy, HookOther}
 use Rattle.knit_base.specs.declared.yarns.CarrierNo.{CarrierNo}
 use Rattle.knit_base.specs.Lawful.{IsLawful, AreOpposite}
-use Rattle.knit_base.specs.Needle.{own_slider, slider_bed, is_front, is_slider, rack_facing}
+use Rattle.knit_base.specs.Needle.{own_slider, is_front, is_slider, rack_facing}
 use Rattle.knit_base.specs.Yarns.{contains_carrier, mask_of}
 use Rattle.face_data.specs.declared.face.Cond.{Cond}
 use Rattle.face_data.specs.declared.face.Cond.TheVariants.{HookFree}

@@ -1,3 +1,5 @@
 pub mod Asks
 pub mod DraftKnowledge
+pub mod LineEnds
 pub mod LineSummaries
+pub mod Prepared

@@ -18,11 +18,12 @@ ghost use Rattle.face_data.specs.Conditions.Ask.{carrier_in, size_at_most};
 ghost use Rattle.face_data.specs.Segments.{change_at, segments_on};
 ghost use Rattle.face_data.specs.Sizes.{SizeRule, size_ask};
 ghost use Rattle.face_data.specs.Drafts.{no_lines};
-ghost use Rattle.block_summary.specs.DraftKnowledge.{HoldsAfter, HasAsked, IsSmall, Took, effect_in};
+ghost use Rattle.block_summary.specs.DraftKnowledge.{HoldsAfter, HasAsked, IsSmall, Took, effect_in, stopped_at};
 ghost use Rattle.block_summary.specs.LineSummaries.{line_summary};
 
 use crate::kept::Kept;
-use face_data::{Bearing, Cond, Effect, Seg, Segs, SizeAsk, Symbols, slot_of};
+use crate::laid::{Laid, face_of};
+use face_data::{Bearing, Cond, Effect, Ending, Face, Seg, Segs, SizeAsk, Symbols, slot_of};
 use knit_base::{Fault, Needle, NoMemory, Reason, Yarns};
 use std::alloc::Global;
 use std::marker::Model;
@@ -79,6 +80,7 @@ impl Draft {
     pub fn contents(&self) -> &Symbols
         ensures contents { result.now ≡ self.now.changes }
         ensures rising { IsInOrder self.now.changes }
+        ensures through { self.now.ending ≡ Through (effect_in self.now.ending) }
     {
         &self.symbols
     }
@@ -226,11 +228,21 @@ impl Draft {
         self.effect = self.effect.then(effect);
     }
 
+    /// One line more was read, which asks and changes nothing.
+    pub(crate) fn pass(&mut self)
+        requires { self.old.lines < 2 ^ 32 - 1 }
+        ensures line { self.new ≡ record self.old { lines = self.old.lines + 1 } }
+        ensures through { self.old.ending ≡ Through (effect_in self.old.ending) }
+    {
+        self.lines += 1;
+    }
+
     /// One line more was read, which can't be carried out for this reason. Answers with its fault.
     pub(crate) fn stop(&mut self, reason: Reason) -> Fault
         requires { self.old.lines < 2 ^ 32 - 1 }
         ensures fault { result ≡ record { line = self.old.lines; reason = reason } }
         ensures line { self.new ≡ record self.old { lines = self.old.lines + 1 } }
+        ensures through { self.old.ending ≡ Through (effect_in self.old.ending) }
     {
         let fault = Fault {
             line: self.lines,
@@ -238,6 +250,30 @@ impl Draft {
         };
         self.lines += 1;
         fault
+    }
+
+    /// The face of the lines.
+    pub(crate) fn face(&self) -> Result<Face, NoMemory>
+        ensures { IfOk result (λ face. face ≡ self.now) }
+    {
+        let laid = Laid::of(self.alloc, &self.symbols)?;
+        let ending = Ending::Through(self.effect);
+        face_of(self.alloc, self.lines, self.made, &self.kept, &laid, ending)
+    }
+
+    /// The face of so many lines, of which those that were read are known to stop at this fault.
+    pub(crate) fn broken_face(&self, lines: u32, fault: Fault) -> Result<Face, NoMemory>
+        ensures { IfOk result (λ face. face ≡ stopped_at fault (record self.now { lines = lines })) }
+    {
+        let ending = Ending::Broken(fault);
+        face_of(
+            self.alloc,
+            lines,
+            0,
+            &self.kept,
+            &Laid::new(self.alloc),
+            ending,
+        )
     }
 
     /// One line more: a knit with carriers that are known to be in action, on a hook whose own slider is known to hold nothing.

@@ -15,11 +15,16 @@ mod draft;
 mod formed;
 mod instr_ask;
 mod kept;
+mod laid;
+mod line;
 mod line_ask;
+mod prepared;
 #[cfg(test)]
 mod tests;
 
 pub use draft::Draft;
 pub use formed::FormedLoop;
 pub use instr_ask::{InstrAsk, ask_instr};
+pub use line::LineEnd;
 pub use line_ask::{LineAsk, ask_line};
+pub use prepared::{MOST_LINES, PrepareFault, Prepared, prepare};

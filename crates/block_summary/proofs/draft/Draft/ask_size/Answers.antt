@@ -1,4 +1,4 @@
-use Rattle.std.proofs.Common.{rules, ◌≡◌, ◌∙◌, sym, subst, pos, ◌<ℤ◌, w16}
+use Rattle.std.proofs.Common.{rules, ◌∙◌, sym, subst, pos, ◌<ℤ◌, w16}
 use Rattle.std.proofs.lemmas.Int.{to_z-of_z}
 use Rattle.std.proofs.lemmas.Result.{IfOk-weaker}
 use Rattle.block_summary.proofs.DraftSteps.{took_over, took_left}

@@ -1,5 +1,4 @@
 use Rattle.std.proofs.Common.{rules, ◌≡◌, [], ◌∷◌, ◌++◌, List, sym, subst}
-use Rattle.face_data.specs.declared.face.Check.{Check}
 use Rattle.face_data.specs.Answers.Answer.{asks}
 use Rattle.face_data.specs.Composition.{settled}
 use Rattle.face_data.specs.Conditions.{ask_of}

@@ -1,0 +1,345 @@
+-- One line more: its conditions one after the other, and what it changes.
+use Rattle.std.proofs.Common.{◌≡◌, ℕ, ◌+◌, ◌-◌, ◌<◌, ◌≤◌, Bool, true, false, List, [], ◌∷◌, ◌++◌, length, drop, get_or, map, All, Option, None, Some, IfSome, refl, sym, ap, ◌∙◌, subst, arith, append_assoc}
+use Rattle.std.specs.Option.{option_map, option_to_list}
+use Rattle.std.proofs.lemmas.Int.{ints}
+use Rattle.std.proofs.lemmas.List.{append-nil, drop_more, drop_all, get_or-map, length-map}
+use Rattle.std.proofs.lemmas.List.Elements.{All-nil, All-cons, All-append, All-head, All-tail}
+use Rattle.knit_base.specs.declared.instr.Instr.{Instr}
+use Rattle.knit_base.specs.declared.instr.Instr.TheVariants.{CarryIn, CarryOut, HookIn, HookOut, ReleaseHook, Knit, Tuck, Miss, Split, Xfer}
+use Rattle.knit_base.specs.declared.instr.Read.TheVariants as read
+use Rattle.knit_base.specs.declared.needle.Needle.{Needle}
+use Rattle.knit_base.specs.declared.profile.Profile.{Profile}
+use Rattle.knit_base.specs.declared.rule.Reason.{Reason}
+use Rattle.knit_base.specs.declared.yarns.CarrierNo.{CarrierNo}
+use Rattle.knit_base.specs.Instr.{forming_needle}
+use Rattle.knit_base.specs.Lawful.{IsLawful}
+use Rattle.face_data.specs.declared.face.Cond.{Cond}
+use Rattle.face_data.specs.declared.face.Ending.TheVariants.{Through, Broken}
+use Rattle.face_data.specs.declared.sizes.SizeAsk.{SizeAsk}
+use Rattle.face_data.specs.Answers.{Answer, read_answer}
+use Rattle.face_data.specs.Answers.Answer.{yes_it_does, no_it_does_not, asks}
+use Rattle.face_data.specs.Composition.{Gathering, against_kept, closed, composed, composed_at, effect_of_both, merged, next, reads}
+use Rattle.face_data.specs.Conditions.{Ask, ask_of, unless}
+use Rattle.face_data.specs.Conditions.Ask.{size_at_most}
+use Rattle.face_data.specs.Drafts.{no_effect}
+use Rattle.face_data.specs.Goodness.{IsInOrder}
+use Rattle.face_data.specs.Items.{set_items}
+use Rattle.face_data.specs.Segments.{Changed}
+use Rattle.face_data.specs.Sizes.{SizeRule, size_ask, size_asks}
+use Rattle.face_data.specs.Summaries.{Asked, Summary, raised}
+use Rattle.face_data.specs.Through.{changes_through}
+use Rattle.face_data.proofs.Front.{effect-idle}
+use Rattle.bed_rules.specs.Beds.{changes_of, crowded, size_rules}
+use Rattle.carrier_rules.specs.declared.conds.OfEach.{OfEach}
+use Rattle.carrier_rules.specs.declared.conds.OfEach.TheVariants.{InAction, NotInAction, NotInHook}
+use Rattle.carrier_rules.specs.Carriers.{cond_of, conds_of, conds_of_each, effect_of, rule_of}
+use Rattle.slider_rules.specs.Sliders.{bare_slider}
+use Rattle.block_summary.specs.declared.formed.FormedLoop.{FormedLoop}
+use Rattle.block_summary.specs.declared.instr_ask.InstrAsk.{InstrAsk}
+use Rattle.block_summary.specs.Asks.{formed_loop, instr_ask, needle_of_formed}
+use Rattle.block_summary.specs.DraftKnowledge.{CanBeAsked, HasAsked, HasAskedAll, HaveAsked, IsSmall, Took, effect_in, reads_after, reads_or_stops, stopped_at, with_loop_on, written}
+use Rattle.block_summary.specs.LineEnds.{carried}
+use Rattle.block_summary.specs.LineSummaries.{asked_by, asked_for, asked_of_sizes, line_changes, line_summary, plainly_asked}
+use Rattle.block_summary.proofs.DraftSteps.{took_rest}
+use Rattle.block_summary.proofs.FormedLoops.{needle-formed}
+use Rattle.block_summary.proofs.LineChanges.{line_changed, merged_nothing}
+
+fault_here : (lines : ℕ) (reason : Reason) → raised lines (record { line = 0; reason = reason }) ≡ record { line = lines; reason = reason }
+fault_here lines reason = let same : lines + 0 ≡ lines = omega arith in λ i. record { line = same i; reason = reason }
+
+-- One condition that was asked is one step of reading the conditions.
+asked_once : (old new : Summary) (reason : Reason) (ask : Ask) (goes : Bool) (left : List Asked) → HasAsked old new (record { line = old.lines; reason = reason }) ask goes →
+    reads_after old (asked_for reason ask ∷ left) ≡ reads_or_stops (unless goes reason) new left
+unfolding reads
+asked_once old new reason ask goes left took = go (against_kept old.checks (read_answer (effect_in old.ending) old.changes ask)) took
+  where
+    go : (r : Answer) → Took r old new (record { line = old.lines; reason = reason }) goes →
+        next r old.checks (raised old.lines (record { line = 0; reason = reason })) (λ ks. reads (effect_in old.ending) old.changes old.lines ks left)
+        ≡ reads_or_stops (unless goes reason) new left
+    go yes_it_does took = λ i. reads_or_stops (unless (sym took.0 i) reason) (sym took.1 i) left
+    go no_it_does_not took =
+        (λ i. record { checks = old.checks; stop = Some (fault_here old.lines reason i) })
+        ∙ (λ i. reads_or_stops (unless (sym took.0 i) reason) (sym took.1 i) left)
+    go (asks q) took =
+        (λ i. reads (effect_in old.ending) old.changes old.lines (old.checks ++ record { fault = fault_here old.lines reason i; ask = q } ∷ []) left)
+        ∙ (λ i. reads_or_stops (unless (sym took.0 i) reason) (sym took.1 i) left)
+
+asked_rest : (old new : Summary) (reason : Reason) (ask : Ask) (goes : Bool) → HasAsked old new (record { line = old.lines; reason = reason }) ask goes → new ≡ record old { checks = new.checks }
+asked_rest old new reason ask goes took =
+    took_rest (against_kept old.checks (read_answer (effect_in old.ending) old.changes ask)) old new (record { line = old.lines; reason = reason }) goes took
+
+rest_of_both : (old mid new : Summary) → mid ≡ record old { checks = mid.checks } → new ≡ record mid { checks = new.checks } → new ≡ record old { checks = new.checks }
+rest_of_both old mid new first second = second ∙ ap (λ (s : Summary). record s { checks = new.checks }) first
+
+-- at first all conditions are left
+pub all_left : (old : Summary) (all : List Asked) → HaveAsked old old all all
+all_left old all = record { rest_stays = refl; so_far = λ more. refl }
+
+-- one of them is asked
+asked_next : (old mid new : Summary) (all left : List Asked) (reason : Reason) (ask : Ask) (goes : Bool) → HaveAsked old mid all (asked_for reason ask ∷ left) →
+    HasAsked mid new (record { line = mid.lines; reason = reason }) ask goes → goes ≡ true → HaveAsked old new all left
+asked_next old mid new all left reason ask goes have took on = record {
+  rest_stays = rest_of_both old mid new have.rest_stays (asked_rest mid new reason ask goes took);
+  so_far = λ more. have.so_far more ∙ asked_once mid new reason ask goes (left ++ more) took ∙ ap (λ b. reads_or_stops (unless b reason) new (left ++ more)) on;
+}
+
+-- and can't hold
+asked_halt : (old mid new : Summary) (all left : List Asked) (reason : Reason) (ask : Ask) (goes : Bool) → HaveAsked old mid all (asked_for reason ask ∷ left) →
+    HasAsked mid new (record { line = mid.lines; reason = reason }) ask goes → goes ≡ false → HasAskedAll old new all (Some reason)
+asked_halt old mid new all left reason ask goes have took off = record {
+  rest_stays = rest_of_both old mid new have.rest_stays (asked_rest mid new reason ask goes took);
+  asked_are = λ more. have.so_far more ∙ asked_once mid new reason ask goes (left ++ more) took ∙ ap (λ b. reads_or_stops (unless b reason) new (left ++ more)) off;
+}
+
+-- at last none is left
+pub none_left : (old new : Summary) (all : List Asked) → HaveAsked old new all [] → HasAskedAll old new all None
+none_left old new all have = record { rest_stays = have.rest_stays; asked_are = have.so_far }
+
+-- no condition
+pub none_asked : (old : Summary) → HasAskedAll old old [] None
+none_asked old = record { rest_stays = refl; asked_are = λ more. refl }
+
+-- one condition
+pub one_asked : (old new : Summary) (reason : Reason) (ask : Ask) (goes : Bool) → HasAsked old new (record { line = old.lines; reason = reason }) ask goes →
+    HasAskedAll old new (asked_for reason ask ∷ []) (unless goes reason)
+one_asked old new reason ask goes took = record {
+  rest_stays = asked_rest old new reason ask goes took;
+  asked_are = λ more. asked_once old new reason ask goes more took;
+}
+
+-- two lists of conditions
+pub both_asked : (old mid new : Summary) (xs ys : List Asked) (stop : Option Reason) → HasAskedAll old mid xs None → HasAskedAll mid new ys stop → HasAskedAll old new (xs ++ ys) stop
+both_asked old mid new xs ys stop first second = record {
+  rest_stays = rest_of_both old mid new first.rest_stays second.rest_stays;
+  asked_are = λ more. ap (reads_after old) (append_assoc xs ys more) ∙ first.asked_are (ys ++ more) ∙ second.asked_are more;
+}
+
+-- the first of which stops
+pub first_stops : (old new : Summary) (xs ys : List Asked) (reason : Reason) → HasAskedAll old new xs (Some reason) → HasAskedAll old new (xs ++ ys) (Some reason)
+first_stops old new xs ys reason first = record {
+  rest_stays = first.rest_stays;
+  asked_are = λ more. ap (reads_after old) (append_assoc xs ys more) ∙ first.asked_are (ys ++ more);
+}
+
+-- conditions on carriers and the hook, one after the other
+pub conds_next : (old mid new : Summary) (conds : List (Reason × Cond)) (i : ℕ) (d : Reason × Cond) (goes : Bool) → i < length conds →
+    HaveAsked old mid (map plainly_asked conds) (map plainly_asked (drop i conds)) →
+    HasAsked mid new (record { line = mid.lines; reason = (get_or conds i d).0 }) (ask_of [] (get_or conds i d).1) goes → goes ≡ true →
+    HaveAsked old new (map plainly_asked conds) (map plainly_asked (drop (i + 1) conds))
+conds_next old mid new conds i d goes within have took on =
+    asked_next old mid new (map plainly_asked conds) (map plainly_asked (drop (i + 1) conds)) (get_or conds i d).0 (ask_of [] (get_or conds i d).1) goes
+    (subst (λ (cs : List (Reason × Cond)). HaveAsked old mid (map plainly_asked conds) (map plainly_asked cs)) (drop_more conds i d within) have) took on
+
+-- one of which can't hold
+pub conds_halt : (old mid new : Summary) (conds : List (Reason × Cond)) (i : ℕ) (d : Reason × Cond) (goes : Bool) → i < length conds →
+    HaveAsked old mid (map plainly_asked conds) (map plainly_asked (drop i conds)) →
+    HasAsked mid new (record { line = mid.lines; reason = (get_or conds i d).0 }) (ask_of [] (get_or conds i d).1) goes → goes ≡ false →
+    HasAskedAll old new (map plainly_asked conds) (Some (get_or conds i d).0)
+conds_halt old mid new conds i d goes within have took off =
+    asked_halt old mid new (map plainly_asked conds) (map plainly_asked (drop (i + 1) conds)) (get_or conds i d).0 (ask_of [] (get_or conds i d).1) goes
+    (subst (λ (cs : List (Reason × Cond)). HaveAsked old mid (map plainly_asked conds) (map plainly_asked cs)) (drop_more conds i d within) have) took off
+
+-- and all of them
+pub conds_end : (old new : Summary) (conds : List (Reason × Cond)) (i : ℕ) → length conds ≤ i → HaveAsked old new (map plainly_asked conds) (map plainly_asked (drop i conds)) →
+    HasAskedAll old new (map plainly_asked conds) None
+conds_end old new conds i past have =
+    none_left old new (map plainly_asked conds)
+    (subst (λ (cs : List (Reason × Cond)). HaveAsked old new (map plainly_asked conds) (map plainly_asked cs)) (drop_all i conds past) have)
+
+-- Conditions on sizes up to a place were asked, whatever rules they come from.
+pub record SizesAsked (old new : Summary) (sizes : List SizeAsk) (i : ℕ) : Type 0 where
+  pub rest_stays : new ≡ record old { checks = new.checks }
+  pub have : (rules : List SizeRule) → sizes ≡ size_asks old.changes rules → HaveAsked old new (map asked_of_sizes rules) (map asked_of_sizes (drop i rules))
+
+-- at first none
+pub no_sizes : (old : Summary) (sizes : List SizeAsk) → SizesAsked old old sizes 0
+no_sizes old sizes = record { rest_stays = refl; have = λ rules is. all_left old (map asked_of_sizes rules) }
+
+-- the rule of a place
+abbrev some_rule : SizeAsk → SizeRule
+some_rule ask = record { reason = ask.reason; needles = []; most = 0 }
+
+rule_at : (old mid : Summary) (sizes : List SizeAsk) (i : ℕ) (d : SizeAsk) (rules : List SizeRule) → i < length sizes → mid ≡ record old { checks = mid.checks } →
+    sizes ≡ size_asks old.changes rules → (i < length rules) × (get_or sizes i d ≡ size_ask mid.changes (get_or rules i (some_rule d)))
+rule_at old mid sizes i d rules within rest is =
+    let inside : i < length rules = omega (arith, within, ap length is, length-map rules (size_ask old.changes)) in (
+      inside,
+      ap (λ (xs : List SizeAsk). get_or xs i d) is
+          ∙ get_or-map (size_ask old.changes) rules i (some_rule d) d inside
+          ∙ ap (λ (s : Summary). size_ask s.changes (get_or rules i (some_rule d))) (sym rest),
+    )
+
+sizes_left_at : (old mid : Summary) (i : ℕ) (d : SizeAsk) (rules : List SizeRule) → i < length rules →
+    HaveAsked old mid (map asked_of_sizes rules) (map asked_of_sizes (drop i rules)) →
+    HaveAsked old mid (map asked_of_sizes rules) (asked_of_sizes (get_or rules i (some_rule d)) ∷ map asked_of_sizes (drop (i + 1) rules))
+sizes_left_at old mid i d rules inside have =
+    subst (λ (rs : List SizeRule). HaveAsked old mid (map asked_of_sizes rules) (map asked_of_sizes rs)) (drop_more rules i (some_rule d) inside) have
+
+-- one more
+pub sizes_next : (old mid new : Summary) (sizes : List SizeAsk) (i : ℕ) (d : SizeAsk) (goes : Bool) → i < length sizes → SizesAsked old mid sizes i →
+    new ≡ record mid { checks = new.checks } →
+    ((rule : SizeRule) → get_or sizes i d ≡ size_ask mid.changes rule → HasAsked mid new (record { line = mid.lines; reason = rule.reason }) (size_at_most rule.needles rule.most) goes) →
+    goes ≡ true → SizesAsked old new sizes (i + 1)
+sizes_next old mid new sizes i d goes within asked rest took on = record {
+  rest_stays = rest_of_both old mid new asked.rest_stays rest;
+  have = λ rules is.
+      let at = rule_at old mid sizes i d rules within asked.rest_stays is in
+      let rule : SizeRule = get_or rules i (some_rule d) in
+      asked_next old mid new (map asked_of_sizes rules) (map asked_of_sizes (drop (i + 1) rules)) rule.reason (size_at_most rule.needles rule.most) goes
+      (sizes_left_at old mid i d rules at.0 (asked.have rules is)) (took rule at.1) on;
+}
+
+-- one that can't hold
+pub sizes_halt : (old mid new : Summary) (sizes : List SizeAsk) (i : ℕ) (d : SizeAsk) (goes : Bool) (rules : List SizeRule) → i < length sizes → SizesAsked old mid sizes i →
+    ((rule : SizeRule) → get_or sizes i d ≡ size_ask mid.changes rule → HasAsked mid new (record { line = mid.lines; reason = rule.reason }) (size_at_most rule.needles rule.most) goes) →
+    goes ≡ false → sizes ≡ size_asks old.changes rules → HasAskedAll old new (map asked_of_sizes rules) (Some (get_or sizes i d).reason)
+sizes_halt old mid new sizes i d goes rules within asked took off is =
+    let at = rule_at old mid sizes i d rules within asked.rest_stays is in
+    let rule : SizeRule = get_or rules i (some_rule d) in
+    subst (λ reason. HasAskedAll old new (map asked_of_sizes rules) (Some reason)) (sym (ap (λ (q : SizeAsk). q.reason) at.1))
+    (asked_halt old mid new (map asked_of_sizes rules) (map asked_of_sizes (drop (i + 1) rules)) rule.reason (size_at_most rule.needles rule.most) goes
+    (sizes_left_at old mid i d rules at.0 (asked.have rules is)) (took rule at.1) off)
+
+-- all of them
+pub sizes_end : (old new : Summary) (sizes : List SizeAsk) (i : ℕ) (rules : List SizeRule) → length sizes ≤ i → SizesAsked old new sizes i → sizes ≡ size_asks old.changes rules →
+    HasAskedAll old new (map asked_of_sizes rules) None
+sizes_end old new sizes i rules past asked is =
+    let behind : length rules ≤ i = omega (arith, past, ap length is, length-map rules (size_ask old.changes)) in
+    none_left old new (map asked_of_sizes rules)
+    (subst (λ (rs : List SizeRule). HaveAsked old new (map asked_of_sizes rules) (map asked_of_sizes rs)) (drop_all i rules behind) (asked.have rules is))
+
+no_rule : (changes : List Changed) (rule : Option SizeRule) → None ≡ option_map (size_ask changes) rule → rule ≡ None
+no_rule changes None is = refl
+no_rule changes (Some rule) is = absurd (cc)
+
+-- no slider is asked about
+pub no_slider : (old : Summary) (rule : Option SizeRule) → None ≡ option_map (size_ask old.changes) rule → HasAskedAll old old (map asked_of_sizes (option_to_list rule)) None
+no_slider old rule is =
+    subst (λ (r : Option SizeRule). HasAskedAll old old (map asked_of_sizes (option_to_list r)) None) (sym (no_rule old.changes rule is)) (none_asked old)
+
+-- one is
+pub one_slider : (old new : Summary) (ask : SizeAsk) (goes : Bool) (rule : Option SizeRule) →
+    ((r : SizeRule) → ask ≡ size_ask old.changes r → HasAsked old new (record { line = old.lines; reason = r.reason }) (size_at_most r.needles r.most) goes) →
+    Some ask ≡ option_map (size_ask old.changes) rule → HasAskedAll old new (map asked_of_sizes (option_to_list rule)) (unless goes ask.reason)
+one_slider old new ask goes None took is = absurd (cc)
+one_slider old new ask goes (Some rule) took is =
+    let same : ask ≡ size_ask old.changes rule = cc in
+    subst (λ reason. HasAskedAll old new (asked_of_sizes rule ∷ []) (unless goes reason)) (sym (ap (λ (q : SizeAsk). q.reason) same))
+    (one_asked old new rule.reason (size_at_most rule.needles rule.most) goes (took rule same))
+
+-- the conditions of a lawful instruction can be asked
+each_can : (of_each : OfEach) (at : ℕ) (cs : List CarrierNo) (carriers : ℕ) → carriers ≤ 64 → All (λ (c : CarrierNo). c.0 < carriers) cs → All CanBeAsked (conds_of_each of_each at cs)
+each_can of_each at [] carriers few all = All-nil CanBeAsked
+each_can of_each at (c ∷ cs) carriers few all =
+    All-cons CanBeAsked (record { rule = rule_of of_each; at = at }, cond_of of_each c) (conds_of_each of_each (at + 1) cs) (here of_each)
+    (each_can of_each (at + 1) cs carriers few (All-tail (λ (d : CarrierNo). d.0 < carriers) c cs all))
+  where
+    small : c.0 < 64
+    small = let lt : c.0 < carriers = All-head (λ (d : CarrierNo). d.0 < carriers) c cs all in omega (arith, few, lt)
+
+    here : (o : OfEach) → CanBeAsked (record { rule = rule_of o; at = at }, cond_of o c)
+    here InAction = (small, tt)
+    here NotInAction = (small, tt)
+    here NotInHook = (small, tt)
+
+one_can : (c : Reason × Cond) → CanBeAsked c → All CanBeAsked (c ∷ [])
+one_can c can = All-cons CanBeAsked c [] can (All-nil CanBeAsked)
+
+-- those on carriers and the hook
+pub conds_can : (profile : Profile) (carriers : ℕ) (instr : Instr) → carriers ≤ 64 → IsLawful profile carriers instr → All CanBeAsked (conds_of instr)
+conds_can profile carriers (CarryIn cs) few lawful = each_can NotInAction 1 cs carriers few lawful.carriers.each
+conds_can profile carriers (CarryOut cs) few lawful =
+    All-append CanBeAsked (conds_of_each InAction 1 cs) (conds_of_each NotInHook 1 cs) (each_can InAction 1 cs carriers few lawful.carriers.each) (each_can NotInHook 1 cs carriers few lawful.carriers.each)
+conds_can profile carriers (HookIn cs) few lawful = All-append CanBeAsked (conds_of_each NotInAction 1 cs) _ (each_can NotInAction 1 cs carriers few lawful.carriers.each) (one_can _ (tt, tt))
+conds_can profile carriers (HookOut cs) few lawful = All-append CanBeAsked (conds_of_each InAction 1 cs) _ (each_can InAction 1 cs carriers few lawful.carriers.each) (one_can _ (tt, tt))
+conds_can profile carriers (ReleaseHook cs) few lawful = one_can _ (tt, tt)
+conds_can profile carriers (Knit dir n cs) few lawful = each_can InAction 3 cs carriers few lawful.carriers.each
+conds_can profile carriers (Tuck dir n cs) few lawful = each_can InAction 3 cs carriers few lawful.carriers.each
+conds_can profile carriers (Miss dir n cs) few lawful = each_can InAction 3 cs carriers few lawful.carriers.each
+conds_can profile carriers (Split dir n n2 cs) few lawful = each_can InAction 4 cs carriers few lawful.carriers.each
+conds_can profile carriers instr few lawful = All-nil CanBeAsked
+
+size_small : (changes : List Changed) (rule : SizeRule) → rule.most ≤ 64 → IsSmall (size_ask changes rule)
+size_small changes rule few = omega (arith, ints, few)
+
+one_small : (changes : List Changed) (rule : SizeRule) → rule.most ≤ 64 → All IsSmall (size_asks changes (rule ∷ []))
+one_small changes rule few = All-cons IsSmall (size_ask changes rule) [] (size_small changes rule few) (All-nil IsSmall)
+
+-- those on sizes
+pub sizes_small : (hold : ℕ) (instr : Instr) (changes : List Changed) → hold ≤ 64 → All IsSmall (size_asks changes (size_rules hold instr))
+sizes_small hold (Tuck dir n []) changes few = All-nil IsSmall
+sizes_small hold (Tuck dir n (c ∷ cs)) changes few = one_small changes (crowded 2 (n ∷ []) (hold - 1)) (let less : hold - 1 ≤ 64 = omega (arith, few) in less)
+sizes_small hold (Split dir n n2 cs) changes few = one_small changes (crowded 3 (n2 ∷ n ∷ []) hold) few
+sizes_small hold (Xfer n n2) changes few = one_small changes (crowded 2 (n2 ∷ n ∷ []) hold) few
+sizes_small hold instr changes few = All-nil IsSmall
+
+-- and on a slider
+pub slider_small : (on : Option Needle) (changes : List Changed) → IfSome (option_map (size_ask changes) (option_map bare_slider on)) IsSmall
+slider_small None changes = tt
+slider_small (Some n) changes = size_small changes (bare_slider n) (omega arith)
+
+-- the conditions of a line and their end, as composition has them
+gathered : (old new : Summary) (all : List Asked) (stop : Option Reason) → HasAskedAll old new all stop → reads_after old all ≡ reads_or_stops stop new []
+gathered old new all stop asked = ap (reads_after old) (sym (append-nil all)) ∙ asked.asked_are []
+
+-- A line that is known to stop.
+pub line_stops : (hold : ℕ) (instr : Instr) (old mid : Summary) (reason : Reason) → old.ending ≡ Through (effect_in old.ending) → HasAskedAll old mid (asked_by hold instr) (Some reason) →
+    composed old (line_summary hold (read.Instr instr)) ≡ stopped_at (record { line = mid.lines; reason = reason }) (record mid { lines = mid.lines + 1 })
+line_stops hold instr old mid reason through asked =
+    ap (λ ending. composed_at ending old (line_summary hold (read.Instr instr))) through
+    ∙ ap (λ (g : Gathering). closed g (effect_in old.ending) old (line_summary hold (read.Instr instr))) (gathered old mid (asked_by hold instr) (Some reason) asked)
+    ∙ ap (λ (s : Summary). stopped_at (record { line = mid.lines; reason = reason }) (record mid { lines = s.lines + 1 })) (sym asked.rest_stays)
+
+same_items : (formed : Option FormedLoop) → set_items formed ≡ set_items (needle_of_formed formed)
+same_items None = refl
+same_items (Some l) = refl
+
+-- A line that goes on.
+pub line_goes : (profile : Profile) (carriers hold : ℕ) (instr : Instr) (old mid : Summary) (ask : InstrAsk) → old.ending ≡ Through (effect_in old.ending) → IsInOrder old.changes →
+    IsLawful profile carriers instr → ask ≡ instr_ask hold instr old.changes → HasAskedAll old mid (asked_by hold instr) None →
+    carried mid ask ≡ composed old (line_summary hold (read.Instr instr))
+unfolding reads
+line_goes profile carriers hold instr old mid ask through order lawful is asked =
+    let on : needle_of_formed (formed_loop instr old.changes) ≡ forming_needle instr = needle-formed old.changes instr in
+    let changed : with_loop_on (forming_needle instr) old.lines (written old.changes (changes_of instr old.changes)) ≡ merged old.changes (changes_through old.changes old.lines (line_changes instr)) =
+    line_changed profile carriers instr old.changes old.lines lawful order in
+    ap (λ (s : Summary). carried s ask) asked.rest_stays
+    ∙ ap (carried (record old { checks = mid.checks })) is
+    ∙ (λ i. record {
+      lines = old.lines + 1;
+      made = old.made + (same_items (formed_loop instr old.changes) ∙ ap set_items on) i;
+      checks = mid.checks;
+      changes = (ap (λ o. with_loop_on o old.lines (written old.changes (changes_of instr old.changes))) on ∙ changed) i;
+      ending = Through (effect_of_both (effect_in old.ending) (effect_of instr));
+    })
+    ∙ ap (λ (g : Gathering). closed g (effect_in old.ending) old (line_summary hold (read.Instr instr))) (sym (gathered old mid (asked_by hold instr) None asked))
+    ∙ ap (λ ending. composed_at ending old (line_summary hold (read.Instr instr))) (sym through)
+
+-- A line that breaks a rule by itself.
+pub broken_stops : (hold : ℕ) (old : Summary) (reason : Reason) → old.ending ≡ Through (effect_in old.ending) →
+    composed old (line_summary hold (read.Broken reason)) ≡ stopped_at (record { line = old.lines; reason = reason }) (record old { lines = old.lines + 1 })
+unfolding reads
+broken_stops hold old reason through =
+    ap (λ ending. composed_at ending old (line_summary hold (read.Broken reason))) through
+    ∙ (λ i. record { lines = old.lines + 1; made = 0; checks = old.checks; changes = []; ending = Broken (fault_here old.lines reason i) })
+
+-- A line that asks and changes nothing.
+pub nothing_goes : (old : Summary) → old.ending ≡ Through (effect_in old.ending) →
+    record old { lines = old.lines + 1 } ≡ composed old (record { lines = 1; made = 0; checks = []; changes = []; ending = Through no_effect })
+unfolding reads
+nothing_goes old through =
+    let made : old.made ≡ old.made + 0 = omega arith in
+    (λ i. record {
+      lines = old.lines + 1;
+      made = made i;
+      checks = old.checks;
+      changes = sym (merged_nothing old.changes) i;
+      ending = (through ∙ ap Through (sym (effect-idle (effect_in old.ending)))) i;
+    })
+    ∙ ap (λ ending. composed_at ending old (record { lines = 1; made = 0; checks = []; changes = []; ending = Through no_effect })) (sym through)
+
+-- the changes of a line were put in, and its loop; then the line was counted
+pub carried_on : (old mid : Summary) (ask : InstrAsk) → mid ≡ record old { changes = with_loop_on (needle_of_formed ask.formed) old.lines (written old.changes ask.changed) } →
+    record mid { lines = mid.lines + 1; made = mid.made + set_items ask.formed; ending = Through (effect_of_both (effect_in mid.ending) ask.effect) } ≡ carried old ask
+carried_on old mid ask is =
+    ap (λ (s : Summary). record s { lines = s.lines + 1; made = s.made + set_items ask.formed; ending = Through (effect_of_both (effect_in s.ending) ask.effect) }) is

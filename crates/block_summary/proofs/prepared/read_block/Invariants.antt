@@ -1,0 +1,12 @@
+use Rattle.std.proofs.Common.{◌≡◌, ◌+◌, List, length}
+use Rattle.knit_base.specs.declared.instr.Read.{Read}
+use Rattle.block_summary.specs.Prepared.{AreReadings, AreRowsOf, HasRead}
+use Rattle.block_summary.proofs.prepared.read_block.Given as goal
+
+abbrev pub invariant-loop-i : goal.invariant-loop-i
+invariant-loop-i g l = record {
+  lines : l.draft.lines ≡ l.i;
+  rows : AreRowsOf l.i l.loops;
+  steps : l.steps ≡ l.initial.steps + l.i;
+  read : (lines : List Read) → AreReadings l.setting.profile l.setting.declared l.text lines → HasRead l.setting.profile (length l.setting.declared) lines l.i l.draft l.loops;
+}

@@ -1,0 +1,37 @@
+-- How a line ends that is read after others.
+use Rattle.std.specs.Prelude.{◌≡◌, ◌+◌, ℕ, List, Option, None}
+use Rattle.knit_base.specs.declared.instr.Read.{Read}
+use Rattle.knit_base.specs.declared.instr.Read.TheVariants as read
+use Rattle.face_data.specs.declared.face.Ending.TheVariants.{Through}
+use Rattle.face_data.specs.Composition.{composed, effect_of_both}
+use Rattle.face_data.specs.Items.{set_items}
+use Rattle.face_data.specs.Segments.{Changed}
+use Rattle.face_data.specs.Summaries.{Summary}
+use Rattle.block_summary.specs.declared.formed.FormedLoop.{FormedLoop}
+use Rattle.block_summary.specs.declared.instr_ask.InstrAsk.{InstrAsk}
+use Rattle.block_summary.specs.declared.line.LineEnd.{LineEnd}
+use Rattle.block_summary.specs.declared.line.LineEnd.TheVariants.{GoesOn, Stops}
+use Rattle.block_summary.specs.Asks.{formed_loop, needle_of_formed}
+use Rattle.block_summary.specs.DraftKnowledge.{effect_in, stopped_at, with_loop_on, written}
+use Rattle.block_summary.specs.LineSummaries.{line_summary}
+
+-- the loop that the line forms where the needles hold these segments
+abbrev pub loop_of_line : Read → List Changed → Option FormedLoop
+loop_of_line (read.Instr instr) segments = formed_loop instr segments
+loop_of_line r segments = None
+
+-- what an instruction with these answers makes of the summary of the lines before it
+abbrev pub carried : Summary → InstrAsk → Summary
+carried s ask = record {
+  lines = s.lines + 1;
+  made = s.made + set_items ask.formed;
+  checks = s.checks;
+  changes = with_loop_on (needle_of_formed ask.formed) s.lines (written s.changes ask.changed);
+  ending = Through (effect_of_both (effect_in s.ending) ask.effect);
+}
+
+-- Where the line goes on, what was drafted is the composition with the line's summary, and the loop is the line's. Where it is known
+-- to stop, so does the composition, at this fault.
+abbrev pub EndsAs : ℕ → Read → Summary → Summary → LineEnd → Type 0
+EndsAs hold r old new (GoesOn formed) = (new ≡ composed old (line_summary hold r)) × (formed ≡ loop_of_line r old.changes)
+EndsAs hold r old new (Stops fault) = composed old (line_summary hold r) ≡ stopped_at fault new

@@ -1,0 +1,185 @@
+//! One line more of a block that is drafted.
+ghost use Rattle.std.specs.Prelude.{◌≡◌, ℕ, ◌+◌, ◌-◌, ◌<◌, ◌≤◌, ◌^◌, ◌++◌, List, [], ◌∷◌, All, Option, IfOk, IfSome, OnOk, map};
+ghost use Rattle.std.specs.Option.{option_copied, option_map, option_to_list};
+ghost use Rattle.knit_base.specs.Lawful.{IsLawful, IsLawfulRead};
+ghost use Rattle.knit_base.specs.Limits.{IsLawfulProfile};
+ghost use Rattle.knit_base.specs.declared.instr.Read.TheVariants as read;
+ghost use Rattle.knit_base.specs.declared.instr.Instr.{Instr};
+ghost use Rattle.face_data.specs.declared.face.Seg.TheVariants.{New};
+ghost use Rattle.face_data.specs.Composition.{merged};
+ghost use Rattle.face_data.specs.Conditions.{unless};
+ghost use Rattle.face_data.specs.Segments.{segments_on};
+ghost use Rattle.face_data.specs.Sizes.{SizeRule, size_ask, size_asks};
+ghost use Rattle.block_summary.specs.Asks.{instr_ask};
+ghost use Rattle.block_summary.specs.DraftKnowledge.{CanBeAsked, HasAskedAll, IsSmall, written};
+ghost use Rattle.block_summary.specs.LineEnds.{EndsAs, carried};
+ghost use Rattle.block_summary.specs.LineSummaries.{asked_by, asked_of_rack, asked_of_sizes, plainly_asked};
+
+use crate::{Draft, FormedLoop, InstrAsk, ask_instr};
+use face_data::{Cond, Seg, Segs, SizeAsk};
+use knit_base::{Fault, Instr, Needle, NoMemory, Profile, Quarter, Read, Reason};
+
+/// How a line ends that is read after others: the lines go on, with the loop that it forms, if it forms one, or they are known to
+/// stop at it.
+#[derive(Drop)]
+pub enum LineEnd {
+    GoesOn(Option<FormedLoop>),
+    Stops(Fault),
+}
+
+impl Draft {
+    /// One line more. Where the lines are known to stop at it, the conditions before that are kept, and the fault's line is counted
+    /// from 0, the first line that was read.
+    pub fn line(&mut self, read: &Read, profile: &Profile) -> Result<LineEnd, NoMemory>
+        requires profile { IsLawfulProfile profile.now }
+        requires lawful { (carriers : ℕ) × (carriers ≤ 64) × IsLawfulRead profile.now carriers read.now }
+        requires few { self.old.lines < 2 ^ 32 - 1 }
+        ensures { IfOk result (EndsAs profile.now.hold read.now self.old self.new) }
+    {
+        match read {
+            Read::Instr(instr) => self.instr(instr, profile),
+            Read::Broken(reason) => Ok(LineEnd::Stops(self.stop(*reason))),
+            Read::Blank | Read::Comment => {
+                self.pass();
+                Ok(LineEnd::GoesOn(None))
+            }
+        }
+    }
+
+    fn instr(&mut self, instr: &Instr, profile: &Profile) -> Result<LineEnd, NoMemory>
+        requires profile { IsLawfulProfile profile.now }
+        requires lawful { (carriers : ℕ) × (carriers ≤ 64) × IsLawful profile.now carriers instr.now }
+        requires few { self.old.lines < 2 ^ 32 - 1 }
+        ensures { IfOk result (EndsAs profile.now.hold (read.Instr instr.now) self.old self.new) }
+    {
+        let ask = ask_instr(self.allocator(), instr, profile, self.contents())?;
+        match self.ask_all(&ask)? {
+            Some(reason) => Ok(LineEnd::Stops(self.stop(reason))),
+            None => {
+                self.carry_out(&ask)?;
+                Ok(LineEnd::GoesOn(ask.formed))
+            }
+        }
+    }
+
+    // Asks all conditions of an instruction, in the order of the rules. Answers with the reason of one that can't hold.
+    fn ask_all(&mut self, ask: &InstrAsk) -> Result<Option<Reason>, NoMemory>
+        requires carriers { All CanBeAsked ask.now.carriers }
+        requires slider { IfSome ask.now.slider IsSmall }
+        requires sizes { All IsSmall ask.now.sizes }
+        ensures { IfOk result (λ stop. (hold : ℕ) (instr : Instr) → ask.now ≡ instr_ask hold instr self.old.changes → HasAskedAll self.old self.new (asked_by hold instr) stop) }
+    {
+        if let Some(reason) = self.ask_conds(ask.carriers.as_slice())? {
+            return Ok(Some(reason));
+        }
+        if let Some(reason) = self.ask_rack(ask.rack)? {
+            return Ok(Some(reason));
+        }
+        if let Some(reason) = self.ask_slider(ask.slider.as_ref())? {
+            return Ok(Some(reason));
+        }
+        self.ask_sizes(ask.sizes.as_slice())
+    }
+
+    // The same of conditions on carriers and the hook.
+    fn ask_conds(&mut self, conds: &[(Reason, Cond)]) -> Result<Option<Reason>, NoMemory>
+        requires { All CanBeAsked conds.now }
+        ensures { IfOk result (HasAskedAll self.old self.new (map plainly_asked conds.now)) }
+    {
+        for cond in conds {
+            if !self.ask(cond.0, cond.1)? {
+                return Ok(Some(cond.0));
+            }
+        }
+        Ok(None)
+    }
+
+    fn ask_rack(&mut self, rack: Option<(Reason, Quarter)>) -> Result<Option<Reason>, NoMemory>
+        ensures { IfOk result (HasAskedAll self.old self.new (map asked_of_rack (option_to_list rack))) }
+    {
+        match rack {
+            None => Ok(None),
+            Some((reason, quarter)) => {
+                let goes = self.ask(reason, Cond::RackIs(quarter))?;
+                Ok(reason_unless(goes, reason))
+            }
+        }
+    }
+
+    fn ask_slider(&mut self, slider: Option<&SizeAsk>) -> Result<Option<Reason>, NoMemory>
+        requires { IfSome (option_copied slider) IsSmall }
+        ensures rest_stays { OnOk result (self.new ≡ record self.old { checks = self.new.checks }) }
+        ensures asked { IfOk result (λ stop. (rule : Option SizeRule) → option_copied slider.entry ≡ option_map (size_ask self.old.changes) rule → HasAskedAll self.old self.new (map asked_of_sizes (option_to_list rule)) stop) }
+    {
+        match slider {
+            None => Ok(None),
+            Some(ask) => {
+                let goes = self.ask_size(ask)?;
+                Ok(reason_unless(goes, ask.reason))
+            }
+        }
+    }
+
+    fn ask_sizes(&mut self, asks: &[SizeAsk]) -> Result<Option<Reason>, NoMemory>
+        requires { All IsSmall asks.now }
+        ensures { IfOk result (λ stop. (rules : List SizeRule) → asks.now ≡ size_asks self.old.changes rules → HasAskedAll self.old self.new (map asked_of_sizes rules) stop) }
+    {
+        for ask in asks {
+            if !self.ask_size(ask)? {
+                return Ok(Some(ask.reason));
+            }
+        }
+        Ok(None)
+    }
+
+    // What the instruction does, where all its conditions may hold.
+    fn carry_out(&mut self, ask: &InstrAsk) -> Result<(), NoMemory>
+        requires { self.old.lines < 2 ^ 32 - 1 }
+        ensures { OnOk result (self.new ≡ carried self.old ask.now) }
+    {
+        self.write(ask.changed.as_slice())?;
+        match &ask.formed {
+            None => {
+                self.move_on(&ask.effect, 0);
+                Ok(())
+            }
+            Some(formed) => {
+                self.add_loop(formed.needle)?;
+                self.move_on(&ask.effect, 1);
+                Ok(())
+            }
+        }
+    }
+
+    // These needles hold these segments from now on.
+    fn write(&mut self, changed: &[(Needle, Segs)]) -> Result<(), NoMemory>
+        ensures { OnOk result (self.new ≡ record self.old { changes = written self.old.changes changed.now }) }
+    {
+        for change in changed {
+            let mut segs = Segs::new(self.allocator());
+            segs.extend_from_slice(change.1.as_slice())?;
+            self.put(change.0, segs)?;
+        }
+        Ok(())
+    }
+
+    // The needle holds one more loop, that of the line.
+    fn add_loop(&mut self, n: Needle) -> Result<(), NoMemory>
+        ensures { OnOk result (self.new ≡ record self.old { changes = merged self.old.changes ((n, segments_on self.old.changes n ++ New self.old.lines ∷ []) ∷ []) }) }
+    {
+        let mut segs = Segs::new(self.allocator());
+        self.contents().append_segs(n, &mut segs)?;
+        if segs.len() == u32::MAX {
+            return Err(NoMemory);
+        }
+        segs.push(Seg::New(self.lines()))?;
+        self.put(n, segs)
+    }
+}
+
+// The reason, where a condition can't hold.
+fn reason_unless(goes: bool, reason: Reason) -> Option<Reason>
+    ensures { result ≡ unless goes reason }
+{
+    if goes { None } else { Some(reason) }
+}

@@ -1,0 +1,157 @@
+//! A block's text, with its summary and the loops that it makes.
+ghost use Rattle.std.specs.Prelude.{◌≡◌, ℕ, ◌+◌, ◌*◌, ◌<◌, ◌≤◌, ◌^◌, ◌++◌, List, Option, IfErr, IfOk, OnOk, None, length};
+ghost use Rattle.std.specs.Option.{option_map, option_to_list};
+ghost use Rattle.knit_base.specs.declared.instr.Read.{Read};
+ghost use Rattle.knit_base.specs.Limits.{IsLawfulProfile};
+ghost use Rattle.knitout_reader.specs.Reading.{ReadsAs};
+ghost use Rattle.loop_history.specs.declared.row.LoopRow.{LoopRow};
+ghost use Rattle.block_summary.specs.Prepared.{AddsLine, AreReadings, AreRowsOf, IsMadeOf, IsPreparedFor, row_of};
+ghost use Rattle.block_summary.specs.declared.prepared.PrepareFault.{PrepareFault};
+
+use crate::{Draft, FormedLoop, LineEnd};
+use face_data::Face;
+use knit_base::{BlockText, Fault, NoMemory, Setting, Steps};
+use knitout_reader::read_line;
+use loop_history::{LoopRow, LoopTable};
+use std::alloc::Global;
+use std::sync::ledger::Ledger;
+use thiserror::Error;
+
+/// How many lines a block has at most.
+pub const MOST_LINES: u32 = 4096;
+
+/// A block's text, the face that stands for it from every state, and the loops that its lines make.
+#[derive(Drop)]
+pub struct Prepared {
+    pub text: BlockText,
+    pub face: Face,
+    pub loops: LoopTable,
+}
+
+/// Why a text isn't prepared.
+#[derive(Clone, Copy, Debug, PartialEq, Eq, Error)]
+pub enum PrepareFault {
+    /// The text has more lines than a block may have.
+    #[error("a block of {lines} lines is too long")]
+    BlockLong { lines: u32 },
+
+    /// Memory ran out.
+    #[error("out of memory")]
+    NoMemory,
+}
+
+/// Reads the text once, line by line, for every state in which the block may be entered. Of the setting the profile and the declared
+/// carriers matter, and the first line's number doesn't. Lines behind one at which the block is known to stop aren't read.
+pub fn prepare<L: Ledger>(
+    alloc: Global,
+    text: BlockText,
+    setting: &Setting,
+    steps: &mut Steps<L>,
+) -> Result<Prepared, PrepareFault>
+    requires { IsLawfulProfile setting.now.profile }
+    ensures text { IfOk result (λ prepared. prepared.text ≡ text) }
+    ensures prepared { IfOk result (IsPreparedFor setting.now.profile setting.now.declared) }
+    ensures long { 4096 < length text → result ≡ Err (PrepareFault.BlockLong (length text)) }
+    ensures fault { IfErr result (λ fault. length text ≤ 4096 → fault ≡ PrepareFault.NoMemory) }
+    ensures steps { steps.new ≤ steps.old + length text }
+{
+    let lines = text.len();
+    if lines > MOST_LINES {
+        return Err(PrepareFault::BlockLong { lines });
+    }
+    match read_block(alloc, &text, setting, steps) {
+        Ok(block) => Ok(Prepared {
+            text,
+            face: block.face,
+            loops: block.loops,
+        }),
+        Err(NoMemory) => Err(PrepareFault::NoMemory),
+    }
+}
+
+// What is made of a text.
+#[derive(Drop)]
+struct Block {
+    face: Face,
+    loops: LoopTable,
+}
+
+fn read_block<L: Ledger>(
+    alloc: Global,
+    text: &BlockText,
+    setting: &Setting,
+    steps: &mut Steps<L>,
+) -> Result<Block, NoMemory>
+    requires profile { IsLawfulProfile setting.now.profile }
+    requires few { length text.now ≤ 4096 }
+    ensures made { IfOk result (λ block. (lines : List Read) → AreReadings setting.now.profile setting.now.declared text.now lines → IsMadeOf setting.now.profile (length setting.now.declared) block.face block.loops lines) }
+    ensures steps { steps.new ≤ steps.old + length text.now }
+{
+    let mut draft = Draft::new(alloc);
+    let mut loops = LoopTable::new(alloc);
+    let lines = text.len();
+    for i in 0..lines {
+        let line = text.line(i, steps);
+        match add_line(alloc, line, setting, &mut draft, &mut loops)? {
+            None => {}
+            Some(fault) => {
+                loops.shrink_to_fit();
+                return Ok(Block {
+                    face: draft.broken_face(lines, fault)?,
+                    loops,
+                });
+            }
+        }
+    }
+    loops.shrink_to_fit();
+    Ok(Block {
+        face: draft.face()?,
+        loops,
+    })
+}
+
+// One line more. Answers with its fault where the lines are known to stop at it.
+fn add_line(
+    alloc: Global,
+    line: &str,
+    setting: &Setting,
+    draft: &mut Draft,
+    loops: &mut LoopTable,
+) -> Result<Option<Fault>, NoMemory>
+    requires profile { IsLawfulProfile setting.now.profile }
+    requires short { length line.now < 2 ^ 16 }
+    requires few { draft.old.lines < 4096 }
+    requires rows { AreRowsOf draft.old.lines loops.old }
+    ensures added { IfOk result (λ stop. (r : Read) → ReadsAs setting.now.profile setting.now.declared line.now r → AddsLine setting.now.profile (length setting.now.declared) r draft.old draft.new loops.old loops.new stop) }
+    ensures lines { OnOk result (draft.new.lines ≡ draft.old.lines + 1) }
+    ensures rows { OnOk result (AreRowsOf draft.new.lines loops.new) }
+{
+    let read = read_line(alloc, line, &setting.profile, &setting.declared)?;
+    let _carriers = setting.declared.len();
+    let offset = draft.lines();
+    match draft.line(&read, &setting.profile)? {
+        LineEnd::Stops(fault) => Ok(Some(fault)),
+        LineEnd::GoesOn(formed) => {
+            add_row(offset, formed, loops)?;
+            Ok(None)
+        }
+    }
+}
+
+// The row of the loop that the line with this offset forms, if it forms one.
+fn add_row(offset: u32, formed: Option<FormedLoop>, loops: &mut LoopTable) -> Result<(), NoMemory>
+    requires few { offset < 4096 }
+    requires rows { AreRowsOf offset loops.old }
+    ensures { OnOk result (loops.new ≡ loops.old ++ option_to_list (option_map (row_of offset) formed)) }
+{
+    match formed {
+        None => Ok(()),
+        Some(formed) => loops.push(LoopRow {
+            offset,
+            needle: formed.needle,
+            dir: formed.dir,
+            yarns: formed.yarns,
+            through: formed.through,
+        }),
+    }
+}
