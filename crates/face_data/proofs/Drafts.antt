@@ -1,5 +1,5 @@
 -- The summary of lines is good and stands for them, where those of single lines are fair and stand for theirs.
-use Rattle.std.proofs.Common.{◌≡◌, ℕ, ◌+◌, List, [], ◌∷◌, ◌++◌, bit_or, refl, sym, ap, ◌∙◌, subst, arith, inl, inr, fold, append_assoc}
+use Rattle.std.proofs.Common.{◌≡◌, ℕ, List, [], ◌∷◌, ◌++◌, bit_or, refl, sym, ap, ◌∙◌, subst, arith, inl, inr, fold, append_assoc}
 use Rattle.std.specs.List.{Contains}
 use Rattle.std.specs.List.Sorted.{IsStrictlySortedBy}
 use Rattle.std.proofs.lemmas.List.{append-nil}

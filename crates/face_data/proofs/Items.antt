@@ -5,8 +5,7 @@ use Rattle.std.proofs.Common.{Some}
 use Rattle.std.specs.List.{Contains, sum_by, flat_map, list_any}
 use Rattle.std.specs.List.Sorted.{IsStrictlySortedBy}
 use Rattle.std.specs.Ordering.{int_eq}
-use Rattle.std.specs.declared.cmp.Ordering.{Ordering}
-use Rattle.std.specs.declared.cmp.Ordering.TheVariants.{Less, Equal}
+use Rattle.std.specs.declared.cmp.Ordering.TheVariants.{Equal}
 use Rattle.std.proofs.lemmas.Bool.{and_from, le-leb, eq-eqb}
 use Rattle.std.proofs.lemmas.List.Elements.{Contains-get_or, Contains-append_cases}
 use Rattle.std.proofs.lemmas.List.Sums.{sum_by-cons}
@@ -19,7 +18,7 @@ use Rattle.face_data.specs.Summaries.{Asked, Summary}
 use Rattle.face_data.specs.Segments.{Changed, segments_on, change_at, entries_of, new_of, new_in}
 use Rattle.face_data.specs.Conditions.Ask.{rack_is, carrier_in, carrier_out, hook_free, hook_is, hook_lacks, size_at_most}
 use Rattle.face_data.specs.declared.bearing.Bearing.{Bearing}
-use Rattle.face_data.specs.Bearings.{bearing, all_in, if_so, same_or_not}
+use Rattle.face_data.specs.Bearings.{bearing, all_in, if_so}
 use Rattle.face_data.specs.declared.bearing.Bearing.TheVariants.{Implied, Refuted, Silent}
 use Rattle.face_data.proofs.Members.{sum_within, Contains-none, Contains-head, Contains-tail, Contains-cons_cases}
 use Rattle.knit_base.specs.declared.rule.Rule.TheVariants.{NotAligned}
@@ -288,10 +287,16 @@ meets_nothing hook_free = tt
 meets_nothing (hook_is x) = tt
 meets_nothing (hook_lacks x) = tt
 
-new_at_most : (carriers limit : ℕ) (known : List Needle) (f : Summary) → IsGood carriers limit known f → (c : Changed) → Contains f.changes c → new_of c.1 ≤ limit
+-- no needle has more new loops than the limit
+pub new_on_at_most : (carriers limit : ℕ) (known : List Needle) (f : Summary) → IsGood carriers limit known f → (n : Needle) → new_of (segments_on f.changes n) ≤ limit
+new_on_at_most carriers limit known f g n =
+    let size = g.fair.sizes (λ m. 0) (λ m. omega arith) (λ d k. meets_nothing d.ask) n in
+    omega (arith, size, nothing_much (entries_on f.changes n))
+
+-- nor has the needle of a change
+pub new_at_most : (carriers limit : ℕ) (known : List Needle) (f : Summary) → IsGood carriers limit known f → (c : Changed) → Contains f.changes c → new_of c.1 ≤ limit
 new_at_most carriers limit known f g c h =
-    let size = g.fair.sizes (λ n. 0) (λ n. omega arith) (λ d k. meets_nothing d.ask) c.0 in
-    omega (arith, size, nothing_much (entries_on f.changes c.0), ap new_of (segments_found f.changes c g.fair.in_order h))
+    omega (arith, new_on_at_most carriers limit known f g c.0, ap new_of (segments_found f.changes c g.fair.in_order h))
 
 -- the changes and their segments, counted together
 pub change_items_bound : (carriers limit : ℕ) (known : List Needle) (f : Summary) → IsGood carriers limit known f →

@@ -1,3 +1,4 @@
+mod Examples
 pub mod Answers
 pub mod Bearings
 pub mod Bound
@@ -10,7 +11,8 @@ pub mod Conditions
 pub mod Digests
 pub mod Drafts
 pub mod Effects
-mod Examples
+pub mod EmptyBeds
+pub mod FaceOffsets
 pub mod Front
 pub mod Gathering
 pub mod Goodness
@@ -19,6 +21,7 @@ pub mod KeptChecks
 pub mod KnownAnswers
 pub mod Marks
 pub mod Members
+pub mod NeedleSpots
 pub mod Owners
 pub mod Parts
 pub mod Places

@@ -1,5 +1,5 @@
 -- Summaries that composition can build on.
-use Rattle.std.specs.Prelude.{◌≡◌, ℕ, ◌+◌, ◌^◌, ◌≤◌, ◌<◌, true, false, ◌⊎◌, List, [], ◌∷◌, length, map, IfSome}
+use Rattle.std.specs.Prelude.{◌≡◌, ℕ, ◌+◌, ◌^◌, ◌≤◌, ◌<◌, true, false, ◌⊎◌, List, [], ◌∷◌, length, map, All, IfSome}
 use Rattle.std.specs.List.{Contains, sum_by}
 use Rattle.std.specs.List.Sorted.{IsStrictlySortedBy}
 use Rattle.knit_base.specs.declared.needle.Needle.{Needle}
@@ -17,6 +17,7 @@ use Rattle.face_data.specs.Conditions.{Ask}
 use Rattle.face_data.specs.Conditions.Ask.{rack_is, carrier_in, carrier_out, hook_free, hook_is, hook_lacks, size_at_most}
 use Rattle.face_data.specs.Segments.{Changed, segments_on, entries_of, new_of}
 use Rattle.face_data.specs.Sets.{IsDistinct, IsWithin, IsApart, NestedOrApart}
+use Rattle.face_data.specs.Spots.{IsNumbered}
 use Rattle.face_data.specs.Summaries.{Asked, Summary}
 
 -- the changes stand in the order of needles
@@ -124,3 +125,13 @@ pub record IsFair (carriers limit : ℕ) (known : List Needle) (summary : Summar
 pub record IsGood (carriers limit : ℕ) (known : List Needle) (summary : Summary) : Type 0 where
   pub fair : IsFair carriers limit known summary
   pub irredundant : IsIrredundant summary.checks
+
+-- the summary is good for some machine: for so many carriers, a limit of 8 bits on the loops of a needle, and needles whose
+-- numbers have 16 bits
+pub record IsGoodFace (summary : Summary) : Type 0 where
+  pub carriers : ℕ
+  pub limit : ℕ
+  pub known : List Needle
+  pub few_loops : limit < 2 ^ 8
+  pub numbers : All IsNumbered known
+  pub good : IsGood carriers limit known summary

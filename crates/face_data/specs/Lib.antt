@@ -7,12 +7,14 @@ pub mod Digests
 pub mod Drafts
 pub mod Goodness
 pub mod Items
-pub mod Storage
+pub mod Places
 pub mod Segments
 pub mod Sets
 pub mod Sizes
+pub mod Spots
 pub mod Stands
+pub mod Storage
 pub mod Summaries
 pub mod Through
+pub mod Verdicts
 pub mod View
-pub mod Places

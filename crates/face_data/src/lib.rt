@@ -32,6 +32,7 @@ mod storage;
 mod symbols;
 #[cfg(test)]
 mod tests;
+mod verdicts;
 
 pub use bearing::Bearing;
 pub use digest::Digest;
@@ -40,3 +41,4 @@ pub use owned::Face;
 pub use short_list::ShortList;
 pub use sizes::{NeedleList, SizeAsk, SizeAsks, ask_size};
 pub use symbols::{SymbolList, Symbols, slot_of};
+pub use verdicts::{brief_of, verdict_of};

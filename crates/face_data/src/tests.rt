@@ -1,6 +1,9 @@
 //! Each public call once, with ample memory.
-use crate::{Bearing, Cond, Digest, Effect, Seg, Segs, Symbols, ask_size};
-use knit_base::{Bed, CarrierNo, Needle, Quarter, Reason, Rule};
+use crate::{
+    Bearing, Change, Check, Cond, Digest, Effect, Ending, Face, FaceView, Part, Seg, Segs, Symbols,
+    ask_size,
+};
+use knit_base::{Bed, CarrierNo, Fault, Needle, Quarter, Reason, Rule};
 use std::test::Fail;
 
 const FRONT: Needle = Needle {
@@ -129,5 +132,42 @@ fn who_came_may_go(rt: HostRuntime) -> Result<(), Fail> {
         both.bearing_on(Cond::HookLacks(CarrierNo(1))),
         Bearing::Refuted
     );
+    Ok(())
+}
+
+#[test]
+fn an_owned_face_is_read_as_it_was(rt: HostRuntime) -> Result<(), Fail> {
+    let checks = [Check {
+        fault: Fault {
+            line: 1,
+            reason: Reason {
+                rule: Rule::CarrierIsOut,
+                at: 3,
+            },
+        },
+        cond: Cond::CarrierIn(CarrierNo(0)),
+    }];
+    let changes = [Change {
+        needle: FRONT,
+        part: Part { start: 0, len: 1 },
+    }];
+    let view = FaceView {
+        lines: 2,
+        made: 1,
+        checks: &checks,
+        names: &[],
+        changes: &changes,
+        segs: &[Seg::New(1)],
+        ending: Ending::Broken(checks[0].fault),
+    };
+    let face = Face::of(rt.alloc(), &view)?;
+    let read = face.view();
+    assert_eq!(rt; read.lines, 2);
+    assert_eq!(rt; read.made, 1);
+    assert!(rt; read.checks == checks.as_slice());
+    assert!(rt; read.names.is_empty());
+    assert!(rt; read.changes == changes.as_slice());
+    assert!(rt; read.segs == [Seg::New(1)].as_slice());
+    assert_eq!(rt; read.ending, view.ending);
     Ok(())
 }

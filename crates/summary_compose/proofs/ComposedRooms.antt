@@ -28,10 +28,11 @@ use Rattle.std.proofs.lemmas.List.{length-map}
 use Rattle.summary_compose.specs.Changes.{changes_in, segs_in}
 use Rattle.summary_compose.specs.Composing.{IsNoGreater}
 use Rattle.summary_compose.specs.Rooms.{CanBeMade, capped, room_of, room_of_both}
+use Rattle.summary_compose.specs.declared.room.Room.{Room}
 use Rattle.summary_compose.proofs.Checks.{named_size}
 use Rattle.summary_compose.proofs.Parts.{packed_size}
 use Rattle.summary_compose.specs.Known.{AreGood, checks_in, names_count, names_read_count}
-use Rattle.summary_compose.proofs.Rooms.{all_entries_flat, from_both, in_all, names_read_bound, merged_length, merged_segs, named_or_none, own_none}
+use Rattle.summary_compose.proofs.Rooms.{all_entries_flat, capped_is, finds_room, from_both, in_all, names_read_bound, merged_length, merged_segs, named_or_none, own_none}
 use Rattle.face_data.proofs.KnownAnswers.{AskFits-distinct}
 
 -- how many conditions are kept, and how many needles they name
@@ -196,3 +197,26 @@ composed_room a b f g pa pb pf is made =
       segs = fits (length f.segs.now) (length a.segs.now + length b.segs.now) (omega (arith, s.few_segs, sa, sb, sf)) made.segs;
       entries = fits (length (entries_of f.segs.now)) (length (entries_of a.segs.now) + length (entries_of b.segs.now)) (omega (arith, s.few_entries, ea, eb, ef)) (omega (arith, length-segs f.segs.now, made.segs));
     }
+
+-- The face has the room for both where there is so much room at all.
+pub composed_fits : (a b f : FaceView) (room : Room) → AreGood a b → IsPacked a → IsPacked b → IsPacked f → summary_of f ≡ composed (summary_of a) (summary_of b) → CanBeMade room →
+    IsNoGreater (room_of_both a b) room → IsNoGreater (room_of f) (room_of_both a b)
+composed_fits a b f room g pa pb pf is made h =
+    let s = subst (λ (x : Summary). SizesOfBoth x (summary_of a) (summary_of b)) (sym is) (composed_sizes g.carriers g.limit g.first_known g.second_known (summary_of a) (summary_of b) g.first g.second) in
+    let found = finds_room a b g pa pb room made h in
+    let nf = named_size f.names.now f.checks.now (record { fit = pf.checks_fit; whole = pf.names }) in
+    let sa = packed_size a.segs.now a.changes.now (record { fit = pa.changes_fit; whole = pa.segs }) in
+    let sb = packed_size b.segs.now b.changes.now (record { fit = pb.changes_fit; whole = pb.segs }) in
+    let sf = packed_size f.segs.now f.changes.now (record { fit = pf.changes_fit; whole = pf.segs }) in
+    let ca = length-map a.checks.now (asked_of a.names.now) in
+    let cb = length-map b.checks.now (asked_of b.names.now) in
+    let cf = length-map f.checks.now (asked_of f.names.now) in
+    let ha = length-map a.changes.now (changed_of a.segs.now) in
+    let hb = length-map b.changes.now (changed_of b.segs.now) in
+    let hf = length-map f.changes.now (changed_of f.segs.now) in
+    composed_room a b f g pa pb pf is (record {
+      checks = omega (arith, s.few_checks, ca, cb, cf, found.checks, made.checks);
+      names = omega (arith, s.few_names, nf, found.names, made.names);
+      changes = omega (arith, s.few_changes, ha, hb, hf, capped_is (length a.changes.now + length b.changes.now) room.changes h.changes made.changes, made.changes);
+      segs = omega (arith, s.few_segs, sa, sb, sf, capped_is (length a.segs.now + length b.segs.now) room.segs h.segs made.segs, made.segs);
+    })

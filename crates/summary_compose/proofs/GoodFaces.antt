@@ -1,11 +1,9 @@
 -- Two good faces whose lists are packed and whose lines add up can be composed.
-use Prim.Native.Nat.{zero}
-use Rattle.std.proofs.Common.{suc, ◌≡◌, ℕ, ◌+◌, ◌*◌, ◌≤◌, ◌<◌, ◌^◌, ◌⊎◌, inl, inr, List, [], ◌∷◌, ◌++◌, None, length, map, ap, ◌∙◌, subst, arith, get_or}
+use Rattle.std.proofs.Common.{◌≡◌, ℕ, ◌+◌, ◌*◌, ◌≤◌, ◌<◌, ◌^◌, ◌⊎◌, inl, inr, List, [], ◌∷◌, ◌++◌, None, length, ap, ◌∙◌, subst, arith, get_or}
 use Rattle.std.specs.Prelude.{All}
 use Rattle.std.specs.List.{Contains}
 use Rattle.std.proofs.Math.Nat.{mul-le-mul_right}
-use Rattle.std.proofs.lemmas.List.{get_or-map, length-map}
-use Rattle.std.proofs.lemmas.List.Elements.{All-contains, All-append, Contains-get_or, Contains-append_right}
+use Rattle.std.proofs.lemmas.List.Elements.{All-contains, All-append, Contains-append_right}
 use Rattle.std.proofs.lemmas.List.Sums.{sum_by-le}
 use Rattle.knit_base.specs.declared.needle.Needle.{Needle}
 use Rattle.face_data.specs.declared.face.Check.{Check}
@@ -15,48 +13,27 @@ use Rattle.face_data.specs.declared.face.Effect.{Effect}
 use Rattle.face_data.specs.declared.face.Ending.{Ending}
 use Rattle.face_data.specs.declared.face.Ending.TheVariants.{Through, Broken}
 use Rattle.face_data.specs.declared.face.FaceView.{FaceView}
-use Rattle.face_data.specs.declared.face.Seg.{Seg}
-use Rattle.face_data.specs.declared.face.Seg.TheVariants.{Entry, New}
 use Rattle.face_data.specs.Composition.{composed, composed_at, closed_at, changes_with, reads}
-use Rattle.face_data.specs.Conditions.{Ask, ask_of, part_of}
-use Rattle.face_data.specs.Conditions.Ask.{rack_is, carrier_in, carrier_out, hook_free, hook_is, hook_lacks, size_at_most}
+use Rattle.face_data.specs.Conditions.{ask_of, part_of}
 use Rattle.face_data.specs.Digests.{CarrierFits}
-use Rattle.face_data.specs.Goodness.{AskFits, ChangeFits, EndingFits, IsGood, MeetsSize}
-use Rattle.face_data.specs.Segments.{Changed, OffsetFits, segments_on, names_through, new_of, new_through}
+use Rattle.face_data.specs.Goodness.{AskFits, EndingFits, IsGood}
+use Rattle.face_data.specs.Segments.{segments_on, names_through, new_of, new_through}
 use Rattle.face_data.specs.Sets.{IsDistinct, IsWithin}
 use Rattle.face_data.specs.Summaries.{Summary}
-use Rattle.face_data.specs.View.{IsPacked, asked_of, changed_of, names_of, summary_of}
-use Rattle.face_data.proofs.Bound.{at_most_bound, no_needle}
+use Rattle.face_data.specs.View.{IsPacked, asked_of, names_of, summary_of}
 use Rattle.face_data.proofs.Goodness.{composed_good, good_within, within_known}
-use Rattle.face_data.proofs.Items.{change_items_bound}
-use Rattle.face_data.proofs.Members.{Contains-head, Contains-tail, Contains-cons_cases}
+use Rattle.face_data.proofs.Items.{change_items_bound, new_on_at_most}
+use Rattle.face_data.proofs.Members.{Contains-head, Contains-tail, Contains-cons_cases, contains_mapped}
 use Rattle.face_data.proofs.Owners.{distinct_through, member_cases}
+use Rattle.face_data.proofs.FaceOffsets.{offsets_fit}
 use Rattle.summary_compose.specs.Changes.{changes_in, merged_of, segs_in}
 use Rattle.summary_compose.specs.Composing.{Composes, EndingRises}
 use Rattle.summary_compose.specs.Known.{AreGood, IsFewThrough, checks_in}
-use Rattle.summary_compose.specs.Spots.{IsNumbered, spot_of}
-use Rattle.summary_compose.proofs.NeedleSpots.{bed_place_small, spot_of-injective}
-
--- distinct needles stand at different places
-distinct_at : (xs : List Needle) → IsDistinct xs → (k l : ℕ) (d : Needle) → k < length xs → l < k → get_or xs k d ≡ get_or xs l d → ⊥
-distinct_at [] h k l d within before same = absurd (omega arith)
-distinct_at (x ∷ xs) h zero l d within before same = absurd (omega arith)
-distinct_at (x ∷ xs) h (suc k) zero d within before same = h.0 (subst (Contains xs) same (Contains-get_or xs k d (omega arith)))
-distinct_at (x ∷ xs) h (suc k) (suc l) d within before same = distinct_at xs h.1 k l d (omega arith) (omega arith) same
-
-spot_small : (n : Needle) → IsNumbered n → spot_of n < 2 ^ 18
-unfolding spot_of
-spot_small n h = let bed = bed_place_small n.bed in omega (arith, bed, h)
-
--- there are few distinct needles
-few_distinct : (xs : List Needle) → IsDistinct xs → ((n : Needle) → Contains xs n → IsNumbered n) → length xs ≤ 2 ^ 18
-few_distinct xs d numbers =
-    at_most_bound (λ k. spot_of (get_or xs k no_needle)) (length xs) (2 ^ 18)
-    (λ k within. spot_small (get_or xs k no_needle) (numbers (get_or xs k no_needle) (Contains-get_or xs k no_needle within)))
-    (λ k l within before same. distinct_at xs d k l no_needle within before (spot_of-injective (get_or xs k no_needle) (get_or xs l no_needle) same))
+use Rattle.face_data.specs.Spots.{IsNumbered}
+use Rattle.face_data.proofs.NeedleSpots.{few_needles}
 
 few_within : (xs known : List Needle) → IsDistinct xs → IsWithin xs known → All IsNumbered known → length xs ≤ 2 ^ 18
-few_within xs known d w numbers = few_distinct xs d (λ n there. All-contains IsNumbered known n numbers (w n there))
+few_within xs known d w numbers = few_needles xs d (λ n there. All-contains IsNumbered known n numbers (w n there))
 
 -- the same needles, each once
 record Once (known : List Needle) : Type 0 where
@@ -93,33 +70,20 @@ once (x ∷ xs) = once_more x xs (once xs) (member_cases (once xs).needles x)
 few_segs : (carriers limit : ℕ) (known : List Needle) (f : Summary) → IsGood carriers limit known f → All IsNumbered known → limit < 2 ^ 8 → segs_in f.changes < 2 ^ 32
 few_segs carriers limit known f g numbers few_loops =
     let o = once known in
-    let few = few_distinct o.needles o.distinct (λ n there. All-contains IsNumbered known n numbers (o.none_else n there)) in
+    let few = few_needles o.needles o.distinct (λ n there. All-contains IsNumbered known n numbers (o.none_else n there)) in
     let bound = change_items_bound carriers limit o.needles f (good_within carriers limit known o.needles f o.all g) in
     let most : (limit + 2) * length o.needles ≤ 257 * length o.needles = mul-le-mul_right (length o.needles) (omega (arith, few_loops)) in
     omega (arith, few, bound, most)
-
-meets_none : (q : Ask) → MeetsSize q (λ n. 0)
-meets_none (size_at_most names most) = omega (arith, sum_by-le (λ (n : Needle). 0) 0 names (λ k d below. omega arith))
-meets_none (rack_is x) = tt
-meets_none (carrier_in x) = tt
-meets_none (carrier_out x) = tt
-meets_none hook_free = tt
-meets_none (hook_is x) = tt
-meets_none (hook_lacks x) = tt
-
--- each needle holds few new loops
-few_new : (carriers limit : ℕ) (known : List Needle) (f : Summary) → IsGood carriers limit known f → (n : Needle) → new_of (segments_on f.changes n) ≤ limit
-few_new carriers limit known f g n = let size = g.fair.sizes (λ m. 0) (λ m. omega arith) (λ c there. meets_none c.ask) n in omega (arith, size)
 
 few_read : (carriers limit : ℕ) (first second names : List Needle) (a : FaceView) (c : Cond) → IsGood carriers limit first (summary_of a) → All IsNumbered (first ++ second) → limit < 2 ^ 8 →
     AskFits carriers limit second (ask_of names c) → IsFewThrough a (names_of names c)
 few_read carriers limit first second names a (SizeAtMost p most) ga numbers few_loops fits =
     let xs = part_of names p in
-    let own : length xs ≤ 2 ^ 18 = few_distinct xs fits.distinct (λ n there. All-contains IsNumbered (first ++ second) n numbers (Contains-append_right first second n (fits.within n there))) in
+    let own : length xs ≤ 2 ^ 18 = few_needles xs fits.distinct (λ n there. All-contains IsNumbered (first ++ second) n numbers (Contains-append_right first second n (fits.within n there))) in
     let read = few_within (names_through (changes_in a) xs) (first ++ second) (distinct_through (changes_in a) xs ga.fair.owns fits.distinct)
     (within_known (changes_in a) a.lines first second xs ga.fair.changes_fit fits.within) numbers in
     let new : new_through (changes_in a) xs ≤ length xs * limit
-    = sum_by-le (λ n. new_of (segments_on (changes_in a) n)) limit xs (λ k d below. few_new carriers limit first (summary_of a) ga (get_or xs k d)) in
+    = sum_by-le (λ n. new_of (segments_on (changes_in a) n)) limit xs (λ k d below. new_on_at_most carriers limit first (summary_of a) ga (get_or xs k d)) in
     let many : length xs * limit ≤ 2 ^ 18 * limit = mul-le-mul_right limit own in
     record { names = omega (arith, read); new = omega (arith, new, many, few_loops) }
 few_read carriers limit first second names a (RackIs q) ga numbers few_loops fits = record { names = omega arith; new = omega arith }
@@ -147,17 +111,8 @@ carrier_fits carriers limit known names HookFree few fits = tt
 carrier_fits carriers limit known names (HookIs set) few fits = tt
 carrier_fits carriers limit known names (HookLacks c) few fits = omega (arith, few, fits)
 
-contains_mapped : {X Y : Type 0} (f : X → Y) (xs : List X) (k : ℕ) (d : X) → k < length xs → Contains (map f xs) (f (get_or xs k d))
-contains_mapped f xs k d within =
-    let size = length-map xs f in
-    subst (Contains (map f xs)) (get_or-map f xs k d (f d) within) (Contains-get_or (map f xs) k (f d) (omega (arith, size, within)))
-
 asked_at : (face : FaceView) (k : ℕ) (d : Check) → k < length face.checks.now → Contains (checks_in face) (asked_of face.names.now (get_or face.checks.now k d))
 asked_at face k d within = contains_mapped (asked_of face.names.now) face.checks.now k d within
-
-offset_fits : (lines more : ℕ) (known : List Needle) (c : Changed) → ChangeFits more known c → lines + more < 2 ^ 32 → (s : Seg) → Contains c.1 s → OffsetFits lines s
-offset_fits lines more known c fits sum (Entry n) there = tt
-offset_fits lines more known c fits sum (New offset) there = omega (arith, fits.offsets offset there, sum)
 
 ending_rises : (carriers : ℕ) (a : FaceView) (b : Summary) (e : Ending) → EndingFits carriers b e → a.lines + b.lines < 2 ^ 32 → EndingRises a e
 ending_rises carriers a b (Through effect) fits sum = tt
@@ -191,9 +146,7 @@ composable a b g pa pb sum =
       fit = pa.changes_fit;
       order = g.first.fair.in_order;
       second_fit = pb.changes_fit;
-      offsets = λ k d within j e below.
-          let c = changed_of b.segs.now (get_or b.changes.now k d) in
-          offset_fits a.lines b.lines g.second_known c (g.second.fair.changes_fit c (contains_mapped (changed_of b.segs.now) b.changes.now k d within)) sum (get_or c.1 j e) (Contains-get_or c.1 j e below);
+      offsets = offsets_fit g.carriers g.limit g.second_known b a.lines g.second sum;
       few_segs = λ effect more first second goes_on.
           subst (λ cs. segs_in cs < 2 ^ 32) (merged_changes a b effect more first second goes_on)
           (few_segs g.carriers g.limit (g.first_known ++ g.second_known) (composed (summary_of a) (summary_of b))

@@ -3,7 +3,6 @@ pub mod Checks
 pub mod ComposedRooms
 pub mod Counts
 pub mod GoodFaces
-pub mod NeedleSpots
 pub mod Parts
 pub mod PlainFaces
 pub mod Readings

@@ -284,7 +284,8 @@ capped_if : (n : ℕ) (b : Bool) → nat_lt (2 ^ 62) n ≡ b → (if b then 2 ^ 
 capped_if n true e h = absurd (omega (arith, h))
 capped_if n false e h = refl
 
-capped_is : (n most : ℕ) → capped n ≤ most → most ≤ 2 ^ 62 → n ≤ most
+-- a number that is within a room, capped, is within it
+pub capped_is : (n most : ℕ) → capped n ≤ most → most ≤ 2 ^ 62 → n ≤ most
 capped_is n most h small =
     let is = capped_if n (nat_lt (2 ^ 62) n) refl (omega (arith, h, small)) in
     omega (arith, is, h)

@@ -18,7 +18,7 @@ use Rattle.face_data.specs.Goodness.{IsInOrder}
 use Rattle.face_data.specs.Segments.{Changed, change_at, segments_on}
 use Rattle.face_data.specs.View.{changed_of, PartsFit}
 use Rattle.summary_compose.specs.Changes.{changed_needles}
-use Rattle.summary_compose.specs.Spots.{spot_of}
+use Rattle.face_data.specs.Spots.{spot_of}
 use Rattle.summary_compose.specs.Tables.{Leads, IsTableOf}
 use Rattle.summary_compose.proofs.Tables.{leads_take_same, leads_take_other, leads_nowhere, tells_push}
 use Rattle.knit_base.proofs.Needles.{same_needle-same, needle_cmp-refl, same_needle-false}

@@ -8,10 +8,10 @@ use Rattle.std.proofs.lemmas.Option.{slice_get_within, get_or_from_slice_get, sl
 use Rattle.std.proofs.lemmas.Bool.{true≢false}
 use Rattle.knit_base.specs.declared.needle.Needle.{Needle}
 use Rattle.knit_base.specs.Needle.{same_needle, same_needle-true}
-use Rattle.summary_compose.specs.Spots.{spot_of}
+use Rattle.face_data.specs.Spots.{spot_of}
 use Rattle.summary_compose.specs.Tables.{Leads, IsTableOf, link_needles, AreLinked, note_of, suits}
 use Rattle.summary_compose.specs.declared.index.Link.{Link}
-use Rattle.summary_compose.proofs.NeedleSpots.{spot_of-injective}
+use Rattle.face_data.proofs.NeedleSpots.{spot_of-injective}
 use Rattle.knit_base.proofs.Needles.{same_needle-same}
 
 needle_cases_on : (n m : Needle) (b : Bool) → same_needle n m ≡ b → (n ≡ m) ⊎ (n ≡ m → ⊥)

@@ -20,7 +20,7 @@ use Rattle.face_data.specs.Answers.{Answer}
 use Rattle.face_data.specs.Answers.Answer.{yes_it_does, no_it_does_not, asks}
 use Rattle.face_data.specs.Composition.{from_bearing}
 use Rattle.face_data.specs.View.{asked_of, summary_of, CondFits, names_of}
-use Rattle.summary_compose.specs.Spots.{IsNumbered}
+use Rattle.face_data.specs.Spots.{IsNumbered}
 use Rattle.summary_compose.specs.Tables.{Note, suits}
 use Rattle.summary_compose.specs.declared.sizes.SizeWord.{SizeWord}
 use Rattle.summary_compose.specs.declared.sizes.SizeWord.TheVariants.{Holds, Fails, Asks}

@@ -2,5 +2,4 @@ pub mod Changes
 pub mod Composing
 pub mod Known
 pub mod Rooms
-pub mod Spots
 pub mod Tables

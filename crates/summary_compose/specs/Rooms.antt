@@ -8,6 +8,10 @@ use Rattle.summary_compose.specs.declared.room.Room.{Room}
 abbrev pub capped : ℕ → ℕ
 capped n = if nat_lt (2 ^ 62) n then 2 ^ 62 + 1 else n
 
+-- no room
+abbrev pub no_room : Room
+no_room = record { checks = 0; names = 0; changes = 0; segs = 0; entries = 0 }
+
 -- the items of a face's lists
 abbrev pub room_of : FaceView → Room
 room_of face = record {

@@ -2,7 +2,7 @@
 use Rattle.std.specs.Prelude.{◌≡◌, ℕ, ◌<◌, ◌≤◌, List, Some, length, take, map, slice_get, slice_index_or, Bool, ◌&&◌, nat_le}
 use Rattle.knit_base.specs.declared.needle.Needle.{Needle}
 use Rattle.knit_base.specs.Needle.{same_needle}
-use Rattle.summary_compose.specs.Spots.{spot_of}
+use Rattle.face_data.specs.Spots.{spot_of}
 use Rattle.summary_compose.specs.declared.index.Link.{Link}
 
 -- if the needle is in the list, it stands at this place, and at none behind it

@@ -2,19 +2,20 @@
 //!
 //! Promises of `compose_into` that the face that it leaves is the composition of the two summaries, that for every state and
 //! first line it does what the one text and then the other does, that it is good, that the scratch keeps its room and takes no
-//! memory, and that it counts a step for each item of the two faces and of the new one. `room_for` is enough room for it.
+//! memory, and that it counts a step for each item of the two faces and of the new one. `room_for` is enough room for it, and
+//! the new face fits in it. `compose` promises the same of a face of its own.
 //!
 //! Definitions: `composed` is `face_data/specs/Composition`, a good face `face_data/specs/Goodness`. `specs/Composing` says what
 //! the code asks of two faces and of a scratch, `specs/Rooms` how much room there is, `specs/Changes` and `specs/Known` what is
-//! kept on the way, `specs/Tables` and `specs/Spots` where needles are found. Lemmas that the crates above cite: `proofs/GoodFaces`
+//! kept on the way, `specs/Tables` where needles are found (by `face_data/specs/Spots`). Lemmas that the crates above cite: `proofs/GoodFaces`
 //! (good faces can be composed), `proofs/Rooms` (the room of the result is within `room_of_both`). Below it stand std,
 //! `knit_base`, `carriage_model` and `face_data`.
 #![tactic(auto)]
 
 mod asking;
 mod charging;
-mod compose;
 mod index;
+mod joining;
 mod kept;
 mod laid;
 mod making;
@@ -31,4 +32,4 @@ mod spots;
 mod tests;
 
 pub use room::{Room, room_for};
-pub use scratch::{Scratch, compose_into};
+pub use scratch::{Scratch, compose, compose_into};

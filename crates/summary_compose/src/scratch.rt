@@ -1,7 +1,8 @@
 //! Composition, and where a face is made.
-ghost use Rattle.std.specs.Prelude.{◌≡◌, ◌↔◌, ℕ, ◌<◌, ◌≤◌, ◌+◌, ◌^◌, List, ◌++◌, IsTrue, OnErr, OnOk};
+ghost use Rattle.std.specs.Prelude.{◌≡◌, ◌↔◌, ℕ, ◌<◌, ◌≤◌, ◌+◌, ◌^◌, List, ◌++◌, IfOk, IsTrue, OnErr, OnOk};
 ghost use Rattle.carriage_model.specs.State.{State};
 ghost use Rattle.knit_base.specs.declared.needle.Needle.{Needle};
+ghost use Rattle.face_data.specs.declared.face.FaceView.{FaceView};
 ghost use Rattle.face_data.specs.Composition.{and_then, composed};
 ghost use Rattle.face_data.specs.Goodness.{IsGood};
 ghost use Rattle.face_data.specs.Items.{items};
@@ -9,13 +10,13 @@ ghost use Rattle.face_data.specs.Summaries.{applied};
 ghost use Rattle.face_data.specs.View.{IsPacked, summary_of};
 ghost use Rattle.summary_compose.specs.Composing.{IsNoGreater};
 ghost use Rattle.summary_compose.specs.Known.{AreGood};
-ghost use Rattle.summary_compose.specs.Rooms.{room_of_both};
+ghost use Rattle.summary_compose.specs.Rooms.{no_room, room_of, room_of_both};
 
 use crate::charging::charge;
-use crate::compose::put_together;
+use crate::joining::put_together;
 use crate::making::Making;
-use crate::room::Room;
-use face_data::FaceView;
+use crate::room::{Room, room_for};
+use face_data::{Face, FaceView};
 use knit_base::{NoMemory, Steps};
 use std::alloc::Global;
 use std::marker::Model;
@@ -41,7 +42,9 @@ impl Model for Scratch {
 
 impl Scratch {
     /// A scratch without room, in which nothing was composed. Takes no memory.
-    pub fn new(alloc: Global) -> Self {
+    pub fn new(alloc: Global) -> Self
+        ensures { result.room ≡ no_room }
+    {
         Scratch {
             making: Making::new(alloc),
             room: Room::NONE,
@@ -96,10 +99,35 @@ pub fn compose_into<L: Ledger>(
     ensures runs_both { (s : State) (first : ℕ) → applied (scratch.new.summary) s first ≡ and_then (applied (summary_of a.now) s first) (λ t. applied (summary_of b.now) t (first + a.now.lines)) }
     ensures good { (carriers limit : ℕ) (first second : List Needle) → IsGood carriers limit first (summary_of a.now) → IsGood carriers limit second (summary_of b.now) → IsGood carriers limit (first ++ second) (scratch.new.summary) }
     ensures room { scratch.new.room ≡ scratch.old.room }
+    ensures fits { (face : FaceView) → IsPacked face → summary_of face ≡ scratch.new.summary → IsNoGreater (room_of face) (room_of_both a.now b.now) }
     ensures steps { steps.new ≡ steps.old + items (summary_of a.now) + items (summary_of b.now) + items (scratch.new.summary) }
 {
     charge(a, steps);
     charge(b, steps);
     put_together(a, b, &mut scratch.making);
     charge(&scratch.making.view(), steps);
+}
+
+/// The face of the first face's text followed by the second's, owned. It takes room of its own to make it in, and lets go of that; where
+/// many faces are made, a `Scratch` is reused. After `NoMemory` no more steps are counted than for the whole composition.
+pub fn compose<L: Ledger>(
+    alloc: Global,
+    a: &FaceView,
+    b: &FaceView,
+    steps: &mut Steps<L>,
+) -> Result<Face, NoMemory>
+    requires good { AreGood a.now b.now }
+    requires packed { IsPacked a.now }
+    requires second_packed { IsPacked b.now }
+    requires lines { a.now.lines + b.now.lines < 2 ^ 32 }
+    ensures composed { IfOk result (λ face. face ≡ composed (summary_of a.now) (summary_of b.now)) }
+    ensures runs_both { IfOk result (λ face. (s : State) (first : ℕ) → applied face s first ≡ and_then (applied (summary_of a.now) s first) (λ t. applied (summary_of b.now) t (first + a.now.lines))) }
+    ensures good { IfOk result (λ face. (carriers limit : ℕ) (first second : List Needle) → IsGood carriers limit first (summary_of a.now) → IsGood carriers limit second (summary_of b.now) → IsGood carriers limit (first ++ second) face) }
+    ensures steps { IfOk result (λ face. steps.new ≡ steps.old + items (summary_of a.now) + items (summary_of b.now) + items face) }
+    ensures refused { OnErr result (steps.new ≤ steps.old + items (summary_of a.now) + items (summary_of b.now) + items (composed (summary_of a.now) (summary_of b.now))) }
+{
+    let mut scratch = Scratch::new(alloc);
+    scratch.reserve(&room_for(a, b))?;
+    compose_into(a, b, &mut scratch, steps);
+    Face::of(alloc, &scratch.view())
 }

@@ -1,6 +1,6 @@
 //! The needles in one row, those of small numbers first, and tables that are found by needle.
 ghost use Rattle.std.specs.Prelude.{◌≡◌, ◌↔◌, IsTrue, ◌<◌, ◌*◌, ◌+◌, [], length, OnErr, slice_get, slice_set};
-ghost use Rattle.summary_compose.specs.Spots.{spot_of};
+ghost use Rattle.face_data.specs.Spots.{spot_of};
 
 use knit_base::{Needle, NoMemory};
 use std::alloc::Global;
@@ -10,7 +10,7 @@ const SPOTS: usize = 32772;
 
 /// The place of a needle in a row of all needles.
 #[inline(always)]
-#[tactic(auto, unfolding(crate::specs::Spots::spot_of))]
+#[tactic(auto, unfolding(face_data::specs::Spots::spot_of))]
 pub fn spot_of(n: Needle) -> usize
     ensures { result ≡ spot_of n }
 {

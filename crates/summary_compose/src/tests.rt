@@ -3,7 +3,7 @@ ghost use Rattle.std.specs.Prelude.{◌≡◌, ◌<◌, ◌+◌, ◌^◌};
 ghost use Rattle.face_data.specs.View.{IsPacked};
 ghost use Rattle.summary_compose.specs.Known.{AreGood};
 
-use crate::{Scratch, compose_into, room_for};
+use crate::{Room, Scratch, compose_into, room_for};
 use face_data::{Check, Cond, Effect, Ending, FaceView};
 use knit_base::{CarrierNo, Fault, Reason, Rule, Steps};
 use std::marker::Brand;
@@ -125,5 +125,32 @@ fn a_carrier_that_came_in_is_there(rt: HostRuntime) -> Result<(), Fail> {
     assert_eq!(rt; face.lines, 2);
     assert!(rt; face.checks == is_out.as_slice());
     assert_eq!(rt; face.ending, Ending::Through(COMES));
+    Ok(())
+}
+
+#[test]
+fn rooms_add_up(rt: HostRuntime) -> Result<(), Fail> {
+    let first = Room {
+        checks: 3,
+        names: 2,
+        changes: 1,
+        segs: 4,
+        entries: 2,
+    };
+    let second = Room {
+        checks: 2,
+        names: 5,
+        changes: 1,
+        segs: 1,
+        entries: 1,
+    };
+    let both = Room {
+        checks: 5,
+        names: 11,
+        changes: 2,
+        segs: 5,
+        entries: 3,
+    };
+    assert_eq!(rt; first.after(&second), both);
     Ok(())
 }

@@ -1,9 +1,10 @@
-//! Two transfers onto one needle.
+//! One transfer on empty beds, and two transfers onto one needle.
 ghost use Rattle.std.specs.Prelude.{◌≡◌, ◌<◌, ◌+◌, ◌^◌};
 ghost use Rattle.face_data.specs.View.{IsPacked};
 ghost use Rattle.summary_compose.specs.Known.{AreGood};
 
-use face_data::{Change, Check, Cond, Effect, Ending, FaceView, Part, Seg};
+use carriage_model::{Brief, Verdict};
+use face_data::{Change, Check, Cond, Effect, Ending, FaceView, Part, Seg, brief_of, verdict_of};
 use knit_base::{Bed, Fault, Needle, Quarter, Reason, Rule, Steps};
 use std::marker::Brand;
 use std::sync::ledger::{Blank, Ledger};
@@ -73,6 +74,48 @@ fn compose<L: Ledger, R: Threads>(
     let mut steps = Steps::<L>::start(rt, blank);
     scratch.reserve(&room_for(first, second))?;
     compose_into(first, second, scratch, &mut steps);
+    Ok(())
+}
+
+// `xfer f1 b1`
+#[test]
+fn a_transfer_on_empty_beds_is_sound(rt: HostRuntime) -> Result<(), Fail> {
+    let checks = [
+        Check {
+            fault: NOT_ALIGNED,
+            cond: Cond::RackIs(Quarter(0)),
+        },
+        HAS_ROOM,
+    ];
+    let face = FaceView {
+        lines: 1,
+        made: 0,
+        checks: &checks,
+        names: &[BACK_1, FRONT_1],
+        changes: &[
+            Change {
+                needle: FRONT_1,
+                part: NONE,
+            },
+            Change {
+                needle: BACK_1,
+                part: BOTH,
+            },
+        ],
+        segs: &[Seg::Entry(BACK_1), Seg::Entry(FRONT_1)],
+        ending: Ending::Through(STAYS),
+    };
+    let sound = Brief::Sound {
+        lines: 1,
+        made: 0,
+        held: 0,
+        rack: Quarter(0),
+    };
+    assert_eq!(rt; brief_of(&face, 3), sound);
+    match verdict_of(rt.alloc(), &face, 3)? {
+        Verdict::Sound(last) => assert!(rt; last.stacks.is_empty()),
+        Verdict::Broken(_) => assert!(rt; false),
+    }
     Ok(())
 }
 

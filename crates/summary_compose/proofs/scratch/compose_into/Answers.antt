@@ -1,5 +1,5 @@
 -- The code can compose good faces, and their composition is good and runs both.
-use Rattle.std.proofs.Common.{sym, subst}
+use Rattle.std.proofs.Common.{sym, subst, ◌∙◌}
 use Rattle.face_data.specs.Composition.{and_then}
 use Rattle.face_data.specs.Goodness.{IsGood}
 use Rattle.face_data.specs.Summaries.{Summary, applied}
@@ -8,6 +8,7 @@ use Rattle.std.specs.Prelude.{◌≡◌, ◌+◌, ◌++◌}
 use Rattle.face_data.proofs.Goodness.{composed_good, composed_runs_both}
 use Rattle.summary_compose.specs.Composing.{IsNoGreater, ScratchView}
 use Rattle.summary_compose.specs.Rooms.{room_of_both}
+use Rattle.summary_compose.proofs.ComposedRooms.{composed_fits}
 use Rattle.summary_compose.proofs.GoodFaces.{composable}
 use Rattle.summary_compose.proofs.Rooms.{finds_room}
 use Rattle.summary_compose.proofs.scratch.compose_into.Goals as goal
@@ -24,6 +25,11 @@ returns-clause-runs_both g c = λ s first.
 pub returns-clause-good : goal.returns-clause-good
 returns-clause-good g c = λ carriers limit first second ga gb.
     subst (IsGood carriers limit (first ++ second)) (sym c.put_together.ensures.made) (composed_good carriers limit first second (summary_of c.args.a.now) (summary_of c.args.b.now) ga gb)
+
+pub returns-clause-fits : goal.returns-clause-fits
+returns-clause-fits g c = λ face packed is.
+    composed_fits c.args.a.now c.args.b.now face c.scratch.inside.room c.requires.good c.requires.packed c.requires.second_packed packed (is ∙ c.put_together.ensures.made) c.scratch.invariant.1
+    (subst (λ (v : ScratchView). IsNoGreater (room_of_both c.args.a.now c.args.b.now) v.room) (sym c.scratch.view_is) c.requires.room)
 
 pub put_together-requires-clause-room : goal.put_together-requires-clause-room
 put_together-requires-clause-room g c = (

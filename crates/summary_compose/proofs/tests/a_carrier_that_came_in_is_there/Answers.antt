@@ -1,7 +1,7 @@
 -- Both faces of one line are good.
 use Rattle.std.proofs.Common.{refl, arith, []}
 use Rattle.std.proofs.lemmas.List.Elements.{All-nil}
-use Rattle.summary_compose.specs.Spots.{IsNumbered}
+use Rattle.face_data.specs.Spots.{IsNumbered}
 use Rattle.summary_compose.proofs.PlainFaces.{one_check_good, comes_fits, idle_fits}
 use Rattle.summary_compose.proofs.tests.a_carrier_that_came_in_is_there.Goals as goal
 

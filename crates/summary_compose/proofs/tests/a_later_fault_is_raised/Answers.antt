@@ -2,7 +2,7 @@
 use Rattle.std.proofs.Common.{refl, arith, []}
 use Rattle.std.proofs.lemmas.List.Elements.{All-nil}
 use Rattle.face_data.proofs.Members.{Contains-none}
-use Rattle.summary_compose.specs.Spots.{IsNumbered}
+use Rattle.face_data.specs.Spots.{IsNumbered}
 use Rattle.summary_compose.proofs.PlainFaces.{idle_good, broken_good}
 use Rattle.summary_compose.proofs.tests.a_later_fault_is_raised.Goals as goal
 

@@ -1,6 +1,6 @@
 use Rattle.std.proofs.Common.{[], ◌∷◌, arith}
 use Rattle.std.proofs.lemmas.List.Elements.{All-nil, All-cons}
-use Rattle.summary_compose.specs.Spots.{IsNumbered}
+use Rattle.face_data.specs.Spots.{IsNumbered}
 use Rattle.summary_examples.proofs.Transfers.{front, back, transfer_good}
 use Rattle.summary_examples.proofs.tests.two_transfers_to_one_needle.Goals as goal
 

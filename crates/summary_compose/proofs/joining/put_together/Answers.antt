@@ -1,7 +1,7 @@
 -- The first face's names have room, and each room stays.
 use Rattle.std.proofs.Common.{arith}
 use Rattle.summary_compose.proofs.Checks.{named_size}
-use Rattle.summary_compose.proofs.compose.put_together.Goals as goal
+use Rattle.summary_compose.proofs.joining.put_together.Goals as goal
 
 pub begin-requires-clause-name_room : goal.begin-requires-clause-name_room
 begin-requires-clause-name_room c =
