@@ -1,0 +1,3 @@
+pub mod SpanTables
+pub mod FaceTables
+pub mod Meets

@@ -1,0 +1,16 @@
+use Rattle.std.proofs.Common.{◌≡◌, ◌≢◌, ℕ, ◌<◌, length, Some, None, sym, ◌∙◌, ap, arith, rules}
+use Rattle.std.specs.Prelude.{slice_set, slice_index_or}
+use Rattle.span_pool.specs.Pool.{SpanView, PoolView, KeepsOthers}
+use Rattle.summary_tree.specs.Lists.{list_in, IsTable}
+use Rattle.summary_tree.proofs.SpanTables.{filled_table, filled_others}
+use Rattle.summary_tree.proofs.lists.Lists.put.Goals as goal
+
+pub invariant_of-self : goal.invariant_of-self
+invariant_of-self g c =
+    let pool = c.clear.new.self.pool in
+    record { table = filled_table c.clear.new.self.slots.items pool c.fill.new.self c.args.at c.in-Ok.span c.args.items.now c.clear.new.self.table (omega (arith, c.requires.place, c.clear.ensures.len)) c.in-Ok.ensures.fresh c.fill.ensures.holds (λ o ne. c.fill.ensures.others o ne ∙ c.in-Ok.ensures.others o ne) }
+
+pub returns-in-Ok-clause-others : goal.returns-in-Ok-clause-others
+returns-in-Ok-clause-others g c =
+    let pool = c.clear.new.self.pool in
+    λ k ne. filled_others c.clear.new.self.slots.items pool c.fill.new.self c.args.at c.in-Ok.span c.args.items.now c.clear.new.self.table (omega (arith, c.requires.place, c.clear.ensures.len)) c.in-Ok.ensures.fresh c.fill.ensures.holds (λ o ne. c.fill.ensures.others o ne ∙ c.in-Ok.ensures.others o ne) k ne ∙ c.clear.ensures.others k ne

@@ -1,0 +1,248 @@
+-- The laws that leaves and their rooms obey.
+use Rattle.std.proofs.Common.{◌≡◌, ℕ, zero, suc, ◌+◌, ◌*◌, ◌^◌, ◌<◌, ◌≤◌, min, Bool, true, false, List, [], ◌∷◌, ◌++◌, length, refl, sym, ◌∙◌, ap, subst, arith, ◌⊎◌, inl, inr}
+use Rattle.std.specs.Prelude.{nat_lt, if◌then◌else◌, count_by, cond}
+use Rattle.std.specs.List.{All, Contains}
+use Rattle.std.proofs.lemmas.Bool.{ltb-true, ltb-false, cases_lt}
+use Rattle.std.proofs.lemmas.List.{append_assoc}
+use Rattle.std.proofs.lemmas.List.Elements.{All-head, All-tail, All-cons, Contains-append_left, Contains-append_right}
+use Rattle.std.proofs.lemmas.List.Sums.{sum_by-append, sum_by-cons}
+use Rattle.std.proofs.Math.Nat.{mul-le-mul}
+use Rattle.knit_base.specs.declared.instr.Read.{Read}
+use Rattle.knit_base.specs.declared.needle.Needle.{Needle}
+use Rattle.knit_base.specs.declared.profile.Profile.{Profile}
+use Rattle.carriage_model.specs.State.{State}
+use Rattle.face_data.specs.Composition.{and_then, composed}
+use Rattle.face_data.specs.Goodness.{IsGood}
+use Rattle.face_data.specs.Items.{items, most_items}
+use Rattle.face_data.specs.Sets.{IsWithin}
+use Rattle.face_data.specs.Stands.{StandsFor}
+use Rattle.face_data.specs.Summaries.{Summary, Outcome, applied}
+use Rattle.face_data.specs.Summaries.Outcome.{went_on, faulted}
+use Rattle.face_data.proofs.Goodness.{composed_good, composed_runs_both, good_within}
+use Rattle.face_data.proofs.Items.{all_entries, items_bound}
+use Rattle.face_data.proofs.Members.{Contains-head, Contains-tail, Contains-cons_cases}
+use Rattle.std.proofs.Math.Path.{ap₂}
+use Rattle.face_data.proofs.KnownAnswers.{AskFits-distinct}
+use Rattle.face_data.proofs.Stands.{lines-composed, stands_both, and_then_same, and_then_twice}
+use Rattle.summary_compose.specs.Composing.{IsNoGreater}
+use Rattle.summary_compose.specs.Known.{names_count, names_read_count}
+use Rattle.summary_compose.specs.Changes.{segs_in}
+use Rattle.summary_compose.specs.Rooms.{capped, room_after}
+use Rattle.summary_compose.specs.declared.room.Room.{Room}
+use Rattle.summary_compose.proofs.ComposedRooms.{composed_sizes}
+use Rattle.summary_compose.proofs.Rooms.{names_read_bound, after_grows}
+use Rattle.tree_shape.specs.Composing.{StandLaws, RoomLaws, Costs}
+use Rattle.summary_tree.specs.Meeting.{reaches, IsMet}
+use Rattle.summary_tree.specs.Leaves.{Leaf, lines_of, AreGoodFor, AreSound, applied_each, EachStandsFor, all_lines, IsWholeOf, WholeLeaf, joined_leaf, LeavesFit, leaf_items, leaf_room, leaf_lines}
+use Rattle.summary_tree.specs.Rooms.{kept_room}
+
+-- Leaves that stand in one tree.
+
+lines_append : (xs ys : List Leaf) → lines_of (xs ++ ys) ≡ lines_of xs + lines_of ys
+lines_append [] ys = omega arith
+lines_append (x ∷ xs) ys = omega (arith, lines_append xs ys)
+
+good_front : (carriers limit : ℕ) (known : List Needle) (xs ys : List Leaf) → AreGoodFor carriers limit known (xs ++ ys) → AreGoodFor carriers limit known xs
+good_front carriers limit known [] ys g = tt
+good_front carriers limit known (x ∷ xs) ys g = (g.0, good_front carriers limit known xs ys g.1)
+
+good_back : (carriers limit : ℕ) (known : List Needle) (xs ys : List Leaf) → AreGoodFor carriers limit known (xs ++ ys) → AreGoodFor carriers limit known ys
+good_back carriers limit known [] ys g = g
+good_back carriers limit known (x ∷ xs) ys g = good_back carriers limit known xs ys g.1
+
+sound_front : (xs ys : List Leaf) → AreSound (xs ++ ys) → AreSound xs
+sound_front xs ys s = record {
+  carriers = s.carriers; limit = s.limit; known = s.known; few_carriers = s.few_carriers; few_loops = s.few_loops; numbered = s.numbered;
+  good = good_front s.carriers s.limit s.known xs ys s.good;
+  few_lines = omega (arith, s.few_lines, lines_append xs ys);
+}
+
+sound_back : (xs ys : List Leaf) → AreSound (xs ++ ys) → AreSound ys
+sound_back xs ys s = record {
+  carriers = s.carriers; limit = s.limit; known = s.known; few_carriers = s.few_carriers; few_loops = s.few_loops; numbered = s.numbered;
+  good = good_back s.carriers s.limit s.known xs ys s.good;
+  few_lines = omega (arith, s.few_lines, lines_append xs ys);
+}
+
+after_none : (o : Outcome) → o ≡ and_then o (λ t. went_on t)
+after_none (went_on t) = refl
+after_none (faulted fault) = refl
+
+one_leaf : (leaf : Leaf) → WholeLeaf (leaf ∷ []) leaf
+one_leaf leaf = record {
+  lines = omega arith;
+  runs_all = λ s first. after_none (applied leaf.0 s first);
+  good = λ carriers limit known g. g.0;
+  stands = λ profile blocks e. one_text profile blocks e;
+}
+  where
+    nothing : (xs : List Read) → xs ≡ xs ++ []
+    nothing [] = refl
+    nothing (x ∷ xs) = ap (λ v. x ∷ v) (nothing xs)
+
+    one_text : (profile : Profile) (blocks : List (List Read)) → EachStandsFor profile (leaf ∷ []) blocks → StandsFor profile leaf.0 (all_lines blocks)
+    one_text profile [] e = absurd e
+    one_text profile (block ∷ []) e = subst (StandsFor profile leaf.0) (nothing block) e.0
+    one_text profile (block ∷ (other ∷ blocks)) e = absurd e.1
+
+applied_append : (xs ys : List Leaf) (s : State) (first : ℕ) → applied_each (xs ++ ys) s first ≡ and_then (applied_each xs s first) (λ t. applied_each ys t (first + lines_of xs))
+applied_append [] ys s first = let same : first ≡ first + 0 = omega arith in ap (applied_each ys s) same
+applied_append (x ∷ xs) ys s first =
+    and_then_same (applied x.0 s first) (λ t. applied_each (xs ++ ys) t (first + x.0.lines)) (λ t. and_then (applied_each xs t (first + x.0.lines)) (λ u. applied_each ys u (first + x.0.lines + lines_of xs)))
+    (λ t. applied_append xs ys t (first + x.0.lines))
+    ∙ (sym (and_then_twice (applied x.0 s first) (λ t. applied_each xs t (first + x.0.lines)) (λ u. applied_each ys u (first + x.0.lines + lines_of xs)))
+    ∙ (let same : first + x.0.lines + lines_of xs ≡ first + (x.0.lines + lines_of xs) = omega arith in ap (λ n. and_then (and_then (applied x.0 s first) (λ t. applied_each xs t (first + x.0.lines))) (λ u. applied_each ys u n)) same))
+
+-- the texts of the first leaves and those of the others
+split_texts : (profile : Profile) (xs ys : List Leaf) (blocks : List (List Read)) → EachStandsFor profile (xs ++ ys) blocks
+    → (front : List (List Read)) × (back : List (List Read)) × (all_lines blocks ≡ all_lines front ++ all_lines back) × EachStandsFor profile xs front × EachStandsFor profile ys back
+split_texts profile [] ys blocks e = ([], blocks, refl, tt, e)
+split_texts profile (x ∷ xs) ys [] e = absurd e
+split_texts profile (x ∷ xs) ys (block ∷ blocks) e =
+    let w = split_texts profile xs ys blocks e.1 in
+    (block ∷ w.0, w.1, ap (λ v. block ++ v) w.2 ∙ sym (append_assoc block (all_lines w.0) (all_lines w.1)), (e.0, w.3), w.4)
+
+in_either : (xs ys : List Needle) (n : Needle) → Contains (xs ++ ys) n → Contains xs n ⊎ Contains ys n
+in_either [] ys n h = inr h
+in_either (x ∷ xs) ys n h = elim (Contains-cons_cases x (xs ++ ys) n h) [
+  | inl same ↦ inl (subst (Contains (x ∷ xs)) same (Contains-head x xs))
+  | inr later ↦ elim (in_either xs ys n later) [ inl w ↦ inl (Contains-tail x xs n w) | inr w ↦ inr w ]
+]
+
+twice_within : (known : List Needle) → IsWithin (known ++ known) known
+twice_within known = λ n h. go known known n h (λ m k. k) (λ m k. k)
+  where
+    go : (xs ys : List Needle) (n : Needle) → Contains (xs ++ ys) n → ((m : Needle) → Contains xs m → Contains known m) → ((m : Needle) → Contains ys m → Contains known m) → Contains known n
+    go xs ys n h f g = elim (in_either xs ys n h) [ inl w ↦ f n w | inr w ↦ g n w ]
+
+both_leaves : (xs ys : List Leaf) (a b : Leaf) → AreSound (xs ++ ys) → WholeLeaf xs a → WholeLeaf ys b → LeavesFit a b × WholeLeaf (xs ++ ys) (joined_leaf a b)
+both_leaves xs ys a b s p q =
+    let ga = p.good s.carriers s.limit s.known (good_front s.carriers s.limit s.known xs ys s.good) in
+    let gb = q.good s.carriers s.limit s.known (good_back s.carriers s.limit s.known xs ys s.good) in (
+      record {
+        carriers = s.carriers; limit = s.limit; known = s.known; few_carriers = s.few_carriers; few_loops = s.few_loops; numbered = s.numbered;
+        first = ga; second = gb;
+        lines = omega (arith, s.few_lines, lines_append xs ys, p.lines, q.lines);
+      },
+      record {
+        lines = omega (arith, lines-composed a.0 b.0, lines_append xs ys, p.lines, q.lines);
+        runs_all = λ t first.
+            composed_runs_both s.carriers s.limit s.known s.known a.0 b.0 ga gb t first
+            ∙ (ap (λ o. and_then o (λ u. applied b.0 u (first + a.0.lines))) (p.runs_all t first)
+            ∙ (and_then_same (applied_each xs t first) (λ u. applied b.0 u (first + a.0.lines)) (λ u. applied_each ys u (first + lines_of xs)) (λ u. q.runs_all u (first + a.0.lines) ∙ ap (λ n. applied_each ys u (first + n)) p.lines)
+            ∙ sym (applied_append xs ys t first)));
+        good = λ carriers limit known g.
+            good_within carriers limit (known ++ known) known (composed a.0 b.0) (twice_within known)
+            (composed_good carriers limit known known a.0 b.0 (p.good carriers limit known (good_front carriers limit known xs ys g)) (q.good carriers limit known (good_back carriers limit known xs ys g)));
+        stands = λ profile blocks e.
+            let w = split_texts profile xs ys blocks e in
+            subst (StandsFor profile (composed a.0 b.0)) (sym w.2) (stands_both profile s.carriers s.limit s.known s.known a.0 b.0 (all_lines w.0) (all_lines w.1) ga gb (p.stands profile w.0 w.3) (q.stands profile w.1 w.4));
+      },
+    )
+
+pub stand_laws : StandLaws {V = Leaf} AreSound WholeLeaf joined_leaf LeavesFit
+stand_laws = record { one = λ v s. one_leaf v; front = sound_front; back = sound_back; both = both_leaves }
+
+-- A composed summary has as many lines as both.
+pub lines_law : (a b : Leaf) → LeavesFit a b → leaf_lines (joined_leaf a b) ≡ leaf_lines a + leaf_lines b
+lines_law a b f = lines-composed a.0 b.0
+
+-- No summary of some of the leaves has more items than a good one can have.
+pub items_law : (xs : List Leaf) (carriers limit : ℕ) (known : List Needle) → AreGoodFor carriers limit known xs → Costs WholeLeaf leaf_items (most_items carriers limit (length known)) xs
+items_law xs carriers limit known g before run after v e w =
+    let all = subst (AreGoodFor carriers limit known) e g in
+    items_bound carriers limit known v.0 (w.good carriers limit known (good_front carriers limit known run after (good_back carriers limit known before (run ++ after) all)))
+
+pub cost_law : (xs : List Leaf) → AreSound xs → (each : ℕ) × Costs WholeLeaf leaf_items each xs
+cost_law xs s = (most_items s.carriers s.limit (length s.known), items_law xs s.carriers s.limit s.known s.good)
+
+-- Rooms.
+
+capped_at : (n : ℕ) (b : Bool) → nat_lt (2 ^ 62) n ≡ b → (if b then 2 ^ 62 + 1 else n) ≡ min n (2 ^ 62 + 1)
+capped_at n true e = omega (arith, ltb-true (2 ^ 62) n e)
+capped_at n false e = omega (arith, ltb-false (2 ^ 62) n e)
+
+pub capped_is_min : (n : ℕ) → capped n ≡ min n (2 ^ 62 + 1)
+capped_is_min n = capped_at n (nat_lt (2 ^ 62) n) refl
+
+same_room : (a : Room) → IsNoGreater a a
+same_room a = record { checks = omega arith; names = omega arith; changes = omega arith; segs = omega arith; entries = omega arith }
+
+pub along_rooms : (a b c : Room) → IsNoGreater a b → IsNoGreater b c → IsNoGreater a c
+along_rooms a b c p q = record {
+  checks = omega (arith, p.checks, q.checks);
+  names = omega (arith, p.names, q.names);
+  changes = omega (arith, p.changes, q.changes);
+  segs = omega (arith, p.segs, q.segs);
+  entries = omega (arith, p.entries, q.entries);
+}
+
+-- a product of capped numbers is no less than the capped product
+pub product_kept : (x y : ℕ) → min (x * y) (2 ^ 62 + 1) ≤ min x (2 ^ 62 + 1) * min y (2 ^ 62 + 1)
+product_kept x y = elim (cases_lt (2 ^ 62) x) [
+  | inl more ↦ product_first x y more
+  | inr few ↦ elim (cases_lt (2 ^ 62) y) [
+    | inl more ↦ product_second x y few more
+    | inr less ↦
+        let first : min x (2 ^ 62 + 1) ≡ x = omega (arith, few) in
+        let second : min y (2 ^ 62 + 1) ≡ y = omega (arith, less) in
+        rw (first, second) (omega arith)
+  ]
+]
+  where
+    product_first : (x y : ℕ) → 2 ^ 62 < x → min (x * y) (2 ^ 62 + 1) ≤ min x (2 ^ 62 + 1) * min y (2 ^ 62 + 1)
+    product_first x zero more = omega arith
+    product_first x (suc y) more =
+        let first : min x (2 ^ 62 + 1) ≡ 2 ^ 62 + 1 = omega (arith, more) in
+        let one : 1 ≤ min (suc y) (2 ^ 62 + 1) = omega arith in
+        let same : 2 ^ 62 + 1 ≤ 2 ^ 62 + 1 = omega arith in
+        let least : (2 ^ 62 + 1) * 1 ≤ (2 ^ 62 + 1) * min (suc y) (2 ^ 62 + 1) = mul-le-mul same one in
+        rw first (omega (arith, least))
+
+    product_second : (x y : ℕ) → x ≤ 2 ^ 62 → 2 ^ 62 < y → min (x * y) (2 ^ 62 + 1) ≤ min x (2 ^ 62 + 1) * min y (2 ^ 62 + 1)
+    product_second zero y few more = omega arith
+    product_second (suc x) y few more =
+        let second : min y (2 ^ 62 + 1) ≡ 2 ^ 62 + 1 = omega (arith, more) in
+        let one : 1 ≤ min (suc x) (2 ^ 62 + 1) = omega arith in
+        let same : 2 ^ 62 + 1 ≤ 2 ^ 62 + 1 = omega arith in
+        let least : 1 * (2 ^ 62 + 1) ≤ min (suc x) (2 ^ 62 + 1) * (2 ^ 62 + 1) = mul-le-mul one same in
+        rw second (omega (arith, least))
+
+pub sum_kept : (n a b : ℕ) → n ≤ a + b → capped n ≤ capped (capped a + capped b)
+sum_kept n a b h = omega (arith, h, capped_is_min n, capped_is_min a, capped_is_min b, capped_is_min (capped a + capped b))
+
+pub bounds : (a b : Leaf) → LeavesFit a b → IsNoGreater (leaf_room (joined_leaf a b)) (room_after (leaf_room a) (leaf_room b))
+bounds a b f =
+    let s = composed_sizes f.carriers f.limit f.known f.known a.0 b.0 f.first f.second in
+    let read = names_read_bound a.0.changes b.0.checks f.first.fair.owns (λ c there. AskFits-distinct f.carriers f.limit f.known c.ask (f.second.fair.asks_fit c there)) in
+    let na = names_count a.0.checks in
+    let nb = names_count b.0.checks in
+    let cb = length b.0.checks in
+    let ea = length (all_entries a.0.changes) in
+    let n = names_count (composed a.0 b.0).checks in
+    let through = product_kept cb ea in
+    record {
+      checks = sum_kept (length (composed a.0 b.0).checks) (length a.0.checks) cb s.few_checks;
+      names = omega (arith, s.few_names, read, through, capped_is_min n, capped_is_min na, capped_is_min nb, capped_is_min (capped na + capped nb), ap₂ (λ (x y : ℕ). x * y) (capped_is_min cb) (capped_is_min ea), capped_is_min (capped cb * capped ea), capped_is_min (capped (capped na + capped nb) + capped (capped cb * capped ea)));
+      changes = sum_kept (length (composed a.0 b.0).changes) (length a.0.changes) (length b.0.changes) s.few_changes;
+      segs = sum_kept (segs_in (composed a.0 b.0).changes) (segs_in a.0.changes) (segs_in b.0.changes) s.few_segs;
+      entries = sum_kept (length (all_entries (composed a.0 b.0).changes)) ea (length (all_entries b.0.changes)) s.few_entries;
+    }
+
+pub room_laws : RoomLaws {V = Leaf} {R = Room} joined_leaf LeavesFit leaf_room room_after IsNoGreater
+room_laws = record { same = same_room; along = along_rooms; bounds = bounds; rises = λ a b c d p q. after_grows a b c d p q }
+
+-- Rooms in another order.
+
+All-front : {X : Type 0} (P : X → Type 0) (xs ys : List X) → All P (xs ++ ys) → All P xs × All P ys
+All-front P [] ys all = ((λ k d h. absurd (omega arith)), all)
+All-front P (x ∷ xs) ys all = let rest = All-front P xs ys (All-tail P x (xs ++ ys) all) in (All-cons P x xs (All-head P x (xs ++ ys) all) rest.0, rest.1)
+
+pub to_front : {X : Type 0} (P : X → Type 0) (xs : List X) (x : X) → All P (xs ++ x ∷ []) → All P (x ∷ xs)
+to_front P xs x all = let both = All-front P xs (x ∷ []) all in All-cons P x xs (All-head P x [] both.1) both.0
+
+pub met_any_order : {X : Type 0} (spare : ℕ → ℕ) (len : X → ℕ) (r : X) (rooms : List X) → IsMet spare len (rooms ++ r ∷ []) → IsMet spare len (r ∷ rooms)
+met_any_order spare len r rooms m = record {
+  low = to_front (λ x. len x ≤ 2 ^ 62) rooms r m.low;
+  enough = λ class h. omega (arith, m.enough class h, sum_by-append (λ x. cond (reaches class (len x)) 1 0) rooms (r ∷ []), sum_by-cons (λ x. cond (reaches class (len x)) 1 0) r rooms);
+}

@@ -1,0 +1,98 @@
+-- The leaves of a tree, and the face of all of them.
+use Rattle.std.specs.Prelude.{◌≡◌, ℕ, ◌+◌, ◌<◌, ◌≤◌, ◌^◌, List, [], ◌∷◌, ◌++◌, All, Option, Some, None}
+use Rattle.knit_base.specs.declared.instr.Read.{Read}
+use Rattle.knit_base.specs.declared.needle.Needle.{Needle}
+use Rattle.knit_base.specs.declared.profile.Profile.{Profile}
+use Rattle.carriage_model.specs.State.{State}
+use Rattle.face_data.specs.Composition.{and_then, composed}
+use Rattle.face_data.specs.Goodness.{IsGood}
+use Rattle.face_data.specs.Items.{items}
+use Rattle.face_data.specs.Stands.{StandsFor}
+use Rattle.face_data.specs.Summaries.{Summary, Outcome, applied}
+use Rattle.face_data.specs.Summaries.Outcome.{went_on}
+use Rattle.loop_history.specs.declared.row.LoopRow.{LoopRow}
+use Rattle.summary_compose.specs.Spots.{IsNumbered}
+use Rattle.summary_tree.specs.Rooms.{kept_room}
+use Rattle.summary_compose.specs.declared.room.Room.{Room}
+
+-- a leaf: the summary of a block, and the loops that it makes
+abbrev pub Leaf : Type 0
+Leaf = Summary × List LoopRow
+
+-- how many lines the leaves have
+abbrev pub lines_of : List Leaf → ℕ
+lines_of [] = 0
+lines_of (leaf ∷ leaves) = leaf.0.lines + lines_of leaves
+
+-- each leaf's summary is good for so many carriers, this limit on the loops of a needle, and these needles
+abbrev pub AreGoodFor : ℕ → ℕ → List Needle → List Leaf → Type 0
+AreGoodFor carriers limit known [] = Unit {0}
+AreGoodFor carriers limit known (leaf ∷ leaves) = IsGood carriers limit known leaf.0 × AreGoodFor carriers limit known leaves
+
+-- leaves that may stand in one tree
+pub record AreSound (leaves : List Leaf) : Type 0 where
+  pub carriers : ℕ
+  pub limit : ℕ
+  pub known : List Needle
+  pub few_carriers : carriers ≤ 64
+  pub few_loops : limit < 2 ^ 8
+  pub numbered : All IsNumbered known
+  pub good : AreGoodFor carriers limit known leaves
+  pub few_lines : lines_of leaves ≤ 1048576
+
+-- how a document ends whose blocks are carried out one after the other, from a state and a first line on
+abbrev pub applied_each : List Leaf → State → ℕ → Outcome
+applied_each [] s first = went_on s
+applied_each (leaf ∷ leaves) s first = and_then (applied leaf.0 s first) (λ t. applied_each leaves t (first + leaf.0.lines))
+
+-- each leaf stands for a text's lines
+abbrev pub EachStandsFor : Profile → List Leaf → List (List Read) → Type 0
+EachStandsFor profile [] [] = Unit {0}
+EachStandsFor profile [] (block ∷ blocks) = ⊥
+EachStandsFor profile (leaf ∷ leaves) [] = ⊥
+EachStandsFor profile (leaf ∷ leaves) (block ∷ blocks) = StandsFor profile leaf.0 block × EachStandsFor profile leaves blocks
+
+-- the lines of all texts
+abbrev pub all_lines : List (List Read) → List Read
+all_lines [] = []
+all_lines (block ∷ blocks) = block ++ all_lines blocks
+
+-- The summary of all leaves, one after the other: it has their lines, does what they do, is good for what they are good for, and
+-- stands for the lines of all texts for which they stand.
+pub record IsWholeOf (leaves : List Leaf) (whole : Summary) : Type 0 where
+  pub lines : whole.lines ≡ lines_of leaves
+  pub runs_all : (s : State) (first : ℕ) → applied whole s first ≡ applied_each leaves s first
+  pub good : (carriers limit : ℕ) (known : List Needle) → AreGoodFor carriers limit known leaves → IsGood carriers limit known whole
+  pub stands : (profile : Profile) (blocks : List (List Read)) → EachStandsFor profile leaves blocks → StandsFor profile whole (all_lines blocks)
+
+-- the same of a leaf in the place of a summary
+abbrev pub WholeLeaf : List Leaf → Leaf → Type 0
+WholeLeaf leaves leaf = IsWholeOf leaves leaf.0
+
+-- two leaves as one, without its loops
+abbrev pub joined_leaf : Leaf → Leaf → Leaf
+joined_leaf a b = (composed a.0 b.0, [])
+
+-- two leaves that can be composed
+pub record LeavesFit (a b : Leaf) : Type 0 where
+  pub carriers : ℕ
+  pub limit : ℕ
+  pub known : List Needle
+  pub few_carriers : carriers ≤ 64
+  pub few_loops : limit < 2 ^ 8
+  pub numbered : All IsNumbered known
+  pub first : IsGood carriers limit known a.0
+  pub second : IsGood carriers limit known b.0
+  pub lines : a.0.lines + b.0.lines < 2 ^ 32
+
+-- what composing costs of it
+abbrev pub leaf_items : Leaf → ℕ
+leaf_items leaf = items leaf.0
+
+-- the room that it takes
+abbrev pub leaf_room : Leaf → Room
+leaf_room leaf = kept_room leaf.0
+
+-- the lines that it has
+abbrev pub leaf_lines : Leaf → ℕ
+leaf_lines leaf = leaf.0.lines

@@ -1,0 +1,6 @@
+pub mod Faces
+pub mod Lists
+pub mod Meeting
+pub mod Rooms
+pub mod Leaves
+pub mod Laws
