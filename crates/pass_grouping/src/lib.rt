@@ -15,7 +15,7 @@ mod pass;
 #[cfg(test)]
 mod tests;
 
-pub use certificate::{Grouping, Starts, Window, Windows, check_certificate};
+pub use certificate::{Grouping, Starts, Window, Windows, check_certificate, pass_at};
 pub use grouping::group;
 pub use listing::{Listing, operations};
 pub use operation::{Class, PassOp, PassOps};

@@ -1,4 +1,5 @@
 pub mod Chain
 pub mod CompactText
 pub mod Names
+pub mod PassLines
 pub mod PlainText
