@@ -1,9 +1,10 @@
 -- What a certificate shows: every grouping has a start among the cut places of each window, so it has more parts than there are windows.
 use Rattle.std.proofs.Common.{◌≡◌, ℕ, ◌+◌, ◌-◌, ◌<◌, ◌≤◌, List, [], ◌∷◌, length, drop, get_or, All, sym, ap, subst, ◌∙◌, refl, arith, zero, suc}
+use Rattle.std.proofs.lemmas.List.{get_or-map, length-map}
 use Rattle.std.proofs.lemmas.List.Elements.{All-head, All-tail}
 use Rattle.pass_grouping.specs.declared.operation.PassOp.{PassOp}
 use Rattle.pass_grouping.specs.declared.certificate.Window.{Window}
-use Rattle.pass_grouping.specs.Groupings.{Part, parts, first_or, IsPass, IsGrouping, IsFewest, IsWindow, AreApart, IsCertificate}
+use Rattle.pass_grouping.specs.Groupings.{Part, operations_in, parts, passes_from, first_or, IsPass, IsGrouping, IsFewest, IsWindow, AreApart, IsCertificate}
 use Rattle.pass_grouping.proofs.Passes.{by_order, one_pass-shrink}
 
 length-parts : (starts : List ℕ) (behind : ℕ) → length (parts starts behind) ≡ length starts
@@ -34,6 +35,17 @@ pub passes-at : (ops : List PassOp) (starts : List ℕ) (behind k : ℕ) → k <
 passes-at ops starts behind k within passes =
     let below : k < length (parts starts behind) = omega (arith, length-parts starts behind) in
     subst (IsPass ops) (parts-at starts behind k (part_at starts behind k) within) (passes k (part_at starts behind k) below)
+
+-- how many passes there are
+pub length-passes : (ops : List PassOp) (starts : List ℕ) → length (passes_from ops starts) ≡ length starts
+length-passes ops starts = length-map (parts starts (length ops)) (operations_in ops) ∙ length-parts starts (length ops)
+
+-- the operations of the pass at this place
+pub passes_from-at : (ops : List PassOp) (starts : List ℕ) (k : ℕ) → k < length starts → get_or (passes_from ops starts) k [] ≡ operations_in ops (part_at starts (length ops) k)
+passes_from-at ops starts k within =
+    let none : Part = part_at starts (length ops) k in
+    get_or-map (operations_in ops) (parts starts (length ops)) k none [] (omega (arith, length-parts starts (length ops)))
+    ∙ ap (operations_in ops) (parts-at starts (length ops) k none within)
 
 -- no window lies within a part
 outside : {P : Type 0} (ops : List PassOp) (part : Part) (window : Window) → IsPass ops part → IsWindow ops window → part.start ≤ window.from → window.to < part.behind → P

@@ -15,7 +15,8 @@ set-lawful : (profile : Profile) (set : Option Quarter) → IsLawfulProfile prof
 set-lawful profile None limits within = tt
 set-lawful profile (Some q) limits within = (omega (arith, ints, limits.rack, within.left), omega (arith, ints, limits.rack, within.right))
 
-read-lawful : (profile : Profile) (declared : ℕ) (r : Read) → IsLawfulProfile profile → IsLawfulRead profile declared r → IsRackWithin r
+-- a lawful reading sets a rack within 64 needles to either side, if any
+pub read-lawful : (profile : Profile) (declared : ℕ) (r : Read) → IsLawfulProfile profile → IsLawfulRead profile declared r → IsRackWithin r
 read-lawful profile declared read.Blank limits lawful = tt
 read-lawful profile declared read.Comment limits lawful = tt
 read-lawful profile declared (read.Broken reason) limits lawful = tt

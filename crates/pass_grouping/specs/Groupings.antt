@@ -1,5 +1,5 @@
 -- Groupings of operations into passes, and what shows that none has fewer.
-use Rattle.std.specs.Prelude.{◌≡◌, ℕ, ◌+◌, ◌-◌, ◌<◌, ◌≤◌, List, [], ◌∷◌, length, All}
+use Rattle.std.specs.Prelude.{◌≡◌, ℕ, ◌+◌, ◌-◌, ◌<◌, ◌≤◌, List, [], ◌∷◌, length, take, drop, map, All}
 use Rattle.std.proofs.Common.{get_or}
 use Rattle.pass_grouping.specs.declared.operation.PassOp.{PassOp}
 use Rattle.pass_grouping.specs.declared.certificate.Window.{Window}
@@ -19,6 +19,14 @@ first_or (start ∷ starts) behind = start
 abbrev pub parts : List ℕ → ℕ → List Part
 parts [] behind = []
 parts (start ∷ starts) behind = record { start = start; behind = first_or starts behind } ∷ parts starts behind
+
+-- the operations of a part
+abbrev pub operations_in : List PassOp → Part → List PassOp
+operations_in ops part = take (part.behind - part.start) (drop part.start ops)
+
+-- the operations of each pass, where the passes begin with these operations
+abbrev pub passes_from : List PassOp → List ℕ → List (List PassOp)
+passes_from ops starts = map (operations_in ops) (parts starts (length ops))
 
 -- a part that holds an operation and is one pass
 pub record IsPass (ops : List PassOp) (part : Part) : Type 0 where

@@ -1,3 +1,4 @@
 pub mod Groupings
+pub mod Listings
 pub mod Operations
 pub mod Passes

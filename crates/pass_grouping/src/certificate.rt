@@ -1,6 +1,7 @@
 //! Certificates of groupings with the fewest passes.
 ghost use Rattle.std.specs.Prelude.{◌≡◌, ◌+◌, ◌-◌, ◌<◌, ◌≤◌, ◌↔◌, [], length, drop, All, IsTrue};
-ghost use Rattle.pass_grouping.specs.Groupings.{first_or, IsPass, IsGrouping, IsFewest, IsWindow, AreApart, IsCertificate};
+ghost use Rattle.std.proofs.Common.{get_or};
+ghost use Rattle.pass_grouping.specs.Groupings.{first_or, operations_in, passes_from, IsPass, IsGrouping, IsFewest, IsWindow, AreApart, IsCertificate};
 
 use crate::pass::is_one_pass;
 use crate::{PassOp, PassOps};
@@ -60,6 +61,27 @@ fn is_grouping(ops: &[PassOp], starts: &[u32]) -> bool
         }
     }
     true
+}
+
+/// The operations of the pass at this place, where the passes begin with these operations.
+pub fn pass_at<'a>(ops: &'a PassOps, starts: &[u32], k: usize) -> &'a [PassOp]
+    requires grouping { IsGrouping ops.now starts.now }
+    requires within { k < length starts.now }
+    ensures { result.now ≡ get_or (passes_from ops.now starts.now) k [] }
+{
+    let items = ops.as_slice();
+    let start = starts[k] as usize;
+    let behind = first_or(starts, k + 1, items.len());
+    between(items, start, behind)
+}
+
+// The operations from this one up to another, which isn't counted.
+fn between(ops: &[PassOp], start: usize, behind: usize) -> &[PassOp]
+    requires ordered { start ≤ behind }
+    requires within { behind ≤ length ops.now }
+    ensures { result.now ≡ operations_in ops.now (record { start = start; behind = behind }) }
+{
+    &ops[start..behind]
 }
 
 // The start at this place of the list, or the number behind them where there is none.

@@ -1,19 +1,21 @@
 //! The passes of the carriage: the fewest that carry out a program's operations in their order, with a certificate of it.
 //!
-//! Promises that `operations` lists the carriage operations of a text exactly, that `check_certificate` answers true exactly
+//! Promises that `operations`, and `Listing` reading by reading, list the carriage operations of a text exactly, that `check_certificate` answers true exactly
 //! for the certificates, that no grouping has fewer passes than one that it accepts, and that `group` gives one with its
 //! certificate.
-//! Definitions: `specs/Operations` (what each line is to the carriage), `specs/Passes` (one pass, by pairs of operations) and
-//! `specs/Groupings` (groupings, windows and certificates). Below it stand std and `knit_base`.
+//! Definitions: `specs/Operations` (what each line is to the carriage), `specs/Listings` (operations listed one by one),
+//! `specs/Passes` (one pass, by pairs of operations) and `specs/Groupings` (groupings, windows and certificates). Below it stand std and `knit_base`.
 #![tactic(auto)]
 
 mod certificate;
 mod grouping;
+mod listing;
 mod operation;
 mod pass;
 #[cfg(test)]
 mod tests;
 
-pub use certificate::{Grouping, Starts, Window, Windows, check_certificate};
+pub use certificate::{Grouping, Starts, Window, Windows, check_certificate, pass_at};
 pub use grouping::group;
-pub use operation::{Class, PassOp, PassOps, operations};
+pub use listing::{Listing, operations};
+pub use operation::{Class, PassOp, PassOps};

@@ -1,9 +1,9 @@
 //! The carriage operations of a text.
-ghost use Rattle.std.specs.Prelude.{◌≡◌, ◌+◌, ◌<◌, ◌^◌, ◌-◌, ◌++◌, [], pos, negsuc, ◌+ℤ◌, ◌*ℤ◌, ◌≤ℤ◌, length, All, IfOk, OnOk, if◌then◌else◌};
+ghost use Rattle.std.specs.Prelude.{◌≡◌, ◌+◌, ◌<◌, ◌^◌, ◌-◌, ◌++◌, [], pos, negsuc, ◌+ℤ◌, ◌*ℤ◌, ◌≤ℤ◌, length, All, IfOk, OnErr, OnOk, if◌then◌else◌};
 ghost use Rattle.std.specs.Option.{option_to_list};
-ghost use Rattle.pass_grouping.specs.Operations.{operations_after, operation_of_instr, operation_of, ends_stretch, rack_behind, place_of, IsRackWithin, IsWithinGreatestRack, carried, uncarried};
+ghost use Rattle.pass_grouping.specs.Operations.{operation_of_instr, operation_of, ends_stretch, rack_behind, place_of, IsWithinGreatestRack, carried, uncarried};
 
-use knit_base::{Bed, Dir, Instr, ListOf, Needle, NoMemory, Read, Reads, Yarns};
+use knit_base::{Bed, Dir, Instr, ListOf, Needle, NoMemory, Read, Yarns};
 use std::alloc::Global;
 
 /// What a carriage operation does. Operations of different classes are never in one pass.
@@ -32,30 +32,11 @@ pub struct PassOp {
 /// The carriage operations of a text, in the order of their lines.
 pub type PassOps = ListOf<PassOp>;
 
-/// The carriage operations of these readings, of which the first is that of the line `first`. A line that the reader found
-/// broken ends a stretch. The racks lie within the limits wherever the readings are lawful (`proofs/Racks`). Fails where memory
-/// runs out.
-pub fn operations(alloc: Global, reads: &Reads, first: u32) -> Result<PassOps, NoMemory>
-    requires lines { first + length reads.now < 2 ^ 32 }
-    requires racks { All IsRackWithin reads.now }
-    ensures { IfOk result (λ ops. ops ≡ operations_after first [] reads.now) }
-{
-    let mut ops = PassOps::new(alloc);
-    let mut stretch = 0;
-    let mut rack = 0;
-    for (i, read) in reads.as_slice().iter().enumerate() {
-        let line = first + i as u32;
-        let op = operation_of(alloc, line, stretch, rack, read)?;
-        append(&mut ops, op)?;
-        stretch += stretches_ended(read);
-        rack = rack_behind(rack, read);
-    }
-    Ok(ops)
-}
-
-fn append(ops: &mut PassOps, op: Option<PassOp>) -> Result<(), NoMemory>
+// Appends the operation of a line, if it is one.
+pub(crate) fn append(ops: &mut PassOps, op: Option<PassOp>) -> Result<(), NoMemory>
     requires { length ops.old < 2 ^ 32 - 1 }
-    ensures { OnOk result (ops.new ≡ ops.old ++ option_to_list op) }
+    ensures ok { OnOk result (ops.new ≡ ops.old ++ option_to_list op) }
+    ensures err { OnErr result (ops.new ≡ ops.old) }
 {
     match op {
         Some(op) => ops.push(op),
@@ -64,7 +45,7 @@ fn append(ops: &mut PassOps, op: Option<PassOp>) -> Result<(), NoMemory>
 }
 
 // How many stretches end at this line.
-fn stretches_ended(read: &Read) -> u32
+pub(crate) fn stretches_ended(read: &Read) -> u32
     ensures { result ≡ (if ends_stretch read.now then 1 else 0) }
 {
     match read {
@@ -82,7 +63,7 @@ fn stretches_ended(read: &Read) -> u32
 }
 
 // The rack behind this line, in quarters.
-fn rack_behind(rack: i32, read: &Read) -> i32
+pub(crate) fn rack_behind(rack: i32, read: &Read) -> i32
     ensures { result ≡ rack_behind rack read.now }
 {
     match read {
@@ -91,7 +72,8 @@ fn rack_behind(rack: i32, read: &Read) -> i32
     }
 }
 
-fn operation_of(
+// The operation of a line, if it is one.
+pub(crate) fn operation_of(
     alloc: Global,
     line: u32,
     stretch: u32,

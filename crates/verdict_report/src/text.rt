@@ -21,8 +21,8 @@ fn append_name(c: CarrierNo, declared: &Declared, out: &mut Vec<u8>) -> Result<(
     Ok(())
 }
 
-// Appends a space and the name of each carrier.
-fn append_names(
+/// Appends a space and the name of each carrier.
+pub(crate) fn append_names(
     carriers: &[CarrierNo],
     declared: &Declared,
     out: &mut Vec<u8>,
@@ -73,8 +73,8 @@ pub(crate) fn append_labelled(label: &str, number: u64, out: &mut Vec<u8>) -> Re
     append_number(number, out)
 }
 
-// Appends in short what a sound program leaves.
-fn append_sound_brief(
+/// Appends in short what a sound program leaves.
+pub(crate) fn append_sound_brief(
     lines: u32,
     made: u32,
     held: u64,
@@ -99,8 +99,8 @@ fn append_rule(rule: Rule, out: &mut Vec<u8>) -> Result<(), NoMemory>
     Ok(())
 }
 
-// Appends in short which line breaks which rule, and where.
-fn append_broken_brief(fault: Fault, out: &mut Vec<u8>) -> Result<(), NoMemory>
+/// Appends in short which line breaks which rule, and where.
+pub(crate) fn append_broken_brief(fault: Fault, out: &mut Vec<u8>) -> Result<(), NoMemory>
     ensures { OnOk result (out.new.items ≡ out.old.items ++ broken_brief fault) }
 {
     append_labelled("broken line ", u64::from(fault.line), out)?;

@@ -1,0 +1,16 @@
+-- The lines of what is made of a made program.
+use Rattle.std.specs.Prelude.{ℕ, ◌++◌, codes}
+use Rattle.carriage_model.specs.declared.verdict.Verdict.{Verdict}
+use Rattle.carriage_model.specs.declared.verdict.Verdict.TheVariants.{Sound, Broken}
+use Rattle.verdict_report.specs.PassesText.{counts_text}
+use Rattle.verdict_report.specs.VerdictText.{Text, broken_brief, held_of, labelled, sound_brief}
+
+-- a verdict in short
+abbrev pub brief_text : Verdict → Text
+brief_text (Sound final) = sound_brief final.lines final.made (held_of final.stacks) final.rack.0
+brief_text (Broken fault) = broken_brief fault
+
+-- how many lines and blocks were made, the verdict in short, and how many passes, operations and windows there are
+abbrev pub made_text : ℕ → ℕ → Verdict → ℕ → ℕ → ℕ → Text
+made_text lines blocks verdict passes operations windows =
+    labelled (codes "maker lines ") lines ++ (labelled (codes " blocks ") blocks ++ (codes "\n" ++ (brief_text verdict ++ (codes "\n" ++ counts_text passes operations windows))))

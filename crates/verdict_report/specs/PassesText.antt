@@ -1,0 +1,72 @@
+-- The lines of the passes of a program.
+use Rattle.std.specs.Prelude.{ℕ, ℤ, int_lt, Option, None, Some, List, [], ◌∷◌, ◌++◌, length, flat_map, option_map, unwrap_or, slice_get, codes, if◌then◌else◌}
+use Rattle.knit_base.specs.Spelling.{dir_word}
+use Rattle.knit_base.specs.declared.needle.Dir.{Dir}
+use Rattle.knit_base.specs.declared.needle.Dir.TheVariants.{Right, Left}
+use Rattle.knit_base.specs.declared.yarns.CarrierNo.{CarrierNo}
+use Rattle.pass_grouping.specs.declared.operation.Class.{Class}
+use Rattle.pass_grouping.specs.declared.operation.Class.TheVariants.{Form, Split, Move, Drop}
+use Rattle.pass_grouping.specs.declared.operation.PassOp.{PassOp}
+use Rattle.pass_grouping.specs.declared.certificate.Window.{Window}
+use Rattle.pass_grouping.specs.Groupings.{passes_from}
+use Rattle.verdict_report.specs.VerdictText.{Text, labelled, names_text}
+
+-- the name of a class
+abbrev pub class_word : Class → Text
+class_word Form = codes "form"
+class_word Split = codes "split"
+class_word Move = codes "move"
+class_word Drop = codes "drop"
+
+-- the last of some operations, of which this is the first
+abbrev pub last_of : PassOp → List PassOp → PassOp
+last_of op [] = op
+last_of op (next ∷ more) = last_of next more
+
+-- the direction that is written, or else leftward where the last place lies left of the first
+abbrev pub way_of : Option Dir → ℤ → ℤ → Dir
+way_of (Some dir) first last = dir
+way_of None first last = if int_lt last first then Left else Right
+
+-- the carriers of a pass that uses some
+abbrev pub carriers_text : List Text → Class → List CarrierNo → Text
+carriers_text names Form cs = codes " with" ++ names_text names cs
+carriers_text names Split cs = codes " with" ++ names_text names cs
+carriers_text names Move cs = []
+carriers_text names Drop cs = []
+
+-- two lines, the first and the last of something
+abbrev pub range_text : Text → ℕ → ℕ → Text
+range_text label first last = labelled label first ++ labelled (codes "-") last
+
+-- the class and the direction of a pass with these ends
+abbrev pub kind_text : PassOp → PassOp → Text
+kind_text first last = codes " " ++ (class_word first.class ++ (codes " " ++ dir_word (way_of first.dir first.place last.place)))
+
+-- the line of a pass with these ends and so many operations
+abbrev pub ends_text : List Text → PassOp → PassOp → ℕ → Text
+ends_text names first last count =
+    range_text (codes "pass ") first.line last.line ++ (kind_text first last ++ (labelled (codes " ops ") count ++ (carriers_text names first.class first.yarns ++ codes "\n")))
+
+-- the line of a pass with these operations
+abbrev pub pass_text : List Text → List PassOp → Text
+pass_text names [] = []
+pass_text names (first ∷ more) = ends_text names first (last_of first more) (length (first ∷ more))
+
+-- the line of the operation at this place
+abbrev pub line_at : List PassOp → ℕ → ℕ
+line_at ops i = unwrap_or (option_map (λ (op : PassOp). op.line) (slice_get ops i)) 0
+
+-- the line of a window
+abbrev pub window_text : List PassOp → Window → Text
+window_text ops window = range_text (codes "window ") (line_at ops window.from) (line_at ops window.to) ++ codes "\n"
+
+-- how many passes, operations and windows there are, which were checked
+abbrev pub counts_text : ℕ → ℕ → ℕ → Text
+counts_text passes operations windows =
+    labelled (codes "passes ") passes ++ (labelled (codes " operations ") operations ++ (labelled (codes " windows ") windows ++ codes " checked\n"))
+
+-- the whole report: the counts, a line for each pass, and a line for each window
+abbrev pub passes_text : List Text → List PassOp → List ℕ → List Window → Text
+passes_text names ops starts windows =
+    counts_text (length starts) (length ops) (length windows) ++ (flat_map (pass_text names) (passes_from ops starts) ++ flat_map (window_text ops) windows)

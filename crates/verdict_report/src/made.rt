@@ -1,0 +1,49 @@
+//! What is made of a made program, in three lines.
+ghost use Rattle.std.specs.Prelude.{◌≡◌, ◌++◌, length, IfOk, OnOk};
+ghost use Rattle.verdict_report.specs.MadeText.{brief_text, made_text};
+
+use crate::passes::append_counts;
+use crate::text::{append_broken_brief, append_labelled, append_sound_brief, held};
+use carriage_model::Verdict;
+use knit_base::NoMemory;
+use pass_grouping::{Grouping, PassOps};
+use std::alloc::Global;
+
+// Appends a verdict in short.
+fn append_brief(verdict: &Verdict, out: &mut Vec<u8>) -> Result<(), NoMemory>
+    ensures { OnOk result (out.new.items ≡ out.old.items ++ brief_text verdict.now) }
+{
+    match verdict {
+        Verdict::Sound(sound) => append_sound_brief(
+            sound.lines,
+            sound.made,
+            held(sound.stacks.as_slice()),
+            sound.rack,
+            out,
+        ),
+        Verdict::Broken(fault) => append_broken_brief(*fault, out),
+    }
+}
+
+/// What is made of a made program of so many lines in so many blocks: their numbers, the verdict in short, and the numbers of its
+/// passes, operations and windows, a line each. Fails where memory runs out.
+pub fn made_of(
+    alloc: Global,
+    lines: u32,
+    blocks: u32,
+    verdict: &Verdict,
+    ops: &PassOps,
+    grouping: &Grouping,
+) -> Result<Vec<u8>, NoMemory>
+    ensures { IfOk result (λ text. text.items ≡ made_text lines blocks verdict.now
+        (length grouping.now.starts) (length ops.now) (length grouping.now.windows)) }
+{
+    let mut text = Vec::new(alloc);
+    append_labelled("maker lines ", u64::from(lines), &mut text)?;
+    append_labelled(" blocks ", u64::from(blocks), &mut text)?;
+    text.extend_from_slice(b"\n")?;
+    append_brief(verdict, &mut text)?;
+    text.extend_from_slice(b"\n")?;
+    append_counts(ops, grouping, &mut text)?;
+    Ok(text)
+}
