@@ -1,5 +1,5 @@
 -- Which run a carriage stands for that carried out some lines.
-use Rattle.std.specs.Prelude.{◌≡◌, ℕ, ◌+◌, Bool, List, ◌++◌, length, Option, None, Some, is_some}
+use Rattle.std.specs.Prelude.{◌≡◌, ℕ, ◌+◌, Bool, List, [], ◌∷◌, ◌++◌, length, Option, None, Some, is_some}
 use Rattle.std.specs.Option.{option_to_list}
 use Rattle.knit_base.specs.Limits.{IsLawfulProfile}
 use Rattle.knit_base.specs.declared.instr.Read.{Read}
@@ -51,6 +51,14 @@ pub record HasRun (profile : Profile) (with_loops : Bool) (first : ℕ) (reads :
 -- the carriage has carried out some lines
 abbrev pub IsRunning : Carriage → Type 0
 IsRunning carriage = (with_loops : Bool) × (first : ℕ) × (reads : List Read) × HasRun (profile_of carriage) with_loops first reads carriage
+
+-- whichever lines the carriage had carried out, it has now carried out this one behind them
+abbrev pub RanOn : Read → Carriage → Carriage → Type 0
+RanOn r old new = (profile : Profile) (with_loops : Bool) (first : ℕ) (reads : List Read) → HasRun profile with_loops first reads old → HasRun profile with_loops first (reads ++ r ∷ []) new
+
+-- whichever lines the carriage had carried out, these are the lines that it has carried out
+abbrev pub RunsAsBefore : Carriage → Carriage → Type 0
+RunsAsBefore old new = (profile : Profile) (with_loops : Bool) (first : ℕ) (reads : List Read) → HasRun profile with_loops first reads old → HasRun profile with_loops first reads new
 
 -- the verdict on a run of these lines, and the loops that they make where that is asked
 pub record TellsRun (profile : Profile) (with_loops : Bool) (first : ℕ) (reads : List Read) (verdict : Verdict) (loops : Option (List LoopFact)) : Type 0 where

@@ -4,7 +4,7 @@ ghost use Rattle.knit_base.specs.declared.instr.Read.{Read};
 ghost use Rattle.knit_base.specs.Lawful.{IsLawfulRead};
 ghost use Rattle.knit_base.specs.Limits.{IsLawfulProfile};
 ghost use Rattle.knit_base.specs.Usual.{usual_read};
-ghost use Rattle.carriage_model.specs.Carriage.{HasRun, IsRunning, TellsRun, WentOver, StandsStill, profile_of, line_count, next_line, is_stopped};
+ghost use Rattle.carriage_model.specs.Carriage.{HasRun, IsRunning, RanOn, RunsAsBefore, TellsRun, WentOver, StandsStill, profile_of, line_count, next_line, is_stopped};
 ghost use Rattle.carriage_model.specs.Machine.{HasNeedlesInLine, HasRoomInLine};
 
 use crate::facts::{loops_of, loops_of_usual};
@@ -97,12 +97,10 @@ impl Carriage {
             self.lines += 1;
             return Ok(true);
         }
-        if !self.machine.allows(&self.profile, usual) {
-            return Ok(false);
+        if self.loops.is_some() {
+            return self.carry_with_loop(usual);
         }
-        let line = self.first + self.lines;
-        self.go_over_usual(line, usual)?;
-        Ok(true)
+        self.carry_allowed(usual)
     }
 
     /// Whether a line broke a rule. Every later line is then passed over, whatever it says.
@@ -162,6 +160,40 @@ impl Carriage {
         self.made += loops_of(read);
         self.lines += 1;
         Ok(())
+    }
+
+    // The same where loops are kept. It stays out of the caller's loop, so that lines without loops to keep are carried out as
+    // if there were no such line.
+    #[inline(never)]
+    fn carry_with_loop(&mut self, usual: Usual) -> Result<bool, NoMemory>
+        requires running { IsRunning self.old }
+        requires lawful { (carriers : ℕ) × (carriers ≤ 64) × IsLawfulRead (profile_of self.old) carriers (usual_read usual) }
+        requires lines { next_line self.old + 1 < 2 ^ 32 }
+        requires going { is_stopped self.old ≡ false }
+        ensures over { IfOk result (λ over. over ≡ true → RanOn (usual_read usual) self.old self.new) }
+        ensures same { IfOk result (λ over. over ≡ false → self.new ≡ self.old) }
+        ensures err { OnErr result (RunsAsBefore self.old self.new) }
+    {
+        self.carry_allowed(usual)
+    }
+
+    // Carries out the next line, if it breaks no rule.
+    #[inline(always)]
+    fn carry_allowed(&mut self, usual: Usual) -> Result<bool, NoMemory>
+        requires running { IsRunning self.old }
+        requires lawful { (carriers : ℕ) × (carriers ≤ 64) × IsLawfulRead (profile_of self.old) carriers (usual_read usual) }
+        requires lines { next_line self.old + 1 < 2 ^ 32 }
+        requires going { is_stopped self.old ≡ false }
+        ensures over { IfOk result (λ over. over ≡ true → RanOn (usual_read usual) self.old self.new) }
+        ensures same { IfOk result (λ over. over ≡ false → self.new ≡ self.old) }
+        ensures err { OnErr result (RunsAsBefore self.old self.new) }
+    {
+        if !self.machine.allows(&self.profile, usual) {
+            return Ok(false);
+        }
+        let line = self.first + self.lines;
+        self.go_over_usual(line, usual)?;
+        Ok(true)
     }
 
     // Carries out a line that breaks no rule, if most lines say the like.
