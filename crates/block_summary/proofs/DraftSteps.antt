@@ -225,7 +225,8 @@ unfolding settled
 settled_more [] c q e = absurd (cc)
 settled_more (k ∷ ks) c q e = more_by (bearing k.ask q) (settled ks q) (settled (ks ++ c ∷ []) q) (settled_more ks c q) e
 
-held_more : (kept : List Asked) (c : Asked) (r : Answer) → against_kept kept r ≡ yes_it_does → against_kept (kept ++ c ∷ []) r ≡ yes_it_does
+-- a condition that is known to hold stays known
+pub held_more : (kept : List Asked) (c : Asked) (r : Answer) → against_kept kept r ≡ yes_it_does → against_kept (kept ++ c ∷ []) r ≡ yes_it_does
 held_more kept c yes_it_does e = refl
 held_more kept c no_it_does_not e = e
 held_more kept c (asks q) e = settled_more kept c q e

@@ -1,3 +1,4 @@
+pub mod AskedHold
 pub mod Blocks
 pub mod DraftSteps
 pub mod KeptConditions

@@ -279,7 +279,7 @@ slider_small None changes = tt
 slider_small (Some n) changes = size_small changes (bare_slider n) (omega arith)
 
 -- the conditions of a line and their end, as composition has them
-gathered : (old new : Summary) (all : List Asked) (stop : Option Reason) → HasAskedAll old new all stop → reads_after old all ≡ reads_or_stops stop new []
+pub gathered : (old new : Summary) (all : List Asked) (stop : Option Reason) → HasAskedAll old new all stop → reads_after old all ≡ reads_or_stops stop new []
 gathered old new all stop asked = ap (reads_after old) (sym (append-nil all)) ∙ asked.asked_are []
 
 -- A line that is known to stop.

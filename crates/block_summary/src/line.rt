@@ -1,23 +1,26 @@
 //! One line more of a block that is drafted.
-ghost use Rattle.std.specs.Prelude.{◌≡◌, ℕ, ◌+◌, ◌-◌, ◌<◌, ◌≤◌, ◌^◌, ◌++◌, List, [], ◌∷◌, All, Option, IfOk, IfSome, OnOk, map};
+ghost use Rattle.std.specs.Prelude.{◌≡◌, ℕ, ◌+◌, ◌-◌, ◌<◌, ◌≤◌, ◌^◌, ◌++◌, List, [], ◌∷◌, All, Option, MatchOption, false, length, IfOk, IfSome, OnOk, map};
 ghost use Rattle.std.specs.Option.{option_copied, option_map, option_to_list};
 ghost use Rattle.knit_base.specs.Lawful.{IsLawful, IsLawfulRead};
 ghost use Rattle.knit_base.specs.Limits.{IsLawfulProfile};
 ghost use Rattle.knit_base.specs.declared.instr.Read.TheVariants as read;
 ghost use Rattle.knit_base.specs.declared.instr.Instr.{Instr};
+ghost use Rattle.knit_base.specs.declared.instr.Instr.TheVariants.{Knit};
+ghost use Rattle.knit_base.specs.Needle.{is_slider, own_slider};
 ghost use Rattle.face_data.specs.declared.face.Seg.TheVariants.{New};
 ghost use Rattle.face_data.specs.Composition.{merged};
 ghost use Rattle.face_data.specs.Conditions.{unless};
+ghost use Rattle.face_data.specs.Conditions.Ask.{size_at_most};
 ghost use Rattle.face_data.specs.Segments.{segments_on};
 ghost use Rattle.face_data.specs.Sizes.{SizeRule, size_ask, size_asks};
 ghost use Rattle.block_summary.specs.Asks.{instr_ask};
-ghost use Rattle.block_summary.specs.DraftKnowledge.{CanBeAsked, HasAskedAll, IsSmall, written};
+ghost use Rattle.block_summary.specs.DraftKnowledge.{CanBeAsked, HasAskedAll, HoldsAfter, IsSmall, written};
 ghost use Rattle.block_summary.specs.LineEnds.{EndsAs, carried};
 ghost use Rattle.block_summary.specs.LineSummaries.{asked_by, asked_of_rack, asked_of_sizes, plainly_asked};
 
 use crate::{Draft, FormedLoop, InstrAsk, ask_instr};
 use face_data::{Cond, Seg, Segs, SizeAsk};
-use knit_base::{Fault, Instr, Needle, NoMemory, Profile, Quarter, Read, Reason};
+use knit_base::{Dir, Fault, Instr, Needle, NoMemory, Profile, Quarter, Read, Reason, Yarns};
 
 /// How a line ends that is read after others: the lines go on, with the loop that it forms, if it forms one, or they are known to
 /// stop at it.
@@ -46,7 +49,53 @@ impl Draft {
         }
     }
 
+    // A knit on a hook of which all is known is carried out at once.
     fn instr(&mut self, instr: &Instr, profile: &Profile) -> Result<LineEnd, NoMemory>
+        requires profile { IsLawfulProfile profile.now }
+        requires lawful { (carriers : ℕ) × (carriers ≤ 64) × IsLawful profile.now carriers instr.now }
+        requires few { self.old.lines < 2 ^ 32 - 1 }
+        ensures { IfOk result (EndsAs profile.now.hold (read.Instr instr.now) self.old self.new) }
+    {
+        match instr {
+            Instr::Knit(dir, n, yarns) => match self.usual_knit(*dir, *n, yarns)? {
+                Some(formed) => Ok(LineEnd::GoesOn(Some(formed))),
+                None => self.any_instr(instr, profile),
+            },
+            _ => self.any_instr(instr, profile),
+        }
+    }
+
+    // A knit that asks nothing new. `None` where it isn't known that it does, and then nothing was done.
+    fn usual_knit(
+        &mut self,
+        dir: Dir,
+        n: Needle,
+        yarns: &Yarns,
+    ) -> Result<Option<FormedLoop>, NoMemory>
+        requires hook { 1 ≤ length yarns.now → is_slider n.bed ≡ false }
+        requires few { self.old.lines < 2 ^ 32 - 1 }
+        ensures { IfOk result (λ formed. MatchOption formed (self.new ≡ self.old) (λ l. (hold : ℕ) → EndsAs hold (read.Instr (Knit dir n yarns.now)) self.old self.new (LineEnd.GoesOn (Some l)))) }
+    {
+        if yarns.len() == 0 {
+            return Ok(None);
+        }
+        if !self.is_bare(n) {
+            return Ok(None);
+        }
+        if !self.knows_in(yarns) {
+            return Ok(None);
+        }
+        let yarns = yarns.try_clone()?;
+        let through = self.knit(n)?;
+        Ok(Some(FormedLoop {
+            needle: n,
+            dir,
+            yarns,
+            through,
+        }))
+    }
+
+    fn any_instr(&mut self, instr: &Instr, profile: &Profile) -> Result<LineEnd, NoMemory>
         requires profile { IsLawfulProfile profile.now }
         requires lawful { (carriers : ℕ) × (carriers ≤ 64) × IsLawful profile.now carriers instr.now }
         requires few { self.old.lines < 2 ^ 32 - 1 }
@@ -56,9 +105,20 @@ impl Draft {
         match self.ask_all(&ask)? {
             Some(reason) => Ok(LineEnd::Stops(self.stop(reason))),
             None => {
+                self.note_slider(instr.forming_needle());
                 self.carry_out(&ask)?;
                 Ok(LineEnd::GoesOn(ask.formed))
             }
+        }
+    }
+
+    // Keeps in mind that the own slider of the needle on which a loop is formed is known to hold nothing.
+    fn note_slider(&mut self, on: Option<Needle>)
+        requires { IfSome on (λ n. HoldsAfter self.old (size_at_most (own_slider n ∷ []) 0)) }
+        ensures { self.new ≡ self.old }
+    {
+        if let Some(n) = on {
+            self.note_bare(n);
         }
     }
 
