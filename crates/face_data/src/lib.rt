@@ -4,21 +4,24 @@
 //! hold at entry so that they hold few enough now. `ShortList` is the list of an instruction's few conditions and changes: it
 //! promises that its first four items take no memory but its own. A `Digest` tells what conditions that are kept say of another
 //! one that isn't on sizes, `Effect::bearing_on` what a block says of one that is asked after it, and `Effect::then` puts two
-//! effects together.
+//! effects together. A `Face` owns the lists of a summary. `verdict_of` and `brief_of` tell the verdict on the lines of a good
+//! face, run from empty beds.
 //!
 //! Definitions: `specs/Segments` (what needles hold, in terms of the entry), `specs/Conditions`, `specs/Summaries` (what a
 //! block makes of a state), `specs/View` (a face's lists), `specs/Goodness` with `specs/Bearings` and `specs/Sets`, and
 //! `specs/Storage` (where a short list's items lie). Of two blocks, one after the other: `specs/Through` and `specs/Answers`
 //! (segments and conditions of the second in terms of the first one's entry) and `specs/Composition` (`composed`).
 //! `specs/Stands` says which lines a summary stands for, `specs/Drafts` makes it of single lines, `specs/Items` counts its items,
-//! and `specs/Digests` and `specs/Chains` find what is known of a condition without going through all that are kept.
+//! `specs/Digests` and `specs/Chains` find what is known of a condition without going through all that are kept, `specs/Verdicts`
+//! says what a summary tells of empty beds, and `specs/Spots` gives each needle a place in one row.
 //!
 //! Lemmas that the crates above cite: `proofs/Goodness` (two good summaries compose to a good one, which does what both do, one
 //! after the other), `proofs/Stands` (it stands for the lines of both), `proofs/Drafts`, `proofs/Items` (a good summary has at
 //! most so many items), `proofs/KnownAnswers` (digest and chains tell what is known while conditions are read), `proofs/Front`
-//! (nothing is left to ask), `proofs/ChangeEquality` (changes in order are known by what they say of each needle) and
-//! `proofs/Parts` (one more check or change behind a face's lists). Below this crate stand std, `knit_base` and
-//! `carriage_model`.
+//! (nothing is left to ask), `proofs/ChangeEquality` (changes in order are known by what they say of each needle),
+//! `proofs/Parts` (one more check or change behind a face's lists), `proofs/EmptyBeds` (the verdict is that on all lines that the
+//! summary stands for, and its loops can be counted in 32 bits), `proofs/FaceOffsets` and `proofs/NeedleSpots` (numbers of lines
+//! and of needles are small). Below this crate stand std, `knit_base` and `carriage_model`.
 #![tactic(auto)]
 
 mod bearing;

@@ -46,7 +46,7 @@ stops_among profile s k (r ∷ rs) =
     stops_on k (length rs) (length (r ∷ rs)) (broken profile r s) s (run profile (step k r s) (k + 1) rs) (omega arith) (stops_among profile (step k r s) (k + 1) rs)
 
 -- the rows of lines before one of this number
-abbrev rows_to : ℕ → ℕ → List LoopRow → List LoopRow
+abbrev pub rows_to : ℕ → ℕ → List LoopRow → List LoopRow
 rows_to first line rows = filter (λ (row : LoopRow). nat_lt (first + row.offset) line) rows
 
 -- all rows are of lines before the one behind them
@@ -118,7 +118,8 @@ row_within lines row here = record {
   earlier = subst (λ n. All (IsOfEarlier n) row.through) (sym here.at) here.earlier;
 }
 
-within_wider : (lines more : ℕ) (row : LoopRow) → lines ≤ more → IsRowOf lines row → IsRowOf more row
+-- a row of some lines is one of these and others
+pub within_wider : (lines more : ℕ) (row : LoopRow) → lines ≤ more → IsRowOf lines row → IsRowOf more row
 within_wider lines more row wider here = record { within = omega (arith, here.within); earlier = here.earlier }
 
 row_placed : (lines : ℕ) (row : Option LoopRow) → IfSome row (IsRowAt lines) → IfSome row (λ (x : LoopRow). x.offset ≡ lines)

@@ -5,7 +5,8 @@ use Rattle.carriage_model.specs.declared.verdict.LoopFact.{LoopFact}
 use Rattle.carriage_model.specs.Run.{Ended}
 use Rattle.carriage_model.specs.Run.Ended.{Ends, Stops}
 use Rattle.carriage_model.specs.State.{State}
-use Rattle.face_data.specs.Segments.{read_segs}
+use Rattle.face_data.specs.Segments.{Changed, read_segs}
+use Rattle.face_data.specs.Through.{through}
 use Rattle.loop_history.specs.declared.row.LoopRow.{LoopRow}
 
 -- the loop of a row, in a block that was entered in state s at line `first`
@@ -29,3 +30,7 @@ OffsetsRise rows = AllPairs (λ (earlier later : LoopRow). earlier.offset < late
 pub record IsTable (rows : List LoopRow) : Type 0 where
   pub few : length rows ≤ 4096
   pub rising : OffsetsRise rows
+
+-- a row of a second text, told from the entry of a first one that makes these changes and has so many lines
+abbrev pub row_through : List Changed → ℕ → LoopRow → LoopRow
+row_through changes lines row = record row { offset = lines + row.offset; through = through changes lines row.through }

@@ -4,7 +4,7 @@ use Rattle.std.proofs.lemmas.Int.{ints}
 use Rattle.std.specs.Prelude.{◌≤ℤ◌}
 use Rattle.std.specs.List.{Contains}
 use Rattle.std.proofs.lemmas.Bool.{true≢false}
-use Rattle.std.proofs.lemmas.List.Elements.{All-nil}
+use Rattle.std.proofs.lemmas.List.Elements.{All-cons, All-nil}
 use Rattle.knit_base.specs.declared.instr.Instr.TheVariants.{Xfer}
 use Rattle.knit_base.specs.declared.instr.Read.TheVariants as read
 use Rattle.knit_base.specs.declared.needle.Bed.TheVariants.{Front, Back}
@@ -17,7 +17,8 @@ use Rattle.knit_base.specs.declared.rule.Rule.TheVariants.{NotAligned, TooManyLo
 use Rattle.knit_base.specs.Needle.{rack_facing}
 use Rattle.face_data.specs.Bearings.{bearing}
 use Rattle.face_data.specs.Conditions.Ask.{rack_is, size_at_most}
-use Rattle.face_data.specs.Goodness.{IsFair, IsGood, IsIrredundant}
+use Rattle.face_data.specs.Goodness.{IsFair, IsGood, IsGoodFace, IsIrredundant}
+use Rattle.face_data.specs.Spots.{IsNumbered}
 use Rattle.face_data.specs.Summaries.{Asked}
 use Rattle.face_data.proofs.Members.{Contains-none, Contains-cons_cases}
 use Rattle.block_summary.specs.LineSummaries.{asked_by, line_summary}
@@ -72,3 +73,14 @@ irredundant n m =
 -- The summary of a transfer is good.
 pub transfer_good : (n m : ℕ) → n ≤ 8 → m ≤ 8 → IsGood 0 16 (front n ∷ back m ∷ []) (line_summary 16 (read.Instr (Xfer (front n) (back m))))
 transfer_good n m small few = record { fair = fair n m small few; irredundant = irredundant n m }
+
+-- The face of `xfer f1 b1` is good.
+pub transfer_face : IsGoodFace (line_summary 16 (read.Instr (Xfer (front 1) (back 1))))
+transfer_face = record {
+  carriers = 0;
+  limit = 16;
+  known = front 1 ∷ back 1 ∷ [];
+  few_loops = omega arith;
+  numbers = All-cons IsNumbered (front 1) (back 1 ∷ []) (omega arith) (All-cons IsNumbered (back 1) [] (omega arith) (All-nil IsNumbered));
+  good = transfer_good 1 1 (omega arith) (omega arith);
+}
