@@ -10,7 +10,11 @@ abbrev pub brief_text : Verdict → Text
 brief_text (Sound final) = sound_brief final.lines final.made (held_of final.stacks) final.rack.0
 brief_text (Broken fault) = broken_brief fault
 
--- how many lines and blocks were made, the verdict in short, and how many passes, operations and windows there are
+-- how many lines and blocks were made
+abbrev pub sizes_text : ℕ → ℕ → Text
+sizes_text lines blocks = labelled (codes "maker lines ") lines ++ (labelled (codes " blocks ") blocks ++ codes "\n")
+
+-- the sizes, the verdict in short, and how many passes, operations and windows there are
 abbrev pub made_text : ℕ → ℕ → Verdict → ℕ → ℕ → ℕ → Text
 made_text lines blocks verdict passes operations windows =
-    labelled (codes "maker lines ") lines ++ (labelled (codes " blocks ") blocks ++ (codes "\n" ++ (brief_text verdict ++ (codes "\n" ++ counts_text passes operations windows))))
+    sizes_text lines blocks ++ (brief_text verdict ++ (codes "\n" ++ counts_text passes operations windows))

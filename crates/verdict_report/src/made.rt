@@ -1,6 +1,6 @@
 //! What is made of a made program, in three lines.
 ghost use Rattle.std.specs.Prelude.{◌≡◌, ◌++◌, length, IfOk, OnOk};
-ghost use Rattle.verdict_report.specs.MadeText.{brief_text, made_text};
+ghost use Rattle.verdict_report.specs.MadeText.{brief_text, made_text, sizes_text};
 
 use crate::passes::append_counts;
 use crate::text::{append_broken_brief, append_labelled, append_sound_brief, held};
@@ -8,6 +8,16 @@ use carriage_model::Verdict;
 use knit_base::NoMemory;
 use pass_grouping::{Grouping, PassOps};
 use std::alloc::Global;
+
+// Appends how many lines and blocks were made.
+fn append_sizes(lines: u32, blocks: u32, out: &mut Vec<u8>) -> Result<(), NoMemory>
+    ensures { OnOk result (out.new.items ≡ out.old.items ++ sizes_text lines blocks) }
+{
+    append_labelled("maker lines ", u64::from(lines), out)?;
+    append_labelled(" blocks ", u64::from(blocks), out)?;
+    out.extend_from_slice(b"\n")?;
+    Ok(())
+}
 
 // Appends a verdict in short.
 fn append_brief(verdict: &Verdict, out: &mut Vec<u8>) -> Result<(), NoMemory>
@@ -39,11 +49,14 @@ pub fn made_of(
         (length grouping.now.starts) (length ops.now) (length grouping.now.windows)) }
 {
     let mut text = Vec::new(alloc);
-    append_labelled("maker lines ", u64::from(lines), &mut text)?;
-    append_labelled(" blocks ", u64::from(blocks), &mut text)?;
-    text.extend_from_slice(b"\n")?;
+    append_sizes(lines, blocks, &mut text)?;
     append_brief(verdict, &mut text)?;
     text.extend_from_slice(b"\n")?;
-    append_counts(ops, grouping, &mut text)?;
+    append_counts(
+        grouping.starts.len(),
+        ops.len(),
+        grouping.windows.len(),
+        &mut text,
+    )?;
     Ok(text)
 }

@@ -162,15 +162,16 @@ fn append_windows(
 
 /// Appends how many passes, operations and windows there are.
 pub(crate) fn append_counts(
-    ops: &PassOps,
-    grouping: &Grouping,
+    passes: u32,
+    operations: u32,
+    windows: u32,
     out: &mut Vec<u8>,
 ) -> Result<(), NoMemory>
-    ensures { OnOk result (out.new.items ≡ out.old.items ++ counts_text (length grouping.now.starts) (length ops.now) (length grouping.now.windows)) }
+    ensures { OnOk result (out.new.items ≡ out.old.items ++ counts_text passes operations windows) }
 {
-    append_labelled("passes ", u64::from(grouping.starts.len()), out)?;
-    append_labelled(" operations ", u64::from(ops.len()), out)?;
-    append_labelled(" windows ", u64::from(grouping.windows.len()), out)?;
+    append_labelled("passes ", u64::from(passes), out)?;
+    append_labelled(" operations ", u64::from(operations), out)?;
+    append_labelled(" windows ", u64::from(windows), out)?;
     out.extend_from_slice(b" checked\n")?;
     Ok(())
 }
@@ -207,8 +208,9 @@ pub fn passes_of(
     ensures { IfOk result (λ text. text.items ≡ passes_text declared.now ops.now grouping.now.starts grouping.now.windows) }
 {
     let mut text = Vec::new(alloc);
-    append_counts(ops, grouping, &mut text)?;
-    append_passes(ops, grouping.starts.as_slice(), declared, &mut text)?;
-    append_windows(ops, grouping.windows.as_slice(), &mut text)?;
+    let Grouping { starts, windows } = grouping;
+    append_counts(starts.len(), ops.len(), windows.len(), &mut text)?;
+    append_passes(ops, starts.as_slice(), declared, &mut text)?;
+    append_windows(ops, windows.as_slice(), &mut text)?;
     Ok(text)
 }
