@@ -1,19 +1,20 @@
 #!/usr/bin/env python3
 """Findings, canonical texts and pictures of knitout files, by the checker check_main.
 
-    tekhvumo [check] [options] FILE..         a line for each finding: FILE:LINE:COLUMN: error: RULE: what is wrong; its cure
+    tekhvumo [check] [options] FILE..         findings, as FILE:LINE:COLUMN: error: RULE: what is wrong; its cure
     tekhvumo fmt [--check] [options] FILE..   the canonical text, in place
     tekhvumo draw [options] FILE > FILE.svg   a picture of the loops
 
-FILE is - for standard input. Lines count from 1, and so do columns, which count characters. All that is said of a program's run
-comes from check_main: a hint from its answer to the lines above the broken one, and a cure is offered only where check_main was
-asked about it, too. Python 3.9 on, the standard library alone.
+FILE is - for standard input. Lines count from 1, and so do columns, which count characters. All that is said of a
+program's run comes from check_main: a hint from its answer to the lines above the broken one, and lines that cure are
+offered only where check_main takes them. Python 3.9 on, the standard library alone.
 """
 from __future__ import annotations
 
 import argparse
 import difflib
 import errno
+import io
 import json
 import os
 import re
@@ -22,7 +23,7 @@ import subprocess
 import sys
 import tempfile
 from concurrent.futures import ThreadPoolExecutor
-from dataclasses import asdict, dataclass, replace
+from dataclasses import asdict, dataclass
 from fractions import Fraction
 from functools import cached_property
 from html import escape
@@ -207,27 +208,22 @@ class Source:
 # ---------------------------------------------------------------- check_main and its answers
 
 
-@dataclass(frozen=True)
 class Limits:
-    """The options of check_main; what isn't given is its own default."""
+    """The options of check_main that are given, and its defaults where a hint names a limit."""
 
-    low: Optional[int] = None
-    high: Optional[int] = None
-    rack: Optional[int] = None
-    hold: Optional[int] = None
-    block: Optional[int] = None
+    DEFAULTS = {"low": -1024, "high": 1023, "rack": 8, "hold": 16}
 
-    def words(self, names: Iterable[str]) -> list[str]:
-        return [f"--{name}={value}" for name in names if (value := getattr(self, name)) is not None]
+    def __init__(self, given: dict[str, int]) -> None:
+        self.given = given
+        self.low, self.high, self.rack, self.hold = ({**self.DEFAULTS, **given}[name] for name in self.DEFAULTS)
 
-    def filled(self) -> Limits:
-        """With the defaults in the place of what isn't given, to be said in hints."""
-        defaults = {"low": -1024, "high": 1023, "rack": 8, "hold": 16}
-        return replace(self, **{name: value for name, value in defaults.items() if getattr(self, name) is None})
+    def words(self, *more: str) -> list[str]:
+        """The words of the limits that are given, and of other options if they are."""
+        return [f"--{name}={self.given[name]}" for name in (*self.DEFAULTS, *more) if name in self.given]
 
 
 class Loop(NamedTuple):
-    """A loop that was made: its line, needle, direction (+ or -), yarns, and the lines of the loops it was pulled through."""
+    """A loop that was made, its direction as + or -, with the lines of the loops that it was pulled through."""
 
     line: int
     needle: Needle
@@ -248,7 +244,9 @@ class Answer:
     def loops(self) -> list[Loop]:
         """The loops made, in the order of lines; those that were asked for."""
         made = self.verdict.get("made_loops", [])
-        return [Loop(it["line"], named(it["needle"]), it["dir"], tuple(it["yarns"]), tuple(it["through"])) for it in made]
+        return [
+            Loop(it["line"], named(it["needle"]), it["dir"], tuple(it["yarns"]), tuple(it["through"])) for it in made
+        ]
 
 
 def named(spelled: str) -> Needle:
@@ -301,15 +299,18 @@ class Program:
 
     def check(self, text: bytes, loops: bool = False) -> Answer:
         """The verdict on a text, or why it is refused."""
-        words = ["check", "--json", *(["--loops"] if loops else []), *self.limits.words(["low", "high", "rack", "hold", "block"])]
+        words = ["check", "--json", *(["--loops"] if loops else []), *self.limits.words("block")]
         status, output = self.ask(words, text)
-        if status in (0, BROKEN):
+        if status not in (0, BROKEN):
+            return Answer(status, {}, output.decode(errors="replace").strip())
+        try:
             return Answer(status, json.loads(output), "")
-        return Answer(status, {}, output.decode(errors="replace").strip())
+        except ValueError as trouble:
+            raise SetupFault(f"{self.path} isn't check_main: it wrote no JSON") from trouble
 
     def canonical(self, text: bytes) -> tuple[int, bytes]:
         """The status, and the canonical text or the words with which the text is refused."""
-        return self.ask(["text", *self.limits.words(["low", "high", "rack", "hold"])], text)
+        return self.ask(["text", *self.limits.words()], text)
 
     def state_above(self, source: Source, number: int) -> State:
         """The machine as the lines above one leave it."""
@@ -360,7 +361,7 @@ class Broken:
     """A broken line, as a hint sees it: its tokens, the one that breaks the rule, and the machine above the line."""
 
     def __init__(self, program: Program, source: Source, number: int, at: int) -> None:
-        self.limits = program.limits.filled()
+        self.limits = program.limits
         self.declared = source.declared
         self.text = source.line(number)
         self.tokens = source.tokens(number)
@@ -425,13 +426,19 @@ def off_bed(broken: Broken) -> Hint:
     limits, number = broken.limits, broken.needle.number
     what = f"{broken.name} lies beyond the bed, whose needles go from {limits.low} to {limits.high}"
     option = f"--high {number}" if number > limits.high else f"--low={number}"
-    return Hint(what, f"another needle, or `{option}` where the machine has it" if abs(number) <= 4096 else "another needle")
+    return Hint(
+        what, f"another needle, or `{option}` where the machine has it" if abs(number) <= 4096 else "another needle"
+    )
 
 
 @hints("SliderForm", "A loop would be formed on a slider.")
 def slider_form(broken: Broken) -> Hint:
     hook = str(broken.needle.hook)
-    return Hint(f"{broken.name} is a slider, which has no hook to form a loop with", f"form it on {hook}", broken.with_token(hook))
+    return Hint(
+        f"{broken.name} is a slider, which has no hook to form a loop with",
+        f"form it on {hook}",
+        broken.with_token(hook),
+    )
 
 
 @hints("SameBed", "A loop would go over to the bed that it is on.")
@@ -441,13 +448,19 @@ def same_bed(broken: Broken) -> Hint:
     what = f"{first} and {second} lie on the same bed, and loops go over to the other"
     if facing is None:
         return Hint(what, f"at rack {broken.state.spelled_rack} no needle faces {first}")
-    return Hint(what, f"at rack {broken.state.spelled_rack} it is {facing} that faces {first}", broken.with_token(str(facing)))
+    return Hint(
+        what, f"at rack {broken.state.spelled_rack} it is {facing} that faces {first}", broken.with_token(str(facing))
+    )
 
 
 @hints("TwoSliders", "A loop would go from a slider to a slider.")
 def two_sliders(broken: Broken) -> Hint:
     first, second = broken.pair()
-    return Hint(f"{first} and {second} are both sliders, and one has to be a hook", f"name {second.hook}", broken.with_token(str(second.hook)))
+    return Hint(
+        f"{first} and {second} are both sliders, and one has to be a hook",
+        f"name {second.hook}",
+        broken.with_token(str(second.hook)),
+    )
 
 
 @hints("NoCarrier", "A carrier isn't declared in the header.")
@@ -499,13 +512,17 @@ def carrier_is_in(broken: Broken) -> Hint:
     if set(state.hook) & set(broken.carriers()):
         lines.insert(0, f"releasehook {' '.join(state.hook)}")
     said = " and ".join(f"`{shown(line)}`" for line in lines)
-    return Hint(f"carrier {broken.name} is in already", f"leave it out here, or {said} above this line", broken.below(*lines))
+    return Hint(
+        f"carrier {broken.name} is in already", f"leave it out here, or {said} above this line", broken.below(*lines)
+    )
 
 
 @hints("HookBusy", "The hook would take a yarn while it holds one.")
 def hook_busy(broken: Broken) -> Hint:
     line = f"releasehook {' '.join(broken.state.hook)}"
-    return Hint(f"the hook still holds {listed(broken.state.hook)}", f"`{shown(line)}` above this line", broken.below(line))
+    return Hint(
+        f"the hook still holds {listed(broken.state.hook)}", f"`{shown(line)}` above this line", broken.below(line)
+    )
 
 
 @hints("HookOther", "The hook would let go of other yarns than it holds.")
@@ -520,7 +537,9 @@ def hook_other(broken: Broken) -> Hint:
 @hints("CarrierHooked", "A carrier would go out while the hook holds its yarn.")
 def carrier_hooked(broken: Broken) -> Hint:
     line = f"releasehook {' '.join(broken.state.hook)}"
-    return Hint(f"the hook still holds {listed(broken.state.hook)}", f"`{shown(line)}` above this line", broken.below(line))
+    return Hint(
+        f"the hook still holds {listed(broken.state.hook)}", f"`{shown(line)}` above this line", broken.below(line)
+    )
 
 
 @hints("NotAligned", "A loop would go over to a needle that doesn't face its own.")
@@ -554,7 +573,12 @@ def too_many_loops(broken: Broken) -> Hint:
     counts = [len(broken.state.on(needle)) for needle in needles]
     total = sum(counts) if len(needles) == 2 else counts[0] + 1
     what = f"{needles[-1]} would hold {total} loops, and a needle holds {limit}"
-    return Hint(what, f"knit them off first, or `--hold {total}` where the machine bears it" if total <= 64 else "knit them off first")
+    return Hint(
+        what,
+        f"knit them off first, or `--hold {total}` where the machine bears it"
+        if total <= 64
+        else "knit them off first",
+    )
 
 
 def cured(program: Program, source: Source, number: int, rule: str, instead: tuple[str, ...]) -> bool:
@@ -571,11 +595,13 @@ def broken_rule(program: Program, source: Source, verdict: dict[str, Any]) -> Fi
     hint = HINTS[rule](broken) if rule in HINTS else Hint("the line breaks this rule")
     if hint.instead is not None and not cured(program, source, number, rule, hint.instead):
         hint = Hint(hint.what)
-    return Finding(source.name, number, broken.culprit.column, broken.culprit.end, "error", rule, hint.message, hint.instead)
+    return Finding(
+        source.name, number, broken.culprit.column, broken.culprit.end, "error", rule, hint.message, hint.instead
+    )
 
 
 # ---------------------------------------------------------------- refusals
-REFUSALS = {
+OF_FILES = {
     "BadMagic": "The first line isn't `;!knitout-2`.",
     "NoCarriers": "The head declares no carriers.",
     "TwoCarriers": "The head declares its carriers twice.",
@@ -588,8 +614,10 @@ REFUSALS = {
     "WriteFault": "The file can't be written.",
     "NoMemory": "Memory ran out.",
     "NoAnswer": "check_main ended without an answer.",
+    "ReadsOtherwise": "The canonical text would read otherwise than the file, so it isn't written.",
+    "NotCanonical": "The file isn't its canonical text.",
 }
-SUMMARIES.update(REFUSALS)
+SUMMARIES.update(OF_FILES)
 
 
 def bad_magic(source: Source) -> str:
@@ -629,19 +657,16 @@ def place_of_refusal(source: Source, cause: str, number: int) -> Token:
     return Token("", 1, 2)
 
 
-def message_of_refusal(source: Source, cause: str, token: Token) -> str:
-    messages = {
-        "BadMagic": lambda: bad_magic(source),
-        "NoCarriers": lambda: no_carriers(source),
-        "TwoCarriers": lambda: "the head has a `;;Carriers:` above this one; write all names into one",
-        "CarrierNameTwice": lambda: f"{shown(token.text)} is declared already; leave it out here",
-        "ManyCarriers": lambda: f"{shown(token.text)} is one name too many; at most {MOST_CARRIERS} may be declared",
-        "NotUtf8": lambda: f"the byte {token.text} is no text here; save the file as UTF-8",
-        "LineLong": lambda: f"the line goes on behind {MOST_LINE_BYTES} bytes; cut its comment, or the line in two",
-    }
-    return messages[cause]()
-
-
+# What is said of a text that check_main refuses for a cause at a token.
+REFUSED: dict[str, Callable[[Source, Token], str]] = {
+    "BadMagic": lambda source, token: bad_magic(source),
+    "NoCarriers": lambda source, token: no_carriers(source),
+    "TwoCarriers": lambda source, token: "the head has a `;;Carriers:` above this one; write all names into one",
+    "CarrierNameTwice": lambda source, token: f"{shown(token.text)} is declared already; leave it out here",
+    "ManyCarriers": lambda source, token: f"{shown(token.text)} is one name too many; there may be {MOST_CARRIERS}",
+    "NotUtf8": lambda source, token: f"the byte {token.text} is no text here; save the file as UTF-8",
+    "LineLong": lambda source, token: f"the line goes on behind {MOST_LINE_BYTES} bytes; cut its comment, or the line",
+}
 TOO_MANY = {
     "too large: bytes": f"the file has more than {MOST_BYTES} bytes",
     "too large: lines": "the file has more lines below its head than check_main takes",
@@ -652,10 +677,10 @@ TOO_MANY = {
 def refusal(source: Source, status: int, words: str) -> Finding:
     """The finding of a text that check_main refuses, from its own words."""
     found = re.fullmatch(r"bad input: (?:head )?(?:line ([0-9]+) )?([A-Za-z0-9]+)", words)
-    if found and found[2] in REFUSALS:
+    if found and found[2] in REFUSED:
         number, cause = int(found[1] or 1), found[2]
         token = place_of_refusal(source, cause, number)
-        message = message_of_refusal(source, cause, token)
+        message = REFUSED[cause](source, token)
         return Finding(source.name, number, token.column, token.end, "error", cause, message)
     if status == TOO_LARGE:
         return fault(source.name, "TooLarge", TOO_MANY.get(words, shown(words)))
@@ -766,7 +791,9 @@ def warnings(program: Program, source: Source, answer: Answer, ignored: frozense
     if answer.status == 0:
         found += left_at_end(source, State(answer.verdict))
     found = sorted((it for it in found if it.rule not in ignored), key=lambda it: (it.line, it.token.column))
-    return [Finding(source.name, it.line, it.token.column, it.token.end, "warning", it.rule, it.message) for it in found]
+    return [
+        Finding(source.name, it.line, it.token.column, it.token.end, "warning", it.rule, it.message) for it in found
+    ]
 
 
 # ---------------------------------------------------------------- formats
@@ -805,7 +832,13 @@ def as_sarif(findings: Sequence[Finding]) -> str:
         uri = Path(path).as_uri() if os.path.isabs(path) else quote(os.fsencode(path))
         region = {"startLine": it.line, "startColumn": it.column, "endColumn": it.end_column}
         place = {"physicalLocation": {"artifactLocation": {"uri": uri}, "region": region}}
-        return {"ruleId": it.rule, "ruleIndex": names.index(it.rule), "level": it.level, "message": {"text": it.message}, "locations": [place]}
+        return {
+            "ruleId": it.rule,
+            "ruleIndex": names.index(it.rule),
+            "level": it.level,
+            "message": {"text": it.message},
+            "locations": [place],
+        }
 
     driver = {"name": "tekhvumo", "rules": rules}
     run = {"tool": {"driver": driver}, "columnKind": "unicodeCodePoints", "results": [result(it) for it in findings]}
@@ -813,7 +846,12 @@ def as_sarif(findings: Sequence[Finding]) -> str:
     return json.dumps({"$schema": schema, "version": "2.1.0", "runs": [run]}, indent=1) + "\n"
 
 
-FORMATS: dict[str, Callable[[Sequence[Finding]], str]] = {"text": as_text, "json": as_json, "github": as_github, "sarif": as_sarif}
+FORMATS: dict[str, Callable[[Sequence[Finding]], str]] = {
+    "text": as_text,
+    "json": as_json,
+    "github": as_github,
+    "sarif": as_sarif,
+}
 
 
 # ---------------------------------------------------------------- files
@@ -827,7 +865,7 @@ class Report(NamedTuple):
 
 
 def read_file(path: str, name: str) -> Source:
-    """The bytes of a file or of standard input, at most one more than check_main takes; OSError where they can't be read."""
+    """The bytes of a file or of standard input, as many as tell whether check_main takes them; or OSError."""
     if path == "-":
         return Source(name, sys.stdin.buffer.read(MOST_BYTES + 1))
     with open(path, "rb") as file:
@@ -841,7 +879,7 @@ def unreadable_file(path: str, trouble: OSError) -> Report:
 def judged(program: Program, source: Source, warned: bool, ignored: frozenset[str]) -> Report:
     """The verdict on a text as findings, warnings first where they stand above."""
     answer = program.check(source.data, loops=warned and "EmptyNeedle" not in ignored)
-    if answer.refusal or not answer.verdict:
+    if not answer.verdict:
         return Report([refusal(source, answer.status, answer.refusal)], answer.status)
     findings = warnings(program, source, answer, ignored) if warned else []
     if answer.status:
@@ -850,7 +888,7 @@ def judged(program: Program, source: Source, warned: bool, ignored: frozenset[st
 
 
 def each_file(paths: Sequence[str], jobs: int, work: Callable[[str], Report]) -> Iterator[Report]:
-    """The reports of files in their order, `jobs` of them worked on at a time; with a line of progress on a terminal."""
+    """The reports of files in their order, `jobs` of them worked on at a time; a terminal is told how many are done."""
     progress = sys.stderr.isatty() and len(paths) > MANY_FILES
 
     def safely(path: str) -> Report:
@@ -862,7 +900,8 @@ def each_file(paths: Sequence[str], jobs: int, work: Callable[[str], Report]) ->
     with ThreadPoolExecutor(jobs) as pool:
         for count, report in enumerate(pool.map(safely, paths), 1):
             if progress:
-                print(f"\r{count}/{len(paths)} files", end="" if count < len(paths) else "\r\x1b[K", file=sys.stderr, flush=True)
+                end = "" if count < len(paths) else "\r\x1b[K"
+                print(f"\r{count}/{len(paths)} files", end=end, file=sys.stderr, flush=True)
             yield report
 
 
@@ -872,24 +911,23 @@ def each_file(paths: Sequence[str], jobs: int, work: Callable[[str], Report]) ->
 def first_difference(old: Source, new: Source) -> int:
     """The first line in which two texts differ."""
     pairs = zip(old.pieces, new.pieces)
-    return next((number for number, (one, other) in enumerate(pairs, 1) if one != other), min(len(old.pieces), len(new.pieces)))
+    differing = (number for number, (one, other) in enumerate(pairs, 1) if one != other)
+    return next(differing, min(len(old.pieces), len(new.pieces)))
 
 
 def reads_otherwise(program: Program, old: Source, new: Source) -> Optional[Finding]:
     """Where the canonical text of a text would read otherwise than it does, and why; None where it doesn't."""
     if new.head_length != old.head_length:
-        message = "written without its blanks this comment belongs to the head; take them away by hand, or move it below an instruction"
+        message = (
+            "without the blanks before it this comment belongs to the head; take them away, or move it down, by hand"
+        )
         return Finding(old.name, old.head_length + 1, 1, 2, "error", "ReadsOtherwise", message)
     status, again = program.canonical(new.data)
     if status or again != new.data:
         number = first_difference(new, Source("", again))
-        message = "the line has several carriage returns at its end, and would read otherwise with one; remove them by hand"
+        message = "the line ends with several carriage returns, and each writing would drop one; remove them by hand"
         return Finding(old.name, number, 1, 2, "error", "ReadsOtherwise", message)
     return None
-
-
-SUMMARIES["ReadsOtherwise"] = "The canonical text would read otherwise than the file, so it isn't written."
-SUMMARIES["NotCanonical"] = "The file isn't its canonical text."
 
 
 def canonical_text(program: Program, source: Source) -> tuple[Source, Report]:
@@ -941,12 +979,16 @@ def formatted(program: Program, path: str, name: str, only_check: bool) -> Repor
     except OSError as trouble:
         return Report([fault(path, "WriteFault", f"{trouble.strerror}; the file is as it was")], WRITE_FAULT)
     return report
+
+
 # ---------------------------------------------------------------- pictures
 
-# Pixels: a needle's width, a course's height, and where both begin. Then needles.
-SLOT, ROW, LEFT, TOP = 20, 17, 96, 92
+# Pixels: a needle's width, a course's height, and where needles begin.
+SLOT, ROW, LEFT = 20, 17, 96
+# Needles: one this far from all others isn't drawn.
 FAR = 40
 COLOURS = ["#0072b2", "#d55e00", "#009e73", "#cc79a7", "#b8860b", "#56b4e9", "#7b4fa3", "#8c5a3c", "#555555", "#a3a500"]
+BEDS = {"b": "back", "bs": "back sliders", "fs": "front sliders", "f": "front"}
 
 # The shapes of loops, drawn from their middle.
 FRONT = "m-6-6c1 5 4 8 6 12c2-4 5-7 6-12"
@@ -954,11 +996,19 @@ BACK = "m-6 3c2-6 10-6 12 0"
 FRONT_TUCK = "m-5 5l5-9l5 9"
 BACK_TUCK = "m-5 4l5-8l5 8z"
 
-STYLE = (
-    "text{font:11px sans-serif;fill:#333}.small{font-size:9px;fill:#666}.loop{fill:none;stroke-width:3;stroke-linecap:round;stroke-linejoin:round}"
-    ".tuck{stroke-width:2}.yarn{fill:none;stroke-width:1.2;stroke-opacity:.45}.parents{fill:none;stroke:#999;stroke-width:1}"
-    ".bed{stroke:#bbb;stroke-width:1}.wrong{fill:none;stroke:#d00000;stroke-width:2}.error{fill:#d00000}"
-)
+STYLE = """
+text { font: 11px sans-serif; fill: #333 }
+.small { font-size: 9px; fill: #666 }
+.count { font-size: 9px; fill: #fff; text-anchor: middle }
+.number { font-size: 9px; fill: #666; text-anchor: middle }
+.error { fill: #d00000 }
+.loop { fill: none; stroke-width: 3; stroke-linecap: round; stroke-linejoin: round }
+.tuck { stroke-width: 2 }
+.yarn { fill: none; stroke-width: 1.2; stroke-opacity: .45 }
+.parents { fill: none; stroke: #999 }
+.bed { stroke: #bbb }
+.wrong { fill: none; stroke: #d00000; stroke-width: 2 }
+"""
 
 
 def xml(text: str) -> str:
@@ -966,8 +1016,17 @@ def xml(text: str) -> str:
     return escape("".join(it if it.isprintable() else "\ufffd" for it in text))
 
 
+def element(tag: str, kind: str = "", inner: str = "", title: str = "", **values: Any) -> str:
+    """An element of SVG, of a class, with a title that is shown when the pointer rests on it."""
+    numbers = {name: f"{value:g}" if isinstance(value, float) else value for name, value in values.items()}
+    words = "".join(f' {name}="{value}"' for name, value in {**({"class": kind} if kind else {}), **numbers}.items())
+    inner = f"<title>{xml(title)}</title>{inner}" if title else inner
+    return f"<{tag}{words}>{inner}</{tag}>" if inner else f"<{tag}{words}/>"
+
+
 def courses_of(loops: Iterable[Loop]) -> list[list[Loop]]:
-    """Loops made one after another in one direction with the same yarns, none on a needle of the course or through its loops."""
+    """Loops by courses: made one after another in one direction with the same yarns, none of them on the needle of an
+    earlier one of the course, or through it."""
     courses: list[list[Loop]] = []
     needles: set[Needle] = set()
     lines: set[int] = set()
@@ -989,117 +1048,131 @@ class Picture:
     def __init__(self, source: Source, loops: Sequence[Loop], state: State, wrong: Sequence[Needle]) -> None:
         self.state = state
         self.courses = courses_of(loops)
-        self.colours = {name: COLOURS[place % len(COLOURS)] for place, name in enumerate(source.declared)}
         self.yarns = {loop.line: loop.yarns for loop in loops}
-        self.used = [name for name in source.declared if any(name in yarns for yarns in set(self.yarns.values()))]
+        self.colours = {name: COLOURS[place % len(COLOURS)] for place, name in enumerate(source.declared)}
         numbers = [loop.needle.number for loop in loops] + [needle.number for needle in state.needles] or [1]
         # A needle far off, most likely a typo, would only make the picture wide.
         self.wrong = [it for it in wrong if min(numbers) - FAR < it.number < max(numbers) + FAR]
         numbers += [needle.number for needle in self.wrong]
         self.low, self.high = min(numbers), max(numbers)
+        self.left = LEFT + SLOT * max(Fraction(0), -state.rack)
         # Back loops stand between the front ones where a course has both of one number, as in a full-gauge rib.
         crowded = any(len({loop.needle.number for loop in course}) < len(course) for course in self.courses)
         self.shift = Fraction(1, 2) if crowded else Fraction(0)
-        self.beds = TOP + ROW * len(self.courses) + 34
-        self.places = {loop.line: self.place(loop, row) for row, course in enumerate(self.courses) for loop in course}
         self.parts: list[str] = []
 
-    def x(self, number: Fraction | int) -> float:
-        return LEFT + SLOT * float(number - self.low)
+    def x(self, number: Fraction) -> float:
+        return float(self.left + SLOT * (number - self.low))
 
-    def place(self, loop: Loop, row: int) -> tuple[float, int]:
-        shift = 0 if loop.needle.is_front else self.shift
-        return self.x(loop.needle.number + shift), TOP + ROW * row
+    def text(self, x: float, y: float, words: str, kind: str = "") -> None:
+        self.parts.append(element("text", kind, xml(words), x=x, y=y))
 
-    def colour(self, name: str) -> str:
-        return self.colours.get(name, COLOURS[0])
-
-    def say(self, x: float, y: float, text: str, kind: str = "") -> None:
-        said = f' class="{kind}"' if kind else ""
-        self.parts.append(f'<text x="{x:g}" y="{y:g}"{said}>{xml(text)}</text>')
-
-    def legend(self) -> None:
-        """The shapes of loops, and the colours of the yarns."""
+    def legend(self, y: int) -> None:
+        """The shapes of loops, and below them the colours of the yarns that are used."""
+        shapes = {
+            "front bed": FRONT,
+            "back bed": BACK,
+            "through none, front": FRONT_TUCK,
+            "through none, back": BACK_TUCK,
+        }
         x = 10
-        for shape, kind, words in ((FRONT, "", "front bed"), (BACK, "", "back bed"), (FRONT_TUCK, " tuck", "through none, front"), (BACK_TUCK, " tuck", "through none, back")):
-            self.parts.append(f'<path class="loop{kind}" stroke="#555" d="M{x + 6} 54{shape}"/>')
-            self.say(x + 18, 58, words)
+        for words, shape in shapes.items():
+            kind = "loop tuck" if shape in (FRONT_TUCK, BACK_TUCK) else "loop"
+            self.parts.append(element("path", kind, stroke="#555", d=f"M{x + 6} {y}{shape}"))
+            self.text(x + 18, y + 4, words)
             x += 34 + 6 * len(words)
         x = 10
-        for name in self.used:
-            self.parts.append(f'<rect x="{x}" y="66" width="10" height="10" fill="{self.colour(name)}"/>')
-            self.say(x + 14, 75, f"yarn {name}")
-            x += 60 + 6 * len(name)
+        used = {name for yarns in self.yarns.values() for name in yarns}
+        for name, colour in self.colours.items():
+            if name in used:
+                self.parts.append(element("rect", x=x, y=y + 12, width=10, height=10, fill=colour))
+                self.text(x + 14, y + 21, f"yarn {name}")
+                x += 60 + 6 * len(name)
 
-    def threads(self, row: int, course: Sequence[Loop]) -> None:
-        """What lies below a course's loops: its lines and direction, the way of its yarn, and the ways to the loops' parents."""
-        arrow = "\u2192" if course[0].direction == "+" else "\u2190"
-        self.say(6, TOP + ROW * row + 4, f"{course[0].line}\u2013{course[-1].line} {arrow}", "small")
-        points = [self.places[loop.line] for loop in course]
-        colour = self.colour(course[0].yarns[0]) if course[0].yarns else "#555"
-        self.parts.append(f'<path class="yarn" stroke="{colour}" d="M{"L".join(f"{x:g} {y}" for x, y in points)}"/>')
-        ends = [(self.places[parent], self.places[loop.line]) for loop in course for parent in loop.through]
-        if ends:
-            drawn = "".join(f"M{x:g} {y}L{to_x:g} {to_y}" for (x, y), (to_x, to_y) in ends)
-            self.parts.append(f'<path class="parents" d="{drawn}"/>')
+    def fabric(self, top: int) -> None:
+        """The courses: their lines and directions, the ways of their yarns and to the loops' parents, and the loops."""
+        places = {}
+        for row, course in enumerate(self.courses):
+            for loop in course:
+                shift = Fraction(0) if loop.needle.is_front else self.shift
+                places[loop.line] = f"{self.x(loop.needle.number + shift):g} {top + ROW * row}"
+        for row, course in enumerate(self.courses):
+            arrow = "\u2192" if course[0].direction == "+" else "\u2190"
+            lines = "\u2013".join(str(line) for line in sorted({course[0].line, course[-1].line}))
+            self.text(6, top + ROW * row + 4, f"{lines} {arrow}", "small")
+            way = "L".join(places[loop.line] for loop in course)
+            self.parts.append(element("path", "yarn", stroke=self.colours[course[0].yarns[0]], d=f"M{way}"))
+            ways = [f"M{places[parent]}L{places[loop.line]}" for loop in course for parent in loop.through]
+            if ways:
+                self.parts.append(element("path", "parents", d="".join(ways)))
+        for course in self.courses:
+            for loop in course:
+                self.loop(loop, places[loop.line])
 
-    def loop(self, loop: Loop) -> None:
+    def loop(self, loop: Loop, place: str) -> None:
         """A loop, once for each of its yarns."""
-        x, y = self.places[loop.line]
         front = loop.needle.is_front
         shape = (FRONT if front else BACK) if loop.through else (FRONT_TUCK if front else BACK_TUCK)
         kind = "loop" if loop.through else "loop tuck"
+        strokes = [
+            element("path", kind, stroke=self.colours[name], d=f"M{place}m0 {3 * count}{shape}")
+            for count, name in enumerate(loop.yarns)
+        ]
         through = f" through {' '.join(map(str, loop.through))}" if loop.through else ""
         title = f"line {loop.line}: {loop.needle} {loop.direction} with {' '.join(loop.yarns)}{through}"
-        strokes = [f'<path class="{kind}" stroke="{self.colour(name)}" d="M{x:g} {y + 3 * place}{shape}"/>' for place, name in enumerate(loop.yarns)]
-        self.parts.append(f"<g><title>{xml(title)}</title>{''.join(strokes)}</g>")
+        self.parts.append(element("g", inner="".join(strokes), title=title))
 
     def bed(self, bed: str, y: int) -> None:
         """A bed: its needles, the loops that each holds, and the needles of the broken line."""
-        shift = Fraction(0) if bed.startswith("f") else self.state.rack
-        self.say(6, y + 4, {"f": "front", "b": "back", "fs": "front sliders", "bs": "back sliders"}[bed])
+        shift = self.state.rack if bed.startswith("b") else Fraction(0)
+        self.text(6, y + 4, BEDS[bed])
         ticks = "".join(f"M{self.x(number + shift):g} {y - 3}v6" for number in range(self.low, self.high + 1))
-        self.parts.append(f'<path class="bed" d="M{self.x(self.low + shift):g} {y}H{self.x(self.high + shift):g}{ticks}"/>')
+        ends = self.x(self.low + shift), self.x(self.high + shift)
+        self.parts.append(element("path", "bed", d=f"M{ends[0]:g} {y}H{ends[1]:g}{ticks}"))
         for needle, lines in self.state.needles.items():
             if needle.bed == bed:
-                x = self.x(needle.number + shift)
-                colour = self.colour(next(iter(self.yarns.get(lines[-1], ())), ""))
+                x, colour = self.x(needle.number + shift), self.colours[self.yarns[lines[-1]][0]]
                 title = f"{needle} holds the loops of lines {' '.join(map(str, lines))}"
-                self.parts.append(f'<circle class="held" cx="{x:g}" cy="{y}" r="6" fill="{colour}"><title>{xml(title)}</title></circle>')
+                self.parts.append(element("circle", "held", title=title, cx=x, cy=y, r=6, fill=colour))
                 if len(lines) > 1:
-                    self.parts.append(f'<text x="{x:g}" y="{y + 3}" style="fill:#fff;font-size:9px" text-anchor="middle">{len(lines)}</text>')
+                    self.text(x, y + 3, str(len(lines)), "count")
         for needle in self.wrong:
             if needle.bed == bed:
-                self.parts.append(f'<circle class="wrong" cx="{self.x(needle.number + shift):g}" cy="{y}" r="9"/>')
+                x = self.x(needle.number + shift)
+                self.parts.append(element("circle", "wrong", title=str(needle), cx=x, cy=y, r=9))
 
-    def numbers(self, y: int) -> None:
-        """Numbers of needles: each where there is room, else each fifth."""
+    def beds(self, top: int, when: str) -> int:
+        """The beds, the front one's numbers, and what is in the carriers and the hook; where they end."""
+        state = self.state
+        self.text(6, top, f"the beds at rack {state.spelled_rack}, {when}", "small")
+        seen = {needle.bed for needle in (*state.needles, *self.wrong)}
+        y = top
+        for bed in BEDS:
+            if bed in seen or len(bed) == 1:
+                y += 22
+                self.bed(bed, y)
         for number in range(self.low, self.high + 1):
-            if self.high - self.low < 30 and self.low > -10 or number % 5 == 0:
-                self.parts.append(f'<text class="small" x="{self.x(number):g}" y="{y}" text-anchor="middle">{number}</text>')
+            if number % 5 == 0 or self.high - self.low < 30:
+                self.text(self.x(Fraction(number)), y + 20, str(number), "number")
+        self.text(
+            6, y + 38, f"in: {listed(state.carriers) or 'none'}, in the hook: {listed(state.hook) or 'none'}", "small"
+        )
+        return y + 50
 
-    def whole(self, title: str, verdict: str, error: str) -> str:
-        """The picture as a text of SVG."""
-        self.say(10, 18, title)
-        self.say(10, 36, verdict, "error" if error else "")
-        self.legend()
-        for row, course in enumerate(self.courses):
-            self.threads(row, course)
-        for course in self.courses:
-            for loop in course:
-                self.loop(loop)
-        seen = {needle.bed for needle in (*self.state.needles, *self.wrong)}
-        beds = [bed for bed in ("b", "bs", "fs", "f") if bed in seen or bed in ("b", "f")]
-        self.say(6, self.beds - 14, f"the beds at rack {self.state.spelled_rack}" + (", above that line" if error else ", at the end"), "small")
-        for place, bed in enumerate(beds):
-            self.bed(bed, self.beds + 24 * place + 6)
-        bottom = self.beds + 24 * len(beds)
-        self.numbers(bottom + 4)
-        self.say(6, bottom + 22, f"in: {listed(self.state.carriers) or 'none'}, in the hook: {listed(self.state.hook) or 'none'}", "small")
-        width = max(self.x(self.high + max(Fraction(1), self.state.rack + 1)), 10 + 6.5 * max(len(title), len(verdict)), 480)
-        size = f'width="{width:g}" height="{bottom + 34}" viewBox="0 0 {width:g} {bottom + 34}"'
-        head = f'<svg xmlns="http://www.w3.org/2000/svg" {size}>\n<style>{STYLE}</style>\n<rect width="100%" height="100%" fill="#fff"/>\n'
-        return head + "\n".join(self.parts) + "\n</svg>\n"
+    def svg(self, words: Sequence[str], is_broken: bool) -> str:
+        """The whole picture below some lines of words."""
+        for place, line in enumerate(words):
+            self.text(10, 18 * place + 18, line, "error" if is_broken and place else "")
+        top = 18 * len(words) + 18
+        self.legend(top)
+        self.fabric(top + 40)
+        height = self.beds(top + 40 + ROW * len(self.courses) + 20, "above that line" if is_broken else "at the end")
+        width = round(max(self.x(self.high + max(Fraction(0), self.state.rack)) + SLOT, 7 * max(map(len, words)), 480))
+        parts = "\n".join(
+            [element("style", inner=STYLE), element("rect", width=width, height=height, fill="#fff"), *self.parts]
+        )
+        size: dict[str, Any] = {"width": width, "height": height, "viewBox": f"0 0 {width} {height}"}
+        return element("svg", inner=f"\n{parts}\n", xmlns="http://www.w3.org/2000/svg", **size) + "\n"
 
 
 def drawn(program: Program, source: Source) -> tuple[str, Report]:
@@ -1108,16 +1181,16 @@ def drawn(program: Program, source: Source) -> tuple[str, Report]:
     if not answer.verdict:
         return "", Report([refusal(source, answer.status, answer.refusal)], answer.status)
     if not answer.status:
-        state = State(answer.verdict)
-        verdict = f"sound: {answer.verdict['lines']} lines, {state.made} loops made, {answer.verdict['held']} held"
-        return Picture(source, answer.loops, state, []).whole(source.name, verdict, ""), Report([], 0)
+        state, verdict = State(answer.verdict), answer.verdict
+        words = f"sound: {verdict['lines']} lines, {verdict['made']} loops made, {verdict['held']} held"
+        return Picture(source, answer.loops, state, []).svg([source.name, words], False), Report([], 0)
     finding = broken_rule(program, source, answer.verdict)
     tokens = source.tokens(finding.line)
     # (a line that is no instruction has needles all the same)
     needles = [needle for token in tokens[1:] if (needle := needle_of(token.text))]
-    state = program.state_above(source, finding.line)
-    verdict = f"broken at line {finding.line}: {shown(source.line(finding.line))}  ({finding.rule}: {finding.message})"
-    return Picture(source, answer.loops, state, needles).whole(source.name, verdict, finding.rule), Report([finding], 0)
+    picture = Picture(source, answer.loops, program.state_above(source, finding.line), needles)
+    what = f"broken at line {finding.line}: {shown(source.line(finding.line))}"
+    return picture.svg([source.name, what, f"{finding.rule}: {finding.message}"], True), Report([finding], 0)
 
 
 # ---------------------------------------------------------------- the command line
@@ -1126,7 +1199,8 @@ def drawn(program: Program, source: Source) -> tuple[str, Report]:
 def find_program(given: Optional[str]) -> str:
     """Where check_main is: as given, by the environment, on the PATH, or built in the repository of this file."""
     built = Path(__file__).resolve().parent.parent / "crates" / "check_main" / "out" / "check_main"
-    found = given or os.environ.get("TEKHVUMO_PROGRAM") or shutil.which("check_main") or (str(built) if built.is_file() else None)
+    found = given or os.environ.get("TEKHVUMO_PROGRAM") or shutil.which("check_main")
+    found = found or (str(built) if built.is_file() else None)
     if found is None:
         raise SetupFault("check_main isn't on the PATH; put it there, or name it by --program or TEKHVUMO_PROGRAM")
     return found
@@ -1139,7 +1213,9 @@ def common_parser(command: str, does: str) -> argparse.ArgumentParser:
     parser.add_argument("--high", type=int, metavar="N", help="the highest needle (1023)")
     parser.add_argument("--rack", type=int, metavar="N", help="how far the beds rack (8)")
     parser.add_argument("--hold", type=int, metavar="N", help="loops that a needle may hold (16)")
-    parser.add_argument("--program", metavar="PATH", help="check_main, if not TEKHVUMO_PROGRAM, on the PATH or built beside this file")
+    parser.add_argument(
+        "--program", metavar="PATH", help="check_main, if not TEKHVUMO_PROGRAM, on the PATH or built beside this file"
+    )
     parser.add_argument("--name", metavar="NAME", default="-", help="what findings call standard input")
     return parser
 
@@ -1149,7 +1225,13 @@ def many_parser(command: str, does: str) -> argparse.ArgumentParser:
     parser = common_parser(command, does)
     parser.add_argument("files", nargs="+", metavar="FILE", help="a knitout file, or - for standard input")
     parser.add_argument("--format", choices=FORMATS, default="text", help="how findings are written (text)")
-    parser.add_argument("--jobs", type=positive, default=os.cpu_count() or 1, metavar="N", help="files at a time (one for each processor)")
+    parser.add_argument(
+        "--jobs",
+        type=positive,
+        default=os.cpu_count() or 1,
+        metavar="N",
+        help="files at a time (one for each processor)",
+    )
     return parser
 
 
@@ -1166,8 +1248,8 @@ def name_of(options: argparse.Namespace, path: str) -> str:
 
 
 def program_of(options: argparse.Namespace) -> Program:
-    limits = Limits(options.low, options.high, options.rack, options.hold, getattr(options, "block", None))
-    return Program(find_program(options.program), limits)
+    given = {name: value for name in (*Limits.DEFAULTS, "block") if (value := getattr(options, name, None)) is not None}
+    return Program(find_program(options.program), Limits(given))
 
 
 def write_findings(options: argparse.Namespace, findings: Sequence[Finding]) -> None:
@@ -1175,12 +1257,24 @@ def write_findings(options: argparse.Namespace, findings: Sequence[Finding]) -> 
 
 
 def check_command(words: Sequence[str]) -> int:
-    parser = many_parser("check", "Says which rule a knitout program breaks, where, and what cures it. Statuses: 0 sound, 1 a rule is broken, else a refusal.")
+    parser = many_parser(
+        "check",
+        "Says which rule a program breaks, where, and what cures it. Status: 0 sound, 1 a rule broken, else refused.",
+    )
     parser.add_argument("--block", type=int, metavar="N", help="body lines of a block; it never changes a verdict (64)")
-    parser.add_argument("--warn", action="store_true", help="also say what a knitter calls a mistake: " + ", ".join(WARNINGS))
-    parser.add_argument("--ignore", action="append", choices=WARNINGS, default=[], metavar="NAME", help="leave a warning out; as often as needed")
+    parser.add_argument(
+        "--warn", action="store_true", help="also say what a knitter calls a mistake: " + ", ".join(WARNINGS)
+    )
+    parser.add_argument(
+        "--ignore",
+        action="append",
+        choices=WARNINGS,
+        default=[],
+        metavar="NAME",
+        help="leave a warning out; as often as needed",
+    )
     parser.add_argument("--strict", action="store_true", help="warn, and end with status 1 where a warning is written")
-    options = parser.parse_args(words)
+    options = parser.parse_intermixed_args(words)
     program, warned, ignored = program_of(options), options.warn or options.strict, frozenset(options.ignore)
 
     def work(path: str) -> Report:
@@ -1193,24 +1287,34 @@ def check_command(words: Sequence[str]) -> int:
 
 
 def fmt_command(words: Sequence[str]) -> int:
-    parser = many_parser("fmt", "Writes the canonical text of a knitout file over it; of standard input, to standard output.")
-    parser.add_argument("--check", action="store_true", help="write nothing, and end with status 1 where a file isn't canonical")
-    options = parser.parse_args(words)
+    parser = many_parser(
+        "fmt", "Writes the canonical text of a knitout file over it; of standard input, to standard output."
+    )
+    parser.add_argument(
+        "--check", action="store_true", help="write nothing, and end with status 1 where a file isn't canonical"
+    )
+    options = parser.parse_intermixed_args(words)
     program = program_of(options)
     if options.files == ["-"] and not options.check:
         new, report = canonical_text(program, read_file("-", options.name))
         sys.stdout.buffer.write(new.data)
         print(FORMATS[options.format](report.findings), end="", file=sys.stderr)
         return report.status
-    reports = list(each_file(options.files, options.jobs, lambda path: formatted(program, path, name_of(options, path), options.check)))
+    reports = list(
+        each_file(
+            options.files, options.jobs, lambda path: formatted(program, path, name_of(options, path), options.check)
+        )
+    )
     write_findings(options, [finding for report in reports for finding in report.findings])
     return max(report.status for report in reports)
 
 
 def draw_command(words: Sequence[str]) -> int:
-    parser = common_parser("draw", "Writes a picture of the loops that a knitout program makes, as SVG, to standard output.")
+    parser = common_parser(
+        "draw", "Writes a picture of the loops that a knitout program makes, as SVG, to standard output."
+    )
     parser.add_argument("file", metavar="FILE", help="a knitout file, or - for standard input")
-    options = parser.parse_args(words)
+    options = parser.parse_intermixed_args(words)
     program = program_of(options)
     try:
         source = read_file(options.file, name_of(options, options.file))
@@ -1229,6 +1333,7 @@ COMMANDS = {"check": check_command, "fmt": fmt_command, "draw": draw_command}
 def main(words: Sequence[str]) -> int:
     """Runs a command, and gives its status."""
     for stream in (sys.stdout, sys.stderr):
+        assert isinstance(stream, io.TextIOWrapper)
         stream.reconfigure(encoding="utf-8", errors="backslashreplace")
     command = COMMANDS.get(words[0]) if words else None
     try:

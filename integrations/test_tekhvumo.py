@@ -1,6 +1,6 @@
 """Tests of tekhvumo.py, and of the files for editors and hooks beside it, on the program check_main.
 
-`python3 -m unittest discover integrations` runs them; TEKHVUMO_PROGRAM names check_main where it isn't built in this repository.
+`python3 -m unittest discover integrations` runs them, on the check_main that TEKHVUMO_PROGRAM names or that is found.
 """
 from __future__ import annotations
 
@@ -50,7 +50,13 @@ class Case(unittest.TestCase):
         (commands / "tekhvumo").chmod(0o755)
         kept = {name: value for name, value in os.environ.items() if not name.startswith(("GIT_", "TEKHVUMO_"))}
         person = {f"GIT_{who}_{what}": "a@b.c" for who in ("AUTHOR", "COMMITTER") for what in ("NAME", "EMAIL")}
-        self.environment = {**kept, **person, "GIT_CONFIG_GLOBAL": os.devnull, "GIT_CONFIG_NOSYSTEM": "1", "PATH": f"{commands}:{os.environ['PATH']}"}
+        self.environment = {
+            **kept,
+            **person,
+            "GIT_CONFIG_GLOBAL": os.devnull,
+            "GIT_CONFIG_NOSYSTEM": "1",
+            "PATH": f"{commands}:{os.environ['PATH']}",
+        }
 
     def run_command(self, *words: str, given: str | bytes = b"") -> subprocess.CompletedProcess[bytes]:
         text = given.encode() if isinstance(given, str) else given
@@ -108,15 +114,40 @@ RULES = [
     Row("HookOther", "inhook 1 2; releasehook 1", 1, "holds 1 2, and lets go of all that it holds; `releasehook 1 2`"),
     Row("HookOther", "releasehook 1", 1, "holds nothing"),
     Row("CarrierHooked", "inhook 1; out 1", 5, "still holds 1; `releasehook 1`"),
-    Row("NotAligned", "rack 1; xfer f1 b1", 9, "at rack 0, and the rack is 1; `rack 0` above this line (b0 is what faces f1 now)"),
+    Row(
+        "NotAligned",
+        "rack 1; xfer f1 b1",
+        9,
+        "at rack 0, and the rack is 1; `rack 0` above this line (b0 is what faces f1 now)",
+    ),
     Row("NotAligned", "rack -0.75; xfer bs3 f5", 10, "at rack 2, and the rack is -0.75; `rack 2`"),
     Row("NotAligned", "xfer f20 b1", 10, "at rack 19, and the rack is 0 and at most 8; b20"),
-    Row("SliderHolds", "in 1; tuck + b5 1; xfer b5 fs5; tuck + f5 1", 8, "holds the loop of line 4, which would be caught; take it to a hook first, as by `xfer fs5 b5`"),
-    Row("TooManyLoops", "in 1; tuck + f1 1; tuck + f1 1; tuck + f1 1", 8, "would hold 3 loops, and a needle holds 2; knit them off first, or `--hold 3`", ("--hold", "2")),
+    Row(
+        "SliderHolds",
+        "in 1; tuck + b5 1; xfer b5 fs5; tuck + f5 1",
+        8,
+        "holds the loop of line 4, which would be caught; take it to a hook first, as by `xfer fs5 b5`",
+    ),
+    Row(
+        "TooManyLoops",
+        "in 1; tuck + f1 1; tuck + f1 1; tuck + f1 1",
+        8,
+        "would hold 3 loops, and a needle holds 2; knit them off first, or `--hold 3`",
+        ("--hold", "2"),
+    ),
     Row("TooManyLoops", "in 1; tuck + f1 1; tuck + b1 1; xfer f1 b1", 9, "b1 would hold 2 loops", ("--hold", "1")),
 ]
 # The rules, in all or some of whose findings no lines are offered.
-WITHOUT_LINES = {"Unreadable", "OffBed", "SameBed", "NoCarrier", "RackLimit", "CarrierIsOut", "NotAligned", "TooManyLoops"}
+WITHOUT_LINES = {
+    "Unreadable",
+    "OffBed",
+    "SameBed",
+    "NoCarrier",
+    "RackLimit",
+    "CarrierIsOut",
+    "NotAligned",
+    "TooManyLoops",
+}
 
 
 class Rules(Case):
@@ -157,9 +188,13 @@ class Rules(Case):
         self.assertNotIn("xfer", finding["message"])
 
     def test_columns_count_characters(self) -> None:
-        text = ";!knitout-2\n;;Carriers: \u00e9\U0001f9f6 2\nin \u00e9\U0001f9f6\n\ttuck  + f1 \u00e9\U0001f9f6 2 ; \u00e9\n"
+        text = ";!knitout-2\n;;Carriers: yarn 2\nin yarn\n\ttuck  + f1 yarn 2 ; yarn\n".replace(
+            "yarn", "\u00e9\U0001f9f6"
+        )
         [finding] = self.findings("-", given=text)
-        self.assertEqual((finding["rule"], finding["line"], finding["column"], finding["end_column"]), ("CarrierIsOut", 4, 16, 17))
+        self.assertEqual(
+            (finding["rule"], finding["line"], finding["column"], finding["end_column"]), ("CarrierIsOut", 4, 16, 17)
+        )
 
     def test_carriage_returns_and_control_characters(self) -> None:
         [finding] = self.findings("-", given=SOUND.replace("\n", "\r\n") + "a\x1b[2J\r\n")
@@ -186,7 +221,13 @@ REFUSALS = [
     Refusal("NoCarriers", b";!knitout-2\ndrop f1\n;;Carriers: 1\n", 1, 1, "of line 3 stands below"),
     Refusal("TwoCarriers", b";!knitout-2\n;;Carriers: 1\n\n;;Carriers: 2\n", 4, 1, "write all names into one"),
     Refusal("CarrierNameTwice", b";!knitout-2\n;;Carriers: 1 2 1\n", 2, 17, "1 is declared already"),
-    Refusal("ManyCarriers", b";!knitout-2\n;;Carriers:" + b"".join(b" %d" % it for it in range(10, 75)) + b"\n", 2, 205, "74 is one name too many"),
+    Refusal(
+        "ManyCarriers",
+        b";!knitout-2\n;;Carriers:" + b"".join(b" %d" % it for it in range(10, 75)) + b"\n",
+        2,
+        205,
+        "74 is one name too many",
+    ),
     Refusal("NotUtf8", HEAD.encode() + b"; \xc3\xa9\xff\n", 3, 4, "0xff"),
     Refusal("LineLong", HEAD.encode() + b"; " + "\u00e9".encode() * 2048 + b"\n", 3, 2050, "4096 bytes"),
     Refusal("TooLarge", HEAD.encode() + b"\n" * tekhvumo.MOST_BYTES, 1, 1, "16777216 bytes", 7),
@@ -208,7 +249,15 @@ class Refusals(Case):
         self.write("a file with blanks.k", BROKEN)
         status, output = self.tekhvumo("folder.k", "absent.k", "binary.k", "a file with blanks.k")
         said = [FINDING.fullmatch(f"{line}\n").group(1, 5) for line in output.splitlines()]
-        self.assertEqual(said, [("folder.k", "ReadFault"), ("absent.k", "ReadFault"), ("binary.k", "NotUtf8"), ("a file with blanks.k", "CarrierIsIn")])
+        self.assertEqual(
+            said,
+            [
+                ("folder.k", "ReadFault"),
+                ("absent.k", "ReadFault"),
+                ("binary.k", "NotUtf8"),
+                ("a file with blanks.k", "CarrierIsIn"),
+            ],
+        )
         self.assertEqual(status, 4)
 
     def test_what_is_no_file_of_the_command(self) -> None:
@@ -226,8 +275,16 @@ class Refusals(Case):
 class Warnings(Case):
     LINES = "in 1; tuck + f1; knit + f1; split + f1 b1; knit + f2 1; xfer f3 b3; xfer f2 bs2; inhook 2"
     FOUND = [
-        (3, 4, "CarrierLeftIn"), (4, 1, "ForgottenCarrier"), (5, 1, "ForgottenCarrier"), (6, 1, "ForgottenCarrier"), (6, 9, "EmptyNeedle"),
-        (7, 8, "EmptyNeedle"), (8, 6, "EmptyNeedle"), (9, 9, "LoopOnSlider"), (10, 8, "CarrierLeftIn"), (10, 8, "HookLeftHolding"),
+        (3, 4, "CarrierLeftIn"),
+        (4, 1, "ForgottenCarrier"),
+        (5, 1, "ForgottenCarrier"),
+        (6, 1, "ForgottenCarrier"),
+        (6, 9, "EmptyNeedle"),
+        (7, 8, "EmptyNeedle"),
+        (8, 6, "EmptyNeedle"),
+        (9, 9, "LoopOnSlider"),
+        (10, 8, "CarrierLeftIn"),
+        (10, 8, "HookLeftHolding"),
     ]
 
     def places(self, *words: str, lines: str) -> list[tuple[int, int, str]]:
@@ -256,10 +313,14 @@ class Warnings(Case):
 
     def test_the_lines_above_a_broken_one(self) -> None:
         found = self.findings("--warn", "-", given=body("in 1; knit + f1 1; xfer f2 b2; in 1; knit + f3"))
-        self.assertEqual([(it["line"], it["rule"]) for it in found], [(4, "EmptyNeedle"), (5, "EmptyNeedle"), (6, "CarrierIsIn")])
+        self.assertEqual(
+            [(it["line"], it["rule"]) for it in found], [(4, "EmptyNeedle"), (5, "EmptyNeedle"), (6, "CarrierIsIn")]
+        )
 
     def test_the_examples(self) -> None:
-        self.assertEqual(self.tekhvumo("--strict", *(f"{TOP}/examples/{name}.k" for name in ("rib", "swatch", "tube"))), (0, ""))
+        self.assertEqual(
+            self.tekhvumo("--strict", *(f"{TOP}/examples/{name}.k" for name in ("rib", "swatch", "tube"))), (0, "")
+        )
 
 
 class Formats(Case):
@@ -282,7 +343,10 @@ class Formats(Case):
         self.assertEqual(run["columnKind"], "unicodeCodePoints")
         for result, uri in zip(run["results"], ("a%20b.k", (self.room / "a b.k").as_uri())):
             [place] = result["locations"]
-            self.assertEqual((result["ruleId"], result["level"], rules[result["ruleIndex"]]["id"]), ("CarrierIsIn", "error", "CarrierIsIn"))
+            self.assertEqual(
+                (result["ruleId"], result["level"], rules[result["ruleIndex"]]["id"]),
+                ("CarrierIsIn", "error", "CarrierIsIn"),
+            )
             self.assertIn("carrier 1", result["message"]["text"])
             self.assertEqual(place["physicalLocation"]["artifactLocation"]["uri"], uri)
             self.assertEqual(place["physicalLocation"]["region"], {"startLine": 4, "startColumn": 4, "endColumn": 5})
@@ -295,7 +359,15 @@ class Formats(Case):
         rules = re.findall(r"^#### (\w+)$", (TOP / "docs" / "MODEL.md").read_text(), re.M)
         self.assertEqual(len(rules), 17)
         self.assertEqual(set(rules), set(tekhvumo.HINTS))
-        self.assertLessEqual({*rules, *tekhvumo.WARNINGS, *tekhvumo.REFUSALS}, set(tekhvumo.SUMMARIES))
+        self.assertLessEqual({*rules, *tekhvumo.WARNINGS, *tekhvumo.OF_FILES}, set(tekhvumo.SUMMARIES))
+
+    def test_options_before_and_behind_files(self) -> None:
+        self.write("--warn", SOUND)
+        self.write("fmt", BROKEN)
+        for words in (["--warn", "--", "--warn", "./fmt"], ["./fmt", "--jobs", "2", "./fmt"], ["check", "fmt"]):
+            status, output = self.tekhvumo(*words)
+            self.assertEqual(status, 1)
+            self.assertTrue(all(re.match(r"(\./)?fmt:4:4: ", line) for line in output.splitlines()), output)
 
     def test_a_name_for_standard_input(self) -> None:
         [finding] = self.findings("--name", "scarf.k", "-", given=BROKEN)
@@ -317,7 +389,9 @@ class ManyFiles(Case):
         for count, told in ((51, True), (50, False)):
             ours, theirs = pty.openpty()
             words = ["tekhvumo", "--jobs", "2", *["a.k"] * count]
-            subprocess.run(words, cwd=self.room, env=self.environment, stderr=theirs, stdin=subprocess.DEVNULL, check=True)
+            subprocess.run(
+                words, cwd=self.room, env=self.environment, stderr=theirs, stdin=subprocess.DEVNULL, check=True
+            )
             os.write(theirs, b".")
             self.assertEqual(f"{count}/{count} files" in os.read(ours, 65536).decode(), told)
             os.close(theirs)
@@ -348,7 +422,11 @@ class CanonicalText(Case):
         self.assertEqual(self.tekhvumo("fmt", "--check", "-", given=self.QUIET), (0, ""))
 
     def test_the_two_files_that_would_read_otherwise(self) -> None:
-        texts = {"head.k": f"{HEAD} ;;Carriers: 4\nin   1\n", "comment.k": f"{HEAD} ; a\nin   1\n", "returns.k": f"{HEAD}in   1\n; a\r\r\nout   1\n"}
+        texts = {
+            "head.k": f"{HEAD} ;;Carriers: 4\nin   1\n",
+            "comment.k": f"{HEAD} ; a\nin   1\n",
+            "returns.k": f"{HEAD}in   1\n; a\r\r\nout   1\n",
+        }
         for name, text in texts.items():
             path = self.write(name, text)
             status, output = self.tekhvumo("fmt", name)
@@ -401,7 +479,9 @@ class Pictures(Case):
     def test_each_loop_and_needle_is_drawn(self) -> None:
         # 72 loops, of which 12 are tucks, and 12 needles that hold one at the end
         picture = self.drawn(f"{TOP}/examples/tube.k")
-        self.assertEqual([self.count(picture, kind) for kind in ("loop", "tuck", "held", "wrong")], [72 + 4, 12 + 2, 12, 0])
+        self.assertEqual(
+            [self.count(picture, kind) for kind in ("loop", "tuck", "held", "wrong")], [72 + 4, 12 + 2, 12, 0]
+        )
         parents = [element.get("d").count("M") for element in picture.iter() if element.get("class") == "parents"]
         self.assertEqual(sum(parents), 60)
 
@@ -421,7 +501,9 @@ class Pictures(Case):
         self.assertEqual(self.count(picture, "loop"), 2 * 2 + 4)
 
     def test_names_that_are_no_xml(self) -> None:
-        picture = self.drawn("--name", "<&\x01\">", "-", given=";!knitout-2\n;;Carriers: <\x02&'\nin <\x02&'\ntuck + f1 <\x02&'\n")
+        picture = self.drawn(
+            "--name", '<&\x01">', "-", given=";!knitout-2\n;;Carriers: <\x02&'\nin <\x02&'\ntuck + f1 <\x02&'\n"
+        )
         self.assertIn("yarn <\ufffd&'", " ".join(picture.itertext()))
 
     def test_a_program_without_loops_and_a_far_needle(self) -> None:
@@ -506,8 +588,22 @@ class Editors(Case):
     def test_vim_finds_the_place(self) -> None:
         shutil.copytree(HERE / "compiler", self.room / "runtime" / "compiler")
         self.write("a b.k", body("in 1; knit + f1; in 1"))
-        tell = "call writefile([json_encode(map(getqflist(), {_, it -> [bufname(it.bufnr), it.lnum, it.col, it.type, it.text]}))], 'found')"
-        words = ["-c", "set nomore runtimepath^=runtime", "-c", "edit a\\ b.k", "-c", "compiler knitout", "-c", "silent make!", "-c", tell, "-c", "qall!"]
+        entry = "[bufname(it.bufnr), it.lnum, it.col, it.type, it.text]"
+        tell = f"call writefile([json_encode(map(getqflist(), {{_, it -> {entry}}}))], 'found')"
+        words = [
+            "-c",
+            "set nomore runtimepath^=runtime",
+            "-c",
+            "edit a\\ b.k",
+            "-c",
+            "compiler knitout",
+            "-c",
+            "silent make!",
+            "-c",
+            tell,
+            "-c",
+            "qall!",
+        ]
         self.run_command("vim", "-u", "NONE", "-N", "-es", *words)
         found = json.loads((self.room / "found").read_text())
         self.assertEqual([it[:4] for it in found], [["a b.k", 4, 1, "w"], ["a b.k", 5, 4, "e"]])
