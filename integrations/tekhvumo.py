@@ -1295,6 +1295,8 @@ def fmt_command(words: Sequence[str]) -> int:
     )
     options = parser.parse_intermixed_args(words)
     program = program_of(options)
+    if "-" in options.files and len(options.files) > 1:
+        parser.error("standard input is formatted alone")
     if options.files == ["-"] and not options.check:
         new, report = canonical_text(program, read_file("-", options.name))
         sys.stdout.buffer.write(new.data)

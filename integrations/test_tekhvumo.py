@@ -104,6 +104,7 @@ RULES = [
     Row("RackStep", "rack 0.3", 6, "`rack 0.25`"),
     Row("RackStep", "rack -1.6", 6, "`rack -1.5`"),
     Row("RackLimit", "rack 8.25", 6, "`--rack 9`"),
+    Row("RackLimit", "rack -0010.", 6, "`--rack 10`"),
     Row("CarrierIsOut", "in 2; knit + f1 1", 11, "in: 2); `in 1`"),
     Row("CarrierIsOut", "in 2; tuck + f1 1 2 3", 11, "`in 1 3`"),
     Row("CarrierIsOut", "out 1", 5, "in: none); leave it out here"),
@@ -151,34 +152,48 @@ WITHOUT_LINES = {
 
 
 class Rules(Case):
+    def found(self) -> list[tuple[Row, dict]]:
+        """Each row with its one finding, from one run for the rows with the same options."""
+        found: list[tuple[Row, dict]] = []
+        for options in sorted({row.options for row in RULES}):
+            rows = [row for row in RULES if row.options == options]
+            names = [self.write(f"{place}.k", body(row.lines)).name for place, row in enumerate(rows)]
+            findings = self.findings(*options, *names)
+            self.assertEqual([it["file"] for it in findings], names)
+            found += zip(rows, findings)
+        return found
+
     def test_each_rule_has_its_finding_column_and_hint(self) -> None:
-        for row in RULES:
+        for row, finding in self.found():
             with self.subTest(row.lines):
-                text = body(row.lines)
-                status, output = self.tekhvumo(*row.options, "-", given=text)
-                name, line, column, level, rule, message = FINDING.fullmatch(output).groups()
-                self.assertEqual((name, level, rule, status), ("-", "error", row.rule, 1))
-                self.assertEqual((int(line), int(column)), (text.count("\n"), row.column))
-                self.assertIn(row.says, message)
+                self.assertEqual((finding["level"], finding["rule"]), ("error", row.rule))
+                self.assertEqual((finding["line"], finding["column"]), (body(row.lines).count("\n"), row.column))
+                self.assertIn(row.says, finding["message"])
+        self.assertEqual({row.rule for row in RULES}, set(tekhvumo.HINTS))
+
+    def test_a_finding_is_a_line_of_text(self) -> None:
+        status, output = self.tekhvumo("-", given=body("in 2; knit + f1 1"))
+        message = "carrier 1 isn't in (in: 2); `in 1` (or `inhook`) above this line"
+        self.assertEqual((status, output), (1, f"-:4:11: error: CarrierIsOut: {message}\n"))
 
     def test_the_lines_of_a_hint_cure_its_rule(self) -> None:
-        for row in RULES:
+        for row, finding in self.found():
             with self.subTest(row.lines):
-                lines = body(row.lines).splitlines()
-                [finding] = self.findings(*row.options, "-", given=body(row.lines))
                 if finding["instead"] is None:
                     self.assertIn(row.rule, WITHOUT_LINES)
                     continue
-                cured = "\n".join([*lines[:-1], *finding["instead"], ""])
-                self.assertEqual(self.tekhvumo(*row.options, "-", given=cured), (0, ""))
+                cured = [*body(row.lines).splitlines()[:-1], *finding["instead"], ""]
+                ran = self.run_command("check_main", "check", *row.options, given="\n".join(cured))
+                self.assertEqual(ran.stdout[:5], b"sound")
 
     def test_the_option_of_a_hint_cures_its_rule(self) -> None:
-        for row in RULES:
-            [finding] = self.findings(*row.options, "-", given=body(row.lines))
+        for row, finding in self.found():
             option = re.search(r"`--(\w+)[ =](-?[0-9]+)`", finding["message"])
+            self.assertEqual(option is not None, row.rule in ("OffBed", "RackLimit", "TooManyLoops"))
             if option:
                 with self.subTest(row.lines):
-                    self.assertEqual(self.tekhvumo(f"--{option[1]}={option[2]}", "-", given=body(row.lines)), (0, ""))
+                    ran = self.run_command("check_main", "check", f"--{option[1]}={option[2]}", given=body(row.lines))
+                    self.assertEqual(ran.stdout[:5], b"sound")
 
     def test_a_cure_that_breaks_another_line_is_left_out(self) -> None:
         # b5 holds as many loops as it may, so that the loop on the slider can't go there.
