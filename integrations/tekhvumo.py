@@ -19,11 +19,13 @@ import json
 import os
 import re
 import shutil
+import signal
 import subprocess
 import sys
 import tempfile
 from concurrent.futures import ThreadPoolExecutor
 from dataclasses import asdict, dataclass
+from enum import IntEnum
 from fractions import Fraction
 from functools import cached_property
 from html import escape
@@ -37,7 +39,20 @@ MOST_LINE_BYTES = 4096
 MOST_CARRIERS = 64
 MANY_FILES = 50
 
-BROKEN, USAGE, BAD_INPUT, READ_FAULT, WRITE_FAULT, NO_MEMORY, TOO_LARGE = 1, 2, 3, 4, 5, 6, 7
+
+class Status(IntEnum):
+    """How check_main ends, and tekhvumo likewise."""
+
+    SOUND = 0
+    BROKEN = 1
+    USAGE = 2
+    BAD_INPUT = 3
+    READ_FAULT = 4
+    WRITE_FAULT = 5
+    NO_MEMORY = 6
+    TOO_LARGE = 7
+    # and this much more than the number of a signal
+    SIGNAL = 128
 
 
 class SetupFault(Exception):
@@ -291,17 +306,17 @@ class Program:
         """Its status and its output for words and a text."""
         try:
             ran = subprocess.run([self.path, *words], input=text, stdout=subprocess.PIPE, check=False)
-        except OSError as fault:
-            raise SetupFault(f"{self.path}: {fault.strerror}") from fault
-        if ran.returncode == USAGE:
+        except OSError as trouble:
+            raise SetupFault(f"{self.path}: {trouble.strerror}") from trouble
+        if ran.returncode == Status.USAGE:
             raise SetupFault(f"{self.path} refuses its options: {' '.join(words)}")
-        return ran.returncode, ran.stdout
+        return (ran.returncode if ran.returncode >= 0 else Status.SIGNAL - ran.returncode), ran.stdout
 
     def check(self, text: bytes, loops: bool = False) -> Answer:
         """The verdict on a text, or why it is refused."""
         words = ["check", "--json", *(["--loops"] if loops else []), *self.limits.words("block")]
         status, output = self.ask(words, text)
-        if status not in (0, BROKEN):
+        if status not in (Status.SOUND, Status.BROKEN):
             return Answer(status, {}, output.decode(errors="replace").strip())
         try:
             return Answer(status, json.loads(output), "")
@@ -315,7 +330,7 @@ class Program:
     def state_above(self, source: Source, number: int) -> State:
         """The machine as the lines above one leave it."""
         answer = self.check(source.above(number))
-        if answer.status:
+        if answer.status != Status.SOUND:
             raise SetupFault(f"{self.path} finds no fault above line {number}, and refuses these lines alone: {answer}")
         return State(answer.verdict)
 
@@ -573,19 +588,15 @@ def too_many_loops(broken: Broken) -> Hint:
     counts = [len(broken.state.on(needle)) for needle in needles]
     total = sum(counts) if len(needles) == 2 else counts[0] + 1
     what = f"{needles[-1]} would hold {total} loops, and a needle holds {limit}"
-    return Hint(
-        what,
-        f"knit them off first, or `--hold {total}` where the machine bears it"
-        if total <= 64
-        else "knit them off first",
-    )
+    option = f", or `--hold {total}` where the machine bears it" if total <= 64 else ""
+    return Hint(what, f"knit them off first{option}")
 
 
 def cured(program: Program, source: Source, number: int, rule: str, instead: tuple[str, ...]) -> bool:
     """Whether lines in the place of one keep its rule: check_main takes them, or the last of them breaks another."""
     answer = program.check(source.above(number) + "".join(f"{line}\n" for line in instead).encode())
     last = number + len(instead) - 1
-    return answer.status == 0 or (answer.verdict.get("line") == last and answer.verdict.get("rule") != rule)
+    return answer.status == Status.SOUND or (answer.verdict.get("line") == last and answer.verdict.get("rule") != rule)
 
 
 def broken_rule(program: Program, source: Source, verdict: dict[str, Any]) -> Finding:
@@ -595,9 +606,8 @@ def broken_rule(program: Program, source: Source, verdict: dict[str, Any]) -> Fi
     hint = HINTS[rule](broken) if rule in HINTS else Hint("the line breaks this rule")
     if hint.instead is not None and not cured(program, source, number, rule, hint.instead):
         hint = Hint(hint.what)
-    return Finding(
-        source.name, number, broken.culprit.column, broken.culprit.end, "error", rule, hint.message, hint.instead
-    )
+    token = broken.culprit
+    return Finding(source.name, number, token.column, token.end, "error", rule, hint.message, hint.instead)
 
 
 # ---------------------------------------------------------------- refusals
@@ -682,9 +692,9 @@ def refusal(source: Source, status: int, words: str) -> Finding:
         token = place_of_refusal(source, cause, number)
         message = REFUSED[cause](source, token)
         return Finding(source.name, number, token.column, token.end, "error", cause, message)
-    if status == TOO_LARGE:
+    if status == Status.TOO_LARGE:
         return fault(source.name, "TooLarge", TOO_MANY.get(words, shown(words)))
-    if status == NO_MEMORY:
+    if status == Status.NO_MEMORY:
         return fault(source.name, "NoMemory", "memory ran out in check_main")
     return fault(source.name, "NoAnswer", f"check_main ended with status {status}: {shown(words) or 'no words'}")
 
@@ -788,7 +798,7 @@ def warnings(program: Program, source: Source, answer: Answer, ignored: frozense
     found = [*forgotten_carriers(source, end)]
     if "EmptyNeedle" not in ignored:
         found += [*empty_knits(source, answer.loops), *empty_transfers(program, source, end)]
-    if answer.status == 0:
+    if answer.status == Status.SOUND:
         found += left_at_end(source, State(answer.verdict))
     found = sorted((it for it in found if it.rule not in ignored), key=lambda it: (it.line, it.token.column))
     return [
@@ -873,7 +883,7 @@ def read_file(path: str, name: str) -> Source:
 
 
 def unreadable_file(path: str, trouble: OSError) -> Report:
-    return Report([fault(path, "ReadFault", trouble.strerror or str(trouble))], READ_FAULT)
+    return Report([fault(path, "ReadFault", trouble.strerror or str(trouble))], Status.READ_FAULT)
 
 
 def judged(program: Program, source: Source, warned: bool, ignored: frozenset[str]) -> Report:
@@ -882,7 +892,7 @@ def judged(program: Program, source: Source, warned: bool, ignored: frozenset[st
     if not answer.verdict:
         return Report([refusal(source, answer.status, answer.refusal)], answer.status)
     findings = warnings(program, source, answer, ignored) if warned else []
-    if answer.status:
+    if answer.status == Status.BROKEN:
         findings.append(broken_rule(program, source, answer.verdict))
     return Report(findings, answer.status)
 
@@ -937,7 +947,7 @@ def canonical_text(program: Program, source: Source) -> tuple[Source, Report]:
         return source, Report([refusal(source, status, output.decode(errors="replace").strip())], status)
     new = Source(source.name, output)
     otherwise = reads_otherwise(program, source, new)
-    return (source, Report([otherwise], 1)) if otherwise else (new, Report([], 0))
+    return (source, Report([otherwise], Status.BROKEN)) if otherwise else (new, Report([], Status.SOUND))
 
 
 def write_over(path: str, old: bytes, new: bytes) -> None:
@@ -973,11 +983,12 @@ def formatted(program: Program, path: str, name: str, only_check: bool) -> Repor
     if only_check:
         number = first_difference(source, new)
         message = f"the canonical text has `{shown(new.line(number))}` here; `tekhvumo fmt` writes it"
-        return Report([Finding(name, number, 1, len(source.line(number)) + 1, "error", "NotCanonical", message)], 1)
+        end = len(source.line(number)) + 1
+        return Report([Finding(name, number, 1, end, "error", "NotCanonical", message)], Status.BROKEN)
     try:
         write_over(path, source.data, new.data)
     except OSError as trouble:
-        return Report([fault(path, "WriteFault", f"{trouble.strerror}; the file is as it was")], WRITE_FAULT)
+        return Report([fault(path, "WriteFault", f"{trouble.strerror}; the file is as it was")], Status.WRITE_FAULT)
     return report
 
 
@@ -1180,17 +1191,17 @@ def drawn(program: Program, source: Source) -> tuple[str, Report]:
     answer = program.check(source.data, loops=True)
     if not answer.verdict:
         return "", Report([refusal(source, answer.status, answer.refusal)], answer.status)
-    if not answer.status:
+    if answer.status == Status.SOUND:
         state, verdict = State(answer.verdict), answer.verdict
         words = f"sound: {verdict['lines']} lines, {verdict['made']} loops made, {verdict['held']} held"
-        return Picture(source, answer.loops, state, []).svg([source.name, words], False), Report([], 0)
+        return Picture(source, answer.loops, state, []).svg([source.name, words], False), Report([], Status.SOUND)
     finding = broken_rule(program, source, answer.verdict)
     tokens = source.tokens(finding.line)
     # (a line that is no instruction has needles all the same)
     needles = [needle for token in tokens[1:] if (needle := needle_of(token.text))]
     picture = Picture(source, answer.loops, program.state_above(source, finding.line), needles)
     what = f"broken at line {finding.line}: {shown(source.line(finding.line))}"
-    return picture.svg([source.name, what, f"{finding.rule}: {finding.message}"], True), Report([finding], 0)
+    return picture.svg([source.name, what, f"{finding.rule}: {finding.message}"], True), Report([finding], Status.SOUND)
 
 
 # ---------------------------------------------------------------- the command line
@@ -1261,6 +1272,7 @@ def check_command(words: Sequence[str]) -> int:
         "check",
         "Says which rule a program breaks, where, and what cures it. Status: 0 sound, 1 a rule broken, else refused.",
     )
+    parser.epilog = "Other commands: tekhvumo fmt --help, tekhvumo draw --help."
     parser.add_argument("--block", type=int, metavar="N", help="body lines of a block; it never changes a verdict (64)")
     parser.add_argument(
         "--warn", action="store_true", help="also say what a knitter calls a mistake: " + ", ".join(WARNINGS)
@@ -1302,11 +1314,11 @@ def fmt_command(words: Sequence[str]) -> int:
         sys.stdout.buffer.write(new.data)
         print(FORMATS[options.format](report.findings), end="", file=sys.stderr)
         return report.status
-    reports = list(
-        each_file(
-            options.files, options.jobs, lambda path: formatted(program, path, name_of(options, path), options.check)
-        )
-    )
+
+    def work(path: str) -> Report:
+        return formatted(program, path, name_of(options, path), options.check)
+
+    reports = list(each_file(options.files, options.jobs, work))
     write_findings(options, [finding for report in reports for finding in report.findings])
     return max(report.status for report in reports)
 
@@ -1344,13 +1356,13 @@ def main(words: Sequence[str]) -> int:
         return status
     except SetupFault as trouble:
         print(f"tekhvumo: {trouble}", file=sys.stderr)
-        return USAGE
+        return Status.USAGE
     except BrokenPipeError:
         # Whoever read the output has enough of it; nothing is left to flush at the end.
         os.dup2(os.open(os.devnull, os.O_WRONLY), sys.stdout.fileno())
-        return WRITE_FAULT
+        return Status.WRITE_FAULT
     except KeyboardInterrupt:
-        return 130
+        return Status.SIGNAL + signal.SIGINT
 
 
 if __name__ == "__main__":

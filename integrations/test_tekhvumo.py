@@ -281,10 +281,16 @@ class Refusals(Case):
         self.assertEqual(self.tekhvumo("--program", "/nowhere/check_main", "-", given=SOUND), (2, ""))
 
     def test_a_program_that_ends_without_an_answer(self) -> None:
-        mute = self.write("mute", "#!/bin/sh\nexit 6\n")
-        mute.chmod(0o755)
-        status, output = self.tekhvumo("--program", str(mute), "-", given=SOUND)
-        self.assertEqual((status, FINDING.fullmatch(output)[5]), (6, "NoMemory"))
+        for does, status, rule in (
+            ("exit 6", 6, "NoMemory"),
+            ("exit 5", 5, "NoAnswer"),
+            ("kill -9 $$", 137, "NoAnswer"),
+        ):
+            mute = self.write(f"mute{status}", f"#!/bin/sh\n{does}\n")
+            mute.chmod(0o755)
+            ended, output = self.tekhvumo("--program", str(mute), "-", given=SOUND)
+            self.assertEqual((ended, FINDING.fullmatch(output)[5]), (status, rule))
+        self.assertEqual(self.tekhvumo("--program", "/bin/cat", "-", given=SOUND), (2, ""))
 
 
 class Warnings(Case):
