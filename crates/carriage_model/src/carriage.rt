@@ -80,8 +80,8 @@ impl Carriage {
         }
     }
 
-    /// Carries out the next line, if it breaks no rule, or passes it over behind a line that broke one.
-    /// `false` says that the line is to be carried out by `execute`, and that nothing was done.
+    /// Carries out the next line, if no loops are kept and it breaks no rule, or passes it over behind a line that broke one.
+    /// `false` says that the line is to be carried out by another call, and that nothing was done.
     #[inline(always)]
     pub fn carry_usual(&mut self, usual: Usual) -> Result<bool, NoMemory>
         requires running { IsRunning self.old }
@@ -98,7 +98,25 @@ impl Carriage {
             return Ok(true);
         }
         if self.loops.is_some() {
-            return self.carry_with_loop(usual);
+            return Ok(false);
+        }
+        self.carry_allowed(usual)
+    }
+
+    /// The same, whether loops are kept or not. It stays out of the caller's loop, where lines whose loops aren't kept are carried
+    /// out faster without it.
+    #[inline(never)]
+    pub fn carry_with_loop(&mut self, usual: Usual) -> Result<bool, NoMemory>
+        requires running { IsRunning self.old }
+        requires lawful { (carriers : ℕ) × (carriers ≤ 64) × IsLawfulRead (profile_of self.old) carriers (usual_read usual) }
+        requires lines { next_line self.old + 1 < 2 ^ 32 }
+        ensures over { IfOk result (λ over. over ≡ true → RanOn (usual_read usual) self.old self.new) }
+        ensures same { IfOk result (λ over. over ≡ false → self.new ≡ self.old) }
+        ensures err { OnErr result (RunsAsBefore self.old self.new) }
+    {
+        if self.is_stopped() {
+            self.lines += 1;
+            return Ok(true);
         }
         self.carry_allowed(usual)
     }
@@ -160,21 +178,6 @@ impl Carriage {
         self.made += loops_of(read);
         self.lines += 1;
         Ok(())
-    }
-
-    // The same where loops are kept. It stays out of the caller's loop, so that lines without loops to keep are carried out as
-    // if there were no such line.
-    #[inline(never)]
-    fn carry_with_loop(&mut self, usual: Usual) -> Result<bool, NoMemory>
-        requires running { IsRunning self.old }
-        requires lawful { (carriers : ℕ) × (carriers ≤ 64) × IsLawfulRead (profile_of self.old) carriers (usual_read usual) }
-        requires lines { next_line self.old + 1 < 2 ^ 32 }
-        requires going { is_stopped self.old ≡ false }
-        ensures over { IfOk result (λ over. over ≡ true → RanOn (usual_read usual) self.old self.new) }
-        ensures same { IfOk result (λ over. over ≡ false → self.new ≡ self.old) }
-        ensures err { OnErr result (RunsAsBefore self.old self.new) }
-    {
-        self.carry_allowed(usual)
     }
 
     // Carries out the next line, if it breaks no rule.

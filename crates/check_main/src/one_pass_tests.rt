@@ -18,6 +18,11 @@ const PLAIN: Style = Style {
     json: false,
 };
 
+const WITH_LOOPS: Style = Style {
+    loops: true,
+    json: false,
+};
+
 fn says(ending: &Ending, expected: &str) -> bool {
     ending.text.as_slice() == expected.as_bytes()
 }
@@ -46,6 +51,16 @@ fn agree(alloc: Global, style: Style, words: &[&str], row: &Row) -> Result<bool,
 fn first_other(alloc: Global, rows: &[Row]) -> Result<Option<&'static str>, Fail> {
     for row in rows {
         if !agree(alloc, PLAIN, &["check"], row)? {
+            return Ok(Some(row.2));
+        }
+    }
+    Ok(None)
+}
+
+// The same where the loops are told.
+fn first_other_loops(alloc: Global, rows: &[Row]) -> Result<Option<&'static str>, Fail> {
+    for row in rows {
+        if !agree(alloc, WITH_LOOPS, &["check", "--loops"], row)? {
             return Ok(Some(row.2));
         }
     }
@@ -107,6 +122,31 @@ const NAMES: [Row; 4] = [
         true,
         b";!knitout-2\n;;Carriers: 10 1\nin 10\ntuck + f1 10\ntuck + f1 1\n",
         "broken line 5 rule CarrierIsOut at 3\n> tuck + f1 1\n",
+    ),
+];
+
+const LOOPS: [Row; 4] = [
+    // Loops of two carriers, and several on a needle.
+    (
+        true,
+        b";!knitout-2\n;;Carriers: 1 2\nin 1 2\ntuck + f1 1\ntuck - f1 2 1\ntuck + f1 2\nknit + f1 2\nxfer f1 b1\nknit - b1 1",
+        "sound lines 7 made 5 held 1 rack 0\nin: 1 2\nhook:\nb1: 9\nloop 4 on f1 + with 1 through\nloop 5 on f1 - with 2 1 through\nloop 6 on f1 + with 2 through\nloop 7 on f1 + with 2 through 4 5 6\nloop 9 on b1 - with 1 through 7\n",
+    ),
+    // The line at fault makes no loop, nor does any behind it.
+    (
+        true,
+        b";!knitout-2\n;;Carriers: 1 10\nin 10\ntuck + f1 10\nknit - f1 10\nknit + f1 1\nknit + f1 10\n",
+        "broken line 6 rule CarrierIsOut at 3\n> knit + f1 1\nloop 4 on f1 + with 10 through\nloop 5 on f1 - with 10 through 4\n",
+    ),
+    (
+        true,
+        b";!knitout-2\n;;Carriers: 10 1 01\nin 01 10\ntuck + f1 01\ntuck + f2 10\ntuck + f3 1\n",
+        "broken line 6 rule CarrierIsOut at 3\n> tuck + f3 1\nloop 4 on f1 + with 01 through\nloop 5 on f2 + with 10 through\n",
+    ),
+    (
+        true,
+        b";!knitout-2\n;;Carriers: 1 10\nin 10 1\ntuck + f1 1\ntuck + f2 10\nknit - f2 10",
+        "sound lines 4 made 3 held 2 rack 0\nin: 1 10\nhook:\nf1: 4\nf2: 6\nloop 4 on f1 + with 1 through\nloop 5 on f2 + with 10 through\nloop 6 on f2 - with 10 through 5\n",
     ),
 ];
 
@@ -181,6 +221,12 @@ fn nearly_usual_needles(rt: HostRuntime) -> Result<(), Fail> {
 #[test]
 fn nearly_usual_names(rt: HostRuntime) -> Result<(), Fail> {
     assert_eq!(rt; first_other(rt.alloc(), &NAMES)?, None);
+    Ok(())
+}
+
+#[test]
+fn loops_of_usual_and_other_lines(rt: HostRuntime) -> Result<(), Fail> {
+    assert_eq!(rt; first_other_loops(rt.alloc(), &LOOPS)?, None);
     Ok(())
 }
 

@@ -1,4 +1,4 @@
-//! Usual lines that the carriage has to look at whole: loops are kept, or a rule is broken.
+//! Usual lines that the carriage takes another way: their loops are kept, or they break a rule.
 ghost use Rattle.std.specs.Prelude.{◌≡◌, ◌≤◌, ◌<◌, ◌+◌, ◌^◌, ℕ, Bool, List, [], ◌∷◌, ◌++◌, IfOk, OnOk};
 ghost use Rattle.knit_base.specs.declared.instr.Read.{Read};
 ghost use Rattle.knit_base.specs.declared.profile.Profile.{Profile};
@@ -10,7 +10,7 @@ use carriage_model::Carriage;
 use knit_base::{CarrierNo, Instr, NoMemory, Read, Usual, Yarns};
 use std::alloc::Global;
 
-/// Carries out a usual line as any other, without reading it again. It stays out of the loop that most usual lines take.
+/// Carries out a usual line, without reading it again, also where its loop is kept or it breaks a rule. It stays out of the loop that most usual lines take.
 #[inline(never)]
 pub fn execute_usual(alloc: Global, usual: Usual, carriage: &mut Carriage) -> Result<(), NoMemory>
     requires running { IsRunning carriage.old }
@@ -19,6 +19,9 @@ pub fn execute_usual(alloc: Global, usual: Usual, carriage: &mut Carriage) -> Re
     ensures { OnOk result ((profile : Profile) (with_loops : Bool) (first : ℕ) (reads : List Read)
         → HasRun profile with_loops first reads carriage.old → HasRun profile with_loops first (reads ++ usual_read usual ∷ []) carriage.new) }
 {
+    if carriage.carry_with_loop(usual)? {
+        return Ok(());
+    }
     let read = read_of(alloc, usual)?;
     carriage.execute(&read)
 }
