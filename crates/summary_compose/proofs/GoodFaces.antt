@@ -16,7 +16,7 @@ use Rattle.face_data.specs.declared.face.FaceView.{FaceView}
 use Rattle.face_data.specs.Composition.{composed, composed_at, closed_at, changes_with, reads}
 use Rattle.face_data.specs.Conditions.{ask_of, part_of}
 use Rattle.face_data.specs.Digests.{CarrierFits}
-use Rattle.face_data.specs.Goodness.{AskFits, EndingFits, IsGood}
+use Rattle.face_data.specs.Goodness.{AskFits, EndingFits, IsGood, IsGoodFace}
 use Rattle.face_data.specs.Segments.{segments_on, names_through, new_of, new_through}
 use Rattle.face_data.specs.Sets.{IsDistinct, IsWithin}
 use Rattle.face_data.specs.Summaries.{Summary}
@@ -155,3 +155,14 @@ composable a b g pa pb sum =
       made = omega (arith, g.first.fair.made, g.second.fair.made, sum);
       ending = ending_rises g.carriers a (summary_of b) b.ending g.second.fair.ending sum;
     }
+
+-- The composition of two good faces is a good face.
+pub composed_good_face : (a b : FaceView) → AreGood a b → IsGoodFace (composed (summary_of a) (summary_of b))
+composed_good_face a b g = record {
+  carriers = g.carriers;
+  limit = g.limit;
+  known = g.first_known ++ g.second_known;
+  few_loops = g.few_loops;
+  numbers = All-append IsNumbered g.first_known g.second_known g.first_numbers g.second_numbers;
+  good = composed_good g.carriers g.limit g.first_known g.second_known (summary_of a) (summary_of b) g.first g.second;
+}
