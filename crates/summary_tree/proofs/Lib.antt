@@ -1,3 +1,4 @@
 pub mod SpanTables
 pub mod FaceTables
 pub mod Meets
+pub mod Roots

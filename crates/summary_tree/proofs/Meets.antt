@@ -1,12 +1,21 @@
 -- Taking spans for a face that was reckoned with.
-use Rattle.std.proofs.Common.{◌≡◌, ◌≢◌, ℕ, zero, suc, ◌+◌, ◌*◌, ◌-◌, ◌^◌, ◌<◌, ◌≤◌, min, List, [], ◌∷◌, length, true, false, refl, sym, ◌∙◌, ap, subst, arith, inl, inr}
+use Rattle.std.proofs.Common.{◌≡◌, ◌≢◌, ℕ, zero, suc, ◌+◌, ◌*◌, ◌-◌, ◌^◌, ◌<◌, ◌≤◌, min, List, [], ◌∷◌, length, map, Option, Some, None, Bool, true, false, refl, sym, ◌∙◌, ap, subst, arith, inl, inr}
 use Rattle.std.specs.Prelude.{nat_lt, ◌==◌, ◌||◌, cond, count_by}
 use Rattle.std.specs.List.{All}
 use Rattle.std.proofs.lemmas.Bool.{cases_lt}
 use Rattle.std.proofs.lemmas.Bool.Decides.{eqb_tells, nat_tests}
 use Rattle.std.proofs.lemmas.List.{length-map}
 use Rattle.std.proofs.lemmas.List.Sums.{sum_by-cons}
-use Rattle.std.proofs.lemmas.List.Elements.{All-head, All-tail}
+use Rattle.std.proofs.lemmas.List.Elements.{All-head, All-tail, All-append, All-weaker}
+use Rattle.std.proofs.Math.Seq.{take-suc}
+use Rattle.std.proofs.Common.{◌++◌, take, add-one}
+use Rattle.std.specs.Prelude.{slice_index_or}
+use Rattle.std.specs.Option.{option_map}
+use Rattle.loop_history.specs.declared.row.LoopRow.{LoopRow}
+use Rattle.tree_shape.specs.declared.node.Child.{Child}
+use Rattle.tree_shape.specs.declared.node.Child.TheVariants.{Leaf, Inner}
+use Rattle.tree_shape.specs.Values.{part}
+use Rattle.summary_tree.specs.Store.{place_of, leaf_from, leaf_in, node_in, HasRooms}
 use Rattle.std.proofs.Math.Nat.{pow-succ'}
 use Rattle.std.proofs.Math.Path.{ap₂}
 use Rattle.std.proofs.Math.Pow.{pow_mono}
@@ -19,12 +28,15 @@ use Rattle.summary_compose.specs.Composing.{IsNoGreater}
 use Rattle.summary_compose.specs.Rooms.{capped, room_of, room_after, room_of_both}
 use Rattle.summary_compose.specs.declared.room.Room.{Room}
 use Rattle.summary_compose.proofs.Checks.{named_size}
-use Rattle.summary_compose.proofs.ComposedRooms.{entries_in_packed}
+use Rattle.summary_compose.proofs.Rooms.{all_entries_flat}
+use Rattle.face_data.specs.Segments.{entries_of}
 use Rattle.summary_compose.proofs.Parts.{packed_size}
 use Rattle.summary_tree.specs.declared.faces.FaceList.{FaceList}
 use Rattle.summary_tree.specs.declared.faces.FaceList.TheVariants.{Checks, Names, Changes, Segs}
-use Rattle.summary_tree.specs.Faces.{FacesView, AreMet, TookSpans, KeepsSpares, spare_in, length_in}
-use Rattle.summary_tree.specs.Laws.{capped_is_min, product_kept, sum_kept}
+use Rattle.summary_tree.specs.Faces.{FacesView, AreMet, TookSpans, KeepsSpares, spare_in, length_in, face_in}
+use Rattle.summary_tree.specs.Laws.{capped_is_min, product_kept, sum_kept, along_rooms, bounds}
+use Rattle.summary_tree.specs.Leaves.{LeavesFit}
+use Rattle.face_data.specs.Composition.{composed}
 use Rattle.summary_tree.specs.Meeting.{reaches, IsMet}
 use Rattle.summary_tree.specs.Rooms.{kept_room}
 
@@ -99,12 +111,12 @@ kept_is face p =
     let segs = sym (packed_size face.segs.now face.changes.now (record { fit = p.changes_fit; whole = p.segs })) in
     let checks = length-map face.checks.now (asked_of face.names.now) in
     let changes = length-map face.changes.now (changed_of face.segs.now) in
-    let entries = entries_in_packed face p in
+    let entries : length (all_entries (map (changed_of face.segs.now) face.changes.now)) ≡ length (entries_of face.segs.now) = ap length (sym (all_entries_flat face.segs.now face.changes.now) ∙ ap entries_of p.segs) in
     let s = summary_of face in
-    ap (λ n. record { checks = capped n; names = kept_room s .names; changes = kept_room s .changes; segs = kept_room s .segs; entries = kept_room s .entries }) checks
-    ∙ (ap (λ n. record { checks = capped (length face.checks.now); names = capped n; changes = kept_room s .changes; segs = kept_room s .segs; entries = kept_room s .entries }) names
-    ∙ (ap (λ n. record { checks = capped (length face.checks.now); names = capped (length face.names.now); changes = capped n; segs = kept_room s .segs; entries = kept_room s .entries }) changes
-    ∙ (ap (λ n. record { checks = capped (length face.checks.now); names = capped (length face.names.now); changes = capped (length face.changes.now); segs = capped n; entries = kept_room s .entries }) segs
+    ap (λ n. record { checks = capped n; names = (kept_room s).names; changes = (kept_room s).changes; segs = (kept_room s).segs; entries = (kept_room s).entries }) checks
+    ∙ (ap (λ n. record { checks = capped (length face.checks.now); names = capped n; changes = (kept_room s).changes; segs = (kept_room s).segs; entries = (kept_room s).entries }) names
+    ∙ (ap (λ n. record { checks = capped (length face.checks.now); names = capped (length face.names.now); changes = capped n; segs = (kept_room s).segs; entries = (kept_room s).entries }) changes
+    ∙ (ap (λ n. record { checks = capped (length face.checks.now); names = capped (length face.names.now); changes = capped (length face.changes.now); segs = capped n; entries = (kept_room s).entries }) segs
     ∙ ap (λ n. record { checks = capped (length face.checks.now); names = capped (length face.names.now); changes = capped (length face.changes.now); segs = capped (length face.segs.now); entries = capped n }) entries)))
 
 capped_in : (list : FaceList) (r : Room) → length_in list (kept_of r) ≡ capped (length_in list r)
@@ -151,3 +163,55 @@ both_kept a b p q = subst (λ x. IsNoGreater (room_of_both a b) (room_after x (k
           segs = sum_kept (r.segs + s.segs) r.segs s.segs (omega arith);
           entries = sum_kept (r.entries + s.entries) r.entries s.entries (omega arith);
         }
+
+-- nothing more than a face's own room
+pub after_none : (r none : Room) → none ≡ record { checks = 0; names = 0; changes = 0; segs = 0; entries = 0 } → room_after r none ≡ kept_of r
+after_none r none e = ap (room_after r) e ∙ go
+  where
+    plus : (n : ℕ) → capped (n + 0) ≡ capped n
+    plus n = let same : n + 0 ≡ n = omega arith in ap capped same
+
+    both : (n e : ℕ) → capped (capped (n + 0) + capped (0 * e)) ≡ capped n
+    both n e = omega (arith, capped_is_min (n + 0), capped_is_min (0 * e), capped_is_min (capped (n + 0) + capped (0 * e)), capped_is_min n)
+
+    go : room_after r (record { checks = 0; names = 0; changes = 0; segs = 0; entries = 0 }) ≡ kept_of r
+    go =
+        ap (λ n. record { checks = n; names = capped (capped (r.names + 0) + capped (0 * r.entries)); changes = capped (r.changes + 0); segs = capped (r.segs + 0); entries = capped (r.entries + 0) }) (plus r.checks)
+        ∙ (ap (λ n. record { checks = capped r.checks; names = n; changes = capped (r.changes + 0); segs = capped (r.segs + 0); entries = capped (r.entries + 0) }) (both r.names r.entries)
+        ∙ (ap (λ n. record { checks = capped r.checks; names = capped r.names; changes = n; segs = capped (r.segs + 0); entries = capped (r.entries + 0) }) (plus r.changes)
+        ∙ (ap (λ n. record { checks = capped r.checks; names = capped r.names; changes = capped r.changes; segs = n; entries = capped (r.entries + 0) }) (plus r.segs)
+        ∙ ap (λ n. record { checks = capped r.checks; names = capped r.names; changes = capped r.changes; segs = capped r.segs; entries = n }) (plus r.entries))))
+
+-- what a child of the tree has is the face at its place
+pub part_face : (faces : FacesView) (tables : List (Option (List LoopRow))) (child : Child) (v : Summary × List LoopRow) → part (leaf_in faces tables) (node_in faces) child ≡ Some v → face_in faces (place_of child) ≡ Some v.0
+part_face faces tables (Leaf n) v e = of_leaf (face_in faces (place_of (Leaf n))) (slice_index_or tables n None) v e
+  where
+    of_leaf : (o : Option Summary) (t : Option (List LoopRow)) (v : Summary × List LoopRow) → leaf_from o t ≡ Some v → o ≡ Some v.0
+    of_leaf None t v e = cc
+    of_leaf (Some face) None v e = cc
+    of_leaf (Some face) (Some table) v e = let same : (face, table) ≡ v = cc in ap (λ (p : Summary × List LoopRow). Some p.0) same
+part_face faces tables (Inner n) v e = of_node (face_in faces (place_of (Inner n))) v e
+  where
+    of_node : (o : Option Summary) (v : Summary × List LoopRow) → option_map (λ (face : Summary). (face, [])) o ≡ Some v → o ≡ Some v.0
+    of_node None v e = cc
+    of_node (Some face) v e = let same : (face, []) ≡ v = cc in ap (λ (p : Summary × List LoopRow). Some p.0) same
+
+-- two that are there are one
+pub same_there : {X : Type 0} (o : Option X) (a b : X) → o ≡ Some a → o ≡ Some b → a ≡ b
+same_there o a b e f = let both : Some a ≡ Some b = sym e ∙ f in cc
+
+-- the greatest of one room more
+pub one_more : (xs : List Room) (i : ℕ) (most next d : Room) → i < length xs → All (λ r. IsNoGreater r most) (take i xs) → IsNoGreater most next → IsNoGreater (slice_index_or xs i d) next → All (λ r. IsNoGreater r next) (take (i + 1) xs)
+one_more xs i most next d inside all up here =
+    let last : All (λ r. IsNoGreater r next) (slice_index_or xs i d ∷ []) = λ k e h. let first : k ≡ 0 = omega arith in subst (λ n. IsNoGreater (slice_index_or (slice_index_or xs i d ∷ []) n e) next) (sym first) here in
+    let both : All (λ r. IsNoGreater r next) (take i xs ++ (slice_index_or xs i d ∷ [])) = All-append (λ r. IsNoGreater r next) (take i xs) (slice_index_or xs i d ∷ []) (All-weaker (λ r. IsNoGreater r most) (λ r. IsNoGreater r next) (λ x p. along_rooms x most next p up) (take i xs) all) last in
+    let list : take (suc i) xs ≡ take i xs ++ (slice_index_or xs i d ∷ []) = take-suc xs i d inside in
+    subst (λ n. All (λ r. IsNoGreater r next) (take n xs)) (sym (add-one i)) (subst (All (λ r. IsNoGreater r next)) (sym list) both)
+
+-- what two leaves compose to takes no more room than was reckoned with
+pub composed_within : (a b : Summary × List LoopRow) (r : Room) → LeavesFit a b → IsNoGreater (room_after (kept_room a.0) (kept_room b.0)) r → IsNoGreater (kept_room (composed a.0 b.0)) r
+composed_within a b r f h = along_rooms (kept_room (composed a.0 b.0)) (room_after (kept_room a.0) (kept_room b.0)) r (bounds a b f) h
+
+-- a test can't have failed and passed
+pub clash : {X : Type 0} (b : Bool) → b ≡ false → b ≡ true → X
+clash b e f = let no : false ≡ true = sym e ∙ f in absurd (cc)

@@ -32,7 +32,9 @@ use Rattle.summary_compose.specs.declared.room.Room.{Room}
 use Rattle.summary_compose.proofs.ComposedRooms.{composed_sizes}
 use Rattle.summary_compose.proofs.Rooms.{names_read_bound, after_grows}
 use Rattle.tree_shape.specs.Composing.{StandLaws, RoomLaws, Costs}
+use Rattle.summary_tree.specs.Faces.{FacesView, spare_in, length_in}
 use Rattle.summary_tree.specs.Meeting.{reaches, IsMet}
+use Rattle.summary_tree.specs.Store.{HasRooms}
 use Rattle.summary_tree.specs.Leaves.{Leaf, lines_of, AreGoodFor, AreSound, applied_each, EachStandsFor, all_lines, IsWholeOf, WholeLeaf, joined_leaf, LeavesFit, leaf_items, leaf_room, leaf_lines}
 use Rattle.summary_tree.specs.Rooms.{kept_room}
 
@@ -245,4 +247,11 @@ pub met_any_order : {X : Type 0} (spare : ℕ → ℕ) (len : X → ℕ) (r : X)
 met_any_order spare len r rooms m = record {
   low = to_front (λ x. len x ≤ 2 ^ 62) rooms r m.low;
   enough = λ class h. omega (arith, m.enough class h, sum_by-append (λ x. cond (reaches class (len x)) 1 0) rooms (r ∷ []), sum_by-cons (λ x. cond (reaches class (len x)) 1 0) r rooms);
+}
+
+-- rooms for faces in one order are rooms for them in another
+pub rooms_any_order : (faces : FacesView) (scratch r : Room) (rooms : List Room) → HasRooms faces scratch (rooms ++ r ∷ []) → HasRooms faces scratch (r ∷ rooms)
+rooms_any_order faces scratch r rooms h = record {
+  spans = λ list. met_any_order (spare_in faces list) (length_in list) r rooms (h.spans list);
+  scratch_has = to_front (λ x. IsNoGreater x scratch) rooms r h.scratch_has;
 }

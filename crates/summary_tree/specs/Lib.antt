@@ -4,3 +4,5 @@ pub mod Meeting
 pub mod Rooms
 pub mod Leaves
 pub mod Laws
+pub mod Store
+pub mod Trees

@@ -1,5 +1,20 @@
-//! The document as a balanced tree of faces, each list of a face in a span of a pool.
+//! The document as a balanced tree of its blocks' faces, each list of a face in a span of a pool.
+//!
+//! Promises that the root's face stands for the lines of all leaves, whatever lines these stand for, and does what they do, one
+//! after the other; that a face that a change makes is composed of its two parts as they then are; that a change whose need is met
+//! takes no memory and can't be refused; that a node's lists lie in spans of the class that they need, and old ones are given back.
+//!
+//! Definitions: `specs/Leaves` (the leaves and the face of all of them), `specs/Trees` (what always holds of a tree, and what a
+//! change needs), `specs/Rooms` and `specs/Meeting` (rooms, and spans for them), `specs/Faces`, `specs/Lists` and `specs/Store`
+//! (where faces lie). `specs/Laws` shows that faces obey what `value_tree` asks of values. Below it stand `value_tree`,
+//! `tree_shape`, `span_pool`, `summary_compose`, `loop_history`, `face_data`, `carriage_model` and `knit_base`.
 #![tactic(auto)]
 
 mod faces;
 mod lists;
+mod need;
+mod store;
+mod tree;
+
+pub use need::Need;
+pub use tree::Tree;

@@ -32,6 +32,7 @@ impl<S: Values> ValueTree<S> {
         S: Takes<F>,
         requires kept { IsKept S.join S.sound (S.leaf_at self.old.store) (S.node_at self.old.store) (S.slots self.old.store) self.old.shape }
         requires place { at < count_of self.old.shape.tree }
+        requires lawful { S.may_stand leaf }
         requires sound { S.sound (slice_set (leaf_values (S.leaf_at self.old.store) self.old.shape.tree) at (S.value_of leaf)) }
         requires need { (needed : List S.Room) × S.meets self.old.store needed × IsReplaceNeed S.room S.after (S.leaf_at self.old.store) (S.node_at self.old.store) self.old.shape at (S.room (S.value_of leaf)) needed }
         ensures kept { IsKept S.join S.sound (S.leaf_at self.new.store) (S.node_at self.new.store) (S.slots self.new.store) self.new.shape }
@@ -57,6 +58,7 @@ impl<S: Values> ValueTree<S> {
         requires room { self.old.shape.room ≡ true }
         requires leaf_slot { self.old.shape.leaf_numbers.drawn < S.slots self.old.store }
         requires inner_slot { self.old.shape.inner_numbers.drawn < S.slots self.old.store }
+        requires lawful { S.may_stand leaf }
         requires sound { S.sound (inserted at (S.value_of leaf) (leaf_values (S.leaf_at self.old.store) self.old.shape.tree)) }
         requires need { (needed : List S.Room) × S.meets self.old.store needed × IsInsertNeed S.room S.after (S.leaf_at self.old.store) (S.node_at self.old.store) self.old.shape at (S.room (S.value_of leaf)) needed }
         ensures kept { IsKept S.join S.sound (S.leaf_at self.new.store) (S.node_at self.new.store) (S.slots self.new.store) self.new.shape }

@@ -144,8 +144,12 @@ pub trait Takes<F>: Values {
     /// The value of what is put at a leaf.
     ghost value_of: { F → Self.Value };
 
+    /// What must be so of it.
+    ghost may_stand: { F → Type 0 };
+
     /// Puts a value at a leaf, in place of what was there.
     fn set_leaf(&mut self, number: u32, leaf: F)
+        requires lawful { may_stand leaf }
         requires place { number < Self.slots self.old }
         requires memory { (r : Self.Room) × (rest : List Self.Room) × Self.within (Self.room (value_of leaf)) r × Self.meets self.old (r ∷ rest) }
         ensures leaf { Self.leaf_at self.new number ≡ Some (value_of leaf) }

@@ -165,6 +165,8 @@ impl Counts for Sums {
 impl Takes<u64> for Sums {
     ghost value_of = { λ v. v };
 
+    ghost may_stand = { λ v. ⊤ };
+
     fn set_leaf(&mut self, number: u32, leaf: u64) {
         set(&mut self.leaves, number, leaf);
     }

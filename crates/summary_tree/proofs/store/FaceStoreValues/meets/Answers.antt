@@ -1,0 +1,95 @@
+use Rattle.std.proofs.Common.{◌≡◌, ℕ, true, false, List, ◌∷◌, Option, Some, refl, sym, ◌∙◌, ap, subst, arith}
+use Rattle.std.specs.List.{All}
+use Rattle.std.proofs.lemmas.List.Elements.{All-head, All-tail}
+use Rattle.face_data.specs.Summaries.{Summary}
+use Rattle.face_data.specs.Composition.{composed}
+use Rattle.face_data.specs.View.{IsPacked, summary_of}
+use Rattle.summary_compose.specs.Composing.{IsNoGreater}
+use Rattle.summary_compose.specs.Rooms.{room_after}
+use Rattle.summary_compose.specs.declared.room.Room.{Room}
+use Rattle.summary_tree.specs.Faces.{FacesView, face_in, AreMet, spare_in, length_in}
+use Rattle.summary_tree.specs.declared.faces.FaceList.{FaceList}
+use Rattle.summary_tree.specs.declared.faces.FaceList.TheVariants.{Checks, Names, Changes, Segs}
+use Rattle.summary_tree.specs.Meeting.{IsMet}
+use Rattle.summary_tree.specs.Laws.{bounds, along_rooms}
+use Rattle.summary_tree.specs.Rooms.{kept_room}
+use Rattle.summary_tree.specs.Store.{place_of, leaf_in, node_in, HasRooms}
+use Rattle.summary_tree.proofs.Meets.{list_fits, spans_there, spans_left, spans_more, clash}
+use Rattle.summary_tree.proofs.store.FaceStoreValues.meets.Goals as goal
+use Rattle.summary_tree.proofs.store.FaceStoreValues.meets.Goals.{then-is_within, else-is_within, then-list_is_met, else-list_is_met, then-list_is_met-2, else-list_is_met-2}
+
+each_met : (faces : FacesView) (need : List Room) → IsMet (spare_in faces Checks) (length_in Checks) need → IsMet (spare_in faces Names) (length_in Names) need → IsMet (spare_in faces Changes) (length_in Changes) need
+    → IsMet (spare_in faces Segs) (length_in Segs) need → AreMet faces need
+each_met faces need a b c d Checks = a
+each_met faces need a b c d Names = b
+each_met faces need a b c d Changes = c
+each_met faces need a b c d Segs = d
+
+pub returns-then-list_is_met-3 : goal.returns-then-list_is_met-3
+returns-then-list_is_met-3 c =
+    let need = c.args.need.now in
+    let faces = c.args.self.now.faces in
+    let room = c.args.self.now.scratch.room in
+    let up0 : HasRooms faces room need → c.if-is_within.value ≡ true = λ h. elim c.if-is_within.branch [
+      | then-is_within w ↦ w.value-is ∙ w.list_is_met.ensures.1 (h.spans Checks)
+      | else-is_within w ↦ clash c.is_within.result w.if-is_within.false (c.is_within.ensures.1 h.scratch_has)
+    ] in
+    let up1 : HasRooms faces room need → c.if-list_is_met.value ≡ true = λ h. elim c.if-list_is_met.branch [
+      | then-list_is_met w ↦ w.value-is ∙ w.list_is_met-then-list_is_met.ensures.1 (h.spans Names)
+      | else-list_is_met w ↦ clash c.if-is_within.value w.if-list_is_met.false (up0 h)
+    ] in
+    let up2 : HasRooms faces room need → c.if-list_is_met-2.value ≡ true = λ h. elim c.if-list_is_met-2.branch [
+      | then-list_is_met-2 w ↦ w.value-is ∙ w.list_is_met-then-list_is_met-2.ensures.1 (h.spans Changes)
+      | else-list_is_met-2 w ↦ clash c.if-list_is_met.value w.if-list_is_met-2.false (up1 h)
+    ] in
+    let down0 : c.if-is_within.value ≡ true → All (λ r. IsNoGreater r room) need × IsMet (spare_in faces Checks) (length_in Checks) need = λ e. elim c.if-is_within.branch [
+      | then-is_within w ↦ (c.is_within.ensures.0 w.if-is_within.true, w.list_is_met.ensures.0 (sym w.value-is ∙ e))
+      | else-is_within w ↦ clash c.if-is_within.value (w.value-is ∙ w.if-is_within.false) e
+    ] in
+    let down1 : c.if-list_is_met.value ≡ true → (c.if-is_within.value ≡ true) × IsMet (spare_in faces Names) (length_in Names) need = λ e. elim c.if-list_is_met.branch [
+      | then-list_is_met w ↦ (w.if-list_is_met.true, w.list_is_met-then-list_is_met.ensures.0 (sym w.value-is ∙ e))
+      | else-list_is_met w ↦ clash c.if-list_is_met.value (w.value-is ∙ w.if-list_is_met.false) e
+    ] in
+    let down2 : c.if-list_is_met-2.value ≡ true → (c.if-list_is_met.value ≡ true) × IsMet (spare_in faces Changes) (length_in Changes) need = λ e. elim c.if-list_is_met-2.branch [
+      | then-list_is_met-2 w ↦ (w.if-list_is_met-2.true, w.list_is_met-then-list_is_met-2.ensures.0 (sym w.value-is ∙ e))
+      | else-list_is_met-2 w ↦ clash c.if-list_is_met-2.value (w.value-is ∙ w.if-list_is_met-2.false) e
+    ] in
+    (
+      λ e.
+          let third = down2 c.if-list_is_met-3.true in
+          let second = down1 third.0 in
+          let first = down0 second.0 in
+          record { spans = each_met faces need first.1 second.1 third.1 (c.list_is_met-then-list_is_met-3.ensures.0 e); scratch_has = first.0 },
+      λ h. c.list_is_met-then-list_is_met-3.ensures.1 (h.spans Segs),
+    )
+
+pub returns-else-list_is_met-3 : goal.returns-else-list_is_met-3
+returns-else-list_is_met-3 c =
+    let need = c.args.need.now in
+    let faces = c.args.self.now.faces in
+    let room = c.args.self.now.scratch.room in
+    let up0 : HasRooms faces room need → c.if-is_within.value ≡ true = λ h. elim c.if-is_within.branch [
+      | then-is_within w ↦ w.value-is ∙ w.list_is_met.ensures.1 (h.spans Checks)
+      | else-is_within w ↦ clash c.is_within.result w.if-is_within.false (c.is_within.ensures.1 h.scratch_has)
+    ] in
+    let up1 : HasRooms faces room need → c.if-list_is_met.value ≡ true = λ h. elim c.if-list_is_met.branch [
+      | then-list_is_met w ↦ w.value-is ∙ w.list_is_met-then-list_is_met.ensures.1 (h.spans Names)
+      | else-list_is_met w ↦ clash c.if-is_within.value w.if-list_is_met.false (up0 h)
+    ] in
+    let up2 : HasRooms faces room need → c.if-list_is_met-2.value ≡ true = λ h. elim c.if-list_is_met-2.branch [
+      | then-list_is_met-2 w ↦ w.value-is ∙ w.list_is_met-then-list_is_met-2.ensures.1 (h.spans Changes)
+      | else-list_is_met-2 w ↦ clash c.if-list_is_met.value w.if-list_is_met-2.false (up1 h)
+    ] in
+    let down0 : c.if-is_within.value ≡ true → All (λ r. IsNoGreater r room) need × IsMet (spare_in faces Checks) (length_in Checks) need = λ e. elim c.if-is_within.branch [
+      | then-is_within w ↦ (c.is_within.ensures.0 w.if-is_within.true, w.list_is_met.ensures.0 (sym w.value-is ∙ e))
+      | else-is_within w ↦ clash c.if-is_within.value (w.value-is ∙ w.if-is_within.false) e
+    ] in
+    let down1 : c.if-list_is_met.value ≡ true → (c.if-is_within.value ≡ true) × IsMet (spare_in faces Names) (length_in Names) need = λ e. elim c.if-list_is_met.branch [
+      | then-list_is_met w ↦ (w.if-list_is_met.true, w.list_is_met-then-list_is_met.ensures.0 (sym w.value-is ∙ e))
+      | else-list_is_met w ↦ clash c.if-list_is_met.value (w.value-is ∙ w.if-list_is_met.false) e
+    ] in
+    let down2 : c.if-list_is_met-2.value ≡ true → (c.if-list_is_met.value ≡ true) × IsMet (spare_in faces Changes) (length_in Changes) need = λ e. elim c.if-list_is_met-2.branch [
+      | then-list_is_met-2 w ↦ (w.if-list_is_met-2.true, w.list_is_met-then-list_is_met-2.ensures.0 (sym w.value-is ∙ e))
+      | else-list_is_met-2 w ↦ clash c.if-list_is_met-2.value (w.value-is ∙ w.if-list_is_met-2.false) e
+    ] in
+    (λ e. clash c.if-list_is_met-2.value c.if-list_is_met-3.false e, λ h. clash c.if-list_is_met-2.value c.if-list_is_met-3.false (up2 h))

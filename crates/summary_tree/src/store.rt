@@ -1,0 +1,273 @@
+//! Faces and loop tables at the leaves of a tree, and faces at its inner nodes.
+ghost use Rattle.std.specs.Prelude.{◌≡◌, ◌≢◌, ℕ, ◌+◌, ◌*◌, ◌<◌, ◌≤◌, ◌↔◌, true, List, length, slice_index_or, slice_set, Option, Some, None, IfSome, IsNone, OnOk};
+ghost use Rattle.face_data.specs.Composition.{composed};
+ghost use Rattle.face_data.specs.Items.{items};
+ghost use Rattle.face_data.specs.Summaries.{Summary};
+ghost use Rattle.face_data.specs.View.{IsPacked, summary_of};
+ghost use Rattle.loop_history.specs.declared.row.LoopRow.{LoopRow};
+ghost use Rattle.summary_compose.specs.Composing.{IsNoGreater};
+ghost use Rattle.summary_compose.specs.Rooms.{room_after};
+ghost use Rattle.tree_shape.specs.declared.node.Child.TheVariants.{Leaf, Inner};
+ghost use Rattle.summary_tree.specs.Faces.{face_in, spare_in, length_in, KeepsSpares};
+ghost use Rattle.summary_tree.specs.Laws.{stand_laws, room_laws, cost_law, lines_law, rooms_any_order};
+ghost use Rattle.summary_tree.specs.Leaves.{AreSound, WholeLeaf, joined_leaf, LeavesFit, leaf_items, leaf_room, leaf_lines};
+ghost use Rattle.summary_tree.specs.Meeting.{IsMet};
+ghost use Rattle.summary_tree.specs.Rooms.{kept_room};
+ghost use Rattle.summary_tree.specs.Store.{place_of, leaf_in, node_in, places_in, HasRooms};
+
+use crate::faces::{FaceList, Faces};
+use crate::need::Need;
+use face_data::{Face, FaceView};
+use knit_base::{NoMemory, Steps};
+use loop_history::LoopTable;
+use std::alloc::Global;
+use std::sync::ledger::Ledger;
+use summary_compose::{Room, Scratch, compose_into};
+use tree_shape::{Child, DirtyRow};
+use value_tree::{Counts, Takes, Values};
+
+/// Faces and loop tables by the numbers of leaves and inner nodes, and the place in which faces are composed.
+#[derive(Drop)]
+pub(crate) struct FaceStore {
+    pub(crate) faces: Faces,
+    pub(crate) tables: Vec<Option<LoopTable>>,
+    pub(crate) scratch: Scratch,
+}
+
+fn place_of(child: Child) -> usize
+    ensures { result ≡ place_of child }
+{
+    match child {
+        Child::Leaf(n) => n as usize * 2,
+        Child::Inner(n) => n as usize * 2 + 1,
+    }
+}
+
+/// The room that a face takes.
+pub(crate) fn kept_room(face: &FaceView) -> Room
+    requires { IsPacked face.now }
+    ensures { result ≡ kept_room (summary_of face.now) }
+{
+    Room::of(face).after(&Room::NONE)
+}
+
+// Whether there are spans for one of the lists of each room.
+fn list_is_met(faces: &Faces, list: FaceList, need: &Need) -> bool
+    ensures { (result ≡ true) ↔ IsMet (spare_in faces.now list) (length_in list) need.now }
+{
+    if !need.is_short(list) {
+        return false;
+    }
+    for class in 0..63 {
+        if faces.spare(list, class) < need.count(list, class) {
+            return false;
+        }
+    }
+    true
+}
+
+// Makes spans for one of the lists of each room.
+fn reserve_list(faces: &mut Faces, list: FaceList, need: &Need) -> Result<(), NoMemory>
+    ensures ok { OnOk result (IsMet (spare_in faces.new list) (length_in list) need.now) }
+    ensures faces { faces.new.faces ≡ faces.old.faces }
+    ensures spares { KeepsSpares faces.old faces.new }
+{
+    if !need.is_short(list) {
+        return Err(NoMemory);
+    }
+    for class in 0..63 {
+        faces.reserve(list, class, need.count(list, class))?;
+    }
+    Ok(())
+}
+
+// Composes the faces of two places in the scratch.
+fn compose_both<L: Ledger>(
+    faces: &Faces,
+    left: usize,
+    right: usize,
+    scratch: &mut Scratch,
+    steps: &mut Steps<L>,
+)
+    requires { (a : Summary × List LoopRow) × (b : Summary × List LoopRow) × (face_in faces.now left ≡ Some a.0) × (face_in faces.now right ≡ Some b.0) × LeavesFit a b × IsNoGreater (room_after (kept_room a.0) (kept_room b.0)) scratch.old.room }
+    ensures composed { (a b : Summary) → face_in faces.now left ≡ Some a → face_in faces.now right ≡ Some b → scratch.new.summary ≡ composed a b }
+    ensures room { scratch.new.room ≡ scratch.old.room }
+    ensures steps { (a b : Summary) → face_in faces.now left ≡ Some a → face_in faces.now right ≡ Some b → steps.new ≡ steps.old + (items a + (items b + items (composed a b))) }
+{
+    if let Some(a) = faces.get(left) {
+        if let Some(b) = faces.get(right) {
+            compose_into(&a, &b, scratch, steps);
+        }
+    }
+}
+
+fn lengthen_tables(tables: &mut Vec<Option<LoopTable>>, many: u32) -> Result<(), NoMemory>
+    ensures ok { OnOk result (many ≤ length tables.new.items) }
+    ensures more { length tables.old.items ≤ length tables.new.items }
+    ensures same { (n : ℕ) → slice_index_or tables.new.items n None ≡ slice_index_or tables.old.items n None }
+{
+    let start = tables.len() as u64;
+    for _i in start..u64::from(many) {
+        tables.push(None)?;
+    }
+    Ok(())
+}
+
+fn set_table(tables: &mut Vec<Option<LoopTable>>, number: u32, table: Option<LoopTable>)
+    ensures { tables.new.items ≡ slice_set tables.old.items number table }
+{
+    if (number as usize) < tables.len() {
+        tables[number as usize] = table;
+    }
+}
+
+impl FaceStore {
+    pub fn new(alloc: Global) -> FaceStore {
+        FaceStore {
+            faces: Faces::new(alloc),
+            tables: Vec::new(alloc),
+            scratch: Scratch::new(alloc),
+        }
+    }
+
+    /// The face of a leaf or an inner node, if there is one.
+    pub fn face(&self, child: Child) -> Option<FaceView<'_>>
+        ensures some { IfSome result (λ view. face_in self.now.faces (place_of child) ≡ Some (summary_of view)) }
+        ensures packed { IfSome result (λ view. IsPacked view) }
+        ensures none { IsNone result → face_in self.now.faces (place_of child) ≡ None }
+    {
+        self.faces.get(place_of(child))
+    }
+}
+
+impl Values for FaceStore {
+    type Value = (Face, LoopTable);
+
+    type Room = Room;
+
+    type Need = Need;
+
+    ghost leaf_at = { λ s. leaf_in s.faces s.tables.items };
+
+    ghost node_at = { λ s. node_in s.faces };
+
+    ghost slots = { λ s. places_in s.faces s.tables.items };
+
+    ghost join = { joined_leaf };
+
+    ghost fits = { LeavesFit };
+
+    ghost sound = { AreSound };
+
+    ghost stands = { WholeLeaf };
+
+    ghost cost = { leaf_items };
+
+    ghost room = { leaf_room };
+
+    ghost after = { room_after };
+
+    ghost within = { IsNoGreater };
+
+    ghost meets = { λ s rooms. HasRooms s.faces s.scratch.room rooms };
+
+    ghost rooms = { λ n. n };
+
+    fn room_of(&self, child: Child) -> Room {
+        match self.faces.get(place_of(child)) {
+            Some(face) => kept_room(&face),
+            None => Room::NONE,
+        }
+    }
+
+    fn both(left: Room, right: Room) -> Room {
+        left.after(&right)
+    }
+
+    fn no_need() -> Need {
+        Need::new()
+    }
+
+    fn push(need: &mut Need, size: Room) {
+        need.push(size);
+    }
+
+    fn nth(need: &Need, i: u32) -> Room {
+        need.nth(i)
+    }
+
+    fn reserve(&mut self, need: &Need) -> Result<(), NoMemory> {
+        self.scratch.reserve(&need.greatest())?;
+        reserve_list(&mut self.faces, FaceList::Checks, need)?;
+        reserve_list(&mut self.faces, FaceList::Names, need)?;
+        reserve_list(&mut self.faces, FaceList::Changes, need)?;
+        reserve_list(&mut self.faces, FaceList::Segs, need)
+    }
+
+    fn meets(&self, need: &Need) -> bool {
+        need.is_within(&self.scratch)
+            && list_is_met(&self.faces, FaceList::Checks, need)
+            && list_is_met(&self.faces, FaceList::Names, need)
+            && list_is_met(&self.faces, FaceList::Changes, need)
+            && list_is_met(&self.faces, FaceList::Segs, need)
+    }
+
+    fn compose<L: Ledger>(&mut self, row: DirtyRow, steps: &mut Steps<L>) {
+        compose_both(
+            &self.faces,
+            place_of(row.left),
+            place_of(row.right),
+            &mut self.scratch,
+            steps,
+        );
+        self.faces
+            .put(place_of(Child::Inner(row.node)), &self.scratch.view());
+    }
+
+    fn clear_leaf(&mut self, number: u32) {
+        self.faces.clear(place_of(Child::Leaf(number)));
+        set_table(&mut self.tables, number, None);
+    }
+
+    fn clear_node(&mut self, number: u32) {
+        self.faces.clear(place_of(Child::Inner(number)));
+    }
+
+    fn reserve_slots(&mut self, many: u32) -> Result<(), NoMemory> {
+        self.faces.lengthen(u64::from(many) * 2)?;
+        lengthen_tables(&mut self.tables, many)
+    }
+
+    ghost stand_laws = { stand_laws };
+
+    ghost room_laws = { room_laws };
+
+    ghost meets_law = { λ s r needed m. rooms_any_order s.faces s.scratch.room r needed m };
+
+    ghost cost_law = { cost_law };
+}
+
+impl Counts for FaceStore {
+    ghost count = { leaf_lines };
+
+    fn count_of(&self, child: Child) -> u64 {
+        match self.faces.get(place_of(child)) {
+            Some(face) => u64::from(face.lines),
+            None => 0,
+        }
+    }
+
+    ghost count_law = { lines_law };
+}
+
+impl<'a> Takes<(FaceView<'a>, LoopTable)> for FaceStore {
+    ghost value_of = { λ leaf. (summary_of leaf.0, leaf.1) };
+
+    ghost may_stand = { λ leaf. IsPacked leaf.0 };
+
+    fn set_leaf(&mut self, number: u32, leaf: (FaceView<'a>, LoopTable)) {
+        let (face, loops) = leaf;
+        self.faces.put(place_of(Child::Leaf(number)), &face);
+        set_table(&mut self.tables, number, Some(loops));
+    }
+}
