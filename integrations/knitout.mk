@@ -1,5 +1,5 @@
 # Rules for knitout files: after `include knitout.mk`, `make knitout` checks all of them that have changed, and
-# `make NAME.svg` draws NAME.k.
+# `make NAME.svg` draws NAME.k. Make can't do with blanks in names.
 KNITOUT ?= $(wildcard *.k)
 TEKHVUMO ?= tekhvumo
 

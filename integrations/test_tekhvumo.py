@@ -414,7 +414,10 @@ class ManyFiles(Case):
                 words, cwd=self.room, env=self.environment, stderr=theirs, stdin=subprocess.DEVNULL, check=True
             )
             os.write(theirs, b".")
-            self.assertEqual(f"{count}/{count} files" in os.read(ours, 65536).decode(), told)
+            said = b""
+            while not said.endswith(b"."):
+                said += os.read(ours, 4096)
+            self.assertEqual(f"{count}/{count} files" in said.decode(), told)
             os.close(theirs)
             os.close(ours)
 
