@@ -6,7 +6,7 @@ use Rattle.face_data.proofs.Drafts.{no_lines-applied, no_lines_stand, no_lines_g
 use Rattle.face_data.specs.Drafts.{no_lines}
 use Rattle.face_data.specs.Stands.{StandsFor}
 use Rattle.face_data.specs.Summaries.{Summary}
-use Rattle.summary_tree.specs.Leaves.{Leaf, EachStandsFor, all_lines, IsWholeOf}
+use Rattle.summary_tree.specs.Leaves.{Leaf, EachStandsFor, all_lines, IsWholeOf, AreSound}
 
 -- no leaf has the face of no line
 pub no_leaves : IsWholeOf [] no_lines
@@ -24,3 +24,7 @@ no_leaves = record {
 -- what is there is no none
 pub there_and_none : {X : Type 0} {Y : Type 0} (o : Option X) (a : X) → o ≡ Some a → o ≡ None → Y
 there_and_none o a e f = let no : Some a ≡ None = sym e ∙ f in absurd (cc)
+
+-- no leaves may stand in a tree
+pub none_sound : AreSound []
+none_sound = record { carriers = 0; limit = 0; known = []; few_carriers = omega arith; few_loops = omega arith; numbered = λ k d h. absurd (omega arith); good = tt; few_lines = omega arith }

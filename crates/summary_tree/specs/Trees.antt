@@ -35,3 +35,7 @@ NeedsToInsert tree at room needed =
 abbrev pub NeedsToRemove : Tree → ℕ → List Room → Type 0
 NeedsToRemove tree at needed =
     IsRemoveNeed leaf_room room_after (leaf_in tree.whole.store.faces tree.whole.store.tables.items) (node_in tree.whole.store.faces) tree.whole.shape at needed
+
+-- how many numbers of leaves and of inner nodes there is a place for
+abbrev pub places : Tree → ℕ
+places tree = places_in tree.whole.store.faces tree.whole.store.tables.items

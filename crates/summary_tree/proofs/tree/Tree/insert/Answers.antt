@@ -1,0 +1,10 @@
+use Rattle.std.proofs.Common.{◌≡◌, length}
+use Rattle.face_data.specs.Items.{most_items}
+use Rattle.face_data.specs.View.{summary_of}
+use Rattle.tree_shape.specs.Fewest.{inserted}
+use Rattle.summary_tree.specs.Laws.{items_law}
+use Rattle.summary_tree.specs.Trees.{leaves_in}
+use Rattle.summary_tree.proofs.tree.Tree.insert.Goals as goal
+
+pub returns-clause-steps : goal.returns-clause-steps
+returns-clause-steps g c = λ carriers limit known good. c.insert.ensures.steps (most_items carriers limit (length known)) (items_law (inserted c.args.at (summary_of c.args.face.now, c.args.loops) (leaves_in c.args.self.now)) carriers limit known good)
