@@ -197,23 +197,54 @@ fn a_carrier_that_goes_out_by_the_hook(rt: HostRuntime) -> Result<(), Fail> {
     Ok(())
 }
 
+fn asks_as_outhook(ask: &LineAsk) -> bool {
+    match ask {
+        LineAsk::Asks(ask) => is_outhook(ask),
+        LineAsk::Nothing | LineAsk::Ends(_) => false,
+    }
+}
+
+fn ends_for(ask: &LineAsk, reason: Reason) -> bool {
+    match ask {
+        LineAsk::Ends(why) => *why == reason,
+        LineAsk::Nothing | LineAsk::Asks(_) => false,
+    }
+}
+
 #[test]
-fn a_line_by_what_it_says(rt: HostRuntime) -> Result<(), Fail> {
+fn a_line_asks_what_its_instruction_does(rt: HostRuntime) -> Result<(), Fail> {
     let alloc = rt.alloc();
     let segments = Symbols::new(alloc);
-    let blank = ask_line(alloc, &Read::Blank, &MACHINE, &segments)?;
-    assert!(rt; matches!(blank, LineAsk::Nothing));
-    let off_bed = reason(Rule::OffBed, 1);
-    match ask_line(alloc, &Read::Broken(off_bed), &MACHINE, &segments)? {
-        LineAsk::Ends(reason) => assert_eq!(rt; reason, off_bed),
-        LineAsk::Nothing | LineAsk::Asks(_) => assert!(rt; false),
-    }
     let outhook = Read::Instr(Instr::HookOut(fourth_carrier(alloc)?));
-    match ask_line(alloc, &outhook, &MACHINE, &segments)? {
-        LineAsk::Asks(ask) => assert!(rt; is_outhook(&ask)),
-        LineAsk::Nothing | LineAsk::Ends(_) => assert!(rt; false),
-    }
+    let ask = ask_line(alloc, &outhook, &MACHINE, &segments)?;
+    assert!(rt; asks_as_outhook(&ask));
     Ok(())
+}
+
+#[test]
+fn a_line_that_breaks_a_rule_ends_the_block(rt: HostRuntime) -> Result<(), Fail> {
+    let alloc = rt.alloc();
+    let segments = Symbols::new(alloc);
+    let off_bed = reason(Rule::OffBed, 1);
+    let ask = ask_line(alloc, &Read::Broken(off_bed), &MACHINE, &segments)?;
+    assert!(rt; ends_for(&ask, off_bed));
+    Ok(())
+}
+
+#[test]
+fn a_blank_line_asks_nothing(rt: HostRuntime) -> Result<(), Fail> {
+    let alloc = rt.alloc();
+    let segments = Symbols::new(alloc);
+    let ask = ask_line(alloc, &Read::Blank, &MACHINE, &segments)?;
+    assert!(rt; matches!(ask, LineAsk::Nothing));
+    Ok(())
+}
+
+fn asks_to_knit(ask: &LineAsk, front: Needle) -> bool {
+    match ask {
+        LineAsk::Asks(ask) => is_loop(ask.formed.as_ref(), front, Dir::Left, &[Seg::New(5)]),
+        LineAsk::Nothing | LineAsk::Ends(_) => false,
+    }
 }
 
 #[test]
@@ -223,12 +254,8 @@ fn a_knit_is_drawn_through_what_was_formed(rt: HostRuntime) -> Result<(), Fail> 
     let mut segments = Symbols::new(alloc);
     segments.set(front, Segs::one(alloc, Seg::New(5)))?;
     let knit = Read::Instr(Instr::Knit(Dir::Left, front, fourth_carrier(alloc)?));
-    match ask_line(alloc, &knit, &MACHINE, &segments)? {
-        LineAsk::Asks(ask) => {
-            assert!(rt; is_loop(ask.formed.as_ref(), front, Dir::Left, &[Seg::New(5)]));
-        }
-        LineAsk::Nothing | LineAsk::Ends(_) => assert!(rt; false),
-    }
+    let ask = ask_line(alloc, &knit, &MACHINE, &segments)?;
+    assert!(rt; asks_to_knit(&ask, front));
     Ok(())
 }
 
