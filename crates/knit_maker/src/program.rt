@@ -1,5 +1,5 @@
 //! The whole made program.
-ghost use Rattle.std.specs.Prelude.{◌≡◌, ◌+◌, ◌<◌, ◌≤◌, [], ◌∷◌, ◌++◌, length, map, slice_index_or, IfOk, OnOk};
+ghost use Rattle.std.specs.Prelude.{◌≡◌, ◌+◌, ◌*◌, ◌<◌, ◌≤◌, [], ◌∷◌, ◌++◌, length, map, slice_index_or, IfOk, OnOk};
 ghost use Rattle.std.specs.List.{range_with_len};
 ghost use Rattle.knit_base.specs.Lines.{IsLine};
 ghost use Rattle.knit_maker.specs.Made.{course, drawn_after, made_lines, opening, picked, rows_after, transfer_line, width_of};
@@ -18,7 +18,8 @@ use std::alloc::Global;
 pub fn make(alloc: Global, rows: u32, start: u32) -> Result<Lines, NoMemory>
     requires rows { rows ≤ 20000 }
     requires start { start < 2147483648 }
-    ensures { IfOk result (λ lines. lines ≡ made_lines rows start) }
+    ensures lines { IfOk result (λ lines. lines ≡ made_lines rows start) }
+    ensures few { IfOk result (λ lines. length lines ≤ 36 + 33 * rows) }
 {
     let width = 4 + start % 13;
     let mut lines = Lines::new(alloc);
@@ -53,7 +54,7 @@ fn push_rows(
     requires rows { rows ≤ 20000 }
     requires few { length lines.old < 100 }
     ensures lines { OnOk result (lines.new ≡ lines.old ++ rows_after width start rows) }
-    ensures few { OnOk result (length lines.new < 1000000) }
+    ensures few { OnOk result (length lines.new ≤ length lines.old + 33 * rows) }
 {
     let round = course_of(alloc, Stitch::Knit, width)?;
     let transfers = transfers_of(alloc, width)?;
