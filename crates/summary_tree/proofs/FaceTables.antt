@@ -1,5 +1,5 @@
 -- What a change of one place is to a table of faces.
-use Rattle.std.proofs.Common.{◌≡◌, ◌≢◌, ℕ, zero, suc, ◌+◌, ◌<◌, ◌≤◌, List, [], ◌∷◌, ◌++◌, length, map, Option, Some, None, refl, sym, ◌∙◌, ap, subst, arith, ◌⊎◌, inl, inr}
+use Rattle.std.proofs.Common.{◌≡◌, ◌≢◌, ℕ, zero, suc, ◌+◌, ◌≤◌, List, [], ◌∷◌, length, Option, Some, None, refl, sym, ◌∙◌, ap, subst, arith, inl, inr}
 use Rattle.std.specs.Prelude.{slice_set, slice_index_or}
 use Rattle.std.proofs.lemmas.Bool.Decides.{eqb_tells}
 use Rattle.knit_base.specs.declared.needle.Needle.{Needle}
@@ -7,10 +7,9 @@ use Rattle.face_data.specs.declared.face.Change.{Change}
 use Rattle.face_data.specs.declared.face.Check.{Check}
 use Rattle.face_data.specs.declared.face.Seg.{Seg}
 use Rattle.face_data.specs.Summaries.{Summary}
-use Rattle.span_pool.specs.Pool.{SpanView, PoolView, shelf_of, bare, spare_of}
-use Rattle.span_pool.specs.Shelf.{ShelfView}
+use Rattle.span_pool.specs.Pool.{SpanView, PoolView, spare_of}
 use Rattle.summary_tree.specs.declared.faces.Head.{Head}
-use Rattle.summary_tree.specs.Faces.{FaceLists, all_four, whole_of, summaries_from, spares_of, AllPacked, ListsPacked, FacesView, spare_in, spares_in, TookSpans, KeepsSpares, length_in, face_in, summary_from}
+use Rattle.summary_tree.specs.Faces.{FaceLists, all_four, whole_of, summaries_from, spares_of, AllPacked, ListsPacked, FacesView, spare_in, spares_in, TookSpans, KeepsSpares, length_in, summary_from}
 use Rattle.summary_tree.specs.declared.faces.FaceList.{FaceList}
 use Rattle.summary_tree.specs.declared.faces.FaceList.TheVariants.{Checks, Names, Changes, Segs}
 use Rattle.summary_tree.specs.Lists.{list_in}

@@ -1,6 +1,6 @@
 -- Taking spans for a face that was reckoned with.
-use Rattle.std.proofs.Common.{◌≡◌, ◌≢◌, ℕ, zero, suc, ◌+◌, ◌*◌, ◌-◌, ◌^◌, ◌<◌, ◌≤◌, min, List, [], ◌∷◌, length, map, Option, Some, None, Bool, true, false, refl, sym, ◌∙◌, ap, subst, arith, inl, inr}
-use Rattle.std.specs.Prelude.{nat_lt, ◌==◌, ◌||◌, cond, count_by}
+use Rattle.std.proofs.Common.{◌≡◌, ◌≢◌, ℕ, zero, suc, ◌+◌, ◌*◌, ◌-◌, ◌^◌, ◌<◌, ◌≤◌, List, [], ◌∷◌, length, map, Option, Some, None, Bool, true, false, refl, sym, ◌∙◌, ap, subst, arith, inl, inr}
+use Rattle.std.specs.Prelude.{◌==◌, cond}
 use Rattle.std.specs.List.{All}
 use Rattle.std.proofs.lemmas.Bool.{cases_lt}
 use Rattle.std.proofs.lemmas.Bool.Decides.{eqb_tells, nat_tests}
@@ -15,8 +15,7 @@ use Rattle.loop_history.specs.declared.row.LoopRow.{LoopRow}
 use Rattle.tree_shape.specs.declared.node.Child.{Child}
 use Rattle.tree_shape.specs.declared.node.Child.TheVariants.{Leaf, Inner}
 use Rattle.tree_shape.specs.Values.{part}
-use Rattle.summary_tree.specs.Store.{place_of, leaf_from, leaf_in, node_in, HasRooms}
-use Rattle.std.proofs.Math.Nat.{pow-succ'}
+use Rattle.summary_tree.specs.Store.{place_of, leaf_from, leaf_in, node_in}
 use Rattle.std.proofs.Math.Path.{ap₂}
 use Rattle.std.proofs.Math.Pow.{pow_mono}
 use Rattle.face_data.specs.declared.face.FaceView.{FaceView}

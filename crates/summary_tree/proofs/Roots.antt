@@ -1,12 +1,11 @@
 -- The face at the root.
-use Rattle.std.proofs.Common.{◌≡◌, ℕ, List, [], ◌∷◌, Option, Some, None, refl, sym, ◌∙◌, ap, subst, arith}
+use Rattle.std.proofs.Common.{◌≡◌, List, [], ◌∷◌, Option, Some, None, refl, sym, ◌∙◌, arith}
 use Rattle.knit_base.specs.declared.instr.Read.{Read}
 use Rattle.knit_base.specs.declared.profile.Profile.{Profile}
 use Rattle.face_data.proofs.Drafts.{no_lines-applied, no_lines_stand, no_lines_good}
 use Rattle.face_data.specs.Drafts.{no_lines}
 use Rattle.face_data.specs.Stands.{StandsFor}
-use Rattle.face_data.specs.Summaries.{Summary}
-use Rattle.summary_tree.specs.Leaves.{Leaf, EachStandsFor, all_lines, IsWholeOf, AreSound}
+use Rattle.summary_tree.specs.Leaves.{EachStandsFor, all_lines, IsWholeOf, AreSound}
 
 -- no leaf has the face of no line
 pub no_leaves : IsWholeOf [] no_lines

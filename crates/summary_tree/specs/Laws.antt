@@ -1,10 +1,10 @@
 -- The laws that leaves and their rooms obey.
 use Rattle.std.proofs.Common.{◌≡◌, ℕ, zero, suc, ◌+◌, ◌*◌, ◌^◌, ◌<◌, ◌≤◌, min, Bool, true, false, List, [], ◌∷◌, ◌++◌, length, refl, sym, ◌∙◌, ap, subst, arith, ◌⊎◌, inl, inr}
-use Rattle.std.specs.Prelude.{nat_lt, if◌then◌else◌, count_by, cond}
+use Rattle.std.specs.Prelude.{nat_lt, if◌then◌else◌, cond}
 use Rattle.std.specs.List.{All, Contains}
 use Rattle.std.proofs.lemmas.Bool.{ltb-true, ltb-false, cases_lt}
 use Rattle.std.proofs.lemmas.List.{append_assoc}
-use Rattle.std.proofs.lemmas.List.Elements.{All-head, All-tail, All-cons, Contains-append_left, Contains-append_right}
+use Rattle.std.proofs.lemmas.List.Elements.{All-head, All-tail, All-cons}
 use Rattle.std.proofs.lemmas.List.Sums.{sum_by-append, sum_by-cons}
 use Rattle.std.proofs.Math.Nat.{mul-le-mul}
 use Rattle.knit_base.specs.declared.instr.Read.{Read}
@@ -12,11 +12,10 @@ use Rattle.knit_base.specs.declared.needle.Needle.{Needle}
 use Rattle.knit_base.specs.declared.profile.Profile.{Profile}
 use Rattle.carriage_model.specs.State.{State}
 use Rattle.face_data.specs.Composition.{and_then, composed}
-use Rattle.face_data.specs.Goodness.{IsGood}
-use Rattle.face_data.specs.Items.{items, most_items}
+use Rattle.face_data.specs.Items.{most_items}
 use Rattle.face_data.specs.Sets.{IsWithin}
 use Rattle.face_data.specs.Stands.{StandsFor}
-use Rattle.face_data.specs.Summaries.{Summary, Outcome, applied}
+use Rattle.face_data.specs.Summaries.{Outcome, applied}
 use Rattle.face_data.specs.Summaries.Outcome.{went_on, faulted}
 use Rattle.face_data.proofs.Goodness.{composed_good, composed_runs_both, good_within}
 use Rattle.face_data.proofs.Items.{all_entries, items_bound}
@@ -25,7 +24,7 @@ use Rattle.std.proofs.Math.Path.{ap₂}
 use Rattle.face_data.proofs.KnownAnswers.{AskFits-distinct}
 use Rattle.face_data.proofs.Stands.{lines-composed, stands_both, and_then_same, and_then_twice}
 use Rattle.summary_compose.specs.Composing.{IsNoGreater}
-use Rattle.summary_compose.specs.Known.{names_count, names_read_count}
+use Rattle.summary_compose.specs.Known.{names_count}
 use Rattle.summary_compose.specs.Changes.{segs_in}
 use Rattle.summary_compose.specs.Rooms.{capped, room_after}
 use Rattle.summary_compose.specs.declared.room.Room.{Room}
@@ -35,8 +34,7 @@ use Rattle.tree_shape.specs.Composing.{StandLaws, RoomLaws, Costs}
 use Rattle.summary_tree.specs.Faces.{FacesView, spare_in, length_in}
 use Rattle.summary_tree.specs.Meeting.{reaches, IsMet}
 use Rattle.summary_tree.specs.Store.{HasRooms}
-use Rattle.summary_tree.specs.Leaves.{Leaf, lines_of, AreGoodFor, AreSound, applied_each, EachStandsFor, all_lines, IsWholeOf, WholeLeaf, joined_leaf, LeavesFit, leaf_items, leaf_room, leaf_lines}
-use Rattle.summary_tree.specs.Rooms.{kept_room}
+use Rattle.summary_tree.specs.Leaves.{Leaf, lines_of, AreGoodFor, AreSound, applied_each, EachStandsFor, all_lines, WholeLeaf, joined_leaf, LeavesFit, leaf_items, leaf_room, leaf_lines}
 
 -- Leaves that stand in one tree.
 
@@ -54,14 +52,24 @@ good_back carriers limit known (x ∷ xs) ys g = good_back carriers limit known 
 
 sound_front : (xs ys : List Leaf) → AreSound (xs ++ ys) → AreSound xs
 sound_front xs ys s = record {
-  carriers = s.carriers; limit = s.limit; known = s.known; few_carriers = s.few_carriers; few_loops = s.few_loops; numbered = s.numbered;
+  carriers = s.carriers;
+  limit = s.limit;
+  known = s.known;
+  few_carriers = s.few_carriers;
+  few_loops = s.few_loops;
+  numbered = s.numbered;
   good = good_front s.carriers s.limit s.known xs ys s.good;
   few_lines = omega (arith, s.few_lines, lines_append xs ys);
 }
 
 sound_back : (xs ys : List Leaf) → AreSound (xs ++ ys) → AreSound ys
 sound_back xs ys s = record {
-  carriers = s.carriers; limit = s.limit; known = s.known; few_carriers = s.few_carriers; few_loops = s.few_loops; numbered = s.numbered;
+  carriers = s.carriers;
+  limit = s.limit;
+  known = s.known;
+  few_carriers = s.few_carriers;
+  few_loops = s.few_loops;
+  numbered = s.numbered;
   good = good_back s.carriers s.limit s.known xs ys s.good;
   few_lines = omega (arith, s.few_lines, lines_append xs ys);
 }
@@ -122,8 +130,14 @@ both_leaves xs ys a b s p q =
     let ga = p.good s.carriers s.limit s.known (good_front s.carriers s.limit s.known xs ys s.good) in
     let gb = q.good s.carriers s.limit s.known (good_back s.carriers s.limit s.known xs ys s.good) in (
       record {
-        carriers = s.carriers; limit = s.limit; known = s.known; few_carriers = s.few_carriers; few_loops = s.few_loops; numbered = s.numbered;
-        first = ga; second = gb;
+        carriers = s.carriers;
+        limit = s.limit;
+        known = s.known;
+        few_carriers = s.few_carriers;
+        few_loops = s.few_loops;
+        numbered = s.numbered;
+        first = ga;
+        second = gb;
         lines = omega (arith, s.few_lines, lines_append xs ys, p.lines, q.lines);
       },
       record {

@@ -1,5 +1,5 @@
 -- When there are spans for what is to come, one after the other.
-use Rattle.std.specs.Prelude.{◌≡◌, ℕ, ◌-◌, ◌≤◌, ◌^◌, ◌==◌, ◌||◌, Bool, nat_lt, count_by, List}
+use Rattle.std.specs.Prelude.{ℕ, ◌-◌, ◌≤◌, ◌^◌, ◌==◌, ◌||◌, Bool, nat_lt, count_by, List}
 use Rattle.std.specs.List.{All}
 
 -- a list of this length needs a span of at least this class

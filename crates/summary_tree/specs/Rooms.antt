@@ -1,5 +1,5 @@
 -- The room that a face takes in a tree.
-use Rattle.std.specs.Prelude.{ℕ, length}
+use Rattle.std.specs.Prelude.{length}
 use Rattle.face_data.proofs.Items.{all_entries}
 use Rattle.face_data.specs.Summaries.{Summary}
 use Rattle.summary_compose.specs.Changes.{segs_in}

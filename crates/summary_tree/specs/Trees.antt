@@ -1,5 +1,5 @@
 -- What always holds of a tree of faces, and what a change of it needs.
-use Rattle.std.specs.Prelude.{◌≡◌, ℕ, List}
+use Rattle.std.specs.Prelude.{ℕ, List}
 use Rattle.summary_compose.specs.Rooms.{room_after}
 use Rattle.summary_compose.specs.declared.room.Room.{Room}
 use Rattle.tree_shape.specs.Values.{leaf_values}

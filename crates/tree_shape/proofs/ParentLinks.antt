@@ -219,10 +219,10 @@ pub rows_placed : (t : Tree) (rows : List DirtyRow) (leaf_places inner_places : 
 rows_placed t rows leaf_places inner_places of_leaf of_inner all =
     All-weaker (HasChildren (Some t)) (RowIsPlaced leaf_places inner_places)
     (λ row h.
-        let there = below_there row.node h.0 h.1 t h.2 in (
-          subst (IsPlaced leaf_places inner_places) (sym h.3) (placed_there (name h.0) t leaf_places inner_places of_leaf of_inner there.0),
-          subst (IsPlaced leaf_places inner_places) (sym h.4) (placed_there (name h.1) t leaf_places inner_places of_leaf of_inner there.1),
-        ))
+    let there = below_there row.node h.0 h.1 t h.2 in (
+      subst (IsPlaced leaf_places inner_places) (sym h.3) (placed_there (name h.0) t leaf_places inner_places of_leaf of_inner there.0),
+      subst (IsPlaced leaf_places inner_places) (sym h.4) (placed_there (name h.1) t leaf_places inner_places of_leaf of_inner there.1),
+    ))
     rows all
 
 -- once each
@@ -241,9 +241,9 @@ pub linked_by : (v : ParentsView) (t : Tree) (rows : List DirtyRow) → ((k : �
 linked_by v t rows leaf_once inner_once of_leaf of_inner children start = λ n l r p.
     let there = below_there n l r t p in (
       noted v (name l) n rows (placed_there (name l) t (length v.leaves) (length v.inners) of_leaf of_inner there.0)
-      (only_of t l r n (name l) rows (parts_once (name l) t leaf_once inner_once) p (inl refl) children) (start n l r p (name l) (inl refl)),
+          (only_of t l r n (name l) rows (parts_once (name l) t leaf_once inner_once) p (inl refl) children) (start n l r p (name l) (inl refl)),
       noted v (name r) n rows (placed_there (name r) t (length v.leaves) (length v.inners) of_leaf of_inner there.1)
-      (only_of t l r n (name r) rows (parts_once (name r) t leaf_once inner_once) p (inr refl) children) (start n l r p (name r) (inr refl)),
+          (only_of t l r n (name r) rows (parts_once (name r) t leaf_once inner_once) p (inr refl) children) (start n l r p (name r) (inr refl)),
     )
 
 -- a listed node's row has its parts
@@ -272,10 +272,10 @@ linked_after v old t rows leaf_numbers inner_numbers linked listing counted inne
     let inner_once : (k : ℕ) → times k t ≤ 1 = λ k. omega (arith, counted_times inner_numbers (inners t) k inner_counted, times_inners k t) in
     let leaf_once : (k : ℕ) → times_in k (leaves t) ≤ 1 = λ k. omega (arith, counted_times leaf_numbers (leaves t) k counted) in (
       linked_by v t rows leaf_once inner_once of_leaf of_inner listing.children
-      (λ n l r p c e. elim (none_or_some (times_listed n rows)) [
-        | inl none ↦ inl (either_linked v n l r c (linked n l r (listing.others n l r p none)) e)
-        | inr some ↦ inr (listed_has t l r n c rows (inner_once n) p e listing.children some)
-      ]),
+          (λ n l r p c e. elim (none_or_some (times_listed n rows)) [
+            | inl none ↦ inl (either_linked v n l r c (linked n l r (listing.others n l r p none)) e)
+            | inr some ↦ inr (listed_has t l r n c rows (inner_once n) p e listing.children some)
+          ]),
       rows_placed t rows (length v.leaves) (length v.inners) of_leaf of_inner listing.children,
     )
   where

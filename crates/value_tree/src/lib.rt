@@ -12,12 +12,12 @@
 mod find;
 mod need;
 mod refresh;
-mod values;
 mod tree;
+mod values;
 
 pub use find::Counts;
-pub use values::{Values, Takes};
 pub use tree::ValueTree;
+pub use values::{Takes, Values};
 
 #[cfg(test)]
 mod tests;

@@ -64,11 +64,7 @@ fn room_at<S: Values>(
 }
 
 /// The rooms of a change's rows, and then that of its new leaf.
-pub(crate) fn need_of<S: Values>(
-    store: &S,
-    new: Option<NewLeaf<S::Room>>,
-    dirty: &Dirty,
-) -> S::Need
+pub(crate) fn need_of<S: Values>(store: &S, new: Option<NewLeaf<S::Room>>, dirty: &Dirty) -> S::Need
     requires there { (all : List S.Room) × (map (λ r. Some r) all ≡ composed_all S.after (leaf_rooms S.room (S.leaf_at store.now) new) (node_rooms S.room (S.node_at store.now)) dirty.now) }
     ensures { (rest : List S.Room) × (S.rooms result ≡ rest ++ more_rooms new) × (map (λ r. Some r) rest ≡ composed_all S.after (leaf_rooms S.room (S.leaf_at store.now) new) (node_rooms S.room (S.node_at store.now)) dirty.now) }
 {

@@ -12,7 +12,7 @@ ghost use Rattle.value_tree.specs.Kept.{IsKept, IsReplaceNeed, IsInsertNeed, IsR
 use crate::find::{Counts, Walk, step};
 use crate::need::{NewLeaf, need_of};
 use crate::refresh::refresh;
-use crate::values::{Values, Takes};
+use crate::values::{Takes, Values};
 use knit_base::{NoMemory, Steps};
 use std::alloc::Global;
 use std::sync::ledger::Ledger;

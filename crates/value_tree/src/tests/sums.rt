@@ -4,7 +4,7 @@ ghost use Rattle.tree_shape.specs.Values.{part};
 ghost use Rattle.value_tree.specs.Sums.{sum_at, places, AreFew, AreFewTogether, IsSum, capped_sum, one_step, stand_laws, room_laws, cost_law};
 
 use super::rooms::Rooms;
-use crate::{Counts, Values, Takes};
+use crate::{Counts, Takes, Values};
 use knit_base::{NoMemory, Steps};
 use std::alloc::Global;
 use std::sync::ledger::Ledger;

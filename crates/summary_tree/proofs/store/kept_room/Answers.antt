@@ -1,4 +1,4 @@
-use Rattle.std.proofs.Common.{◌≡◌, refl, sym, ◌∙◌, ap}
+use Rattle.std.proofs.Common.{refl, sym, ◌∙◌, ap}
 use Rattle.summary_compose.specs.Rooms.{room_of, room_after}
 use Rattle.summary_compose.specs.declared.room.Room.{Room}
 use Rattle.summary_tree.proofs.Meets.{after_none, kept_is}

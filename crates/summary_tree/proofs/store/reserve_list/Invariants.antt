@@ -1,6 +1,5 @@
-use Rattle.std.proofs.Common.{◌≡◌, ℕ, ◌<◌, ◌≤◌, ◌^◌}
+use Rattle.std.proofs.Common.{◌≡◌, ℕ, ◌<◌, ◌≤◌}
 use Rattle.std.specs.Prelude.{count_by}
-use Rattle.std.specs.List.{All}
 use Rattle.summary_tree.specs.Faces.{spare_in, length_in, KeepsSpares}
 use Rattle.summary_tree.specs.Meeting.{reaches}
 use Rattle.summary_tree.proofs.store.reserve_list.Given as goal

@@ -1,18 +1,12 @@
-use Rattle.std.proofs.Common.{◌≡◌, ◌≢◌, ℕ, ◌<◌, ◌≤◌, List, Option, Some, None, length, refl, sym, ◌∙◌, ap, subst, arith, max}
-use Rattle.std.specs.Prelude.{slice_set, slice_index_or}
+use Rattle.std.proofs.Common.{◌≡◌, ◌≢◌, ℕ, ◌<◌, Some, length, sym, ◌∙◌, ap, subst, arith}
+use Rattle.std.specs.Prelude.{slice_set}
 use Rattle.std.proofs.Math.ListN.{length-set}
 use Rattle.std.proofs.lemmas.Grind.{common_steps}
-use Rattle.span_pool.specs.Class.{IsClassOf}
-use Rattle.span_pool.specs.Pool.{spare_of}
-use Rattle.face_data.specs.View.{IsPacked, summary_of}
-use Rattle.face_data.specs.Summaries.{Summary}
+use Rattle.face_data.specs.View.{summary_of}
 use Rattle.summary_compose.specs.Rooms.{room_of}
-use Rattle.summary_tree.specs.declared.faces.Head.{Head}
-use Rattle.summary_tree.specs.declared.faces.FaceList.{FaceList}
 use Rattle.summary_tree.specs.declared.faces.FaceList.TheVariants.{Checks, Names, Changes, Segs}
-use Rattle.summary_tree.specs.Faces.{FacesView, FaceLists, ListsPacked, KeepsSpares, TookSpans, summaries_from, whole_of, spares_of, spare_in, face_in}
-use Rattle.summary_tree.specs.Lists.{list_in}
-use Rattle.summary_tree.proofs.FaceTables.{four_in, view_of, seen_first, length_summaries, same_summaries, set_first, same_four, no_checks, no_names, no_changes, no_segs, packed_but, none_there, only_there, all_same, spare_is, spare_there, keeps_spares, took_spans, set_past, found_whole, found_no_head, found_no_lists, four_there}
+use Rattle.summary_tree.specs.Faces.{FacesView, TookSpans, summaries_from, whole_of}
+use Rattle.summary_tree.proofs.FaceTables.{four_in, view_of, length_summaries, set_first, same_four, packed_but, only_there, spare_there, took_spans, four_there}
 use Rattle.summary_tree.proofs.faces.Faces.put.Goals as goal
 
 pub put-requires-clause-place : goal.put-requires-clause-place

@@ -1,7 +1,5 @@
-use Rattle.std.proofs.Common.{◌≡◌, ℕ, ◌<◌, length, Some, None, sym, ◌∙◌, ap, arith, rules}
-use Rattle.std.specs.Prelude.{slice_set, slice_index_or}
-use Rattle.span_pool.specs.Pool.{SpanView, PoolView, KeepsOthers}
-use Rattle.summary_tree.specs.Lists.{list_in, IsTable}
+use Rattle.std.proofs.Common.{◌≡◌, Some, None, sym, ◌∙◌, arith}
+use Rattle.std.specs.Prelude.{slice_index_or}
 use Rattle.summary_tree.proofs.SpanTables.{read_at, of_pool, given_table, given_others}
 use Rattle.summary_tree.proofs.lists.Lists.clear.Goals as goal
 

@@ -1,4 +1,4 @@
-use Rattle.std.proofs.Common.{◌≡◌, ℕ, Some, None, sym, ◌∙◌, ap, arith, rules}
+use Rattle.std.proofs.Common.{◌≡◌, Some, None, rules}
 use Rattle.std.specs.Prelude.{slice_index_or}
 use Rattle.summary_tree.proofs.SpanTables.{of_pool}
 use Rattle.summary_tree.proofs.lists.Lists.get.Goals as goal

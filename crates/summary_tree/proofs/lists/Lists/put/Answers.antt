@@ -1,7 +1,4 @@
-use Rattle.std.proofs.Common.{◌≡◌, ◌≢◌, ℕ, ◌<◌, length, Some, None, sym, ◌∙◌, ap, arith, rules}
-use Rattle.std.specs.Prelude.{slice_set, slice_index_or}
-use Rattle.span_pool.specs.Pool.{SpanView, PoolView, KeepsOthers}
-use Rattle.summary_tree.specs.Lists.{list_in, IsTable}
+use Rattle.std.proofs.Common.{◌∙◌, arith}
 use Rattle.summary_tree.proofs.SpanTables.{filled_table, filled_others}
 use Rattle.summary_tree.proofs.lists.Lists.put.Goals as goal
 

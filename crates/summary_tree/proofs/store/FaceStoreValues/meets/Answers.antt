@@ -1,20 +1,12 @@
-use Rattle.std.proofs.Common.{◌≡◌, ℕ, true, false, List, ◌∷◌, Option, Some, refl, sym, ◌∙◌, ap, subst, arith}
+use Rattle.std.proofs.Common.{◌≡◌, true, List, sym, ◌∙◌}
 use Rattle.std.specs.List.{All}
-use Rattle.std.proofs.lemmas.List.Elements.{All-head, All-tail}
-use Rattle.face_data.specs.Summaries.{Summary}
-use Rattle.face_data.specs.Composition.{composed}
-use Rattle.face_data.specs.View.{IsPacked, summary_of}
 use Rattle.summary_compose.specs.Composing.{IsNoGreater}
-use Rattle.summary_compose.specs.Rooms.{room_after}
 use Rattle.summary_compose.specs.declared.room.Room.{Room}
-use Rattle.summary_tree.specs.Faces.{FacesView, face_in, AreMet, spare_in, length_in}
-use Rattle.summary_tree.specs.declared.faces.FaceList.{FaceList}
+use Rattle.summary_tree.specs.Faces.{FacesView, AreMet, spare_in, length_in}
 use Rattle.summary_tree.specs.declared.faces.FaceList.TheVariants.{Checks, Names, Changes, Segs}
 use Rattle.summary_tree.specs.Meeting.{IsMet}
-use Rattle.summary_tree.specs.Laws.{bounds, along_rooms}
-use Rattle.summary_tree.specs.Rooms.{kept_room}
-use Rattle.summary_tree.specs.Store.{place_of, leaf_in, node_in, HasRooms}
-use Rattle.summary_tree.proofs.Meets.{list_fits, spans_there, spans_left, spans_more, clash}
+use Rattle.summary_tree.specs.Store.{HasRooms}
+use Rattle.summary_tree.proofs.Meets.{clash}
 use Rattle.summary_tree.proofs.store.FaceStoreValues.meets.Goals as goal
 use Rattle.summary_tree.proofs.store.FaceStoreValues.meets.Goals.{then-is_within, else-is_within, then-list_is_met, else-list_is_met, then-list_is_met-2, else-list_is_met-2}
 
@@ -53,8 +45,7 @@ returns-then-list_is_met-3 c =
     let down2 : c.if-list_is_met-2.value ≡ true → (c.if-list_is_met.value ≡ true) × IsMet (spare_in faces Changes) (length_in Changes) need = λ e. elim c.if-list_is_met-2.branch [
       | then-list_is_met-2 w ↦ (w.if-list_is_met-2.true, w.list_is_met-then-list_is_met-2.ensures.0 (sym w.value-is ∙ e))
       | else-list_is_met-2 w ↦ clash c.if-list_is_met-2.value (w.value-is ∙ w.if-list_is_met-2.false) e
-    ] in
-    (
+    ] in (
       λ e.
           let third = down2 c.if-list_is_met-3.true in
           let second = down1 third.0 in

@@ -1,4 +1,3 @@
-use Rattle.std.proofs.Common.{◌≡◌}
 use Rattle.summary_tree.proofs.Roots.{none_sound}
 use Rattle.summary_tree.proofs.tree.Tree.new.Goals as goal
 

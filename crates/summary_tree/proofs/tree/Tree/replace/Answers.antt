@@ -1,8 +1,7 @@
-use Rattle.std.proofs.Common.{◌≡◌, length}
+use Rattle.std.proofs.Common.{length}
 use Rattle.std.specs.Prelude.{slice_set}
 use Rattle.face_data.specs.Items.{most_items}
 use Rattle.face_data.specs.View.{summary_of}
-use Rattle.tree_shape.specs.Fewest.{removed}
 use Rattle.summary_tree.specs.Laws.{items_law}
 use Rattle.summary_tree.specs.Trees.{leaves_in}
 use Rattle.summary_tree.proofs.tree.Tree.replace.Goals as goal

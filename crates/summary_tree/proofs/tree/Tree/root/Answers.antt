@@ -1,5 +1,4 @@
 use Rattle.std.proofs.Common.{◌≡◌, List, [], Some, refl, sym, ◌∙◌, ap, subst}
-use Rattle.face_data.specs.Summaries.{Summary}
 use Rattle.face_data.specs.View.{summary_of}
 use Rattle.summary_tree.specs.declared.store.FaceStore.{FaceStore}
 use Rattle.summary_tree.specs.Faces.{face_in}

@@ -24,4 +24,4 @@ returns-in-Some c =
     let linked : AreLinked v (Some r.t) = subst (AreLinked v) (ap (λ (s : ShapeView). s.tree) c.self.view_is ∙ r.seen) c.self.invariant.4 in
     ap (λ t. slice_get (leaves_of_tree t) c.climbed.result) r.seen
     ∙ c.climbed.ensures r.t c.requires.0 (subst (λ (ns : List Node). IsWhole ns v c.in-Some.root r.t) (sym c.as_slice.ensures.value) (whole_of c.self.inside.nodes.items v c.in-Some.root r.t (numbers_of c.self.inside.leaves) (numbers_of c.self.inside.inners) r.sound r.shape linked))
-        (ap (λ t. slice_get (leaves_of_tree t) c.requires.0) (sym r.seen) ∙ c.requires.1)
+    (ap (λ t. slice_get (leaves_of_tree t) c.requires.0) (sym r.seen) ∙ c.requires.1)
