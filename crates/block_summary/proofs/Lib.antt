@@ -2,6 +2,7 @@ pub mod AskedHold
 pub mod Blocks
 pub mod DraftSteps
 pub mod KeptConditions
+pub mod KnownNeedles
 pub mod LaidChanges
 pub mod LineChanges
 pub mod LineChecks
