@@ -56,11 +56,12 @@ zip_at R (a ∷ xs) (y ∷ ys) zero x d all found = subst (λ z. R z y) (let sam
 zip_at R (a ∷ xs) (y ∷ ys) (suc i) x d all found = zip_at R xs ys i x d all.1 found
 
 -- the needles that a line names, and the own slider of one on which it forms a loop
-line_needles : Read → List Needle
+unfoldable pub line_needles : Read → List Needle
 line_needles (read.Instr i) = needles_of i ++ option_to_list (option_map own_slider (forming_needle i))
 line_needles r = []
 
-named : List Read → List Needle
+-- all that the lines name so
+unfoldable pub named : List Read → List Needle
 named [] = []
 named (r ∷ rs) = line_needles r ++ named rs
 
@@ -85,7 +86,7 @@ within_named (q ∷ rs) r there = elim (Contains-cons_cases q rs r there) [
 ]
 
 -- some needles are all that the lines name
-named_known : (rs : List Read) → AreKnown (named rs) rs
+pub named_known : (rs : List Read) → AreKnown (named rs) rs
 named_known rs r there = line_known r (named rs) (within_named rs r there)
 
 -- the new loops that a needle holds are of earlier lines

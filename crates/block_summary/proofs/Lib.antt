@@ -1,6 +1,7 @@
 pub mod Blocks
 pub mod DraftSteps
 pub mod KeptConditions
+pub mod KnownNeedles
 pub mod LaidChanges
 pub mod LineChanges
 pub mod LineChecks

@@ -7,8 +7,8 @@
 //! Definitions: `specs/Asks` (what a line asks and changes), `specs/LineSummaries` (the summary of a line and of a block),
 //! `specs/DraftKnowledge` (what is known of lines), and `specs/Segments`, `specs/Conditions` and `specs/Summaries` of `face_data`.
 //! Lemmas that the crates above cite: `proofs/LineStands`, `proofs/LineGoodness` (the summary of a line and of a block stands for its
-//! lines and is good), `proofs/LineFront` (a line that asks nothing new). Below it stand
-//! std, `knit_base`, `carriage_model`, `face_data` and the crates of the four groups of rules.
+//! lines and is good), `proofs/LineFront` (a line that asks nothing new), `proofs/KnownNeedles` (lawful lines name needles whose numbers
+//! have 16 bits). Below it stand std, `knit_base`, `carriage_model`, `face_data` and the crates of the four groups of rules.
 #![tactic(auto)]
 
 mod draft;

@@ -4,7 +4,8 @@
 //! hold at entry so that they hold few enough now. `ShortList` is the list of an instruction's few conditions and changes: it
 //! promises that its first four items take no memory but its own. A `Digest` tells what conditions that are kept say of another
 //! one that isn't on sizes, `Effect::bearing_on` what a block says of one that is asked after it, and `Effect::then` puts two
-//! effects together.
+//! effects together. `verdict_of`, `brief_of` and `loops_on` tell what a program comes to whose face is known: its verdict, the same in short, and
+//! the loops that a needle holds.
 //!
 //! Definitions: `specs/Segments` (what needles hold, in terms of the entry), `specs/Conditions`, `specs/Summaries` (what a
 //! block makes of a state), `specs/View` (a face's lists), `specs/Goodness` with `specs/Bearings` and `specs/Sets`, and
@@ -25,6 +26,7 @@ mod bearing;
 mod digest;
 mod effect;
 mod face;
+mod needle_loops;
 mod owned;
 mod short_list;
 mod sizes;
@@ -37,6 +39,7 @@ mod verdicts;
 pub use bearing::Bearing;
 pub use digest::Digest;
 pub use face::{Change, Check, Cond, CondList, Effect, Ending, FaceView, Part, Seg, Segs};
+pub use needle_loops::loops_on;
 pub use owned::Face;
 pub use short_list::ShortList;
 pub use sizes::{NeedleList, SizeAsk, SizeAsks, ask_size};

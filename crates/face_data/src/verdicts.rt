@@ -144,8 +144,8 @@ fn add_stack(stack: Stack, stacks: &mut Stacks) -> Result<(), NoMemory>
     stacks.push(stack)
 }
 
-// The segments of a part.
-fn segs_at(segs: &[Seg], part: Part) -> &[Seg]
+/// The segments of a part.
+pub(crate) fn segs_at(segs: &[Seg], part: Part) -> &[Seg]
     requires { part.start + part.len ≤ length segs.now }
     ensures { result.now ≡ part_of segs.now part }
 {
@@ -154,8 +154,8 @@ fn segs_at(segs: &[Seg], part: Part) -> &[Seg]
     &segs[start..end]
 }
 
-// The new loops among the segments, where the needles held nothing before.
-fn loops_of(alloc: Global, segs: &[Seg], first: u32) -> Result<LoopLines, NoMemory>
+/// The new loops among the segments, where the needles held nothing before.
+pub(crate) fn loops_of(alloc: Global, segs: &[Seg], first: u32) -> Result<LoopLines, NoMemory>
     requires { All (OffsetFits first) segs.now }
     ensures { IfOk result (λ loops. loops ≡ read_segs empty_state first segs.now) }
 {

@@ -5,6 +5,7 @@ pub mod Digits
 pub mod FewCarriers
 pub mod FrontHeads
 pub mod Heads
+pub mod LawfulReadings
 pub mod Marks
 pub mod OneNeedle
 pub mod OneShape

@@ -4,8 +4,9 @@
 //! a body's readings are those of its lines. A head is read as far as it goes, or the first refusal that holds is told.
 //! Definitions: `specs/Tokens` (tokens and comments), `specs/Head` (heads), `specs/Numbers` (needles and racks), `specs/Shapes`
 //! (what a line spells), `specs/Carriers` (the rules of carriers), `specs/Reading` (the other rules, and the reading) and
-//! `specs/Usual` and `specs/Shortest` (the spelling of most lines, which are read at once, and which are canonical). Below it
-//! stand `thiserror` and `knit_base`.
+//! `specs/Usual` and `specs/Shortest` (the spelling of most lines, which are read at once, and which are canonical). Lemmas
+//! that the crates above cite: `proofs/SomeReading` (each line has a reading), `proofs/LawfulReadings` (which is lawful), `proofs/BodyReadings`.
+//! Below it stand `thiserror` and `knit_base`.
 #![tactic(auto)]
 
 mod answers;
