@@ -78,29 +78,36 @@ pub body_run-next : (profile : Profile) (with_loops : Bool) (names lines : List 
     → HasBodyRun profile with_loops names lines from i carriage → next_line carriage ≡ i + 1
 body_run-next profile with_loops names lines from i carriage here = omega (arith, here.run.first_line, here.run.lines, here.so_far.counted)
 
+-- what is made of the file, from readings of all lines behind the head
+pub judged_readings : (profile : Profile) (with_loops : Bool) (lines : List (List ℕ)) (head : Head) (reads : List Read) (judgement : Judgement) → IsHead lines head
+    → AllZip (ReadsAs profile head.declared) (drop head.lines lines) reads
+    → IsVerdict (length reads) judgement.verdict (run profile empty_state (head.lines + 1) reads) (loops_made profile empty_state (head.lines + 1) reads)
+    → judgement.loops ≡ loops_asked with_loops (loops_made profile empty_state (head.lines + 1) reads)
+    → IsJudgement with_loops profile head.declared lines judgement
+judged_readings profile with_loops lines head reads judgement is all told loops =
+    let first : head.lines + 1 ≡ first_of lines = ap (λ h. h + 1) is.len in
+    let body : drop head.lines lines ≡ body_of lines = ap (λ h. drop h lines) is.len in
+    let count : length reads ≡ length (body_of lines) = AllZip-long (ReadsAs profile head.declared) (drop head.lines lines) reads all ∙ ap length body in
+    record {
+      made = loops_made profile empty_state (first_of lines) reads;
+      judged = record {
+        readings = reads;
+        read = subst (λ ls. AllZip (ReadsAs profile head.declared) ls reads) body all;
+        made = refl;
+        judged =
+            subst (λ k. IsVerdict (length (body_of lines)) judgement.verdict (run profile empty_state k reads) (loops_made profile empty_state k reads)) first
+            (subst (λ n. IsVerdict n judgement.verdict (run profile empty_state (head.lines + 1) reads) (loops_made profile empty_state (head.lines + 1) reads)) count told);
+      };
+      loops = loops ∙ ap (λ k. loops_asked with_loops (loops_made profile empty_state k reads)) first;
+    }
+
 -- a carriage that executed all lines behind the head tells what is made of the file
 pub body_run-all : (profile : Profile) (with_loops : Bool) (lines : List (List ℕ)) (head : Head) (i : ℕ) (carriage : Carriage) (judgement : Judgement)
     → IsHead lines head → length lines ≤ i → (here : HasBodyRun profile with_loops head.declared lines head.lines i carriage)
     → TellsRun profile with_loops (head.lines + 1) here.readings judgement.verdict judgement.loops
     → IsJudgement with_loops profile head.declared lines judgement
 body_run-all profile with_loops lines head i carriage judgement is past here tells =
-    let reads : List Read = here.readings in
-    let all : AllZip (λ line r. ReadsAs profile head.declared line r) (drop head.lines lines) reads = (read-all _ _ lines head.lines i reads past here.so_far).0 in
-    let first : head.lines + 1 ≡ first_of lines = ap (λ h. h + 1) is.len in
-    let body : drop head.lines lines ≡ body_of lines = ap (λ h. drop h lines) is.len in
-    let count : length reads ≡ length (body_of lines) = AllZip-long (λ line r. ReadsAs profile head.declared line r) (drop head.lines lines) reads all ∙ ap length body in
-    record {
-      made = loops_made profile empty_state (first_of lines) reads;
-      judged = record {
-        readings = reads;
-        read = subst (λ ls. AllZip (λ line r. ReadsAs profile head.declared line r) ls reads) body all;
-        made = refl;
-        judged =
-            subst (λ k. IsVerdict (length (body_of lines)) judgement.verdict (run profile empty_state k reads) (loops_made profile empty_state k reads)) first
-            (subst (λ n. IsVerdict n judgement.verdict (run profile empty_state (head.lines + 1) reads) (loops_made profile empty_state (head.lines + 1) reads)) count tells.verdict_is);
-      };
-      loops = tells.loops_are ∙ ap (λ k. loops_asked with_loops (loops_made profile empty_state k reads)) first;
-    }
+    judged_readings profile with_loops lines head here.readings judgement is (read-all _ _ lines head.lines i here.readings past here.so_far).0 tells.verdict_is tells.loops_are
 
 -- a report of what is made of the file is that of `check`
 pub check-report : (profile : Profile) (loops json : Bool) (names lines : List (List ℕ)) (text broken : List ℕ) (judgement : Judgement) (made : Status)

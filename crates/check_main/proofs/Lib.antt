@@ -1,5 +1,9 @@
+pub mod BlockFolds
+pub mod BlockLoops
 pub mod BodyRuns
 pub mod Calls
 pub mod Dues
 pub mod Fronts
+pub mod LineRanges
+pub mod StoppedRuns
 pub mod TextRuns

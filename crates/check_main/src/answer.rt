@@ -18,6 +18,7 @@ use knitout_reader::HeadFault;
 use knitout_writer::canonical_text;
 use line_cutter::{CutFault, cut_buffer};
 use std::alloc::Global;
+use std::thread::Threads;
 use verdict_report::Refusal;
 
 // A body that is checked has at most so many lines, in at most so many blocks.
@@ -28,13 +29,18 @@ const BLOCK_LIMIT: u32 = 65_536;
 /// What is due for an input that was read whole. One pass over the bytes is tried first, which settles nearly every file in less
 /// time and memory; what that doesn't settle goes the general way: the lines are cut, the head is read, and then the body is
 /// judged or written.
-pub fn answer(alloc: Global, plan: &Plan, input: Vec<u8>) -> Result<Ending, NoMemory>
+pub fn answer<R: Threads>(
+    rt: &R,
+    alloc: Global,
+    plan: &Plan,
+    input: Vec<u8>,
+) -> Result<Ending, NoMemory>
     requires { length input.items ≤ 16777216 }
     ensures { IfOk result (λ ending. Due plan.now.command plan.now.chosen input.items ending.text.items ending.status) }
 {
     match answer_in_one_pass(alloc, plan, &input)? {
         Some(ending) => Ok(ending),
-        None => answer_by_lines(alloc, plan, input),
+        None => answer_by_lines(rt, alloc, plan, input),
     }
 }
 
@@ -46,6 +52,9 @@ fn answer_in_one_pass(alloc: Global, plan: &Plan, input: &[u8]) -> Result<Option
 {
     match plan.command {
         Command::Check { loops, json } => {
+            if plan.by_blocks {
+                return Ok(None);
+            }
             check_in_one_pass(alloc, Style { loops, json }, plan, input)
         }
         Command::Text => text_in_one_pass(alloc, plan, input),
@@ -54,7 +63,8 @@ fn answer_in_one_pass(alloc: Global, plan: &Plan, input: &[u8]) -> Result<Option
 }
 
 /// The same, in the general way.
-pub(crate) fn answer_by_lines(
+pub(crate) fn answer_by_lines<R: Threads>(
+    rt: &R,
     alloc: Global,
     plan: &Plan,
     input: Vec<u8>,
@@ -63,43 +73,59 @@ pub(crate) fn answer_by_lines(
     ensures { IfOk result (λ ending. Due plan.now.command plan.now.chosen input.items ending.text.items ending.status) }
 {
     match cut_buffer(alloc, input) {
-        Ok(lines) => answer_lines(alloc, plan, lines),
+        Ok(lines) => answer_lines(rt, alloc, plan, lines),
         Err(fault) => Ending::refusal(alloc, refusal_of_lines(fault)?, Status::BadInput),
     }
 }
 
 // What is due for an input with these lines.
-fn answer_lines(alloc: Global, plan: &Plan, lines: Lines) -> Result<Ending, NoMemory>
+fn answer_lines<R: Threads>(
+    rt: &R,
+    alloc: Global,
+    plan: &Plan,
+    lines: Lines,
+) -> Result<Ending, NoMemory>
     requires { All IsGoodLine lines }
     ensures { IfOk result (λ ending. (input : List ℕ) → lines ≡ lines_of input
         → Due plan.now.command plan.now.chosen input ending.text.items ending.status) }
 {
     match Body::of(alloc, lines) {
-        Ok(body) => answer_body(alloc, plan, &body),
+        Ok(body) => answer_body(rt, alloc, plan, &body),
         Err(fault) => Ending::refusal(alloc, refusal_of_head(fault)?, Status::BadInput),
     }
 }
 
 // What is due for an input with this body.
-fn answer_body(alloc: Global, plan: &Plan, body: &Body) -> Result<Ending, NoMemory>
+fn answer_body<R: Threads>(
+    rt: &R,
+    alloc: Global,
+    plan: &Plan,
+    body: &Body,
+) -> Result<Ending, NoMemory>
     ensures { IfOk result (λ ending. (input : List ℕ) → body.now.lines ≡ lines_of input
         → Due plan.now.command plan.now.chosen input ending.text.items ending.status) }
 {
     match plan.command {
-        Command::Check { loops, json } => check(alloc, Style { loops, json }, plan, body),
+        Command::Check { loops, json } => check(rt, alloc, Style { loops, json }, plan, body),
         Command::Text => normalise(alloc, plan, body),
         Command::Passes | Command::Live | Command::Make { .. } => unreachable!(),
     }
 }
 
 // The verdict on a file with this body, unless that is too large.
-fn check(alloc: Global, style: Style, plan: &Plan, body: &Body) -> Result<Ending, NoMemory>
+fn check<R: Threads>(
+    rt: &R,
+    alloc: Global,
+    style: Style,
+    plan: &Plan,
+    body: &Body,
+) -> Result<Ending, NoMemory>
     ensures { IfOk result (λ ending. (input : List ℕ) → body.now.lines ≡ lines_of input
         → Due (Command.Check style.loops style.json) plan.now.chosen input ending.text.items ending.status) }
 {
     match refusal_of_size(body.len(), plan.chosen.block) {
         Some(refusal) => Ending::refusal(alloc, refusal, Status::TooLarge),
-        None => judge(alloc, style, plan, body),
+        None => judge(rt, alloc, style, plan, body),
     }
 }
 

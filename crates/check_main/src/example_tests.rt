@@ -3,7 +3,7 @@ use crate::outcome::Status;
 use crate::tests::{is, said};
 use std::test::Fail;
 
-const SWATCH: &[u8] = b";!knitout-2
+pub(crate) const SWATCH: &[u8] = b";!knitout-2
 ;;Machine: SWG091N2
 ;;Gauge: 15
 ;;Carriers: 1 2 3 4 5 6 7 8 9 10
@@ -107,7 +107,7 @@ drop f7
 drop f8
 ";
 
-const RIB: &[u8] = b";!knitout-2
+pub(crate) const RIB: &[u8] = b";!knitout-2
 ;;Machine: SWG091N2
 ;;Gauge: 15
 ;;Carriers: 1 2 3 4 5 6 7 8 9 10
@@ -178,7 +178,7 @@ outhook 3
 rack 0
 ";
 
-const TUBE: &[u8] = b";!knitout-2
+pub(crate) const TUBE: &[u8] = b";!knitout-2
 ;;Machine: SWG091N2
 ;;Gauge: 15
 ;;Carriers: 1 2 3 4 5 6 7 8 9 10
@@ -268,7 +268,7 @@ knit + b6 5
 outhook 5
 ";
 
-const FORGOTTEN_RACK: &[u8] = b";!knitout-2
+pub(crate) const FORGOTTEN_RACK: &[u8] = b";!knitout-2
 ;;Machine: SWG091N2
 ;;Gauge: 15
 ;;Carriers: 1 2 3 4 5 6 7 8 9 10
@@ -301,7 +301,7 @@ rack 0
 out 2
 ";
 
-const YARN_LEFT_OUT: &[u8] = b";!knitout-2
+pub(crate) const YARN_LEFT_OUT: &[u8] = b";!knitout-2
 ;;Machine: SWG091N2
 ;;Gauge: 15
 ;;Carriers: 1 2 3 4 5 6 7 8 9 10
@@ -348,7 +348,7 @@ knit - f1 1
 out 1
 ";
 
-const PARKED_LOOP: &[u8] = b";!knitout-2
+pub(crate) const PARKED_LOOP: &[u8] = b";!knitout-2
 ;;Machine: SWG091N2
 ;;Gauge: 15
 ;;Carriers: 1 2 3 4 5 6 7 8 9 10
@@ -388,7 +388,7 @@ fn example_swatch(rt: HostRuntime) -> Result<(), Fail> {
     let verdict = "sound lines 93 made 72 held 0 rack 0\nin:\nhook:\n";
     assert!(rt;
         is(
-            &said(rt.alloc(), &["check"], SWATCH)?,
+            &said(&rt, rt.alloc(), &["check"], SWATCH)?,
             Status::Done,
             verdict
         )
@@ -400,7 +400,13 @@ fn example_swatch(rt: HostRuntime) -> Result<(), Fail> {
 fn example_rib(rt: HostRuntime) -> Result<(), Fail> {
     let verdict =
         "sound lines 61 made 56 held 8 rack 0\nin:\nhook:\nf1: 60\nf2: 61\nf5: 64\nf6: 65\nb3: 62\nb4: 63\nb7: 66\nb8: 67\n";
-    assert!(rt; is(&said(rt.alloc(), &["check"], RIB)?, Status::Done, verdict));
+    assert!(rt;
+        is(
+            &said(&rt, rt.alloc(), &["check"], RIB)?,
+            Status::Done,
+            verdict
+        )
+    );
     Ok(())
 }
 
@@ -408,7 +414,13 @@ fn example_rib(rt: HostRuntime) -> Result<(), Fail> {
 fn example_tube(rt: HostRuntime) -> Result<(), Fail> {
     let verdict =
         "sound lines 80 made 72 held 12 rack 0\nin:\nhook:\nf1: 81\nf2: 80\nf3: 79\nf4: 78\nf5: 77\nf6: 76\nb1: 82\nb2: 83\nb3: 84\nb4: 85\nb5: 86\nb6: 87\n";
-    assert!(rt; is(&said(rt.alloc(), &["check"], TUBE)?, Status::Done, verdict));
+    assert!(rt;
+        is(
+            &said(&rt, rt.alloc(), &["check"], TUBE)?,
+            Status::Done,
+            verdict
+        )
+    );
     Ok(())
 }
 
@@ -417,7 +429,7 @@ fn example_forgotten_rack(rt: HostRuntime) -> Result<(), Fail> {
     let verdict = "broken line 27 rule NotAligned at 2\n> xfer f2 b2\n";
     assert!(rt;
         is(
-            &said(rt.alloc(), &["check"], FORGOTTEN_RACK)?,
+            &said(&rt, rt.alloc(), &["check"], FORGOTTEN_RACK)?,
             Status::Broken,
             verdict
         )
@@ -430,7 +442,7 @@ fn example_yarn_left_out(rt: HostRuntime) -> Result<(), Fail> {
     let verdict = "broken line 39 rule CarrierIsOut at 3\n> knit - f6 1\n";
     assert!(rt;
         is(
-            &said(rt.alloc(), &["check"], YARN_LEFT_OUT)?,
+            &said(&rt, rt.alloc(), &["check"], YARN_LEFT_OUT)?,
             Status::Broken,
             verdict
         )
@@ -443,7 +455,7 @@ fn example_parked_loop(rt: HostRuntime) -> Result<(), Fail> {
     let verdict = "broken line 28 rule SliderHolds at 2\n> knit - b3 4\n";
     assert!(rt;
         is(
-            &said(rt.alloc(), &["check"], PARKED_LOOP)?,
+            &said(&rt, rt.alloc(), &["check"], PARKED_LOOP)?,
             Status::Broken,
             verdict
         )

@@ -5,6 +5,7 @@ ghost use Rattle.check_main.specs.BodyRun.{ExecutesLine, IsJudgement};
 ghost use Rattle.check_main.specs.CheckReport.{IsCheckReport, broken_line, numbered_line, report_of, status_of};
 
 use crate::body::Body;
+use crate::by_blocks::judge_by_blocks;
 use crate::ending::Ending;
 use crate::outcome::Status;
 use crate::plan::Plan;
@@ -12,6 +13,7 @@ use carriage_model::{Carriage, Facts, Verdict};
 use knit_base::{Declared, Lines, NoMemory, Profile};
 use knitout_reader::{nth_line, read_line};
 use std::alloc::Global;
+use std::thread::Threads;
 use verdict_report::{json_of, text_of};
 
 /// Which report of a verdict is asked for: with the loops made, and as JSON.
@@ -21,7 +23,7 @@ pub struct Style {
     pub json: bool,
 }
 
-/// What one carriage makes of a file: the verdict, and the loops made, where these are asked for.
+/// What is made of a file: the verdict, and the loops made, where these are asked for.
 #[derive(Drop)]
 pub struct Judgement {
     pub verdict: Verdict,
@@ -29,13 +31,35 @@ pub struct Judgement {
 }
 
 /// The report of the verdict on a file.
-pub fn judge(alloc: Global, style: Style, plan: &Plan, body: &Body) -> Result<Ending, NoMemory>
+pub fn judge<R: Threads>(
+    rt: &R,
+    alloc: Global,
+    style: Style,
+    plan: &Plan,
+    body: &Body,
+) -> Result<Ending, NoMemory>
     ensures { IfOk result (λ ending. IsCheckReport plan.now.chosen.profile style.loops style.json body.now.head.declared body.now.lines
         ending.text.items ending.status) }
 {
-    let judgement = run_body(alloc, style.loops, plan, body)?;
+    let judgement = judge_body(rt, alloc, style.loops, plan, body)?;
     let broken = line_of(&body.lines, &judgement.verdict);
     report(alloc, style.json, &judgement, &body.head.declared, broken)
+}
+
+// What the lines behind the head make: by blocks, where the words say how many lines these have, and else by one carriage.
+fn judge_body<R: Threads>(
+    rt: &R,
+    alloc: Global,
+    with_loops: bool,
+    plan: &Plan,
+    body: &Body,
+) -> Result<Judgement, NoMemory>
+    ensures { IfOk result (λ judgement. IsJudgement with_loops plan.now.chosen.profile body.now.head.declared body.now.lines judgement) }
+{
+    if plan.by_blocks {
+        return judge_by_blocks(rt, alloc, with_loops, plan, body);
+    }
+    run_body(alloc, with_loops, plan, body)
 }
 
 // What one carriage makes of the lines behind the head.

@@ -7,10 +7,15 @@
 #![tactic(auto)]
 
 mod answer;
+mod block_loops;
 mod body;
+mod by_blocks;
+#[cfg(test)]
+mod by_blocks_tests;
 mod ending;
 #[cfg(test)]
 mod example_tests;
+mod fold;
 mod front;
 mod judge;
 mod one_pass;
@@ -39,10 +44,10 @@ fn main(rt: HostRuntime) -> ExitCode {
     let mut source = ReaderSource::of(rt.reader());
     let mut sink = WriterSink::of(io::writer(&rt));
     let status = match words(&rt) {
-        Ok(words) => top(rt.alloc(), &words, &mut source, &mut sink).status,
+        Ok(words) => top(&rt, rt.alloc(), &words, &mut source, &mut sink).status,
         Err(error) if error.kind() == io::ErrorKind::OutOfMemory => Status::NoMemory,
         // Words that aren't text are outside the grammar, as no words are.
-        Err(_) => top(rt.alloc(), &[], &mut source, &mut sink).status,
+        Err(_) => top(&rt, rt.alloc(), &[], &mut source, &mut sink).status,
     };
     ExitCode::from(status.code())
 }

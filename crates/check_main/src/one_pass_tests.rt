@@ -9,6 +9,7 @@ use crate::tests::{is, said, texts};
 use knit_ports::INPUT_LIMIT;
 use std::alloc::Global;
 use std::test::Fail;
+use std::thread::Threads;
 
 // Whether one pass settles the file, the file, and what a check of it says.
 type Row = (bool, &'static [u8], &'static str);
@@ -28,7 +29,13 @@ fn says(ending: &Ending, expected: &str) -> bool {
 }
 
 // Whether both ways say what the row says.
-fn agree(alloc: Global, style: Style, words: &[&str], row: &Row) -> Result<bool, Fail> {
+fn agree<R: Threads>(
+    rt: &R,
+    alloc: Global,
+    style: Style,
+    words: &[&str],
+    row: &Row,
+) -> Result<bool, Fail> {
     let (settles, file, expected) = row;
     let words = texts(alloc, words)?;
     let Ok(plan) = plan_of(alloc, &words) else {
@@ -37,7 +44,7 @@ fn agree(alloc: Global, style: Style, words: &[&str], row: &Row) -> Result<bool,
     if file.len() > INPUT_LIMIT {
         return Ok(false);
     }
-    let general = answer_by_lines(alloc, &plan, Vec::from_slice(alloc, file)?)?;
+    let general = answer_by_lines(rt, alloc, &plan, Vec::from_slice(alloc, file)?)?;
     if !says(&general, expected) {
         return Ok(false);
     }
@@ -48,9 +55,13 @@ fn agree(alloc: Global, style: Style, words: &[&str], row: &Row) -> Result<bool,
 }
 
 // The first row that one of the ways tells otherwise.
-fn first_other(alloc: Global, rows: &[Row]) -> Result<Option<&'static str>, Fail> {
+fn first_other<R: Threads>(
+    rt: &R,
+    alloc: Global,
+    rows: &[Row],
+) -> Result<Option<&'static str>, Fail> {
     for row in rows {
-        if !agree(alloc, PLAIN, &["check"], row)? {
+        if !agree(rt, alloc, PLAIN, &["check"], row)? {
             return Ok(Some(row.2));
         }
     }
@@ -214,13 +225,13 @@ const FAULTS: [Row; 6] = [
 
 #[test]
 fn nearly_usual_needles(rt: HostRuntime) -> Result<(), Fail> {
-    assert_eq!(rt; first_other(rt.alloc(), &NEEDLES)?, None);
+    assert_eq!(rt; first_other(&rt, rt.alloc(), &NEEDLES)?, None);
     Ok(())
 }
 
 #[test]
 fn nearly_usual_names(rt: HostRuntime) -> Result<(), Fail> {
-    assert_eq!(rt; first_other(rt.alloc(), &NAMES)?, None);
+    assert_eq!(rt; first_other(&rt, rt.alloc(), &NAMES)?, None);
     Ok(())
 }
 
@@ -232,7 +243,7 @@ fn loops_of_usual_and_other_lines(rt: HostRuntime) -> Result<(), Fail> {
 
 #[test]
 fn nearly_usual_spellings(rt: HostRuntime) -> Result<(), Fail> {
-    assert_eq!(rt; first_other(rt.alloc(), &SPELLINGS)?, None);
+    assert_eq!(rt; first_other(&rt, rt.alloc(), &SPELLINGS)?, None);
     Ok(())
 }
 
@@ -246,8 +257,8 @@ fn behind_a_fault(alloc: Global, byte: u8, count: usize) -> Result<Vec<u8>, Fail
 #[test]
 fn lines_behind_a_fault(rt: HostRuntime) -> Result<(), Fail> {
     let alloc = rt.alloc();
-    assert_eq!(rt; first_other(alloc, &FAULTS)?, None);
-    let said = said(alloc, &["check"], &behind_a_fault(alloc, b';', 4_097)?)?;
+    assert_eq!(rt; first_other(&rt, alloc, &FAULTS)?, None);
+    let said = said(&rt, alloc, &["check"], &behind_a_fault(alloc, b';', 4_097)?)?;
     assert!(rt; is(&said, Status::BadInput, "bad input: line 5 LineLong\n"));
     Ok(())
 }
@@ -256,10 +267,10 @@ fn lines_behind_a_fault(rt: HostRuntime) -> Result<(), Fail> {
 fn blocks_behind_a_fault(rt: HostRuntime) -> Result<(), Fail> {
     let alloc = rt.alloc();
     let words = ["check", "--block", "1"];
-    let most = said(alloc, &words, &behind_a_fault(alloc, b'\n', 65_534)?)?;
+    let most = said(&rt, alloc, &words, &behind_a_fault(alloc, b'\n', 65_534)?)?;
     let broken = "broken line 4 rule CarrierIsIn at 1\n> in 1\n";
     assert!(rt; is(&most, Status::Broken, broken));
-    let many = said(alloc, &words, &behind_a_fault(alloc, b'\n', 65_535)?)?;
+    let many = said(&rt, alloc, &words, &behind_a_fault(alloc, b'\n', 65_535)?)?;
     assert!(rt; is(&many, Status::TooLarge, "too large: blocks\n"));
     Ok(())
 }

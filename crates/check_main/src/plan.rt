@@ -11,6 +11,8 @@ use std::alloc::Global;
 pub struct Plan {
     pub command: Command,
     pub chosen: Chosen,
+    /// Whether the words say how many lines a block has. A check then goes by blocks.
+    pub by_blocks: bool,
     ghost lawful: { IsLawfulChosen chosen },
     ghost built: { is_built command ≡ true },
 }
@@ -43,7 +45,12 @@ pub fn plan_of(alloc: Global, words: &[String]) -> Result<Plan, PlanFault>
             if !is_built(command) {
                 return Err(PlanFault::Unbuilt);
             }
-            Ok(Plan { command, chosen })
+            let by_blocks = request.options.block.is_some();
+            Ok(Plan {
+                command,
+                chosen,
+                by_blocks,
+            })
         }
         Err(_) => Err(PlanFault::Usage),
     }

@@ -3,6 +3,7 @@ use crate::outcome::Status;
 use crate::tests::{is, said_of};
 use std::alloc::Global;
 use std::test::Fail;
+use std::thread::Threads;
 
 // A body, and the verdict on it.
 type Row = (&'static str, &'static str);
@@ -205,14 +206,15 @@ const SOUND: [Row; 10] = [
 ];
 
 // The first body on which the program ends otherwise.
-fn first_other(
+fn first_other<R: Threads>(
+    rt: &R,
     alloc: Global,
     words: &[&str],
     rows: &[Row],
     status: Status,
 ) -> Result<Option<&'static str>, Fail> {
     for (body, verdict) in rows {
-        let said = said_of(alloc, words, body)?;
+        let said = said_of(rt, alloc, words, body)?;
         if !is(&said, status, verdict) {
             return Ok(Some(*body));
         }
@@ -222,14 +224,14 @@ fn first_other(
 
 #[test]
 fn rules_that_need_the_machine(rt: HostRuntime) -> Result<(), Fail> {
-    let other = first_other(rt.alloc(), &["check"], &BY_THE_MACHINE, Status::Broken)?;
+    let other = first_other(&rt, rt.alloc(), &["check"], &BY_THE_MACHINE, Status::Broken)?;
     assert_eq!(rt; other, None);
     Ok(())
 }
 
 #[test]
 fn rules_that_need_the_line_alone(rt: HostRuntime) -> Result<(), Fail> {
-    let other = first_other(rt.alloc(), &["check"], &BY_THE_LINE, Status::Broken)?;
+    let other = first_other(&rt, rt.alloc(), &["check"], &BY_THE_LINE, Status::Broken)?;
     assert_eq!(rt; other, None);
     Ok(())
 }
@@ -237,17 +239,23 @@ fn rules_that_need_the_line_alone(rt: HostRuntime) -> Result<(), Fail> {
 #[test]
 fn the_first_of_two_rules(rt: HostRuntime) -> Result<(), Fail> {
     let alloc = rt.alloc();
-    let other = first_other(alloc, &["check"], &FIRST_OF_TWO, Status::Broken)?;
+    let other = first_other(&rt, alloc, &["check"], &FIRST_OF_TWO, Status::Broken)?;
     assert_eq!(rt; other, None);
     let words = ["check", "--hold=1"];
-    let other = first_other(alloc, &words, &FIRST_OF_TWO_WHERE_CROWDED, Status::Broken)?;
+    let other = first_other(
+        &rt,
+        alloc,
+        &words,
+        &FIRST_OF_TWO_WHERE_CROWDED,
+        Status::Broken,
+    )?;
     assert_eq!(rt; other, None);
     Ok(())
 }
 
 #[test]
 fn each_instruction(rt: HostRuntime) -> Result<(), Fail> {
-    let other = first_other(rt.alloc(), &["check"], &SOUND, Status::Done)?;
+    let other = first_other(&rt, rt.alloc(), &["check"], &SOUND, Status::Done)?;
     assert_eq!(rt; other, None);
     Ok(())
 }
@@ -260,7 +268,7 @@ const PARENTS: [Row; 1] = [(
 #[test]
 fn parents_in_the_order_of_their_arrival(rt: HostRuntime) -> Result<(), Fail> {
     let words = ["check", "--loops"];
-    let other = first_other(rt.alloc(), &words, &PARENTS, Status::Done)?;
+    let other = first_other(&rt, rt.alloc(), &words, &PARENTS, Status::Done)?;
     assert_eq!(rt; other, None);
     Ok(())
 }

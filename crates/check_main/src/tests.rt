@@ -4,12 +4,13 @@ use crate::top::top;
 use knit_ports::{CalmSource, MemorySink, MemorySource};
 use std::alloc::Global;
 use std::test::Fail;
+use std::thread::Threads;
 
 // What the program wrote, and how it ended.
 #[derive(Drop)]
 pub(crate) struct Written {
-    status: Status,
-    text: Vec<u8>,
+    pub(crate) status: Status,
+    pub(crate) text: Vec<u8>,
 }
 
 pub(crate) fn texts(alloc: Global, words: &[&str]) -> Result<Vec<String>, Fail> {
@@ -21,11 +22,16 @@ pub(crate) fn texts(alloc: Global, words: &[&str]) -> Result<Vec<String>, Fail> 
 }
 
 // The program on an input that is given in memory, over a sink that takes all.
-pub(crate) fn said(alloc: Global, words: &[&str], input: &[u8]) -> Result<Written, Fail> {
+pub(crate) fn said<R: Threads>(
+    rt: &R,
+    alloc: Global,
+    words: &[&str],
+    input: &[u8],
+) -> Result<Written, Fail> {
     let words = texts(alloc, words)?;
     let mut source = CalmSource::of(Vec::from_slice(alloc, input)?);
     let mut sink = MemorySink::of(alloc, 65_536, 65_536, Vec::new(alloc))?;
-    let outcome = top(alloc, &words, &mut source, &mut sink);
+    let outcome = top(rt, alloc, &words, &mut source, &mut sink);
     let text = Vec::from_slice(alloc, sink.as_slice())?;
     Ok(Written {
         status: outcome.status,
@@ -37,19 +43,26 @@ pub(crate) fn is(said: &Written, status: Status, text: &str) -> bool {
     said.status == status && said.text.as_slice() == text.as_bytes()
 }
 
-const SCARF: &[u8] =
+pub(crate) const SCARF: &[u8] =
     b";!knitout-2\n;;Carriers: 1 2 3\nin 1\ntuck - f2 1\ntuck - f1 1\nknit + f1 1\nknit + f2 1\nout 1\n";
 
-const SCARF_TEXT: &str = "sound lines 6 made 4 held 2 rack 0\nin:\nhook:\nf1: 6\nf2: 7\n";
+pub(crate) const SCARF_TEXT: &str =
+    "sound lines 6 made 4 held 2 rack 0\nin:\nhook:\nf1: 6\nf2: 7\n";
 
-const SCARF_LOOPS: &str =
+pub(crate) const SCARF_LOOPS: &str =
     "loop 4 on f2 - with 1 through\nloop 5 on f1 - with 1 through\nloop 6 on f1 + with 1 through 5\nloop 7 on f2 + with 1 through 4\n";
 
 #[test]
 fn a_sound_program(rt: HostRuntime) -> Result<(), Fail> {
     let alloc = rt.alloc();
-    assert!(rt; is(&said(alloc, &["check"], SCARF)?, Status::Done, SCARF_TEXT));
-    let with_loops = said(alloc, &["check", "--loops"], SCARF)?;
+    assert!(rt;
+        is(
+            &said(&rt, alloc, &["check"], SCARF)?,
+            Status::Done,
+            SCARF_TEXT
+        )
+    );
+    let with_loops = said(&rt, alloc, &["check", "--loops"], SCARF)?;
     let loops = format!(in alloc; "{SCARF_TEXT}{SCARF_LOOPS}")?;
     assert!(rt; is(&with_loops, Status::Done, &loops));
     Ok(())
@@ -63,7 +76,7 @@ fn heads_alone(rt: HostRuntime) -> Result<(), Fail> {
         b";!knitout-2\n;;Carriers: 1 2 3\n".as_slice(),
         b";!knitout-2\n;;Carriers: 1 2 3\n\n\n".as_slice(),
     ] {
-        assert!(rt; is(&said(alloc, &["check"], head)?, Status::Done, empty));
+        assert!(rt; is(&said(&rt, alloc, &["check"], head)?, Status::Done, empty));
     }
     Ok(())
 }
@@ -71,17 +84,22 @@ fn heads_alone(rt: HostRuntime) -> Result<(), Fail> {
 const HEAD: &str = ";!knitout-2\n;;Carriers: 1 2 3\n";
 
 // The program on a file with three carriers and this body.
-pub(crate) fn said_of(alloc: Global, words: &[&str], body: &str) -> Result<Written, Fail> {
+pub(crate) fn said_of<R: Threads>(
+    rt: &R,
+    alloc: Global,
+    words: &[&str],
+    body: &str,
+) -> Result<Written, Fail> {
     let file = format!(in alloc; "{HEAD}{body}")?;
-    said(alloc, words, file.as_bytes())
+    said(rt, alloc, words, file.as_bytes())
 }
 
-const CROWDED: &str = "in 1\ntuck + f1 1\ntuck + f1 1\ntuck + b1 1\nxfer f1 b1\n";
+pub(crate) const CROWDED: &str = "in 1\ntuck + f1 1\ntuck + f1 1\ntuck + b1 1\nxfer f1 b1\n";
 
 #[test]
 fn limits_by_options(rt: HostRuntime) -> Result<(), Fail> {
     let alloc = rt.alloc();
-    let over = said_of(alloc, &["check", "--hold", "2"], CROWDED)?;
+    let over = said_of(&rt, alloc, &["check", "--hold", "2"], CROWDED)?;
     assert!(rt;
         is(
             &over,
@@ -89,13 +107,13 @@ fn limits_by_options(rt: HostRuntime) -> Result<(), Fail> {
             "broken line 7 rule TooManyLoops at 2\n> xfer f1 b1\n"
         )
     );
-    let held = said_of(alloc, &["--hold=3", "check"], CROWDED)?;
+    let held = said_of(&rt, alloc, &["--hold=3", "check"], CROWDED)?;
     let text = "sound lines 5 made 3 held 3 rack 0\nin: 1\nhook:\nb1: 6 4 5\n";
     assert!(rt; is(&held, Status::Done, text));
     Ok(())
 }
 
-const HEADED: &[u8] =
+pub(crate) const HEADED: &[u8] =
     b";!knitout-2\r\n;;Machine: SWG091N2\r\n;;Gauge: 15\r\n;;Carriers: 1 2 3 4 5 6 7 8 9 10\r\n;;Position: Center\r\n\r\nx-stitch-number 60\r\nstitch 10 5\r\ninhook 6\r\ntuck - f3 6 ; cast on\r\ntuck - b2 6\r\ntuck - f1 6\r\nknit + f1 6\r\nknit + b2 6\r\nreleasehook 6\r\nknit + f3 6\r\nouthook 6";
 
 const HEADED_BY_LINE_FEEDS: &[u8] =
@@ -104,9 +122,9 @@ const HEADED_BY_LINE_FEEDS: &[u8] =
 #[test]
 fn a_file_with_headers_and_carriage_returns(rt: HostRuntime) -> Result<(), Fail> {
     let verdict = "sound lines 11 made 6 held 3 rack 0\nin:\nhook:\nf1: 13\nf3: 16\nb2: 14\n";
-    let plain = said(rt.alloc(), &["check"], HEADED_BY_LINE_FEEDS)?;
+    let plain = said(&rt, rt.alloc(), &["check"], HEADED_BY_LINE_FEEDS)?;
     assert!(rt; is(&plain, Status::Done, verdict));
-    let said = said(rt.alloc(), &["check"], HEADED)?;
+    let said = said(&rt, rt.alloc(), &["check"], HEADED)?;
     assert!(rt; is(&said, Status::Done, verdict));
     Ok(())
 }
@@ -138,7 +156,7 @@ fn bad_inputs(rt: HostRuntime) -> Result<(), Fail> {
             "bad input: line 2 NotUtf8\n",
         ),
     ] {
-        let said = said(alloc, &["check"], input)?;
+        let said = said(&rt, alloc, &["check"], input)?;
         assert!(rt; is(&said, Status::BadInput, refusal));
     }
     Ok(())
@@ -151,14 +169,14 @@ fn json(rt: HostRuntime) -> Result<(), Fail> {
         "{\"held\":2,\"hook\":[],\"in\":[],\"lines\":6,\"made\":4,\"needles\":[{\"loops\":[6],\"needle\":\"f1\"},{\"loops\":[7],\"needle\":\"f2\"}],\"rack\":\"0\",\"verdict\":\"sound\"}\n";
     assert!(rt;
         is(
-            &said(alloc, &["check", "--json"], SCARF)?,
+            &said(&rt, alloc, &["check", "--json"], SCARF)?,
             Status::Done,
             sound
         )
     );
     let broken =
         "{\"at\":2,\"line\":4,\"rule\":\"NotAligned\",\"text\":\"xfer f1 b1\",\"verdict\":\"broken\"}\n";
-    let said = said_of(alloc, &["check", "--json"], "rack 1\nxfer f1 b1\n")?;
+    let said = said_of(&rt, alloc, &["check", "--json"], "rack 1\nxfer f1 b1\n")?;
     assert!(rt; is(&said, Status::Broken, broken));
     Ok(())
 }
@@ -168,7 +186,7 @@ const SCARF_JSON_LOOPS: &str =
 
 #[test]
 fn json_with_loops(rt: HostRuntime) -> Result<(), Fail> {
-    let said = said(rt.alloc(), &["check", "--json", "--loops"], SCARF)?;
+    let said = said(&rt, rt.alloc(), &["check", "--json", "--loops"], SCARF)?;
     assert!(rt; is(&said, Status::Done, SCARF_JSON_LOOPS));
     Ok(())
 }
@@ -176,21 +194,21 @@ fn json_with_loops(rt: HostRuntime) -> Result<(), Fail> {
 const USAGE: &str = "usage: check_main check|text|passes|live|make N START [options]\n";
 
 // Whether the words are refused.
-fn are_refused(alloc: Global, words: &[&str]) -> Result<bool, Fail> {
-    let said = said(alloc, words, SCARF)?;
+fn are_refused<R: Threads>(rt: &R, alloc: Global, words: &[&str]) -> Result<bool, Fail> {
+    let said = said(rt, alloc, words, SCARF)?;
     Ok(is(&said, Status::Usage, USAGE))
 }
 
 #[test]
 fn words_that_are_refused(rt: HostRuntime) -> Result<(), Fail> {
     let alloc = rt.alloc();
-    assert!(rt; are_refused(alloc, &[])?);
-    assert!(rt; are_refused(alloc, &["check", "--hold", "65"])?);
-    assert!(rt; are_refused(alloc, &["check", "--low", "-64"])?);
-    assert!(rt; are_refused(alloc, &["make", "2"])?);
-    assert!(rt; are_refused(alloc, &["live", "--json"])?);
-    assert!(rt; are_refused(alloc, &["check", "--hold", "2", "--hold", "2"])?);
-    let low = said(alloc, &["check", "--low=-64"], SCARF)?;
+    assert!(rt; are_refused(&rt, alloc, &[])?);
+    assert!(rt; are_refused(&rt, alloc, &["check", "--hold", "65"])?);
+    assert!(rt; are_refused(&rt, alloc, &["check", "--low", "-64"])?);
+    assert!(rt; are_refused(&rt, alloc, &["make", "2"])?);
+    assert!(rt; are_refused(&rt, alloc, &["live", "--json"])?);
+    assert!(rt; are_refused(&rt, alloc, &["check", "--hold", "2", "--hold", "2"])?);
+    let low = said(&rt, alloc, &["check", "--low=-64"], SCARF)?;
     assert!(rt; is(&low, Status::Done, SCARF_TEXT));
     Ok(())
 }
@@ -212,16 +230,16 @@ fn pauses(alloc: Global, count: usize) -> Result<Vec<u8>, Fail> {
 #[test]
 fn too_many_bytes(rt: HostRuntime) -> Result<(), Fail> {
     let alloc = rt.alloc();
-    let long = said(alloc, &["check"], &bytes(alloc, b';', 4_097)?)?;
+    let long = said(&rt, alloc, &["check"], &bytes(alloc, b';', 4_097)?)?;
     assert!(rt; is(&long, Status::BadInput, "bad input: line 1 LineLong\n"));
-    let large = said(alloc, &["check"], &bytes(alloc, b';', 16_777_217)?)?;
+    let large = said(&rt, alloc, &["check"], &bytes(alloc, b';', 16_777_217)?)?;
     assert!(rt; is(&large, Status::TooLarge, "too large: bytes\n"));
     Ok(())
 }
 
 #[test]
 fn most_lines(rt: HostRuntime) -> Result<(), Fail> {
-    let most = said(rt.alloc(), &["check"], &pauses(rt.alloc(), 1_048_576)?)?;
+    let most = said(&rt, rt.alloc(), &["check"], &pauses(rt.alloc(), 1_048_576)?)?;
     let sound = "sound lines 1048576 made 0 held 0 rack 0\nin:\nhook:\n";
     assert!(rt; is(&most, Status::Done, sound));
     Ok(())
@@ -229,7 +247,7 @@ fn most_lines(rt: HostRuntime) -> Result<(), Fail> {
 
 #[test]
 fn too_many_lines(rt: HostRuntime) -> Result<(), Fail> {
-    let many = said(rt.alloc(), &["check"], &pauses(rt.alloc(), 1_048_577)?)?;
+    let many = said(&rt, rt.alloc(), &["check"], &pauses(rt.alloc(), 1_048_577)?)?;
     assert!(rt; is(&many, Status::TooLarge, "too large: lines\n"));
     Ok(())
 }
@@ -238,10 +256,10 @@ fn too_many_lines(rt: HostRuntime) -> Result<(), Fail> {
 fn blocks_that_are_too_many(rt: HostRuntime) -> Result<(), Fail> {
     let alloc = rt.alloc();
     let words = ["check", "--block", "1"];
-    let most = said(alloc, &words, &pauses(alloc, 65_536)?)?;
+    let most = said(&rt, alloc, &words, &pauses(alloc, 65_536)?)?;
     let sound = "sound lines 65536 made 0 held 0 rack 0\nin:\nhook:\n";
     assert!(rt; is(&most, Status::Done, sound));
-    let many = said(alloc, &words, &pauses(alloc, 65_537)?)?;
+    let many = said(&rt, alloc, &words, &pauses(alloc, 65_537)?)?;
     assert!(rt; is(&many, Status::TooLarge, "too large: blocks\n"));
     Ok(())
 }
@@ -258,7 +276,7 @@ fn head_of(alloc: Global, carriers: u32) -> Result<String, Fail> {
 #[test]
 fn most_carriers(rt: HostRuntime) -> Result<(), Fail> {
     let alloc = rt.alloc();
-    let most = said(alloc, &["check"], head_of(alloc, 64)?.as_bytes())?;
+    let most = said(&rt, alloc, &["check"], head_of(alloc, 64)?.as_bytes())?;
     assert!(rt;
         is(
             &most,
@@ -266,7 +284,7 @@ fn most_carriers(rt: HostRuntime) -> Result<(), Fail> {
             "sound lines 0 made 0 held 0 rack 0\nin:\nhook:\n"
         )
     );
-    let many = said(alloc, &["check"], head_of(alloc, 65)?.as_bytes())?;
+    let many = said(&rt, alloc, &["check"], head_of(alloc, 65)?.as_bytes())?;
     assert!(rt;
         is(
             &many,
@@ -284,19 +302,19 @@ fn devices_that_fail(rt: HostRuntime) -> Result<(), Fail> {
     // The second write of ten bytes fails.
     let mut source = CalmSource::of(Vec::from_slice(alloc, SCARF)?);
     let mut sink = MemorySink::of(alloc, 10, 65_536, Vec::from_slice(alloc, &[2])?)?;
-    let outcome = top(alloc, &words, &mut source, &mut sink);
+    let outcome = top(&rt, alloc, &words, &mut source, &mut sink);
     assert!(rt; outcome.status == Status::WriteFault);
     assert!(rt; sink.as_slice() == b"sound line".as_slice());
     Ok(())
 }
 
 // What `check` says where this read of the input fails.
-fn said_of_failing_read(alloc: Global, read: u32) -> Result<Written, Fail> {
+fn said_of_failing_read<R: Threads>(rt: &R, alloc: Global, read: u32) -> Result<Written, Fail> {
     let words = texts(alloc, &["check"])?;
     let bytes = Vec::from_slice(alloc, SCARF)?;
     let mut source = MemorySource::of(bytes, 16, Vec::from_slice(alloc, &[read])?);
     let mut sink = MemorySink::of(alloc, 65_536, 65_536, Vec::new(alloc))?;
-    let outcome = top(alloc, &words, &mut source, &mut sink);
+    let outcome = top(rt, alloc, &words, &mut source, &mut sink);
     let text = Vec::from_slice(alloc, sink.as_slice())?;
     Ok(Written {
         status: outcome.status,
@@ -309,7 +327,7 @@ fn reads_that_fail(rt: HostRuntime) -> Result<(), Fail> {
     let alloc = rt.alloc();
     // A closed input fails at its first read.
     for read in [1, 2] {
-        let said = said_of_failing_read(alloc, read)?;
+        let said = said_of_failing_read(&rt, alloc, read)?;
         assert!(rt; is(&said, Status::ReadFault, "read fault\n"));
     }
     Ok(())
@@ -321,11 +339,11 @@ const FIVE: &str = "in 1 2 3 4 5\ntuck + f1 1 2 3 4 5\n";
 fn a_line_with_five_carriers(rt: HostRuntime) -> Result<(), Fail> {
     let alloc = rt.alloc();
     let file = format!(in alloc; ";!knitout-2\n;;Carriers: 1 2 3 4 5\n{FIVE}")?;
-    let checked = said(alloc, &["check", "--loops"], file.as_bytes())?;
+    let checked = said(&rt, alloc, &["check", "--loops"], file.as_bytes())?;
     let verdict =
         "sound lines 2 made 1 held 1 rack 0\nin: 1 2 3 4 5\nhook:\nf1: 4\nloop 4 on f1 + with 1 2 3 4 5 through\n";
     assert!(rt; is(&checked, Status::Done, verdict));
-    let spelt = said(alloc, &["text"], file.as_bytes())?;
+    let spelt = said(&rt, alloc, &["text"], file.as_bytes())?;
     assert!(rt; is(&spelt, Status::Done, &file));
     Ok(())
 }
@@ -339,17 +357,17 @@ const TIDY: &str =
 #[test]
 fn canonical_text(rt: HostRuntime) -> Result<(), Fail> {
     let alloc = rt.alloc();
-    assert!(rt; is(&said(alloc, &["text"], LOOSE)?, Status::Done, TIDY));
+    assert!(rt; is(&said(&rt, alloc, &["text"], LOOSE)?, Status::Done, TIDY));
     assert!(rt;
         is(
-            &said(alloc, &["text"], TIDY.as_bytes())?,
+            &said(&rt, alloc, &["text"], TIDY.as_bytes())?,
             Status::Done,
             TIDY
         )
     );
     assert!(rt;
         is(
-            &said(alloc, &["passes"], LOOSE)?,
+            &said(&rt, alloc, &["passes"], LOOSE)?,
             Status::Unbuilt,
             "unbuilt\n"
         )

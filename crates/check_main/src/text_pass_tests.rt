@@ -7,12 +7,18 @@ use crate::text_pass::text_in_one_pass;
 use knit_ports::INPUT_LIMIT;
 use std::alloc::Global;
 use std::test::Fail;
+use std::thread::Threads;
 
 // A file, and its canonical text.
 type Row = (&'static [u8], &'static [u8]);
 
 // What both ways write, if they agree. `None` where one pass doesn't settle the file.
-fn agree(alloc: Global, file: &[u8], expected: &[u8]) -> Result<Option<bool>, Fail> {
+fn agree<R: Threads>(
+    rt: &R,
+    alloc: Global,
+    file: &[u8],
+    expected: &[u8],
+) -> Result<Option<bool>, Fail> {
     let words = texts(alloc, &["text"])?;
     let Ok(plan) = plan_of(alloc, &words) else {
         return Ok(None);
@@ -20,7 +26,7 @@ fn agree(alloc: Global, file: &[u8], expected: &[u8]) -> Result<Option<bool>, Fa
     if file.len() > INPUT_LIMIT {
         return Ok(None);
     }
-    let general = answer_by_lines(alloc, &plan, Vec::from_slice(alloc, file)?)?;
+    let general = answer_by_lines(rt, alloc, &plan, Vec::from_slice(alloc, file)?)?;
     let Some(fast) = text_in_one_pass(alloc, &plan, file)? else {
         return Ok(None);
     };
@@ -33,9 +39,9 @@ fn agree(alloc: Global, file: &[u8], expected: &[u8]) -> Result<Option<bool>, Fa
 }
 
 // Whether both ways write what each row says.
-fn all_agree(alloc: Global, rows: &[Row]) -> Result<bool, Fail> {
+fn all_agree<R: Threads>(rt: &R, alloc: Global, rows: &[Row]) -> Result<bool, Fail> {
     for (file, expected) in rows {
-        if agree(alloc, file, expected)? != Some(true) {
+        if agree(rt, alloc, file, expected)? != Some(true) {
             return Ok(false);
         }
     }
@@ -95,19 +101,19 @@ const ENDS: [Row; 3] = [
 
 #[test]
 fn nearly_canonical_spellings(rt: HostRuntime) -> Result<(), Fail> {
-    assert!(rt; all_agree(rt.alloc(), &SPELLINGS)?);
+    assert!(rt; all_agree(&rt, rt.alloc(), &SPELLINGS)?);
     Ok(())
 }
 
 #[test]
 fn nearly_canonical_names(rt: HostRuntime) -> Result<(), Fail> {
-    assert!(rt; all_agree(rt.alloc(), &NAMES)?);
+    assert!(rt; all_agree(&rt, rt.alloc(), &NAMES)?);
     Ok(())
 }
 
 #[test]
 fn nearly_canonical_ends(rt: HostRuntime) -> Result<(), Fail> {
-    assert!(rt; all_agree(rt.alloc(), &ENDS)?);
+    assert!(rt; all_agree(&rt, rt.alloc(), &ENDS)?);
     Ok(())
 }
 
@@ -119,7 +125,7 @@ fn files_that_one_pass_leaves(rt: HostRuntime) -> Result<(), Fail> {
         b";!knitout-2\n;;Carriers: 1\nknit + f1 1\n\xff\n".as_slice(),
         b";!knitout-2\n;;Carriers: 1\n".as_slice(),
     ] {
-        assert_eq!(rt; agree(rt.alloc(), file, b"")?, None);
+        assert_eq!(rt; agree(&rt, rt.alloc(), file, b"")?, None);
     }
     Ok(())
 }

@@ -10,6 +10,7 @@ use crate::plan::{Plan, PlanFault, plan_of};
 use knit_base::NoMemory;
 use knit_ports::{INPUT_LIMIT, InputFault, Sink, Source, read_input, write_report};
 use std::alloc::Global;
+use std::thread::Threads;
 use verdict_report::Refusal;
 
 /// Does what the words behind the program's name ask for: reads the source to its end, makes the whole report, and only then
@@ -31,7 +32,8 @@ use verdict_report::Refusal;
 ///
 /// `WriteFault` takes the place of any of these, only where a write failed; the sink then took a front of the report.
 /// `NoMemory` may take it at any time before the first write, and the sink then took nothing.
-pub fn top<S: Source, K: Sink>(
+pub fn top<R: Threads, S: Source, K: Sink>(
+    rt: &R,
     alloc: Global,
     words: &[String],
     source: &mut S,
@@ -40,7 +42,7 @@ pub fn top<S: Source, K: Sink>(
     ensures { Ran (map string_bytes words.now) (source_use S.left S.faults source.old source.new)
         (sink_use K.taken K.faults sink.old sink.new) result.status }
 {
-    let status = match make_ending(alloc, words, source) {
+    let status = match make_ending(rt, alloc, words, source) {
         Ok(ending) => write_ending(&ending, sink),
         Err(NoMemory) => Status::NoMemory,
     };
@@ -48,7 +50,8 @@ pub fn top<S: Source, K: Sink>(
 }
 
 // What is due for the words and for what the source gives.
-fn make_ending<S: Source>(
+fn make_ending<R: Threads, S: Source>(
+    rt: &R,
     alloc: Global,
     words: &[String],
     source: &mut S,
@@ -57,7 +60,7 @@ fn make_ending<S: Source>(
         ending.text.items ending.status) }
 {
     match plan_of(alloc, words) {
-        Ok(plan) => answer_source(alloc, &plan, source),
+        Ok(plan) => answer_source(rt, alloc, &plan, source),
         Err(PlanFault::Usage) => Ending::refusal(alloc, Refusal::Usage, Status::Usage),
         Err(PlanFault::Unbuilt) => Ending::unbuilt(alloc),
         Err(PlanFault::NoMemory) => Err(NoMemory),
@@ -65,7 +68,12 @@ fn make_ending<S: Source>(
 }
 
 // Reads the whole input. What is then due for it.
-fn answer_source<S: Source>(alloc: Global, plan: &Plan, source: &mut S) -> Result<Ending, NoMemory>
+fn answer_source<R: Threads, S: Source>(
+    rt: &R,
+    alloc: Global,
+    plan: &Plan,
+    source: &mut S,
+) -> Result<Ending, NoMemory>
     ensures { IfOk result (λ ending. (words : List (List ℕ)) → Ask words plan.now.command plan.now.chosen
         → Called words (source_use S.left S.faults source.old source.new) ending.text.items ending.status) }
 {
@@ -79,7 +87,7 @@ fn answer_source<S: Source>(alloc: Global, plan: &Plan, source: &mut S) -> Resul
     if input.len() > INPUT_LIMIT {
         return Ending::refusal(alloc, Refusal::TooManyBytes, Status::TooLarge);
     }
-    answer(alloc, plan, input)
+    answer(rt, alloc, plan, input)
 }
 
 // Writes the text that is due. The status with which the program then ends.

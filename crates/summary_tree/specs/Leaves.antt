@@ -11,7 +11,7 @@ use Rattle.face_data.specs.Stands.{StandsFor}
 use Rattle.face_data.specs.Summaries.{Summary, Outcome, applied}
 use Rattle.face_data.specs.Summaries.Outcome.{went_on}
 use Rattle.loop_history.specs.declared.row.LoopRow.{LoopRow}
-use Rattle.summary_compose.specs.Spots.{IsNumbered}
+use Rattle.face_data.specs.Spots.{IsNumbered}
 use Rattle.summary_tree.specs.Rooms.{kept_room}
 use Rattle.summary_compose.specs.declared.room.Room.{Room}
 

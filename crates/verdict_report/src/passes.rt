@@ -147,11 +147,7 @@ fn append_window(ops: &PassOps, window: Window, out: &mut Vec<u8>) -> Result<(),
 }
 
 // Appends a line for each window.
-fn append_windows(
-    ops: &PassOps,
-    windows: &[Window],
-    out: &mut Vec<u8>,
-) -> Result<(), NoMemory>
+fn append_windows(ops: &PassOps, windows: &[Window], out: &mut Vec<u8>) -> Result<(), NoMemory>
     ensures { OnOk result (out.new.items ≡ out.old.items ++ flat_map (window_text ops.now) windows.now) }
 {
     'windows: for window in windows {

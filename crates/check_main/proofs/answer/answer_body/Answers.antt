@@ -4,14 +4,14 @@ use Rattle.check_main.proofs.Dues.{due-for}
 use Rattle.check_main.proofs.answer.answer_body.Goals as goal
 
 pub returns-in-Check : goal.returns-in-Check
-returns-in-Check c =
+returns-in-Check g c =
     IfOk-weaker c.check.result _ _
     (λ ending due input are.
     due-for c.args.plan.now.command (Check c.in-Check.loops c.in-Check.json) c.args.plan.now.chosen input ending.text.items ending.status c.in-Check.is (due input are))
     c.check.ensures
 
 pub returns-in-Text : goal.returns-in-Text
-returns-in-Text c =
+returns-in-Text g c =
     IfOk-weaker c.normalise.result _ _
     (λ ending due input are. due-for c.args.plan.now.command Text c.args.plan.now.chosen input ending.text.items ending.status c.in-Text.is (due input are))
     c.normalise.ensures

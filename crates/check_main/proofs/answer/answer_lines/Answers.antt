@@ -3,7 +3,7 @@ use Rattle.check_main.proofs.Dues.{due-bad_head}
 use Rattle.check_main.proofs.answer.answer_lines.Goals as goal
 
 pub returns-in_ok-refusal_of_head-in-Err : goal.returns-in_ok-refusal_of_head-in-Err
-returns-in_ok-refusal_of_head-in-Err c =
+returns-in_ok-refusal_of_head-in-Err g c =
     IfOk-weaker c.refusal.result _ _
     (λ ending is input are.
     due-bad_head c.args.plan.now.command c.args.plan.now.chosen input ending.text.items ending.status c.args.lines _ _ are c.requires c.in-Err.ensures.fault

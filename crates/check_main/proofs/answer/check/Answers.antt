@@ -5,7 +5,7 @@ use Rattle.check_main.proofs.Dues.{due-judged, due-too_large}
 use Rattle.check_main.proofs.answer.check.Goals as goal
 
 pub returns-in-Some : goal.returns-in-Some
-returns-in-Some c =
+returns-in-Some g c =
     IfOk-weaker c.refusal.result _ _
     (λ ending is input are.
     due-too_large c.args.style.loops c.args.style.json c.args.plan.now.chosen input ending.text.items ending.status c.args.body.now.lines c.args.body.now.head _ _ are
@@ -13,7 +13,7 @@ returns-in-Some c =
     c.refusal.ensures
 
 pub returns-in-None : goal.returns-in-None
-returns-in-None c =
+returns-in-None g c =
     IfOk-weaker c.judge.result _ _
     (λ ending is input are.
     due-judged c.args.style.loops c.args.style.json c.args.plan.now.chosen input ending.text.items ending.status c.args.body.now.lines c.args.body.now.head are

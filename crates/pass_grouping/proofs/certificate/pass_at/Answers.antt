@@ -14,8 +14,13 @@ pub between-requires-clause-within : goal.between-requires-clause-within
 between-requires-clause-within c =
     let is : IsPass c.args.ops.now (part_at c.args.starts.now (length c.args.ops.now) c.args.k) =
     passes-at c.args.ops.now c.args.starts.now (length c.args.ops.now) c.args.k c.requires.within c.requires.grouping.passes in
-    omega (arith, is.within, c.first_or-behind.ensures, ap (λ (ops : List PassOp). first_or (drop (c.args.k + 1) c.args.starts.now) (length ops)) c.as_slice-items.ensures.items,
-    ap length c.as_slice-items.ensures.items)
+    omega (
+      arith,
+      is.within,
+      c.first_or-behind.ensures,
+      ap (λ (ops : List PassOp). first_or (drop (c.args.k + 1) c.args.starts.now) (length ops)) c.as_slice-items.ensures.items,
+      ap length c.as_slice-items.ensures.items,
+    )
 
 pub returns : goal.returns
 returns c =
