@@ -173,7 +173,9 @@ fn names_known(adds: u32, command_line: CommandLine) -> bool
     ensures { result ≡ names_known adds command_line }
 {
     match command_line {
-        CommandLine::Look(name) | CommandLine::Put(name) | CommandLine::Cut(name) => is_known(adds, name),
+        CommandLine::Look(name) | CommandLine::Put(name) | CommandLine::Cut(name) => is_known(
+            adds, name,
+        ),
         CommandLine::Add(Place::After(name)) => is_known(adds, name),
         CommandLine::Add(Place::Start) | CommandLine::LoopAt(_) | CommandLine::Verdict => true,
     }
