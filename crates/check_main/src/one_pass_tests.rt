@@ -69,9 +69,13 @@ fn first_other<R: Threads>(
 }
 
 // The same where the loops are told.
-fn first_other_loops(alloc: Global, rows: &[Row]) -> Result<Option<&'static str>, Fail> {
+fn first_other_loops<R: Threads>(
+    rt: &R,
+    alloc: Global,
+    rows: &[Row],
+) -> Result<Option<&'static str>, Fail> {
     for row in rows {
-        if !agree(alloc, WITH_LOOPS, &["check", "--loops"], row)? {
+        if !agree(rt, alloc, WITH_LOOPS, &["check", "--loops"], row)? {
             return Ok(Some(row.2));
         }
     }
@@ -237,7 +241,7 @@ fn nearly_usual_names(rt: HostRuntime) -> Result<(), Fail> {
 
 #[test]
 fn loops_of_usual_and_other_lines(rt: HostRuntime) -> Result<(), Fail> {
-    assert_eq!(rt; first_other_loops(rt.alloc(), &LOOPS)?, None);
+    assert_eq!(rt; first_other_loops(&rt, rt.alloc(), &LOOPS)?, None);
     Ok(())
 }
 
