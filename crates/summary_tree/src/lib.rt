@@ -2,8 +2,8 @@
 //!
 //! Promises that the root's face stands for the lines of all leaves, whatever lines these stand for, and does what they do, one
 //! after the other; that a face that a change makes is composed of its two parts as they then are; that a change whose need is met
-//! takes no memory and can't be refused; that a node's lists lie in spans of the class that they need. (The old ones are given back, of which
-//! no clause speaks.)
+//! takes no memory and can't be refused. (That a list lies in a span of the least class that holds it, and that old spans are given
+//! back, the code does and no clause says.)
 //!
 //! Definitions: `specs/Leaves` (the leaves and the face of all of them), `specs/Trees` (what always holds of a tree, and what a
 //! change needs), `specs/Rooms` and `specs/Meeting` (rooms, and spans for them), `specs/Faces`, `specs/Lists` and `specs/Store`
