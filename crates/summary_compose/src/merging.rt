@@ -10,6 +10,7 @@ ghost use Rattle.summary_compose.specs.Tables.{IsTableOf};
 
 use crate::laid::Laid;
 use crate::places::Places;
+use crate::spots::is_same;
 use face_data::{Change, FaceView, Seg};
 use knit_base::needle_order;
 use std::cmp::Ordering;
@@ -40,7 +41,12 @@ fn whose_turn(a: &[Change], b: &[Change], i: usize, j: usize) -> Turn
     if i >= a.len() {
         return Turn::Second;
     }
-    match needle_order(&a[i].needle, &b[j].needle) {
+    let first = a[i].needle;
+    let second = b[j].needle;
+    if is_same(first, second) {
+        return Turn::Both;
+    }
+    match needle_order(&first, &second) {
         Ordering::Less => Turn::First,
         Ordering::Equal => Turn::Both,
         Ordering::Greater => Turn::Second,
