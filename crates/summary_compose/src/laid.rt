@@ -97,6 +97,21 @@ impl Laid {
         self.changes.push_reserved(Change { needle, part });
     }
 
+    // Appends a change to one segment.
+    #[inline(always)]
+    fn lay_one(&mut self, needle: Needle, seg: Seg)
+        requires room { length self.old.changes < self.old.change_room }
+        requires seg_room { segs_in self.old.changes < self.old.seg_room }
+        ensures changes { self.new.changes ≡ self.old.changes ++ (needle, seg ∷ []) ∷ [] }
+        ensures change_room { self.new.change_room ≡ self.old.change_room }
+        ensures seg_room { self.new.seg_room ≡ self.old.seg_room }
+    {
+        let start = self.segs.len() as u64;
+        self.segs.push_reserved(seg);
+        let part = Part { start, len: 1 };
+        self.changes.push_reserved(Change { needle, part });
+    }
+
     /// Appends a change of a second face, its segments read through the first.
     #[inline(always)]
     pub fn lay_read(&mut self, needle: Needle, segs: &[Seg], a: &FaceView, places: &Places)
@@ -111,6 +126,10 @@ impl Laid {
         ensures change_room { self.new.change_room ≡ self.old.change_room }
         ensures seg_room { self.new.seg_room ≡ self.old.seg_room }
     {
+        if let [Seg::New(offset)] = segs {
+            self.lay_one(needle, Seg::New(a.lines + *offset));
+            return;
+        }
         let start = self.segs.len();
         read_segs(segs, a, places, &mut self.segs);
         let len = (self.segs.len() - start) as u32;
