@@ -92,9 +92,7 @@ fn implied(
     ensures { result ≡ true → answer_known digest.now (chain_at (checks_in a.now)) (read_answer effect.now (changes_in a.now) (ask_of names.now cond)) ≡ yes_it_does }
 {
     match cond {
-        Cond::SizeAtMost(part, most) => {
-            size_implied(places, a, at, names_at(names, part), most)
-        }
+        Cond::SizeAtMost(part, most) => { size_implied(places, a, at, names_at(names, part), most) }
         Cond::RackIs(_) => plain_implied(digest, effect, cond),
         Cond::CarrierIn(_) => plain_implied(digest, effect, cond),
         Cond::CarrierOut(_) => plain_implied(digest, effect, cond),
