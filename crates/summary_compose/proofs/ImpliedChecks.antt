@@ -15,13 +15,16 @@ use Rattle.face_data.specs.declared.face.Effect.{Effect}
 use Rattle.face_data.specs.declared.face.Ending.TheVariants.{Through}
 use Rattle.face_data.specs.declared.face.FaceView.{FaceView}
 use Rattle.face_data.specs.declared.face.Seg.TheVariants.{Entry}
-use Rattle.face_data.specs.Answers.{read_answer}
-use Rattle.face_data.specs.Answers.Answer.{yes_it_does, asks}
+use Rattle.face_data.specs.Answers.{Answer, read_answer}
+use Rattle.face_data.specs.Answers.Answer.{yes_it_does, no_it_does_not, asks}
 use Rattle.face_data.specs.Bearings.{if_so}
-use Rattle.face_data.specs.Chains.{answer_known, chain_at}
+use Rattle.face_data.specs.Chains.{SizeMark, answer_known, chain_at}
 use Rattle.face_data.specs.Composition.{from_bearing}
+use Rattle.face_data.specs.declared.face.Cond.{Cond}
+use Rattle.face_data.specs.declared.face.Cond.TheVariants.{RackIs, CarrierIn, CarrierOut, HookFree, HookIs, HookLacks, SizeAtMost}
+use Rattle.face_data.specs.Conditions.{Ask, ask_of, part_of}
 use Rattle.face_data.specs.Conditions.Ask.{size_at_most}
-use Rattle.face_data.specs.Digests.{digest_of}
+use Rattle.face_data.specs.Digests.{digest_bearing, digest_of, effect_bearing}
 use Rattle.face_data.specs.Segments.{Changed, entries_of, names_through, new_of, new_through, segments_on}
 use Rattle.face_data.specs.Summaries.{Asked, raised}
 use Rattle.face_data.proofs.Members.{Contains-cons_cases, Contains-none}
@@ -29,6 +32,7 @@ use Rattle.summary_compose.specs.Changes.{changes_in}
 use Rattle.summary_compose.specs.Known.{AreAlike, AreGood, Knows, StepIs, checks_in, noted_answer, notes_in, notes_of}
 use Rattle.summary_compose.specs.Tables.{suits}
 use Rattle.summary_compose.proofs.Readings.{check_at, reads_begin, reads_on}
+use Rattle.summary_compose.proofs.Answers.{plain_known}
 use Rattle.summary_compose.proofs.Steps.{noted_own}
 
 -- a list of one
@@ -78,3 +82,24 @@ alike_next a b e i d digest good through alike within is holds =
     let now = reads_on a b e i d (checks_in a) (checks_in a) digest digest (notes_of (checks_in a)) (notes_of (checks_in a)) true good through so within refl
     (subst (λ x. StepIs x (checks_in a) (raised a.lines (check_at b i d).fault) true (checks_in a)) (sym holds) (refl, refl)) knows in
     record { within = omega arith; others = now.read }
+
+silent_yes : (q : Ask) → asks q ≡ yes_it_does → ⊥
+silent_yes q e = subst is_asked e tt
+  where
+    is_asked : Answer → Type 0
+    is_asked yes_it_does = ⊥
+    is_asked no_it_does_not = ⊥
+    is_asked (asks q) = Unit {0}
+
+-- a condition that the effect or the digest imply
+pub implied_yes : (d : Digest) (chains : Needle → List SizeMark) (effect : Effect) (changes : List Changed) (names : List Needle) (c : Cond) →
+    from_bearing (effect_bearing effect (ask_of [] c)) (from_bearing (digest_bearing d (ask_of [] c)) (asks (ask_of [] c))) ≡ yes_it_does →
+    answer_known d chains (read_answer effect changes (ask_of names c)) ≡ yes_it_does
+unfolding effect_bearing digest_bearing
+implied_yes d chains effect changes names (SizeAtMost p most) e = absurd (silent_yes (size_at_most (part_of [] p) most) e)
+implied_yes d chains effect changes names (RackIs q) e = plain_known d chains effect changes names (RackIs q) tt ∙ e
+implied_yes d chains effect changes names (CarrierIn c) e = plain_known d chains effect changes names (CarrierIn c) tt ∙ e
+implied_yes d chains effect changes names (CarrierOut c) e = plain_known d chains effect changes names (CarrierOut c) tt ∙ e
+implied_yes d chains effect changes names HookFree e = plain_known d chains effect changes names HookFree tt ∙ e
+implied_yes d chains effect changes names (HookIs set) e = plain_known d chains effect changes names (HookIs set) tt ∙ e
+implied_yes d chains effect changes names (HookLacks c) e = plain_known d chains effect changes names (HookLacks c) tt ∙ e

@@ -12,7 +12,7 @@ ghost use Rattle.face_data.specs.Goodness.{IsInOrder};
 ghost use Rattle.face_data.specs.Segments.{names_through, new_through};
 ghost use Rattle.face_data.specs.View.{CondFits, PartsFit, names_of};
 ghost use Rattle.summary_compose.specs.Changes.{changed_needles, changes_in};
-ghost use Rattle.summary_compose.specs.Known.{AreAlike, AreGood, IsPlainCond, IsReadable, checks_in, noted_answer, notes_of};
+ghost use Rattle.summary_compose.specs.Known.{AreAlike, AreGood, IsReadable, checks_in, noted_answer, notes_of};
 ghost use Rattle.summary_compose.specs.Tables.{IsTableOf};
 
 use crate::names::names_at;
@@ -21,11 +21,9 @@ use crate::spots::is_same;
 use face_data::{Bearing, Cond, Digest, Effect, Ending, FaceView};
 use knit_base::Needle;
 
-// Whether the effect or the digest imply a condition that isn't on sizes.
-#[inline(always)]
+// Whether the effect or the digest imply a condition. Neither says anything of sizes.
 fn plain_implied(digest: &Digest, effect: &Effect, cond: Cond) -> bool
-    requires plain { IsPlainCond cond }
-    requires carrier { CarrierFits cond }
+    requires { CarrierFits cond }
     ensures { result ≡ true → from_bearing (effect_bearing effect.now (ask_of [] cond)) (from_bearing (digest_bearing digest.now (ask_of [] cond)) (asks (ask_of [] cond))) ≡ yes_it_does }
 {
     match effect.bearing_on(cond) {
@@ -91,15 +89,10 @@ fn implied(
     requires order { IsInOrder (changes_in a.now) }
     ensures { result ≡ true → answer_known digest.now (chain_at (checks_in a.now)) (read_answer effect.now (changes_in a.now) (ask_of names.now cond)) ≡ yes_it_does }
 {
-    match cond {
-        Cond::SizeAtMost(part, most) => { size_implied(places, a, at, names_at(names, part), most) }
-        Cond::RackIs(_) => plain_implied(digest, effect, cond),
-        Cond::CarrierIn(_) => plain_implied(digest, effect, cond),
-        Cond::CarrierOut(_) => plain_implied(digest, effect, cond),
-        Cond::HookFree => plain_implied(digest, effect, cond),
-        Cond::HookIs(_) => plain_implied(digest, effect, cond),
-        Cond::HookLacks(_) => plain_implied(digest, effect, cond),
+    if let Cond::SizeAtMost(part, most) = cond {
+        return size_implied(places, a, at, names_at(names, part), most);
     }
+    plain_implied(digest, effect, cond)
 }
 
 /// How many of the second face's first conditions are implied, each by the first face's condition at its place, the effect or the digest.

@@ -18,15 +18,10 @@ fn note_if_plain(names: &[Needle], cond: Cond, digest: &mut Digest)
     requires { CarrierFits cond }
     ensures { digest.new ≡ noted digest.old (ask_of names.now cond) }
 {
-    match cond {
-        Cond::SizeAtMost(_, _) => {}
-        Cond::RackIs(_) => digest.note(cond),
-        Cond::CarrierIn(_) => digest.note(cond),
-        Cond::CarrierOut(_) => digest.note(cond),
-        Cond::HookFree => digest.note(cond),
-        Cond::HookIs(_) => digest.note(cond),
-        Cond::HookLacks(_) => digest.note(cond),
+    if let Cond::SizeAtMost(_, _) = cond {
+        return;
     }
+    digest.note(cond);
 }
 
 /// Notes all conditions of the face that aren't on sizes.
@@ -51,18 +46,10 @@ fn note_if_sized(names: &[Needle], cond: Cond, index: &mut Index)
     ensures notes { index.new.notes ≡ index.old.notes ++ notes_in (ask_of names.now cond) }
     ensures room { index.new.room ≡ index.old.room }
 {
-    match cond {
-        Cond::SizeAtMost(part, most) => {
-            let start = part.start as usize;
-            let end = start + part.len as usize;
-            note_each(&names[start..end], most, index);
-        }
-        Cond::RackIs(_) => {}
-        Cond::CarrierIn(_) => {}
-        Cond::CarrierOut(_) => {}
-        Cond::HookFree => {}
-        Cond::HookIs(_) => {}
-        Cond::HookLacks(_) => {}
+    if let Cond::SizeAtMost(part, most) = cond {
+        let start = part.start as usize;
+        let end = start + part.len as usize;
+        note_each(&names[start..end], most, index);
     }
 }
 
