@@ -156,13 +156,26 @@ plain_condition HookFree plain = tt
 plain_condition (HookIs set) plain = tt
 plain_condition (HookLacks c) plain = tt
 
+-- what the code knows of a condition that isn't on sizes
+pub plain_known : (d : Digest) (chains : Needle → List SizeMark) (effect : Effect) (changes : List Changed) (names : List Needle) (c : Cond) → IsPlainCond c →
+    answer_known d chains (read_answer effect changes (ask_of names c)) ≡ from_bearing (effect_bearing effect (ask_of [] c)) (from_bearing (digest_bearing d (ask_of [] c)) (asks (ask_of [] c)))
+plain_known d chains effect changes names c plain =
+    ap (λ q. answer_known d chains (read_answer effect changes q)) (plain_ask names c plain) ∙ answer-plain d chains effect changes (ask_of [] c) (plain_condition c plain)
+
+-- and of one on sizes
+pub sized_known : (d : Digest) (notes : List Note) (effect : Effect) (changes : List Changed) (names needles : List Needle) (c : Cond) (p : Part) (most : ℕ) (kept : List Asked) →
+    Knows d notes kept → c ≡ SizeAtMost p most → needles ≡ part_of names p →
+    answer_known d (chain_at kept) (read_answer effect changes (ask_of names c)) ≡ noted_answer notes (names_through changes needles) (new_through changes needles) most
+sized_known d notes effect changes names needles c p most kept known is read =
+    sym (ap (λ q. answer_known d (chain_at kept) (read_answer effect changes q)) (ap (λ ns. size_at_most ns most) read ∙ ap (ask_of names) (sym is)))
+    ∙ answer-sized d notes kept effect changes needles most known
+
 -- what the code knows is what is known
 pub plain_step : (d : Digest) (chains : Needle → List SizeMark) (effect : Effect) (changes : List Changed) (names : List Needle) (c : Cond) (kept now : List Asked) (fault : Fault) (goes_on : Bool) → IsPlainCond c →
     StepIs (from_bearing (effect_bearing effect (ask_of [] c)) (from_bearing (digest_bearing d (ask_of [] c)) (asks (ask_of [] c)))) kept fault goes_on now →
     StepIs (answer_known d chains (read_answer effect changes (ask_of names c))) kept fault goes_on now
 plain_step d chains effect changes names c kept now fault goes_on plain h =
-    subst (λ answer. StepIs answer kept fault goes_on now)
-    (sym (ap (λ q. answer_known d chains (read_answer effect changes q)) (plain_ask names c plain) ∙ answer-plain d chains effect changes (ask_of [] c) (plain_condition c plain))) h
+    subst (λ answer. StepIs answer kept fault goes_on now) (sym (plain_known d chains effect changes names c plain)) h
 
 -- a condition on sizes is asked
 pub sized_step : (d : Digest) (notes : List Note) (effect : Effect) (changes : List Changed) (names needles : List Needle) (c : Cond) (p : Part) (most : ℕ) (kept now : List Asked) (fault : Fault) (goes_on : Bool) →
@@ -170,6 +183,4 @@ pub sized_step : (d : Digest) (notes : List Note) (effect : Effect) (changes : L
     StepIs (noted_answer notes (names_through changes needles) (new_through changes needles) most) kept fault goes_on now →
     StepIs (answer_known d (chain_at kept) (read_answer effect changes (ask_of names c))) kept fault goes_on now
 sized_step d notes effect changes names needles c p most kept now fault goes_on known is read h =
-    subst (λ answer. StepIs answer kept fault goes_on now)
-    (sym (answer-sized d notes kept effect changes needles most known) ∙ ap (λ q. answer_known d (chain_at kept) (read_answer effect changes q))
-    (ap (λ ns. size_at_most ns most) read ∙ ap (ask_of names) (sym is))) h
+    subst (λ answer. StepIs answer kept fault goes_on now) (sym (sized_known d notes effect changes names needles c p most kept known is read)) h

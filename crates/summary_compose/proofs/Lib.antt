@@ -3,6 +3,7 @@ pub mod Checks
 pub mod ComposedRooms
 pub mod Counts
 pub mod GoodFaces
+pub mod ImpliedChecks
 pub mod Parts
 pub mod PlainFaces
 pub mod Readings

@@ -30,7 +30,7 @@ use Rattle.face_data.proofs.KnownAnswers.{AreKept, kept-first, kept-push, answer
 use Rattle.face_data.proofs.Members.{Contains-head}
 use Rattle.face_data.proofs.KeptChecks.{against_asks}
 use Rattle.summary_compose.specs.Changes.{changes_in}
-use Rattle.summary_compose.specs.Known.{AreGood, Knows, StepIs, checks_in, names_count, names_read_count}
+use Rattle.summary_compose.specs.Known.{AreAlike, AreGood, Knows, StepIs, checks_in, names_count, names_read_count}
 use Rattle.summary_compose.specs.Tables.{Note}
 use Rattle.summary_compose.proofs.Answers.{reads_step}
 
@@ -78,18 +78,27 @@ step_names e changes kept now q fault goes_on (asks w) is h =
     let from : length (names_in w) ≡ length (names_through changes (names_in q)) = ap length (names_read e changes q w ((against_asks kept (read_answer e changes q) w is).0)) in
     omega (arith, same, split, one, from)
 
--- before any condition was read
-pub reads_begin : (a b : FaceView) (e : Effect) (kept : List Asked) (digest : Digest) (notes : List Note) → AreGood a b → kept ≡ checks_in a → Knows digest notes kept → ReadsOn a b e 0 kept digest notes
-reads_begin a b e kept digest notes good begun knows =
+names_left : (changes : List Changed) (cs : List Asked) (i : ℕ) → names_read_count changes (drop i cs) ≤ names_read_count changes cs
+names_left changes cs i =
+    let size : Asked → ℕ = λ (c : Asked). length (names_through changes (names_in c.ask)) in
+    let whole = ap (names_read_count changes) (take-append-drop i cs) in
+    let split = sum_by-append size (take i cs) (drop i cs) in
+    omega (arith, whole, split)
+
+-- where the conditions before a place hold for what the first face asks
+pub reads_begin : (a b : FaceView) (e : Effect) (i : ℕ) (kept : List Asked) (digest : Digest) (notes : List Note) → AreGood a b → AreAlike a b e i → kept ≡ checks_in a → Knows digest notes kept →
+    ReadsOn a b e i kept digest notes
+reads_begin a b e i kept digest notes good alike begun knows =
     let size : length (checks_in a) ≡ length a.checks.now = length-map a.checks.now (asked_of a.names.now) in
     let same : length kept ≡ length (checks_in a) = ap length begun in
     let names : names_count kept ≡ names_count (checks_in a) = ap names_count begun in
+    let left = names_left (changes_in a) (checks_in b) i in
     record {
-      read = ap (λ ks. reads e (changes_in a) a.lines ks (checks_in b)) begun;
+      read = ap (λ ks. reads e (changes_in a) a.lines ks (drop i (checks_in b))) begun ∙ alike.others;
       are_kept = subst (AreKept e (summary_of a) (summary_of b)) (sym begun) (kept-first good.carriers good.limit good.first_known e (summary_of a) (summary_of b) good.first);
       knows = knows;
       few = omega arith;
-      names = omega arith;
+      names = omega (arith, names, left);
     }
 
 -- the next condition
@@ -166,6 +175,14 @@ pub reads_end : (a b : FaceView) (e : Effect) (i : ℕ) (kept : List Asked) (dig
 reads_end a b e i kept digest notes so past =
     let long : length (checks_in b) ≡ length b.checks.now = length-map b.checks.now (asked_of b.names.now) in
     sym so.read ∙ ap (reads e (changes_in a) a.lines kept) (drop_all i (checks_in b) (omega arith)) ∙ reads_none e (changes_in a) a.lines kept
+
+-- all hold for what the first face asks
+pub alike_all : (a b : FaceView) (e : Effect) (i : ℕ) (kept : List Asked) → AreAlike a b e i → length b.checks.now ≤ i → kept ≡ checks_in a →
+    reads e (changes_in a) a.lines (checks_in a) (checks_in b) ≡ record { checks = kept; stop = None }
+alike_all a b e i kept alike past begun =
+    let long : length (checks_in b) ≡ length b.checks.now = length-map b.checks.now (asked_of b.names.now) in
+    sym alike.others ∙ ap (reads e (changes_in a) a.lines (checks_in a)) (drop_all i (checks_in b) (omega arith)) ∙ reads_none e (changes_in a) a.lines (checks_in a)
+    ∙ (λ j. record { checks = sym begun j; stop = None })
 
 -- there is room for the next
 pub next_room : (a b : FaceView) (e : Effect) (i : ℕ) (d : Check) (kept : List Asked) (digest : Digest) (notes : List Note) → ReadsOn a b e i kept digest notes → i < length b.checks.now →

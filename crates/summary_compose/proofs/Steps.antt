@@ -1,7 +1,8 @@
 -- One condition more against those that are kept.
 use Rattle.std.proofs.Common.{◌≡◌, ℕ, Bool, true, false, List, [], ◌∷◌, ◌++◌, refl, sym, ap, ◌∙◌, subst}
 use Rattle.std.proofs.lemmas.Grind.{flat_map-append}
-use Rattle.std.proofs.Common.{◌+◌, length, map, length-append}
+use Rattle.std.proofs.Common.{◌+◌, ◌-◌, length, map, length-append, arith}
+use Rattle.std.specs.Prelude.{nat_lt, if◌then◌else◌}
 use Rattle.std.proofs.Math.Path.{ap₂}
 use Rattle.std.proofs.lemmas.List.Sums.{sum_by-cons}
 use Rattle.face_data.specs.Goodness.{names_in}
@@ -15,15 +16,17 @@ use Rattle.face_data.specs.declared.digest.Digest.{Digest}
 use Rattle.face_data.specs.declared.face.Cond.{Cond}
 use Rattle.face_data.specs.declared.face.Cond.TheVariants.{RackIs, CarrierIn, CarrierOut, HookFree, HookIs, HookLacks, SizeAtMost}
 use Rattle.face_data.specs.Answers.{Answer}
-use Rattle.face_data.specs.Answers.Answer.{asks}
+use Rattle.face_data.specs.Answers.Answer.{asks, no_it_does_not}
 use Rattle.face_data.specs.Composition.{from_bearing}
 use Rattle.face_data.specs.Conditions.{Ask, ask_of}
 use Rattle.face_data.specs.Conditions.Ask.{rack_is, carrier_in, carrier_out, hook_free, hook_is, hook_lacks, size_at_most}
 use Rattle.face_data.specs.Digests.{digest_of, noted}
 use Rattle.face_data.specs.Summaries.{Asked}
 use Rattle.face_data.proofs.Digests.{digest_of-push}
-use Rattle.summary_compose.specs.Known.{Knows, StepIs, IsPlainCond, answer_in, notes_in, notes_of}
-use Rattle.summary_compose.specs.Tables.{Note}
+use Rattle.face_data.specs.Bearings.{if_so}
+use Rattle.std.specs.List.{list_any}
+use Rattle.summary_compose.specs.Known.{Knows, StepIs, IsPlainCond, answer_in, noted_answer, noted_left, notes_in, notes_of}
+use Rattle.summary_compose.specs.Tables.{Note, suits}
 use Rattle.summary_compose.specs.declared.sizes.SizeWord.{SizeWord}
 use Rattle.summary_compose.specs.declared.sizes.SizeWord.TheVariants.{Holds, Fails, Asks}
 
@@ -64,7 +67,7 @@ plain_notes HookFree plain = refl
 plain_notes (HookIs set) plain = refl
 plain_notes (HookLacks c) plain = refl
 
-notes_push : (kept : List Asked) (c : Asked) → notes_of (kept ++ c ∷ []) ≡ notes_of kept ++ notes_in c.ask
+pub notes_push : (kept : List Asked) (c : Asked) → notes_of (kept ++ c ∷ []) ≡ notes_of kept ++ notes_in c.ask
 notes_push kept c = flat_map-append (λ (c : Asked). notes_in c.ask) kept (c ∷ []) ∙ ap (λ ns. notes_of kept ++ ns) (append-nil (notes_in c.ask))
 
 -- nothing new is known
@@ -97,6 +100,22 @@ knows_size digest notes more kept checks fault names most n k h =
       digest_is = h.digest_is ∙ sym (noted_size (digest_of kept) names most) ∙ sym (digest_of-push kept new) ∙ ap digest_of (sym k);
       notes_are = n ∙ ap (λ ns. ns ++ notes_in (size_at_most names most)) h.notes_are ∙ sym (notes_push kept new) ∙ ap notes_of (sym k);
     }
+
+-- one needle on which no new loops stand
+pub noted_own : (notes : List Note) (n : Needle) (most : ℕ) → noted_answer notes (n ∷ []) 0 most ≡ noted_left notes (n ∷ []) most
+unfolding noted_answer
+noted_own notes n most =
+    let enough : nat_lt most 0 ≡ false = grind arith in
+    let all : most - 0 ≡ most = grind arith in
+    ap (λ b. if b then no_it_does_not else noted_left notes (n ∷ []) (most - 0)) enough ∙ ap (noted_left notes (n ∷ [])) all
+
+-- a condition on one needle that the notes don't imply
+pub step_own : (notes : List Note) (kept now : List Asked) (fault : Fault) (n : Needle) (most : ℕ) →
+    list_any (suits n 1 most) notes ≡ false → now ≡ kept ++ record { fault = fault; ask = size_at_most (n ∷ []) most } ∷ [] →
+    StepIs (noted_answer notes (n ∷ []) 0 most) kept fault true now
+step_own notes kept now fault n most none is =
+    subst (λ x. StepIs x kept fault true now) (sym (noted_own notes n most))
+    (subst (λ b. StepIs (from_bearing (if_so b Implied) (asks (size_at_most (n ∷ []) most))) kept fault true now) (sym none) (refl, is))
 
 -- a step by what is known of a condition on sizes
 pub step_size_holds : (answer : Answer) (names : List Needle) (word : SizeWord) (kept now : List Asked) (fault : Fault) → answer ≡ answer_in names word → word ≡ Holds → now ≡ kept → StepIs answer kept fault true now

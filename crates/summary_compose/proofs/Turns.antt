@@ -1,19 +1,21 @@
 -- Two lists of changes merged, one change after the other.
-use Rattle.std.proofs.Common.{suc, ◌≡◌, ℕ, ◌+◌, ◌≤◌, ◌<◌, ◌⊎◌, inl, inr, List, [], ◌∷◌, ◌++◌, length, drop, sym, ap, ◌∙◌, arith, get_or, length-append, append_assoc}
+use Rattle.std.proofs.Common.{suc, ◌≡◌, ℕ, ◌+◌, ◌≤◌, ◌<◌, ◌⊎◌, inl, inr, List, [], ◌∷◌, ◌++◌, length, drop, sym, ap, ◌∙◌, arith, get_or, length-append, append_assoc, ◌^◌, All, subst}
 use Rattle.std.specs.declared.cmp.Ordering.TheVariants.{Less, Equal, Greater}
 use Rattle.std.proofs.Math.Path.{ap₂}
 use Rattle.std.proofs.lemmas.List.{drop_more, drop_all, append-nil, get_or-map, length-map}
 use Rattle.std.proofs.lemmas.List.Sums.{sum_by-cons, sum_by-append}
 use Rattle.knit_base.specs.Needle.{needle_cmp}
+use Rattle.knit_base.proofs.Needles.{needle_cmp-refl}
 use Rattle.face_data.specs.Composition.{merged, merged_from, by_order}
 use Rattle.face_data.specs.declared.face.Change.{Change}
 use Rattle.face_data.specs.declared.face.FaceView.{FaceView}
 use Rattle.face_data.specs.declared.face.Seg.{Seg}
+use Rattle.face_data.specs.declared.face.Seg.TheVariants.{New}
 use Rattle.face_data.specs.Conditions.{part_of}
-use Rattle.face_data.specs.Segments.{Changed}
+use Rattle.face_data.specs.Segments.{Changed, OffsetFits}
 use Rattle.face_data.specs.Through.{through, change_through, changes_through}
 use Rattle.face_data.specs.View.{changed_of}
-use Rattle.summary_compose.specs.Changes.{segs_in, changes_in}
+use Rattle.summary_compose.specs.Changes.{HaveOffsets, segs_in, changes_in}
 
 less_first : (a b : Changed) (others bs : List Changed) → needle_cmp a.0 b.0 ≡ Less → merged (a ∷ others) (b ∷ bs) ≡ a ∷ merged others (b ∷ bs)
 less_first a b others bs e = ap (λ o. by_order o (a ∷ merged others (b ∷ bs)) (b ∷ merged others bs) (b ∷ merged_from a (merged others) bs)) e
@@ -154,6 +156,22 @@ both_next a b i j d segs first second equal read =
     turn_both xs ys i j (first_default a d) (omega arith) (omega arith)
     (ap₂ needle_cmp (ap (λ (c : Changed). c.0) (get_or-map (changed_of a.segs.now) a.changes.now i d (first_default a d) first)) (second_needle a b j d (first_default a d) second) ∙ equal)
     ∙ ap (λ (c : Changed). c ∷ merged (drop (i + 1) xs) (drop (j + 1) ys)) (second_is a b j d (first_default a d) segs second read)
+
+-- where both lists change a needle at the same place, and the second leaves one new loop on it
+pub new_next : (a b : FaceView) (i : ℕ) (d : Change) (segs : List Seg) (offset : ℕ) → i < length a.changes.now → i < length b.changes.now →
+    (get_or a.changes.now i d).needle ≡ (get_or b.changes.now i d).needle → segs ≡ part_of b.segs.now (get_or b.changes.now i d).part → segs ≡ New offset ∷ [] →
+    merged (drop i (changes_in a)) (drop i (changes_through (changes_in a) a.lines (changes_in b)))
+    ≡ ((get_or b.changes.now i d).needle, New (a.lines + offset) ∷ []) ∷ merged (drop (i + 1) (changes_in a)) (drop (i + 1) (changes_through (changes_in a) a.lines (changes_in b)))
+new_next a b i d segs offset first second same read one =
+    both_next a b i i d (New offset ∷ []) first second
+    (ap (λ n. needle_cmp n (get_or b.changes.now i d).needle) same ∙ needle_cmp-refl (get_or b.changes.now i d).needle) (sym one ∙ read)
+
+-- the line of that loop can be raised
+pub new_rises : (a b : FaceView) (i : ℕ) (d : Change) (segs : List Seg) (offset : ℕ) → HaveOffsets a.lines b.segs.now b.changes.now → i < length b.changes.now →
+    segs ≡ part_of b.segs.now (get_or b.changes.now i d).part → segs ≡ New offset ∷ [] → a.lines + offset < 2 ^ 32
+new_rises a b i d segs offset offsets within read one =
+    let fits : All (OffsetFits a.lines) (New offset ∷ []) = subst (All (OffsetFits a.lines)) (sym read ∙ one) (offsets i d within) in
+    fits 0 (New offset) (omega arith)
 
 -- all changes are laid
 pub all_laid : (a b : FaceView) (i j : ℕ) (laid whole : List Changed) → length a.changes.now ≤ i → length b.changes.now ≤ j →

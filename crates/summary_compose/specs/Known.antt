@@ -1,10 +1,11 @@
 -- What is known while conditions are read and kept.
-use Rattle.std.specs.Prelude.{◌≤◌, ◌<◌, ◌^◌, ◌≡◌, ℕ, ◌-◌, nat_lt, All, List, [], ◌∷◌, length, map, if◌then◌else◌, ◌++◌, Bool, true, false}
+use Rattle.std.specs.Prelude.{◌≤◌, ◌<◌, ◌^◌, ◌≡◌, ℕ, ◌-◌, nat_lt, All, List, [], ◌∷◌, drop, length, map, if◌then◌else◌, ◌++◌, Bool, true, false}
 use Rattle.std.specs.List.{flat_map, list_any, sum_by}
 use Rattle.knit_base.specs.declared.needle.Needle.{Needle}
 use Rattle.knit_base.specs.declared.rule.Fault.{Fault}
 use Rattle.face_data.specs.declared.bearing.Bearing.TheVariants.{Implied}
 use Rattle.face_data.specs.declared.face.Cond.{Cond}
+use Rattle.face_data.specs.declared.face.Effect.{Effect}
 use Rattle.face_data.specs.declared.face.Cond.TheVariants.{SizeAtMost}
 use Rattle.face_data.specs.declared.digest.Digest.{Digest}
 use Rattle.face_data.specs.Bearings.{if_so}
@@ -18,7 +19,7 @@ use Rattle.face_data.specs.declared.face.FaceView.{FaceView}
 use Rattle.summary_compose.specs.Changes.{changes_in}
 use Rattle.face_data.specs.Answers.{Answer}
 use Rattle.face_data.specs.Answers.Answer.{yes_it_does, no_it_does_not, asks}
-use Rattle.face_data.specs.Composition.{from_bearing}
+use Rattle.face_data.specs.Composition.{from_bearing, reads}
 use Rattle.face_data.specs.View.{asked_of, summary_of, CondFits, names_of}
 use Rattle.face_data.specs.Spots.{IsNumbered}
 use Rattle.summary_compose.specs.Tables.{Note, suits}
@@ -108,3 +109,8 @@ pub record AreGood (a b : FaceView) : Type 0 where
   pub second_numbers : All IsNumbered second_known
   pub first : IsGood carriers limit first_known (summary_of a)
   pub second : IsGood carriers limit second_known (summary_of b)
+
+-- so many of the second face's first conditions hold for what those of the first face ask, so that the others alone are to be read
+pub record AreAlike (a b : FaceView) (effect : Effect) (count : ℕ) : Type 0 where
+  pub within : count ≤ length b.checks.now
+  pub others : reads effect (changes_in a) a.lines (checks_in a) (drop count (checks_in b)) ≡ reads effect (changes_in a) a.lines (checks_in a) (checks_in b)

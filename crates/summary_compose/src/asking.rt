@@ -17,6 +17,7 @@ ghost use Rattle.summary_compose.specs.Tables.{Note, IsTableOf};
 
 use crate::index::Index;
 use crate::kept::Kept;
+use crate::names::names_at;
 use crate::places::Places;
 use crate::sizes::SizeWord;
 use face_data::{Bearing, Check, Cond, Digest, Effect, FaceView, Part};
@@ -79,22 +80,17 @@ pub fn ask_sized(
     ensures name_room { kept.new.name_room ≡ kept.old.name_room }
     ensures index_room { index.new.room ≡ index.old.room }
 {
+    if let [needle] = needles {
+        if places.segments_on(a, *needle).is_none() {
+            kept.ask_own(index, *needle, most, fault);
+            return true;
+        }
+    }
     match kept.ask_size(index, a, places, needles, most, fault) {
         SizeWord::Holds => true,
         SizeWord::Fails => false,
         SizeWord::Asks(_) => true,
     }
-}
-
-// The needles of a part.
-#[inline(always)]
-fn names_at(names: &[Needle], part: Part) -> &[Needle]
-    requires { part.start + part.len ≤ length names.now }
-    ensures { result.now ≡ part_of names.now part }
-{
-    let start = part.start as usize;
-    let end = start + part.len as usize;
-    &names[start..end]
 }
 
 /// Asks a condition of the second face. False where it can't hold.

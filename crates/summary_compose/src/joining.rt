@@ -8,11 +8,12 @@ ghost use Rattle.summary_compose.specs.Known.{checks_in, names_count, names_read
 ghost use Rattle.summary_compose.specs.Tables.{IsTableOf};
 ghost use Rattle.summary_compose.specs.declared.room.Room.{Room};
 
+use crate::alike::count_alike;
 use crate::index::Index;
 use crate::kept::Kept;
 use crate::making::Making;
 use crate::merging::merge;
-use crate::noting::note_all;
+use crate::noting::{note_plain, note_sizes};
 use crate::places::Places;
 use crate::reading::read_checks;
 use face_data::{Digest, Effect, Ending, FaceView};
@@ -39,13 +40,19 @@ fn gather(
     ensures name_room { kept.new.name_room ≡ kept.old.name_room }
     ensures index_room { index.new.room ≡ index.old.room }
 {
-    index.clear();
     let mut digest = Digest::blank();
-    note_all(a, index, &mut digest);
-    read_checks(kept, index, &mut digest, places, a, effect, b)
+    note_plain(a, &mut digest);
+    let alike = count_alike(&digest, places, a, effect, b);
+    if alike >= b.checks.len() {
+        return None;
+    }
+    index.clear();
+    note_sizes(a, index);
+    read_checks(kept, index, &mut digest, places, a, effect, b, alike)
 }
 
 /// Makes the face of the first face's text followed by the second's.
+#[inline(never)]
 pub fn put_together(a: &FaceView, b: &FaceView, making: &mut Making)
     requires composes { Composes a.now b.now }
     requires room { (room : Room) × FindsRoom a.now b.now room × Holds making.old room }

@@ -1,5 +1,5 @@
 //! Conditions that are kept, with the needles that they name.
-ghost use Rattle.std.specs.Prelude.{◌≡◌, ℕ, ◌<◌, ◌≤◌, ◌+◌, ◌^◌, [], ◌∷◌, ◌++◌, length, map, OnOk, vec_len, vec_capacity};
+ghost use Rattle.std.specs.Prelude.{◌≡◌, ℕ, ◌<◌, ◌≤◌, ◌+◌, ◌^◌, [], ◌∷◌, ◌++◌, true, length, map, OnOk, vec_len, vec_capacity};
 ghost use Rattle.knit_base.specs.declared.needle.Needle.{Needle};
 ghost use Rattle.face_data.specs.Conditions.{ask_of};
 ghost use Rattle.face_data.specs.Conditions.Ask.{size_at_most};
@@ -7,7 +7,8 @@ ghost use Rattle.face_data.specs.Goodness.{IsInOrder};
 ghost use Rattle.face_data.specs.Segments.{names_through, new_through};
 ghost use Rattle.face_data.specs.View.{asked_of, AreNamed, PartsFit};
 ghost use Rattle.summary_compose.specs.Changes.{changed_needles, changes_in};
-ghost use Rattle.summary_compose.specs.Known.{IsPlainCond, answer_in, checks_in, names_count, noted_answer, notes_in};
+ghost use Rattle.face_data.specs.declared.digest.Digest.{Digest};
+ghost use Rattle.summary_compose.specs.Known.{IsPlainCond, Knows, StepIs, answer_in, checks_in, names_count, noted_answer, notes_in};
 ghost use Rattle.summary_compose.specs.Tables.{IsTableOf};
 
 use crate::index::Index;
@@ -104,6 +105,28 @@ impl Kept {
         ensures check_room { self.new.check_room ≡ self.old.check_room }
         ensures name_room { self.new.name_room ≡ self.old.name_room }
     {
+        self.checks.push_reserved(Check { fault, cond });
+    }
+
+    /// Asks that a needle, which no face changed yet, holds at most so many loops: keeps that where the kept conditions don't imply it.
+    #[inline(always)]
+    #[tactic(auto, unfolding(crate::specs::Known::noted_answer))]
+    pub fn ask_own(&mut self, index: &mut Index, needle: Needle, most: u8, fault: Fault)
+        requires check_room { length self.old.checks < self.old.check_room }
+        requires name_room { names_count self.old.checks < self.old.name_room }
+        requires index_room { length index.old.notes < index.old.room }
+        ensures step { StepIs (noted_answer index.old.notes (needle ∷ []) 0 most) self.old.checks fault true self.new.checks }
+        ensures knows { (digest : Digest) → Knows digest index.old.notes self.old.checks → Knows digest index.new.notes self.new.checks }
+        ensures rooms { (self.new.check_room ≡ self.old.check_room) × (self.new.name_room ≡ self.old.name_room) × (index.new.room ≡ index.old.room) }
+    {
+        if index.covers(needle, 1, most) {
+            return;
+        }
+        index.note(needle, 1, most);
+        let start = self.names.len() as u64;
+        self.names.push_reserved(needle);
+        let part = Part { start, len: 1 };
+        let cond = Cond::SizeAtMost(part, most);
         self.checks.push_reserved(Check { fault, cond });
     }
 

@@ -1,5 +1,6 @@
 //! Changes of two faces, laid into one list.
-ghost use Rattle.std.specs.Prelude.{◌≡◌, ◌<◌, ◌≤◌, ◌+◌, ◌^◌, [], ◌∷◌, ◌++◌, All, drop, length, map, vec_len, vec_capacity, OnOk};
+ghost use Rattle.std.specs.Prelude.{◌≡◌, ◌<◌, ◌≤◌, ◌+◌, ◌^◌, [], ◌∷◌, ◌++◌, All, drop, length, map, vec_len, vec_capacity, IfSome, OnOk};
+ghost use Rattle.face_data.specs.declared.face.Seg.TheVariants.{New};
 ghost use Rattle.face_data.specs.Conditions.{part_of};
 ghost use Rattle.face_data.specs.Goodness.{IsInOrder};
 ghost use Rattle.face_data.specs.Segments.{OffsetFits, entries_of, new_of};
@@ -97,6 +98,21 @@ impl Laid {
         self.changes.push_reserved(Change { needle, part });
     }
 
+    /// Appends a change to one segment.
+    #[inline(always)]
+    pub fn lay_one(&mut self, needle: Needle, seg: Seg)
+        requires room { length self.old.changes < self.old.change_room }
+        requires seg_room { segs_in self.old.changes < self.old.seg_room }
+        ensures changes { self.new.changes ≡ self.old.changes ++ (needle, seg ∷ []) ∷ [] }
+        ensures change_room { self.new.change_room ≡ self.old.change_room }
+        ensures seg_room { self.new.seg_room ≡ self.old.seg_room }
+    {
+        let start = self.segs.len() as u64;
+        self.segs.push_reserved(seg);
+        let part = Part { start, len: 1 };
+        self.changes.push_reserved(Change { needle, part });
+    }
+
     /// Appends a change of a second face, its segments read through the first.
     #[inline(always)]
     pub fn lay_read(&mut self, needle: Needle, segs: &[Seg], a: &FaceView, places: &Places)
@@ -111,6 +127,10 @@ impl Laid {
         ensures change_room { self.new.change_room ≡ self.old.change_room }
         ensures seg_room { self.new.seg_room ≡ self.old.seg_room }
     {
+        if let Some(offset) = new_alone(segs) {
+            self.lay_one(needle, Seg::New(a.lines + offset));
+            return;
+        }
         let start = self.segs.len();
         read_segs(segs, a, places, &mut self.segs);
         let len = (self.segs.len() - start) as u32;
@@ -119,6 +139,17 @@ impl Laid {
             len,
         };
         self.changes.push_reserved(Change { needle, part });
+    }
+}
+
+/// The offset of a new loop that is the only segment.
+#[inline(always)]
+pub fn new_alone(segs: &[Seg]) -> Option<u32>
+    ensures { IfSome result (λ offset. segs.now ≡ New offset ∷ []) }
+{
+    match segs {
+        [Seg::New(offset)] => Some(*offset),
+        _ => None,
     }
 }
 

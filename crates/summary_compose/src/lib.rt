@@ -12,6 +12,7 @@
 //! room of the result is within `room_of_both`). Below it stand std, `knit_base`, `carriage_model` and `face_data`.
 #![tactic(auto)]
 
+mod alike;
 mod asking;
 mod charging;
 mod index;

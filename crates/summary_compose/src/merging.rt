@@ -1,5 +1,7 @@
 //! The changes of two faces in the order of needles.
-ghost use Rattle.std.specs.Prelude.{◌≡◌, ◌<◌, ◌≤◌, ◌+◌, ◌^◌, ◌⊎◌, [], ◌++◌, All, length, map, slice_index_or};
+ghost use Rattle.std.specs.Prelude.{◌≡◌, ◌<◌, ◌≤◌, ◌+◌, ◌^◌, ◌⊎◌, [], ◌++◌, All, drop, length, map, slice_index_or};
+ghost use Rattle.face_data.specs.Composition.{merged};
+ghost use Rattle.face_data.specs.Through.{changes_through};
 ghost use Rattle.knit_base.specs.Needle.{needle_cmp};
 ghost use Rattle.face_data.specs.declared.face.Change.{Change};
 ghost use Rattle.face_data.specs.Conditions.{part_of};
@@ -8,8 +10,9 @@ ghost use Rattle.face_data.specs.View.{changed_of, PartsFit};
 ghost use Rattle.summary_compose.specs.Changes.{changed_needles, HaveOffsets, segs_in, changes_in, merged_of};
 ghost use Rattle.summary_compose.specs.Tables.{IsTableOf};
 
-use crate::laid::Laid;
+use crate::laid::{Laid, new_alone};
 use crate::places::Places;
+use crate::spots::is_same;
 use face_data::{Change, FaceView, Seg};
 use knit_base::needle_order;
 use std::cmp::Ordering;
@@ -40,7 +43,12 @@ fn whose_turn(a: &[Change], b: &[Change], i: usize, j: usize) -> Turn
     if i >= a.len() {
         return Turn::Second;
     }
-    match needle_order(&a[i].needle, &b[j].needle) {
+    let first = a[i].needle;
+    let second = b[j].needle;
+    if is_same(first, second) {
+        return Turn::Both;
+    }
+    match needle_order(&first, &second) {
         Ordering::Less => Turn::First,
         Ordering::Equal => Turn::Both,
         Ordering::Greater => Turn::Second,
@@ -59,6 +67,34 @@ fn segs_of<'a>(segs: &'a [Seg], change: Change) -> &'a [Seg]
     &segs[start..end]
 }
 
+// Lays the changes at the same places of both faces, as long as both are of one needle and the second leaves one new loop on it.
+// Answers how many they are.
+fn lay_alike(laid: &mut Laid, a: &FaceView, b: &FaceView) -> usize
+    requires none { laid.old.changes ≡ [] }
+    requires room { length (merged_of a.now b.now) ≤ laid.old.change_room }
+    requires seg_room { segs_in (merged_of a.now b.now) ≤ laid.old.seg_room }
+    requires second_fit { PartsFit b.now.segs.now b.now.changes.now }
+    requires offsets { HaveOffsets a.now.lines b.now.segs.now b.now.changes.now }
+    ensures rest { laid.new.changes ++ merged (drop result (changes_in a.now)) (drop result (changes_through (changes_in a.now) a.now.lines (changes_in b.now))) ≡ merged_of a.now b.now }
+    ensures change_room { laid.new.change_room ≡ laid.old.change_room }
+    ensures seg_room { laid.new.seg_room ≡ laid.old.seg_room }
+{
+    let count = a.changes.len().min(b.changes.len());
+    let mut i = 0;
+    while i < count {
+        let change = b.changes[i];
+        if !is_same(a.changes[i].needle, change.needle) {
+            return i;
+        }
+        let Some(offset) = new_alone(segs_of(b.segs, change)) else {
+            return i;
+        };
+        laid.lay_one(change.needle, Seg::New(a.lines + offset));
+        i += 1;
+    }
+    i
+}
+
 /// Lays the changes of both faces in the order of needles, those of the second read through the first.
 pub fn merge(laid: &mut Laid, a: &FaceView, b: &FaceView, places: &Places)
     requires none { laid.old.changes ≡ [] }
@@ -74,8 +110,9 @@ pub fn merge(laid: &mut Laid, a: &FaceView, b: &FaceView, places: &Places)
     ensures change_room { laid.new.change_room ≡ laid.old.change_room }
     ensures seg_room { laid.new.seg_room ≡ laid.old.seg_room }
 {
-    let mut i = 0;
-    let mut j = 0;
+    let alike = lay_alike(laid, a, b);
+    let mut i = alike;
+    let mut j = alike;
     while i < a.changes.len() || j < b.changes.len() {
         match whose_turn(a.changes, b.changes, i, j) {
             Turn::First => {

@@ -1,5 +1,6 @@
 //! Needles read through a face.
 ghost use Rattle.std.specs.Prelude.{◌≡◌, ◌<◌, ◌≤◌, ◌+◌, ◌^◌, ◌++◌, length, map, vec_len, vec_capacity};
+ghost use Rattle.face_data.specs.Conditions.{part_of};
 ghost use Rattle.face_data.specs.Goodness.{IsInOrder};
 ghost use Rattle.face_data.specs.Segments.{segments_on, entries_of, names_through, new_of, new_through};
 ghost use Rattle.summary_compose.specs.Changes.{changed_needles, changes_in};
@@ -7,8 +8,19 @@ ghost use Rattle.face_data.specs.View.{PartsFit};
 ghost use Rattle.summary_compose.specs.Tables.{IsTableOf};
 
 use crate::places::Places;
-use face_data::{FaceView, Seg};
+use face_data::{FaceView, Part, Seg};
 use knit_base::Needle;
+
+/// The needles of a part.
+#[inline(always)]
+pub fn names_at(names: &[Needle], part: Part) -> &[Needle]
+    requires { part.start + part.len ≤ length names.now }
+    ensures { result.now ≡ part_of names.now part }
+{
+    let start = part.start as usize;
+    let end = start + part.len as usize;
+    &names[start..end]
+}
 
 /// Appends the needles whose entries these needles hold after the face, and tells how many new loops they hold.
 #[inline(always)]

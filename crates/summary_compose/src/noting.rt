@@ -1,56 +1,70 @@
 //! The conditions of a first face noted.
-ghost use Rattle.std.specs.Prelude.{◌≡◌, ◌<◌, ◌≤◌, ◌+◌, ◌^◌, List, [], ◌∷◌, ◌++◌, All, length, map};
+ghost use Rattle.std.specs.Prelude.{◌≡◌, ◌<◌, ◌≤◌, ◌+◌, ◌^◌, [], ◌++◌, All, length};
 ghost use Rattle.face_data.specs.declared.face.Check.{Check};
-ghost use Rattle.face_data.specs.Digests.{blank, CarrierFits};
-ghost use Rattle.face_data.specs.View.{asked_of, CondFits, names_of};
-ghost use Rattle.face_data.specs.Summaries.{Asked};
-ghost use Rattle.summary_compose.specs.Known.{Knows, checks_in, names_count};
+ghost use Rattle.face_data.specs.Conditions.{ask_of};
+ghost use Rattle.face_data.specs.Digests.{blank, digest_of, noted, CarrierFits};
+ghost use Rattle.face_data.specs.View.{CondFits, names_of};
+ghost use Rattle.summary_compose.specs.Known.{checks_in, names_count, notes_in, notes_of};
 
 use crate::index::Index;
 use crate::sizes::note_each;
 use face_data::{Check, Cond, Digest, FaceView};
 use knit_base::Needle;
 
-// Notes one condition.
+// Notes a condition, if it isn't on sizes.
 #[inline(always)]
-fn note_check(names: &[Needle], check: &Check, index: &mut Index, digest: &mut Digest)
-    requires fit { CondFits names.now check.now.cond }
-    requires carrier { CarrierFits check.now.cond }
-    requires room { length index.old.notes + length (names_of names.now check.now.cond) ≤ index.old.room }
-    requires few { length (names_of names.now check.now.cond) < 2 ^ 32 }
-    ensures knows { (kept : List Asked) → Knows digest.old index.old.notes kept → Knows digest.new index.new.notes (kept ++ asked_of names.now check.now ∷ []) }
-    ensures notes { length index.new.notes ≡ length index.old.notes + length (names_of names.now check.now.cond) }
-    ensures room { index.new.room ≡ index.old.room }
+#[tactic(auto, unfolding(face_data::specs::Digests::noted))]
+fn note_if_plain(names: &[Needle], cond: Cond, digest: &mut Digest)
+    requires { CarrierFits cond }
+    ensures { digest.new ≡ noted digest.old (ask_of names.now cond) }
 {
-    match check.cond {
-        Cond::SizeAtMost(part, most) => {
-            let start = part.start as usize;
-            let end = start + part.len as usize;
-            note_each(&names[start..end], most, index);
-        }
-        Cond::RackIs(_) => digest.note(check.cond),
-        Cond::CarrierIn(_) => digest.note(check.cond),
-        Cond::CarrierOut(_) => digest.note(check.cond),
-        Cond::HookFree => digest.note(check.cond),
-        Cond::HookIs(_) => digest.note(check.cond),
-        Cond::HookLacks(_) => digest.note(check.cond),
+    if let Cond::SizeAtMost(_, _) = cond {
+        return;
+    }
+    digest.note(cond);
+}
+
+/// Notes all conditions of the face that aren't on sizes.
+pub fn note_plain(face: &FaceView, digest: &mut Digest)
+    requires blank { digest.old ≡ blank }
+    requires carriers { All (λ (c : Check). CarrierFits c.cond) face.now.checks.now }
+    ensures { digest.new ≡ digest_of (checks_in face.now) }
+{
+    let mut i = 0;
+    while i < face.checks.len() {
+        note_if_plain(face.names, face.checks[i].cond, digest);
+        i += 1;
     }
 }
 
-/// Notes all conditions of the face.
-pub fn note_all(face: &FaceView, index: &mut Index, digest: &mut Digest)
+// Notes a condition, if it is on sizes.
+#[inline(always)]
+fn note_if_sized(names: &[Needle], cond: Cond, index: &mut Index)
+    requires fit { CondFits names.now cond }
+    requires room { length index.old.notes + length (names_of names.now cond) ≤ index.old.room }
+    requires few { length (names_of names.now cond) < 2 ^ 32 }
+    ensures notes { index.new.notes ≡ index.old.notes ++ notes_in (ask_of names.now cond) }
+    ensures room { index.new.room ≡ index.old.room }
+{
+    if let Cond::SizeAtMost(part, most) = cond {
+        let start = part.start as usize;
+        let end = start + part.len as usize;
+        note_each(&names[start..end], most, index);
+    }
+}
+
+/// Notes all conditions of the face on sizes.
+pub fn note_sizes(face: &FaceView, index: &mut Index)
     requires none { index.old.notes ≡ [] }
-    requires blank { digest.old ≡ blank }
     requires fit { All (λ (c : Check). CondFits face.now.names.now c.cond) face.now.checks.now }
-    requires carriers { All (λ (c : Check). CarrierFits c.cond) face.now.checks.now }
     requires few { All (λ (c : Check). length (names_of face.now.names.now c.cond) < 2 ^ 32) face.now.checks.now }
     requires room { names_count (checks_in face.now) ≤ index.old.room }
-    ensures knows { Knows digest.new index.new.notes (checks_in face.now) }
+    ensures notes { index.new.notes ≡ notes_of (checks_in face.now) }
     ensures room { index.new.room ≡ index.old.room }
 {
     let mut i = 0;
     while i < face.checks.len() {
-        note_check(face.names, &face.checks[i], index, digest);
+        note_if_sized(face.names, face.checks[i].cond, index);
         i += 1;
     }
 }

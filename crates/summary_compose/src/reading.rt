@@ -5,7 +5,7 @@ ghost use Rattle.face_data.specs.Composition.{reads};
 ghost use Rattle.face_data.specs.Goodness.{IsInOrder};
 ghost use Rattle.face_data.specs.View.{asked_of, PartsFit};
 ghost use Rattle.summary_compose.specs.Changes.{changed_needles, changes_in};
-ghost use Rattle.summary_compose.specs.Known.{AreGood, IsReadable, Knows, checks_in, names_count, names_read_count};
+ghost use Rattle.summary_compose.specs.Known.{AreAlike, AreGood, IsReadable, Knows, checks_in, names_count, names_read_count};
 ghost use Rattle.summary_compose.specs.Tables.{IsTableOf};
 
 use crate::asking::ask;
@@ -15,8 +15,8 @@ use crate::places::Places;
 use face_data::{Digest, Effect, Ending, FaceView};
 use knit_base::Fault;
 
-/// Reads the conditions of the second face through the first, whose conditions are kept already. Answers the fault of the first
-/// one that can't hold.
+/// Reads the conditions of the second face from a place on through the first, whose conditions are kept already. Those before it hold
+/// for these. Answers the fault of the first one that can't hold.
 pub fn read_checks(
     kept: &mut Kept,
     index: &mut Index,
@@ -25,10 +25,12 @@ pub fn read_checks(
     a: &FaceView,
     effect: &Effect,
     b: &FaceView,
+    start: usize,
 ) -> Option<Fault>
     requires good { AreGood a.now b.now }
     requires through { a.now.ending ≡ Ending.Through effect.now }
     requires begun { kept.old.checks ≡ checks_in a.now }
+    requires alike { AreAlike a.now b.now effect.now start }
     requires knows { Knows digest.old index.old.notes kept.old.checks }
     requires readable { All (λ (c : Check). IsReadable a.now b.now.names.now c.cond) b.now.checks.now }
     requires raised { All (λ (c : Check). a.now.lines + c.fault.line < 2 ^ 32) b.now.checks.now }
@@ -43,7 +45,7 @@ pub fn read_checks(
     ensures name_room { kept.new.name_room ≡ kept.old.name_room }
     ensures index_room { index.new.room ≡ index.old.room }
 {
-    let mut i = 0;
+    let mut i = start;
     while i < b.checks.len() {
         let check = b.checks[i];
         let fault = Fault {

@@ -1,7 +1,15 @@
 -- Each condition read is one step of the definition.
-use Rattle.std.proofs.Common.{◌∙◌, arith}
-use Rattle.summary_compose.proofs.Readings.{first_check, next_room, reads_on, reads_stop, reads_end}
+use Rattle.std.proofs.Common.{◌∙◌, arith, refl}
+use Rattle.summary_compose.proofs.Readings.{first_check, next_room, reads_begin, reads_on, reads_stop, reads_end}
 use Rattle.summary_compose.proofs.reading.read_checks.Goals as goal
+
+pub loop-i-init : goal.loop-i-init
+loop-i-init c = record {
+  reads = reads_begin c.args.a.now c.args.b.now c.args.effect.now c.args.start c.args.kept.now.checks c.args.digest.now c.args.index.now.notes c.requires.good c.requires.alike c.requires.begun c.requires.knows;
+  check_room = refl;
+  name_room = refl;
+  index_room = refl;
+}
 
 pub ask-goes_on-requires-clause-name_room : goal.ask-goes_on-requires-clause-name_room
 ask-goes_on-requires-clause-name_room c =

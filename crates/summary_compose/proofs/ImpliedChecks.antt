@@ -1,0 +1,105 @@
+-- Conditions of a second face that a condition of the first at the same place implies.
+use Rattle.std.proofs.Common.{◌≡◌, ◌⊎◌, inl, inr, ℕ, ◌≤◌, ◌+◌, ◌<◌, Bool, true, false, List, [], ◌∷◌, ◌++◌, length, refl, sym, ap, ◌∙◌, subst, arith, get_or}
+use Rattle.std.specs.Prelude.{nat_le, ◌&&◌, ◌||◌}
+use Rattle.std.specs.List.{Contains, list_any}
+use Rattle.std.proofs.Math.Path.{ap₂}
+use Rattle.std.proofs.lemmas.Bool.{false≢true}
+use Rattle.std.proofs.lemmas.List.Folds.{list_any-append}
+use Rattle.std.proofs.lemmas.List.Sums.{sum_by-cons}
+use Rattle.knit_base.specs.declared.needle.Needle.{Needle}
+use Rattle.knit_base.proofs.Needles.{same_needle-refl}
+use Rattle.face_data.specs.declared.bearing.Bearing.TheVariants.{Implied}
+use Rattle.face_data.specs.declared.digest.Digest.{Digest}
+use Rattle.face_data.specs.declared.face.Check.{Check}
+use Rattle.face_data.specs.declared.face.Effect.{Effect}
+use Rattle.face_data.specs.declared.face.Ending.TheVariants.{Through}
+use Rattle.face_data.specs.declared.face.FaceView.{FaceView}
+use Rattle.face_data.specs.declared.face.Seg.TheVariants.{Entry}
+use Rattle.face_data.specs.Answers.{Answer, read_answer}
+use Rattle.face_data.specs.Answers.Answer.{yes_it_does, no_it_does_not, asks}
+use Rattle.face_data.specs.Bearings.{if_so}
+use Rattle.face_data.specs.Chains.{SizeMark, answer_known, chain_at}
+use Rattle.face_data.specs.Composition.{from_bearing}
+use Rattle.face_data.specs.declared.face.Cond.{Cond}
+use Rattle.face_data.specs.declared.face.Cond.TheVariants.{RackIs, CarrierIn, CarrierOut, HookFree, HookIs, HookLacks, SizeAtMost}
+use Rattle.face_data.specs.Conditions.{Ask, ask_of, part_of}
+use Rattle.face_data.specs.Conditions.Ask.{size_at_most}
+use Rattle.face_data.specs.Digests.{digest_bearing, digest_of, effect_bearing}
+use Rattle.face_data.specs.Segments.{Changed, entries_of, names_through, new_of, new_through, segments_on}
+use Rattle.face_data.specs.Summaries.{Asked, raised}
+use Rattle.face_data.proofs.Members.{Contains-cons_cases, Contains-none}
+use Rattle.summary_compose.specs.Changes.{changes_in}
+use Rattle.summary_compose.specs.Known.{AreAlike, AreGood, Knows, StepIs, checks_in, noted_answer, notes_in, notes_of}
+use Rattle.summary_compose.specs.Tables.{suits}
+use Rattle.summary_compose.proofs.Readings.{check_at, reads_begin, reads_on}
+use Rattle.summary_compose.proofs.Answers.{plain_known}
+use Rattle.summary_compose.proofs.Steps.{noted_own}
+
+-- a list of one
+pub one_item : {X : Type 0} (xs : List X) (d : X) → 1 ≤ length xs → length xs < 2 → xs ≡ get_or xs 0 d ∷ []
+one_item [] d some few = absurd (omega arith)
+one_item (x ∷ []) d some few = refl
+one_item (x ∷ y ∷ ys) d some few = absurd (omega arith)
+
+either : (a b : Bool) → (a ≡ true) ⊎ (b ≡ true) → (a || b) ≡ true
+either true b h = refl
+either false b (inl h) = absurd (false≢true h)
+either false b (inr h) = h
+
+own_note : (n : Needle) (least most : ℕ) → least ≤ most → list_any (suits n 1 most) (notes_in (size_at_most (n ∷ []) least)) ≡ true
+own_note n least most h =
+    let same = same_needle-refl n in
+    let low : nat_le least most ≡ true = grind arith in
+    ap₂ (λ (a b : Bool). (a && b) || false) same low
+
+-- a kept condition on one needle is noted
+note_there : (n : Needle) (least most : ℕ) (kept : List Asked) (c : Asked) → Contains kept c → c.ask ≡ size_at_most (n ∷ []) least → least ≤ most → list_any (suits n 1 most) (notes_of kept) ≡ true
+note_there n least most [] c there is h = absurd (Contains-none c there)
+note_there n least most (x ∷ xs) c there is h =
+    list_any-append (suits n 1 most) (notes_in x.ask) (notes_of xs)
+    ∙ either (list_any (suits n 1 most) (notes_in x.ask)) (list_any (suits n 1 most) (notes_of xs)) (elim (Contains-cons_cases x xs c there) [
+      | inl same ↦ inl (ap (λ (y : Asked). list_any (suits n 1 most) (notes_in y.ask)) same ∙ ap (λ q. list_any (suits n 1 most) (notes_in q)) is ∙ own_note n least most h)
+      | inr later ↦ inr (note_there n least most xs c later is h)
+    ])
+
+-- a condition on one needle that the first face leaves as it was, of which the first face asks as much
+pub size_alike : (changes : List Changed) (kept : List Asked) (c : Asked) (n : Needle) (needles : List Needle) (least most : ℕ) → Contains kept c → c.ask ≡ size_at_most (n ∷ []) least → least ≤ most →
+    needles ≡ n ∷ [] → segments_on changes n ≡ Entry n ∷ [] → noted_answer (notes_of kept) (names_through changes needles) (new_through changes needles) most ≡ yes_it_does
+size_alike changes kept c n needles least most there is low one own =
+    let names : names_through changes needles ≡ n ∷ [] = ap (names_through changes) one ∙ ap (λ segs. entries_of segs ++ []) own in
+    let new_here : new_of (segments_on changes n) ≡ 0 = ap new_of own in
+    let new_all = sum_by-cons (λ n. new_of (segments_on changes n)) n [] in
+    let new : new_through changes needles ≡ 0 = ap (new_through changes) one ∙ new_all ∙ ap (λ k. k + 0) new_here in
+    ap₂ (λ (ns : List Needle) (k : ℕ). noted_answer (notes_of kept) ns k most) names new ∙ noted_own (notes_of kept) n most
+    ∙ ap (λ b. from_bearing (if_so b Implied) (asks (size_at_most (n ∷ []) most))) (note_there n least most kept c there is low)
+
+-- one more holds
+pub alike_next : (a b : FaceView) (e : Effect) (i : ℕ) (d : Check) (digest : Digest) → AreGood a b → a.ending ≡ Through e → AreAlike a b e i → i < length b.checks.now → digest ≡ digest_of (checks_in a) →
+    answer_known digest (chain_at (checks_in a)) (read_answer e (changes_in a) (check_at b i d).ask) ≡ yes_it_does → AreAlike a b e (i + 1)
+alike_next a b e i d digest good through alike within is holds =
+    let knows : Knows digest (notes_of (checks_in a)) (checks_in a) = record { digest_is = is; notes_are = refl } in
+    let so = reads_begin a b e i (checks_in a) digest (notes_of (checks_in a)) good alike refl knows in
+    let now = reads_on a b e i d (checks_in a) (checks_in a) digest digest (notes_of (checks_in a)) (notes_of (checks_in a)) true good through so within refl
+    (subst (λ x. StepIs x (checks_in a) (raised a.lines (check_at b i d).fault) true (checks_in a)) (sym holds) (refl, refl)) knows in
+    record { within = omega arith; others = now.read }
+
+silent_yes : (q : Ask) → asks q ≡ yes_it_does → ⊥
+silent_yes q e = subst is_asked e tt
+  where
+    is_asked : Answer → Type 0
+    is_asked yes_it_does = ⊥
+    is_asked no_it_does_not = ⊥
+    is_asked (asks q) = Unit {0}
+
+-- a condition that the effect or the digest imply
+pub implied_yes : (d : Digest) (chains : Needle → List SizeMark) (effect : Effect) (changes : List Changed) (names : List Needle) (c : Cond) →
+    from_bearing (effect_bearing effect (ask_of [] c)) (from_bearing (digest_bearing d (ask_of [] c)) (asks (ask_of [] c))) ≡ yes_it_does →
+    answer_known d chains (read_answer effect changes (ask_of names c)) ≡ yes_it_does
+unfolding effect_bearing digest_bearing
+implied_yes d chains effect changes names (SizeAtMost p most) e = absurd (silent_yes (size_at_most (part_of [] p) most) e)
+implied_yes d chains effect changes names (RackIs q) e = plain_known d chains effect changes names (RackIs q) tt ∙ e
+implied_yes d chains effect changes names (CarrierIn c) e = plain_known d chains effect changes names (CarrierIn c) tt ∙ e
+implied_yes d chains effect changes names (CarrierOut c) e = plain_known d chains effect changes names (CarrierOut c) tt ∙ e
+implied_yes d chains effect changes names HookFree e = plain_known d chains effect changes names HookFree tt ∙ e
+implied_yes d chains effect changes names (HookIs set) e = plain_known d chains effect changes names (HookIs set) tt ∙ e
+implied_yes d chains effect changes names (HookLacks c) e = plain_known d chains effect changes names (HookLacks c) tt ∙ e

@@ -1,0 +1,13 @@
+use Rattle.std.proofs.Common.{◌≡◌, ◌-◌, ◌≤◌, length, take}
+use Rattle.summary_compose.specs.Known.{checks_in, notes_of}
+use Rattle.summary_compose.proofs.noting.note_sizes.Given as goal
+
+abbrev pub invariant-loop-i : goal.invariant-loop-i
+invariant-loop-i l = record {
+  noted : l.index.notes ≡ notes_of (take l.i (checks_in l.face));
+  within : l.i ≤ length l.face.checks.now;
+  room : l.index.room ≡ l.initial.index.room;
+}
+
+abbrev pub decreases-loop-i : goal.decreases-loop-i
+decreases-loop-i l = length l.face.checks.now - l.i
