@@ -1,3 +1,4 @@
+pub mod LeafLists
 pub mod Changes
 pub mod Offsets
 pub mod Needs

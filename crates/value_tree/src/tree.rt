@@ -1,13 +1,13 @@
 //! The tree: its shape, and the values at its leaves and inner nodes.
 ghost use Rattle.std.specs.Prelude.{◌≡◌, ℕ, ◌+◌, ◌*◌, ◌<◌, ◌≤◌, List, [], ◌∷◌, length, Option, Some, true, slice_index, slice_set, OnOk, IsOk, IfSome, IsNone, ◌↔◌};
 ghost use Rattle.std.specs.Option.{option_map};
-ghost use Rattle.tree_shape.specs.Fewest.{inserted, removed};
+ghost use Rattle.tree_shape.specs.Fewest.{highest, inserted, removed};
 ghost use Rattle.tree_shape.specs.Numbers.{next_number};
 ghost use Rattle.tree_shape.specs.View.{ShapeView, IsSameShape, count_of, leaves_of_tree, rows_above, rows_with, rows_without};
 ghost use Rattle.tree_shape.specs.Composing.{Costs};
 ghost use Rattle.tree_shape.specs.Values.{leaf_values, part, with_node};
 ghost use Rattle.value_tree.specs.Found.{found_in};
-ghost use Rattle.value_tree.specs.Kept.{IsKept, IsReplaceNeed, IsInsertNeed, IsRemoveNeed, KeepsNeeds};
+ghost use Rattle.value_tree.specs.Kept.{HasLeafPlace, IsKept, IsReplaceNeed, IsInsertNeed, IsRemoveNeed, KeepsNeeds};
 
 use crate::find::{Counts, Walk, step};
 use crate::need::{NewLeaf, need_of};
@@ -39,6 +39,7 @@ impl<S: Values> ValueTree<S> {
         ensures leaves { leaf_values (S.leaf_at self.new.store) self.new.shape.tree ≡ slice_set (leaf_values (S.leaf_at self.old.store) self.old.shape.tree) at (S.value_of leaf) }
         ensures shape { self.new.shape ≡ self.old.shape }
         ensures steps { (each : ℕ) → Costs S.stands S.cost each (slice_set (leaf_values (S.leaf_at self.old.store) self.old.shape.tree) at (S.value_of leaf)) → steps.new ≤ steps.old + 3 * each * length (rows_above at self.old.shape.tree) }
+        ensures rows { length (rows_above at self.old.shape.tree) ≤ highest (count_of self.old.shape.tree) }
     {
         let mut dirty = Dirty::new();
         let _len = self.shape.len();
@@ -66,6 +67,7 @@ impl<S: Values> ValueTree<S> {
         ensures number { result ≡ next_number self.old.shape.leaf_numbers }
         ensures numbers { leaves_of_tree self.new.shape.tree ≡ inserted at result (leaves_of_tree self.old.shape.tree) }
         ensures steps { (each : ℕ) → Costs S.stands S.cost each (inserted at (S.value_of leaf) (leaf_values (S.leaf_at self.old.store) self.old.shape.tree)) → steps.new ≤ steps.old + 3 * each * length (rows_with at (next_number self.old.shape.leaf_numbers) (next_number self.old.shape.inner_numbers) self.old.shape.tree) }
+        ensures rows { length (rows_with at (next_number self.old.shape.leaf_numbers) (next_number self.old.shape.inner_numbers) self.old.shape.tree) ≤ 3 * (highest (count_of self.new.shape.tree) + 2) }
     {
         let mut dirty = Dirty::new();
         let _before = self.shape.len();
@@ -87,6 +89,7 @@ impl<S: Values> ValueTree<S> {
         ensures number { result ≡ slice_index (leaves_of_tree self.old.shape.tree) at }
         ensures numbers { leaves_of_tree self.new.shape.tree ≡ removed at (leaves_of_tree self.old.shape.tree) }
         ensures steps { (each : ℕ) → Costs S.stands S.cost each (removed at (leaf_values (S.leaf_at self.old.store) self.old.shape.tree)) → steps.new ≤ steps.old + 3 * each * length (rows_without at self.old.shape.tree) }
+        ensures rows { length (rows_without at self.old.shape.tree) ≤ 3 * (highest (count_of self.old.shape.tree) + 2) }
     {
         let mut dirty = Dirty::new();
         let _before = self.shape.len();
@@ -202,9 +205,20 @@ impl<S: Values> ValueTree<S> {
 
     /// The number of leaves.
     pub fn len(&self) -> u32
-        ensures { result ≡ count_of self.now.shape.tree }
+        ensures len { result ≡ count_of self.now.shape.tree }
+        ensures few { result ≤ 65536 }
     {
         self.shape.len()
+    }
+
+    /// Whether there is a place for one more leaf and one more inner node.
+    pub fn has_place(&self) -> bool
+        ensures { (result ≡ true) ↔ HasLeafPlace (S.slots self.now.store) self.now.shape }
+    {
+        let places = self.store.places();
+        let leaves = u64::from(self.shape.leaf_numbers());
+        let inners = u64::from(self.shape.inner_numbers());
+        self.shape.has_room() && leaves < places && inners < places
     }
 
     /// The root, if there is a leaf: what it has stands for all leaves.

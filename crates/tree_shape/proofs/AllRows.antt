@@ -1,0 +1,57 @@
+-- The rows of all inner nodes of a tree.
+use Rattle.std.proofs.Common.{◌≡◌, ℕ, zero, suc, ◌+◌, ◌<◌, ◌≤◌, List, [], ◌∷◌, ◌++◌, length, map, Option, Some, None, refl, sym, ◌∙◌, ap, subst, arith}
+use Rattle.std.specs.List.{All, slice_get}
+use Rattle.std.specs.Option.{option_map}
+use Rattle.std.proofs.lemmas.List.{append_assoc, length-map, map-append}
+use Rattle.std.proofs.lemmas.Option.{slice_get-map}
+use Rattle.tree_shape.specs.declared.dirty.DirtyRow.{DirtyRow}
+use Rattle.tree_shape.specs.declared.node.Side.TheVariants.{Left}
+use Rattle.tree_shape.specs.Building.{all_made, all_rows, inners_up, inners_upward, numbers_from}
+use Rattle.tree_shape.specs.Changes.{HasChildren, numbers_below}
+use Rattle.tree_shape.specs.Plan.{dirty_row, erase, rows}
+use Rattle.tree_shape.specs.Tree.{Tree, leaf, inner, name}
+use Rattle.tree_shape.proofs.Halves.{below_from, length_from}
+use Rattle.tree_shape.proofs.Listings.{children_listed}
+use Rattle.tree_shape.proofs.RowWalks.{all_get}
+use Rattle.tree_shape.proofs.Rows.{some_row}
+
+pub erase_all : (t : Tree) → erase (all_made t) ≡ t
+erase_all (leaf n) = refl
+erase_all (inner n l r) = λ i. inner n (erase_all l i) (erase_all r i)
+
+abbrev node_of : DirtyRow → ℕ
+node_of row = row.node
+
+nodes_all : (t : Tree) → map node_of (rows (all_made t)) ≡ inners_up t
+nodes_all (leaf n) = refl
+nodes_all (inner n l r) =
+    let near = rows (all_made l) in
+    let far = rows (all_made r) in
+    let own = dirty_row Left n (name (erase (all_made l))) (name (erase (all_made r))) in
+    map-append node_of (near ++ far) (own ∷ [])
+    ∙ (ap (λ ns. ns ++ n ∷ []) (map-append node_of near far ∙ (λ i. nodes_all l i ++ nodes_all r i))
+    ∙ append_assoc (inners_up l) (inners_up r) (n ∷ []))
+
+from_get : (first many i : ℕ) → i < many → slice_get (numbers_from first many) i ≡ Some (first + i)
+from_get first zero i h = absurd (omega arith)
+from_get first (suc many) zero h = let same : first ≡ first + 0 = omega arith in ap (λ n. Some n) same
+from_get first (suc many) (suc i) h = let same : suc first + i ≡ first + suc i = omega arith in from_get (suc first) many i (omega arith) ∙ ap (λ n. Some n) same
+
+-- the row of an inner node, where these are numbered from 0, each after those below it
+pub record IsRowOf (o : Option Tree) (i : ℕ) (row : DirtyRow) : Type 0 where
+  pub listed : slice_get (all_rows o) i ≡ Some row
+  pub node : row.node ≡ i
+  pub children : HasChildren o row
+
+pub row_of : (o : Option Tree) (many i : ℕ) → inners_upward o ≡ numbers_below many → i < many → (row : DirtyRow) × IsRowOf o i row
+row_of None many i e h =
+    let counted : 0 ≡ many = ap length e ∙ (ap length (sym (below_from many)) ∙ length_from 0 many) in
+    absurd (omega (arith, counted))
+row_of (Some t) many i e h =
+    let named : map node_of (rows (all_made t)) ≡ numbers_from 0 many = nodes_all t ∙ (e ∙ sym (below_from many)) in
+    let long : length (rows (all_made t)) ≡ many = sym (length-map (rows (all_made t)) node_of) ∙ (ap length named ∙ length_from 0 many) in
+    let there = some_row (rows (all_made t)) i (omega (arith, long)) in
+    let number : Some there.0.node ≡ Some (0 + i) = ap (option_map node_of) (sym there.1) ∙ (sym (slice_get-map node_of (rows (all_made t)) i) ∙ (ap (λ ns. slice_get ns i) named ∙ from_get 0 many i h)) in
+    let same : there.0.node ≡ 0 + i = cc (number) in
+    let all : All (HasChildren (Some t)) (rows (all_made t)) = subst (λ u. All (HasChildren (Some u)) (rows (all_made t))) (erase_all t) (children_listed (all_made t)) in
+    (there.0, record { listed = there.1; node = omega (arith, same); children = all_get (HasChildren (Some t)) (rows (all_made t)) i there.0 all there.1 })
