@@ -5,9 +5,11 @@ use Rattle.std.specs.Option.{option_map}
 use Rattle.std.proofs.lemmas.List.{append_assoc, length-map, map-append}
 use Rattle.std.proofs.lemmas.Option.{slice_get-map}
 use Rattle.tree_shape.specs.declared.dirty.DirtyRow.{DirtyRow}
+use Rattle.tree_shape.specs.declared.node.Child.{Child}
 use Rattle.tree_shape.specs.declared.node.Side.TheVariants.{Left}
+use Rattle.tree_shape.specs.Apply.{KeptBy}
 use Rattle.tree_shape.specs.Building.{all_made, all_rows, inners_up, inners_upward, numbers_from}
-use Rattle.tree_shape.specs.Changes.{HasChildren, numbers_below}
+use Rattle.tree_shape.specs.Changes.{HasBelow, HasChildren, numbers_below}
 use Rattle.tree_shape.specs.Plan.{dirty_row, erase, rows}
 use Rattle.tree_shape.specs.Tree.{Tree, leaf, inner, name}
 use Rattle.tree_shape.proofs.Halves.{below_from, length_from}
@@ -55,3 +57,24 @@ row_of (Some t) many i e h =
     let same : there.0.node ≡ 0 + i = cc (number) in
     let all : All (HasChildren (Some t)) (rows (all_made t)) = subst (λ u. All (HasChildren (Some u)) (rows (all_made t))) (erase_all t) (children_listed (all_made t)) in
     (there.0, record { listed = there.1; node = omega (arith, same); children = all_get (HasChildren (Some t)) (rows (all_made t)) i there.0 all there.1 })
+
+-- there are as many rows as inner nodes
+pub length_rows : (o : Option Tree) (many : ℕ) → inners_upward o ≡ numbers_below many → length (all_rows o) ≡ many
+length_rows None many e = ap length e ∙ (ap length (sym (below_from many)) ∙ length_from 0 many)
+length_rows (Some t) many e = sym (length-map (rows (all_made t)) node_of) ∙ (ap length (nodes_all t ∙ (e ∙ sym (below_from many))) ∙ length_from 0 many)
+
+-- the row of a number, with the children that its node has
+pub listed_row : (o : Option Tree) (many i : ℕ) (both : Child × Child) → inners_upward o ≡ numbers_below many → i < many → ((l r : Tree) → HasBelow o i l r → both ≡ (name l, name r))
+    → slice_get (all_rows o) i ≡ Some (record { node = i; left = both.0; right = both.1 })
+listed_row o many i both e h told =
+    let w = row_of o many i e h in
+    let c = w.1.children in
+    let named = told c.0 c.1 (subst (λ n. HasBelow o n c.0 c.1) w.1.node c.2) in
+    let left : w.0.left ≡ both.0 = c.3 ∙ sym (ap (λ (p : Child × Child). p.0) named) in
+    let right : w.0.right ≡ both.1 = c.4 ∙ sym (ap (λ (p : Child × Child). p.1) named) in
+    w.1.listed ∙ (λ j. Some (record { node = w.1.node j; left = left j; right = right j }))
+
+-- each leaf of the plan stays
+pub kept_all : (P : Tree → Type 0) → ((n : ℕ) → P (leaf n)) → (t : Tree) → KeptBy P (all_made t)
+kept_all P each (leaf n) = each n
+kept_all P each (inner n l r) = (kept_all P each l, kept_all P each r)

@@ -24,3 +24,8 @@ module _ {V : Type 0} (leaf_at : ℕ → Option V) where
   value_at (n ∷ ns) (suc i) h place =
       let rest = value_at ns i h.1 (omega arith) in
       (rest.0, rest.1, ap (λ o. slice_get (joined_on o (gathered leaf_at ns)) (suc i)) h.0.1 ∙ rest.2)
+
+  -- the same of a tree that may have no leaf
+  pub value_of_leaf : (o : Option Tree) (i : ℕ) → AreThere leaf_at (leaves_of_tree o) → i < count_of o → (v : V) × (leaf_at (slice_index (leaves_of_tree o) i) ≡ Some v) × (slice_get (leaf_values leaf_at o) i ≡ Some v)
+  value_of_leaf None i h place = absurd (omega arith)
+  value_of_leaf (Some t) i h place = value_at (leaves t) i h (omega (arith, place, length_leaves t))

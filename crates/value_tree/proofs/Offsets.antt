@@ -28,7 +28,7 @@ further_none None = refl
 further_none (Some p) = ap (λ k. Some (k, p.1)) (omega arith)
 
 module _ {V : Type 0} (counts : V → ℕ) where
-  total-append : (xs ys : List V) → total counts (xs ++ ys) ≡ total counts xs + total counts ys
+  pub total-append : (xs ys : List V) → total counts (xs ++ ys) ≡ total counts xs + total counts ys
   total-append [] ys = omega arith
   total-append (x ∷ xs) ys = omega (arith, total-append xs ys)
 
@@ -80,7 +80,7 @@ module _ {V : Type 0} (counts : V → ℕ) where
 
 module _ {V : Type 0} (join : V → V → V) (fits : V → V → Type 0) (cost : V → ℕ) (counts : V → ℕ) (leaf_at node_at : ℕ → Option V) (law : (a b : V) → fits a b → counts (join a b) ≡ counts a + counts b) where
   -- a value counts what its leaves count
-  total_is : (each : ℕ) (t : Tree) (v : V) → Fit join fits cost each leaf_at t → value join leaf_at t ≡ Some v → counts v ≡ total counts (gathered leaf_at (leaves t))
+  pub total_is : (each : ℕ) (t : Tree) (v : V) → Fit join fits cost each leaf_at t → value join leaf_at t ≡ Some v → counts v ≡ total counts (gathered leaf_at (leaves t))
   total_is each (leaf n) v f e =
       let only : gathered leaf_at (n ∷ []) ≡ v ∷ [] = ap (λ o. joined_on o []) e in
       omega (arith, ap (total counts) only)
@@ -89,7 +89,7 @@ module _ {V : Type 0} (join : V → V → V) (fits : V → V → Type 0) (cost :
       let is : join f.0 f.1 ≡ v = cc (one) in
       omega (arith, ap counts is, law f.0 f.1 f.4, total_is each l f.0 f.6 f.2, total_is each r f.1 f.7 f.3, ap (total counts) (gathered-append leaf_at (leaves l) (leaves r)), total-append counts (gathered leaf_at (leaves l)) (gathered leaf_at (leaves r)))
 
-  part_self : (t : Tree) → IsPart t t
+  pub part_self : (t : Tree) → IsPart t t
   part_self (leaf n) = refl
   part_self (inner n l r) = inl refl
 
@@ -105,15 +105,15 @@ module _ {V : Type 0} (join : V → V → V) (fits : V → V → Type 0) (cost :
   part_right n l r (inner m a b) (inr (inl p)) = inr (inl (part_right n l r a p))
   part_right n l r (inner m a b) (inr (inr p)) = inr (inr (part_right n l r b p))
 
-  left_of : (n : ℕ) (l r : Tree) (o : Option Tree) → IsPartOf (inner n l r) o → IsPartOf l o
+  pub left_of : (n : ℕ) (l r : Tree) (o : Option Tree) → IsPartOf (inner n l r) o → IsPartOf l o
   left_of n l r None p = p
   left_of n l r (Some t) p = part_left n l r t p
 
-  right_of : (n : ℕ) (l r : Tree) (o : Option Tree) → IsPartOf (inner n l r) o → IsPartOf r o
+  pub right_of : (n : ℕ) (l r : Tree) (o : Option Tree) → IsPartOf (inner n l r) o → IsPartOf r o
   right_of n l r None p = p
   right_of n l r (Some t) p = part_right n l r t p
 
-  opened : (n : ℕ) (child : Child) (t : Tree) → child ≡ name t → child ≡ Inner n → (l : Tree) × (r : Tree) × (t ≡ inner n l r)
+  pub opened : (n : ℕ) (child : Child) (t : Tree) → child ≡ name t → child ≡ Inner n → (l : Tree) × (r : Tree) × (t ≡ inner n l r)
   opened n child (leaf m) e f = let no : Leaf m ≡ Inner n = sym e ∙ f in cc (no)
   opened n child (inner m l r) e f = let same : Inner m ≡ Inner n = sym e ∙ f in let is : m ≡ n = cc (same) in (l, r, ap (λ k. inner k l r) is)
 

@@ -9,9 +9,11 @@
 //! store. Below it stand `tree_shape`, whose rows say what a change has to compose, and `knit_base`.
 #![tactic(auto)]
 
+mod before;
 mod find;
 mod need;
 mod refresh;
+mod start;
 mod tree;
 mod values;
 

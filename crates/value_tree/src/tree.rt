@@ -1,17 +1,21 @@
 //! The tree: its shape, and the values at its leaves and inner nodes.
-ghost use Rattle.std.specs.Prelude.{◌≡◌, ℕ, ◌+◌, ◌*◌, ◌<◌, ◌≤◌, List, [], ◌∷◌, length, Option, Some, true, slice_index, slice_set, OnOk, IsOk, IfSome, IsNone, ◌↔◌};
+ghost use Rattle.std.specs.Prelude.{◌≡◌, ℕ, ◌+◌, ◌*◌, ◌<◌, ◌≤◌, List, [], ◌∷◌, length, take, Option, Some, true, slice_index, slice_set, OnOk, IfOk, IsOk, IfSome, IsNone, ◌↔◌};
+ghost use Rattle.std.specs.List.{slice_get};
 ghost use Rattle.std.specs.Option.{option_map};
 ghost use Rattle.tree_shape.specs.Fewest.{highest, inserted, removed};
 ghost use Rattle.tree_shape.specs.Numbers.{next_number};
 ghost use Rattle.tree_shape.specs.View.{ShapeView, IsSameShape, count_of, leaves_of_tree, rows_above, rows_with, rows_without};
 ghost use Rattle.tree_shape.specs.Composing.{Costs};
-ghost use Rattle.tree_shape.specs.Values.{leaf_values, part, with_node};
-ghost use Rattle.value_tree.specs.Found.{found_in};
+ghost use Rattle.tree_shape.specs.Values.{AreThere, gathered, leaf_values, part, with_node};
+ghost use Rattle.tree_shape.specs.Changes.{numbers_below};
+ghost use Rattle.value_tree.specs.Found.{found_in, total};
 ghost use Rattle.value_tree.specs.Kept.{HasLeafPlace, IsKept, IsReplaceNeed, IsInsertNeed, IsRemoveNeed, KeepsNeeds};
 
+use crate::before::{Descent, descend};
 use crate::find::{Counts, Walk, step};
 use crate::need::{NewLeaf, need_of};
 use crate::refresh::refresh;
+use crate::start::compose_all;
 use crate::values::{Takes, Values};
 use knit_base::{NoMemory, Steps};
 use std::alloc::Global;
@@ -203,6 +207,28 @@ impl<S: Values> ValueTree<S> {
         }
     }
 
+    /// A tree of leaves that have their values already, by their numbers, which are those below a count, in order. Composes the
+    /// value of each inner node once. Fails where memory runs out.
+    pub fn build<L: Ledger>(
+        alloc: Global,
+        mut store: S,
+        leaves: u32,
+        steps: &mut Steps<L>,
+    ) -> Result<ValueTree<S>, NoMemory>
+        requires few { leaves ≤ 65536 }
+        requires places { leaves ≤ S.slots store }
+        requires there { AreThere (S.leaf_at store) (numbers_below leaves) }
+        requires sound { S.sound (gathered (S.leaf_at store) (numbers_below leaves)) }
+        ensures kept { IfOk result (λ tree. IsKept S.join S.sound (S.leaf_at tree.store) (S.node_at tree.store) (S.slots tree.store) tree.shape) }
+        ensures leaves { IfOk result (λ tree. leaf_values (S.leaf_at tree.store) tree.shape.tree ≡ gathered (S.leaf_at store) (numbers_below leaves)) }
+        ensures steps { (each : ℕ) → Costs S.stands S.cost each (gathered (S.leaf_at store) (numbers_below leaves)) → steps.new ≤ steps.old + 3 * each * leaves }
+    {
+        let shape = Shape::build(alloc, leaves)?;
+        let _len = shape.len();
+        compose_all(&mut store, &shape, steps)?;
+        Ok(ValueTree { shape, store })
+    }
+
     /// The number of leaves.
     pub fn len(&self) -> u32
         ensures len { result ≡ count_of self.now.shape.tree }
@@ -253,6 +279,42 @@ impl<S: Values> ValueTree<S> {
             walk = step(&self.shape, &self.store, walk);
         }
         Some((walk.at, walk.left))
+    }
+
+    /// What the leaves before a position count.
+    pub fn count_before(&self, at: u32) -> u64
+    where
+        S: Counts,
+        requires kept { IsKept S.join S.sound (S.leaf_at self.now.store) (S.node_at self.now.store) (S.slots self.now.store) self.now.shape }
+        requires place { at ≤ count_of self.now.shape.tree }
+        ensures { result ≡ total S.count (take at (leaf_values (S.leaf_at self.now.store) self.now.shape.tree)) }
+    {
+        let leaves = self.shape.len();
+        let Some(root) = self.shape.root() else {
+            return 0;
+        };
+        let all = self.store.count_of(root);
+        if leaves <= at {
+            return all;
+        }
+        let mut descent = Descent {
+            child: root,
+            at,
+            before: 0,
+        };
+        for _i in 0..self.shape.height() {
+            descent = descend(&self.shape, &self.store, descent);
+        }
+        descent.before
+    }
+
+    /// The number of the leaf at a position.
+    pub fn leaf(&self, at: u32) -> u32
+        requires kept { IsKept S.join S.sound (S.leaf_at self.now.store) (S.node_at self.now.store) (S.slots self.now.store) self.now.shape }
+        requires place { at < count_of self.now.shape.tree }
+        ensures { (v : S.Value) × (S.leaf_at self.now.store result ≡ Some v) × (slice_get (leaf_values (S.leaf_at self.now.store) self.now.shape.tree) at ≡ Some v) }
+    {
+        self.shape.leaf(at)
     }
 
     /// The values, by the numbers of leaves and inner nodes.
