@@ -1,5 +1,5 @@
 -- What a tree's layout says of its leaves.
-use Rattle.std.proofs.Common.{◌≡◌, ℕ, ◌+◌, ◌*◌, ◌≤◌, List, ◌∷◌, length, take, drop, Option, refl, sym, ◌∙◌, ap, subst, length-append, arith}
+use Rattle.std.proofs.Common.{◌≡◌, ℕ, ◌+◌, ◌*◌, ◌≤◌, List, [], ◌∷◌, length, take, drop, Option, refl, sym, ◌∙◌, ap, subst, length-append, arith}
 use Rattle.std.proofs.lemmas.List.{take-append-drop}
 use Rattle.std.proofs.Math.Nat.{mul-le-mul_left}
 use Rattle.loop_history.specs.declared.row.LoopRow.{LoopRow}
@@ -7,9 +7,10 @@ use Rattle.summary_compose.specs.declared.room.Room.{Room}
 use Rattle.tree_shape.specs.Fewest.{inserted, highest}
 use Rattle.tree_shape.specs.Values.{leaf_values}
 use Rattle.tree_shape.specs.View.{ShapeView, IsSameShape, count_of}
+use Rattle.value_tree.specs.Found.{total}
 use Rattle.value_tree.proofs.LeafLists.{count_values}
 use Rattle.summary_tree.specs.Faces.{FacesView}
-use Rattle.summary_tree.specs.Leaves.{Leaf, AreSound}
+use Rattle.summary_tree.specs.Leaves.{Leaf, AreSound, leaf_lines, lines_of}
 use Rattle.summary_tree.specs.Store.{leaf_in, node_in}
 use Rattle.summary_tree.specs.Trees.{TreeView, IsTree, IsSameTree, laid_out, change_steps}
 use Rattle.summary_tree.proofs.SoundLeaves.{sound_of}
@@ -46,3 +47,8 @@ steps_within now start each rows leaves h few =
   where
     regroup : (a b : ℕ) → 3 * a * (3 * b) ≡ 9 * b * a
     regroup a b = omega arith
+
+-- the lines of leaves, counted leaf by leaf
+pub total_lines : (xs : List Leaf) → total leaf_lines xs ≡ lines_of xs
+total_lines [] = refl
+total_lines (x ∷ xs) = ap (λ n. x.0.lines + n) (total_lines xs)

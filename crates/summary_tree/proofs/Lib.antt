@@ -5,3 +5,4 @@ pub mod Roots
 pub mod SoundLeaves
 pub mod Needs
 pub mod Layouts
+pub mod Starts

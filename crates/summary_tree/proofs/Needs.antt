@@ -1,6 +1,6 @@
 -- What a change needs, in trees that are the same but for their room.
-use Rattle.std.proofs.Common.{◌≡◌, ℕ, Bool, true, false, List, [], ◌∷◌, Option, Some, None, sym, ◌∙◌, subst}
-use Rattle.std.specs.Prelude.{◌↔◌, slice_index, slice_index_or}
+use Rattle.std.proofs.Common.{◌≡◌, ℕ, Bool, true, false, List, [], ◌∷◌, Option, Some, sym, ◌∙◌, subst}
+use Rattle.std.specs.Prelude.{◌↔◌, slice_index}
 use Rattle.std.specs.Option.{option_map}
 use Rattle.face_data.specs.Summaries.{Summary}
 use Rattle.summary_compose.specs.Rooms.{room_after}

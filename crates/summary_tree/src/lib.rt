@@ -16,6 +16,7 @@ mod faces;
 mod lists;
 mod need;
 mod rooms;
+mod start;
 mod store;
 mod tree;
 

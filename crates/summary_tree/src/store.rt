@@ -138,6 +138,24 @@ impl FaceStore {
     {
         self.faces.get(place_of(child))
     }
+
+    /// The face and the table of a leaf that is there.
+    pub fn leaf(&self, number: u32) -> (FaceView<'_>, &LoopTable)
+        requires { (leaf : Summary × List LoopRow) × (leaf_in self.now.faces self.now.tables.items number ≡ Some leaf) }
+        ensures leaf { leaf_in self.now.faces self.now.tables.items number ≡ Some (summary_of result.0, result.1.now) }
+        ensures packed { IsPacked result.0 }
+    {
+        let Some(face) = self.faces.get(place_of(Child::Leaf(number))) else {
+            unreachable!();
+        };
+        let Some(slot) = self.tables.get(number as usize) else {
+            unreachable!();
+        };
+        match slot {
+            Some(table) => (face, table),
+            None => unreachable!(),
+        }
+    }
 }
 
 impl Values for FaceStore {

@@ -1,5 +1,5 @@
 //! The document as a tree of its blocks' faces.
-ghost use Rattle.std.specs.Prelude.{◌≡◌, ℕ, ◌+◌, ◌*◌, ◌<◌, ◌≤◌, ◌↔◌, List, [], length, take, true, slice_set, Some, OnOk, IsOk};
+ghost use Rattle.std.specs.Prelude.{◌≡◌, ℕ, ◌+◌, ◌*◌, ◌<◌, ◌≤◌, ◌↔◌, List, [], length, take, true, slice_set, Some, OnOk, IfOk, IsOk};
 ghost use Rattle.std.specs.List.{slice_get};
 ghost use Rattle.face_data.specs.Drafts.{no_lines};
 ghost use Rattle.face_data.specs.Items.{most_items};
@@ -10,8 +10,9 @@ ghost use Rattle.summary_tree.specs.Leaves.{AreSound, AreGoodFor, IsRootOf, line
 ghost use Rattle.summary_tree.specs.Trees.{TreeView, IsSameTree, Meets, CanReplace, CanInsert, CanRemove, change_steps};
 
 use crate::need::Need;
+use crate::start::put_leaves;
 use crate::store::{FaceStore, kept_room};
-use face_data::{Effect, Ending, FaceView};
+use face_data::{Effect, Ending, Face, FaceView};
 use knit_base::{NoMemory, Steps};
 use loop_history::LoopTable;
 use std::alloc::Global;
@@ -68,6 +69,23 @@ impl Tree {
         Tree {
             whole: ValueTree::new(alloc, FaceStore::new(alloc)),
         }
+    }
+
+    /// The tree of these leaves. Composes the face of each inner node once. Fails where memory runs out.
+    pub fn start<L: Ledger>(
+        alloc: Global,
+        leaves: Vec<(Face, LoopTable)>,
+        steps: &mut Steps<L>,
+    ) -> Result<Tree, NoMemory>
+        requires { AreSound leaves.items }
+        ensures leaves { IfOk result (λ tree. tree.leaves ≡ leaves.items) }
+        ensures steps { (carriers limit : ℕ) (known : List Needle) → AreGoodFor carriers limit known leaves.items → steps.new ≤ steps.old + 3 * most_items carriers limit (length known) * length leaves.items }
+    {
+        let many = leaves.len() as u32;
+        let mut store = FaceStore::new(alloc);
+        put_leaves(&mut store, leaves)?;
+        let whole = ValueTree::build(alloc, store, many, steps)?;
+        Ok(Tree { whole })
     }
 
     /// How many leaves there are.
@@ -217,5 +235,24 @@ impl Tree {
             Some((at, within)) => Some((at, within as u32)),
             None => None,
         }
+    }
+    /// The face and the table of a position. Takes no memory.
+    pub fn leaf(&self, at: u32) -> (FaceView<'_>, &LoopTable)
+        requires { at < length self.now.leaves }
+        ensures leaf { slice_get self.now.leaves at ≡ Some (summary_of result.0, result.1.now) }
+        ensures packed { IsPacked result.0 }
+    {
+        let _len = self.whole.len();
+        let number = self.whole.leaf(at);
+        self.whole.store().leaf(number)
+    }
+
+    /// How many lines stand before the leaf of a position, or in all leaves. Takes no memory.
+    pub fn lines_before(&self, at: u32) -> u32
+        requires { at ≤ length self.now.leaves }
+        ensures { result ≡ lines_of (take at self.now.leaves) }
+    {
+        let _len = self.whole.len();
+        self.whole.count_before(at) as u32
     }
 }

@@ -1,10 +1,10 @@
 -- Walking down to a position, and counting what the leaves before it count.
-use Rattle.std.proofs.Common.{◌≡◌, ℕ, zero, suc, ◌+◌, ◌*◌, ◌-◌, ◌<◌, ◌≤◌, List, [], ◌∷◌, ◌++◌, length, take, Option, Some, None, refl, sym, ◌∙◌, ap, subst, arith}
+use Rattle.std.proofs.Common.{◌≡◌, ℕ, zero, suc, ◌+◌, ◌*◌, ◌-◌, ◌<◌, ◌≤◌, List, [], ◌∷◌, ◌++◌, length, take, Option, Some, None, ◌∙◌, ap, subst, arith}
 use Rattle.std.specs.Option.{option_map}
 use Rattle.std.proofs.lemmas.List.{take-append-le}
 use Rattle.tree_shape.specs.declared.node.Child.{Child}
 use Rattle.tree_shape.specs.declared.node.Child.TheVariants.{Inner}
-use Rattle.tree_shape.specs.Tree.{Tree, leaf, inner, name, leaves, height, count}
+use Rattle.tree_shape.specs.Tree.{Tree, leaf, inner, name, leaves, count}
 use Rattle.tree_shape.specs.Changes.{IsPartOf}
 use Rattle.tree_shape.specs.Values.{part, gathered, AreThere, KeepsAll, leaf_values}
 use Rattle.tree_shape.specs.Composing.{StandLaws, Costs}
@@ -16,7 +16,7 @@ use Rattle.value_tree.specs.Found.{total}
 use Rattle.value_tree.specs.Walk.{IsDescentAt, IsDescent}
 use Rattle.value_tree.specs.declared.before.Descent.{Descent}
 use Rattle.value_tree.proofs.LeafLists.{length_gathered}
-use Rattle.value_tree.proofs.Offsets.{total-append, total_is, part_self, left_of, right_of, opened}
+use Rattle.value_tree.proofs.Offsets.{total_is, part_self, left_of, right_of, opened}
 
 module _ {V : Type 0} (counts : V → ℕ) where
   -- the first values, past some of them

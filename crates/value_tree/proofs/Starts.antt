@@ -1,7 +1,7 @@
 -- Composing all inner nodes of a tree.
-use Rattle.std.proofs.Common.{◌≡◌, ℕ, ◌+◌, ◌*◌, ◌≤◌, List, [], length, map, Option, Some, None, refl, sym, ap, subst, arith}
+use Rattle.std.proofs.Common.{◌≡◌, ℕ, ◌+◌, ◌*◌, ◌≤◌, List, [], length, Option, Some, None, refl, sym, ap, subst, arith}
 use Rattle.std.specs.Option.{option_map}
-use Rattle.tree_shape.specs.Apply.{times, KeptBy}
+use Rattle.tree_shape.specs.Apply.{times}
 use Rattle.tree_shape.specs.Building.{all_made, all_rows}
 use Rattle.tree_shape.specs.Plan.{erase, rows}
 use Rattle.tree_shape.specs.Tree.{Tree, leaves}

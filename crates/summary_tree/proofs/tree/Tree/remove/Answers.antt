@@ -1,4 +1,4 @@
-use Rattle.std.proofs.Common.{◌≡◌, ◌+◌, ◌≤◌, length, sym, ◌∙◌, ap, subst, arith}
+use Rattle.std.proofs.Common.{◌+◌, ◌≤◌, length, sym, ◌∙◌, ap, subst, arith}
 use Rattle.face_data.specs.Items.{most_items}
 use Rattle.tree_shape.specs.Fewest.{removed}
 use Rattle.tree_shape.specs.Values.{leaf_values}

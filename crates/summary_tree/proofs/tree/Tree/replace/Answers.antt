@@ -1,4 +1,4 @@
-use Rattle.std.proofs.Common.{◌≡◌, ◌+◌, ◌≤◌, length, sym, ◌∙◌, ap, subst, arith}
+use Rattle.std.proofs.Common.{◌+◌, ◌≤◌, length, sym, subst, arith}
 use Rattle.std.specs.Prelude.{slice_set}
 use Rattle.face_data.specs.Items.{most_items}
 use Rattle.face_data.specs.View.{summary_of}

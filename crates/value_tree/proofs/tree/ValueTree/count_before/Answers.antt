@@ -1,9 +1,9 @@
-use Rattle.std.proofs.Common.{◌≡◌, length, take, sym, ◌∙◌, ap, arith}
+use Rattle.std.proofs.Common.{take, sym, ◌∙◌, ap, arith}
 use Rattle.std.proofs.lemmas.List.{take_all}
 use Rattle.tree_shape.specs.Values.{leaf_values}
 use Rattle.tree_shape.specs.View.{height_of_tree}
 use Rattle.value_tree.specs.Found.{total}
-use Rattle.value_tree.proofs.Descents.{at_end, begins, total_some}
+use Rattle.value_tree.proofs.Descents.{begins, total_some}
 use Rattle.value_tree.proofs.LeafLists.{count_values}
 use Rattle.value_tree.proofs.Offsets.{begun}
 use Rattle.value_tree.proofs.tree.ValueTree.count_before.Goals as goal

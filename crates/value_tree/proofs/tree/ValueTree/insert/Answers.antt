@@ -3,7 +3,7 @@ use Rattle.tree_shape.specs.Tree.{leaves}
 use Rattle.tree_shape.specs.Plan.{erase}
 use Rattle.tree_shape.specs.Numbers.{NumbersView, next_number}
 use Rattle.tree_shape.specs.View.{count_of, leaves_of_tree, tree_with}
-use Rattle.tree_shape.specs.Values.{gathered, leaf_values, refreshed}
+use Rattle.tree_shape.specs.Values.{refreshed}
 use Rattle.tree_shape.specs.Composing.{Costs, spent}
 use Rattle.tree_shape.proofs.NumberCounts.{fresh, next_place}
 use Rattle.tree_shape.proofs.Shapes.{taken_drawn}

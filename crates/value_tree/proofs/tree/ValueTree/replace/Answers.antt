@@ -1,7 +1,7 @@
 use Rattle.std.proofs.Common.{◌≡◌, ◌<◌, length, Some, refl, sym, ◌∙◌, ap, subst, arith}
 use Rattle.std.specs.Prelude.{slice_index, slice_set}
 use Rattle.tree_shape.specs.Tree.{count, leaves}
-use Rattle.tree_shape.specs.Plan.{rows, erase}
+use Rattle.tree_shape.specs.Plan.{rows}
 use Rattle.tree_shape.specs.Removal.{touched}
 use Rattle.tree_shape.specs.Numbers.{IsCounted}
 use Rattle.tree_shape.specs.View.{count_of, leaves_of_tree, rows_above}
