@@ -5,4 +5,5 @@ pub mod Roots
 pub mod SoundLeaves
 pub mod Needs
 pub mod Layouts
+pub mod PlainLeaves
 pub mod Starts

@@ -39,17 +39,17 @@ module _ (carriers limit : ℕ) where
   each_good known numbered [] g = All-nil (IsGoodLeaf carriers limit)
   each_good known numbered (x ∷ xs) g = All-cons (IsGoodLeaf carriers limit) x xs (record { known = known; numbered = numbered; good = g.0 }) (each_good known numbered xs g.1)
 
-  good_taken : (known : List Needle) (n : ℕ) (xs : List Leaf) → AreGoodFor carriers limit known xs → AreGoodFor carriers limit known (take n xs)
+  pub good_taken : (known : List Needle) (n : ℕ) (xs : List Leaf) → AreGoodFor carriers limit known xs → AreGoodFor carriers limit known (take n xs)
   good_taken known zero xs g = tt
   good_taken known (suc n) [] g = tt
   good_taken known (suc n) (x ∷ xs) g = (g.0, good_taken known n xs g.1)
 
-  good_dropped : (known : List Needle) (n : ℕ) (xs : List Leaf) → AreGoodFor carriers limit known xs → AreGoodFor carriers limit known (drop n xs)
+  pub good_dropped : (known : List Needle) (n : ℕ) (xs : List Leaf) → AreGoodFor carriers limit known xs → AreGoodFor carriers limit known (drop n xs)
   good_dropped known zero xs g = g
   good_dropped known (suc n) [] g = tt
   good_dropped known (suc n) (x ∷ xs) g = good_dropped known n xs g.1
 
-  good_both : (known : List Needle) (xs ys : List Leaf) → AreGoodFor carriers limit known xs → AreGoodFor carriers limit known ys → AreGoodFor carriers limit known (xs ++ ys)
+  pub good_both : (known : List Needle) (xs ys : List Leaf) → AreGoodFor carriers limit known xs → AreGoodFor carriers limit known ys → AreGoodFor carriers limit known (xs ++ ys)
   good_both known [] ys g h = h
   good_both known (x ∷ xs) ys g h = (g.0, good_both known xs ys g.1 h)
 
@@ -75,6 +75,9 @@ lines_fall zero (x ∷ xs) = omega arith
 lines_fall (suc n) [] = let next : suc n + 1 ≡ suc (n + 1) = omega arith in rw next (omega arith)
 lines_fall (suc n) (x ∷ xs) = let next : suc n + 1 ≡ suc (n + 1) = omega arith in rw next (omega (arith, lines_fall n xs))
 
+pub lines_removed : (at : ℕ) (xs : List Leaf) → lines_of (removed at xs) ≤ lines_of xs
+lines_removed at xs = omega (arith, lines_fall at xs, lines_append (take at xs) (drop (at + 1) xs))
+
 -- without one of them they still may
 pub together_removed : (at : ℕ) (leaves : List Leaf) → StandTogether leaves → StandTogether (removed at leaves)
 together_removed at leaves s = record {
@@ -85,7 +88,7 @@ together_removed at leaves s = record {
   few_loops = s.few_loops;
   numbered = s.numbered;
   good = good_both s.carriers s.limit s.known (take at leaves) (drop (at + 1) leaves) (good_taken s.carriers s.limit s.known at leaves s.good) (good_dropped s.carriers s.limit s.known (at + 1) leaves s.good);
-  few_lines = omega (arith, s.few_lines, lines_fall at leaves, lines_append (take at leaves) (drop (at + 1) leaves));
+  few_lines = omega (arith, s.few_lines, lines_removed at leaves);
 }
 
 -- the face of all leaves is that of a root

@@ -22,3 +22,6 @@ mod tree;
 
 pub use need::Need;
 pub use tree::Tree;
+
+#[cfg(test)]
+mod tests;
