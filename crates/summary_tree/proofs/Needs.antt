@@ -1,5 +1,5 @@
 -- What a change needs, in trees that are the same but for their room.
-use Rattle.std.proofs.Common.{◌≡◌, ℕ, Bool, true, false, List, [], ◌∷◌, Option, Some, sym, ◌∙◌, subst}
+use Rattle.std.proofs.Common.{◌≡◌, ℕ, Bool, true, false, List, [], ◌∷◌, Option, Some, refl, sym, ◌∙◌, subst}
 use Rattle.std.specs.Prelude.{◌↔◌, slice_index}
 use Rattle.std.specs.Option.{option_map}
 use Rattle.face_data.specs.Summaries.{Summary}
@@ -61,6 +61,20 @@ module _ (old new : Layout) (s : IsSameLayout old new) (at : ℕ) (needed : List
       subst (λ leaf. Removes at needed leaf (nodes_at new) new.shape.tree) (sym (same_leaves old new s))
       (subst (λ node. Removes at needed (leaves_at old) node new.shape.tree) (sym (same_nodes old new s))
       (subst (λ o. Removes at needed (leaves_at old) (nodes_at old) o) (sym s.shape.tree) n))
+
+-- each tree is the same as itself, and two that are the same as a third in turn
+pub same_self : (tree : TreeView) → IsSameTree tree tree
+same_self tree = record { leaves = refl; laid = record { shape = record { tree = refl; leaf_numbers = refl; inner_numbers = refl }; leaf = λ n. refl; node = λ n. refl } }
+
+pub same_then : (a b c : TreeView) → IsSameTree a b → IsSameTree b c → IsSameTree a c
+same_then a b c s t = record {
+  leaves = t.leaves ∙ s.leaves;
+  laid = record {
+    shape = record { tree = t.laid.shape.tree ∙ s.laid.shape.tree; leaf_numbers = t.laid.shape.leaf_numbers ∙ s.laid.shape.leaf_numbers; inner_numbers = t.laid.shape.inner_numbers ∙ s.laid.shape.inner_numbers };
+    leaf = λ n. t.laid.leaf n ∙ s.laid.leaf n;
+    node = λ n. t.laid.node n ∙ s.laid.node n;
+  };
+}
 
 not_true : {X : Type 0} (b : Bool) → b ≡ false → b ≡ true → X
 not_true b e f = let clash : false ≡ true = sym e ∙ f in cc (clash)

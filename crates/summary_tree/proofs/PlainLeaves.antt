@@ -1,7 +1,6 @@
 -- Summaries that only set the rack may stand beside any others.
-use Rattle.std.proofs.Common.{◌≡◌, ℕ, zero, suc, ◌+◌, ◌<◌, ◌≤◌, ℤ, List, [], ◌∷◌, ◌++◌, length, take, drop, ap, sym, subst, arith}
+use Rattle.std.proofs.Common.{◌≡◌, ℕ, zero, suc, ◌+◌, ◌<◌, ◌≤◌, ℤ, List, [], ◌∷◌, length, take, drop, ap, sym, subst, arith}
 use Rattle.std.specs.Prelude.{slice_set}
-use Rattle.std.specs.List.{All}
 use Rattle.std.proofs.lemmas.List.{take-append-drop, length-set}
 use Rattle.knit_base.specs.declared.needle.Needle.{Needle}
 use Rattle.face_data.proofs.Drafts.{no_lines_good}
