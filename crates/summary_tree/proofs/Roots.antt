@@ -5,7 +5,7 @@ use Rattle.knit_base.specs.declared.profile.Profile.{Profile}
 use Rattle.face_data.proofs.Drafts.{no_lines-applied, no_lines_stand, no_lines_good}
 use Rattle.face_data.specs.Drafts.{no_lines}
 use Rattle.face_data.specs.Stands.{StandsFor}
-use Rattle.summary_tree.specs.Leaves.{EachStandsFor, all_lines, IsWholeOf, AreSound}
+use Rattle.summary_tree.specs.Leaves.{EachStandsFor, all_lines, IsWholeOf, StandTogether}
 
 -- no leaf has the face of no line
 pub no_leaves : IsWholeOf [] no_lines
@@ -25,5 +25,5 @@ pub there_and_none : {X : Type 0} {Y : Type 0} (o : Option X) (a : X) → o ≡ 
 there_and_none o a e f = let no : Some a ≡ None = sym e ∙ f in absurd (cc)
 
 -- no leaves may stand in a tree
-pub none_sound : AreSound []
+pub none_sound : StandTogether []
 none_sound = record { carriers = 0; limit = 0; known = []; few_carriers = omega arith; few_loops = omega arith; numbered = λ k d h. absurd (omega arith); good = tt; few_lines = omega arith }

@@ -1,11 +1,11 @@
 -- What a change of one place is to the table.
-use Rattle.std.proofs.Common.{◌≡◌, ◌≢◌, ℕ, ◌<◌, List, Option, Some, None, refl, sym, ◌∙◌, ap, subst, ◌⊎◌, inl, inr, length}
-use Rattle.std.specs.Prelude.{slice_set, slice_index_or}
+use Rattle.std.proofs.Common.{◌≡◌, ◌≢◌, ℕ, ◌+◌, ◌<◌, arith, List, Option, Some, None, refl, sym, ◌∙◌, ap, subst, ◌⊎◌, inl, inr, length}
+use Rattle.std.specs.Prelude.{◌==◌, cond, slice_set, slice_index_or}
 use Rattle.std.specs.Option.{option_map}
 use Rattle.std.proofs.lemmas.List.{get_or-set_same, get_or-set_other, get_or_default}
 use Rattle.std.proofs.lemmas.Bool.Decides.{eqb_tells}
-use Rattle.span_pool.specs.Pool.{SpanView, PoolView, Held, held, Holds, IsOfPool, KeepsOthers}
-use Rattle.summary_tree.specs.Lists.{list_of, list_in, IsTable}
+use Rattle.span_pool.specs.Pool.{SpanView, PoolView, Held, held, Holds, IsOfPool, KeepsOthers, KeepsSpare, OneFewer, OneMore, spare_of}
+use Rattle.summary_tree.specs.Lists.{list_of, list_in, Exchanged, IsTable}
 
 -- what is seen at a place after a write
 pub seen : {A : Type 0} (slots : List (Option A)) (at k : ℕ) (v : Option A) → at < length slots
@@ -109,3 +109,24 @@ module _ {T : Type 0} where
 
     pub filled_others : (k : ℕ) → k ≢ at → list_in (slice_set slots at (Some span)) new k ≡ list_in slots old k
     filled_others k ne = ap (list_of new) (get_or-set_other slots at k (Some span) None ne) ∙ kept_list old new (slice_index_or slots k None) (λ a e. others a.number (other_number k a e))
+
+-- Spare spans, when one span is given back and another taken.
+module _ {T : Type 0} where
+  gave : (a b : PoolView T) (given class : ℕ) → OneMore a b given → spare_of b class ≡ spare_of a class + cond (class == given) 1 0
+  gave a b given class more = elim (eqb_tells class given) [
+    | inl w ↦ omega (arith, more.here, ap {B = ℕ} (λ t. cond t 1 0) w.0, ap (spare_of a) w.1, ap (spare_of b) w.1)
+    | inr w ↦ omega (arith, more.others class w.1, ap {B = ℕ} (λ t. cond t 1 0) w.0)
+  ]
+
+  took : (b c : PoolView T) (taken class : ℕ) → OneFewer b c taken → spare_of c class + cond (class == taken) 1 0 ≡ spare_of b class
+  took b c taken class fewer = elim (eqb_tells class taken) [
+    | inl w ↦ omega (arith, fewer.here, ap {B = ℕ} (λ t. cond t 1 0) w.0, ap (spare_of b) w.1, ap (spare_of c) w.1)
+    | inr w ↦ omega (arith, fewer.others class w.1, ap {B = ℕ} (λ t. cond t 1 0) w.0)
+  ]
+
+  pub exchanged : (a b c d : PoolView T) (given taken : ℕ) → OneMore a b given → OneFewer b c taken → KeepsSpare c d → Exchanged a d given taken
+  exchanged a b c d given taken more fewer same = λ class. omega (arith, gave a b given class more, took b c taken class fewer, same class)
+
+-- the span that was put at a place is there
+pub put_there : (slots : List (Option SpanView)) (at : ℕ) (span other : SpanView) → at < length slots → slice_index_or (slice_set slots at (Some span)) at None ≡ Some other → span ≡ other
+put_there slots at span other inside e = let both : Some span ≡ Some other = sym (get_or-set_same slots at (Some span) None inside) ∙ e in cc (both)

@@ -34,11 +34,11 @@ use Rattle.tree_shape.specs.Composing.{StandLaws, RoomLaws, Costs}
 use Rattle.summary_tree.specs.Faces.{FacesView, spare_in, length_in}
 use Rattle.summary_tree.specs.Meeting.{reaches, IsMet}
 use Rattle.summary_tree.specs.Store.{HasRooms}
-use Rattle.summary_tree.specs.Leaves.{Leaf, lines_of, AreGoodFor, AreSound, applied_each, EachStandsFor, all_lines, WholeLeaf, joined_leaf, LeavesFit, leaf_items, leaf_room, leaf_lines}
+use Rattle.summary_tree.specs.Leaves.{Leaf, lines_of, AreGoodFor, StandTogether, applied_each, EachStandsFor, all_lines, WholeLeaf, joined_leaf, LeavesFit, leaf_items, leaf_room, leaf_lines}
 
 -- Leaves that stand in one tree.
 
-lines_append : (xs ys : List Leaf) → lines_of (xs ++ ys) ≡ lines_of xs + lines_of ys
+pub lines_append : (xs ys : List Leaf) → lines_of (xs ++ ys) ≡ lines_of xs + lines_of ys
 lines_append [] ys = omega arith
 lines_append (x ∷ xs) ys = omega (arith, lines_append xs ys)
 
@@ -50,7 +50,7 @@ good_back : (carriers limit : ℕ) (known : List Needle) (xs ys : List Leaf) →
 good_back carriers limit known [] ys g = g
 good_back carriers limit known (x ∷ xs) ys g = good_back carriers limit known xs ys g.1
 
-sound_front : (xs ys : List Leaf) → AreSound (xs ++ ys) → AreSound xs
+sound_front : (xs ys : List Leaf) → StandTogether (xs ++ ys) → StandTogether xs
 sound_front xs ys s = record {
   carriers = s.carriers;
   limit = s.limit;
@@ -62,7 +62,7 @@ sound_front xs ys s = record {
   few_lines = omega (arith, s.few_lines, lines_append xs ys);
 }
 
-sound_back : (xs ys : List Leaf) → AreSound (xs ++ ys) → AreSound ys
+sound_back : (xs ys : List Leaf) → StandTogether (xs ++ ys) → StandTogether ys
 sound_back xs ys s = record {
   carriers = s.carriers;
   limit = s.limit;
@@ -125,7 +125,7 @@ twice_within known = λ n h. go known known n h (λ m k. k) (λ m k. k)
     go : (xs ys : List Needle) (n : Needle) → Contains (xs ++ ys) n → ((m : Needle) → Contains xs m → Contains known m) → ((m : Needle) → Contains ys m → Contains known m) → Contains known n
     go xs ys n h f g = elim (in_either xs ys n h) [ inl w ↦ f n w | inr w ↦ g n w ]
 
-both_leaves : (xs ys : List Leaf) (a b : Leaf) → AreSound (xs ++ ys) → WholeLeaf xs a → WholeLeaf ys b → LeavesFit a b × WholeLeaf (xs ++ ys) (joined_leaf a b)
+both_leaves : (xs ys : List Leaf) (a b : Leaf) → StandTogether (xs ++ ys) → WholeLeaf xs a → WholeLeaf ys b → LeavesFit a b × WholeLeaf (xs ++ ys) (joined_leaf a b)
 both_leaves xs ys a b s p q =
     let ga = p.good s.carriers s.limit s.known (good_front s.carriers s.limit s.known xs ys s.good) in
     let gb = q.good s.carriers s.limit s.known (good_back s.carriers s.limit s.known xs ys s.good) in (
@@ -156,7 +156,7 @@ both_leaves xs ys a b s p q =
       },
     )
 
-pub stand_laws : StandLaws {V = Leaf} AreSound WholeLeaf joined_leaf LeavesFit
+pub stand_laws : StandLaws {V = Leaf} StandTogether WholeLeaf joined_leaf LeavesFit
 stand_laws = record { one = λ v s. one_leaf v; front = sound_front; back = sound_back; both = both_leaves }
 
 -- A composed summary has as many lines as both.
@@ -169,7 +169,7 @@ items_law xs carriers limit known g before run after v e w =
     let all = subst (AreGoodFor carriers limit known) e g in
     items_bound carriers limit known v.0 (w.good carriers limit known (good_front carriers limit known run after (good_back carriers limit known before (run ++ after) all)))
 
-pub cost_law : (xs : List Leaf) → AreSound xs → (each : ℕ) × Costs WholeLeaf leaf_items each xs
+pub cost_law : (xs : List Leaf) → StandTogether xs → (each : ℕ) × Costs WholeLeaf leaf_items each xs
 cost_law xs s = (most_items s.carriers s.limit (length s.known), items_law xs s.carriers s.limit s.known s.good)
 
 -- Rooms.

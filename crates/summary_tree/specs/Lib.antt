@@ -6,3 +6,4 @@ pub mod Leaves
 pub mod Laws
 pub mod Store
 pub mod Trees
+pub mod Plain

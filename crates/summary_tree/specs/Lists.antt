@@ -1,5 +1,5 @@
 -- A table of lists, each in a span of one pool.
-use Rattle.std.specs.Prelude.{◌≡◌, ◌≢◌, ℕ, ◌≤◌, length, List, Option, Some, None, slice_index_or}
+use Rattle.std.specs.Prelude.{◌≡◌, ◌≢◌, ℕ, ◌+◌, ◌≤◌, ◌==◌, cond, length, List, Option, Some, None, slice_index_or}
 use Rattle.std.specs.Option.{option_map}
 use Rattle.span_pool.specs.Pool.{SpanView, PoolView, held, spare_of}
 
@@ -23,3 +23,7 @@ module _ {T : Type 0} where
     pub more : length old_slots ≤ length slots
     pub same : (at : ℕ) → list_in slots pool at ≡ list_in old_slots old at
     pub spare : (class : ℕ) → spare_of pool class ≡ spare_of old class
+
+  -- a span of the one class was given back, and one of the other taken
+  abbrev pub Exchanged : PoolView T → PoolView T → ℕ → ℕ → Type 0
+  Exchanged old new given taken = (class : ℕ) → spare_of new class + cond (class == taken) 1 0 ≡ spare_of old class + cond (class == given) 1 0

@@ -1,41 +1,82 @@
--- What always holds of a tree of faces, and what a change of it needs.
-use Rattle.std.specs.Prelude.{ℕ, List}
+-- What contracts see of a tree, and what a change of it needs.
+use Rattle.std.specs.Prelude.{◌≡◌, ℕ, ◌+◌, ◌*◌, true, Bool, List, Option}
+use Rattle.loop_history.specs.declared.row.LoopRow.{LoopRow}
+use Rattle.face_data.specs.Summaries.{Summary}
 use Rattle.summary_compose.specs.Rooms.{room_after}
 use Rattle.summary_compose.specs.declared.room.Room.{Room}
+use Rattle.tree_shape.specs.Fewest.{highest}
 use Rattle.tree_shape.specs.Values.{leaf_values}
-use Rattle.value_tree.specs.Kept.{IsKept, IsReplaceNeed, IsInsertNeed, IsRemoveNeed}
-use Rattle.summary_tree.specs.declared.tree.Tree.{Tree}
-use Rattle.summary_tree.specs.Leaves.{Leaf, AreSound, joined_leaf, leaf_room}
+use Rattle.tree_shape.specs.View.{ShapeView, IsSameShape}
+use Rattle.value_tree.specs.Kept.{HasLeafPlace, IsKept, IsReplaceNeed, IsInsertNeed, IsRemoveNeed}
+use Rattle.summary_tree.specs.Faces.{FacesView}
+use Rattle.summary_tree.specs.Leaves.{Leaf, StandTogether, joined_leaf, leaf_room}
+use Rattle.summary_tree.specs.Rooms.{kept_room}
 use Rattle.summary_tree.specs.Store.{leaf_in, node_in, places_in, HasRooms}
 
--- each leaf has its face and its table, they may stand in one tree, and each inner node has the face composed of those below it
-abbrev pub IsTree : Tree → Type 0
-IsTree tree =
-    IsKept joined_leaf AreSound (leaf_in tree.whole.store.faces tree.whole.store.tables.items) (node_in tree.whole.store.faces) (places_in tree.whole.store.faces tree.whole.store.tables.items) tree.whole.shape
+-- How a tree lies in memory: its shape, the faces and the tables of loops by their places, and the room of the scratch. A reader
+-- of the contracts needn't look.
+pub record Layout : Type 0 where
+  pub shape : ShapeView
+  pub faces : FacesView
+  pub tables : List (Option (List LoopRow))
+  pub scratch : Room
 
--- the leaves, from the first on
-abbrev pub leaves_in : Tree → List Leaf
-leaves_in tree = leaf_values (leaf_in tree.whole.store.faces tree.whole.store.tables.items) tree.whole.shape.tree
+-- the leaves from the first on, and how they lie
+pub record TreeView : Type 0 where
+  pub leaves : List Leaf
+  pub laid : Layout
 
--- there is memory for faces of these rooms
-abbrev pub Meets : Tree → List Room → Type 0
-Meets tree rooms = HasRooms tree.whole.store.faces tree.whole.store.scratch.room rooms
+-- a tree with this layout
+abbrev pub laid_out : ShapeView → FacesView → List (Option (List LoopRow)) → Room → TreeView
+laid_out shape faces tables scratch = record {
+  leaves = leaf_values (leaf_in faces tables) shape.tree;
+  laid = record { shape = shape; faces = faces; tables = tables; scratch = scratch };
+}
 
--- what another face of this room at a position needs
-abbrev pub NeedsToReplace : Tree → ℕ → Room → List Room → Type 0
-NeedsToReplace tree at room needed =
-    IsReplaceNeed leaf_room room_after (leaf_in tree.whole.store.faces tree.whole.store.tables.items) (node_in tree.whole.store.faces) tree.whole.shape at room needed
+-- What always holds of it: each leaf has its face and its table, they may stand in one tree, and each inner node has the face
+-- composed of those below it.
+abbrev pub IsTree : ShapeView → FacesView → List (Option (List LoopRow)) → Type 0
+IsTree shape faces tables = IsKept joined_leaf StandTogether (leaf_in faces tables) (node_in faces) (places_in faces tables) shape
 
--- what one more face of this room at a position needs
-abbrev pub NeedsToInsert : Tree → ℕ → Room → List Room → Type 0
-NeedsToInsert tree at room needed =
-    IsInsertNeed leaf_room room_after (leaf_in tree.whole.store.faces tree.whole.store.tables.items) (node_in tree.whole.store.faces) tree.whole.shape at room needed
+-- the rooms of the faces that a change makes, in the order in which it makes them, and whether it makes a leaf
+pub record NeedView : Type 0 where
+  pub rooms : List Room
+  pub leaf : Bool
 
--- what taking out the face of a position needs
-abbrev pub NeedsToRemove : Tree → ℕ → List Room → Type 0
-NeedsToRemove tree at needed =
-    IsRemoveNeed leaf_room room_after (leaf_in tree.whole.store.faces tree.whole.store.tables.items) (node_in tree.whole.store.faces) tree.whole.shape at needed
+-- all but the room is the same
+pub record IsSameLayout (old new : Layout) : Type 0 where
+  pub shape : IsSameShape old.shape new.shape
+  pub leaf : (n : ℕ) → leaf_in new.faces new.tables n ≡ leaf_in old.faces old.tables n
+  pub node : (n : ℕ) → node_in new.faces n ≡ node_in old.faces n
 
--- how many numbers of leaves and of inner nodes there is a place for
-abbrev pub places : Tree → ℕ
-places tree = places_in tree.whole.store.faces tree.whole.store.tables.items
+pub record IsSameTree (old new : TreeView) : Type 0 where
+  pub leaves : new.leaves ≡ old.leaves
+  pub laid : IsSameLayout old.laid new.laid
+
+-- the room is there that a change needs
+pub record Meets (tree : TreeView) (need : NeedView) : Type 0 where
+  pub rooms : HasRooms tree.laid.faces tree.laid.scratch need.rooms
+  pub leaf : need.leaf ≡ true → HasLeafPlace (places_in tree.laid.faces tree.laid.tables) tree.laid.shape
+
+-- the room is there for another face at this position
+pub record CanReplace (tree : TreeView) (at : ℕ) (summary : Summary) : Type 0 where
+  pub rooms : List Room
+  pub met : HasRooms tree.laid.faces tree.laid.scratch rooms
+  pub need : IsReplaceNeed leaf_room room_after (leaf_in tree.laid.faces tree.laid.tables) (node_in tree.laid.faces) tree.laid.shape at (kept_room summary) rooms
+
+-- the room is there for one more face before this position
+pub record CanInsert (tree : TreeView) (at : ℕ) (summary : Summary) : Type 0 where
+  pub rooms : List Room
+  pub met : HasRooms tree.laid.faces tree.laid.scratch rooms
+  pub need : IsInsertNeed leaf_room room_after (leaf_in tree.laid.faces tree.laid.tables) (node_in tree.laid.faces) tree.laid.shape at (kept_room summary) rooms
+  pub leaf : HasLeafPlace (places_in tree.laid.faces tree.laid.tables) tree.laid.shape
+
+-- the room is there to take out the face of this position
+pub record CanRemove (tree : TreeView) (at : ℕ) : Type 0 where
+  pub rooms : List Room
+  pub met : HasRooms tree.laid.faces tree.laid.scratch rooms
+  pub need : IsRemoveNeed leaf_room room_after (leaf_in tree.laid.faces tree.laid.tables) (node_in tree.laid.faces) tree.laid.shape at rooms
+
+-- how many steps a change takes at most in a tree of so many leaves, where no summary has more items than this
+abbrev pub change_steps : ℕ → ℕ → ℕ
+change_steps leaves most = 9 * (highest leaves + 2) * most

@@ -64,6 +64,13 @@ impl Faces {
         }
     }
 
+    /// How many places there are.
+    pub fn len(&self) -> u64
+        ensures { result ≡ length self.now.faces }
+    {
+        self.heads.len() as u64
+    }
+
     /// The face at a place, if there is one.
     pub fn get(&self, at: usize) -> Option<FaceView<'_>>
         ensures some { IfSome result (λ view. face_in self.now at ≡ Some (summary_of view)) }

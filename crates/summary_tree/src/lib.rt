@@ -2,20 +2,27 @@
 //!
 //! Promises that the root's face stands for the lines of all leaves, whatever lines these stand for, and does what they do, one
 //! after the other; that a face that a change makes is composed of its two parts as they then are; that a change whose need is met
-//! takes no memory and can't be refused. (That a list lies in a span of the least class that holds it, and that old spans are given
-//! back, the code does and no clause says.)
+//! takes no memory and can't be refused, and takes steps by the height of the tree and the items of a summary alone; that the place
+//! of a body line and the lines before a leaf are told exactly; that each list lies in a span of the least class that holds it, and
+//! the one before it is given back (`Lists`).
 //!
-//! Definitions: `specs/Leaves` (the leaves and the face of all of them), `specs/Trees` (what always holds of a tree, and what a
-//! change needs), `specs/Rooms` and `specs/Meeting` (rooms, and spans for them), `specs/Faces`, `specs/Lists` and `specs/Store`
-//! (where faces lie). `specs/Laws` shows that faces obey what `value_tree` asks of values. Below it stand `value_tree`,
-//! `tree_shape`, `span_pool`, `summary_compose`, `loop_history`, `face_data`, `carriage_model` and `knit_base`.
+//! Definitions: `specs/Leaves` (the leaves, which of them may stand in one tree, and the face of all of them), `specs/Trees` (what
+//! contracts see of a tree, and when a change can be made), `specs/Rooms` and `specs/Meeting` (rooms, and spans for them),
+//! `specs/Faces`, `specs/Lists` and `specs/Store` (where faces lie). `specs/Laws` shows that faces obey what `value_tree` asks of
+//! values. `specs/Plain` is of the tests. Below it stand `value_tree`, `tree_shape`, `span_pool`, `summary_compose`,
+//! `loop_history`, `face_data`, `carriage_model` and `knit_base`.
 #![tactic(auto)]
 
 mod faces;
 mod lists;
 mod need;
+mod rooms;
+mod start;
 mod store;
 mod tree;
 
 pub use need::Need;
 pub use tree::Tree;
+
+#[cfg(test)]
+mod tests;

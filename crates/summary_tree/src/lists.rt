@@ -1,9 +1,9 @@
 //! A table of lists by number, each in a span of one pool.
 ghost use Rattle.std.specs.Prelude.{◌≡◌, ◌≢◌, ℕ, ◌+◌, ◌<◌, ◌≤◌, ◌^◌, length, slice_index_or, Option, Some, None, IfSome, IsNone, OnOk};
 ghost use Rattle.span_pool.specs.Class.{IsClassOf};
-ghost use Rattle.span_pool.specs.Pool.{spare_of};
+ghost use Rattle.span_pool.specs.Pool.{SpanView, OneMore, spare_of};
 ghost use Rattle.std.proofs.Props.{props};
-ghost use Rattle.summary_tree.specs.Lists.{IsTable, Lengthened, list_in};
+ghost use Rattle.summary_tree.specs.Lists.{Exchanged, IsTable, Lengthened, list_in};
 
 use knit_base::NoMemory;
 use span_pool::{Pool, Span, class_of};
@@ -44,6 +44,7 @@ impl<T: Copy> Lists<T> {
     /// Gives the span of a place back.
     pub fn clear(&mut self, at: usize)
         ensures gone { list_in self.new.slots.items self.new.pool at ≡ None }
+        ensures back { (span : SpanView) → slice_index_or self.old.slots.items at None ≡ Some span → OneMore self.old.pool self.new.pool span.class }
         ensures others { (k : ℕ) → k ≢ at → list_in self.new.slots.items self.new.pool k ≡ list_in self.old.slots.items self.old.pool k }
         ensures len { length self.new.slots.items ≡ length self.old.slots.items }
         ensures spare { (class : ℕ) → spare_of self.old.pool class ≤ spare_of self.new.pool class }
@@ -61,6 +62,8 @@ impl<T: Copy> Lists<T> {
         requires few { length items.now ≤ 2 ^ 62 }
         requires spare { (class : ℕ) → IsClassOf (length items.now) class → 1 ≤ spare_of self.old.pool class }
         ensures here { list_in self.new.slots.items self.new.pool at ≡ Some items.now }
+        ensures least { IfSome (slice_index_or self.new.slots.items at None) (λ span. IsClassOf (length items.now) span.class) }
+        ensures back { (old span : SpanView) → slice_index_or self.old.slots.items at None ≡ Some old → slice_index_or self.new.slots.items at None ≡ Some span → Exchanged self.old.pool self.new.pool old.class span.class }
         ensures others { (k : ℕ) → k ≢ at → list_in self.new.slots.items self.new.pool k ≡ list_in self.old.slots.items self.old.pool k }
         ensures len { length self.new.slots.items ≡ length self.old.slots.items }
         ensures spare_of_class { (class : ℕ) → IsClassOf (length items.now) class → spare_of self.old.pool class ≤ spare_of self.new.pool class + 1 }

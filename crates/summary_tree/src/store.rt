@@ -10,13 +10,13 @@ ghost use Rattle.summary_compose.specs.Rooms.{room_after};
 ghost use Rattle.tree_shape.specs.declared.node.Child.TheVariants.{Leaf, Inner};
 ghost use Rattle.summary_tree.specs.Faces.{face_in, spare_in, length_in, KeepsSpares};
 ghost use Rattle.summary_tree.specs.Laws.{stand_laws, room_laws, cost_law, lines_law, rooms_any_order};
-ghost use Rattle.summary_tree.specs.Leaves.{AreSound, WholeLeaf, joined_leaf, LeavesFit, leaf_items, leaf_room, leaf_lines};
+ghost use Rattle.summary_tree.specs.Leaves.{StandTogether, WholeLeaf, joined_leaf, LeavesFit, leaf_items, leaf_room, leaf_lines};
 ghost use Rattle.summary_tree.specs.Meeting.{IsMet};
 ghost use Rattle.summary_tree.specs.Rooms.{kept_room};
 ghost use Rattle.summary_tree.specs.Store.{place_of, leaf_in, node_in, places_in, HasRooms};
 
 use crate::faces::{FaceList, Faces};
-use crate::need::Need;
+use crate::rooms::Rooms;
 use face_data::{Face, FaceView};
 use knit_base::{NoMemory, Steps};
 use loop_history::LoopTable;
@@ -52,7 +52,7 @@ pub(crate) fn kept_room(face: &FaceView) -> Room
 }
 
 // Whether there are spans for one of the lists of each room.
-fn list_is_met(faces: &Faces, list: FaceList, need: &Need) -> bool
+fn list_is_met(faces: &Faces, list: FaceList, need: &Rooms) -> bool
     ensures { (result ≡ true) ↔ IsMet (spare_in faces.now list) (length_in list) need.now }
 {
     if !need.is_short(list) {
@@ -67,7 +67,7 @@ fn list_is_met(faces: &Faces, list: FaceList, need: &Need) -> bool
 }
 
 // Makes spans for one of the lists of each room.
-fn reserve_list(faces: &mut Faces, list: FaceList, need: &Need) -> Result<(), NoMemory>
+fn reserve_list(faces: &mut Faces, list: FaceList, need: &Rooms) -> Result<(), NoMemory>
     ensures ok { OnOk result (IsMet (spare_in faces.new list) (length_in list) need.now) }
     ensures faces { faces.new.faces ≡ faces.old.faces }
     ensures spares { KeepsSpares faces.old faces.new }
@@ -138,6 +138,24 @@ impl FaceStore {
     {
         self.faces.get(place_of(child))
     }
+
+    /// The face and the table of a leaf that is there.
+    pub fn leaf(&self, number: u32) -> (FaceView<'_>, &LoopTable)
+        requires { (leaf : Summary × List LoopRow) × (leaf_in self.now.faces self.now.tables.items number ≡ Some leaf) }
+        ensures leaf { leaf_in self.now.faces self.now.tables.items number ≡ Some (summary_of result.0, result.1.now) }
+        ensures packed { IsPacked result.0 }
+    {
+        let Some(face) = self.faces.get(place_of(Child::Leaf(number))) else {
+            unreachable!();
+        };
+        let Some(slot) = self.tables.get(number as usize) else {
+            unreachable!();
+        };
+        match slot {
+            Some(table) => (face, table),
+            None => unreachable!(),
+        }
+    }
 }
 
 impl Values for FaceStore {
@@ -145,7 +163,7 @@ impl Values for FaceStore {
 
     type Room = Room;
 
-    type Need = Need;
+    type Need = Rooms;
 
     ghost leaf_at = { λ s. leaf_in s.faces s.tables.items };
 
@@ -157,7 +175,7 @@ impl Values for FaceStore {
 
     ghost fits = { LeavesFit };
 
-    ghost sound = { AreSound };
+    ghost sound = { StandTogether };
 
     ghost stands = { WholeLeaf };
 
@@ -184,19 +202,19 @@ impl Values for FaceStore {
         left.after(&right)
     }
 
-    fn no_need() -> Need {
-        Need::new()
+    fn no_need() -> Rooms {
+        Rooms::new()
     }
 
-    fn push(need: &mut Need, size: Room) {
+    fn push(need: &mut Rooms, size: Room) {
         need.push(size);
     }
 
-    fn nth(need: &Need, i: u32) -> Room {
+    fn nth(need: &Rooms, i: u32) -> Room {
         need.nth(i)
     }
 
-    fn reserve(&mut self, need: &Need) -> Result<(), NoMemory> {
+    fn reserve(&mut self, need: &Rooms) -> Result<(), NoMemory> {
         self.scratch.reserve(&need.greatest())?;
         reserve_list(&mut self.faces, FaceList::Checks, need)?;
         reserve_list(&mut self.faces, FaceList::Names, need)?;
@@ -204,7 +222,7 @@ impl Values for FaceStore {
         reserve_list(&mut self.faces, FaceList::Segs, need)
     }
 
-    fn meets(&self, need: &Need) -> bool {
+    fn meets(&self, need: &Rooms) -> bool {
         need.is_within(&self.scratch)
             && list_is_met(&self.faces, FaceList::Checks, need)
             && list_is_met(&self.faces, FaceList::Names, need)
@@ -231,6 +249,12 @@ impl Values for FaceStore {
 
     fn clear_node(&mut self, number: u32) {
         self.faces.clear(place_of(Child::Inner(number)));
+    }
+
+    fn places(&self) -> u64 {
+        let faces = self.faces.len() / 2;
+        let tables = self.tables.len() as u64;
+        faces.min(tables)
     }
 
     fn reserve_slots(&mut self, many: u32) -> Result<(), NoMemory> {

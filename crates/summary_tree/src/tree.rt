@@ -1,31 +1,43 @@
 //! The document as a tree of its blocks' faces.
-ghost use Rattle.std.specs.Prelude.{◌≡◌, ℕ, ◌+◌, ◌*◌, ◌<◌, ◌≤◌, ◌↔◌, List, [], length, true, slice_set, OnOk, IsOk};
+ghost use Rattle.std.specs.Prelude.{◌≡◌, ℕ, ◌+◌, ◌*◌, ◌<◌, ◌≤◌, ◌↔◌, List, [], length, take, true, slice_set, Some, OnOk, IfOk, IsOk};
+ghost use Rattle.std.specs.List.{slice_get};
 ghost use Rattle.face_data.specs.Drafts.{no_lines};
 ghost use Rattle.face_data.specs.Items.{most_items};
 ghost use Rattle.face_data.specs.View.{IsPacked, summary_of};
 ghost use Rattle.knit_base.specs.declared.needle.Needle.{Needle};
-ghost use Rattle.summary_compose.specs.declared.room.Room.{Room};
 ghost use Rattle.tree_shape.specs.Fewest.{inserted, removed};
-ghost use Rattle.tree_shape.specs.View.{count_of, rows_above, rows_with, rows_without, IsSameShape};
-ghost use Rattle.tree_shape.specs.Numbers.{next_number};
-ghost use Rattle.value_tree.specs.Found.{found_in};
-ghost use Rattle.summary_tree.specs.Leaves.{AreSound, AreGoodFor, IsWholeOf, leaf_lines};
-ghost use Rattle.summary_tree.specs.Rooms.{kept_room};
-ghost use Rattle.summary_tree.specs.Trees.{IsTree, leaves_in, Meets, NeedsToReplace, NeedsToInsert, NeedsToRemove, places};
+ghost use Rattle.summary_tree.specs.Leaves.{AreSound, AreGoodFor, IsRootOf, lines_of, place_of_line};
+ghost use Rattle.summary_tree.specs.Trees.{TreeView, IsSameTree, Meets, CanReplace, CanInsert, CanRemove, change_steps};
 
 use crate::need::Need;
+use crate::start::put_leaves;
 use crate::store::{FaceStore, kept_room};
-use face_data::{Effect, Ending, FaceView};
+use face_data::{Effect, Ending, Face, FaceView};
 use knit_base::{NoMemory, Steps};
 use loop_history::LoopTable;
 use std::alloc::Global;
+use std::marker::Model;
 use std::sync::ledger::Ledger;
 use value_tree::ValueTree;
 
 /// The faces and loop tables of a document's blocks, and at each inner node the face of the blocks below it.
 #[derive(Drop)]
 pub struct Tree {
-    pub(crate) whole: ValueTree<FaceStore>,
+    whole: ValueTree<FaceStore>,
+}
+
+impl Model for Tree {
+    ghost use Rattle.std.specs.Coded.{codes};
+    ghost use Rattle.tree_shape.specs.View.{tree_code};
+    ghost use Rattle.summary_tree.specs.Trees.{TreeView, laid_out, IsTree};
+
+    ghost Value = { TreeView };
+
+    ghost coded = { Prim.hlevel (codes, tree_code) };
+
+    ghost view = { λ t. laid_out t.whole.shape t.whole.store.faces t.whole.store.tables.items t.whole.store.scratch.room };
+
+    ghost invariant = { λ t. IsTree t.whole.shape t.whole.store.faces t.whole.store.tables.items };
 }
 
 // The face of no line.
@@ -52,27 +64,43 @@ fn no_lines() -> FaceView<'static>
 impl Tree {
     /// A tree without leaves, which takes no memory.
     pub fn new(alloc: Global) -> Tree
-        ensures kept { IsTree result }
-        ensures empty { leaves_in result ≡ [] }
+        ensures { result.leaves ≡ [] }
     {
         Tree {
             whole: ValueTree::new(alloc, FaceStore::new(alloc)),
         }
     }
 
+    /// The tree of these leaves. Composes the face of each inner node once. Fails where memory runs out.
+    pub fn start<L: Ledger>(
+        alloc: Global,
+        leaves: Vec<(Face, LoopTable)>,
+        steps: &mut Steps<L>,
+    ) -> Result<Tree, NoMemory>
+        requires { AreSound leaves.items }
+        ensures leaves { IfOk result (λ tree. tree.leaves ≡ leaves.items) }
+        ensures steps { (carriers limit : ℕ) (known : List Needle) → AreGoodFor carriers limit known leaves.items → steps.new ≤ steps.old + 3 * most_items carriers limit (length known) * length leaves.items }
+    {
+        let many = leaves.len() as u32;
+        let mut store = FaceStore::new(alloc);
+        put_leaves(&mut store, leaves)?;
+        let whole = ValueTree::build(alloc, store, many, steps)?;
+        Ok(Tree { whole })
+    }
+
     /// How many leaves there are.
     pub fn len(&self) -> u32
-        ensures { result ≡ count_of self.now.whole.shape.tree }
+        ensures len { result ≡ length self.now.leaves }
+        ensures sound { AreSound self.now.leaves }
     {
         self.whole.len()
     }
 
     /// The face of all leaves, one after the other. Takes no memory.
     pub fn root(&self) -> FaceView<'_>
-        requires kept { IsTree self.now }
-        ensures whole { IsWholeOf (leaves_in self.now) (summary_of result) }
-        ensures packed { IsPacked result }
+        ensures { IsRootOf self.now.leaves result }
     {
+        let _len = self.whole.len();
         let Some(root) = self.whole.root() else {
             return no_lines();
         };
@@ -82,101 +110,72 @@ impl Tree {
         }
     }
 
-    /// The room that another face at a position needs. Takes no memory.
+    /// The room that another face at a position needs. It stays a need until the next change. Takes no memory.
     pub fn need_replace(&self, at: u32, face: &FaceView) -> Need
-        requires kept { IsTree self.now }
-        requires place { at < count_of self.now.whole.shape.tree }
+        requires place { at < length self.now.leaves }
         requires packed { IsPacked face.now }
-        ensures { NeedsToReplace self.now at (kept_room (summary_of face.now)) result }
+        ensures { (tree : TreeView) → IsSameTree self.now tree → Meets tree result ↔ CanReplace tree at (summary_of face.now) }
     {
-        self.whole.need_replace(at, kept_room(face))
+        let _len = self.whole.len();
+        Need {
+            rooms: self.whole.need_replace(at, kept_room(face)),
+            leaf: false,
+        }
     }
 
-    /// The room that taking out the face of a position needs. Takes no memory.
-    pub fn need_remove(&self, at: u32) -> Need
-        requires kept { IsTree self.now }
-        requires place { at < count_of self.now.whole.shape.tree }
-        ensures { NeedsToRemove self.now at result }
-    {
-        self.whole.need_remove(at)
-    }
-
-    /// The room that one more face before a position needs. Takes no memory.
+    /// The room that one more face before a position needs. It stays a need until the next change. Takes no memory.
     pub fn need_insert(&self, at: u32, face: &FaceView) -> Need
-        requires kept { IsTree self.now }
-        requires place { at ≤ count_of self.now.whole.shape.tree }
-        requires few { count_of self.now.whole.shape.tree < 65536 }
+        requires place { at ≤ length self.now.leaves }
+        requires few { length self.now.leaves < 65536 }
         requires packed { IsPacked face.now }
-        ensures { NeedsToInsert self.now at (kept_room (summary_of face.now)) result }
+        ensures { (tree : TreeView) → IsSameTree self.now tree → Meets tree result ↔ CanInsert tree at (summary_of face.now) }
     {
-        self.whole.need_insert(at, kept_room(face))
+        let _len = self.whole.len();
+        Need {
+            rooms: self.whole.need_insert(at, kept_room(face)),
+            leaf: true,
+        }
+    }
+
+    /// The room that taking out the face of a position needs. It stays a need until the next change. Takes no memory.
+    pub fn need_remove(&self, at: u32) -> Need
+        requires { at < length self.now.leaves }
+        ensures { (tree : TreeView) → IsSameTree self.now tree → Meets tree result ↔ CanRemove tree at }
+    {
+        let _len = self.whole.len();
+        Need {
+            rooms: self.whole.need_remove(at),
+            leaf: false,
+        }
     }
 
     /// Whether that room is there. Takes no memory.
     pub fn meets(&self, need: &Need) -> bool
         ensures { (result ≡ true) ↔ Meets self.now need.now }
     {
-        self.whole.meets(need)
+        if !self.whole.meets(&need.rooms) {
+            return false;
+        }
+        if need.leaf {
+            return self.whole.has_place();
+        }
+        true
     }
 
-    /// Makes that room. Where it is there already, it takes no memory and is `Ok`. Fails where memory runs out, with the same
-    /// tree.
+    /// Makes that room. Where it is there already, it takes no memory. Fails where memory runs out.
     pub fn reserve(&mut self, need: &Need) -> Result<(), NoMemory>
-        requires kept { IsTree self.old }
-        ensures kept { IsTree self.new }
-        ensures shape { self.new.whole.shape ≡ self.old.whole.shape }
-        ensures replaces { (at : ℕ) (room : Room) (needed : List Room) → NeedsToReplace self.old at room needed → NeedsToReplace self.new at room needed }
-        ensures removes { (at : ℕ) (needed : List Room) → NeedsToRemove self.old at needed → NeedsToRemove self.new at needed }
-        ensures met { OnOk result (Meets self.new need.now) }
+        ensures ok { OnOk result (Meets self.new need.now) }
+        ensures same { IsSameTree self.old self.new }
         ensures ready { Meets self.old need.now → IsOk result }
     {
-        self.whole.reserve(need)
-    }
-
-    /// Makes that room, and a place for one more leaf. Fails where memory runs out, with the same tree.
-    pub fn reserve_insert(&mut self, need: &Need) -> Result<(), NoMemory>
-        requires kept { IsTree self.old }
-        ensures kept { IsTree self.new }
-        ensures shape { IsSameShape self.old.whole.shape self.new.whole.shape }
-        ensures inserts { (at : ℕ) (room : Room) (needed : List Room) → NeedsToInsert self.old at room needed → NeedsToInsert self.new at room needed }
-        ensures met { OnOk result (Meets self.new need.now) }
-        ensures room { OnOk result (self.new.whole.shape.room ≡ true) }
-        ensures leaf_place { OnOk result (self.new.whole.shape.leaf_numbers.drawn < places self.new) }
-        ensures inner_place { OnOk result (self.new.whole.shape.inner_numbers.drawn < places self.new) }
-    {
-        self.whole.reserve_insert(need)
-    }
-
-    /// Puts one more face and table before a position. Takes no memory.
-    pub fn insert<L: Ledger>(
-        &mut self,
-        at: u32,
-        face: &FaceView,
-        loops: LoopTable,
-        steps: &mut Steps<L>,
-    )
-        requires kept { IsTree self.old }
-        requires place { at ≤ count_of self.old.whole.shape.tree }
-        requires few { count_of self.old.whole.shape.tree < 65536 }
-        requires packed { IsPacked face.now }
-        requires room { self.old.whole.shape.room ≡ true }
-        requires leaf_place { self.old.whole.shape.leaf_numbers.drawn < places self.old }
-        requires inner_place { self.old.whole.shape.inner_numbers.drawn < places self.old }
-        requires sound { AreSound (inserted at (summary_of face.now, loops) (leaves_in self.old)) }
-        requires need { (needed : List Room) × Meets self.old needed × NeedsToInsert self.old at (kept_room (summary_of face.now)) needed }
-        ensures kept { IsTree self.new }
-        ensures leaves { leaves_in self.new ≡ inserted at (summary_of face.now, loops) (leaves_in self.old) }
-        ensures steps { (carriers limit : ℕ) (known : List Needle) → AreGoodFor carriers limit known (inserted at (summary_of face.now, loops) (leaves_in self.old)) → steps.new ≤ steps.old + 3 * most_items carriers limit (length known) * length (rows_with at (next_number self.old.whole.shape.leaf_numbers) (next_number self.old.whole.shape.inner_numbers) self.old.whole.shape.tree) }
-    {
-        self.whole.insert(at, (*face, loops), steps);
-    }
-
-    /// The position of the leaf with a body line, from 0, and the line's offset within it. Takes no memory.
-    pub fn leaf_of_line(&self, offset: u32) -> Option<(u32, u64)>
-        requires { IsTree self.now }
-        ensures { result ≡ found_in leaf_lines (leaves_in self.now) offset }
-    {
-        self.whole.find(u64::from(offset))
+        if self.meets(need) {
+            return Ok(());
+        }
+        if need.leaf {
+            self.whole.reserve_insert(&need.rooms)
+        } else {
+            self.whole.reserve(&need.rooms)
+        }
     }
 
     /// Puts another face and table at a position. Takes no memory.
@@ -187,28 +186,73 @@ impl Tree {
         loops: LoopTable,
         steps: &mut Steps<L>,
     )
-        requires kept { IsTree self.old }
-        requires place { at < count_of self.old.whole.shape.tree }
+        requires place { at < length self.old.leaves }
         requires packed { IsPacked face.now }
-        requires sound { AreSound (slice_set (leaves_in self.old) at (summary_of face.now, loops)) }
-        requires need { (needed : List Room) × Meets self.old needed × NeedsToReplace self.old at (kept_room (summary_of face.now)) needed }
-        ensures kept { IsTree self.new }
-        ensures leaves { leaves_in self.new ≡ slice_set (leaves_in self.old) at (summary_of face.now, loops) }
-        ensures steps { (carriers limit : ℕ) (known : List Needle) → AreGoodFor carriers limit known (slice_set (leaves_in self.old) at (summary_of face.now, loops)) → steps.new ≤ steps.old + 3 * most_items carriers limit (length known) * length (rows_above at self.old.whole.shape.tree) }
+        requires sound { AreSound (slice_set self.old.leaves at (summary_of face.now, loops)) }
+        requires room { CanReplace self.old at (summary_of face.now) }
+        ensures leaves { self.new.leaves ≡ slice_set self.old.leaves at (summary_of face.now, loops) }
+        ensures steps { (carriers limit : ℕ) (known : List Needle) → AreGoodFor carriers limit known self.new.leaves → steps.new ≤ steps.old + change_steps (length self.old.leaves) (most_items carriers limit (length known)) }
     {
+        let _len = self.whole.len();
         self.whole.replace(at, (*face, loops), steps);
+    }
+
+    /// Puts one more face and table before a position. Takes no memory.
+    pub fn insert<L: Ledger>(
+        &mut self,
+        at: u32,
+        face: &FaceView,
+        loops: LoopTable,
+        steps: &mut Steps<L>,
+    )
+        requires place { at ≤ length self.old.leaves }
+        requires packed { IsPacked face.now }
+        requires sound { AreSound (inserted at (summary_of face.now, loops) self.old.leaves) }
+        requires room { CanInsert self.old at (summary_of face.now) }
+        ensures leaves { self.new.leaves ≡ inserted at (summary_of face.now, loops) self.old.leaves }
+        ensures steps { (carriers limit : ℕ) (known : List Needle) → AreGoodFor carriers limit known self.new.leaves → steps.new ≤ steps.old + change_steps (length self.new.leaves) (most_items carriers limit (length known)) }
+    {
+        let _len = self.whole.len();
+        self.whole.insert(at, (*face, loops), steps);
     }
 
     /// Takes out the face and table of a position. Takes no memory.
     pub fn remove<L: Ledger>(&mut self, at: u32, steps: &mut Steps<L>)
-        requires kept { IsTree self.old }
-        requires place { at < count_of self.old.whole.shape.tree }
-        requires sound { AreSound (removed at (leaves_in self.old)) }
-        requires need { (needed : List Room) × Meets self.old needed × NeedsToRemove self.old at needed }
-        ensures kept { IsTree self.new }
-        ensures leaves { leaves_in self.new ≡ removed at (leaves_in self.old) }
-        ensures steps { (carriers limit : ℕ) (known : List Needle) → AreGoodFor carriers limit known (removed at (leaves_in self.old)) → steps.new ≤ steps.old + 3 * most_items carriers limit (length known) * length (rows_without at self.old.whole.shape.tree) }
+        requires place { at < length self.old.leaves }
+        requires room { CanRemove self.old at }
+        ensures leaves { self.new.leaves ≡ removed at self.old.leaves }
+        ensures steps { (carriers limit : ℕ) (known : List Needle) → AreGoodFor carriers limit known self.new.leaves → steps.new ≤ steps.old + change_steps (length self.old.leaves) (most_items carriers limit (length known)) }
     {
+        let _len = self.whole.len();
         self.whole.remove(at, steps);
+    }
+
+    /// The position of the leaf with a body line, from 0, and the line's offset within it. Takes no memory.
+    pub fn leaf_of_line(&self, offset: u32) -> Option<(u32, u32)>
+        ensures { result ≡ place_of_line self.now.leaves offset }
+    {
+        match self.whole.find(u64::from(offset)) {
+            Some((at, within)) => Some((at, within as u32)),
+            None => None,
+        }
+    }
+    /// The face and the table of a position. Takes no memory.
+    pub fn leaf(&self, at: u32) -> (FaceView<'_>, &LoopTable)
+        requires { at < length self.now.leaves }
+        ensures leaf { slice_get self.now.leaves at ≡ Some (summary_of result.0, result.1.now) }
+        ensures packed { IsPacked result.0 }
+    {
+        let _len = self.whole.len();
+        let number = self.whole.leaf(at);
+        self.whole.store().leaf(number)
+    }
+
+    /// How many lines stand before the leaf of a position, or in all leaves. Takes no memory.
+    pub fn lines_before(&self, at: u32) -> u32
+        requires { at ≤ length self.now.leaves }
+        ensures { result ≡ lines_of (take at self.now.leaves) }
+    {
+        let _len = self.whole.len();
+        self.whole.count_before(at) as u32
     }
 }

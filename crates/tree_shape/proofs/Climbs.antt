@@ -1,20 +1,20 @@
 -- A climb from a leaf to the root.
-use Rattle.std.proofs.Common.{◌≡◌, ◌≢◌, ℕ, zero, suc, ◌+◌, ◌<◌, ◌≤◌, List, [], ◌∷◌, ◌++◌, length, max, Option, Some, None, refl, sym, ◌∙◌, ap, subst, arith, ◌⊎◌, inl, inr}
+use Rattle.std.proofs.Common.{◌≡◌, ◌≢◌, ℕ, zero, suc, ◌+◌, ◌<◌, ◌≤◌, List, [], ◌∷◌, ◌++◌, length, Some, refl, sym, ◌∙◌, ap, subst, arith, ◌⊎◌, inl, inr}
 use Rattle.std.specs.List.{slice_get}
 use Rattle.std.proofs.lemmas.Option.{slice_get_within}
 use Rattle.tree_shape.specs.declared.climbing.Climb.{Climb}
 use Rattle.tree_shape.specs.declared.node.Child.{Child}
 use Rattle.tree_shape.specs.declared.node.Child.TheVariants.{Leaf, Inner}
 use Rattle.tree_shape.specs.declared.node.Node.{Node}
-use Rattle.tree_shape.specs.Tree.{Tree, leaf, inner, name, height, count, leaves, row_of, Stands, IsTreeAt}
+use Rattle.tree_shape.specs.Tree.{Tree, leaf, inner, name, height, count, leaves, Stands}
 use Rattle.tree_shape.specs.Apply.{times}
 use Rattle.tree_shape.specs.Changes.{IsPart}
 use Rattle.tree_shape.specs.Numbers.{NumbersView, times_in}
 use Rattle.tree_shape.specs.Parents.{ParentsView, parent_in, IsPlaced, AreLinked, IsWhole, IsClimbAt, IsClimb}
 use Rattle.tree_shape.specs.View.{IsSound, IsShape}
 use Rattle.tree_shape.proofs.ArenaTrees.{length_leaves}
-use Rattle.tree_shape.proofs.ParentLinks.{IsEither, same, parts_named, named_there, times_there, part_named, parts_once, root_there}
-use Rattle.tree_shape.proofs.ArenaChanges.{one, one_same}
+use Rattle.tree_shape.proofs.ParentLinks.{IsEither, same, parts_named, named_there, times_there, part_named, parts_once}
+use Rattle.tree_shape.proofs.ArenaChanges.{one_same}
 use Rattle.tree_shape.proofs.Shapes.{part_stands_in, counted_leaves}
 use Rattle.tree_shape.proofs.NumberCounts.{counted_times}
 

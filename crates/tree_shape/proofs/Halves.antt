@@ -1,5 +1,5 @@
 -- A tree built from halves: its numbers, its height and its balance.
-use Rattle.std.proofs.Common.{◌≡◌, ◌≢◌, ℕ, zero, suc, ◌+◌, ◌-◌, ◌^◌, ◌<◌, ◌≤◌, List, [], ◌∷◌, ◌++◌, length, max, Option, Some, None, refl, sym, ◌∙◌, ap, subst, arith, length-append, add-one, ◌⊎◌, inl, inr}
+use Rattle.std.proofs.Common.{◌≡◌, ◌≢◌, ℕ, zero, suc, ◌+◌, ◌-◌, ◌^◌, ◌<◌, ◌≤◌, List, [], ◌∷◌, ◌++◌, length, max, Some, refl, sym, ◌∙◌, ap, subst, arith, length-append, add-one, ◌⊎◌, inl, inr}
 use Rattle.std.specs.List.{All, slice_get}
 use Rattle.std.specs.Prelude.{slice_index_or}
 use Rattle.std.proofs.Math.Nat.{pow-succ'}
@@ -7,18 +7,17 @@ use Rattle.std.proofs.Math.Pow.{pow_mono}
 use Rattle.std.proofs.lemmas.List.{append_assoc}
 use Rattle.std.proofs.lemmas.Bool.{cases_lt}
 use Rattle.std.proofs.lemmas.List.Elements.{All-cons, All-head, All-tail}
-use Rattle.tree_shape.specs.declared.dirty.DirtyRow.{DirtyRow}
 use Rattle.tree_shape.specs.declared.node.Child.{Child}
 use Rattle.tree_shape.specs.declared.node.Child.TheVariants.{Leaf, Inner}
 use Rattle.tree_shape.specs.declared.node.Node.{Node}
-use Rattle.tree_shape.specs.Tree.{Tree, leaf, inner, name, height, count, leaves, inners, row_of, Stands, IsBalanced}
+use Rattle.tree_shape.specs.Tree.{Tree, leaf, inner, name, height, leaves, inners, row_of, Stands}
 use Rattle.tree_shape.specs.Apply.{mark, times}
 use Rattle.tree_shape.specs.Building.{inners_up, numbers_from, IsLeastHeight, IsBuiltFrom}
 use Rattle.tree_shape.specs.Changes.{IsPart, HasChildren, numbers_below}
-use Rattle.tree_shape.specs.Numbers.{NumbersView, times_in, IsCounted}
+use Rattle.tree_shape.specs.Numbers.{times_in, IsCounted}
 use Rattle.tree_shape.specs.Parents.{ParentsView, rows_in, RowIsPlaced, AreLinked, with_parents}
 use Rattle.tree_shape.specs.View.{tree_at, IsSound, IsShape}
-use Rattle.tree_shape.proofs.ArenaChanges.{one, one_same}
+use Rattle.tree_shape.proofs.ArenaChanges.{one}
 use Rattle.tree_shape.proofs.ArenaTrees.{length_leaves}
 use Rattle.tree_shape.proofs.NumberCounts.{times_in-append}
 use Rattle.tree_shape.proofs.ParentLinks.{IsEither, Has, part_times, linked_by, rows_placed}

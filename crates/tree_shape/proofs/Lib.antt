@@ -21,3 +21,4 @@ pub mod HeightBounds
 pub mod ParentLinks
 pub mod Climbs
 pub mod Halves
+pub mod AllRows

@@ -8,14 +8,14 @@ use Rattle.tree_shape.specs.declared.node.Child.{Child}
 use Rattle.tree_shape.specs.declared.node.Child.TheVariants.{Leaf, Inner}
 use Rattle.tree_shape.specs.declared.node.Node.{Node}
 use Rattle.tree_shape.specs.Tree.{Tree, leaf, inner, name, count, leaves, inners, IsBalanced, Stands}
-use Rattle.tree_shape.specs.Changes.{IsPart, IsPartOf, IsListing, BoundsHeight, numbers_below}
+use Rattle.tree_shape.specs.Changes.{IsPart, IsPartOf, IsListing, BoundsHeight}
 use Rattle.tree_shape.specs.declared.dirty.DirtyRow.{DirtyRow}
 use Rattle.tree_shape.specs.Plan.{grown, erase, rows}
 use Rattle.tree_shape.specs.Apply.{mark, times}
 use Rattle.tree_shape.specs.Removal.{shrunk, gone}
 use Rattle.tree_shape.specs.Fewest.{inserted, removed}
 use Rattle.tree_shape.specs.Numbers.{NumbersView, times_in, next_number, taken, given_back, IsCounted}
-use Rattle.tree_shape.specs.View.{ShapeView, tree_at, count_of, leaves_of_tree, inners_of_tree, IsBalancedTree, IsSound, IsRoot, IsShape, IsLawful, IsSameShape, tree_without, inners_without}
+use Rattle.tree_shape.specs.View.{ShapeView, tree_at, count_of, leaves_of_tree, inners_of_tree, IsBalancedTree, IsSound, IsRoot, IsShape, IsLawful, tree_without, inners_without}
 use Rattle.tree_shape.proofs.ArenaTrees.{length_leaves}
 use Rattle.tree_shape.proofs.Insertions.{times_grown, leaves_grown}
 use Rattle.tree_shape.proofs.Removals.{leaves_shrunk, IsInner}

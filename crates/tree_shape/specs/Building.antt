@@ -2,6 +2,9 @@
 use Rattle.std.specs.Prelude.{◌≡◌, ℕ, zero, suc, ◌-◌, ◌<◌, ◌≤◌, ◌^◌, List, [], ◌∷◌, ◌++◌, length, Option, Some, None}
 use Rattle.tree_shape.specs.declared.node.Child.{Child}
 use Rattle.tree_shape.specs.declared.node.Node.{Node}
+use Rattle.tree_shape.specs.declared.node.Side.TheVariants.{Left}
+use Rattle.tree_shape.specs.declared.dirty.DirtyRow.{DirtyRow}
+use Rattle.tree_shape.specs.Plan.{Plan, kept, made, rows}
 use Rattle.tree_shape.specs.Tree.{Tree, leaf, inner, name, height, count, leaves, IsBalanced, Stands}
 
 -- the inner nodes' numbers, each after those below it
@@ -34,3 +37,13 @@ pub record IsBuiltFrom (old new : List Node) (first many : ℕ) (child : Child) 
   pub counted : count t ≡ many
   pub high : IsLeastHeight many (height t)
   pub balanced : IsBalanced t
+
+-- every inner node written
+abbrev pub all_made : Tree → Plan
+all_made (leaf n) = kept (leaf n)
+all_made (inner n l r) = made Left n (all_made l) (all_made r)
+
+-- the rows of all inner nodes, each after those below it
+abbrev pub all_rows : Option Tree → List DirtyRow
+all_rows None = []
+all_rows (Some t) = rows (all_made t)

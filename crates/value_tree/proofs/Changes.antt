@@ -325,7 +325,7 @@ module _ {V R : Type 0} (join : V → V → V) (fits : V → V → Type 0) (cost
 -- The rooms of a change are there.
 module _ {V R : Type 0} (join : V → V → V) (room : V → R) (after : R → R → R) (leaf_at nodes : ℕ → Option V) where
   -- what a part that stays has: its values, if it is an inner node
-  abbrev HasValues : Tree → Type 0
+  abbrev pub HasValues : Tree → Type 0
   HasValues (leaf n) = Unit {0}
   HasValues (inner n l r) = AreThere leaf_at (leaves (inner n l r)) × Keeps join leaf_at nodes (inner n l r)
 
@@ -343,7 +343,7 @@ module _ {V R : Type 0} (join : V → V → V) (room : V → R) (after : R → R
   part_room room_at (leaf n) h = h.0.0
   part_room room_at (inner n l r) h = let v = value_there join leaf_at (inner n l r) h.1.0 in (room v.0, ap (option_map room) (h.1.1.0 ∙ v.1))
 
-  plan_rooms : (room_at : ℕ → Option R) (p : Plan) → ((k : ℕ) → times k (erase p) ≤ 1) → AreThere room_at (leaves (erase p)) → KeptBy HasValues p → (rs : List R) × (map (λ r. Some r) rs ≡ composed_all after room_at (λ k. option_map room (nodes k)) (rows p))
+  pub plan_rooms : (room_at : ℕ → Option R) (p : Plan) → ((k : ℕ) → times k (erase p) ≤ 1) → AreThere room_at (leaves (erase p)) → KeptBy HasValues p → (rs : List R) × (map (λ r. Some r) rs ≡ composed_all after room_at (λ k. option_map room (nodes k)) (rows p))
   plan_rooms room_at p once there h =
       let w = rooms_there after room_at (λ k. option_map room (nodes k)) p once (kept_weaker _ _ (part_room room_at) p (kept_both (λ t. AreThere room_at (leaves t)) HasValues p (kept_there (λ a b. a) room_at p there) h)) in
       (w.rs, w.all)
@@ -352,7 +352,7 @@ module _ {V R : Type 0} (join : V → V → V) (room : V → R) (after : R → R
   rooms_over n r [] h = tt
   rooms_over n r (m ∷ ns) h = (elim (set_node (λ k. option_map room (leaf_at k)) n (Some r) m) [ inl w ↦ (r, w.1) | inr w ↦ (room h.0.0, w.1 ∙ ap (option_map room) h.0.1) ], rooms_over n r ns h.1)
 
-  rooms_plain : (ns : List ℕ) → AreThere leaf_at ns → AreThere (λ k. option_map room (leaf_at k)) ns
+  pub rooms_plain : (ns : List ℕ) → AreThere leaf_at ns → AreThere (λ k. option_map room (leaf_at k)) ns
   rooms_plain [] h = tt
   rooms_plain (m ∷ ns) h = ((room h.0.0, ap (option_map room) h.0.1), rooms_plain ns h.1)
 

@@ -1,4 +1,7 @@
+pub mod LeafLists
 pub mod Changes
 pub mod Offsets
+pub mod Descents
+pub mod Starts
 pub mod Needs
 pub mod Sums

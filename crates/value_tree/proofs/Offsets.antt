@@ -14,6 +14,7 @@ use Rattle.tree_shape.specs.View.{count_of, leaves_of_tree, height_of_tree}
 use Rattle.tree_shape.proofs.NodeValues.{value_of_child}
 use Rattle.tree_shape.proofs.PlanSteps.{standing, gathered-append, there_front, there_back}
 use Rattle.tree_shape.proofs.ArenaTrees.{length_leaves}
+use Rattle.value_tree.proofs.LeafLists.{length_gathered}
 use Rattle.value_tree.specs.Found.{further, total, found_in}
 use Rattle.value_tree.specs.Walk.{IsWalkAt, IsWalk}
 use Rattle.value_tree.specs.declared.find.Walk.{Walk}
@@ -27,7 +28,7 @@ further_none None = refl
 further_none (Some p) = ap (λ k. Some (k, p.1)) (omega arith)
 
 module _ {V : Type 0} (counts : V → ℕ) where
-  total-append : (xs ys : List V) → total counts (xs ++ ys) ≡ total counts xs + total counts ys
+  pub total-append : (xs ys : List V) → total counts (xs ++ ys) ≡ total counts xs + total counts ys
   total-append [] ys = omega arith
   total-append (x ∷ xs) ys = omega (arith, total-append xs ys)
 
@@ -65,9 +66,21 @@ module _ {V : Type 0} (counts : V → ℕ) where
   found_past [] n h = refl
   found_past (x ∷ xs) n h = found_no x xs n (omega arith) ∙ ap (further 1) (found_past xs (n - counts x) (omega arith))
 
+  -- the offset within a value is no greater than that among all
+  pub found_within : (xs : List V) (n : ℕ) (p : ℕ × ℕ) → found_in counts xs n ≡ Some p → p.1 ≤ n
+  found_within [] n p e = cc (e)
+  found_within (x ∷ xs) n p e = elim (cases_lt n (counts x)) [
+    | inl w ↦ let is : (0, n) ≡ p = let both : Some (0, n) ≡ Some p = sym (found_yes x xs n w) ∙ e in cc (both) in omega (arith, ap (λ (q : ℕ × ℕ). q.1) is)
+    | inr w ↦ later (found_in counts xs (n - counts x)) (found_within xs (n - counts x)) (sym (found_no x xs n w) ∙ e)
+  ]
+    where
+      later : (o : Option (ℕ × ℕ)) → ((q : ℕ × ℕ) → o ≡ Some q → q.1 ≤ n - counts x) → further 1 o ≡ Some p → p.1 ≤ n
+      later None h f = cc (f)
+      later (Some q) h f = let is : (1 + q.0, q.1) ≡ p = cc (f) in omega (arith, h q refl, ap (λ (r : ℕ × ℕ). r.1) is)
+
 module _ {V : Type 0} (join : V → V → V) (fits : V → V → Type 0) (cost : V → ℕ) (counts : V → ℕ) (leaf_at node_at : ℕ → Option V) (law : (a b : V) → fits a b → counts (join a b) ≡ counts a + counts b) where
   -- a value counts what its leaves count
-  total_is : (each : ℕ) (t : Tree) (v : V) → Fit join fits cost each leaf_at t → value join leaf_at t ≡ Some v → counts v ≡ total counts (gathered leaf_at (leaves t))
+  pub total_is : (each : ℕ) (t : Tree) (v : V) → Fit join fits cost each leaf_at t → value join leaf_at t ≡ Some v → counts v ≡ total counts (gathered leaf_at (leaves t))
   total_is each (leaf n) v f e =
       let only : gathered leaf_at (n ∷ []) ≡ v ∷ [] = ap (λ o. joined_on o []) e in
       omega (arith, ap (total counts) only)
@@ -76,7 +89,7 @@ module _ {V : Type 0} (join : V → V → V) (fits : V → V → Type 0) (cost :
       let is : join f.0 f.1 ≡ v = cc (one) in
       omega (arith, ap counts is, law f.0 f.1 f.4, total_is each l f.0 f.6 f.2, total_is each r f.1 f.7 f.3, ap (total counts) (gathered-append leaf_at (leaves l) (leaves r)), total-append counts (gathered leaf_at (leaves l)) (gathered leaf_at (leaves r)))
 
-  part_self : (t : Tree) → IsPart t t
+  pub part_self : (t : Tree) → IsPart t t
   part_self (leaf n) = refl
   part_self (inner n l r) = inl refl
 
@@ -92,19 +105,15 @@ module _ {V : Type 0} (join : V → V → V) (fits : V → V → Type 0) (cost :
   part_right n l r (inner m a b) (inr (inl p)) = inr (inl (part_right n l r a p))
   part_right n l r (inner m a b) (inr (inr p)) = inr (inr (part_right n l r b p))
 
-  left_of : (n : ℕ) (l r : Tree) (o : Option Tree) → IsPartOf (inner n l r) o → IsPartOf l o
+  pub left_of : (n : ℕ) (l r : Tree) (o : Option Tree) → IsPartOf (inner n l r) o → IsPartOf l o
   left_of n l r None p = p
   left_of n l r (Some t) p = part_left n l r t p
 
-  right_of : (n : ℕ) (l r : Tree) (o : Option Tree) → IsPartOf (inner n l r) o → IsPartOf r o
+  pub right_of : (n : ℕ) (l r : Tree) (o : Option Tree) → IsPartOf (inner n l r) o → IsPartOf r o
   right_of n l r None p = p
   right_of n l r (Some t) p = part_right n l r t p
 
-  length_gathered : (ns : List ℕ) → AreThere leaf_at ns → length (gathered leaf_at ns) ≡ length ns
-  length_gathered [] h = refl
-  length_gathered (n ∷ ns) h = omega (arith, ap (λ o. length (joined_on o (gathered leaf_at ns))) h.0.1, length_gathered ns h.1)
-
-  opened : (n : ℕ) (child : Child) (t : Tree) → child ≡ name t → child ≡ Inner n → (l : Tree) × (r : Tree) × (t ≡ inner n l r)
+  pub opened : (n : ℕ) (child : Child) (t : Tree) → child ≡ name t → child ≡ Inner n → (l : Tree) × (r : Tree) × (t ≡ inner n l r)
   opened n child (leaf m) e f = let no : Leaf m ≡ Inner n = sym e ∙ f in cc (no)
   opened n child (inner m l r) e f = let same : Inner m ≡ Inner n = sym e ∙ f in let is : m ≡ n = cc (same) in (l, r, ap (λ k. inner k l r) is)
 
@@ -150,7 +159,7 @@ module _ {V : Type 0} (join : V → V → V) (fits : V → V → Type 0) (cost :
         let ys = gathered leaf_at (leaves r) in
         let split = gathered-append leaf_at (leaves l) (leaves r) in
         let past : total counts xs ≤ walk.left = omega (arith, near_counts, h, here_is) in
-        let before : length xs ≡ below = length_gathered (leaves l) (there_front leaf_at (leaves l) (leaves r) w.there) ∙ (length_leaves l ∙ sym below_is) in
+        let before : length xs ≡ below = length_gathered leaf_at (leaves l) (there_front leaf_at (leaves l) (leaves r) w.there) ∙ (length_leaves l ∙ sym below_is) in
         let left : walk.left - total counts xs ≡ walk.left - here = ap (λ k. walk.left - k) (sym (here_is ∙ near_counts)) in
         record {
           named = e;

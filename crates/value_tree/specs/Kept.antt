@@ -1,5 +1,5 @@
 -- What always holds of a tree with its values, and the rooms that a change needs.
-use Rattle.std.specs.Prelude.{◌≡◌, ℕ, ◌≤◌, List, [], ◌∷◌, ◌++◌, map, slice_index, Option, Some}
+use Rattle.std.specs.Prelude.{◌≡◌, ℕ, ◌<◌, ◌≤◌, true, List, [], ◌∷◌, ◌++◌, map, slice_index, Option, Some}
 use Rattle.std.specs.Option.{option_map}
 use Rattle.tree_shape.specs.Numbers.{next_number}
 use Rattle.tree_shape.specs.declared.dirty.DirtyRow.{DirtyRow}
@@ -13,6 +13,12 @@ pub record IsKept {V : Type 0} (join : V → V → V) (sound : List V → Type 0
   pub keeps : KeepsAll join leaf_at node_at shape.tree
   pub leaf_slots : shape.leaf_numbers.drawn ≤ slots
   pub inner_slots : shape.inner_numbers.drawn ≤ slots
+
+-- there is a place for one more leaf and one more inner node
+pub record HasLeafPlace (slots : ℕ) (shape : ShapeView) : Type 0 where
+  pub room : shape.room ≡ true
+  pub leaf : shape.leaf_numbers.drawn < slots
+  pub inner : shape.inner_numbers.drawn < slots
 
 -- the rooms of a change: for each row that of the node, found from those of its parts, and then some more
 abbrev pub IsNeed : {R : Type 0} → (R → R → R) → (ℕ → Option R) → (ℕ → Option R) → List DirtyRow → List R → List R → Type 0

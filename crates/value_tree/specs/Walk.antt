@@ -1,10 +1,11 @@
--- A walk down a tree to the leaf that has an offset.
-use Rattle.std.specs.Prelude.{◌≡◌, ℕ, ◌+◌, ◌<◌, ◌≤◌, Option}
+-- Walks down a tree: to the leaf that has an offset, and to a position.
+use Rattle.std.specs.Prelude.{◌≡◌, ℕ, ◌+◌, ◌<◌, ◌≤◌, take, Option}
 use Rattle.tree_shape.specs.Tree.{Tree, name, leaves, height, count}
 use Rattle.tree_shape.specs.Changes.{IsPartOf}
 use Rattle.tree_shape.specs.Values.{AreThere, Keeps, gathered}
 use Rattle.tree_shape.specs.Composing.{Fit}
 use Rattle.value_tree.specs.Found.{total, found_in, further}
+use Rattle.value_tree.specs.declared.before.Descent.{Descent}
 use Rattle.value_tree.specs.declared.find.Walk.{Walk}
 
 module _ {V : Type 0} (join : V → V → V) (fits : V → V → Type 0) (cost : V → ℕ) (counts : V → ℕ) (leaf_at node_at : ℕ → Option V) where
@@ -22,3 +23,17 @@ module _ {V : Type 0} (join : V → V → V) (fits : V → V → Type 0) (cost :
 
   abbrev pub IsWalk : Option Tree → Option (ℕ × ℕ) → ℕ → ℕ → Walk → Type 0
   IsWalk tree whole done high walk = (each : ℕ) × (t : Tree) × IsWalkAt tree whole done high walk each t
+
+  -- on the way to a position: after so many steps of at most so many, it has come to this part of the tree, and this is what all leaves before the position count
+  pub record IsDescentAt (tree : Option Tree) (whole done high : ℕ) (descent : Descent) (each : ℕ) (t : Tree) : Type 0 where
+    pub named : descent.child ≡ name t
+    pub part : IsPartOf t tree
+    pub keeps : Keeps join leaf_at node_at t
+    pub fit : Fit join fits cost each leaf_at t
+    pub inside : descent.at < count t
+    pub counted : whole ≡ descent.before + total counts (take descent.at (gathered leaf_at (leaves t)))
+    pub low : height t + done ≤ high
+    pub there : AreThere leaf_at (leaves t)
+
+  abbrev pub IsDescent : Option Tree → ℕ → ℕ → ℕ → Descent → Type 0
+  IsDescent tree whole done high descent = (each : ℕ) × (t : Tree) × IsDescentAt tree whole done high descent each t

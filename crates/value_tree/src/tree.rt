@@ -1,17 +1,21 @@
 //! The tree: its shape, and the values at its leaves and inner nodes.
-ghost use Rattle.std.specs.Prelude.{◌≡◌, ℕ, ◌+◌, ◌*◌, ◌<◌, ◌≤◌, List, [], ◌∷◌, length, Option, Some, true, slice_index, slice_set, OnOk, IsOk, IfSome, IsNone, ◌↔◌};
+ghost use Rattle.std.specs.Prelude.{◌≡◌, ℕ, ◌+◌, ◌*◌, ◌<◌, ◌≤◌, List, [], ◌∷◌, length, take, Option, Some, true, slice_index, slice_set, OnOk, IfOk, IsOk, IfSome, IsNone, ◌↔◌};
+ghost use Rattle.std.specs.List.{slice_get};
 ghost use Rattle.std.specs.Option.{option_map};
-ghost use Rattle.tree_shape.specs.Fewest.{inserted, removed};
+ghost use Rattle.tree_shape.specs.Fewest.{highest, inserted, removed};
 ghost use Rattle.tree_shape.specs.Numbers.{next_number};
 ghost use Rattle.tree_shape.specs.View.{ShapeView, IsSameShape, count_of, leaves_of_tree, rows_above, rows_with, rows_without};
 ghost use Rattle.tree_shape.specs.Composing.{Costs};
-ghost use Rattle.tree_shape.specs.Values.{leaf_values, part, with_node};
-ghost use Rattle.value_tree.specs.Found.{found_in};
-ghost use Rattle.value_tree.specs.Kept.{IsKept, IsReplaceNeed, IsInsertNeed, IsRemoveNeed, KeepsNeeds};
+ghost use Rattle.tree_shape.specs.Values.{AreThere, gathered, leaf_values, part, with_node};
+ghost use Rattle.tree_shape.specs.Changes.{numbers_below};
+ghost use Rattle.value_tree.specs.Found.{found_in, total};
+ghost use Rattle.value_tree.specs.Kept.{HasLeafPlace, IsKept, IsReplaceNeed, IsInsertNeed, IsRemoveNeed, KeepsNeeds};
 
+use crate::before::{Descent, descend};
 use crate::find::{Counts, Walk, step};
 use crate::need::{NewLeaf, need_of};
 use crate::refresh::refresh;
+use crate::start::compose_all;
 use crate::values::{Takes, Values};
 use knit_base::{NoMemory, Steps};
 use std::alloc::Global;
@@ -39,6 +43,7 @@ impl<S: Values> ValueTree<S> {
         ensures leaves { leaf_values (S.leaf_at self.new.store) self.new.shape.tree ≡ slice_set (leaf_values (S.leaf_at self.old.store) self.old.shape.tree) at (S.value_of leaf) }
         ensures shape { self.new.shape ≡ self.old.shape }
         ensures steps { (each : ℕ) → Costs S.stands S.cost each (slice_set (leaf_values (S.leaf_at self.old.store) self.old.shape.tree) at (S.value_of leaf)) → steps.new ≤ steps.old + 3 * each * length (rows_above at self.old.shape.tree) }
+        ensures rows { length (rows_above at self.old.shape.tree) ≤ highest (count_of self.old.shape.tree) }
     {
         let mut dirty = Dirty::new();
         let _len = self.shape.len();
@@ -66,6 +71,7 @@ impl<S: Values> ValueTree<S> {
         ensures number { result ≡ next_number self.old.shape.leaf_numbers }
         ensures numbers { leaves_of_tree self.new.shape.tree ≡ inserted at result (leaves_of_tree self.old.shape.tree) }
         ensures steps { (each : ℕ) → Costs S.stands S.cost each (inserted at (S.value_of leaf) (leaf_values (S.leaf_at self.old.store) self.old.shape.tree)) → steps.new ≤ steps.old + 3 * each * length (rows_with at (next_number self.old.shape.leaf_numbers) (next_number self.old.shape.inner_numbers) self.old.shape.tree) }
+        ensures rows { length (rows_with at (next_number self.old.shape.leaf_numbers) (next_number self.old.shape.inner_numbers) self.old.shape.tree) ≤ 3 * (highest (count_of self.new.shape.tree) + 2) }
     {
         let mut dirty = Dirty::new();
         let _before = self.shape.len();
@@ -87,6 +93,7 @@ impl<S: Values> ValueTree<S> {
         ensures number { result ≡ slice_index (leaves_of_tree self.old.shape.tree) at }
         ensures numbers { leaves_of_tree self.new.shape.tree ≡ removed at (leaves_of_tree self.old.shape.tree) }
         ensures steps { (each : ℕ) → Costs S.stands S.cost each (removed at (leaf_values (S.leaf_at self.old.store) self.old.shape.tree)) → steps.new ≤ steps.old + 3 * each * length (rows_without at self.old.shape.tree) }
+        ensures rows { length (rows_without at self.old.shape.tree) ≤ 3 * (highest (count_of self.old.shape.tree) + 2) }
     {
         let mut dirty = Dirty::new();
         let _before = self.shape.len();
@@ -200,11 +207,44 @@ impl<S: Values> ValueTree<S> {
         }
     }
 
+    /// A tree of leaves that have their values already, by their numbers, which are those below a count, in order. Composes the
+    /// value of each inner node once. Fails where memory runs out.
+    pub fn build<L: Ledger>(
+        alloc: Global,
+        mut store: S,
+        leaves: u32,
+        steps: &mut Steps<L>,
+    ) -> Result<ValueTree<S>, NoMemory>
+        requires few { leaves ≤ 65536 }
+        requires places { leaves ≤ S.slots store }
+        requires there { AreThere (S.leaf_at store) (numbers_below leaves) }
+        requires sound { S.sound (gathered (S.leaf_at store) (numbers_below leaves)) }
+        ensures kept { IfOk result (λ tree. IsKept S.join S.sound (S.leaf_at tree.store) (S.node_at tree.store) (S.slots tree.store) tree.shape) }
+        ensures leaves { IfOk result (λ tree. leaf_values (S.leaf_at tree.store) tree.shape.tree ≡ gathered (S.leaf_at store) (numbers_below leaves)) }
+        ensures steps { (each : ℕ) → Costs S.stands S.cost each (gathered (S.leaf_at store) (numbers_below leaves)) → steps.new ≤ steps.old + 3 * each * leaves }
+    {
+        let shape = Shape::build(alloc, leaves)?;
+        let _len = shape.len();
+        compose_all(&mut store, &shape, steps)?;
+        Ok(ValueTree { shape, store })
+    }
+
     /// The number of leaves.
     pub fn len(&self) -> u32
-        ensures { result ≡ count_of self.now.shape.tree }
+        ensures len { result ≡ count_of self.now.shape.tree }
+        ensures few { result ≤ 65536 }
     {
         self.shape.len()
+    }
+
+    /// Whether there is a place for one more leaf and one more inner node.
+    pub fn has_place(&self) -> bool
+        ensures { (result ≡ true) ↔ HasLeafPlace (S.slots self.now.store) self.now.shape }
+    {
+        let places = self.store.places();
+        let leaves = u64::from(self.shape.leaf_numbers());
+        let inners = u64::from(self.shape.inner_numbers());
+        self.shape.has_room() && leaves < places && inners < places
     }
 
     /// The root, if there is a leaf: what it has stands for all leaves.
@@ -239,6 +279,42 @@ impl<S: Values> ValueTree<S> {
             walk = step(&self.shape, &self.store, walk);
         }
         Some((walk.at, walk.left))
+    }
+
+    /// What the leaves before a position count.
+    pub fn count_before(&self, at: u32) -> u64
+    where
+        S: Counts,
+        requires kept { IsKept S.join S.sound (S.leaf_at self.now.store) (S.node_at self.now.store) (S.slots self.now.store) self.now.shape }
+        requires place { at ≤ count_of self.now.shape.tree }
+        ensures { result ≡ total S.count (take at (leaf_values (S.leaf_at self.now.store) self.now.shape.tree)) }
+    {
+        let leaves = self.shape.len();
+        let Some(root) = self.shape.root() else {
+            return 0;
+        };
+        let all = self.store.count_of(root);
+        if leaves <= at {
+            return all;
+        }
+        let mut descent = Descent {
+            child: root,
+            at,
+            before: 0,
+        };
+        for _i in 0..self.shape.height() {
+            descent = descend(&self.shape, &self.store, descent);
+        }
+        descent.before
+    }
+
+    /// The number of the leaf at a position.
+    pub fn leaf(&self, at: u32) -> u32
+        requires kept { IsKept S.join S.sound (S.leaf_at self.now.store) (S.node_at self.now.store) (S.slots self.now.store) self.now.shape }
+        requires place { at < count_of self.now.shape.tree }
+        ensures { (v : S.Value) × (S.leaf_at self.now.store result ≡ Some v) × (slice_get (leaf_values (S.leaf_at self.now.store) self.now.shape.tree) at ≡ Some v) }
+    {
+        self.shape.leaf(at)
     }
 
     /// The values, by the numbers of leaves and inner nodes.

@@ -118,6 +118,10 @@ pub trait Values: Drop {
         ensures slots { slots self.new ≡ slots self.old }
         ensures memory { (needed : List Self.Room) → meets self.old needed → meets self.new needed };
 
+    /// For how many numbers of leaves and of inner nodes there is a place.
+    fn places(&self) -> u64
+        ensures { result ≡ slots self.now };
+
     /// Makes a place for so many leaves and inner nodes. Fails where memory runs out, with the same values.
     fn reserve_slots(&mut self, many: u32) -> Result<(), NoMemory>
         ensures ok { OnOk result (many ≤ slots self.new) }

@@ -138,6 +138,12 @@ impl Values for Sums {
 
     fn clear_node(&mut self, _number: u32) {}
 
+    fn places(&self) -> u64 {
+        let leaves = self.leaves.len() as u64;
+        let nodes = self.nodes.len() as u64;
+        leaves.min(nodes)
+    }
+
     fn reserve_slots(&mut self, many: u32) -> Result<(), NoMemory> {
         lengthen(&mut self.leaves, many)?;
         lengthen(&mut self.nodes, many)

@@ -1,5 +1,5 @@
-use Rattle.std.proofs.Common.{◌≡◌, ℕ, subst, arith}
-use Rattle.tree_shape.specs.Tree.{Tree, height}
+use Rattle.std.proofs.Common.{◌≡◌, subst, arith}
+use Rattle.tree_shape.specs.Tree.{height}
 use Rattle.tree_shape.specs.Parents.{parents_of, IsClimb}
 use Rattle.tree_shape.proofs.Climbs.{begun, arrived}
 use Rattle.tree_shape.proofs.climbing.climbed.Goals as goal

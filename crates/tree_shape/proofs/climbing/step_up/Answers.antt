@@ -1,12 +1,11 @@
-use Rattle.std.proofs.Common.{◌≡◌, ℕ, List, Some, refl, sym, ◌∙◌, ap, arith}
-use Rattle.tree_shape.specs.declared.climbing.Climb.{Climb}
+use Rattle.std.proofs.Common.{◌≡◌, ℕ, List, Some, sym, ◌∙◌, ap, arith}
 use Rattle.tree_shape.specs.declared.node.Child.{Child}
 use Rattle.tree_shape.specs.declared.node.Child.TheVariants.{Inner}
 use Rattle.tree_shape.specs.declared.node.Node.{Node}
 use Rattle.std.specs.List.{slice_get}
 use Rattle.tree_shape.specs.Tree.{Tree, inner, name, row_of}
-use Rattle.tree_shape.specs.Parents.{ParentsView, parents_of, parent_in, IsWhole, IsClimb}
-use Rattle.tree_shape.proofs.Climbs.{IsUnder, under, up_left, up_right, up_few, stays}
+use Rattle.tree_shape.specs.Parents.{ParentsView, parents_of, parent_in}
+use Rattle.tree_shape.proofs.Climbs.{under, up_left, up_right, up_few, stays}
 use Rattle.tree_shape.proofs.climbing.step_up.Goals as goal
 
 number_is : (v : ParentsView) (child : Child) (a n : ℕ) → parent_in v child ≡ Some a → parent_in v child ≡ Some n → a ≡ n

@@ -1,10 +1,11 @@
-use Rattle.std.proofs.Common.{◌≡◌, ◌+◌, ◌<◌, ℕ, [], drop, length, refl, sym, ◌∙◌, ap, arith}
+use Rattle.std.proofs.Common.{◌≡◌, ◌<◌, [], drop, length, refl, sym, ◌∙◌, ap, arith}
 use Rattle.std.proofs.Math.Seq.{drop-length}
 use Rattle.tree_shape.specs.declared.dirty.DirtyRow.{DirtyRow}
 use Rattle.tree_shape.specs.Values.{refreshed}
 use Rattle.tree_shape.specs.Composing.{spent}
 use Rattle.tree_shape.proofs.Rows.{some_row}
 use Rattle.tree_shape.proofs.RowWalks.{next_of, all_get}
+use Rattle.value_tree.proofs.Starts.{steps_moved}
 use Rattle.value_tree.proofs.refresh.refresh.Goals as goal
 use Rattle.value_tree.proofs.refresh.refresh.Goals.{in-Some, in_default}
 
@@ -29,9 +30,6 @@ compose-requires g c =
       parts = (n.a, n.b, n.left, n.right, n.fit, n.r, n.rooms, n.enough, n.meets_rest);
     }
 
-moved : (steps now start all left spent left_then : ℕ) → steps + left ≡ start + all → now ≡ steps + spent → left ≡ spent + left_then → now + left_then ≡ start + all
-moved steps now start all left spent left_then e f h = omega (arith, e, f, h)
-
 pub loop-i-preserved : goal.loop-i-preserved
 loop-i-preserved g c =
     elim c.match-get.branch [
@@ -43,7 +41,7 @@ loop-i-preserved g c =
             underway = (
               n.left_then,
               rw w.store-is (n.goes_on (g.S.Values.meets w.compose.new.self) (g.S.Values.leaf_at w.compose.new.self) (g.S.Values.node_at w.compose.new.self) w.compose.ensures.node w.compose.ensures.others w.compose.ensures.leaves more),
-              moved _ _ _ _ _ _ _ u.2 (w.steps-is ∙ w.compose.ensures.cost n.a n.b n.left n.right) n.steps,
+              steps_moved _ _ _ _ _ _ _ u.2 (w.steps-is ∙ w.compose.ensures.cost n.a n.b n.left n.right) n.steps,
             );
             slots = rw w.store-is (w.compose.ensures.slots ∙ c.loop-i.invariant.slots);
           }

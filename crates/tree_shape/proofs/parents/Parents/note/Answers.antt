@@ -1,6 +1,5 @@
-use Rattle.std.proofs.Common.{◌≡◌, ◌+◌, ℕ, suc, ◌∷◌, drop, length, Some, sym, ◌∙◌, ap, subst, arith, add-one}
-use Rattle.tree_shape.specs.declared.dirty.DirtyRow.{DirtyRow}
-use Rattle.tree_shape.specs.Parents.{ParentsView, parents_of, with_parent, with_parents, IsPlaced, RowIsPlaced}
+use Rattle.std.proofs.Common.{◌≡◌, ◌+◌, ◌∷◌, drop, length, sym, ◌∙◌, ap, arith, add-one}
+use Rattle.tree_shape.specs.Parents.{ParentsView, parents_of, with_parent, with_parents, RowIsPlaced}
 use Rattle.tree_shape.proofs.Rows.{next_row, some_row}
 use Rattle.tree_shape.proofs.RowWalks.{all_get}
 use Rattle.tree_shape.proofs.parents.Parents.note.Goals as goal

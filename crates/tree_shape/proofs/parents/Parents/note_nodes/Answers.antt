@@ -1,9 +1,9 @@
-use Rattle.std.proofs.Common.{◌≡◌, ◌+◌, ℕ, suc, ◌∷◌, drop, length, Some, sym, ◌∙◌, ap, subst, arith, add-one}
+use Rattle.std.proofs.Common.{◌≡◌, suc, ◌∷◌, drop, length, sym, ◌∙◌, ap, add-one}
 use Rattle.std.specs.Prelude.{slice_index_or}
 use Rattle.std.proofs.Math.Seq.{drop-cons}
 use Rattle.tree_shape.specs.declared.node.Child.TheVariants.{Leaf}
 use Rattle.tree_shape.specs.declared.node.Node.{Node}
-use Rattle.tree_shape.specs.Parents.{ParentsView, parents_of, with_parent, with_parents, IsPlaced, RowIsPlaced, rows_in}
+use Rattle.tree_shape.specs.Parents.{ParentsView, parents_of, with_parent, with_parents, rows_in}
 use Rattle.tree_shape.proofs.Halves.{placed_at}
 use Rattle.tree_shape.proofs.parents.Parents.note_nodes.Goals as goal
 

@@ -1,4 +1,4 @@
-use Rattle.std.proofs.Common.{◌≡◌, ◌≤◌, drop, length}
+use Rattle.std.proofs.Common.{◌≡◌, drop, length}
 use Rattle.tree_shape.specs.Parents.{parents_of, with_parents, rows_in}
 use Rattle.tree_shape.proofs.parents.Parents.note_nodes.Given as goal
 

@@ -1,7 +1,7 @@
-use Rattle.std.proofs.Common.{◌≡◌, ◌≤◌, ◌+◌, ◌-◌, ℕ, List, [], length, Some, sym, ◌∙◌, ap, subst, arith}
+use Rattle.std.proofs.Common.{◌≡◌, ◌+◌, ◌-◌, List, length, Some, sym, ◌∙◌, ap, subst, arith}
 use Rattle.std.specs.List.{All}
 use Rattle.tree_shape.specs.declared.node.Node.{Node}
-use Rattle.tree_shape.specs.Numbers.{NumbersView, numbers_of}
+use Rattle.tree_shape.specs.Numbers.{NumbersView}
 use Rattle.tree_shape.specs.Parents.{ParentsView, parents_of, rows_in, with_parents, RowIsPlaced, AreLinked}
 use Rattle.tree_shape.specs.View.{tree_at}
 use Rattle.tree_shape.proofs.Halves.{built_shape, built_linked}

@@ -1,12 +1,10 @@
-use Rattle.std.proofs.Common.{◌≡◌, ℕ, List, Some, sym, ◌∙◌, ap, subst, arith}
+use Rattle.std.proofs.Common.{List, Some, sym, ◌∙◌, ap, subst}
 use Rattle.std.specs.List.{slice_get}
 use Rattle.tree_shape.specs.declared.node.Node.{Node}
 use Rattle.tree_shape.specs.Numbers.{numbers_of}
 use Rattle.tree_shape.specs.Parents.{parents_of, AreLinked, IsWhole}
-use Rattle.tree_shape.specs.Tree.{leaves}
 use Rattle.tree_shape.specs.View.{ShapeView, leaves_of_tree}
-use Rattle.tree_shape.proofs.NumberCounts.{counted_times}
-use Rattle.tree_shape.proofs.Shapes.{tree_below, counted_leaves}
+use Rattle.tree_shape.proofs.Shapes.{tree_below}
 use Rattle.tree_shape.proofs.Climbs.{whole_of}
 use Rattle.tree_shape.proofs.shape.Shape.position.Goals as goal
 

@@ -1,4 +1,4 @@
-use Rattle.std.proofs.Common.{◌≡◌, ◌≤◌, ℕ, sym, ◌∙◌, ap, subst, arith}
+use Rattle.std.proofs.Common.{ap, arith}
 use Rattle.std.specs.Option.{option_map}
 use Rattle.tree_shape.specs.Numbers.{NumbersView}
 use Rattle.tree_shape.specs.Parents.{parents_of}

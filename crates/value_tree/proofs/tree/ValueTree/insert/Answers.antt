@@ -1,14 +1,16 @@
-use Rattle.std.proofs.Common.{◌≡◌, ◌≤◌, Some, refl, sym, ◌∙◌, ap, subst, arith}
+use Rattle.std.proofs.Common.{◌≡◌, ◌≤◌, length, Some, refl, sym, ◌∙◌, ap, subst, arith}
 use Rattle.tree_shape.specs.Tree.{leaves}
 use Rattle.tree_shape.specs.Plan.{erase}
 use Rattle.tree_shape.specs.Numbers.{NumbersView, next_number}
-use Rattle.tree_shape.specs.View.{leaves_of_tree, tree_with}
-use Rattle.tree_shape.specs.Values.{gathered, leaf_values, refreshed}
+use Rattle.tree_shape.specs.View.{count_of, leaves_of_tree, tree_with}
+use Rattle.tree_shape.specs.Values.{refreshed}
 use Rattle.tree_shape.specs.Composing.{Costs, spent}
 use Rattle.tree_shape.proofs.NumberCounts.{fresh, next_place}
 use Rattle.tree_shape.proofs.Shapes.{taken_drawn}
 use Rattle.tree_shape.proofs.PlanSteps.{gathered_same}
 use Rattle.value_tree.proofs.Changes.{once_of, placed_all, inners_drawn, insert_any, ended}
+use Rattle.tree_shape.specs.Fewest.{highest}
+use Rattle.tree_shape.proofs.HeightBounds.{highest_bounds}
 use Rattle.value_tree.proofs.tree.ValueTree.insert.Goals as goal
 
 pub set_leaf-requires-clause-place : goal.set_leaf-requires-clause-place
@@ -76,4 +78,5 @@ returns g c =
           rw step.2 (omega (arith, few, c.refresh.ensures.steps, ap (spent g.S.Values.join g.S.Values.cost then nodes) (c.insert-number.ensures.listed ∙ step.2)));
       number = c.insert-number.ensures.number;
       numbers = c.insert-number.ensures.leaves;
+      rows = let n = count_of after_shape.tree in omega (arith, c.insert-number.ensures.few (highest n) (highest_bounds n), ap length c.insert-number.ensures.listed);
     }

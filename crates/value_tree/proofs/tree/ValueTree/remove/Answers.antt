@@ -16,6 +16,8 @@ use Rattle.tree_shape.specs.View.{tree_without}
 use Rattle.tree_shape.proofs.ArenaChanges.{one_same}
 use Rattle.tree_shape.proofs.Shapes.{times_removed}
 use Rattle.value_tree.proofs.Changes.{some_tree, once_of, leaf_once, placed_all, inners_back, values_same, removal, kept_end}
+use Rattle.tree_shape.specs.Fewest.{highest}
+use Rattle.tree_shape.proofs.HeightBounds.{highest_bounds}
 use Rattle.value_tree.proofs.tree.ValueTree.remove.Goals as goal
 
 pub refresh-requires-clause-places : goal.refresh-requires-clause-places
@@ -87,4 +89,5 @@ returns g c =
           subst (λ v. c.refresh.new.steps ≤ c.args.steps.now + 3 * each * length v) same_rows bound;
       number = c.remove-number.ensures.number;
       numbers = c.remove-number.ensures.leaves;
+      rows = let n = count_of c.args.self.now.shape.tree in omega (arith, c.remove-number.ensures.few (highest n) (highest_bounds n), ap length c.remove-number.ensures.listed);
     }

@@ -1,7 +1,7 @@
-use Rattle.std.proofs.Common.{◌≡◌, ◌<◌, Some, refl, sym, ◌∙◌, ap, subst, arith}
+use Rattle.std.proofs.Common.{◌≡◌, ◌<◌, length, Some, refl, sym, ◌∙◌, ap, subst, arith}
 use Rattle.std.specs.Prelude.{slice_index, slice_set}
 use Rattle.tree_shape.specs.Tree.{count, leaves}
-use Rattle.tree_shape.specs.Plan.{rows, erase}
+use Rattle.tree_shape.specs.Plan.{rows}
 use Rattle.tree_shape.specs.Removal.{touched}
 use Rattle.tree_shape.specs.Numbers.{IsCounted}
 use Rattle.tree_shape.specs.View.{count_of, leaves_of_tree, rows_above}
@@ -11,6 +11,8 @@ use Rattle.tree_shape.proofs.NodesAbove.{erase_touched}
 use Rattle.tree_shape.proofs.PlanSteps.{index_times, gathered_same}
 use Rattle.tree_shape.proofs.ArenaTrees.{length_leaves}
 use Rattle.value_tree.proofs.Changes.{some_tree, once_of, leaf_once, used_drawn, placed, replace_step, ended}
+use Rattle.tree_shape.specs.Fewest.{highest}
+use Rattle.tree_shape.proofs.HeightBounds.{highest_bounds}
 use Rattle.value_tree.proofs.tree.ValueTree.replace.Goals as goal
 
 pub set_leaf-requires-clause-place : goal.set_leaf-requires-clause-place
@@ -78,4 +80,5 @@ returns g c =
           let few = step.change.few each (subst (Costs g.S.Values.stands g.S.Values.cost each) (sym step.values) here) in
           rw list (omega (arith, few, c.refresh.ensures.steps, ap (spent g.S.Values.join g.S.Values.cost then nodes) (c.touch.ensures.listed ∙ list)));
       shape = refl;
+      rows = let n = count_of c.args.self.now.shape.tree in omega (arith, c.touch.ensures.few (highest n) (highest_bounds n), ap length c.touch.ensures.listed);
     }

@@ -1,0 +1,121 @@
+//! The rooms of a change, kept in place.
+ghost use Rattle.std.specs.Prelude.{◌≡◌, ◌<◌, ◌≤◌, ◌^◌, ◌↔◌, true, [], ◌∷◌, ◌++◌, length, count_by, Some};
+ghost use Rattle.std.specs.List.{All, slice_get};
+ghost use Rattle.summary_compose.specs.Composing.{IsNoGreater};
+ghost use Rattle.summary_tree.specs.Faces.{length_in};
+ghost use Rattle.summary_tree.specs.Meeting.{reaches};
+
+use crate::faces::FaceList;
+use std::marker::Model;
+use summary_compose::{Room, Scratch};
+
+/// The room that a change needs: that of each face that it makes, 73 at most, in the order in which they are made.
+#[derive(Drop)]
+pub(crate) struct Rooms {
+    rooms: [Room; 73],
+    len: usize,
+}
+
+impl Model for Rooms {
+    ghost use Rattle.std.specs.Prelude.{◌≡◌, List, ◌≤◌, take, length};
+    ghost use Rattle.summary_compose.specs.declared.room.Room.{Room};
+
+    ghost Value = { List Room };
+
+    ghost view = { λ d. take d.len d.rooms };
+
+    ghost invariant = { λ d. (d.len ≤ 73) × (length d.rooms ≡ 73) };
+}
+
+// The greatest length of a list.
+const LONGEST: u64 = 1 << 62;
+
+// Whether a list of this length needs a span of at least this class.
+fn reaches(class: u8, len: u64) -> bool
+    requires { class ≤ 62 }
+    ensures { result ≡ reaches class len }
+{
+    class == 0 || 1 << (class - 1) < len
+}
+
+fn length_in(list: FaceList, room: &Room) -> u64
+    ensures { result ≡ length_in list room.now }
+{
+    match list {
+        FaceList::Checks => room.checks,
+        FaceList::Names => room.names,
+        FaceList::Changes => room.changes,
+        FaceList::Segs => room.segs,
+    }
+}
+
+impl Rooms {
+    pub(crate) fn new() -> Rooms
+        ensures { result ≡ [] }
+    {
+        Rooms {
+            rooms: [Room::NONE; 73],
+            len: 0,
+        }
+    }
+
+    pub(crate) fn push(&mut self, room: Room)
+        requires { length self.old < 73 }
+        ensures { self.new ≡ self.old ++ room ∷ [] }
+    {
+        self.rooms[self.len] = room;
+        self.len += 1;
+    }
+
+    pub(crate) fn nth(&self, i: u32) -> Room
+        requires { i < length self.now }
+        ensures { slice_get self.now i ≡ Some result }
+    {
+        self.rooms[i as usize]
+    }
+
+    fn list(&self) -> &[Room]
+        ensures list { result.now ≡ self.now }
+        ensures few { length result.now ≤ 73 }
+    {
+        &self.rooms[..self.len]
+    }
+
+    /// How many of the rooms need a span of at least this class for one of the lists.
+    pub(crate) fn count(&self, list: FaceList, class: u8) -> u32
+        requires { class ≤ 62 }
+        ensures { result ≡ count_by (λ r. reaches class (length_in list r)) self.now }
+    {
+        self.list()
+            .iter()
+            .filter(|room| reaches(class, length_in(list, *room)))
+            .count() as u32
+    }
+
+    /// Whether none of the lists is too long for a span.
+    pub(crate) fn is_short(&self, list: FaceList) -> bool
+        ensures { (result ≡ true) ↔ All (λ r. length_in list r ≤ 2 ^ 62) self.now }
+    {
+        self.list()
+            .iter()
+            .all(|room| length_in(list, room) <= LONGEST)
+    }
+
+    /// Whether the scratch has each of the rooms.
+    pub(crate) fn is_within(&self, scratch: &Scratch) -> bool
+        ensures { (result ≡ true) ↔ All (λ r. IsNoGreater r scratch.now.room) self.now }
+    {
+        self.list().iter().all(|room| scratch.meets(room))
+    }
+
+    /// A room no smaller than any of them.
+    pub(crate) fn greatest(&self) -> Room
+        ensures { All (λ r. IsNoGreater r result) self.now }
+    {
+        let mut most = Room::NONE;
+        for room in self.list() {
+            most = most.max(room);
+        }
+        most
+    }
+}
