@@ -36,8 +36,8 @@ fn rows<R: Threads>(rt: &R, alloc: Global) -> Result<Written, Fail> {
     for at in 1..301 {
         body.push_str(&format!(in alloc; "knit + f{at} 1\n")?)?;
     }
-    for back in 0..300 {
-        let at = 300 - back;
+    for back in 0..300_u32 {
+        let at = 300_u32.saturating_sub(back);
         body.push_str(&format!(in alloc; "knit - f{at} 1\n")?)?;
     }
     body.push_str("xfer f1 b1\nxfer f2 b2\nxfer f3 b3\nxfer f4 b4\n")?;
@@ -61,6 +61,24 @@ fn a_broken_program_has_no_passes(rt: HostRuntime) -> Result<(), Fail> {
         &["passes"],
         "in 1\nknit + f1 1\nxfer f1 b2\n",
     )?;
+    let verdict = "broken line 5 rule NotAligned at 2\n> xfer f1 b2\n";
+    assert!(rt; is(&broken, Status::Broken, verdict));
+    Ok(())
+}
+
+// By blocks the report is the same.
+#[test]
+fn passes_by_blocks(rt: HostRuntime) -> Result<(), Fail> {
+    let alloc = rt.alloc();
+    let words = ["passes", "--block", "1"];
+    let sound = said_of(
+        &rt,
+        alloc,
+        &words,
+        "in 1\nrack 0.25\nknit + f10 1\nknit + b10 1\n",
+    )?;
+    assert!(rt; is(&sound, Status::Done, QUARTER));
+    let broken = said_of(&rt, alloc, &words, "in 1\nknit + f1 1\nxfer f1 b2\n")?;
     let verdict = "broken line 5 rule NotAligned at 2\n> xfer f1 b2\n";
     assert!(rt; is(&broken, Status::Broken, verdict));
     Ok(())
