@@ -26,7 +26,8 @@ use std::alloc::Global;
 use std::thread::Threads;
 use verdict_report::made_of;
 
-/// What is due for a made program with so many rows: its text is made, checked as a file would be, and grouped into passes.
+/// What is due for a made program of so many rows, whose width and transfers follow from `start`: its text is made, checked as a file would be, and grouped
+/// into passes.
 pub fn answer_made<R: Threads>(
     rt: &R,
     alloc: Global,
@@ -101,7 +102,8 @@ fn summarise<R: Threads>(
     })
 }
 
-// What the body makes: by blocks, where the words say how many lines these have, and else by one carriage, over the text of its lines.
+// What the body makes: by blocks, where the words say how many lines these have, and else by one carriage, over the text of its
+// lines.
 fn judgement_of<R: Threads>(
     rt: &R,
     alloc: Global,
@@ -122,7 +124,7 @@ fn judgement_of<R: Threads>(
     }
 }
 
-// The operations of the body, likewise.
+// The operations of the body, from the text of its lines where one pass over that settles it.
 fn operations_of(alloc: Global, plan: &Plan, text: &[u8], body: &Body) -> Result<PassOps, NoMemory>
     requires size { length text.now ≤ 16777216 }
     requires lines { lines_of text.now ≡ body.now.lines }

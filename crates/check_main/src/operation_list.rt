@@ -1,23 +1,19 @@
 //! The carriage operations of a file.
 //!
 //! The lines are read once more behind a run that ended: a usual line costs less to read again than its reading to keep.
-ghost use Rattle.std.specs.Prelude.{◌≡◌, ◌≤◌, ◌<◌, ◌+◌, ◌^◌, ℕ, List, [], ◌∷◌, ◌++◌, length, IfOk, IfSome, OnOk};
-ghost use Rattle.knit_base.specs.declared.instr.Read.{Read};
+ghost use Rattle.std.specs.Prelude.{◌≤◌, ◌<◌, ◌+◌, ◌^◌, length, IfOk, IfSome, OnOk};
 ghost use Rattle.knit_base.specs.declared.profile.Profile.{Profile};
-ghost use Rattle.knit_base.specs.Lawful.{IsLawfulRead};
 ghost use Rattle.knit_base.specs.Limits.{IsLawfulProfile};
 ghost use Rattle.knit_base.specs.Lines.{lines_of};
-ghost use Rattle.knit_base.specs.Usual.{usual_read};
 ghost use Rattle.knitout_reader.specs.Head.{IsHead};
 ghost use Rattle.knitout_reader.specs.Usual.{AreByteNames};
-ghost use Rattle.pass_grouping.specs.Listings.{HasListed, IsListing, next_line};
+ghost use Rattle.pass_grouping.specs.Listings.{IsListing, next_line};
 ghost use Rattle.check_main.specs.ListingRun.{ListsAt, ListsLine};
 ghost use Rattle.check_main.specs.PassesReport.{AreOperations};
 
 use crate::body::Body;
 use crate::plan::Plan;
-use crate::usual::read_of;
-use knit_base::{Declared, NoMemory, Profile, Usual};
+use knit_base::{Declared, NoMemory, Profile};
 use knitout_reader::{ByteNames, Head, nth_line, read_line, usual_line};
 use line_cutter::{line_at, place_behind};
 use pass_grouping::{Listing, PassOps};
@@ -96,26 +92,8 @@ fn list_at(
     let Some((usual, len)) = usual_line(&text[start..], profile, byte_names) else {
         return list_any_at(alloc, text, start, profile, names, listing);
     };
-    list_usual(alloc, usual, profile, listing)?;
+    listing.take_usual(alloc, usual)?;
     Ok(Some(start + len))
-}
-
-// Lists a usual line.
-fn list_usual(
-    alloc: Global,
-    usual: Usual,
-    profile: &Profile,
-    listing: &mut Listing,
-) -> Result<(), NoMemory>
-    requires limits { IsLawfulProfile profile.now }
-    requires lawful { (carriers : ℕ) × (carriers ≤ 64) × IsLawfulRead profile.now carriers (usual_read usual) }
-    requires listing { IsListing listing.old }
-    requires lines { next_line listing.old + 1 < 2 ^ 32 }
-    ensures { OnOk result ((first : ℕ) (before : List Read) → HasListed first before listing.old
-        → HasListed first (before ++ usual_read usual ∷ []) listing.new) }
-{
-    let read = read_of(alloc, usual)?;
-    listing.take(alloc, &read)
 }
 
 // Lists any line that begins at `start`. It is seldom called, so it stays out of the loop above.

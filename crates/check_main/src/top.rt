@@ -31,7 +31,7 @@ use verdict_report::Refusal;
 /// - `BadInput`: exactly where a line isn't UTF-8 or has more than 4,096 bytes, or else where the head is refused.
 /// - `TooLarge`: exactly where the body that `check`, `passes` or `make` checks has more than 1,048,576 lines, or more than
 ///   65,536 blocks.
-/// - `Broken`: exactly where a line of the body breaks a rule that `check` or `passes` checks.
+/// - `Broken`: for `check` and `passes`, exactly where a line of the body breaks a rule.
 /// - `Done` otherwise.
 ///
 /// `WriteFault` takes the place of any of these, only where a write failed; the sink then took a front of the report.

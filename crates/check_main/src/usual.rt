@@ -26,8 +26,8 @@ pub fn execute_usual(alloc: Global, usual: Usual, carriage: &mut Carriage) -> Re
     carriage.execute(&read)
 }
 
-/// A usual line, as a reading. It takes no memory, since it names one carrier at most.
-pub(crate) fn read_of(alloc: Global, usual: Usual) -> Result<Read, NoMemory>
+// A usual line, as a reading. It takes no memory, since it names one carrier at most.
+fn read_of(alloc: Global, usual: Usual) -> Result<Read, NoMemory>
     requires { (profile : Profile) × (carriers : ℕ) × (carriers ≤ 64) × IsLawfulRead profile carriers (usual_read usual) }
     ensures { IfOk result (λ read. read ≡ usual_read usual) }
 {
