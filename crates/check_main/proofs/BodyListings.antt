@@ -1,7 +1,6 @@
 -- The operations of the lines of a file as they are listed.
-use Rattle.std.proofs.Common.{◌≡◌, ℕ, ◌+◌, ◌-◌, ◌<◌, ◌≤◌, List, [], ◌∷◌, ◌++◌, length, take, drop, get_or, slice_get, Some, ap, sym, subst, ◌∙◌, refl, arith, length-drop}
+use Rattle.std.proofs.Common.{◌≡◌, ℕ, ◌+◌, ◌-◌, ◌<◌, ◌≤◌, List, [], ◌∷◌, ◌++◌, length, take, drop, get_or, slice_get, Some, ap, subst, ◌∙◌, refl, arith}
 use Rattle.std.specs.List.{AllZip}
-use Rattle.std.proofs.lemmas.List.{drop-drop, take_all}
 use Rattle.std.proofs.lemmas.Option.{slice_get-get_or}
 use Rattle.knit_base.specs.declared.instr.Read.{Read}
 use Rattle.knit_base.specs.declared.profile.Profile.{Profile}
@@ -21,6 +20,7 @@ use Rattle.pass_grouping.specs.Listings.{HasListed, IsListing, next_line}
 use Rattle.pass_grouping.specs.Operations.{operations_after}
 use Rattle.check_main.specs.ListingRun.{ListsAt, ListsLine}
 use Rattle.check_main.specs.PassesReport.{AreOperations}
+use Rattle.check_main.proofs.TextRuns.{usual-stands}
 
 -- a listing has taken the lines behind the head up to this place
 pub record HasBodyListing (profile : Profile) (names lines : List (List ℕ)) (from i : ℕ) (listing : Listing) : Type 0 where
@@ -114,14 +114,8 @@ pub usual-listed : (profile : Profile) (names : List (List ℕ)) (text rest : Li
     → ((first : ℕ) (before : List Read) → HasListed first before old → HasListed first (before ++ usual_read usual ∷ []) new)
     → ListsAt profile names text start (start + len) old new
 usual-listed profile names text rest start len usual old new is begins taken =
-    let left : rest ≡ drop start text = is ∙ take_all (length text - start) (drop start text) (omega (arith, length-drop start text)) in
-    let behind : drop len rest ≡ drop (start + len) text = ap (drop len) left ∙ drop-drop len start text ∙ ap (λ k. drop k text) (omega arith) in
     record {
       line = begins.line;
-      stands = record {
-        further = omega (arith, begins.some);
-        first = ap lines_of (sym left) ∙ begins.lines ∙ ap (λ (l : List ℕ). begins.line ∷ lines_of l) behind;
-        good = record { utf8 = begins.utf8; short = omega (arith, begins.short) };
-      };
+      stands = usual-stands profile names text rest start len usual is begins;
       listed = record { reading = usual_read usual; read = begins.read; taken = taken };
     }
