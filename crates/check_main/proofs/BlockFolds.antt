@@ -1,13 +1,10 @@
 -- Blocks that are taken one after the other.
-use Rattle.std.proofs.Common.{◌≡◌, ℕ, ◌+◌, ◌-◌, ◌<◌, ◌≤◌, ◌^◌, Bool, true, false, List, [], ◌∷◌, ◌++◌, length, drop, take, All, Option, None, Some, IfSome, is_some, Result, Ok, Err, IfOk, refl, ap, sym, subst, ◌∙◌, arith}
-use Rattle.std.specs.Prelude.{filter}
+use Rattle.std.proofs.Common.{◌≡◌, ℕ, ◌+◌, ◌-◌, ◌<◌, ◌≤◌, ◌^◌, Bool, true, false, List, [], ◌∷◌, ◌++◌, length, drop, take, All, Option, None, IfSome, is_some, Result, Ok, Err, IfOk, refl, ap, sym, subst, ◌∙◌, arith}
 use Rattle.std.specs.List.{AllZip, Contains, slice_range}
 use Rattle.std.proofs.lemmas.List.Elements.{All-append, All-drop, All-nil, All-take, All-weaker}
 use Rattle.std.proofs.lemmas.Slice.Zip.{AllZip-long}
 use Rattle.knit_base.specs.declared.instr.Read.{Read}
-use Rattle.knit_base.specs.declared.needle.Needle.{Needle}
 use Rattle.knit_base.specs.declared.profile.Profile.{Profile}
-use Rattle.knit_base.specs.declared.rule.Fault.{Fault}
 use Rattle.knit_base.specs.Lawful.{IsLawfulRead}
 use Rattle.knit_base.specs.Limits.{IsLawfulProfile}
 use Rattle.line_cutter.specs.Cut.{IsGoodLine}
@@ -45,7 +42,7 @@ use Rattle.block_summary.proofs.LineGoodness.{block_good, block_stands}
 use Rattle.check_main.specs.declared.fold.Fold.{Fold}
 use Rattle.check_main.specs.declared.judge.Judgement.{Judgement}
 use Rattle.check_main.specs.BodyRun.{IsJudgement}
-use Rattle.check_main.specs.Folds.{AreOfOneMachine, HasFolded, Took, fault_of, fault_of_run, is_before, rows_before}
+use Rattle.check_main.specs.Folds.{AreOfOneMachine, HasFolded, Took, fault_of, fault_of_run, rows_before}
 use Rattle.check_main.proofs.BlockLoops.{loops_are_asked, loops_more, still_kept}
 use Rattle.check_main.proofs.BodyRuns.{judged_readings}
 use Rattle.check_main.proofs.LineRanges.{both_ranges, range_len, range_rest}

@@ -1,5 +1,5 @@
 -- What is due, from what the parts of the program say.
-use Rattle.std.proofs.Common.{◌≡◌, ℕ, List, length, Bool, Some, All, refl, ap, sym, subst, ◌∙◌}
+use Rattle.std.proofs.Common.{◌≡◌, ℕ, List, length, Bool, true, false, Some, All, refl, ap, sym, subst, ◌∙◌}
 use Rattle.knit_base.specs.Lines.{lines_of}
 use Rattle.line_cutter.specs.declared.fault.CutFault.{CutFault}
 use Rattle.line_cutter.specs.Cut.{IsFirstBad, IsGoodLine}
@@ -8,14 +8,15 @@ use Rattle.knitout_reader.specs.declared.head.HeadFault.{HeadFault}
 use Rattle.knitout_reader.specs.Head.{IsHead, IsHeadFault}
 use Rattle.machine_profile.specs.declared.Chosen.{Chosen}
 use Rattle.command_words.specs.declared.command.Command.{Command}
-use Rattle.command_words.specs.declared.command.Command.TheVariants.{Check, Text}
+use Rattle.command_words.specs.declared.command.Command.TheVariants.{Check, Text, Passes}
 use Rattle.verdict_report.specs.declared.refusal.Refusal.{Refusal}
 use Rattle.verdict_report.specs.Refusals.{refusal_text}
 use Rattle.check_main.specs.declared.outcome.Status.{Status}
 use Rattle.check_main.specs.declared.outcome.Status.TheVariants as status
 use Rattle.knitout_writer.specs.Canonical.{IsCanonicalText}
 use Rattle.check_main.specs.CheckReport.{IsCheckReport, body_of}
-use Rattle.check_main.specs.Due.{Due, bad_line, bad_head, too_large, judged, canonical, Fits, HasHead, IsSizeRefusal, cut_refusal, head_refusal}
+use Rattle.check_main.specs.PassesReport.{IsPassesReport}
+use Rattle.check_main.specs.Due.{Due, bad_line, bad_head, too_large, judged, canonical, broken, grouped, checks_body, Fits, HasHead, IsSizeRefusal, cut_refusal, head_refusal}
 
 -- this text and this status are those that are due
 said_so : (command : Command) (chosen : Chosen) (input text said : List ℕ) (result ends : Status) → Due command chosen input said ends → text ≡ said → result ≡ ends
@@ -46,13 +47,13 @@ has_head input lines head are good is = record {
 }
 
 -- a body that is too large
-pub due-too_large : (loops json : Bool) (chosen : Chosen) (input text : List ℕ) (result : Status) (lines : List (List ℕ)) (head : Head) (count : ℕ) (said : Refusal)
-    → lines ≡ lines_of input → All IsGoodLine lines → IsHead lines head → count ≡ length (body_of lines) → IsSizeRefusal chosen.block count said
-    → (text ≡ refusal_text said) × (result ≡ status.TooLarge) → Due (Check loops json) chosen input text result
-due-too_large loops json chosen input text result lines head count said are good is counted large reply =
+pub due-too_large : (command : Command) (chosen : Chosen) (input text : List ℕ) (result : Status) (lines : List (List ℕ)) (head : Head) (count : ℕ) (said : Refusal)
+    → checks_body command ≡ true → lines ≡ lines_of input → All IsGoodLine lines → IsHead lines head → count ≡ length (body_of lines)
+    → IsSizeRefusal chosen.block count said → (text ≡ refusal_text said) × (result ≡ status.TooLarge) → Due command chosen input text result
+due-too_large command chosen input text result lines head count said checks are good is counted large reply =
     let counts : count ≡ length (body_of (lines_of input)) = counted ∙ ap (λ ls. length (body_of ls)) are in
-    said_so (Check loops json) chosen input text (refusal_text said) result status.TooLarge
-    (too_large loops json head said refl (has_head input lines head are good is) (subst (λ (n : ℕ). IsSizeRefusal chosen.block n said) counts large)) reply.0 reply.1
+    said_so command chosen input text (refusal_text said) result status.TooLarge
+    (too_large head said checks (has_head input lines head are good is) (subst (λ (n : ℕ). IsSizeRefusal chosen.block n said) counts large)) reply.0 reply.1
 
 -- the report of a check
 pub due-judged : (loops json : Bool) (chosen : Chosen) (input text : List ℕ) (result : Status) (lines : List (List ℕ)) (head : Head)
@@ -62,6 +63,28 @@ due-judged loops json chosen input text result lines head are good is fits reply
     judged loops json head text result refl (has_head input lines head are good is)
     (subst (λ ls. Fits chosen.block (length (body_of ls))) are fits)
     (subst (λ ls. IsCheckReport chosen.profile loops json head.declared ls text result) are reply)
+
+-- the verdict where passes were asked for and the program breaks a rule
+pub due-broken : (chosen : Chosen) (input text : List ℕ) (result : Status) (lines : List (List ℕ)) (head : Head)
+    → lines ≡ lines_of input → All IsGoodLine lines → IsHead lines head → Fits chosen.block (length (body_of lines))
+    → IsCheckReport chosen.profile false false head.declared lines text status.Broken → result ≡ status.Broken → Due Passes chosen input text result
+due-broken chosen input text result lines head are good is fits reply ends =
+    said_so Passes chosen input text text result status.Broken
+    (broken head text refl (has_head input lines head are good is)
+    (subst (λ ls. Fits chosen.block (length (body_of ls))) are fits)
+    (subst (λ ls. IsCheckReport chosen.profile false false head.declared ls text status.Broken) are reply))
+    refl ends
+
+-- the passes of a sound program
+pub due-grouped : (chosen : Chosen) (input text : List ℕ) (result : Status) (lines : List (List ℕ)) (head : Head)
+    → lines ≡ lines_of input → All IsGoodLine lines → IsHead lines head → Fits chosen.block (length (body_of lines))
+    → IsPassesReport chosen.profile head.declared lines text → result ≡ status.Done → Due Passes chosen input text result
+due-grouped chosen input text result lines head are good is fits reply ends =
+    said_so Passes chosen input text text result status.Done
+    (grouped head text refl (has_head input lines head are good is)
+    (subst (λ ls. Fits chosen.block (length (body_of ls))) are fits)
+    (subst (λ ls. IsPassesReport chosen.profile head.declared ls text) are reply))
+    refl ends
 
 -- the canonical text
 pub due-canonical : (chosen : Chosen) (input text out : List ℕ) (lines : List (List ℕ)) (head : Head)

@@ -1,9 +1,14 @@
+pub mod BlockCounts
 pub mod BlockFolds
 pub mod BlockLoops
+pub mod BodyListings
 pub mod BodyRuns
 pub mod Calls
 pub mod Dues
 pub mod Fronts
 pub mod LineRanges
+pub mod MadeDues
+pub mod MadeTexts
+pub mod PassesReports
 pub mod StoppedRuns
 pub mod TextRuns

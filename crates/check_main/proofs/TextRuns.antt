@@ -82,21 +82,27 @@ text_run-all profile with_loops text head count start carriage run is past here 
       lines = counted ∙ all.0;
     }
 
+-- a usual line stands at this place, where the rest of the text begins with it
+pub usual-stands : (profile : Profile) (names : List (List ℕ)) (text rest : List ℕ) (start len : ℕ) (usual : Usual) → rest ≡ take (length text - start) (drop start text)
+    → (begins : BeginsWithUsual profile names rest usual len) → StandsAt text start begins.line (start + len)
+usual-stands profile names text rest start len usual is begins =
+    let left : rest ≡ drop start text = is ∙ take_all (length text - start) (drop start text) (omega (arith, length-drop start text)) in
+    let behind : drop len rest ≡ drop (start + len) text = ap (drop len) left ∙ drop-drop len start text ∙ ap (λ k. drop k text) (omega arith) in
+    record {
+      further = omega (arith, begins.some);
+      first = ap lines_of (sym left) ∙ begins.lines ∙ ap (λ (l : List ℕ). begins.line ∷ lines_of l) behind;
+      good = record { utf8 = begins.utf8; short = omega (arith, begins.short) };
+    }
+
 -- the line at this place says what its front says
 pub usual-executed : (profile : Profile) (names : List (List ℕ)) (text rest : List ℕ) (start len : ℕ) (usual : Usual) (old new : Carriage)
     → rest ≡ take (length text - start) (drop start text) → BeginsWithUsual profile names rest usual len
     → ((p : Profile) (with_loops : Bool) (first : ℕ) (before : List Read) → HasRun p with_loops first before old → HasRun p with_loops first (before ++ usual_read usual ∷ []) new)
     → ExecutesAt profile names text start (start + len) old new
 usual-executed profile names text rest start len usual old new is begins ran =
-    let left : rest ≡ drop start text = is ∙ take_all (length text - start) (drop start text) (omega (arith, length-drop start text)) in
-    let behind : drop len rest ≡ drop (start + len) text = ap (drop len) left ∙ drop-drop len start text ∙ ap (λ k. drop k text) (omega arith) in
     record {
       line = begins.line;
-      stands = record {
-        further = omega (arith, begins.some);
-        first = ap lines_of (sym left) ∙ begins.lines ∙ ap (λ (l : List ℕ). begins.line ∷ lines_of l) behind;
-        good = record { utf8 = begins.utf8; short = omega (arith, begins.short) };
-      };
+      stands = usual-stands profile names text rest start len usual is begins;
       executed = record { reading = usual_read usual; read = begins.read; ran = ran };
     }
 

@@ -17,20 +17,18 @@ pub record Ask (words : List (List ℕ)) (command : Command) (chosen : Chosen) :
   pub within : refused request.options ≡ None
   pub values : IsChosen request.options chosen
 
--- the commands that are there
-abbrev pub is_built : Command → Bool
-is_built (Check loops json) = true
-is_built Text = true
-is_built Passes = false
-is_built Live = false
-is_built (Make rows start) = false
+-- the commands that are there and read an input
+abbrev pub reads_input : Command → Bool
+reads_input (Check loops json) = true
+reads_input Text = true
+reads_input Passes = true
+reads_input Live = false
+reads_input (Make rows start) = false
 
--- the words ask for a command that isn't there yet
+-- the words ask for the command that isn't there yet
 pub record AskUnbuilt (words : List (List ℕ)) : Type 0 where
-  pub command : Command
   pub chosen : Chosen
-  pub ask : Ask words command chosen
-  pub unbuilt : is_built command ≡ false
+  pub ask : Ask words Live chosen
 
 -- the words are outside the grammar, or one of their options is outside its bounds
 pub data AreRefused (words : List (List ℕ)) : Type 0 where

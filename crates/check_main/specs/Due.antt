@@ -1,5 +1,5 @@
 -- What is due for an input that was read whole: the text and the status.
-use Rattle.std.specs.Prelude.{◌≡◌, ◌⊎◌, ℕ, ◌+◌, ◌-◌, ◌/◌, ◌<◌, ◌≤◌, Bool, List, length, Option, None, Some, All}
+use Rattle.std.specs.Prelude.{◌≡◌, ◌⊎◌, ℕ, ◌+◌, ◌-◌, ◌/◌, ◌<◌, ◌≤◌, Bool, true, false, List, length, Option, None, Some, All}
 use Rattle.knit_base.specs.Lines.{lines_of}
 use Rattle.line_cutter.specs.declared.fault.CutFault.{CutFault}
 use Rattle.line_cutter.specs.declared.fault.CutFault.TheVariants as cut
@@ -11,13 +11,14 @@ use Rattle.knitout_reader.specs.Head.{IsHead, IsHeadFault}
 use Rattle.knitout_writer.specs.Canonical.{IsCanonicalText}
 use Rattle.machine_profile.specs.declared.Chosen.{Chosen}
 use Rattle.command_words.specs.declared.command.Command.{Command}
-use Rattle.command_words.specs.declared.command.Command.TheVariants.{Check, Text}
+use Rattle.command_words.specs.declared.command.Command.TheVariants.{Check, Text, Passes, Live, Make}
 use Rattle.verdict_report.specs.declared.refusal.Refusal.{Refusal}
 use Rattle.verdict_report.specs.declared.refusal.Refusal.TheVariants as refusal
 use Rattle.verdict_report.specs.Refusals.{refusal_text}
 use Rattle.check_main.specs.declared.outcome.Status.{Status}
 use Rattle.check_main.specs.declared.outcome.Status.TheVariants as status
 use Rattle.check_main.specs.CheckReport.{IsCheckReport, body_of}
+use Rattle.check_main.specs.PassesReport.{IsPassesReport}
 
 -- what is said of bytes that aren't lines; of want of memory nothing is
 abbrev pub cut_refusal : CutFault → Option Refusal
@@ -54,6 +55,14 @@ IsSizeRefusal size count said =
     ((said ≡ refusal.TooManyLines) × (1048576 < count))
     ⊎ ((said ≡ refusal.TooManyBlocks) × (count ≤ 1048576) × (65536 < blocks_of size count))
 
+-- the commands that check the body of a file
+abbrev pub checks_body : Command → Bool
+checks_body (Check loops json) = true
+checks_body Text = false
+checks_body Passes = true
+checks_body Live = false
+checks_body (Make rows start) = false
+
 -- the text and the status that are due for this input, where the words ask for this command with these limits
 pub data Due (command : Command) (chosen : Chosen) (input : List ℕ) : List ℕ → Status → Type 0 where
   -- a line isn't text or is too long: the first such line is named
@@ -63,7 +72,7 @@ pub data Due (command : Command) (chosen : Chosen) (input : List ℕ) : List ℕ
   bad_head : (fault : HeadFault) (said : Refusal) → All IsGoodLine (lines_of input) → IsHeadFault (lines_of input) fault → head_refusal fault ≡ Some said
       → Due command chosen input (refusal_text said) status.BadInput
   -- the body that is to be checked has too many lines, or else too many blocks
-  too_large : (loops json : Bool) (head : Head) (said : Refusal) → command ≡ Check loops json → HasHead input head
+  too_large : (head : Head) (said : Refusal) → checks_body command ≡ true → HasHead input head
       → IsSizeRefusal chosen.block (length (body_of (lines_of input))) said
       → Due command chosen input (refusal_text said) status.TooLarge
   -- the verdict on the program
@@ -73,4 +82,12 @@ pub data Due (command : Command) (chosen : Chosen) (input : List ℕ) : List ℕ
       → Due command chosen input text result
   -- the canonical text of the file
   canonical : (head : Head) (text : List ℕ) → command ≡ Text → HasHead input head → IsCanonicalText chosen.profile head (lines_of input) text
+      → Due command chosen input text status.Done
+  -- the program breaks a rule and has no passes: its verdict
+  broken : (head : Head) (text : List ℕ) → command ≡ Passes → HasHead input head → Fits chosen.block (length (body_of (lines_of input)))
+      → IsCheckReport chosen.profile false false head.declared (lines_of input) text status.Broken
+      → Due command chosen input text status.Broken
+  -- the passes of a sound program
+  grouped : (head : Head) (text : List ℕ) → command ≡ Passes → HasHead input head → Fits chosen.block (length (body_of (lines_of input)))
+      → IsPassesReport chosen.profile head.declared (lines_of input) text
       → Due command chosen input text status.Done

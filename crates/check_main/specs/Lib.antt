@@ -3,5 +3,9 @@ pub mod BodyRun
 pub mod CheckReport
 pub mod Codes
 pub mod Due
+pub mod DueMade
 pub mod Folds
+pub mod ListingRun
+pub mod MadeRun
+pub mod PassesReport
 pub mod Top

@@ -7,12 +7,14 @@ use Rattle.knit_ports.specs.Faults.{Rose}
 use Rattle.knit_ports.specs.Whole.{GaveAtMost, TookFront}
 use Rattle.machine_profile.specs.declared.Chosen.{Chosen}
 use Rattle.command_words.specs.declared.command.Command.{Command}
+use Rattle.command_words.specs.declared.command.Command.TheVariants.{Make}
 use Rattle.verdict_report.specs.declared.refusal.Refusal.TheVariants as refusal
 use Rattle.verdict_report.specs.Refusals.{refusal_text}
 use Rattle.check_main.specs.declared.outcome.Status.{Status}
 use Rattle.check_main.specs.declared.outcome.Status.TheVariants.{Usage, Unbuilt, ReadFault, TooLarge, WriteFault, NoMemory}
-use Rattle.check_main.specs.Asked.{Ask, AreRefused, AskUnbuilt, is_built}
+use Rattle.check_main.specs.Asked.{Ask, AreRefused, AskUnbuilt, reads_input}
 use Rattle.check_main.specs.Due.{Due}
+use Rattle.check_main.specs.DueMade.{DueMade}
 
 -- the source before and after a run: the bytes that it has left, where it tells them, and how many of its reads have failed
 pub record SourceUse : Type 0 where
@@ -50,16 +52,19 @@ pub data Called (words : List (List ℕ)) (source : SourceUse) : List ℕ → St
   usage : AreRefused words → IsUntouched source → Called words source (refusal_text refusal.Usage) Usage
   -- the command isn't there yet, and the source isn't touched
   unbuilt : AskUnbuilt words → IsUntouched source → Called words source unbuilt_text Unbuilt
+  -- a program is made, and the source isn't touched
+  made : (rows start : ℕ) (chosen : Chosen) (text : List ℕ) (status : Status) → Ask words (Make rows start) chosen → IsUntouched source
+      → DueMade chosen rows start text status → Called words source text status
   -- the source was read to its end
-  whole : (command : Command) (chosen : Chosen) (input text : List ℕ) (status : Status) → Ask words command chosen → is_built command ≡ true
+  whole : (command : Command) (chosen : Chosen) (input text : List ℕ) (status : Status) → Ask words command chosen → reads_input command ≡ true
       → Consumes source.left_before source.left_after input → IsAtEnd source.left_after → length input ≤ INPUT_LIMIT
       → Due command chosen input text status → Called words source text status
   -- the source was read to one byte past the limit
-  large : (command : Command) (chosen : Chosen) (input : List ℕ) → Ask words command chosen → is_built command ≡ true
+  large : (command : Command) (chosen : Chosen) (input : List ℕ) → Ask words command chosen → reads_input command ≡ true
       → Consumes source.left_before source.left_after input → length input ≡ INPUT_LIMIT + 1
       → Called words source (refusal_text refusal.TooManyBytes) TooLarge
   -- a read failed before that
-  broke : (command : Command) (chosen : Chosen) → Ask words command chosen → is_built command ≡ true
+  broke : (command : Command) (chosen : Chosen) → Ask words command chosen → reads_input command ≡ true
       → Rose source.faults_before source.faults_after → GaveAtMost INPUT_LIMIT source.left_before source.left_after
       → Called words source (refusal_text refusal.ReadFault) ReadFault
 

@@ -1,8 +1,9 @@
 //! What is due for an input that was read whole.
-ghost use Rattle.std.specs.Prelude.{◌≡◌, ◌≤◌, All, List, ℕ, length, IfOk, IfSome, MatchOption, Some};
+ghost use Rattle.std.specs.Prelude.{◌≡◌, ◌≤◌, true, All, List, ℕ, length, IfOk, IfSome, MatchOption, Some};
 ghost use Rattle.knit_base.specs.Lines.{lines_of};
 ghost use Rattle.line_cutter.specs.Cut.{IsGoodLine};
 ghost use Rattle.machine_profile.specs.Bounds.{IsBlockSize};
+ghost use Rattle.check_main.specs.Asked.{reads_input};
 ghost use Rattle.check_main.specs.Due.{Due, Fits, IsSizeRefusal, cut_refusal, head_refusal};
 
 use crate::body::Body;
@@ -10,6 +11,7 @@ use crate::ending::Ending;
 use crate::judge::{Style, judge};
 use crate::one_pass::check_in_one_pass;
 use crate::outcome::Status;
+use crate::passes::{passes_by_lines, passes_in_one_pass};
 use crate::plan::Plan;
 use crate::text_pass::text_in_one_pass;
 use command_words::Command;
@@ -35,7 +37,8 @@ pub fn answer<R: Threads>(
     plan: &Plan,
     input: Vec<u8>,
 ) -> Result<Ending, NoMemory>
-    requires { length input.items ≤ 16777216 }
+    requires size { length input.items ≤ 16777216 }
+    requires reads { reads_input plan.now.command ≡ true }
     ensures { IfOk result (λ ending. Due plan.now.command plan.now.chosen input.items ending.text.items ending.status) }
 {
     match answer_in_one_pass(alloc, plan, &input)? {
@@ -58,7 +61,13 @@ fn answer_in_one_pass(alloc: Global, plan: &Plan, input: &[u8]) -> Result<Option
             check_in_one_pass(alloc, Style { loops, json }, plan, input)
         }
         Command::Text => text_in_one_pass(alloc, plan, input),
-        Command::Passes | Command::Live | Command::Make { .. } => Ok(None),
+        Command::Passes => {
+            if plan.by_blocks {
+                return Ok(None);
+            }
+            passes_in_one_pass(alloc, plan, input)
+        }
+        Command::Live | Command::Make { .. } => Ok(None),
     }
 }
 
@@ -69,7 +78,8 @@ pub(crate) fn answer_by_lines<R: Threads>(
     plan: &Plan,
     input: Vec<u8>,
 ) -> Result<Ending, NoMemory>
-    requires { length input.items ≤ 16777216 }
+    requires size { length input.items ≤ 16777216 }
+    requires reads { reads_input plan.now.command ≡ true }
     ensures { IfOk result (λ ending. Due plan.now.command plan.now.chosen input.items ending.text.items ending.status) }
 {
     match cut_buffer(alloc, input) {
@@ -85,7 +95,8 @@ fn answer_lines<R: Threads>(
     plan: &Plan,
     lines: Lines,
 ) -> Result<Ending, NoMemory>
-    requires { All IsGoodLine lines }
+    requires good { All IsGoodLine lines }
+    requires reads { reads_input plan.now.command ≡ true }
     ensures { IfOk result (λ ending. (input : List ℕ) → lines ≡ lines_of input
         → Due plan.now.command plan.now.chosen input ending.text.items ending.status) }
 {
@@ -102,13 +113,15 @@ fn answer_body<R: Threads>(
     plan: &Plan,
     body: &Body,
 ) -> Result<Ending, NoMemory>
+    requires { reads_input plan.now.command ≡ true }
     ensures { IfOk result (λ ending. (input : List ℕ) → body.now.lines ≡ lines_of input
         → Due plan.now.command plan.now.chosen input ending.text.items ending.status) }
 {
     match plan.command {
         Command::Check { loops, json } => check(rt, alloc, Style { loops, json }, plan, body),
         Command::Text => normalise(alloc, plan, body),
-        Command::Passes | Command::Live | Command::Make { .. } => unreachable!(),
+        Command::Passes => passes(rt, alloc, plan, body),
+        Command::Live | Command::Make { .. } => unreachable!(),
     }
 }
 
@@ -126,6 +139,17 @@ fn check<R: Threads>(
     match refusal_of_size(body.len(), plan.chosen.block) {
         Some(refusal) => Ending::refusal(alloc, refusal, Status::TooLarge),
         None => judge(rt, alloc, style, plan, body),
+    }
+}
+
+// The passes of a file with this body, unless that is too large.
+fn passes<R: Threads>(rt: &R, alloc: Global, plan: &Plan, body: &Body) -> Result<Ending, NoMemory>
+    ensures { IfOk result (λ ending. (input : List ℕ) → body.now.lines ≡ lines_of input
+        → Due Command.Passes plan.now.chosen input ending.text.items ending.status) }
+{
+    match refusal_of_size(body.len(), plan.chosen.block) {
+        Some(refusal) => Ending::refusal(alloc, refusal, Status::TooLarge),
+        None => passes_by_lines(rt, alloc, plan, body),
     }
 }
 

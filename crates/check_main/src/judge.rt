@@ -46,8 +46,8 @@ pub fn judge<R: Threads>(
     report(alloc, style.json, &judgement, &body.head.declared, broken)
 }
 
-// What the lines behind the head make: by blocks, where the words say how many lines these have, and else by one carriage.
-fn judge_body<R: Threads>(
+/// What the lines behind the head make: by blocks, where the words say how many lines these have, and else by one carriage.
+pub(crate) fn judge_body<R: Threads>(
     rt: &R,
     alloc: Global,
     with_loops: bool,
@@ -101,8 +101,8 @@ pub(crate) fn execute_line(
     carriage.execute(&read)
 }
 
-// The line at which the verdict is broken, or no text.
-fn line_of<'a>(lines: &'a Lines, verdict: &Verdict) -> &'a str
+/// The line at which the verdict is broken, or no text.
+pub(crate) fn line_of<'a>(lines: &'a Lines, verdict: &Verdict) -> &'a str
     ensures { result.now ≡ broken_line lines.now verdict.now }
 {
     match verdict {

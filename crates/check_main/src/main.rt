@@ -18,10 +18,17 @@ mod example_tests;
 mod fold;
 mod front;
 mod judge;
+mod made;
+#[cfg(test)]
+mod made_tests;
 mod one_pass;
 #[cfg(test)]
 mod one_pass_tests;
+mod operation_list;
 mod outcome;
+mod passes;
+#[cfg(test)]
+mod passes_tests;
 mod plan;
 #[cfg(test)]
 mod rule_tests;

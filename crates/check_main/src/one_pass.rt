@@ -82,8 +82,8 @@ fn report_run(
     Ok(Some(ending))
 }
 
-// What one carriage makes of a text with this head. `None` where a line is bad.
-fn run_text(
+/// What one carriage makes of a text with this head. `None` where a line is bad.
+pub(crate) fn run_text(
     alloc: Global,
     with_loops: bool,
     plan: &Plan,
@@ -197,8 +197,8 @@ fn execute_any_at(
     Ok(Some(next))
 }
 
-// The line at which the verdict is broken, or no text. `None` where it isn't found.
-fn line_of<'a>(text: &'a [u8], verdict: &Verdict) -> Option<&'a str>
+/// The line at which the verdict is broken, or no text. `None` where it isn't found.
+pub(crate) fn line_of<'a>(text: &'a [u8], verdict: &Verdict) -> Option<&'a str>
     requires { length text.now ≤ 16777216 }
     ensures { IfSome result (λ line. line.now ≡ broken_line (lines_of text.now) verdict.now) }
 {

@@ -4,7 +4,7 @@ use crate::ending::Ending;
 use crate::judge::Style;
 use crate::one_pass::check_in_one_pass;
 use crate::outcome::Status;
-use crate::plan::plan_of;
+use crate::plan::{plan_of, reads_input};
 use crate::tests::{is, said, texts};
 use knit_ports::INPUT_LIMIT;
 use std::alloc::Global;
@@ -41,6 +41,9 @@ fn agree<R: Threads>(
     let Ok(plan) = plan_of(alloc, &words) else {
         return Ok(false);
     };
+    if !reads_input(plan.command) {
+        return Ok(false);
+    }
     if file.len() > INPUT_LIMIT {
         return Ok(false);
     }

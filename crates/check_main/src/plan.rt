@@ -1,20 +1,22 @@
 //! What the words of the command line ask for.
-ghost use Rattle.std.specs.Prelude.{◌≡◌, true, map, string_bytes, IfOk, IsErrOf};
-ghost use Rattle.check_main.specs.Asked.{AreRefused, Ask, AskUnbuilt, IsLawfulChosen, is_built};
+ghost use Rattle.std.specs.Prelude.{◌≡◌, ℕ, map, string_bytes, IfOk, IsErrOf};
+ghost use Rattle.command_words.specs.declared.command.Command.{Command};
+ghost use Rattle.command_words.specs.Request.{IsMake};
+ghost use Rattle.check_main.specs.Asked.{AreRefused, Ask, IsLawfulChosen, reads_input};
 
 use command_words::{Command, WordFault, request};
 use machine_profile::{Chosen, profile_of};
 use std::alloc::Global;
 
-/// A command that is there, and the limits that its options choose.
+/// A command, and the limits that its options choose.
 #[derive(Drop)]
 pub struct Plan {
     pub command: Command,
     pub chosen: Chosen,
-    /// Whether the words say how many lines a block has. A check then goes by blocks.
+    /// Whether the words say how many lines a block has. The body is then checked by blocks.
     pub by_blocks: bool,
     ghost lawful: { IsLawfulChosen chosen },
-    ghost built: { is_built command ≡ true },
+    ghost numbers: { (rows start : ℕ) → command ≡ Command.Make rows start → IsMake rows start },
 }
 
 /// Why there is no plan.
@@ -22,8 +24,6 @@ pub struct Plan {
 pub enum PlanFault {
     /// The words are outside the grammar, or an option is out of its bounds.
     Usage,
-    /// The words ask for a command that isn't there yet.
-    Unbuilt,
     /// Memory ran out.
     NoMemory,
 }
@@ -32,7 +32,6 @@ pub enum PlanFault {
 pub fn plan_of(alloc: Global, words: &[String]) -> Result<Plan, PlanFault>
     ensures ok { IfOk result (λ plan. Ask (map string_bytes words.now) plan.command plan.chosen) }
     ensures usage { IsErrOf result PlanFault.Usage → AreRefused (map string_bytes words.now) }
-    ensures unbuilt { IsErrOf result PlanFault.Unbuilt → AskUnbuilt (map string_bytes words.now) }
 {
     let request = match request(alloc, words) {
         Ok(request) => request,
@@ -42,9 +41,6 @@ pub fn plan_of(alloc: Global, words: &[String]) -> Result<Plan, PlanFault>
     let command = request.command;
     match profile_of(&request.options) {
         Ok(chosen) => {
-            if !is_built(command) {
-                return Err(PlanFault::Unbuilt);
-            }
             let by_blocks = request.options.block.is_some();
             Ok(Plan {
                 command,
@@ -56,12 +52,12 @@ pub fn plan_of(alloc: Global, words: &[String]) -> Result<Plan, PlanFault>
     }
 }
 
-// Whether the command is there.
-fn is_built(command: Command) -> bool
-    ensures { result ≡ is_built command }
+/// Whether the command is there and reads an input.
+pub fn reads_input(command: Command) -> bool
+    ensures { result ≡ reads_input command }
 {
     match command {
-        Command::Check { .. } | Command::Text => true,
-        Command::Passes | Command::Live | Command::Make { .. } => false,
+        Command::Check { .. } | Command::Text | Command::Passes => true,
+        Command::Live | Command::Make { .. } => false,
     }
 }

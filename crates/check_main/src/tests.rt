@@ -365,12 +365,12 @@ fn canonical_text(rt: HostRuntime) -> Result<(), Fail> {
             TIDY
         )
     );
-    assert!(rt;
-        is(
-            &said(&rt, alloc, &["passes"], LOOSE)?,
-            Status::Unbuilt,
-            "unbuilt\n"
-        )
-    );
+    Ok(())
+}
+
+#[test]
+fn a_command_to_come(rt: HostRuntime) -> Result<(), Fail> {
+    let live = said(&rt, rt.alloc(), &["live"], b"live 1\n")?;
+    assert!(rt; is(&live, Status::Unbuilt, "unbuilt\n"));
     Ok(())
 }

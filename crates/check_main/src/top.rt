@@ -1,12 +1,14 @@
 //! The whole program, over any source and sink.
-ghost use Rattle.std.specs.Prelude.{◌≡◌, List, ℕ, map, string_bytes, IfOk};
-ghost use Rattle.check_main.specs.Asked.{Ask};
+ghost use Rattle.std.specs.Prelude.{◌≡◌, List, ℕ, true, map, string_bytes, IfOk};
+ghost use Rattle.check_main.specs.Asked.{Ask, reads_input};
 ghost use Rattle.check_main.specs.Top.{Called, Ran, SourceUse, sink_use, source_use};
 
 use crate::answer::answer;
 use crate::ending::Ending;
+use crate::made::answer_made;
 use crate::outcome::{Outcome, Status};
 use crate::plan::{Plan, PlanFault, plan_of};
+use command_words::Command;
 use knit_base::NoMemory;
 use knit_ports::{INPUT_LIMIT, InputFault, Sink, Source, read_input, write_report};
 use std::alloc::Global;
@@ -14,7 +16,8 @@ use std::thread::Threads;
 use verdict_report::Refusal;
 
 /// Does what the words behind the program's name ask for: reads the source to its end, makes the whole report, and only then
-/// writes it to the sink. For words that are refused, or that ask for a command that isn't there yet, nothing is read.
+/// writes it to the sink. For words that are refused, that ask for a made program, or that ask for a command that isn't there
+/// yet, nothing is read.
 ///
 /// Where the source tells the bytes that it has left and the sink those that it has taken, the report is the one that is due
 /// for these very bytes, and the sink takes nothing else. Of a source that tells nothing, as standard input, the report
@@ -22,12 +25,13 @@ use verdict_report::Refusal;
 ///
 /// The statuses are decided in this order:
 /// - `Usage`: exactly where the words are outside the grammar or an option is out of its bounds.
-/// - `Unbuilt`: exactly where the words ask for a command that isn't there yet.
+/// - `Unbuilt`: exactly where the words ask for `live`, which isn't there yet.
 /// - `ReadFault`: only where a read failed before the input was whole.
 /// - `TooLarge`: exactly where the source gave a byte past the limit.
 /// - `BadInput`: exactly where a line isn't UTF-8 or has more than 4,096 bytes, or else where the head is refused.
-/// - `TooLarge`: exactly where the body that is to be checked has more than 1,048,576 lines, or more than 65,536 blocks.
-/// - `Broken`: exactly where a line of the body that is checked breaks a rule.
+/// - `TooLarge`: exactly where the body that `check`, `passes` or `make` checks has more than 1,048,576 lines, or more than
+///   65,536 blocks.
+/// - `Broken`: for `check` and `passes`, exactly where a line of the body breaks a rule.
 /// - `Done` otherwise.
 ///
 /// `WriteFault` takes the place of any of these, only where a write failed; the sink then took a front of the report.
@@ -60,10 +64,28 @@ fn make_ending<R: Threads, S: Source>(
         ending.text.items ending.status) }
 {
     match plan_of(alloc, words) {
-        Ok(plan) => answer_source(rt, alloc, &plan, source),
+        Ok(plan) => carry_out(rt, alloc, &plan, source),
         Err(PlanFault::Usage) => Ending::refusal(alloc, Refusal::Usage, Status::Usage),
-        Err(PlanFault::Unbuilt) => Ending::unbuilt(alloc),
         Err(PlanFault::NoMemory) => Err(NoMemory),
+    }
+}
+
+// What is due for the plan and for what the source gives.
+fn carry_out<R: Threads, S: Source>(
+    rt: &R,
+    alloc: Global,
+    plan: &Plan,
+    source: &mut S,
+) -> Result<Ending, NoMemory>
+    ensures { IfOk result (λ ending. (words : List (List ℕ)) → Ask words plan.now.command plan.now.chosen
+        → Called words (source_use S.left S.faults source.old source.new) ending.text.items ending.status) }
+{
+    match plan.command {
+        Command::Check { .. } | Command::Text | Command::Passes => {
+            answer_source(rt, alloc, plan, source)
+        }
+        Command::Make { rows, start } => answer_made(rt, alloc, plan, rows, start),
+        Command::Live => Ending::unbuilt(alloc),
     }
 }
 
@@ -74,6 +96,7 @@ fn answer_source<R: Threads, S: Source>(
     plan: &Plan,
     source: &mut S,
 ) -> Result<Ending, NoMemory>
+    requires { reads_input plan.now.command ≡ true }
     ensures { IfOk result (λ ending. (words : List (List ℕ)) → Ask words plan.now.command plan.now.chosen
         → Called words (source_use S.left S.faults source.old source.new) ending.text.items ending.status) }
 {

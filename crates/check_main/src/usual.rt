@@ -26,7 +26,7 @@ pub fn execute_usual(alloc: Global, usual: Usual, carriage: &mut Carriage) -> Re
     carriage.execute(&read)
 }
 
-// The same, as a reading. It takes no memory, since it names one carrier at most.
+// A usual line, as a reading. It takes no memory, since it names one carrier at most.
 fn read_of(alloc: Global, usual: Usual) -> Result<Read, NoMemory>
     requires { (profile : Profile) × (carriers : ℕ) × (carriers ≤ 64) × IsLawfulRead profile carriers (usual_read usual) }
     ensures { IfOk result (λ read. read ≡ usual_read usual) }

@@ -8,6 +8,8 @@
 #![tactic(auto)]
 
 mod certificate;
+#[cfg(test)]
+mod every_sequence_tests;
 mod grouping;
 mod listing;
 mod operation;

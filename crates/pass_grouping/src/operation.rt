@@ -1,9 +1,12 @@
 //! The carriage operations of a text.
-ghost use Rattle.std.specs.Prelude.{◌≡◌, ◌+◌, ◌<◌, ◌^◌, ◌-◌, ◌++◌, [], pos, negsuc, ◌+ℤ◌, ◌*ℤ◌, ◌≤ℤ◌, length, All, IfOk, OnErr, OnOk, if◌then◌else◌};
+ghost use Rattle.std.specs.Prelude.{◌≡◌, ◌+◌, ◌<◌, ◌≤◌, ◌^◌, ◌-◌, ◌++◌, ℕ, Some, [], pos, negsuc, ◌+ℤ◌, ◌*ℤ◌, ◌≤ℤ◌, length, All, IfOk, OnErr, OnOk, if◌then◌else◌};
 ghost use Rattle.std.specs.Option.{option_to_list};
+ghost use Rattle.knit_base.specs.declared.profile.Profile.{Profile};
+ghost use Rattle.knit_base.specs.Lawful.{IsLawfulRead};
+ghost use Rattle.knit_base.specs.Usual.{usual_read};
 ghost use Rattle.pass_grouping.specs.Operations.{operation_of_instr, operation_of, ends_stretch, rack_behind, place_of, IsWithinGreatestRack, carried, uncarried};
 
-use knit_base::{Bed, Dir, Instr, ListOf, Needle, NoMemory, Read, Yarns};
+use knit_base::{Bed, CarrierNo, Dir, Instr, ListOf, Needle, NoMemory, Read, Usual, Yarns};
 use std::alloc::Global;
 
 /// What a carriage operation does. Operations of different classes are never in one pass.
@@ -127,6 +130,30 @@ fn operation_of_instr(alloc: Global, spot: Spot, instr: &Instr) -> Result<Option
     }
 }
 
+// The operation of a usual line.
+pub(crate) fn usual_operation(
+    alloc: Global,
+    line: u32,
+    stretch: u32,
+    rack: i32,
+    usual: Usual,
+) -> Result<PassOp, NoMemory>
+    requires rack { IsWithinGreatestRack rack }
+    requires lawful { (profile : Profile) × (carriers : ℕ) × (carriers ≤ 64) × IsLawfulRead profile carriers (usual_read usual) }
+    ensures { IfOk result (λ op. Some op ≡ operation_of line stretch rack (usual_read usual)) }
+{
+    let spot = Spot {
+        line,
+        stretch,
+        rack,
+    };
+    match usual {
+        Usual::Knit(dir, n, c) => spot.formed(alloc, dir, n, c),
+        Usual::Tuck(dir, n, c) => spot.formed(alloc, dir, n, c),
+        Usual::Xfer(n, _) => Ok(spot.uncarried(alloc, Class::Move, n)),
+    }
+}
+
 // Where a line stands: its number, its stretch, and the rack there.
 #[derive(Clone, Copy)]
 struct Spot {
@@ -136,7 +163,8 @@ struct Spot {
 }
 
 impl Spot {
-    ghost use Rattle.std.specs.Prelude.{◌≡◌, IfOk, Some};
+    ghost use Rattle.std.specs.Prelude.{◌≡◌, ◌<◌, ◌∷◌, [], IfOk, Some};
+    ghost use Rattle.pass_grouping.specs.declared.operation.Class.TheVariants as class;
 
     // An operation that goes in a direction and uses carriers.
     fn carried(
@@ -157,6 +185,24 @@ impl Spot {
             yarns: yarns.try_clone()?,
             place: self.place_of(n),
         }))
+    }
+
+    // An operation that forms a loop of this carrier alone.
+    fn formed(self, alloc: Global, dir: Dir, n: Needle, c: CarrierNo) -> Result<PassOp, NoMemory>
+        requires rack { IsWithinGreatestRack self.rack }
+        requires carrier { c.0 < 64 }
+        ensures { IfOk result (λ op. op ≡ carried class.Form self.line self.stretch self.rack dir n (c ∷ [])) }
+    {
+        let mut yarns = Yarns::new(alloc);
+        yarns.push(c)?;
+        Ok(PassOp {
+            line: self.line,
+            stretch: self.stretch,
+            class: Class::Form,
+            dir: Some(dir),
+            yarns,
+            place: self.place_of(n),
+        })
     }
 
     // An operation without direction and carriers.

@@ -62,6 +62,7 @@ fn goes_one_way(way: Dir, ops: &[PassOp], from: usize, to: usize) -> bool
 }
 
 // Whether b may come behind a in one pass that goes this way.
+#[inline(always)]
 fn follows(way: Dir, a: &PassOp, b: &PassOp) -> bool
     ensures { IsTrue result ↔ Follows way a.now b.now }
 {
@@ -74,6 +75,7 @@ fn follows(way: Dir, a: &PassOp, b: &PassOp) -> bool
     is_beyond(way, a.place, b.place)
 }
 
+#[inline(always)]
 fn are_alike(a: &PassOp, b: &PassOp) -> bool
     ensures { IsTrue result ↔ AreAlike a.now b.now }
 {

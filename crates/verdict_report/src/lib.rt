@@ -13,6 +13,8 @@ mod json_list;
 mod json_loops;
 mod made;
 mod passes;
+#[cfg(test)]
+mod passes_tests;
 mod refusal;
 #[cfg(test)]
 mod tests;

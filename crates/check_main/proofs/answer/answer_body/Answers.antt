@@ -1,5 +1,5 @@
 use Rattle.std.proofs.lemmas.Result.{IfOk-weaker}
-use Rattle.command_words.specs.declared.command.Command.TheVariants.{Check, Text}
+use Rattle.command_words.specs.declared.command.Command.TheVariants.{Check, Text, Passes}
 use Rattle.check_main.proofs.Dues.{due-for}
 use Rattle.check_main.proofs.answer.answer_body.Goals as goal
 
@@ -15,3 +15,9 @@ returns-in-Text g c =
     IfOk-weaker c.normalise.result _ _
     (λ ending due input are. due-for c.args.plan.now.command Text c.args.plan.now.chosen input ending.text.items ending.status c.in-Text.is (due input are))
     c.normalise.ensures
+
+pub returns-in-Passes : goal.returns-in-Passes
+returns-in-Passes g c =
+    IfOk-weaker c.passes.result _ _
+    (λ ending due input are. due-for c.args.plan.now.command Passes c.args.plan.now.chosen input ending.text.items ending.status c.in-Passes.is (due input are))
+    c.passes.ensures

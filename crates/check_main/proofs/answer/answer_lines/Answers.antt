@@ -6,6 +6,6 @@ pub returns-in_ok-refusal_of_head-in-Err : goal.returns-in_ok-refusal_of_head-in
 returns-in_ok-refusal_of_head-in-Err g c =
     IfOk-weaker c.refusal.result _ _
     (λ ending is input are.
-    due-bad_head c.args.plan.now.command c.args.plan.now.chosen input ending.text.items ending.status c.args.lines _ _ are c.requires c.in-Err.ensures.fault
+    due-bad_head c.args.plan.now.command c.args.plan.now.chosen input ending.text.items ending.status c.args.lines _ _ are c.requires.good c.in-Err.ensures.fault
     c.in_ok-refusal_of_head-in-Err.ensures is)
     c.refusal.ensures

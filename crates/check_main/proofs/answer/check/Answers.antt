@@ -1,5 +1,6 @@
-use Rattle.std.proofs.Common.{subst}
+use Rattle.std.proofs.Common.{refl, subst}
 use Rattle.std.proofs.lemmas.Result.{IfOk-weaker}
+use Rattle.command_words.specs.declared.command.Command.TheVariants.{Check}
 use Rattle.check_main.specs.Due.{Fits}
 use Rattle.check_main.proofs.Dues.{due-judged, due-too_large}
 use Rattle.check_main.proofs.answer.check.Goals as goal
@@ -8,7 +9,7 @@ pub returns-in-Some : goal.returns-in-Some
 returns-in-Some g c =
     IfOk-weaker c.refusal.result _ _
     (λ ending is input are.
-    due-too_large c.args.style.loops c.args.style.json c.args.plan.now.chosen input ending.text.items ending.status c.args.body.now.lines c.args.body.now.head _ _ are
+    due-too_large (Check c.args.style.loops c.args.style.json) c.args.plan.now.chosen input ending.text.items ending.status c.args.body.now.lines c.args.body.now.head _ _ refl are
     c.args.body.now.good c.args.body.now.headed c.len.ensures c.in-Some.ensures is)
     c.refusal.ensures
 

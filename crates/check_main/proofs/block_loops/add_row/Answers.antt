@@ -2,8 +2,7 @@ use Rattle.std.proofs.Common.{◌≡◌, ◌+◌, map, sym, subst, ◌∙◌}
 use Rattle.std.proofs.lemmas.Result.{on_ok_weaker}
 use Rattle.face_data.specs.Segments.{entries_of}
 use Rattle.face_data.specs.View.{changed_of}
-use Rattle.loop_history.specs.Rows.{fact_of_row}
-use Rattle.check_main.specs.Folds.{entries_held, is_before}
+use Rattle.check_main.specs.Folds.{entries_held}
 use Rattle.check_main.proofs.BlockLoops.{entries_told, row_made}
 use Rattle.check_main.proofs.block_loops.add_row.Goals as goal
 

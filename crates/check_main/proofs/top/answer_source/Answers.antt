@@ -12,7 +12,7 @@ returns-in-Err-Failed g c =
     IfOk-weaker c.refusal.result _ _
     (λ ending is words ask.
     called-as words _ ending.text.items _ ending.status _
-    (broke c.args.plan.now.command c.args.plan.now.chosen ask c.args.plan.now.built (c.read_input.ensures.failed failed) (c.read_input.ensures.gave failed)) is)
+    (broke c.args.plan.now.command c.args.plan.now.chosen ask c.requires (c.read_input.ensures.failed failed) (c.read_input.ensures.gave failed)) is)
     c.refusal.ensures
 
 pub returns-then-len-gt-INPUT_LIMIT : goal.returns-then-len-gt-INPUT_LIMIT
@@ -22,7 +22,7 @@ returns-then-len-gt-INPUT_LIMIT g c =
     IfOk-weaker c.refusal-then-len-gt-INPUT_LIMIT.result _ _
     (λ ending is words ask.
     called-as words _ ending.text.items _ ending.status _
-    (large c.args.plan.now.command c.args.plan.now.chosen c.in-Ok.input.items ask c.args.plan.now.built c.in-Ok.ensures.bytes past) is)
+    (large c.args.plan.now.command c.args.plan.now.chosen c.in-Ok.input.items ask c.requires c.in-Ok.ensures.bytes past) is)
     c.refusal-then-len-gt-INPUT_LIMIT.ensures
 
 pub returns : goal.returns
@@ -30,6 +30,6 @@ returns g c =
     let within : length c.in-Ok.input.items ≤ INPUT_LIMIT = grind (arith, common_steps) in
     IfOk-weaker c.answer.result _ _
     (λ ending due words ask.
-    whole c.args.plan.now.command c.args.plan.now.chosen c.in-Ok.input.items ending.text.items ending.status ask c.args.plan.now.built c.in-Ok.ensures.bytes
+    whole c.args.plan.now.command c.args.plan.now.chosen c.in-Ok.input.items ending.text.items ending.status ask c.requires c.in-Ok.ensures.bytes
     (c.in-Ok.ensures.whole within) within due)
     c.answer.ensures

@@ -1,4 +1,4 @@
-use Rattle.std.proofs.Common.{◌+◌, ap, arith}
+use Rattle.std.proofs.Common.{ap, arith}
 use Rattle.face_data.specs.Summaries.{Summary}
 use Rattle.check_main.proofs.BlockFolds.{both_good}
 use Rattle.check_main.proofs.fold.Fold.take.Goals as goal
