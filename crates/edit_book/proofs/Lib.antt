@@ -1,0 +1,15 @@
+pub mod Added
+pub mod Adds
+pub mod BedNeedles
+pub mod Blocks
+pub mod Counts
+pub mod Cuts
+pub mod LinePlaces
+pub mod Looks
+pub mod Made
+pub mod Openings
+pub mod Puts
+pub mod Rooms
+pub mod Trees
+pub mod Verdicts
+pub mod Work

@@ -1,0 +1,173 @@
+-- How much work an edit takes: the lines after it name no needle but those of the lines before it and of its text.
+use Rattle.std.proofs.Common.{◌≡◌, ⊎_elim, ℕ, ◌+◌, ◌*◌, ◌≤◌, Bool, true, false, cond, ◌||◌, ◌==◌, List, [], ◌∷◌, ◌++◌, length, Option, Some, None, sym, subst, ap, ◌∙◌, refl, arith}
+use Rattle.std.specs.List.{AllZip, Contains, list_any}
+use Rattle.std.proofs.lemmas.Nat.{mul-le}
+use Rattle.knit_base.specs.declared.instr.Read.{Read}
+use Rattle.knit_base.specs.declared.instr.Read.TheVariants as read
+use Rattle.knit_base.specs.declared.needle.Needle.{Needle}
+use Rattle.knit_base.specs.declared.setting.Setting.{Setting}
+use Rattle.knit_base.specs.Instr.{forming_needle}
+use Rattle.knit_base.specs.Needle.{own_slider, same_needle, same_needle-true}
+use Rattle.knitout_reader.specs.Reading.{ReadsAs}
+use Rattle.knitout_reader.proofs.SomeReading.{each-reads}
+use Rattle.face_data.specs.Items.{most_items}
+use Rattle.face_data.specs.Sets.{IsWithin}
+use Rattle.face_data.proofs.Members.{Contains-cons_cases, Contains-head, Contains-none, Contains-tail}
+use Rattle.block_summary.specs.LineSummaries.{NeedlesKnownInLine, SliderKnown}
+use Rattle.block_summary.specs.Prepared.{AreKnown, AreReadings}
+use Rattle.block_summary.proofs.Blocks.{named, named_known}
+use Rattle.tree_shape.specs.Fewest.{highest}
+use Rattle.edit_journal.specs.declared.edit.Anchor.{Anchor}
+use Rattle.edit_journal.specs.declared.edit.Anchor.TheVariants.{Start, After}
+use Rattle.edit_journal.specs.declared.edit.Edit.{Edit}
+use Rattle.edit_journal.specs.declared.edit.Entry.{Entry}
+use Rattle.edit_journal.specs.declared.opening.Opening.{Opening}
+use Rattle.edit_journal.specs.Documents.{Block, Document, after, body, document_of, lines_in, with_after, with_new, with_text, without}
+use Rattle.edit_book.specs.Books.{BookView, Each, IsLawful, IsLeafOf}
+use Rattle.edit_book.specs.Replies.{Request}
+use Rattle.edit_book.specs.Work.{edit_limit, limit_at, needles_in, once, work_limit}
+use Rattle.edit_book.proofs.Puts.{doc_snoc}
+use Rattle.summary_tree.specs.Leaves.{AreGoodFor, Leaf}
+use Rattle.summary_tree.specs.Trees.{TreeView, change_steps}
+
+any_there : (n : Needle) (ns : List Needle) → list_any (same_needle n) ns ≡ true → Contains ns n
+any_there n [] h = absurd (cc)
+any_there n (m ∷ ms) h = go (same_needle n m) refl h (any_there n ms)
+  where
+    go : (t : Bool) → same_needle n m ≡ t → (t || list_any (same_needle n) ms) ≡ true → (list_any (same_needle n) ms ≡ true → Contains ms n) → Contains (m ∷ ms) n
+    go true is h later = subst (λ (k : Needle). Contains (m ∷ ms) k) (sym (same_needle-true n m is)) (Contains-head m ms)
+    go false is h later = Contains-tail m ms n (later h)
+
+-- no needle is left out
+once_keeps : (ns : List Needle) → IsWithin ns (once ns)
+once_keeps [] n there = there
+once_keeps (m ∷ ms) n there = go (list_any (same_needle m) ms) refl (once_keeps ms)
+  where
+    go : (t : Bool) → list_any (same_needle m) ms ≡ t → IsWithin ms (once ms) → Contains (cond t (once ms) (m ∷ once ms)) n
+    go true is rest =
+        ⊎_elim (λ (same : m ≡ n). rest n (subst (λ (k : Needle). Contains ms k) same (any_there m ms is))) (λ (later : Contains ms n). rest n later) (Contains-cons_cases m ms n there)
+    go false is rest =
+        ⊎_elim (λ (same : m ≡ n). subst (λ (k : Needle). Contains (m ∷ once ms) k) same (Contains-head m (once ms))) (λ (later : Contains ms n). Contains-tail m (once ms) n (rest n later))
+        (Contains-cons_cases m ms n there)
+
+slider_wider : (on : Option Needle) (known wider : List Needle) → IsWithin known wider → SliderKnown known on → SliderKnown wider on
+slider_wider None known wider within is = tt
+slider_wider (Some n) known wider within is = within (own_slider n) is
+
+known_wider : (r : Read) (known wider : List Needle) → IsWithin known wider → NeedlesKnownInLine known r → NeedlesKnownInLine wider r
+known_wider (read.Instr i) known wider within is = record {
+  needles = λ n there. within n (is.needles n there);
+  slider = slider_wider (forming_needle i) known wider within is.slider;
+}
+known_wider r known wider within is = tt
+
+-- the line names these needles alone, as it reads
+pub record KnowsLine (setting : Setting) (known : List Needle) (line : List ℕ) : Type 0 where
+  pub reading : Read
+  pub read : ReadsAs setting.profile setting.declared line reading
+  pub knows : NeedlesKnownInLine known reading
+
+zip_known : (setting : Setting) (known : List Needle) (lines : List (List ℕ)) (readings : List Read) → AreReadings setting.profile setting.declared lines readings → AreKnown known readings
+    → Each (KnowsLine setting known) lines
+zip_known setting known [] [] reads all = tt
+zip_known setting known [] (r ∷ rs) reads all = tt
+zip_known setting known (line ∷ lines) [] reads all = absurd reads
+zip_known setting known (line ∷ lines) (r ∷ rs) reads all =
+    (record { reading = r; read = reads.0; knows = all r (Contains-head r rs) }, zip_known setting known lines rs reads.1 (λ q there. all q (Contains-tail r rs q there)))
+
+-- the needles in lines are those that each of them names
+pub lines_known : (setting : Setting) (lines : List (List ℕ)) → Each (KnowsLine setting (needles_in setting lines)) lines
+lines_known setting lines =
+    let rs = each-reads setting.profile setting.declared lines in
+    zip_known setting (needles_in setting lines) lines rs.0 rs.1 (λ r there. known_wider r (named rs.0) (once (named rs.0)) (once_keeps (named rs.0)) (named_known rs.0 r there))
+
+-- readings of lines that name these needles alone
+record Known (setting : Setting) (known : List Needle) (lines : List (List ℕ)) : Type 0 where
+  readings : List Read
+  read : AreReadings setting.profile setting.declared lines readings
+  knows : AreKnown known readings
+
+readings_known : (setting : Setting) (known : List Needle) (lines : List (List ℕ)) → Each (KnowsLine setting known) lines → Known setting known lines
+readings_known setting known [] h = record { readings = []; read = tt; knows = λ r there. absurd (Contains-none r there) }
+readings_known setting known (line ∷ lines) h =
+    let rest = readings_known setting known lines h.1 in
+    record {
+      readings = h.0.reading ∷ rest.readings;
+      read = (h.0.read, rest.read);
+      knows = λ r there. ⊎_elim (λ (same : h.0.reading ≡ r). subst (NeedlesKnownInLine known) same h.0.knows) (λ (later : Contains rest.readings r). rest.knows r later)
+          (Contains-cons_cases h.0.reading rest.readings r there);
+    }
+
+pub each_split : {X : Type 0} (P : X → Type 0) (xs ys : List X) → Each P (xs ++ ys) → Each P xs × Each P ys
+each_split P [] ys h = (tt, h)
+each_split P (x ∷ xs) ys h = let rest = each_split P xs ys h.1 in ((h.0, rest.0), rest.1)
+
+each_join : {X : Type 0} (P : X → Type 0) (xs ys : List X) → Each P xs → Each P ys → Each P (xs ++ ys)
+each_join P [] ys h k = k
+each_join P (x ∷ xs) ys h k = (h.0, each_join P xs ys h.1 k)
+
+module _ (P : List ℕ → Type 0) where
+  -- what holds of the lines before an edit and of its text holds of the lines after it
+  pub put_lines : (bs : List Block) (id i : ℕ) (text : List (List ℕ)) → Each P (lines_in bs) → Each P text → Each P (lines_in (with_text id i text bs))
+  put_lines [] id i text h k = tt
+  put_lines (b ∷ bs) id i text h k =
+      let both = each_split P b.lines (lines_in bs) h in
+      go (b.id == id) both.0 both.1 (put_lines bs id i text both.1 k)
+    where
+      go : (t : Bool) → Each P b.lines → Each P (lines_in bs) → Each P (lines_in (with_text id i text bs))
+          → Each P (lines_in (cond t (record { id = id; stamp = i; lines = text } ∷ bs) (b ∷ with_text id i text bs)))
+      go true own others rest = each_join P text (lines_in bs) k others
+      go false own others rest = each_join P b.lines (lines_in (with_text id i text bs)) own rest
+
+  pub cut_lines : (bs : List Block) (id : ℕ) → Each P (lines_in bs) → Each P (lines_in (without id bs))
+  cut_lines [] id h = tt
+  cut_lines (b ∷ bs) id h =
+      let both = each_split P b.lines (lines_in bs) h in
+      go (b.id == id) both.0 both.1 (cut_lines bs id both.1)
+    where
+      go : (t : Bool) → Each P b.lines → Each P (lines_in bs) → Each P (lines_in (without id bs)) → Each P (lines_in (cond t bs (b ∷ without id bs)))
+      go true own others rest = others
+      go false own others rest = each_join P b.lines (lines_in (without id bs)) own rest
+
+  after_lines : (bs : List Block) (id : ℕ) (new : Block) → Each P (lines_in bs) → Each P new.lines → Each P (lines_in (with_after id new bs))
+  after_lines [] id new h k = tt
+  after_lines (b ∷ bs) id new h k =
+      let both = each_split P b.lines (lines_in bs) h in
+      go (b.id == id) both.0 both.1 (after_lines bs id new both.1 k)
+    where
+      go : (t : Bool) → Each P b.lines → Each P (lines_in bs) → Each P (lines_in (with_after id new bs)) → Each P (lines_in (cond t (b ∷ new ∷ bs) (b ∷ with_after id new bs)))
+      go true own others rest = each_join P b.lines (new.lines ++ lines_in bs) own (each_join P new.lines (lines_in bs) k others)
+      go false own others rest = each_join P b.lines (lines_in (with_after id new bs)) own rest
+
+  pub new_lines : (anchor : Anchor) (bs : List Block) (new : Block) → Each P (lines_in bs) → Each P new.lines → Each P (lines_in (with_new anchor new bs))
+  new_lines Start bs new h k = each_join P new.lines (lines_in bs) k h
+  new_lines (After id) bs new h k = after_lines bs id new h k
+
+leaves_known : (setting : Setting) (known : List Needle) (leaves : List Leaf) (bs : List Block) → AllZip (λ (l : Leaf) (b : Block). IsLeafOf setting l b.lines) leaves bs → Each (KnowsLine setting known) (lines_in bs)
+    → AreGoodFor (length setting.declared) setting.profile.hold known leaves
+leaves_known setting known [] bs h all = tt
+leaves_known setting known (l ∷ leaves) [] h all = absurd h
+leaves_known setting known (l ∷ leaves) (b ∷ bs) h all =
+    let both = each_split (KnowsLine setting known) b.lines (lines_in bs) all in
+    let own = readings_known setting known b.lines both.0 in
+    ((h.0.made own.readings own.read).good known own.knows, leaves_known setting known leaves bs h.1 both.1)
+
+within_limit : (high most : ℕ) → 9 * (high + 2) * most ≤ 16 * (high + 2) * (most + 1)
+within_limit high most = mul-le (9 * (high + 2)) most (16 * (high + 2)) (most + 1) (omega arith) (omega arith)
+
+-- An edit takes no more steps than it may.
+pub edit_work : (o : Opening) (es : List Entry) (session count blocks before now : ℕ) (request : Request) (change : Edit) (lines : List (List ℕ)) (v : BookView) (room : Bool) (tree : TreeView) (longer : List Entry) (leaves : List Leaf)
+    → record { opening = o; entries = es; journal_room = room; tree = tree } ≡ v → longer ≡ es ++ record { session = session; edit = change } ∷ [] → IsLawful o longer leaves
+    → limit_at o.setting (document_of o es) request ≡ edit_limit o.setting blocks lines → count ≡ blocks
+    → Each (KnowsLine o.setting (needles_in o.setting lines)) (body (after (document_of o es) (length es + 1) change))
+    → ((carriers limit : ℕ) (known : List Needle) → AreGoodFor carriers limit known leaves → now ≤ before + change_steps count (most_items carriers limit (length known)))
+    → now ≤ before + work_limit v.opening v.entries request
+edit_work o es session count blocks before now request change lines v room tree longer leaves view longer_is lawful limit_is count_is all steps =
+    let next : document_of o longer ≡ after (document_of o es) (length es + 1) change = ap (document_of o) longer_is ∙ doc_snoc o es (record { session = session; edit = change }) in
+    let known : List Needle = needles_in o.setting lines in
+    let good = leaves_known o.setting known leaves (document_of o longer).blocks lawful.leaves_are (subst (λ (d : Document). Each (KnowsLine o.setting known) (body d)) (sym next) all) in
+    let most : ℕ = most_items (length o.setting.declared) o.setting.profile.hold (length known) in
+    let taken : now ≤ before + change_steps blocks most = subst (λ (n : ℕ). now ≤ before + change_steps n most) count_is (steps (length o.setting.declared) o.setting.profile.hold known good) in
+    let less : change_steps blocks most ≤ edit_limit o.setting blocks lines = within_limit (highest blocks) most in
+    let here : now ≤ before + limit_at o.setting (document_of o es) request = subst (λ (n : ℕ). now ≤ before + n) (sym limit_is) (omega (arith, taken, less)) in
+    subst (λ (w : BookView). now ≤ before + work_limit w.opening w.entries request) view here

@@ -1,0 +1,110 @@
+-- What contracts see of a book, and what always holds of what it keeps.
+use Rattle.std.specs.Prelude.{◌≡◌, ℕ, ◌+◌, ◌<◌, ◌≤◌, ◌^◌, ◌==◌, Bool, true, List, [], ◌∷◌, find, length, map, position, Some, None, IfSome}
+use Rattle.std.specs.List.{AllZip, slice_get}
+use Rattle.std.specs.Option.{option_map_or}
+use Rattle.knit_base.specs.declared.setting.Setting.{Setting}
+use Rattle.knit_base.specs.Limits.{IsLawfulProfile}
+use Rattle.face_data.specs.Summaries.{Summary}
+use Rattle.block_summary.specs.Prepared.{IsPreparedFor}
+use Rattle.edit_journal.specs.declared.edit.Entry.{Entry}
+use Rattle.edit_journal.specs.declared.opening.Opening.{Opening}
+use Rattle.edit_journal.specs.Entries.{JournalView}
+use Rattle.edit_journal.specs.Documents.{Block, Document, block_of, document_of, body, text_at}
+use Rattle.summary_tree.specs.Leaves.{Leaf}
+use Rattle.summary_tree.specs.Trees.{TreeView, CanReplace}
+use Rattle.edit_book.specs.declared.block_state.BlockState.{BlockState}
+use Rattle.edit_book.specs.declared.block_state.BlockState.TheVariants.{There, CutBy}
+use Rattle.edit_book.specs.Orders.{is_id}
+use Rattle.edit_book.specs.Replies.{block_limit, line_limit, entry_limit, cut_number}
+use Rattle.edit_book.specs.Verdicts.{setting_of}
+
+-- what the book began with and the entries since, and beside them the room that it has
+pub record BookView : Type 0 where
+  pub opening : Opening
+  pub entries : List Entry
+  pub journal_room : Bool
+  pub tree : TreeView
+
+-- the same of what a book keeps
+abbrev pub book_view : Opening → JournalView → TreeView → BookView
+book_view opening journal tree = record { opening = opening; entries = journal.entries; journal_room = journal.room; tree = tree }
+
+-- the document of the book's version
+abbrev pub document : BookView → Document
+document book = document_of book.opening book.entries
+
+-- where a block that was drawn is: there, with its stamp, or cut by an entry
+abbrev pub state_of : Document → List Entry → ℕ → BlockState
+state_of d entries id = option_map_or (λ b. There b.stamp) (block_of d.blocks id) (CutBy (cut_number entries id))
+
+-- P holds of each
+abbrev pub Each : {X : Type 0} → (X → Type 0) → List X → Type 0
+Each P [] = Unit {0}
+Each P (x ∷ xs) = P x × Each P xs
+
+-- no number stands twice
+abbrev pub AreDistinct : List ℕ → Type 0
+AreDistinct [] = Unit {0}
+AreDistinct (x ∷ xs) = (find (λ y. y == x) xs ≡ None) × AreDistinct xs
+
+abbrev pub ids_of : List Block → List ℕ
+ids_of blocks = map (λ b. b.id) blocks
+
+-- no id stands twice, and each was drawn
+pub record HasIds (d : Document) : Type 0 where
+  pub differ : AreDistinct (ids_of d.blocks)
+  pub drawn : Each (λ id. id < d.drawn) (ids_of d.blocks)
+
+-- the limits of a book
+pub record Fits (d : Document) (entries : List Entry) : Type 0 where
+  pub entries_fit : length entries ≤ entry_limit
+  pub blocks_fit : length d.blocks ≤ block_limit
+  pub lines_fit : length (body d) ≤ line_limit
+  pub ids_fit : d.drawn ≤ block_limit + length entries
+
+-- a document can be read by it: the profile is lawful, there are few carriers, and each line of a document has a number of 32 bits
+pub record IsLawfulSetting (setting : Setting) : Type 0 where
+  pub profile : IsLawfulProfile setting.profile
+  pub carriers : length setting.declared ≤ 64
+  pub first : setting.first + line_limit < 2 ^ 32
+
+-- the block's text is where its stamp says
+abbrev pub HasText : Opening → List Entry → Block → Type 0
+HasText opening entries b = text_at opening entries b.id b.stamp ≡ Some b.lines
+
+-- each text of the opening and of the entries is short
+abbrev pub HasShortTexts : Opening → List Entry → Type 0
+HasShortTexts opening entries = (id stamp : ℕ) → IfSome (text_at opening entries id stamp) (λ text. length text ≤ 4096)
+
+-- the leaf is made of these lines: they are those of a block that was prepared for the setting
+abbrev pub IsLeafOf : Setting → Leaf → List (List ℕ) → Type 0
+IsLeafOf setting leaf lines = IsPreparedFor setting.profile setting.declared (record { text = lines; face = leaf.0; loops = leaf.1 })
+
+-- each leaf is made of the lines of its block
+abbrev pub HasLeaves : Opening → Document → List Leaf → Type 0
+HasLeaves opening d leaves = AllZip (λ (leaf : Leaf) (b : Block). IsLeafOf (setting_of opening d) leaf b.lines) leaves d.blocks
+
+-- what always holds of a book with these leaves
+pub record IsLawful (opening : Opening) (entries : List Entry) (leaves : List Leaf) : Type 0 where
+  pub has_ids : HasIds (document_of opening entries)
+  pub fits : Fits (document_of opening entries) entries
+  pub texts : Each (HasText opening entries) (document_of opening entries).blocks
+  pub short : HasShortTexts opening entries
+  pub leaves_are : HasLeaves opening (document_of opening entries) leaves
+  pub setting : IsLawfulSetting opening.setting
+
+-- what a book keeps beside its opening, its journal and its tree stands for the document: the states of the blocks drawn, the
+-- ids in their order, and the count of lines
+pub record Stands (opening : Opening) (entries : List Entry) (leaves : List Leaf) (states : List BlockState) (ids : List ℕ) (count : ℕ) : Type 0 where
+  pub lawful : IsLawful opening entries leaves
+  pub drawn : length states ≡ (document_of opening entries).drawn
+  pub states_are : (id : ℕ) → id < (document_of opening entries).drawn → slice_get states id ≡ Some (state_of (document_of opening entries) entries id)
+  pub order : ids ≡ ids_of (document_of opening entries).blocks
+  pub lines : count ≡ length (body (document_of opening entries))
+
+abbrev pub IsLawfulBook : BookView → Type 0
+IsLawfulBook book = IsLawful book.opening book.entries book.tree.leaves
+
+-- a put of a text with this summary at the block takes no memory; where the block isn't there no room is needed
+abbrev pub IsReady : BookView → ℕ → Summary → Type 0
+IsReady book id summary = IfSome (position (is_id id) (ids_of (document book).blocks)) (λ at. (book.journal_room ≡ true) × CanReplace book.tree at summary)

@@ -1,0 +1,6 @@
+pub mod Books
+pub mod Opened
+pub mod Orders
+pub mod Replies
+pub mod Verdicts
+pub mod Work

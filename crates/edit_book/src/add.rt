@@ -1,0 +1,133 @@
+//! A new block comes in.
+ghost use Rattle.std.specs.Prelude.{◌≡◌, ◌+◌, ◌<◌, ◌≤◌, None, length};
+ghost use Rattle.block_summary.specs.Prepared.{IsPreparedFor};
+ghost use Rattle.edit_journal.specs.Documents.{after, body};
+ghost use Rattle.edit_journal.specs.declared.edit.Edit.TheVariants as edit;
+ghost use Rattle.edit_book.specs.Books.{document, ids_of};
+ghost use Rattle.edit_book.specs.Orders.{place_of};
+ghost use Rattle.edit_book.specs.Replies as request;
+ghost use Rattle.edit_book.specs.Replies.{refused_anchor, refusal_of, IsTurn};
+ghost use Rattle.edit_book.specs.Work.{work_limit};
+
+use crate::block_state::BlockState;
+use crate::room::room_for_entry;
+use crate::{Book, Reply};
+use block_summary::Prepared;
+use edit_journal::{Anchor, Edit, Entry};
+use face_data::brief_of;
+use knit_base::{BlockText, Steps};
+use std::sync::ledger::Ledger;
+
+impl Book {
+    /// Puts a new block first, or directly after another. Its id is the count of ids drawn, its stamp the new version.
+    pub fn add<L: Ledger>(
+        &mut self,
+        session: u32,
+        anchor: Anchor,
+        prepared: Prepared,
+        steps: &mut Steps<L>,
+    ) -> Reply
+        requires session { session < 64 }
+        requires prepared { IsPreparedFor self.old.opening.setting.profile self.old.opening.setting.declared prepared }
+        ensures opening { self.new.opening ≡ self.old.opening }
+        ensures turned { IsTurn self.old.opening self.old.entries session (request.Add anchor prepared.text) result self.new.entries }
+        ensures steps { steps.new ≤ steps.old + work_limit self.old.opening self.old.entries (request.Add anchor prepared.text) }
+    {
+        if let Some(refusal) = self.refused_anchor(anchor) {
+            return refusal;
+        }
+        if let Some(refusal) = self.refused_entries() {
+            return refusal;
+        }
+        if let Some(refusal) = self.refused_blocks() {
+            return refusal;
+        }
+        let id = self.ids();
+        let lines = self.lines_after_add(anchor, id, &prepared.text);
+        if let Some(refusal) = self.refused_count(lines) {
+            return refusal;
+        }
+        self.add_fitting(session, anchor, id, prepared, steps)
+    }
+
+    // An add that nothing refuses.
+    fn add_fitting<L: Ledger>(
+        &mut self,
+        session: u32,
+        anchor: Anchor,
+        id: u32,
+        prepared: Prepared,
+        steps: &mut Steps<L>,
+    ) -> Reply
+        requires prepared { IsPreparedFor self.old.opening.setting.profile self.old.opening.setting.declared prepared }
+        requires id { id ≡ (document self.old).drawn }
+        requires anchor { refused_anchor (document self.old) self.old.entries anchor ≡ None }
+        requires free { refusal_of (document self.old) self.old.entries (request.Add anchor prepared.text) ≡ None }
+        ensures opening { self.new.opening ≡ self.old.opening }
+        ensures turned { IsTurn self.old.opening self.old.entries session (request.Add anchor prepared.text) result self.new.entries }
+        ensures steps { steps.new ≤ steps.old + work_limit self.old.opening self.old.entries (request.Add anchor prepared.text) }
+    {
+        let lines = self.lines_after_add(anchor, id, &prepared.text);
+        let version = self.version() + 1;
+        let at = self.place_after(anchor);
+        let Prepared { text, face, loops } = prepared;
+        if room_for_entry(&mut self.journal).is_err() {
+            return Reply::NoMemory;
+        }
+        if self.order.reserve_one().is_err() {
+            return Reply::NoMemory;
+        }
+        if self.states.reserve(1).is_err() {
+            return Reply::NoMemory;
+        }
+        let need = self.tree.need_insert(at as u32, &face.view());
+        if self.tree.reserve(&need).is_err() {
+            return Reply::NoMemory;
+        }
+        self.journal.push(Entry {
+            session,
+            edit: Edit::Add {
+                anchor,
+                block: id,
+                text,
+            },
+        });
+        self.states.push_reserved(BlockState::There(version));
+        self.order.insert(at, id);
+        self.tree.insert(at as u32, &face.view(), loops, steps);
+        self.lines = lines;
+        let brief = brief_of(&self.tree.root(), self.opening.setting.first);
+        Reply::Accepted {
+            version,
+            block: id,
+            brief,
+        }
+    }
+
+    // The lines of the body after an add.
+    #[tactic(auto, using(crate::proofs::Adds::added))]
+    fn lines_after_add(&self, anchor: Anchor, id: u32, text: &BlockText) -> u32
+        requires short { length text.now ≤ 4096 }
+        requires anchor { refused_anchor (document self.now) self.now.entries anchor ≡ None }
+        requires id { id ≡ (document self.now).drawn }
+        ensures { result ≡ length (body (after (document self.now) (length self.now.entries + 1) (edit.Add anchor id text.now))) }
+    {
+        self.lines + text.len()
+    }
+
+    // The place of a new block.
+    fn place_after(&self, anchor: Anchor) -> usize
+        requires { refused_anchor (document self.now) self.now.entries anchor ≡ None }
+        ensures place { result ≡ place_of anchor (ids_of (document self.now).blocks) }
+        ensures few { result ≤ 65536 }
+    {
+        let _lines = self.lines;
+        match anchor {
+            Anchor::Start => 0,
+            Anchor::After(id) => match self.order.position(id) {
+                Some(at) => at + 1,
+                None => unreachable!(),
+            },
+        }
+    }
+}

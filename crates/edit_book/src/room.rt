@@ -1,0 +1,47 @@
+//! Room for a put, made before it.
+ghost use Rattle.std.specs.Prelude.{◌≡◌, ◌↔◌, true, IsOk, OnOk};
+ghost use Rattle.edit_book.specs.Books.{IsReady};
+
+use crate::Book;
+use block_summary::Prepared;
+use edit_journal::Journal;
+use knit_base::NoMemory;
+
+impl Book {
+    /// Whether a put of this text at the block takes no memory. For a block that isn't there it is true.
+    pub fn ready(&self, block: u32, prepared: &Prepared) -> bool
+        ensures { (result ≡ true) ↔ IsReady self.now block prepared.now.face }
+    {
+        let Some(at) = self.order.position(block) else {
+            return true;
+        };
+        let need = self.tree.need_replace(at as u32, &prepared.face.view());
+        self.journal.has_room() && self.tree.meets(&need)
+    }
+
+    /// Makes room for a put of this text at the block, and changes nothing else that contracts see.
+    pub fn warm(&mut self, block: u32, prepared: &Prepared) -> Result<(), NoMemory>
+        ensures ok { OnOk result (IsReady self.new block prepared.now.face) }
+        ensures opening { self.new.opening ≡ self.old.opening }
+        ensures entries { self.new.entries ≡ self.old.entries }
+    {
+        let Some(at) = self.order.position(block) else {
+            return Ok(());
+        };
+        let need = self.tree.need_replace(at as u32, &prepared.face.view());
+        room_for_entry(&mut self.journal)?;
+        self.tree.reserve(&need)
+    }
+}
+
+/// Makes room for one more entry, where it isn't there. Fails where memory runs out, with the journal as before.
+pub(crate) fn room_for_entry(journal: &mut Journal) -> Result<(), NoMemory>
+    ensures ok { OnOk result (journal.new.room ≡ true) }
+    ensures entries { journal.new.entries ≡ journal.old.entries }
+    ensures ready { journal.old.room ≡ true → IsOk result }
+{
+    if journal.has_room() {
+        return Ok(());
+    }
+    journal.reserve_one()
+}
