@@ -1,6 +1,8 @@
 pub mod AskedHold
 pub mod Blocks
+pub mod ChainWalks
 pub mod DraftSteps
+pub mod FoundConditions
 pub mod KeptConditions
 pub mod KnownNeedles
 pub mod LaidChanges

@@ -18,8 +18,10 @@
 //! `loop_history` and the crates of the four groups of rules.
 #![tactic(auto)]
 
+mod chains;
 mod draft;
 mod formed;
+mod implied;
 mod instr_ask;
 mod kept;
 mod laid;
