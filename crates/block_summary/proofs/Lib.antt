@@ -4,6 +4,8 @@ pub mod ChainWalks
 pub mod DraftSteps
 pub mod FoundConditions
 pub mod KeptConditions
+pub mod KnitSteps
+pub mod KnownKnits
 pub mod KnownNeedles
 pub mod LaidChanges
 pub mod LineChanges

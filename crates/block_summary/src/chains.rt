@@ -79,6 +79,13 @@ impl Chains {
         }
     }
 
+    /// No links any more. The room is kept; the places of the last links may stay, since any will do.
+    pub fn clear(&mut self)
+        ensures { self.new.links ≡ [] }
+    {
+        self.links.clear();
+    }
+
     /// Makes room for so many links more.
     pub fn reserve(&mut self, more: usize) -> Result<(), NoMemory>
         ensures links { self.new.links ≡ self.old.links }

@@ -17,7 +17,7 @@ ghost use Rattle.face_data.specs.Goodness.{IsInOrder};
 ghost use Rattle.face_data.specs.Conditions.Ask.{carrier_in, size_at_most};
 ghost use Rattle.face_data.specs.Segments.{change_at, segments_on};
 ghost use Rattle.face_data.specs.Sizes.{SizeRule, size_ask};
-ghost use Rattle.face_data.specs.Drafts.{no_lines};
+ghost use Rattle.face_data.specs.Drafts.{no_effect, no_lines};
 ghost use Rattle.block_summary.specs.DraftKnowledge.{HoldsAfter, HasAsked, IsSmall, Took, effect_in, stopped_at};
 ghost use Rattle.block_summary.specs.LineSummaries.{line_summary};
 
@@ -66,14 +66,21 @@ impl Draft {
             made: 0,
             kept: Kept::new(alloc),
             symbols: Symbols::new(alloc),
-            effect: Effect {
-                rack: None,
-                came: 0,
-                went: 0,
-                hook: None,
-            },
+            effect: no_effect(),
             bare: none_bare(),
         }
+    }
+
+    /// Forgets the lines that were read, and keeps the room that they took.
+    pub fn clear(&mut self)
+        ensures { self.new ≡ no_lines }
+    {
+        self.lines = 0;
+        self.made = 0;
+        self.kept.clear();
+        self.symbols.clear();
+        self.effect = no_effect();
+        self.bare = none_bare();
     }
 
     /// What the needles hold after the lines.
@@ -99,7 +106,8 @@ impl Draft {
     /// Keeps in mind that the own slider of the needle is known to hold nothing.
     pub fn note_bare(&mut self, n: Needle)
         requires { HoldsAfter self.old (size_at_most (own_slider n ∷ []) 0) }
-        ensures { self.new ≡ self.old }
+        ensures same { self.new ≡ self.old }
+        ensures through { self.old.ending ≡ Through (effect_in self.old.ending) }
     {
         self.bare[slot_of(n)] = Some(n);
     }
@@ -173,8 +181,15 @@ impl Draft {
         }
     }
 
-    // These needles are to hold at most so many loops at the block's entry.
-    fn ask_entries(
+    /// Whether no line has changed what the needle holds.
+    pub(crate) fn is_untouched(&self, n: Needle) -> bool
+        ensures { IsTrue result → change_at self.now.changes n ≡ None }
+    {
+        self.symbols.of(n).is_none()
+    }
+
+    /// These needles are to hold at most so many loops at the block's entry.
+    pub(crate) fn ask_entries(
         &mut self,
         entries: &[Needle],
         most: u8,
@@ -293,6 +308,17 @@ impl Draft {
             Some(was) => Ok(was),
             None => Ok(Segs::one(self.alloc, Seg::Entry(n))),
         }
+    }
+}
+
+fn no_effect() -> Effect
+    ensures { result ≡ no_effect }
+{
+    Effect {
+        rack: None,
+        came: 0,
+        went: 0,
+        hook: None,
     }
 }
 

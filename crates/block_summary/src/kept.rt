@@ -56,6 +56,16 @@ impl Kept {
         }
     }
 
+    /// Keeps nothing any more. The room is kept.
+    pub fn clear(&mut self)
+        ensures { self.new ≡ [] }
+    {
+        self.checks.clear();
+        self.names.clear();
+        self.digest = Digest::blank();
+        self.chains.clear();
+    }
+
     /// What the conditions ask of rack, carriers and hook.
     pub fn digest(&self) -> Digest
         ensures digest { result ≡ digest_of self.now }

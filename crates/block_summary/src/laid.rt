@@ -38,11 +38,21 @@ impl Laid {
         }
     }
 
+    // No changes, with room for so many of one segment each.
+    fn with_room(alloc: Global, room: usize) -> Result<Self, NoMemory>
+        ensures { IfOk result (λ laid. laid ≡ []) }
+    {
+        Ok(Laid {
+            changes: Vec::with_capacity(alloc, room)?,
+            segs: Vec::with_capacity(alloc, room)?,
+        })
+    }
+
     /// The needles that were touched, each with what it holds.
     pub fn of(alloc: Global, symbols: &Symbols) -> Result<Self, NoMemory>
         ensures { IfOk result (λ laid. laid ≡ symbols.now) }
     {
-        let mut laid = Laid::new(alloc);
+        let mut laid = Laid::with_room(alloc, symbols.as_slice().len())?;
         for held in symbols.as_slice() {
             laid.push(held.0, held.1.as_slice())?;
         }

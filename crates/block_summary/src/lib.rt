@@ -36,4 +36,4 @@ pub use formed::FormedLoop;
 pub use instr_ask::{InstrAsk, ask_instr};
 pub use line::LineEnd;
 pub use line_ask::{LineAsk, ask_line};
-pub use prepared::{MOST_LINES, PrepareFault, Prepared, prepare};
+pub use prepared::{MOST_LINES, PrepareFault, Prepared, prepare, prepare_with};

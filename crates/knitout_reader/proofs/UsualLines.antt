@@ -42,6 +42,7 @@ use Rattle.knitout_reader.specs.Shapes.{IsFormed, XferShape}
 use Rattle.knitout_reader.specs.Tokens.{before_comment, has_comment, is_blank, is_semicolon, tokens_of}
 use Rattle.knitout_reader.specs.Usual.{AreByteNames, BeginsWithUsual, BeginsWithUsualName, BeginsWithUsualNeedles, BeginsWithUsualNumber, BeginsWithUsualOperands, IsByteName, IsPairName, IsTokenByte, pair_text}
 use Rattle.knitout_reader.proofs.Marks.{loop-reading}
+use Rattle.knitout_reader.proofs.OneShape.{one-reading, reads-tokens}
 use Rattle.knitout_reader.proofs.Rules.{tokens-lawful}
 use Rattle.knitout_reader.proofs.TokenRuns.{tokens_of-spaced, tokens_of-token}
 
@@ -191,17 +192,25 @@ begins_spaced : (profile : Profile) (names : List (List ℕ)) (text rest : List 
     → BeginsWithUsual profile names text usual (length text - length rest)
 begins_spaced profile names text rest usual carriers h = begins profile names text rest h.word h.tokens usual h.text_is h.plain h.short h.few carriers h.reads
 
--- a line alone that is so spelt
-pub alone : (profile : Profile) (names : List (List ℕ)) (line : List ℕ) (usual : Usual) → IsSpaced profile names (line ++ 10 ∷ []) [] usual
-    → ReadsAs profile names line (usual_read usual) × IsLawfulRead profile (length names) (usual_read usual)
+-- a line alone reads so, lawfully, and no other way
+abbrev pub IsReadingOf : Profile → List (List ℕ) → List ℕ → Usual → Type 0
+IsReadingOf profile names line usual =
+    ReadsAs profile names line (usual_read usual)
+    × IsLawfulRead profile (length names) (usual_read usual)
+    × ((other : Read) → ReadsAs profile names line other → other ≡ usual_read usual)
+
+-- what a line alone says that is so spelt
+pub alone : (profile : Profile) (names : List (List ℕ)) (line : List ℕ) (usual : Usual) → IsSpaced profile names (line ++ 10 ∷ []) [] usual → IsReadingOf profile names line usual
 alone profile names line usual h =
     let bytes : All IsLineByte (spaced (h.word ∷ h.tokens)) = bytes-spaced (h.word ∷ h.tokens) h.plain in
     let same : line ≡ spaced (h.word ∷ h.tokens) = append_cancel_right line (spaced (h.word ∷ h.tokens)) (10 ∷ []) h.text_is in
-    let few : length h.tokens ≤ 3 = h.few in (
-      subst (λ l. ReadsAs profile names l (usual_read usual)) (sym same)
-          (reads_line profile names (spaced (h.word ∷ h.tokens)) h.word h.tokens (usual_read usual)
-          (ap tokens_of (no_comment (spaced (h.word ∷ h.tokens)) bytes) ∙ tokens-spaced (h.word ∷ h.tokens) h.plain) h.reads),
+    let few : length h.tokens ≤ 3 = h.few in
+    let tokens : tokens_of (before_comment line) ≡ h.word ∷ h.tokens =
+    ap (λ l. tokens_of (before_comment l)) same ∙ ap tokens_of (no_comment (spaced (h.word ∷ h.tokens)) bytes) ∙ tokens-spaced (h.word ∷ h.tokens) h.plain in (
+      reads_line profile names line h.word h.tokens (usual_read usual) tokens h.reads,
       tokens-lawful profile names h.word h.tokens (usual_read usual) (omega (arith, few)) h.reads,
+      λ other two. one-reading profile names h.word h.tokens (usual_read usual) other h.reads
+          (reads-tokens profile names (tokens_of (before_comment line)) h.tokens h.word (has_comment line) other tokens two),
     )
 
 digit_bytes : (digits : List ℕ) → All IsDigit digits → All IsTokenByte digits

@@ -1,19 +1,16 @@
 -- Lines without a line feed behind them: what is read of them is what is read of them with one.
-use Rattle.std.proofs.Common.{◌≡◌, ℕ, ℤ, false, List, [], ◌∷◌, ◌++◌, length, Option, None, Some, IfSome, codes, ap, sym, ◌∙◌, refl, append_assoc}
+use Rattle.std.proofs.Common.{◌≡◌, ℕ, ℤ, false, List, [], ◌∷◌, ◌++◌, Option, None, Some, IfSome, codes, ap, sym, ◌∙◌, refl, append_assoc}
 use Rattle.knit_base.specs.declared.needle.Dir.{Dir}
 use Rattle.knit_base.specs.declared.needle.Needle.{Needle}
 use Rattle.knit_base.specs.declared.profile.Profile.{Profile}
-use Rattle.knit_base.specs.declared.usual.Usual.{Usual}
 use Rattle.knit_base.specs.declared.usual.Usual.TheVariants.{Knit, Tuck, Xfer}
 use Rattle.knit_base.specs.declared.yarns.CarrierNo.{CarrierNo}
-use Rattle.knit_base.specs.Lawful.{IsLawfulRead, IsOnBed}
+use Rattle.knit_base.specs.Lawful.{IsOnBed}
 use Rattle.knit_base.specs.Names.{carrier_of}
 use Rattle.knit_base.specs.Needle.{is_front, is_slider}
 use Rattle.knit_base.specs.Spelling.{bed_word, dir_word}
-use Rattle.knit_base.specs.Usual.{usual_read}
-use Rattle.knitout_reader.specs.Reading.{ReadsAs}
 use Rattle.knitout_reader.specs.Usual.{BeginsWithUsualName, BeginsWithUsualNeedle, BeginsWithUsualNeedles, BeginsWithUsualNumber, BeginsWithUsualOperands, IsShortToken}
-use Rattle.knitout_reader.proofs.UsualLines.{alone, knit_spaced, tuck_spaced, xfer_spaced}
+use Rattle.knitout_reader.proofs.UsualLines.{IsReadingOf, alone, knit_spaced, tuck_spaced, xfer_spaced}
 
 number_longer : (text rest more : List ℕ) (at : ℤ) (end : ℕ) → BeginsWithUsualNumber text at end rest → BeginsWithUsualNumber (text ++ more) at end (rest ++ more)
 number_longer text rest more at end h = record {
@@ -73,10 +70,6 @@ whole_needles_are profile text needles behind n n2 is needle needle2 sides = rec
   needle2 = needle2;
   sides = sides;
 }
-
--- what a whole line reads as
-abbrev pub IsReadingOf : Profile → List (List ℕ) → List ℕ → Usual → Type 0
-IsReadingOf profile names line usual = ReadsAs profile names line (usual_read usual) × IsLawfulRead profile (length names) (usual_read usual)
 
 longer : (word line operands : List ℕ) → line ≡ word ++ operands → line ++ 10 ∷ [] ≡ word ++ (operands ++ 10 ∷ [])
 longer word line operands is = ap (λ (l : List ℕ). l ++ 10 ∷ []) is ∙ append_assoc word operands (10 ∷ [])

@@ -2,6 +2,7 @@
 //!
 //! What `usual_line` is to the front of a text, this is to a line without its line feed. It looks the carrier's name up in the header's names, so it needs no table of them.
 ghost use Rattle.std.specs.Prelude.{◌≡◌, ◌∷◌, ◌++◌, [], true, length, IfSome};
+ghost use Rattle.knit_base.specs.declared.instr.Read.{Read};
 ghost use Rattle.knit_base.specs.Lawful.{IsLawfulRead};
 ghost use Rattle.knit_base.specs.Usual.{usual_read};
 ghost use Rattle.knitout_reader.specs.Numbers.{IsDigit};
@@ -15,6 +16,7 @@ use knit_base::{CarrierNo, Declared, Dir, Needle, Profile, Usual};
 /// `xfer`, with one space between two tokens and needles of one to three digits. `None` says nothing of the line.
 pub fn usual_whole_line(line: &[u8], profile: &Profile, declared: &Declared) -> Option<Usual>
     ensures reads { IfSome result (λ usual. ReadsAs profile.now declared.now line.now (usual_read usual)) }
+    ensures only { IfSome result (λ usual. (other : Read) → ReadsAs profile.now declared.now line.now other → other ≡ usual_read usual) }
     ensures lawful { IfSome result (λ usual. IsLawfulRead profile.now (length declared.now) (usual_read usual)) }
 {
     if let Some(operands) = behind_four(line, *b"knit") {

@@ -1,40 +1,25 @@
-use Rattle.std.proofs.Common.{subst}
-use Rattle.block_summary.specs.declared.line.LineEnd.{LineEnd}
-use Rattle.block_summary.specs.LineEnds.{EndsAs}
-use Rattle.block_summary.proofs.Blocks.{goes_lines, stops_lines, rows_more, rows_wider}
+use Rattle.std.proofs.Common.{length, sym, subst}
+use Rattle.std.proofs.lemmas.Result.{IfOk-weaker}
+use Rattle.knit_base.specs.declared.instr.Read.{Read}
+use Rattle.knitout_reader.specs.Reading.{ReadsAs}
+use Rattle.block_summary.specs.Prepared.{AddsLine}
 use Rattle.block_summary.proofs.prepared.add_line.Goals as goal
 
-pub returns-in-Stops-clause-lines : goal.returns-in-Stops-clause-lines
-returns-in-Stops-clause-lines c =
-    let hold = c.args.setting.now.profile.hold in
-    let read = c.in_ok-read.read in
-    let old = c.args.draft.now in
-    let new = c.line.new.self in
-    stops_lines hold read old new c.in-Stops.fault (subst (λ (end : LineEnd). EndsAs hold read old new end) c.in-Stops.is c.in_ok-fault.ensures)
+pub returns-in-Some-clause-added : goal.returns-in-Some-clause-added
+returns-in-Some-clause-added c =
+    let profile = c.args.setting.now.profile in
+    let names = c.args.setting.now.declared in
+    IfOk-weaker c.add_usual.result _ _
+    (λ stop adds r reads.
+    subst (λ (x : Read). AddsLine profile (length names) x c.args.draft.now c.add_usual.new.draft c.args.loops.now c.add_usual.new.loops stop)
+    (sym (c.in-Some.ensures.only r (subst (λ line. ReadsAs profile names line r) (sym c.as_bytes.ensures.value) reads))) adds)
+    c.add_usual.ensures.added
 
-pub returns-in-Stops-clause-rows : goal.returns-in-Stops-clause-rows
-returns-in-Stops-clause-rows c =
-    let hold = c.args.setting.now.profile.hold in
-    let read = c.in_ok-read.read in
-    let old = c.args.draft.now in
-    let new = c.line.new.self in
-    rows_wider old.lines new.lines c.args.loops.now
-    (stops_lines hold read old new c.in-Stops.fault (subst (λ (end : LineEnd). EndsAs hold read old new end) c.in-Stops.is c.in_ok-fault.ensures)) c.requires.rows
-
-pub returns-clause-lines : goal.returns-clause-lines
-returns-clause-lines c =
-    let hold = c.args.setting.now.profile.hold in
-    let read = c.in_ok-read.read in
-    let old = c.args.draft.now in
-    let new = c.line.new.self in
-    goes_lines hold read old new c.in-GoesOn.formed (subst (λ (end : LineEnd). EndsAs hold read old new end) c.in-GoesOn.is c.in_ok-fault.ensures)
-
-pub returns-clause-rows : goal.returns-clause-rows
-returns-clause-rows c =
-    let hold = c.args.setting.now.profile.hold in
-    let read = c.in_ok-read.read in
-    let old = c.args.draft.now in
-    let new = c.line.new.self in
-    rows_more old.lines new.lines c.args.loops.now c.add_row.new.loops c.lines-offset.result c.in-GoesOn.formed
-    (goes_lines hold read old new c.in-GoesOn.formed (subst (λ (end : LineEnd). EndsAs hold read old new end) c.in-GoesOn.is c.in_ok-fault.ensures))
-    c.lines-offset.ensures c.in_ok-add_row-in-GoesOn.ensures c.requires.rows
+pub returns-clause-added : goal.returns-clause-added
+returns-clause-added c =
+    let profile = c.args.setting.now.profile in
+    let names = c.args.setting.now.declared in
+    IfOk-weaker c.add_read.result _ _
+    (λ stop adds r reads.
+    subst (λ (x : Read). AddsLine profile (length names) x c.args.draft.now c.add_read.new.draft c.args.loops.now c.add_read.new.loops stop) (sym (c.in_ok-read.ensures.only r reads)) adds)
+    c.add_read.ensures.added
