@@ -127,7 +127,7 @@ unfolding reads
 gathered_as mid = refl
 
 -- Asking a line's conditions once more changes nothing.
-asked_again : (hold : ℕ) (instr : Instr) (old mid : Summary) → old.ending ≡ Through (effect_in old.ending) → HasAskedAll old mid (asked_by hold instr) None →
+pub asked_again : (hold : ℕ) (instr : Instr) (old mid : Summary) → old.ending ≡ Through (effect_in old.ending) → HasAskedAll old mid (asked_by hold instr) None →
     composed mid (line_summary hold (read.Instr instr)) ≡ composed old (line_summary hold (read.Instr instr))
 asked_again hold instr old mid through asked =
     let line : Summary = line_summary hold (read.Instr instr) in

@@ -3,11 +3,11 @@ use Rattle.std.proofs.Common.{◌≡◌, ◌-◌, ◌<◌, ◌≤◌, ◌^◌, �
 use Rattle.std.specs.List.{Contains, flat_map, sum_by}
 use Rattle.knit_base.specs.declared.instr.Instr.{Instr}
 use Rattle.knit_base.specs.declared.instr.Instr.TheVariants.{Knit}
-use Rattle.knit_base.specs.declared.instr.Read.TheVariants as read
 use Rattle.knit_base.specs.declared.needle.Dir.{Dir}
 use Rattle.knit_base.specs.declared.needle.Needle.{Needle}
+use Rattle.knit_base.specs.declared.rule.Fault.{Fault}
 use Rattle.knit_base.specs.declared.rule.Reason.{Reason}
-use Rattle.knit_base.specs.declared.rule.Rule.TheVariants.{SliderHolds}
+use Rattle.knit_base.specs.declared.rule.Rule.TheVariants.{CarrierIsOut, SliderHolds}
 use Rattle.knit_base.specs.declared.yarns.CarrierNo.{CarrierNo}
 use Rattle.knit_base.specs.Instr.{forming_needle}
 use Rattle.knit_base.specs.Needle.{own_slider}
@@ -27,9 +27,9 @@ use Rattle.face_data.proofs.Members.{Contains-head, Contains-tail}
 use Rattle.carrier_rules.specs.declared.conds.OfEach.TheVariants.{InAction}
 use Rattle.carrier_rules.specs.Carriers.{conds_of, conds_of_each}
 use Rattle.slider_rules.specs.Sliders.{bare_slider}
-use Rattle.block_summary.specs.DraftKnowledge.{HasAskedAll, HoldsAfter, Took, effect_in}
+use Rattle.block_summary.specs.DraftKnowledge.{HasAsked, HasAskedAll, HoldsAfter, Took, effect_in}
 use Rattle.block_summary.specs.LineSummaries.{asked_by, asked_of_sizes, plainly_asked, rack_asked, sizes_asked, slider_asked}
-use Rattle.block_summary.proofs.DraftSteps.{carriers_asked}
+use Rattle.block_summary.proofs.DraftSteps.{carriers_asked, took_rest}
 use Rattle.block_summary.proofs.LineSteps.{both_asked, first_stops, one_asked}
 
 -- conditions that are known to hold are passed over
@@ -79,14 +79,15 @@ pub knit_stops : (hold : ℕ) (instr : Instr) (old new : Summary) (reason : Reas
 knit_stops hold instr old new reason first =
     first_stops old new (map plainly_asked (conds_of instr)) (rack_asked instr ++ (slider_asked (forming_needle instr) ++ sizes_asked hold instr)) reason first
 
-knit_is_asked : (hold : ℕ) (dir : Dir) (n : Needle) (cs : List CarrierNo) (old mid new : Summary) (stop : Option Reason) → 1 ≤ length cs →
+-- the carriers of a knit were asked about, and then its slider
+pub knit_is_asked : (hold : ℕ) (dir : Dir) (n : Needle) (cs : List CarrierNo) (old mid new : Summary) (stop : Option Reason) → 1 ≤ length cs →
     HasAskedAll old mid (map plainly_asked (conds_of_each InAction 3 cs)) None → HasAskedAll mid new (asked_of_sizes (bare_slider n) ∷ []) stop →
     HasAskedAll old new (asked_by hold (Knit dir n cs)) stop
 knit_is_asked hold dir n [] old mid new stop some first second = absurd (omega (arith, some))
 knit_is_asked hold dir n (c ∷ cs) old mid new stop some first second =
     both_asked old mid new (map plainly_asked (conds_of_each InAction 3 (c ∷ cs))) (asked_of_sizes (bare_slider n) ∷ []) stop first second
 
--- its carriers were asked about, and then its slider
+-- the same of an instruction that is one
 pub knit_is_all_asked : (hold : ℕ) (instr : Instr) (dir : Dir) (n : Needle) (cs : List CarrierNo) (old mid new : Summary) (stop : Option Reason) → instr ≡ Knit dir n cs → 1 ≤ length cs →
     HasAskedAll old mid (map plainly_asked (conds_of instr)) None → HasAskedAll mid new (asked_of_sizes (bare_slider n) ∷ []) stop → HasAskedAll old new (asked_by hold instr) stop
 knit_is_all_asked hold instr dir n cs old mid new stop is some first second =
@@ -100,3 +101,15 @@ through_before old mid rest goes = sym (ap (λ (s : Summary). s.ending) rest) �
 -- and are no more
 pub lines_before : (old mid : Summary) → mid ≡ record old { checks = mid.checks } → old.lines < 2 ^ 32 - 1 → mid.lines < 2 ^ 32 - 1
 lines_before old mid rest few = subst (λ (s : Summary). s.lines < 2 ^ 32 - 1) (sym rest) few
+
+-- the one carrier of a knit was asked about
+pub carrier_asked : (old mid : Summary) (dir : Dir) (n : Needle) (c : CarrierNo) (goes : Bool) (stop : Option Reason) →
+    HasAsked old mid (record { line = old.lines; reason = record { rule = CarrierIsOut; at = 3 } }) (carrier_in c) goes → unless goes (record { rule = CarrierIsOut; at = 3 }) ≡ stop →
+    HasAskedAll old mid (map plainly_asked (conds_of (Knit dir n (c ∷ [])))) stop
+carrier_asked old mid dir n c goes stop took is =
+    subst (λ s. HasAskedAll old mid (map plainly_asked (conds_of (Knit dir n (c ∷ [])))) s) is (one_asked old mid (record { rule = CarrierIsOut; at = 3 }) (carrier_in c) goes took)
+
+-- a needle that no line changed stays so
+pub still_untouched : (old mid : Summary) (fault : Fault) (c : CarrierNo) (n : Needle) (goes : Bool) → HasAsked old mid fault (carrier_in c) goes → change_at old.changes n ≡ None → change_at mid.changes n ≡ None
+still_untouched old mid fault c n goes took none =
+    ap (λ (s : Summary). change_at s.changes n) (took_rest (against_kept old.checks (read_answer (effect_in old.ending) old.changes (carrier_in c))) old mid fault goes took) ∙ none

@@ -18,6 +18,7 @@
 //! `loop_history` and the crates of the four groups of rules.
 #![tactic(auto)]
 
+mod adding;
 mod chains;
 mod draft;
 mod formed;

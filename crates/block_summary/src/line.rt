@@ -12,7 +12,7 @@ ghost use Rattle.face_data.specs.declared.face.Seg.TheVariants.{New};
 ghost use Rattle.face_data.specs.Composition.{merged};
 ghost use Rattle.face_data.specs.Conditions.{unless};
 ghost use Rattle.face_data.specs.Conditions.Ask.{size_at_most};
-ghost use Rattle.face_data.specs.Segments.{segments_on};
+ghost use Rattle.face_data.specs.Segments.{change_at, segments_on};
 ghost use Rattle.face_data.specs.Sizes.{SizeRule, size_ask, size_asks};
 ghost use Rattle.carriage_model.specs.Machine.{HasPlaces};
 ghost use Rattle.carrier_rules.specs.declared.conds.OfEach.TheVariants.{InAction};
@@ -25,7 +25,9 @@ ghost use Rattle.block_summary.specs.LineSummaries.{asked_by, asked_of_rack, ask
 
 use crate::{Draft, FormedLoop, InstrAsk, ask_instr};
 use face_data::{Cond, Seg, Segs, SizeAsk};
-use knit_base::{Dir, Fault, Instr, Needle, NoMemory, Profile, Quarter, Read, Reason, Rule, Yarns};
+use knit_base::{
+    CarrierNo, Dir, Fault, Instr, Needle, NoMemory, Profile, Quarter, Read, Reason, Rule, Yarns,
+};
 
 /// How a line ends that is read after others: the lines go on, with the loop that it forms, if it forms one, or they are known to
 /// stop at it.
@@ -136,17 +138,45 @@ impl Draft {
         requires { forming_needle instr.now ≡ Some n }
         ensures { IfOk result (HasAskedAll self.old self.new (asked_of_sizes (bare_slider n) ∷ [])) }
     {
-        let slider = n.own_slider();
-        if self.is_untouched(slider) {
-            let reason = Reason {
-                rule: Rule::SliderHolds,
-                at: 2,
-            };
-            let goes = self.ask_entries(&[slider], 0, reason)?;
-            return Ok(reason_unless(goes, reason));
+        if self.is_untouched(n.own_slider()) {
+            return self.ask_untouched(n);
         }
         let ask = slider_rules::ask(self.allocator(), instr, self.contents())?;
         self.ask_slider(ask.as_ref())
+    }
+
+    // The same of a slider that no line has changed.
+    fn ask_untouched(&mut self, n: Needle) -> Result<Option<Reason>, NoMemory>
+        requires { change_at self.old.changes (own_slider n) ≡ None }
+        ensures { IfOk result (HasAskedAll self.old self.new (asked_of_sizes (bare_slider n) ∷ [])) }
+    {
+        let reason = Reason {
+            rule: Rule::SliderHolds,
+            at: 2,
+        };
+        let goes = self.ask_entries(&[n.own_slider()], 0, reason)?;
+        Ok(reason_unless(goes, reason))
+    }
+
+    /// Asks the conditions of a knit of one carrier beside a slider that no line has changed. Answers with the reason of one that
+    /// can't hold.
+    pub(crate) fn ask_usual_knit(
+        &mut self,
+        n: Needle,
+        c: CarrierNo,
+    ) -> Result<Option<Reason>, NoMemory>
+        requires carrier { c.0 < 64 }
+        requires untouched { change_at self.old.changes (own_slider n) ≡ None }
+        ensures { IfOk result (λ stop. (hold : ℕ) (dir : Dir) → HasAskedAll self.old self.new (asked_by hold (Knit dir n (c ∷ []))) stop) }
+    {
+        let is_out = Reason {
+            rule: Rule::CarrierIsOut,
+            at: 3,
+        };
+        if !self.ask(is_out, Cond::CarrierIn(c))? {
+            return Ok(Some(is_out));
+        }
+        self.ask_untouched(n)
     }
 
     // A knit that asks nothing new. `None` where it isn't known that it does, and then nothing was done.

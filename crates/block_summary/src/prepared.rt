@@ -11,11 +11,11 @@ ghost use Rattle.loop_history.specs.declared.row.LoopRow.{LoopRow};
 ghost use Rattle.block_summary.specs.Prepared.{AddsLine, AreReadings, AreRowsOf, IsKnitIfKnown, IsMadeOf, IsPreparedFor, row_of};
 ghost use Rattle.block_summary.specs.declared.prepared.PrepareFault.{PrepareFault};
 
-use crate::{Draft, FormedLoop, LineEnd};
+use crate::Draft;
+use crate::adding::add_line;
 use face_data::Face;
-use knit_base::{BlockText, CarrierNo, Dir, Fault, Needle, NoMemory, Read, Setting, Steps, Usual};
-use knitout_reader::{one_carrier, read_line, usual_reading, usual_whole_line};
-use loop_history::{LoopRow, LoopTable};
+use knit_base::{BlockText, NoMemory, Setting, Steps};
+use loop_history::LoopTable;
 use std::alloc::Global;
 use std::sync::ledger::Ledger;
 use thiserror::Error;
@@ -130,152 +130,4 @@ fn read_block<L: Ledger>(
         face: draft.face()?,
         loops,
     })
-}
-
-// One line more. Answers with its fault where the lines are known to stop at it.
-fn add_line(
-    line: &str,
-    setting: &Setting,
-    draft: &mut Draft,
-    loops: &mut LoopTable,
-) -> Result<Option<Fault>, NoMemory>
-    requires profile { IsLawfulProfile setting.now.profile }
-    requires short { length line.now < 2 ^ 16 }
-    requires few { draft.old.lines < 4096 }
-    requires rows { AreRowsOf draft.old.lines loops.old }
-    ensures added { IfOk result (λ stop. (r : Read) → ReadsAs setting.now.profile setting.now.declared line.now r → AddsLine setting.now.profile (length setting.now.declared) r draft.old draft.new loops.old loops.new stop) }
-    ensures lines { OnOk result (draft.new.lines ≡ draft.old.lines + 1) }
-    ensures rows { OnOk result (AreRowsOf draft.new.lines loops.new) }
-{
-    let declared = &setting.declared;
-    let usual = usual_whole_line(line.as_bytes(), &setting.profile, declared);
-    if let Some(usual) = usual {
-        return add_usual(usual, setting, draft, loops);
-    }
-    let read = read_line(draft.allocator(), line, &setting.profile, declared)?;
-    add_read(&read, setting, draft, loops)
-}
-
-// One line more that reads so.
-fn add_read(
-    read: &Read,
-    setting: &Setting,
-    draft: &mut Draft,
-    loops: &mut LoopTable,
-) -> Result<Option<Fault>, NoMemory>
-    requires profile { IsLawfulProfile setting.now.profile }
-    requires lawful { IsLawfulRead setting.now.profile (length setting.now.declared) read.now }
-    requires few { draft.old.lines < 4096 }
-    requires rows { AreRowsOf draft.old.lines loops.old }
-    ensures added { IfOk result (AddsLine setting.now.profile (length setting.now.declared) read.now draft.old draft.new loops.old loops.new) }
-    ensures lines { OnOk result (draft.new.lines ≡ draft.old.lines + 1) }
-    ensures rows { OnOk result (AreRowsOf draft.new.lines loops.new) }
-{
-    let _carriers = setting.declared.len();
-    let offset = draft.lines();
-    match draft.line(read, &setting.profile)? {
-        LineEnd::Stops(fault) => Ok(Some(fault)),
-        LineEnd::GoesOn(formed) => {
-            add_row(offset, formed, loops)?;
-            Ok(None)
-        }
-    }
-}
-
-// One usual line more.
-fn add_usual(
-    usual: Usual,
-    setting: &Setting,
-    draft: &mut Draft,
-    loops: &mut LoopTable,
-) -> Result<Option<Fault>, NoMemory>
-    requires profile { IsLawfulProfile setting.now.profile }
-    requires lawful { IsLawfulRead setting.now.profile (length setting.now.declared) (usual_read usual) }
-    requires few { draft.old.lines < 4096 }
-    requires rows { AreRowsOf draft.old.lines loops.old }
-    ensures added { IfOk result (AddsLine setting.now.profile (length setting.now.declared) (usual_read usual) draft.old draft.new loops.old loops.new) }
-    ensures lines { OnOk result (draft.new.lines ≡ draft.old.lines + 1) }
-    ensures rows { OnOk result (AreRowsOf draft.new.lines loops.new) }
-{
-    let _carriers = setting.declared.len();
-    match usual {
-        Usual::Knit(dir, n, c) => {
-            if add_knit(dir, n, c, draft, loops)? {
-                return Ok(None);
-            }
-            add_reading(usual, setting, draft, loops)
-        }
-        Usual::Tuck(..) | Usual::Xfer(..) => add_reading(usual, setting, draft, loops),
-    }
-}
-
-// The same by its reading.
-fn add_reading(
-    usual: Usual,
-    setting: &Setting,
-    draft: &mut Draft,
-    loops: &mut LoopTable,
-) -> Result<Option<Fault>, NoMemory>
-    requires profile { IsLawfulProfile setting.now.profile }
-    requires lawful { IsLawfulRead setting.now.profile (length setting.now.declared) (usual_read usual) }
-    requires few { draft.old.lines < 4096 }
-    requires rows { AreRowsOf draft.old.lines loops.old }
-    ensures added { IfOk result (AddsLine setting.now.profile (length setting.now.declared) (usual_read usual) draft.old draft.new loops.old loops.new) }
-    ensures lines { OnOk result (draft.new.lines ≡ draft.old.lines + 1) }
-    ensures rows { OnOk result (AreRowsOf draft.new.lines loops.new) }
-{
-    let _carriers = setting.declared.len();
-    let read = usual_reading(draft.allocator(), usual)?;
-    add_read(&read, setting, draft, loops)
-}
-
-// A knit more of which all is known, with its row. Answers whether it is one; where it isn't, nothing was done.
-fn add_knit(
-    dir: Dir,
-    n: Needle,
-    c: CarrierNo,
-    draft: &mut Draft,
-    loops: &mut LoopTable,
-) -> Result<bool, NoMemory>
-    requires hook { is_slider n.bed ≡ false }
-    requires carrier { c.0 < 64 }
-    requires few { draft.old.lines < 4096 }
-    requires rows { AreRowsOf draft.old.lines loops.old }
-    ensures { IfOk result (λ known. IsKnitIfKnown known dir n c draft.old draft.new loops.old loops.new) }
-{
-    if !draft.is_bare(n) {
-        return Ok(false);
-    }
-    let yarns = one_carrier(draft.allocator(), c)?;
-    if !draft.knows_in(&yarns) {
-        return Ok(false);
-    }
-    let offset = draft.lines();
-    let through = draft.knit(n)?;
-    loops.push(LoopRow {
-        offset,
-        needle: n,
-        dir,
-        yarns,
-        through,
-    })?;
-    Ok(true)
-}
-
-// The row of the loop that the line with this offset forms, if it forms one.
-fn add_row(offset: u32, formed: Option<FormedLoop>, loops: &mut LoopTable) -> Result<(), NoMemory>
-    requires few { offset < 4096 }
-    requires rows { AreRowsOf offset loops.old }
-    ensures { OnOk result (loops.new ≡ loops.old ++ option_to_list (option_map (row_of offset) formed)) }
-{
-    match formed {
-        None => Ok(()),
-        Some(formed) => loops.push(LoopRow {
-            offset,
-            needle: formed.needle,
-            dir: formed.dir,
-            yarns: formed.yarns,
-            through: formed.through,
-        }),
-    }
 }

@@ -47,6 +47,7 @@ impl LoopTable {
     }
 
     /// Appends the loop of a line behind those of all rows. After `NoMemory` the table is as before.
+    #[inline(always)]
     pub fn push(&mut self, row: LoopRow) -> Result<(), NoMemory>
         requires last { All (λ (earlier : LoopRow). earlier.offset < row.offset) self.old }
         requires few { length self.old < 4096 }

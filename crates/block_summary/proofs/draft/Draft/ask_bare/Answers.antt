@@ -1,7 +1,6 @@
-use Rattle.block_summary.proofs.KnitSteps.{bare_asked}
+use Rattle.std.proofs.Common.{ap, sym, ◌∙◌}
+use Rattle.face_data.specs.Segments.{change_at}
 use Rattle.block_summary.proofs.draft.Draft.ask_bare.Goals as goal
 
-pub returns-then-is_untouched : goal.returns-then-is_untouched
-returns-then-is_untouched c =
-    bare_asked c.args.self.now c.ask_entries.new.self c.args.n c.own_slider-slider.result c.in_ok-goes.goes c.reason_unless.result c.own_slider-slider.ensures
-    (c.is_untouched.ensures c.if-is_untouched.true) c.in_ok-goes.ensures c.reason_unless.ensures
+pub ask_untouched-requires : goal.ask_untouched-requires
+ask_untouched-requires c = ap (change_at c.args.self.now.changes) (sym c.own_slider.ensures) ∙ c.is_untouched.ensures c.if-is_untouched.true

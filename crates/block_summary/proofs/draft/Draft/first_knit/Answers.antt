@@ -1,4 +1,4 @@
-use Rattle.std.proofs.Common.{Option, Some, None, ap, sym, ◌∙◌, subst, arith, ◌-◌, ◌<◌, ◌≤◌, ◌^◌, length}
+use Rattle.std.proofs.Common.{Option, Some, sym, ◌∙◌, subst, arith, ◌-◌, ◌<◌, ◌≤◌, ◌^◌, length}
 use Rattle.std.proofs.lemmas.Option.{MatchOption-at_none, MatchOption-at_some}
 use Rattle.std.proofs.lemmas.Result.{IfOk-weaker}
 use Rattle.knit_base.specs.declared.instr.Instr.{Instr}

@@ -3,7 +3,7 @@ use Rattle.std.proofs.lemmas.Result.{IfOk-weaker}
 use Rattle.knit_base.specs.declared.instr.Read.{Read}
 use Rattle.knitout_reader.specs.Reading.{ReadsAs}
 use Rattle.block_summary.specs.Prepared.{AddsLine}
-use Rattle.block_summary.proofs.prepared.add_line.Goals as goal
+use Rattle.block_summary.proofs.adding.add_line.Goals as goal
 
 pub returns-in-Some-clause-added : goal.returns-in-Some-clause-added
 returns-in-Some-clause-added c =

@@ -2,7 +2,7 @@ use Rattle.std.proofs.Common.{subst}
 use Rattle.block_summary.specs.declared.line.LineEnd.{LineEnd}
 use Rattle.block_summary.specs.LineEnds.{EndsAs}
 use Rattle.block_summary.proofs.Blocks.{goes_lines, stops_lines, rows_more, rows_wider}
-use Rattle.block_summary.proofs.prepared.add_read.Goals as goal
+use Rattle.block_summary.proofs.adding.add_read.Goals as goal
 
 pub returns-in-Stops-clause-lines : goal.returns-in-Stops-clause-lines
 returns-in-Stops-clause-lines c =

@@ -2,7 +2,7 @@ use Rattle.std.proofs.Common.{[], List, sym, subst}
 use Rattle.std.specs.List.{Contains}
 use Rattle.knit_base.specs.declared.yarns.CarrierNo.{CarrierNo}
 use Rattle.block_summary.proofs.KnownKnits.{knit_row}
-use Rattle.block_summary.proofs.prepared.add_knit.Goals as goal
+use Rattle.block_summary.proofs.adding.add_knit.Goals as goal
 
 pub returns : goal.returns
 returns c hold = (

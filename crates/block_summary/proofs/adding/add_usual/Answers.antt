@@ -1,15 +1,9 @@
-use Rattle.std.proofs.Common.{◌<◌, ◌≤◌, List, IfOk, OnOk, length, sym, ap, ◌∙◌, subst, arith}
-use Rattle.std.specs.List.{All}
-use Rattle.std.proofs.lemmas.List.Elements.{All-head}
-use Rattle.knit_base.specs.declared.usual.Usual.{Usual}
-use Rattle.knit_base.specs.declared.yarns.CarrierNo.{CarrierNo}
-use Rattle.knit_base.specs.Lawful.{IsLawfulRead}
-use Rattle.knit_base.specs.Usual.{usual_read}
+use Rattle.std.proofs.Common.{◌<◌, List, length, sym, subst}
 use Rattle.face_data.specs.Summaries.{Summary}
 use Rattle.loop_history.specs.declared.row.LoopRow.{LoopRow}
-use Rattle.block_summary.specs.Prepared.{AddsLine, AreRowsOf}
+use Rattle.block_summary.specs.Prepared.{AreRowsOf}
 use Rattle.block_summary.proofs.KnownKnits.{known_adds, known_lines, known_rows, not_known}
-use Rattle.block_summary.proofs.prepared.add_usual.Goals as goal
+use Rattle.block_summary.proofs.adding.add_usual.Goals as goal
 
 pub returns-then-branch : goal.returns-then-branch
 returns-then-branch c =
