@@ -118,6 +118,7 @@ fn add_reading(
 }
 
 // A knit more of which all is known, with its row. Answers whether it is one; where it isn't, nothing was done.
+#[inline(always)]
 fn add_knit(
     dir: Dir,
     n: Needle,

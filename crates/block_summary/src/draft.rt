@@ -113,6 +113,7 @@ impl Draft {
     }
 
     /// Whether the carriers are known to be in action. False says nothing.
+    #[inline(always)]
     pub fn knows_in(&self, yarns: &Yarns) -> bool
         ensures { IsTrue result → (c : CarrierNo) → Contains yarns.now c → HoldsAfter self.now (carrier_in c) }
     {
@@ -125,6 +126,7 @@ impl Draft {
     }
 
     /// Whether the own slider of the needle is known to hold nothing. False says nothing.
+    #[inline(always)]
     pub fn is_bare(&self, n: Needle) -> bool
         ensures { IsTrue result → HoldsAfter self.now (size_at_most (own_slider n ∷ []) 0) }
     {
@@ -293,6 +295,7 @@ impl Draft {
 
     /// One line more: a knit with carriers that are known to be in action, on a hook whose own slider is known to hold nothing.
     /// Answers what the loop is drawn through.
+    #[inline(always)]
     pub fn knit(&mut self, n: Needle) -> Result<Segs, NoMemory>
         requires hook { is_slider n.bed ≡ false }
         requires few { self.old.lines < 2 ^ 32 - 1 }

@@ -26,6 +26,7 @@ pub fn usual_reading(alloc: Global, usual: Usual) -> Result<Read, NoMemory>
 }
 
 /// One carrier alone.
+#[inline(always)]
 pub fn one_carrier(alloc: Global, c: CarrierNo) -> Result<Yarns, NoMemory>
     requires { c.0 < 64 }
     ensures { IfOk result (λ yarns. yarns ≡ c ∷ []) }
