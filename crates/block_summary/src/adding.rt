@@ -37,7 +37,26 @@ pub fn add_line(
     if let Some(usual) = usual {
         return add_usual(usual, setting, draft, loops);
     }
-    let read = read_line(draft.allocator(), line, &setting.profile, declared)?;
+    add_other(line, setting, draft, loops)
+}
+
+// A line more that isn't usual. It stays out of the loop that most lines take, and so do the ways of other usual lines below.
+#[inline(never)]
+fn add_other(
+    line: &str,
+    setting: &Setting,
+    draft: &mut Draft,
+    loops: &mut LoopTable,
+) -> Result<Option<Fault>, NoMemory>
+    requires profile { IsLawfulProfile setting.now.profile }
+    requires short { length line.now < 2 ^ 16 }
+    requires few { draft.old.lines < 4096 }
+    requires rows { AreRowsOf draft.old.lines loops.old }
+    ensures added { IfOk result (λ stop. (r : Read) → ReadsAs setting.now.profile setting.now.declared line.now r → AddsLine setting.now.profile (length setting.now.declared) r draft.old draft.new loops.old loops.new stop) }
+    ensures lines { OnOk result (draft.new.lines ≡ draft.old.lines + 1) }
+    ensures rows { OnOk result (AreRowsOf draft.new.lines loops.new) }
+{
+    let read = read_line(draft.allocator(), line, &setting.profile, &setting.declared)?;
     add_read(&read, setting, draft, loops)
 }
 
@@ -98,6 +117,7 @@ fn add_usual(
 }
 
 // The same by its reading.
+#[inline(never)]
 fn add_reading(
     usual: Usual,
     setting: &Setting,
@@ -152,6 +172,7 @@ fn add_knit(
 }
 
 // A knit more of which not all is known, beside a slider that no line has changed: the rest is asked, and then all is known.
+#[inline(never)]
 fn add_first_knit(
     dir: Dir,
     n: Needle,

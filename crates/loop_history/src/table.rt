@@ -54,7 +54,8 @@ impl LoopTable {
         ensures ok { OnOk result (self.new ≡ self.old ++ row ∷ []) }
         ensures err { OnErr result (self.new ≡ self.old) }
     {
-        self.rows.push(row)?;
+        self.rows.reserve(1)?;
+        self.rows.push_reserved(row);
         Ok(())
     }
 

@@ -14,12 +14,3 @@ returns-in-Some-clause-added c =
     subst (λ (x : Read). AddsLine profile (length names) x c.args.draft.now c.add_usual.new.draft c.args.loops.now c.add_usual.new.loops stop)
     (sym (c.in-Some.ensures.only r (subst (λ line. ReadsAs profile names line r) (sym c.as_bytes.ensures.value) reads))) adds)
     c.add_usual.ensures.added
-
-pub returns-clause-added : goal.returns-clause-added
-returns-clause-added c =
-    let profile = c.args.setting.now.profile in
-    let names = c.args.setting.now.declared in
-    IfOk-weaker c.add_read.result _ _
-    (λ stop adds r reads.
-    subst (λ (x : Read). AddsLine profile (length names) x c.args.draft.now c.add_read.new.draft c.args.loops.now c.add_read.new.loops stop) (sym (c.in_ok-read.ensures.only r reads)) adds)
-    c.add_read.ensures.added
