@@ -31,7 +31,7 @@ use std::marker::Model;
 /// What lines do that were read one after the other, none of which ended the block.
 ///
 /// `bare` has hooks whose own sliders are known to hold nothing, each in its slot, where a later one may take its place. A hook
-/// that isn't there is asked about anew.
+/// that isn't there is asked about anew. `laid` is room in which changes are laid down for a face.
 #[derive(Drop)]
 pub struct Draft {
     alloc: Global,
@@ -41,6 +41,7 @@ pub struct Draft {
     symbols: Symbols,
     effect: Effect,
     bare: [Option<Needle>; 64],
+    laid: Laid,
 }
 
 impl Model for Draft {
@@ -68,6 +69,7 @@ impl Draft {
             symbols: Symbols::new(alloc),
             effect: no_effect(),
             bare: none_bare(),
+            laid: Laid::new(alloc),
         }
     }
 
@@ -270,12 +272,14 @@ impl Draft {
     }
 
     /// The face of the lines.
-    pub(crate) fn face(&self) -> Result<Face, NoMemory>
-        ensures { IfOk result (λ face. face ≡ self.now) }
+    pub(crate) fn face(&mut self) -> Result<Face, NoMemory>
+        ensures { IfOk result (λ face. face ≡ self.old) }
     {
-        let laid = Laid::of(self.alloc, &self.symbols)?;
+        self.laid.lay(&self.symbols)?;
         let ending = Ending::Through(self.effect);
-        face_of(self.alloc, self.lines, self.made, &self.kept, &laid, ending)
+        face_of(
+            self.alloc, self.lines, self.made, &self.kept, &self.laid, ending,
+        )
     }
 
     /// The face of so many lines, of which those that were read are known to stop at this fault.

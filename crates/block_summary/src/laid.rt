@@ -38,25 +38,23 @@ impl Laid {
         }
     }
 
-    // No changes, with room for so many of one segment each.
-    fn with_room(alloc: Global, room: usize) -> Result<Self, NoMemory>
-        ensures { IfOk result (λ laid. laid ≡ []) }
+    /// Lays down the needles that were touched, each with what it holds, in place of what was laid before. The room is used again;
+    /// after an error it holds some of them.
+    pub fn lay(&mut self, symbols: &Symbols) -> Result<(), NoMemory>
+        ensures { OnOk result (self.new ≡ symbols.now) }
     {
-        Ok(Laid {
-            changes: Vec::with_capacity(alloc, room)?,
-            segs: Vec::with_capacity(alloc, room)?,
-        })
+        self.clear();
+        for held in symbols.as_slice() {
+            self.push(held.0, held.1.as_slice())?;
+        }
+        Ok(())
     }
 
-    /// The needles that were touched, each with what it holds.
-    pub fn of(alloc: Global, symbols: &Symbols) -> Result<Self, NoMemory>
-        ensures { IfOk result (λ laid. laid ≡ symbols.now) }
+    fn clear(&mut self)
+        ensures { self.new ≡ [] }
     {
-        let mut laid = Laid::with_room(alloc, symbols.as_slice().len())?;
-        for held in symbols.as_slice() {
-            laid.push(held.0, held.1.as_slice())?;
-        }
-        Ok(laid)
+        self.changes.clear();
+        self.segs.clear();
     }
 
     fn push(&mut self, needle: Needle, segs: &[Seg]) -> Result<(), NoMemory>
