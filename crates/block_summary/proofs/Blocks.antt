@@ -294,7 +294,7 @@ line_is_one hold read.Comment = refl
 line_is_one hold (read.Broken reason) = refl
 line_is_one hold (read.Instr i) = refl
 
-one_more_line : (hold : ℕ) (r : Read) (old : Summary) → (composed old (line_summary hold r)).lines ≡ old.lines + 1
+pub one_more_line : (hold : ℕ) (r : Read) (old : Summary) → (composed old (line_summary hold r)).lines ≡ old.lines + 1
 one_more_line hold r old = lines-composed old (line_summary hold r) ∙ ap (λ n. old.lines + n) (line_is_one hold r)
 
 -- a line that goes on

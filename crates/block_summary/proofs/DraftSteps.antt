@@ -167,7 +167,7 @@ moved_on lines made more_lines more_made kept e f a bare few draft = record {
 }
 
 -- carriers that are known to be in action are asked for in vain
-carriers_asked : (kept : List Asked) (e : Effect) (a : List Changed) (at : ℕ) (cs : List CarrierNo) → ((c : CarrierNo) → Contains cs c → Holds kept e a (carrier_in c)) →
+pub carriers_asked : (kept : List Asked) (e : Effect) (a : List Changed) (at : ℕ) (cs : List CarrierNo) → ((c : CarrierNo) → Contains cs c → Holds kept e a (carrier_in c)) →
     (d : Asked) → Contains (map plainly_asked (conds_of_each InAction at cs)) d → Holds kept e a d.ask
 carriers_asked kept e a at [] known d there = absurd (Contains-none d there)
 carriers_asked kept e a at (c ∷ cs) known d there = elim (Contains-cons_cases _ (map plainly_asked (conds_of_each InAction (at + 1) cs)) d there) [

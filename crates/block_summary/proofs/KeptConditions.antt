@@ -52,7 +52,7 @@ plain_fits names (HookIs set) plain = tt
 plain_fits names (HookLacks c) plain = tt
 plain_fits names (SizeAtMost p most) plain = absurd plain
 
-plain_unnamed : (names : List Needle) (cond : Cond) → IsPlainCondition (ask_of [] cond) → names_of names cond ≡ []
+pub plain_unnamed : (names : List Needle) (cond : Cond) → IsPlainCondition (ask_of [] cond) → names_of names cond ≡ []
 plain_unnamed names (RackIs q) plain = refl
 plain_unnamed names (CarrierIn c) plain = refl
 plain_unnamed names (CarrierOut c) plain = refl

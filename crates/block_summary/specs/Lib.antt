@@ -2,4 +2,5 @@ pub mod Asks
 pub mod DraftKnowledge
 pub mod LineEnds
 pub mod LineSummaries
+pub mod NeedleChains
 pub mod Prepared

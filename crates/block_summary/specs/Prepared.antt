@@ -1,11 +1,15 @@
 -- Blocks of lines that are prepared.
-use Rattle.std.specs.Prelude.{◌≡◌, ◌≤◌, ◌<◌, ℕ, List, ◌++◌, All, Option, None, Some, length, take}
+use Rattle.std.specs.Prelude.{◌≡◌, ◌≤◌, ◌<◌, ℕ, Bool, true, false, List, [], ◌∷◌, ◌++◌, All, Option, None, Some, length, take}
 use Rattle.std.specs.List.{AllZip, Contains}
 use Rattle.std.specs.Option.{option_map, option_to_list}
+use Rattle.knit_base.specs.declared.instr.Instr.TheVariants.{Knit}
 use Rattle.knit_base.specs.declared.instr.Read.{Read}
+use Rattle.knit_base.specs.declared.instr.Read.TheVariants as read
+use Rattle.knit_base.specs.declared.needle.Dir.{Dir}
 use Rattle.knit_base.specs.declared.needle.Needle.{Needle}
 use Rattle.knit_base.specs.declared.profile.Profile.{Profile}
 use Rattle.knit_base.specs.declared.rule.Fault.{Fault}
+use Rattle.knit_base.specs.declared.yarns.CarrierNo.{CarrierNo}
 use Rattle.knit_base.specs.Lawful.{IsLawfulRead}
 use Rattle.knitout_reader.specs.Reading.{ReadsAs}
 use Rattle.face_data.specs.Composition.{composed}
@@ -56,6 +60,11 @@ IsAdded hold r old new rows more (Some fault) = (composed old (line_summary hold
 pub record AddsLine (profile : Profile) (carriers : ℕ) (r : Read) (old new : Summary) (rows more : List LoopRow) (stop : Option Fault) : Type 0 where
   pub lawful : IsLawfulRead profile carriers r
   pub added : IsAdded profile.hold r old new rows more stop
+
+-- A knit was added, with its row, where all was known of it, and else nothing was done.
+abbrev pub IsKnitIfKnown : Bool → Dir → Needle → CarrierNo → Summary → Summary → List LoopRow → List LoopRow → Type 0
+IsKnitIfKnown false dir n c old new rows more = (new ≡ old) × (more ≡ rows)
+IsKnitIfKnown true dir n c old new rows more = (hold : ℕ) → IsAdded hold (read.Instr (Knit dir n (c ∷ []))) old new rows more None
 
 -- the rows are of so many lines, at most one of each
 pub record AreRowsOf (lines : ℕ) (rows : List LoopRow) : Type 0 where

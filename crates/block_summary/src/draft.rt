@@ -17,7 +17,7 @@ ghost use Rattle.face_data.specs.Goodness.{IsInOrder};
 ghost use Rattle.face_data.specs.Conditions.Ask.{carrier_in, size_at_most};
 ghost use Rattle.face_data.specs.Segments.{change_at, segments_on};
 ghost use Rattle.face_data.specs.Sizes.{SizeRule, size_ask};
-ghost use Rattle.face_data.specs.Drafts.{no_lines};
+ghost use Rattle.face_data.specs.Drafts.{no_effect, no_lines};
 ghost use Rattle.block_summary.specs.DraftKnowledge.{HoldsAfter, HasAsked, IsSmall, Took, effect_in, stopped_at};
 ghost use Rattle.block_summary.specs.LineSummaries.{line_summary};
 
@@ -31,7 +31,7 @@ use std::marker::Model;
 /// What lines do that were read one after the other, none of which ended the block.
 ///
 /// `bare` has hooks whose own sliders are known to hold nothing, each in its slot, where a later one may take its place. A hook
-/// that isn't there is asked about anew.
+/// that isn't there is asked about anew. `laid` is room in which changes are laid down for a face.
 #[derive(Drop)]
 pub struct Draft {
     alloc: Global,
@@ -41,6 +41,7 @@ pub struct Draft {
     symbols: Symbols,
     effect: Effect,
     bare: [Option<Needle>; 64],
+    laid: Laid,
 }
 
 impl Model for Draft {
@@ -66,14 +67,22 @@ impl Draft {
             made: 0,
             kept: Kept::new(alloc),
             symbols: Symbols::new(alloc),
-            effect: Effect {
-                rack: None,
-                came: 0,
-                went: 0,
-                hook: None,
-            },
+            effect: no_effect(),
             bare: none_bare(),
+            laid: Laid::new(alloc),
         }
+    }
+
+    /// Forgets the lines that were read, and keeps the room that they took.
+    pub fn clear(&mut self)
+        ensures { self.new ≡ no_lines }
+    {
+        self.lines = 0;
+        self.made = 0;
+        self.kept.clear();
+        self.symbols.clear();
+        self.effect = no_effect();
+        self.bare = none_bare();
     }
 
     /// What the needles hold after the lines.
@@ -99,12 +108,14 @@ impl Draft {
     /// Keeps in mind that the own slider of the needle is known to hold nothing.
     pub fn note_bare(&mut self, n: Needle)
         requires { HoldsAfter self.old (size_at_most (own_slider n ∷ []) 0) }
-        ensures { self.new ≡ self.old }
+        ensures same { self.new ≡ self.old }
+        ensures through { self.old.ending ≡ Through (effect_in self.old.ending) }
     {
         self.bare[slot_of(n)] = Some(n);
     }
 
     /// Whether the carriers are known to be in action. False says nothing.
+    #[inline(always)]
     pub fn knows_in(&self, yarns: &Yarns) -> bool
         ensures { IsTrue result → (c : CarrierNo) → Contains yarns.now c → HoldsAfter self.now (carrier_in c) }
     {
@@ -117,6 +128,7 @@ impl Draft {
     }
 
     /// Whether the own slider of the needle is known to hold nothing. False says nothing.
+    #[inline(always)]
     pub fn is_bare(&self, n: Needle) -> bool
         ensures { IsTrue result → HoldsAfter self.now (size_at_most (own_slider n ∷ []) 0) }
     {
@@ -173,8 +185,15 @@ impl Draft {
         }
     }
 
-    // These needles are to hold at most so many loops at the block's entry.
-    fn ask_entries(
+    /// Whether no line has changed what the needle holds.
+    pub(crate) fn is_untouched(&self, n: Needle) -> bool
+        ensures { IsTrue result → change_at self.now.changes n ≡ None }
+    {
+        self.symbols.of(n).is_none()
+    }
+
+    /// These needles are to hold at most so many loops at the block's entry.
+    pub(crate) fn ask_entries(
         &mut self,
         entries: &[Needle],
         most: u8,
@@ -253,12 +272,14 @@ impl Draft {
     }
 
     /// The face of the lines.
-    pub(crate) fn face(&self) -> Result<Face, NoMemory>
-        ensures { IfOk result (λ face. face ≡ self.now) }
+    pub(crate) fn face(&mut self) -> Result<Face, NoMemory>
+        ensures { IfOk result (λ face. face ≡ self.old) }
     {
-        let laid = Laid::of(self.alloc, &self.symbols)?;
+        self.laid.lay(&self.symbols)?;
         let ending = Ending::Through(self.effect);
-        face_of(self.alloc, self.lines, self.made, &self.kept, &laid, ending)
+        face_of(
+            self.alloc, self.lines, self.made, &self.kept, &self.laid, ending,
+        )
     }
 
     /// The face of so many lines, of which those that were read are known to stop at this fault.
@@ -278,6 +299,7 @@ impl Draft {
 
     /// One line more: a knit with carriers that are known to be in action, on a hook whose own slider is known to hold nothing.
     /// Answers what the loop is drawn through.
+    #[inline(always)]
     pub fn knit(&mut self, n: Needle) -> Result<Segs, NoMemory>
         requires hook { is_slider n.bed ≡ false }
         requires few { self.old.lines < 2 ^ 32 - 1 }
@@ -293,6 +315,17 @@ impl Draft {
             Some(was) => Ok(was),
             None => Ok(Segs::one(self.alloc, Seg::Entry(n))),
         }
+    }
+}
+
+fn no_effect() -> Effect
+    ensures { result ≡ no_effect }
+{
+    Effect {
+        rack: None,
+        came: 0,
+        went: 0,
+        hook: None,
     }
 }
 

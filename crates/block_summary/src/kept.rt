@@ -1,29 +1,32 @@
 //! Conditions that are kept, with the needles that they name.
-ghost use Rattle.std.specs.Prelude.{◌≡◌, ◌<◌, ◌≤◌, ◌+◌, ◌^◌, [], ◌∷◌, ◌++◌, length, map, OnOk, OnErr};
-ghost use Rattle.std.specs.List.{flat_map, list_any};
-ghost use Rattle.knit_base.specs.Needle.{same_needle};
+ghost use Rattle.std.specs.Prelude.{◌≡◌, ◌<◌, ◌^◌, [], ◌∷◌, ◌++◌, length, map, OnOk, OnErr};
+ghost use Rattle.std.specs.List.{flat_map};
 ghost use Rattle.face_data.specs.declared.bearing.Bearing.TheVariants.{Implied};
 ghost use Rattle.face_data.specs.declared.face.Check.{Check};
 ghost use Rattle.face_data.specs.Answers.Answer.{asks};
-ghost use Rattle.face_data.specs.Bearings.{all_in, bearing, if_so};
+ghost use Rattle.face_data.specs.Bearings.{if_so};
 ghost use Rattle.face_data.specs.Composition.{from_bearing, settled};
-ghost use Rattle.face_data.specs.Conditions.{ask_of, part_of};
+ghost use Rattle.face_data.specs.Conditions.{ask_of};
 ghost use Rattle.face_data.specs.Conditions.Ask.{size_at_most};
 ghost use Rattle.face_data.specs.Digests.{CarrierFits, IsPlainCondition, digest_of};
 ghost use Rattle.face_data.specs.Goodness.{IsIrredundant};
-ghost use Rattle.face_data.specs.View.{asked_of, names_of, ChecksFit, CondFits};
+ghost use Rattle.face_data.specs.View.{asked_of, names_of, ChecksFit};
 
+use crate::chains::{Chains, chain_of};
+use crate::implied::implies_size;
 use face_data::{Check, Cond, Digest, Part};
 use knit_base::{Fault, Needle, NoMemory};
 use std::alloc::Global;
 use std::marker::Model;
 
-/// Conditions that are kept, in the order in which they were asked. The needles of those on sizes stand in one list.
+/// Conditions that are kept, in the order in which they were asked. The needles of those on sizes stand in one list, and
+/// each has a link to its condition.
 #[derive(Drop)]
 pub struct Kept {
     checks: Vec<Check>,
     names: Vec<Needle>,
     digest: Digest,
+    chains: Chains,
 }
 
 impl Model for Kept {
@@ -31,12 +34,13 @@ impl Model for Kept {
     ghost use Rattle.face_data.specs.Summaries.{Asked};
     ghost use Rattle.face_data.specs.View.{asked_of};
     ghost use Rattle.block_summary.specs.DraftKnowledge.{AreKept};
+    ghost use Rattle.block_summary.specs.NeedleChains.{AreFound};
 
     ghost Value = { List Asked };
 
     ghost view = { λ k. map (asked_of k.names.items) k.checks.items };
 
-    ghost invariant = { λ k. AreKept k.names.items k.checks.items k.digest };
+    ghost invariant = { λ k. AreKept k.names.items k.checks.items k.digest × AreFound k.names.items k.checks.items k.chains.links };
 }
 
 impl Kept {
@@ -48,7 +52,18 @@ impl Kept {
             checks: Vec::new(alloc),
             names: Vec::new(alloc),
             digest: Digest::blank(),
+            chains: Chains::new(alloc),
         }
+    }
+
+    /// Keeps nothing any more. The room is kept.
+    pub fn clear(&mut self)
+        ensures { self.new ≡ [] }
+    {
+        self.checks.clear();
+        self.names.clear();
+        self.digest = Digest::blank();
+        self.chains.clear();
     }
 
     /// What the conditions ask of rack, carriers and hook.
@@ -85,6 +100,18 @@ impl Kept {
     pub fn implies(&self, needles: &[Needle], most: u8) -> bool
         ensures { settled self.now (size_at_most needles.now most) ≡ from_bearing (if_so result Implied) (asks (size_at_most needles.now most)) }
     {
+        match needles {
+            [] => self.any_implies(needles, most),
+            [first, ..] => self
+                .chains
+                .finds(chain_of(*first), &self.names, needles, most),
+        }
+    }
+
+    // The same of any needles, also of none: all conditions are tried.
+    fn any_implies(&self, needles: &[Needle], most: u8) -> bool
+        ensures { settled self.now (size_at_most needles.now most) ≡ from_bearing (if_so result Implied) (asks (size_at_most needles.now most)) }
+    {
         for check in &self.checks {
             if implies_size(&self.names, check.cond, needles, most) {
                 return true;
@@ -105,50 +132,11 @@ impl Kept {
             len: needles.len() as u32,
         };
         self.checks.reserve(1)?;
+        self.chains.reserve(needles.len())?;
         self.names.extend_from_slice(needles)?;
         let cond = Cond::SizeAtMost(part, most);
         self.checks.push_reserved(Check { fault, cond });
+        self.chains.add(needles, cond);
         Ok(())
     }
-}
-
-// Whether this condition says that these needles hold at most so many loops together.
-#[tactic(auto, unfolding(face_data::specs::Bearings::bearing))]
-fn implies_size(names: &[Needle], cond: Cond, needles: &[Needle], most: u8) -> bool
-    requires { CondFits names.now cond }
-    ensures { bearing (ask_of names.now cond) (size_at_most needles.now most) ≡ if_so result Implied }
-{
-    match cond {
-        Cond::SizeAtMost(part, least) => least <= most && are_within(needles, named(names, part)),
-        _ => false,
-    }
-}
-
-// The needles of a part.
-fn named(names: &[Needle], part: Part) -> &[Needle]
-    requires { part.start + part.len ≤ length names.now }
-    ensures { result.now ≡ part_of names.now part }
-{
-    let start = part.start as usize;
-    let end = start + part.len as usize;
-    &names[start..end]
-}
-
-// Whether each of the needles is one of these names.
-fn are_within(needles: &[Needle], names: &[Needle]) -> bool
-    ensures { result ≡ all_in needles.now names.now }
-{
-    needles.iter().all(|n| is_named(*n, names))
-}
-
-fn is_named(n: Needle, names: &[Needle]) -> bool
-    ensures { result ≡ list_any (same_needle n) names.now }
-{
-    names.iter().any(|m| is_same(n, *m))
-}
-
-fn is_same(n: Needle, m: Needle) -> bool
-    ensures { result ≡ same_needle n m }
-{
-    n == m
 }

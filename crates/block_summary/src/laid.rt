@@ -38,15 +38,23 @@ impl Laid {
         }
     }
 
-    /// The needles that were touched, each with what it holds.
-    pub fn of(alloc: Global, symbols: &Symbols) -> Result<Self, NoMemory>
-        ensures { IfOk result (λ laid. laid ≡ symbols.now) }
+    /// Lays down the needles that were touched, each with what it holds, in place of what was laid before. The room is used again;
+    /// after an error it holds some of them.
+    pub fn lay(&mut self, symbols: &Symbols) -> Result<(), NoMemory>
+        ensures { OnOk result (self.new ≡ symbols.now) }
     {
-        let mut laid = Laid::new(alloc);
+        self.clear();
         for held in symbols.as_slice() {
-            laid.push(held.0, held.1.as_slice())?;
+            self.push(held.0, held.1.as_slice())?;
         }
-        Ok(laid)
+        Ok(())
+    }
+
+    fn clear(&mut self)
+        ensures { self.new ≡ [] }
+    {
+        self.changes.clear();
+        self.segs.clear();
     }
 
     fn push(&mut self, needle: Needle, segs: &[Seg]) -> Result<(), NoMemory>

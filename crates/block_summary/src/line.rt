@@ -6,13 +6,18 @@ ghost use Rattle.knit_base.specs.Limits.{IsLawfulProfile};
 ghost use Rattle.knit_base.specs.declared.instr.Read.TheVariants as read;
 ghost use Rattle.knit_base.specs.declared.instr.Instr.{Instr};
 ghost use Rattle.knit_base.specs.declared.instr.Instr.TheVariants.{Knit};
+ghost use Rattle.knit_base.specs.Instr.{forming_needle};
 ghost use Rattle.knit_base.specs.Needle.{is_slider, own_slider};
 ghost use Rattle.face_data.specs.declared.face.Seg.TheVariants.{New};
 ghost use Rattle.face_data.specs.Composition.{merged};
 ghost use Rattle.face_data.specs.Conditions.{unless};
 ghost use Rattle.face_data.specs.Conditions.Ask.{size_at_most};
-ghost use Rattle.face_data.specs.Segments.{segments_on};
+ghost use Rattle.face_data.specs.Segments.{change_at, segments_on};
 ghost use Rattle.face_data.specs.Sizes.{SizeRule, size_ask, size_asks};
+ghost use Rattle.carriage_model.specs.Machine.{HasPlaces};
+ghost use Rattle.carrier_rules.specs.declared.conds.OfEach.TheVariants.{InAction};
+ghost use Rattle.carrier_rules.specs.Carriers.{conds_of, conds_of_each};
+ghost use Rattle.slider_rules.specs.Sliders.{bare_slider};
 ghost use Rattle.block_summary.specs.Asks.{instr_ask};
 ghost use Rattle.block_summary.specs.DraftKnowledge.{CanBeAsked, HasAskedAll, HoldsAfter, IsSmall, written};
 ghost use Rattle.block_summary.specs.LineEnds.{EndsAs, carried};
@@ -20,7 +25,9 @@ ghost use Rattle.block_summary.specs.LineSummaries.{asked_by, asked_of_rack, ask
 
 use crate::{Draft, FormedLoop, InstrAsk, ask_instr};
 use face_data::{Cond, Seg, Segs, SizeAsk};
-use knit_base::{Dir, Fault, Instr, Needle, NoMemory, Profile, Quarter, Read, Reason, Yarns};
+use knit_base::{
+    CarrierNo, Dir, Fault, Instr, Needle, NoMemory, Profile, Quarter, Read, Reason, Rule, Yarns,
+};
 
 /// How a line ends that is read after others: the lines go on, with the loop that it forms, if it forms one, or they are known to
 /// stop at it.
@@ -49,7 +56,7 @@ impl Draft {
         }
     }
 
-    // A knit on a hook of which all is known is carried out at once.
+    // A knit asks only what isn't known of its carriers and its slider.
     fn instr(&mut self, instr: &Instr, profile: &Profile) -> Result<LineEnd, NoMemory>
         requires profile { IsLawfulProfile profile.now }
         requires lawful { (carriers : ℕ) × (carriers ≤ 64) × IsLawful profile.now carriers instr.now }
@@ -59,10 +66,117 @@ impl Draft {
         match instr {
             Instr::Knit(dir, n, yarns) => match self.usual_knit(*dir, *n, yarns)? {
                 Some(formed) => Ok(LineEnd::GoesOn(Some(formed))),
-                None => self.any_instr(instr, profile),
+                None => self.first_knit(instr, *dir, *n, yarns, profile),
             },
             _ => self.any_instr(instr, profile),
         }
+    }
+
+    // A knit of which not all is known: the rest is asked, and then it is one of which all is known.
+    fn first_knit(
+        &mut self,
+        instr: &Instr,
+        dir: Dir,
+        n: Needle,
+        yarns: &Yarns,
+        profile: &Profile,
+    ) -> Result<LineEnd, NoMemory>
+        requires profile { IsLawfulProfile profile.now }
+        requires lawful { (carriers : ℕ) × (carriers ≤ 64) × IsLawful profile.now carriers instr.now }
+        requires knit { instr.now ≡ Knit dir n yarns.now }
+        requires few { self.old.lines < 2 ^ 32 - 1 }
+        ensures { IfOk result (EndsAs profile.now.hold (read.Instr instr.now) self.old self.new) }
+    {
+        if yarns.len() == 0 {
+            return self.any_instr(instr, profile);
+        }
+        if let Some(reason) = self.ask_knit(instr, n, yarns)? {
+            return Ok(LineEnd::Stops(self.stop(reason)));
+        }
+        self.note_bare(n);
+        match self.usual_knit(dir, n, yarns)? {
+            Some(formed) => Ok(LineEnd::GoesOn(Some(formed))),
+            None => self.any_instr(instr, profile),
+        }
+    }
+
+    // Asks the conditions of a knit. Answers with the reason of one that can't hold.
+    fn ask_knit(
+        &mut self,
+        instr: &Instr,
+        n: Needle,
+        yarns: &Yarns,
+    ) -> Result<Option<Reason>, NoMemory>
+        requires places { HasPlaces instr.now }
+        requires knit { (dir : Dir) × (instr.now ≡ Knit dir n yarns.now) }
+        requires some { 1 ≤ length yarns.now }
+        requires can { All CanBeAsked (conds_of instr.now) }
+        ensures { IfOk result (λ stop. (hold : ℕ) → HasAskedAll self.old self.new (asked_by hold instr.now) stop) }
+    {
+        if let Some(reason) = self.ask_carriers(instr, yarns)? {
+            return Ok(Some(reason));
+        }
+        self.ask_bare(instr, n)
+    }
+
+    // Asks that the carriers of a knit are in action.
+    fn ask_carriers(&mut self, instr: &Instr, yarns: &Yarns) -> Result<Option<Reason>, NoMemory>
+        requires places { HasPlaces instr.now }
+        requires conds { conds_of instr.now ≡ conds_of_each InAction 3 yarns.now }
+        requires can { All CanBeAsked (conds_of instr.now) }
+        ensures { IfOk result (HasAskedAll self.old self.new (map plainly_asked (conds_of instr.now))) }
+    {
+        if self.knows_in(yarns) {
+            return Ok(None);
+        }
+        let carriers = carrier_rules::ask(self.allocator(), instr)?;
+        self.ask_conds(carriers.conds.as_slice())
+    }
+
+    // Asks that the own slider of the needle on which an instruction forms a loop holds nothing.
+    fn ask_bare(&mut self, instr: &Instr, n: Needle) -> Result<Option<Reason>, NoMemory>
+        requires { forming_needle instr.now ≡ Some n }
+        ensures { IfOk result (HasAskedAll self.old self.new (asked_of_sizes (bare_slider n) ∷ [])) }
+    {
+        if self.is_untouched(n.own_slider()) {
+            return self.ask_untouched(n);
+        }
+        let ask = slider_rules::ask(self.allocator(), instr, self.contents())?;
+        self.ask_slider(ask.as_ref())
+    }
+
+    // The same of a slider that no line has changed.
+    fn ask_untouched(&mut self, n: Needle) -> Result<Option<Reason>, NoMemory>
+        requires { change_at self.old.changes (own_slider n) ≡ None }
+        ensures { IfOk result (HasAskedAll self.old self.new (asked_of_sizes (bare_slider n) ∷ [])) }
+    {
+        let reason = Reason {
+            rule: Rule::SliderHolds,
+            at: 2,
+        };
+        let goes = self.ask_entries(&[n.own_slider()], 0, reason)?;
+        Ok(reason_unless(goes, reason))
+    }
+
+    /// Asks the conditions of a knit of one carrier beside a slider that no line has changed. Answers with the reason of one that
+    /// can't hold.
+    pub(crate) fn ask_usual_knit(
+        &mut self,
+        n: Needle,
+        c: CarrierNo,
+    ) -> Result<Option<Reason>, NoMemory>
+        requires carrier { c.0 < 64 }
+        requires untouched { change_at self.old.changes (own_slider n) ≡ None }
+        ensures { IfOk result (λ stop. (hold : ℕ) (dir : Dir) → HasAskedAll self.old self.new (asked_by hold (Knit dir n (c ∷ []))) stop) }
+    {
+        let is_out = Reason {
+            rule: Rule::CarrierIsOut,
+            at: 3,
+        };
+        if !self.ask(is_out, Cond::CarrierIn(c))? {
+            return Ok(Some(is_out));
+        }
+        self.ask_untouched(n)
     }
 
     // A knit that asks nothing new. `None` where it isn't known that it does, and then nothing was done.

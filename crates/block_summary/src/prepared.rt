@@ -1,18 +1,21 @@
 //! A block's text, with its summary and the loops that it makes.
-ghost use Rattle.std.specs.Prelude.{◌≡◌, ℕ, ◌+◌, ◌*◌, ◌<◌, ◌≤◌, ◌^◌, ◌++◌, List, Option, IfErr, IfOk, OnOk, None, length};
+ghost use Rattle.std.specs.Prelude.{◌≡◌, ℕ, ◌+◌, ◌*◌, ◌<◌, ◌≤◌, ◌^◌, ◌++◌, false, List, Option, IfErr, IfOk, OnOk, None, length};
 ghost use Rattle.std.specs.Option.{option_map, option_to_list};
 ghost use Rattle.knit_base.specs.declared.instr.Read.{Read};
+ghost use Rattle.knit_base.specs.Lawful.{IsLawfulRead};
 ghost use Rattle.knit_base.specs.Limits.{IsLawfulProfile};
+ghost use Rattle.knit_base.specs.Needle.{is_slider};
+ghost use Rattle.knit_base.specs.Usual.{usual_read};
 ghost use Rattle.knitout_reader.specs.Reading.{ReadsAs};
 ghost use Rattle.loop_history.specs.declared.row.LoopRow.{LoopRow};
-ghost use Rattle.block_summary.specs.Prepared.{AddsLine, AreReadings, AreRowsOf, IsMadeOf, IsPreparedFor, row_of};
+ghost use Rattle.block_summary.specs.Prepared.{AddsLine, AreReadings, AreRowsOf, IsKnitIfKnown, IsMadeOf, IsPreparedFor, row_of};
 ghost use Rattle.block_summary.specs.declared.prepared.PrepareFault.{PrepareFault};
 
-use crate::{Draft, FormedLoop, LineEnd};
+use crate::Draft;
+use crate::adding::add_line;
 use face_data::Face;
-use knit_base::{BlockText, Fault, NoMemory, Setting, Steps};
-use knitout_reader::read_line;
-use loop_history::{LoopRow, LoopTable};
+use knit_base::{BlockText, NoMemory, Setting, Steps};
+use loop_history::LoopTable;
 use std::alloc::Global;
 use std::sync::ledger::Ledger;
 use thiserror::Error;
@@ -55,11 +58,30 @@ pub fn prepare<L: Ledger>(
     ensures fault { IfErr result (λ fault. length text ≤ 4096 → fault ≡ PrepareFault.NoMemory) }
     ensures steps { steps.new ≤ steps.old + length text }
 {
+    let mut draft = Draft::new(alloc);
+    prepare_with(&mut draft, text, setting, steps)
+}
+
+/// The same in a draft that may have been used before: its lines are forgotten, and the room that they took is used again. After an
+/// error the draft serves as before.
+pub fn prepare_with<L: Ledger>(
+    draft: &mut Draft,
+    text: BlockText,
+    setting: &Setting,
+    steps: &mut Steps<L>,
+) -> Result<Prepared, PrepareFault>
+    requires { IsLawfulProfile setting.now.profile }
+    ensures text { IfOk result (λ prepared. prepared.text ≡ text) }
+    ensures prepared { IfOk result (IsPreparedFor setting.now.profile setting.now.declared) }
+    ensures long { 4096 < length text → result ≡ Err (PrepareFault.BlockLong (length text)) }
+    ensures fault { IfErr result (λ fault. length text ≤ 4096 → fault ≡ PrepareFault.NoMemory) }
+    ensures steps { steps.new ≤ steps.old + length text }
+{
     let lines = text.len();
     if lines > MOST_LINES {
         return Err(PrepareFault::BlockLong { lines });
     }
-    match read_block(alloc, &text, setting, steps) {
+    match read_block(draft, &text, setting, steps) {
         Ok(block) => Ok(Prepared {
             text,
             face: block.face,
@@ -77,7 +99,7 @@ struct Block {
 }
 
 fn read_block<L: Ledger>(
-    alloc: Global,
+    draft: &mut Draft,
     text: &BlockText,
     setting: &Setting,
     steps: &mut Steps<L>,
@@ -87,12 +109,12 @@ fn read_block<L: Ledger>(
     ensures made { IfOk result (λ block. (lines : List Read) → AreReadings setting.now.profile setting.now.declared text.now lines → IsMadeOf setting.now.profile (length setting.now.declared) block.face block.loops lines) }
     ensures steps { steps.new ≤ steps.old + length text.now }
 {
-    let mut draft = Draft::new(alloc);
-    let mut loops = LoopTable::new(alloc);
+    draft.clear();
     let lines = text.len();
+    let mut loops = LoopTable::with_capacity(draft.allocator(), lines)?;
     for i in 0..lines {
         let line = text.line(i, steps);
-        match add_line(alloc, line, setting, &mut draft, &mut loops)? {
+        match add_line(line, setting, draft, &mut loops)? {
             None => {}
             Some(fault) => {
                 loops.shrink_to_fit();
@@ -108,50 +130,4 @@ fn read_block<L: Ledger>(
         face: draft.face()?,
         loops,
     })
-}
-
-// One line more. Answers with its fault where the lines are known to stop at it.
-fn add_line(
-    alloc: Global,
-    line: &str,
-    setting: &Setting,
-    draft: &mut Draft,
-    loops: &mut LoopTable,
-) -> Result<Option<Fault>, NoMemory>
-    requires profile { IsLawfulProfile setting.now.profile }
-    requires short { length line.now < 2 ^ 16 }
-    requires few { draft.old.lines < 4096 }
-    requires rows { AreRowsOf draft.old.lines loops.old }
-    ensures added { IfOk result (λ stop. (r : Read) → ReadsAs setting.now.profile setting.now.declared line.now r → AddsLine setting.now.profile (length setting.now.declared) r draft.old draft.new loops.old loops.new stop) }
-    ensures lines { OnOk result (draft.new.lines ≡ draft.old.lines + 1) }
-    ensures rows { OnOk result (AreRowsOf draft.new.lines loops.new) }
-{
-    let read = read_line(alloc, line, &setting.profile, &setting.declared)?;
-    let _carriers = setting.declared.len();
-    let offset = draft.lines();
-    match draft.line(&read, &setting.profile)? {
-        LineEnd::Stops(fault) => Ok(Some(fault)),
-        LineEnd::GoesOn(formed) => {
-            add_row(offset, formed, loops)?;
-            Ok(None)
-        }
-    }
-}
-
-// The row of the loop that the line with this offset forms, if it forms one.
-fn add_row(offset: u32, formed: Option<FormedLoop>, loops: &mut LoopTable) -> Result<(), NoMemory>
-    requires few { offset < 4096 }
-    requires rows { AreRowsOf offset loops.old }
-    ensures { OnOk result (loops.new ≡ loops.old ++ option_to_list (option_map (row_of offset) formed)) }
-{
-    match formed {
-        None => Ok(()),
-        Some(formed) => loops.push(LoopRow {
-            offset,
-            needle: formed.needle,
-            dir: formed.dir,
-            yarns: formed.yarns,
-            through: formed.through,
-        }),
-    }
 }

@@ -10,7 +10,7 @@ use crate::body::Body;
 use crate::fold::Fold;
 use crate::judge::Judgement;
 use crate::plan::Plan;
-use block_summary::{PrepareFault, Prepared, prepare};
+use block_summary::{Draft, PrepareFault, Prepared, prepare_with};
 use knit_base::{BlockText, NoMemory, Setting, Steps};
 use std::alloc::Global;
 use std::marker::Brand;
@@ -65,13 +65,16 @@ fn fold_body<L: Ledger>(
     };
     let size = plan.chosen.block;
     let mut fold = Fold::new(alloc, setting.first, with_loops)?;
+    let mut draft = Draft::new(alloc);
     let mut start = body.head.lines;
     while start < count {
         if fold.stop.is_some() {
             return fold.finish(alloc);
         }
         let end = start + size.min(count - start);
-        add_block(alloc, &setting, body, start, end, &mut fold, steps)?;
+        add_block(
+            alloc, &setting, body, start, end, &mut draft, &mut fold, steps,
+        )?;
         start = end;
     }
     fold.finish(alloc)
@@ -84,6 +87,7 @@ fn add_block<L: Ledger>(
     body: &Body,
     start: u32,
     end: u32,
+    draft: &mut Draft,
     fold: &mut Fold,
     steps: &mut Steps<L>,
 ) -> Result<(), NoMemory>
@@ -99,13 +103,13 @@ fn add_block<L: Ledger>(
     ensures kept { OnOk result (is_some fold.new.loops ≡ is_some fold.old.loops) }
 {
     let text = BlockText::of(alloc, &body.lines, start, end)?;
-    let block = prepared(alloc, text, setting, steps)?;
+    let block = prepared(draft, text, setting, steps)?;
     fold.take(alloc, &block, steps)
 }
 
-// The block's text, prepared for this machine.
+// The block's text, prepared for this machine in a draft that may have been used before.
 fn prepared<L: Ledger>(
-    alloc: Global,
+    draft: &mut Draft,
     text: BlockText,
     setting: &Setting,
     steps: &mut Steps<L>,
@@ -117,7 +121,7 @@ fn prepared<L: Ledger>(
     ensures carriers { length setting.now.declared ≤ 64 }
 {
     let _carriers = setting.declared.len();
-    match prepare(alloc, text, setting, steps) {
+    match prepare_with(draft, text, setting, steps) {
         Ok(block) => Ok(block),
         Err(PrepareFault::BlockLong { .. }) => unreachable!(),
         Err(PrepareFault::NoMemory) => Err(NoMemory),

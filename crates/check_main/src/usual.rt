@@ -1,5 +1,5 @@
 //! Usual lines that the carriage takes another way: their loops are kept, or they break a rule.
-ghost use Rattle.std.specs.Prelude.{◌≡◌, ◌≤◌, ◌<◌, ◌+◌, ◌^◌, ℕ, Bool, List, [], ◌∷◌, ◌++◌, IfOk, OnOk};
+ghost use Rattle.std.specs.Prelude.{◌≤◌, ◌<◌, ◌+◌, ◌^◌, ℕ, Bool, List, [], ◌∷◌, ◌++◌, OnOk};
 ghost use Rattle.knit_base.specs.declared.instr.Read.{Read};
 ghost use Rattle.knit_base.specs.declared.profile.Profile.{Profile};
 ghost use Rattle.knit_base.specs.Lawful.{IsLawfulRead};
@@ -7,7 +7,8 @@ ghost use Rattle.knit_base.specs.Usual.{usual_read};
 ghost use Rattle.carriage_model.specs.Carriage.{HasRun, IsRunning, next_line, profile_of};
 
 use carriage_model::Carriage;
-use knit_base::{CarrierNo, Instr, NoMemory, Read, Usual, Yarns};
+use knit_base::{NoMemory, Usual};
+use knitout_reader::usual_reading;
 use std::alloc::Global;
 
 /// Carries out a usual line, without reading it again, also where its loop is kept or it breaks a rule. It stays out of the loop that most usual lines take.
@@ -22,34 +23,6 @@ pub fn execute_usual(alloc: Global, usual: Usual, carriage: &mut Carriage) -> Re
     if carriage.carry_with_loop(usual)? {
         return Ok(());
     }
-    let read = read_of(alloc, usual)?;
+    let read = usual_reading(alloc, usual)?;
     carriage.execute(&read)
-}
-
-// A usual line, as a reading. It takes no memory, since it names one carrier at most.
-fn read_of(alloc: Global, usual: Usual) -> Result<Read, NoMemory>
-    requires { (profile : Profile) × (carriers : ℕ) × (carriers ≤ 64) × IsLawfulRead profile carriers (usual_read usual) }
-    ensures { IfOk result (λ read. read ≡ usual_read usual) }
-{
-    match usual {
-        Usual::Knit(dir, needle, c) => {
-            let yarns = one_carrier(alloc, c)?;
-            Ok(Read::Instr(Instr::Knit(dir, needle, yarns)))
-        }
-        Usual::Tuck(dir, needle, c) => {
-            let yarns = one_carrier(alloc, c)?;
-            Ok(Read::Instr(Instr::Tuck(dir, needle, yarns)))
-        }
-        Usual::Xfer(needle, needle2) => Ok(Read::Instr(Instr::Xfer(needle, needle2))),
-    }
-}
-
-// One carrier alone.
-fn one_carrier(alloc: Global, c: CarrierNo) -> Result<Yarns, NoMemory>
-    requires { c.0 < 64 }
-    ensures { IfOk result (λ yarns. yarns ≡ c ∷ []) }
-{
-    let mut yarns = Yarns::new(alloc);
-    yarns.push(c)?;
-    Ok(yarns)
 }

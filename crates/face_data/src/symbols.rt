@@ -77,6 +77,7 @@ impl Symbols {
 
     /// Gives the needle these segments, and answers with those that it held, where it was touched. After `NoMemory` all is as
     /// before; a needle that was touched needs none.
+    #[inline(always)]
     pub fn swap(&mut self, n: Needle, segs: Segs) -> Result<Option<Segs>, NoMemory>
         ensures ok { OnOk result (self.new ≡ merged self.old ((n, segs) ∷ [])) }
         ensures was { IfOk result (λ was. was ≡ change_at self.old n) }

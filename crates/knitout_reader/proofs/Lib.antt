@@ -17,3 +17,4 @@ pub mod Signs
 pub mod SomeReading
 pub mod TokenRuns
 pub mod UsualLines
+pub mod WholeLines

@@ -3,13 +3,12 @@ use Rattle.std.proofs.Common.{◌≡◌, ◌≢◌, ℕ, ◌+◌, ◌-◌, ◌*�
 use Rattle.std.specs.List.{cons_option, position_or_len}
 use Rattle.std.specs.Option.{option_map}
 use Rattle.std.proofs.lemmas.Int.{ints}
-use Rattle.std.proofs.lemmas.List.{take_all}
+use Rattle.std.proofs.lemmas.List.{append_cancel_right, take_all}
 use Rattle.std.proofs.lemmas.List.Elements.{All-append, All-cons, All-head, All-nil, All-tail}
 use Rattle.std.proofs.lemmas.List.Sums.{position_or_len_is}
 use Rattle.std.proofs.lemmas.Str.{IsUtf8-from_ascii, is_utf8-from_IsUtf8}
 use Rattle.std.proofs.lemmas.Str.Ascii.{IsAscii-from_all}
 use Rattle.std.proofs.Math.Seq.{drop-append-add}
-use Rattle.knit_base.specs.declared.instr.Instr.{Instr}
 use Rattle.knit_base.specs.declared.instr.Instr.TheVariants as instr
 use Rattle.knit_base.specs.declared.instr.Read.{Read}
 use Rattle.knit_base.specs.declared.instr.Read.TheVariants as read
@@ -24,7 +23,7 @@ use Rattle.knit_base.specs.declared.rule.Rule.TheVariants.{NoCarrier, OffBed, Sa
 use Rattle.knit_base.specs.declared.usual.Usual.{Usual}
 use Rattle.knit_base.specs.declared.usual.Usual.TheVariants.{Knit, Tuck, Xfer}
 use Rattle.knit_base.specs.declared.yarns.CarrierNo.{CarrierNo}
-use Rattle.knit_base.specs.Lawful.{IsOnBed}
+use Rattle.knit_base.specs.Lawful.{IsLawfulRead, IsOnBed}
 use Rattle.knit_base.specs.Lines.{lines_of}
 use Rattle.knit_base.specs.Names.{carrier_of}
 use Rattle.knit_base.specs.Needle.{is_front, is_slider}
@@ -43,6 +42,7 @@ use Rattle.knitout_reader.specs.Shapes.{IsFormed, XferShape}
 use Rattle.knitout_reader.specs.Tokens.{before_comment, has_comment, is_blank, is_semicolon, tokens_of}
 use Rattle.knitout_reader.specs.Usual.{AreByteNames, BeginsWithUsual, BeginsWithUsualName, BeginsWithUsualNeedles, BeginsWithUsualNumber, BeginsWithUsualOperands, IsByteName, IsPairName, IsTokenByte, pair_text}
 use Rattle.knitout_reader.proofs.Marks.{loop-reading}
+use Rattle.knitout_reader.proofs.OneShape.{one-reading, reads-tokens}
 use Rattle.knitout_reader.proofs.Rules.{tokens-lawful}
 use Rattle.knitout_reader.proofs.TokenRuns.{tokens_of-spaced, tokens_of-token}
 
@@ -154,7 +154,7 @@ reads_line : (profile : Profile) (names : List (List ℕ)) (line word : List ℕ
 reads_line profile names line word rest r is reads = subst (λ ts. CodeReadsAs profile names ts (has_comment line) r) (sym is) reads
 
 -- a line of such tokens begins the text
-pub begins : (profile : Profile) (names : List (List ℕ)) (text rest word : List ℕ) (tokens : List (List ℕ)) (usual : Usual)
+begins : (profile : Profile) (names : List (List ℕ)) (text rest word : List ℕ) (tokens : List (List ℕ)) (usual : Usual)
     → text ≡ spaced (word ∷ tokens) ++ 10 ∷ rest → All IsPlainToken (word ∷ tokens) → length (spaced (word ∷ tokens)) ≤ 32 → length tokens ≤ 3 → length names ≤ 64
     → TokensReadAs profile names (word ∷ tokens) (usual_read usual)
     → BeginsWithUsual profile names text usual (length text - length rest)
@@ -177,6 +177,41 @@ begins profile names text rest word tokens usual is are short few carriers reads
       lawful = tokens-lawful profile names word tokens (usual_read usual) (omega arith) reads;
       few = carriers;
     }
+
+-- The text begins with such a line, whose tokens say this.
+pub record IsSpaced (profile : Profile) (names : List (List ℕ)) (text rest : List ℕ) (usual : Usual) : Type 0 where
+  pub word : List ℕ
+  pub tokens : List (List ℕ)
+  pub text_is : text ≡ spaced (word ∷ tokens) ++ 10 ∷ rest
+  pub plain : All IsPlainToken (word ∷ tokens)
+  pub short : length (spaced (word ∷ tokens)) ≤ 32
+  pub few : length tokens ≤ 3
+  pub reads : TokensReadAs profile names (word ∷ tokens) (usual_read usual)
+
+begins_spaced : (profile : Profile) (names : List (List ℕ)) (text rest : List ℕ) (usual : Usual) → length names ≤ 64 → IsSpaced profile names text rest usual
+    → BeginsWithUsual profile names text usual (length text - length rest)
+begins_spaced profile names text rest usual carriers h = begins profile names text rest h.word h.tokens usual h.text_is h.plain h.short h.few carriers h.reads
+
+-- a line alone reads so, lawfully, and no other way
+abbrev pub IsReadingOf : Profile → List (List ℕ) → List ℕ → Usual → Type 0
+IsReadingOf profile names line usual =
+    ReadsAs profile names line (usual_read usual)
+    × IsLawfulRead profile (length names) (usual_read usual)
+    × ((other : Read) → ReadsAs profile names line other → other ≡ usual_read usual)
+
+-- what a line alone says that is so spelt
+pub alone : (profile : Profile) (names : List (List ℕ)) (line : List ℕ) (usual : Usual) → IsSpaced profile names (line ++ 10 ∷ []) [] usual → IsReadingOf profile names line usual
+alone profile names line usual h =
+    let bytes : All IsLineByte (spaced (h.word ∷ h.tokens)) = bytes-spaced (h.word ∷ h.tokens) h.plain in
+    let same : line ≡ spaced (h.word ∷ h.tokens) = append_cancel_right line (spaced (h.word ∷ h.tokens)) (10 ∷ []) h.text_is in
+    let few : length h.tokens ≤ 3 = h.few in
+    let tokens : tokens_of (before_comment line) ≡ h.word ∷ h.tokens =
+    ap (λ l. tokens_of (before_comment l)) same ∙ ap tokens_of (no_comment (spaced (h.word ∷ h.tokens)) bytes) ∙ tokens-spaced (h.word ∷ h.tokens) h.plain in (
+      reads_line profile names line h.word h.tokens (usual_read usual) tokens h.reads,
+      tokens-lawful profile names h.word h.tokens (usual_read usual) (omega (arith, few)) h.reads,
+      λ other two. one-reading profile names h.word h.tokens (usual_read usual) other h.reads
+          (reads-tokens profile names (tokens_of (before_comment line)) h.tokens h.word (has_comment line) other tokens two),
+    )
 
 digit_bytes : (digits : List ℕ) → All IsDigit digits → All IsTokenByte digits
 digit_bytes digits are = λ k d below. let here = are k d below in sign _ (omega (arith, here.0)) (omega (arith, here.1))
@@ -274,12 +309,12 @@ three_plain a b c is_a is_b is_c =
 
 -- a line that forms a loop of one carrier
 formed : (profile : Profile) (names : List (List ℕ)) (text operands rest : List ℕ) (which : LoopOperation) (dir : Dir) (n : Needle) (c : CarrierNo) (usual : Usual)
-    → length names ≤ 64 → IsPlainToken (loop_word which) → length (loop_word which) ≡ 4
+    → IsPlainToken (loop_word which) → length (loop_word which) ≡ 4
     → ((bed : Bed) (token : List ℕ) → is_slider bed ≡ false → loop_slider which bed (token ∷ []) ≡ None)
     → usual_read usual ≡ read.Instr (loop_instr which dir n (c ∷ []))
     → text ≡ loop_word which ++ operands → BeginsWithUsualOperands profile names operands dir n c rest
-    → BeginsWithUsual profile names text usual (length text - length rest)
-formed profile names text operands rest which dir n c usual few word long hook said text_is front =
+    → IsSpaced profile names text rest usual
+formed profile names text operands rest which dir n c usual word long hook said text_is front =
     let name : List ℕ = front.name.name in
     let digits : List ℕ = front.needle.number.digits in
     let token : List ℕ = bed_word n.bed ++ digits in
@@ -324,8 +359,15 @@ formed profile names text operands rest which dir n c usual few word long hook s
     said
     ∙ ap (λ cs. read.Instr (loop_instr which dir n cs)) (sym (one_named names name c named))
     ∙ ap (λ o. reading_or o (loop_instr which dir n (carriers_of names (name ∷ [])))) (sym unbroken) in
-    begins profile names text rest (loop_word which) tokens usual line plain short (omega arith) few
-    (loop-reading profile names which tokens dir n.bed n.at (name ∷ []) (usual_read usual) shape is)
+    record {
+      word = loop_word which;
+      tokens = tokens;
+      text_is = line;
+      plain = plain;
+      short = short;
+      few = omega arith;
+      reads = loop-reading profile names which tokens dir n.bed n.at (name ∷ []) (usual_read usual) shape is;
+    }
 
 knit_token : IsPlainToken (codes "knit")
 knit_token = word_token 107 110 105 116 (letter 107 (lit< tt) (lit< tt)) (letter 110 (lit< tt) (lit< tt)) (letter 105 (lit< tt) (lit< tt)) (letter 116 (lit< tt) (lit< tt))
@@ -340,18 +382,26 @@ no_slider : (bed : Bed) (token : List ℕ) → is_slider bed ≡ false → slide
 no_slider bed token hook = ap (λ b. broken_if b SliderForm 2) hook
 
 -- a usual line with `knit` begins the text
+pub knit_spaced : (profile : Profile) (names : List (List ℕ)) (text operands rest : List ℕ) (dir : Dir) (n : Needle) (c : CarrierNo)
+    → text ≡ codes "knit" ++ operands → BeginsWithUsualOperands profile names operands dir n c rest → IsSpaced profile names text rest (Knit dir n c)
+knit_spaced profile names text operands rest dir n c is front = formed profile names text operands rest loop_operation.Knit dir n c (Knit dir n c) knit_token refl no_slider refl is front
+
 pub knit-begins : (profile : Profile) (names : List (List ℕ)) (table : ByteNames) (text operands rest : List ℕ) (dir : Dir) (n : Needle) (c : CarrierNo)
     → AreByteNames names table → text ≡ codes "knit" ++ operands → BeginsWithUsualOperands profile names operands dir n c rest
     → BeginsWithUsual profile names text (Knit dir n c) (length text - length rest)
 knit-begins profile names table text operands rest dir n c are is front =
-    formed profile names text operands rest loop_operation.Knit dir n c (Knit dir n c) are.few knit_token refl no_slider refl is front
+    begins_spaced profile names text rest (Knit dir n c) are.few (knit_spaced profile names text operands rest dir n c is front)
 
 -- a usual line with `tuck` begins the text
+pub tuck_spaced : (profile : Profile) (names : List (List ℕ)) (text operands rest : List ℕ) (dir : Dir) (n : Needle) (c : CarrierNo)
+    → text ≡ codes "tuck" ++ operands → BeginsWithUsualOperands profile names operands dir n c rest → IsSpaced profile names text rest (Tuck dir n c)
+tuck_spaced profile names text operands rest dir n c is front = formed profile names text operands rest loop_operation.Tuck dir n c (Tuck dir n c) tuck_token refl no_slider refl is front
+
 pub tuck-begins : (profile : Profile) (names : List (List ℕ)) (table : ByteNames) (text operands rest : List ℕ) (dir : Dir) (n : Needle) (c : CarrierNo)
     → AreByteNames names table → text ≡ codes "tuck" ++ operands → BeginsWithUsualOperands profile names operands dir n c rest
     → BeginsWithUsual profile names text (Tuck dir n c) (length text - length rest)
 tuck-begins profile names table text operands rest dir n c are is front =
-    formed profile names text operands rest loop_operation.Tuck dir n c (Tuck dir n c) are.few tuck_token refl no_slider refl is front
+    begins_spaced profile names text rest (Tuck dir n c) are.few (tuck_spaced profile names text operands rest dir n c is front)
 
 sides_apart : (a b : Bool) → a ≢ b → (if a then b else not b) ≡ false
 sides_apart true true differ = absurd (differ refl)
@@ -365,10 +415,9 @@ opposite bed bed2 hook differ =
     ∙ ap (λ b. broken_if (b && is_slider bed2) TwoSliders 2) hook
 
 -- a line that transfers loops
-pub xfer-begins : (profile : Profile) (names : List (List ℕ)) (text operands rest : List ℕ) (n n2 : Needle) → length names ≤ 64
-    → text ≡ codes "xfer" ++ operands → BeginsWithUsualNeedles profile operands n n2 rest
-    → BeginsWithUsual profile names text (Xfer n n2) (length text - length rest)
-xfer-begins profile names text operands rest n n2 few text_is front =
+pub xfer_spaced : (profile : Profile) (names : List (List ℕ)) (text operands rest : List ℕ) (n n2 : Needle)
+    → text ≡ codes "xfer" ++ operands → BeginsWithUsualNeedles profile operands n n2 rest → IsSpaced profile names text rest (Xfer n n2)
+xfer_spaced profile names text operands rest n n2 text_is front =
     let digits : List ℕ = front.needle.number.digits in
     let digits2 : List ℕ = front.needle2.number.digits in
     let token : List ℕ = bed_word n.bed ++ digits in
@@ -400,15 +449,28 @@ xfer-begins profile names text operands rest n n2 few text_is front =
     ap (λ o. or_else o (or_else (off_bed profile 2 n2.at) (not_opposite n.bed n2.bed 2))) (on_bed profile n 1 front.needle.on)
     ∙ ap (λ o. or_else o (not_opposite n.bed n2.bed 2)) (on_bed profile n2 2 front.needle2.on)
     ∙ opposite n.bed n2.bed front.needle.hook front.sides in
-    begins profile names text rest (codes "xfer") tokens (Xfer n n2) line plain short (omega arith) few
-    (inl (
-      XferShape n.bed n.at n2.bed n2.at,
-      record {
-        operands = tokens;
-        others = token2 ∷ [];
-        spelled = refl;
-        first = record { needle = token; spelled = refl; named = is_needle n.bed digits n.at front.needle.number.are front.needle.number.at_is };
-        second = record { needle = token2; spelled = refl; named = is_needle n2.bed digits2 n2.at front.needle2.number.are front.needle2.number.at_is };
-      },
-      ap (λ o. reading_or o (instr.Xfer n n2)) (sym unbroken),
-    ))
+    record {
+      word = codes "xfer";
+      tokens = tokens;
+      text_is = line;
+      plain = plain;
+      short = short;
+      few = omega arith;
+      reads = inl (
+        XferShape n.bed n.at n2.bed n2.at,
+        record {
+          operands = tokens;
+          others = token2 ∷ [];
+          spelled = refl;
+          first = record { needle = token; spelled = refl; named = is_needle n.bed digits n.at front.needle.number.are front.needle.number.at_is };
+          second = record { needle = token2; spelled = refl; named = is_needle n2.bed digits2 n2.at front.needle2.number.are front.needle2.number.at_is };
+        },
+        ap (λ o. reading_or o (instr.Xfer n n2)) (sym unbroken),
+      );
+    }
+
+pub xfer-begins : (profile : Profile) (names : List (List ℕ)) (text operands rest : List ℕ) (n n2 : Needle) → length names ≤ 64
+    → text ≡ codes "xfer" ++ operands → BeginsWithUsualNeedles profile operands n n2 rest
+    → BeginsWithUsual profile names text (Xfer n n2) (length text - length rest)
+xfer-begins profile names text operands rest n n2 few is front =
+    begins_spaced profile names text rest (Xfer n n2) few (xfer_spaced profile names text operands rest n n2 is front)

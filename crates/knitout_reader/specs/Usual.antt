@@ -25,6 +25,12 @@ pub record IsTokenByte (byte : ℕ) : Type 0 where
   pub feed : byte ≢ 10
   pub back : byte ≢ 13
 
+-- a token of one or two such bytes
+pub record IsShortToken (token : List ℕ) : Type 0 where
+  pub some : 0 < length token
+  pub short : length token ≤ 2
+  pub bytes : All IsTokenByte token
+
 -- the byte alone is the name of this carrier
 pub record IsByteName (names : List (List ℕ)) (byte number : ℕ) : Type 0 where
   pub token : IsTokenByte byte

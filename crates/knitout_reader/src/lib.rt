@@ -25,6 +25,7 @@ mod operands;
 mod rack;
 mod rack_line;
 mod read;
+mod readings;
 mod shortest;
 #[cfg(test)]
 mod token_tests;
@@ -32,12 +33,15 @@ mod tokens;
 mod usual;
 #[cfg(test)]
 mod usual_tests;
+mod whole_line;
 mod words;
 
 pub use body::{nth_line, read_body};
 pub use byte_names::ByteNames;
 pub use head::{Head, HeadFault, read_head};
 pub use read::read_line;
+pub use readings::{one_carrier, usual_reading};
 pub use shortest::is_shortest_spelling;
 pub use tokens::{code_of, comment_at, is_blank_text, next_token};
 pub use usual::usual_line;
+pub use whole_line::usual_whole_line;

@@ -126,7 +126,11 @@ fn last_byte<'a>(text: &'a [u8]) -> Option<(u8, &'a [u8])>
 
 // A needle on a hook of the bed, with this byte behind it.
 #[inline(always)]
-fn usual_needle<'a>(text: &'a [u8], end: u8, profile: &Profile) -> Option<(Needle, &'a [u8])>
+pub(crate) fn usual_needle<'a>(
+    text: &'a [u8],
+    end: u8,
+    profile: &Profile,
+) -> Option<(Needle, &'a [u8])>
     ensures { IfSome result (λ found. BeginsWithUsualNeedle profile.now text.now found.0 end found.1.now) }
 {
     let (bed, behind) = hook_bed(text)?;
@@ -201,7 +205,7 @@ fn three_digits<'a>(text: &'a [u8], end: u8) -> Option<(u8, u8, u8, &'a [u8])>
 
 // The value of a digit.
 #[inline(always)]
-fn digit(byte: u8) -> i16
+pub(crate) fn digit(byte: u8) -> i16
     requires { IsDigit byte }
     ensures { result ≡ pos (byte - 48) }
 {

@@ -1,8 +1,8 @@
 //! Lines that are nearly usual. Each is read at once or not, and where it is, the general way reads the same.
 ghost use Rattle.std.specs.Prelude.{◌<◌, ◌^◌, length};
 
-use crate::{ByteNames, is_shortest_spelling, read_line, usual_line};
-use knit_base::{CarrierNo, Declared, Instr, Profile, Read, Usual, Yarns};
+use crate::{ByteNames, is_shortest_spelling, read_line, usual_line, usual_whole_line};
+use knit_base::{Bed, CarrierNo, Declared, Dir, Instr, Needle, Profile, Read, Usual, Yarns};
 use std::alloc::Global;
 
 // The bed ends within the numbers of three digits.
@@ -121,6 +121,41 @@ fn both_ways_read_alike(rt: HostRuntime) {
             Some(true),
             "at {line}"
         );
+    }
+}
+
+// What is read at once of a line without a line feed.
+fn read_whole(alloc: Global, line: &str) -> Option<Usual> {
+    usual_whole_line(line.as_bytes(), &PROFILE, &declared(alloc)?)
+}
+
+#[test]
+fn whole_lines_are_read_at_once(rt: HostRuntime) {
+    let front = Needle {
+        bed: Bed::Front,
+        at: 1,
+    };
+    let back = Needle {
+        bed: Bed::Back,
+        at: 250,
+    };
+    for (line, usual) in [
+        (
+            "knit + f1 A",
+            Some(Usual::Knit(Dir::Right, front, CarrierNo(0))),
+        ),
+        (
+            "tuck - b250 10",
+            Some(Usual::Tuck(Dir::Left, back, CarrierNo(4))),
+        ),
+        ("xfer b250 f001", Some(Usual::Xfer(back, front))),
+        ("knit + f1 ;", None),
+        ("knit + f1 A ", None),
+        ("knit + f1 B", None),
+        ("xfer f1 b251", None),
+        ("xfer b250 b1", None),
+    ] {
+        assert_eq!(rt; read_whole(rt.alloc(), line), usual, "at {line}");
     }
 }
 

@@ -37,14 +37,25 @@ impl LoopTable {
         }
     }
 
+    /// The table of no loop. Memory for so many rows is asked for at once, of which contracts don't speak.
+    pub fn with_capacity(alloc: Global, room: u32) -> Result<Self, NoMemory>
+        ensures { IfOk result (λ table. table ≡ []) }
+    {
+        Ok(LoopTable {
+            rows: Vec::with_capacity(alloc, room as usize)?,
+        })
+    }
+
     /// Appends the loop of a line behind those of all rows. After `NoMemory` the table is as before.
+    #[inline(always)]
     pub fn push(&mut self, row: LoopRow) -> Result<(), NoMemory>
         requires last { All (λ (earlier : LoopRow). earlier.offset < row.offset) self.old }
         requires few { length self.old < 4096 }
         ensures ok { OnOk result (self.new ≡ self.old ++ row ∷ []) }
         ensures err { OnErr result (self.new ≡ self.old) }
     {
-        self.rows.push(row)?;
+        self.rows.reserve(1)?;
+        self.rows.push_reserved(row);
         Ok(())
     }
 

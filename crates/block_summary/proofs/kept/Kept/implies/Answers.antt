@@ -1,25 +1,14 @@
-use Rattle.face_data.specs.Conditions.Ask.{size_at_most}
-use Rattle.block_summary.proofs.KeptConditions.{says_next, says_here, says_nothing, says_of_kept}
+-- What the chain of the first needle says.
+use Rattle.block_summary.proofs.FoundConditions.{implied_as_found, links_fit}
 use Rattle.block_summary.proofs.kept.Kept.implies.Goals as goal
 
-pub returns-then-implies_size : goal.returns-then-implies_size
-returns-then-implies_size c =
-    let names = c.self.inside.names.items in
-    let q = size_at_most c.args.needles.now c.args.most in
-    says_of_kept names c.self.inside.checks.items c.deref-check-items.result.now c.args.self.now q _ c.deref-check-items.ensures.value c.self.view_is
-    (says_here names c.deref.result.now c.deref-check-items.result.now c.loop-check.check-index _ q c.implies_size.result c.deref.ensures.value c.loop-check-test.true c.implies_size.ensures c.if-implies_size.true
-    c.loop-check.invariant)
+pub finds-requires-clause-fit : goal.finds-requires-clause-fit
+finds-requires-clause-fit c =
+    let inside = c.self.inside in
+    links_fit inside.names.items c.deref.result.now inside.checks.items inside.chains.links c.deref.ensures.value (c.self.invariant).0.fit (c.self.invariant).1
 
-pub loop-check-preserved : goal.loop-check-preserved
-loop-check-preserved c =
-    let names = c.self.inside.names.items in
-    let q = size_at_most c.args.needles.now c.args.most in
-    says_next names c.deref.result.now c.deref-check-items.result.now c.loop-check.check-index _ q c.implies_size.result c.deref.ensures.value c.loop-check-test.true c.implies_size.ensures c.if-implies_size.false
-    c.loop-check.invariant
-
-pub returns : goal.returns
-returns c =
-    let names = c.self.inside.names.items in
-    let q = size_at_most c.args.needles.now c.args.most in
-    says_of_kept names c.self.inside.checks.items c.deref-check-items.result.now c.args.self.now q _ c.deref-check-items.ensures.value c.self.view_is
-    (says_nothing names c.deref-check-items.result.now c.loop-check.check-index q c.loop-check-test.false c.loop-check.invariant)
+pub returns-in-len1-up : goal.returns-in-len1-up
+returns-in-len1-up c =
+    let inside = c.self.inside in
+    implied_as_found inside.names.items c.deref.result.now inside.checks.items inside.chains.links c.args.self.now c.args.needles.now _ c.args.most c.chain_of.result c.finds.result
+    c.deref.ensures.value c.self.view_is c.in-len1-up.len_at_least c.chain_of.ensures.chain c.finds.ensures.yes c.finds.ensures.none (c.self.invariant).1

@@ -6,6 +6,9 @@ use Rattle.face_data.specs.Composition.{settled}
 use Rattle.face_data.specs.Conditions.Ask.{size_at_most}
 use Rattle.face_data.specs.Summaries.{Asked}
 use Rattle.face_data.specs.View.{asked_of}
+use Rattle.block_summary.specs.NeedleChains.{AreAdded}
+use Rattle.block_summary.specs.declared.chains.Link.{Link}
+use Rattle.block_summary.proofs.FoundConditions.{last_named, size_found}
 use Rattle.block_summary.proofs.KeptConditions.{size_kept}
 use Rattle.block_summary.proofs.kept.Kept.keep_size.Goals as goal
 
@@ -17,9 +20,15 @@ invariant_of-self-2 c =
     let names : c.extend_from_slice.new.self.items ≡ inside.names.items ++ needles = search rules in
     let items : c.push_reserved.new.self.items ≡ inside.checks.items ++ record { fault = c.args.fault; cond = SizeAtMost (record { start = c.len.result; len = length needles }) c.args.most } ∷ [] = search rules in
     let silent : settled (map (asked_of inside.names.items) inside.checks.items) (size_at_most needles c.args.most) ≡ asks (size_at_most needles c.args.most) =
-    subst (λ (kept : List Asked). settled kept (size_at_most needles c.args.most) ≡ asks (size_at_most needles c.args.most)) (sym c.self.view_is) c.requires.silent in
-    (size_kept inside.names.items c.extend_from_slice.new.self.items inside.checks.items c.push_reserved.new.self.items inside.digest c.args.fault needles c.args.most c.len.result (length needles) names
-    begins (λ i. length needles) items silent c.self.invariant).kept
+    subst (λ (kept : List Asked). settled kept (size_at_most needles c.args.most) ≡ asks (size_at_most needles c.args.most)) (sym c.self.view_is) c.requires.silent in (
+      (size_kept inside.names.items c.extend_from_slice.new.self.items inside.checks.items c.push_reserved.new.self.items inside.digest c.args.fault needles c.args.most c.len.result (length needles) names
+          begins (λ i. length needles) items silent (c.self.invariant).0).kept,
+      size_found inside.names.items needles c.extend_from_slice.new.self.items inside.checks.items c.push_reserved.new.self.items inside.chains.links c.add.new.self.links
+          (record { fault = c.args.fault; cond = SizeAtMost (record { start = c.len.result; len = length needles }) c.args.most }) names items
+          (last_named inside.names.items needles c.len.result c.args.most begins) (c.self.invariant).0.fit
+          (subst (λ (ls : List Link). AreAdded needles (SizeAtMost (record { start = c.len.result; len = length needles }) c.args.most) ls c.add.new.self.links) c.reserve-2.ensures.links c.add.ensures)
+          (c.self.invariant).1,
+    )
 
 pub returns-clause-ok : goal.returns-clause-ok
 returns-clause-ok c =
@@ -31,5 +40,5 @@ returns-clause-ok c =
     let silent : settled (map (asked_of inside.names.items) inside.checks.items) (size_at_most needles c.args.most) ≡ asks (size_at_most needles c.args.most) =
     subst (λ (kept : List Asked). settled kept (size_at_most needles c.args.most) ≡ asks (size_at_most needles c.args.most)) (sym c.self.view_is) c.requires.silent in
     (size_kept inside.names.items c.extend_from_slice.new.self.items inside.checks.items c.push_reserved.new.self.items inside.digest c.args.fault needles c.args.most c.len.result (length needles) names
-    begins (λ i. length needles) items silent c.self.invariant).asked
+    begins (λ i. length needles) items silent (c.self.invariant).0).asked
     ∙ ap (λ (kept : List Asked). kept ++ record { fault = c.args.fault; ask = size_at_most needles c.args.most } ∷ []) c.self.view_is

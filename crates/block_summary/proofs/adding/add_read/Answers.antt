@@ -2,12 +2,12 @@ use Rattle.std.proofs.Common.{subst}
 use Rattle.block_summary.specs.declared.line.LineEnd.{LineEnd}
 use Rattle.block_summary.specs.LineEnds.{EndsAs}
 use Rattle.block_summary.proofs.Blocks.{goes_lines, stops_lines, rows_more, rows_wider}
-use Rattle.block_summary.proofs.prepared.add_line.Goals as goal
+use Rattle.block_summary.proofs.adding.add_read.Goals as goal
 
 pub returns-in-Stops-clause-lines : goal.returns-in-Stops-clause-lines
 returns-in-Stops-clause-lines c =
     let hold = c.args.setting.now.profile.hold in
-    let read = c.in_ok-read.read in
+    let read = c.args.read.now in
     let old = c.args.draft.now in
     let new = c.line.new.self in
     stops_lines hold read old new c.in-Stops.fault (subst (λ (end : LineEnd). EndsAs hold read old new end) c.in-Stops.is c.in_ok-fault.ensures)
@@ -15,24 +15,24 @@ returns-in-Stops-clause-lines c =
 pub returns-in-Stops-clause-rows : goal.returns-in-Stops-clause-rows
 returns-in-Stops-clause-rows c =
     let hold = c.args.setting.now.profile.hold in
-    let read = c.in_ok-read.read in
+    let read = c.args.read.now in
     let old = c.args.draft.now in
     let new = c.line.new.self in
     rows_wider old.lines new.lines c.args.loops.now
     (stops_lines hold read old new c.in-Stops.fault (subst (λ (end : LineEnd). EndsAs hold read old new end) c.in-Stops.is c.in_ok-fault.ensures)) c.requires.rows
 
-pub returns-clause-lines : goal.returns-clause-lines
-returns-clause-lines c =
+pub returns-in_ok-add_row-in-GoesOn-clause-lines : goal.returns-in_ok-add_row-in-GoesOn-clause-lines
+returns-in_ok-add_row-in-GoesOn-clause-lines c =
     let hold = c.args.setting.now.profile.hold in
-    let read = c.in_ok-read.read in
+    let read = c.args.read.now in
     let old = c.args.draft.now in
     let new = c.line.new.self in
     goes_lines hold read old new c.in-GoesOn.formed (subst (λ (end : LineEnd). EndsAs hold read old new end) c.in-GoesOn.is c.in_ok-fault.ensures)
 
-pub returns-clause-rows : goal.returns-clause-rows
-returns-clause-rows c =
+pub returns-in_ok-add_row-in-GoesOn-clause-rows : goal.returns-in_ok-add_row-in-GoesOn-clause-rows
+returns-in_ok-add_row-in-GoesOn-clause-rows c =
     let hold = c.args.setting.now.profile.hold in
-    let read = c.in_ok-read.read in
+    let read = c.args.read.now in
     let old = c.args.draft.now in
     let new = c.line.new.self in
     rows_more old.lines new.lines c.args.loops.now c.add_row.new.loops c.lines-offset.result c.in-GoesOn.formed
