@@ -1,5 +1,6 @@
 pub mod Added
 pub mod Adds
+pub mod Appended
 pub mod BedNeedles
 pub mod Blocks
 pub mod Counts

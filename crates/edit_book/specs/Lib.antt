@@ -2,5 +2,6 @@ pub mod Books
 pub mod Opened
 pub mod Orders
 pub mod Replies
+pub mod Turns
 pub mod Verdicts
 pub mod Work

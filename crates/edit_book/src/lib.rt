@@ -4,12 +4,13 @@
 //! memory, and then nothing has changed; that the journal grows by the one entry exactly where an edit is accepted; that an edit
 //! tells the verdict on the document after it, and `verdict` that on the document as it is; that a put of a block for which `ready`
 //! holds isn't refused for want of memory; and how many steps a call takes at most: an edit by the needles that are named and the
-//! height of the tree, whatever the number of lines. No call asks yet for the loop of a line.
+//! height of the tree, whatever the number of lines. No call asks yet for the loop of a line. Sessions share a book by turns, each
+//! of which is right (`specs/Turns`); a turn that asks for a loop is answered with want of memory so far.
 //!
 //! Definitions: `specs/Replies` (what is asked, and the one reply), `specs/Verdicts` (verdict and loops of a document's lines, run one
 //! by one from empty beds), `specs/Work` (how many steps a request may take), `specs/Orders` and `specs/Books` (what contracts see of a
 //! book, and what always holds of one) and `specs/Opened` (what is kept of the first blocks). Below it stand std, `knit_base`,
-//! `carriage_model`, `knitout_reader`, `face_data`, `loop_history`, `block_summary`, `edit_journal` and the tree of faces.
+//! `carriage_model`, `knitout_reader`, `face_data`, `loop_history`, `block_summary`, `edit_journal`, `turn_book` and the tree of faces.
 #![tactic(auto)]
 
 mod add;
@@ -24,6 +25,7 @@ mod replies;
 mod reply;
 mod room;
 mod start;
+mod turns;
 
 pub use book::Book;
 pub use replies::Replies;

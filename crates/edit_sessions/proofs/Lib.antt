@@ -1,0 +1,12 @@
+pub mod CoreLaws
+pub mod Entries
+pub mod Histories
+pub mod Orders
+pub mod Longer
+pub mod Made
+pub mod Merge
+pub mod Played
+pub mod Sessions
+pub mod Asks
+pub mod Takes
+pub mod Talked

@@ -1,0 +1,11 @@
+pub mod Core
+pub mod Histories
+pub mod Laws
+pub mod Legal
+pub mod Memory
+pub mod Play
+pub mod Session
+pub mod Shared
+pub mod Taken
+pub mod Talks
+pub mod Walk

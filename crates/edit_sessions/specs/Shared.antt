@@ -1,0 +1,16 @@
+-- The opening of a shared book.
+use Rattle.std.specs.Prelude.{ℕ}
+use Rattle.edit_journal.specs.declared.edit.Entry.{Entry}
+use Rattle.edit_journal.specs.declared.opening.Opening.{Opening}
+use Rattle.edit_book.specs.Books.{BookView}
+use Rattle.edit_book.specs.declared.reply.BookCommand.{BookCommand}
+use Rattle.edit_book.specs.declared.reply.Reply.{Reply}
+use Rattle.turn_book.specs.Passes.{first_book}
+use Rattle.turn_book.specs.declared.pass.Shared.{Shared}
+
+abbrev pub opening_of : Shared BookView BookCommand Reply Entry Opening → Opening
+opening_of shared = (first_book shared).opening
+
+-- the session that made an entry
+abbrev pub session_of : Entry → ℕ
+session_of entry = entry.session

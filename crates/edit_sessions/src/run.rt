@@ -1,0 +1,189 @@
+//! The sessions of a script, each in a thread of its own.
+ghost use Rattle.std.specs.Prelude.{◌≡◌, ◌+◌, ◌<◌, ◌≤◌, ◌^◌, [], IfOk, length, map, take, vec_capacity, vec_len};
+ghost use Rattle.std.specs.Thread.{IsSync};
+ghost use Rattle.knit_base.specs.Limits.{IsLawfulProfile};
+ghost use Rattle.edit_journal.specs.declared.opening.Opening.{Opening};
+ghost use Rattle.edit_sessions.specs.Histories.{AreHistories, IsHistory};
+ghost use Rattle.edit_sessions.specs.Laws.{IsLegal};
+ghost use Rattle.edit_sessions.specs.Memory.{core, first_memory};
+ghost use Rattle.edit_sessions.specs.Shared.{opening_of, session_of};
+ghost use Rattle.edit_sessions.specs.Talks.{AreReady, IsReady, replies_of};
+ghost use Rattle.turn_book.specs.Journal.{Each, Foreign};
+ghost use Rattle.turn_book.specs.Passes.{IsPassOf, view_of};
+
+use crate::session::Session;
+use crate::take::do_command;
+use crate::talk::Talk;
+use edit_book::{Book, Replies, Reply};
+use knit_base::{NoMemory, Setting};
+use knit_ports::Gate;
+use script_reader::{Command, CommandList};
+use std::alloc::Global;
+use std::sync::Wait;
+use std::thread::{Threads, join_mut};
+use turn_book::{Pass, Shared};
+
+/// Runs the sessions of a pass's numbers beside each other, one script each, and gives the replies to each.
+///
+/// All sessions are started, and room for each reply is made, before the first command; want of memory is answered only until
+/// then, and the pass is then dropped. It may wait for as long as the gate, or other threads that hold the turn.
+pub fn run_all<G: Gate + Sync, R: Threads + Wait + Sync>(
+    rt: &R,
+    alloc: Global,
+    gate: &G,
+    shared: &Shared<Book>,
+    setting: &Setting,
+    blocks: u32,
+    scripts: &[CommandList],
+    mut pass: Pass<Book>,
+) -> Result<(Pass<Book>, Replies), NoMemory>
+    requires of_this { IsPassOf shared.now pass }
+    requires range { (view_of pass).first + length scripts.now ≡ (view_of pass).past }
+    requires setting { (opening_of shared.now).setting ≡ setting.now }
+    requires profile { IsLawfulProfile setting.now.profile }
+    requires blocks { length (opening_of shared.now).texts ≡ blocks }
+    ensures of_this { IfOk result (λ r. IsPassOf shared.now r.0) }
+    ensures range { IfOk result (λ r. ((view_of r.0).first ≡ (view_of pass).first) × ((view_of r.0).past ≡ (view_of pass).past)) }
+    ensures histories { Foreign session_of (view_of pass).first (view_of pass).past (view_of pass).seen → IfOk result (λ r. AreHistories (core (opening_of shared.now)) (view_of pass).first (view_of r.0).seen (first_memory (opening_of shared.now)) scripts.now r.1) }
+    ensures legal { (view_of pass).first ≡ 0 → (view_of pass).past ≡ (view_of pass).count → (view_of pass).seen ≡ [] → IfOk result (λ r. IsLegal (opening_of shared.now) scripts.now (view_of r.0).seen r.1) }
+{
+    let mut talks = begin(alloc, pass.first(), blocks, scripts)?;
+    let lists = Vec::with_capacity(alloc, scripts.len())?;
+    if scripts.is_empty() {
+        return Ok((pass, Replies::of(lists)));
+    }
+    run(
+        rt,
+        alloc,
+        gate,
+        shared,
+        setting,
+        scripts,
+        &mut pass,
+        talks.as_mut_slice(),
+    );
+    shared.newest(&mut pass);
+    Ok((pass, Replies::of(into_replies(talks, lists))))
+}
+
+// The replies of each session, in lists for which there is room.
+fn into_replies(talks: Vec<Talk>, mut lists: Vec<Vec<Reply>>) -> Vec<Vec<Reply>>
+    requires empty { lists.items ≡ [] }
+    requires room { length talks.items ≤ vec_capacity lists }
+    ensures { map (λ list. list.items) result.items ≡ map replies_of talks.items }
+{
+    for talk in talks {
+        let Talk {
+            session: _,
+            replies,
+        } = talk;
+        lists.push_reserved(replies);
+    }
+    lists
+}
+
+// The sessions at their start, with room for their replies.
+fn begin(
+    alloc: Global,
+    first: u32,
+    blocks: u32,
+    scripts: &[CommandList],
+) -> Result<Vec<Talk>, NoMemory>
+    requires few { first + length scripts.now ≤ 64 }
+    ensures ready { IfOk result (λ talks. (opening : Opening) → length opening.texts ≡ blocks → AreReady opening first scripts.now talks.items) }
+    ensures count { IfOk result (λ talks. length talks.items ≡ length scripts.now) }
+{
+    let mut talks = Vec::with_capacity(alloc, scripts.len())?;
+    for i in 0..scripts.len() {
+        let session = Session::start(alloc, first + i as u32, blocks)?;
+        let replies = Vec::with_capacity(alloc, scripts[i].len() as usize)?;
+        talks.push(Talk { session, replies })?;
+    }
+    Ok(talks)
+}
+
+// One session, command by command.
+fn talk<G: Gate, R: Threads + Wait>(
+    rt: &R,
+    alloc: Global,
+    gate: &G,
+    shared: &Shared<Book>,
+    setting: &Setting,
+    script: &[Command],
+    pass: &mut Pass<Book>,
+    talk: &mut Talk,
+)
+    requires of_this { IsPassOf shared.now pass.old }
+    requires range { (view_of pass.old).past ≡ (view_of pass.old).first + 1 }
+    requires setting { (opening_of shared.now).setting ≡ setting.now }
+    requires profile { IsLawfulProfile setting.now.profile }
+    requires short { length script.now < 2 ^ 32 }
+    requires ready { IsReady (opening_of shared.now) (view_of pass.old).first script.now talk.old }
+    ensures of_this { IsPassOf shared.now pass.new }
+    ensures range { ((view_of pass.new).first ≡ (view_of pass.old).first) × ((view_of pass.new).past ≡ (view_of pass.old).past) }
+    ensures history { Foreign session_of (view_of pass.old).first (view_of pass.old).past (view_of pass.old).seen → IsHistory (core (opening_of shared.now)) (view_of pass.old).first (view_of pass.new).seen (first_memory (opening_of shared.now)) script.now (replies_of talk.new) }
+{
+    let Talk { session, replies } = talk;
+    let number = pass.first();
+    for i in 0..script.len() {
+        gate.before(rt, number, i as u32);
+        let reply = do_command(rt, alloc, shared, pass, setting, session, &script[i]);
+        gate.after(rt, number, i as u32);
+        replies.push_reserved(reply);
+    }
+}
+
+// Each session in a thread of its own, by halves.
+pub(crate) fn run<G: Gate + Sync, R: Threads + Wait + Sync>(
+    rt: &R,
+    alloc: Global,
+    gate: &G,
+    shared: &Shared<Book>,
+    setting: &Setting,
+    scripts: &[CommandList],
+    pass: &mut Pass<Book>,
+    talks: &mut [Talk],
+)
+    requires of_this { IsPassOf shared.now pass.old }
+    requires range { (view_of pass.old).first + length scripts.now ≡ (view_of pass.old).past }
+    requires some { 0 < length scripts.now }
+    requires setting { (opening_of shared.now).setting ≡ setting.now }
+    requires profile { IsLawfulProfile setting.now.profile }
+    requires same { length talks.old ≡ length scripts.now }
+    requires ready { AreReady (opening_of shared.now) (view_of pass.old).first scripts.now talks.old }
+    ensures of_this { IsPassOf shared.now pass.new }
+    ensures range { ((view_of pass.new).first ≡ (view_of pass.old).first) × ((view_of pass.new).past ≡ (view_of pass.old).past) }
+    ensures histories { Foreign session_of (view_of pass.old).first (view_of pass.old).past (view_of pass.old).seen → AreHistories (core (opening_of shared.now)) (view_of pass.old).first (view_of pass.new).seen (first_memory (opening_of shared.now)) scripts.now (map replies_of talks.new) }
+{
+    if scripts.len() < 2 {
+        talk(
+            rt,
+            alloc,
+            gate,
+            shared,
+            setting,
+            scripts[0].as_slice(),
+            pass,
+            &mut talks[0],
+        );
+        return;
+    }
+    let middle = scripts.len() / 2;
+    let at = pass.first() + middle as u32;
+    let mut right = shared.split(pass, at);
+    let (a, b) = scripts.split_at(middle);
+    let (front, back) = talks.split_at_mut(middle);
+    join_mut(
+        rt,
+        &mut ||
+            requires { IsSync R.row × IsSync G.row × ((opening_of shared.now).setting ≡ setting.now) × IsLawfulProfile setting.now.profile × IsPassOf shared.now pass.now × ((view_of pass.now).first + length a.now ≡ (view_of pass.now).past) × (0 < length a.now) × (length front.now ≡ length a.now) × AreReady (opening_of shared.now) (view_of pass.now).first a.now front.now }
+            ensures { IsPassOf shared.entry.now pass.exit.now × ((view_of pass.exit.now).first ≡ (view_of pass.entry.now).first) × ((view_of pass.exit.now).past ≡ (view_of pass.entry.now).past) × (Foreign session_of (view_of pass.entry.now).first (view_of pass.entry.now).past (view_of pass.entry.now).seen → AreHistories (core (opening_of shared.entry.now)) (view_of pass.entry.now).first (view_of pass.exit.now).seen (first_memory (opening_of shared.entry.now)) a.entry.now (map replies_of front.exit.now)) }
+        { run(rt, alloc, gate, shared, setting, a, pass, front) },
+        &mut ||
+            requires { IsSync R.row × IsSync G.row × ((opening_of shared.now).setting ≡ setting.now) × IsLawfulProfile setting.now.profile × IsPassOf shared.now right × ((view_of right).first + length b.now ≡ (view_of right).past) × (0 < length b.now) × (length back.now ≡ length b.now) × AreReady (opening_of shared.now) (view_of right).first b.now back.now }
+            ensures { IsPassOf shared.entry.now right.exit × ((view_of right.exit).first ≡ (view_of right.entry).first) × ((view_of right.exit).past ≡ (view_of right.entry).past) × (Foreign session_of (view_of right.entry).first (view_of right.entry).past (view_of right.entry).seen → AreHistories (core (opening_of shared.entry.now)) (view_of right.entry).first (view_of right.exit).seen (first_memory (opening_of shared.entry.now)) b.entry.now (map replies_of back.exit.now)) }
+        { run(rt, alloc, gate, shared, setting, b, &mut right, back) },
+    );
+    shared.join(pass, right);
+    shared.newest(pass);
+}

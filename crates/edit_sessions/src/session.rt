@@ -1,0 +1,128 @@
+//! What a session keeps between its commands.
+ghost use Rattle.std.specs.Prelude.{◌≡◌, ℕ, ◌<◌, ◌+◌, nat_eq, IsSome, IfOk, length};
+ghost use Rattle.std.specs.Bool.{OnTrue};
+ghost use Rattle.std.specs.HashMap.{get, spare};
+ghost use Rattle.edit_journal.specs.declared.opening.Opening.{Opening};
+ghost use Rattle.edit_sessions.specs.Memory.{Memory, first_memory, memory_after, with_stamp, with_told, told_by, named};
+ghost use Rattle.edit_sessions.specs.Session.{Remembers, HasRoom, Teaches};
+
+use edit_book::Reply;
+use edit_journal::BlockName;
+use knit_base::NoMemory;
+use script_reader::Command;
+use std::alloc::Global;
+use std::collections::HashMap;
+
+/// The adds are counted, and those that were accepted are kept by their number: counting takes no memory.
+#[derive(Drop)]
+pub struct Session {
+    pub(crate) number: u32,
+    stamps: HashMap<u32, u32>,
+    made: HashMap<u64, u32>,
+    adds: u64,
+}
+
+fn set_stamp(stamps: &mut HashMap<u32, u32>, block: u32, stamp: u32)
+    requires { 0 < spare stamps.old }
+    ensures { (id : ℕ) → get nat_eq stamps.new id ≡ with_stamp block stamp (get nat_eq stamps.old) id }
+{
+    let Ok(_) = stamps.insert(block, stamp) else {
+        unreachable!()
+    };
+}
+
+fn set_made(made: &mut HashMap<u64, u32>, n: u64, block: u32)
+    requires { 0 < spare made.old }
+    ensures { (k : ℕ) → get nat_eq made.new k ≡ with_stamp n block (get nat_eq made.old) k }
+{
+    let Ok(_) = made.insert(n, block) else {
+        unreachable!()
+    };
+}
+
+/// The block of which a reply tells the stamp, and that stamp.
+fn told(command: &Command, reply: &Reply) -> Option<(u32, u32)>
+    ensures told { result ≡ told_by command.now reply.now }
+    ensures teaches { IsSome result → Teaches reply.now }
+{
+    match reply {
+        Reply::Shown { block, stamp, .. } => Some((*block, *stamp)),
+        Reply::Accepted { version, block, .. } => match command {
+            Command::Put(_, _) => Some((*block, *version)),
+            Command::Add(_, _) => Some((*block, *version)),
+            _ => None,
+        },
+        _ => None,
+    }
+}
+
+fn learn_stamp(stamps: &mut HashMap<u32, u32>, told: Option<(u32, u32)>)
+    requires { IsSome told → 0 < spare stamps.old }
+    ensures { (id : ℕ) → get nat_eq stamps.new id ≡ with_told told (get nat_eq stamps.old) id }
+{
+    if let Some((block, stamp)) = told {
+        set_stamp(stamps, block, stamp);
+    }
+}
+
+impl Session {
+    /// The session with this number, which knows stamp 0 of each opening block.
+    pub fn start(alloc: Global, number: u32, blocks: u32) -> Result<Session, NoMemory>
+        ensures number { IfOk result (λ session. session.number ≡ number) }
+        ensures remembers { IfOk result (λ session. (opening : Opening) → length opening.texts ≡ blocks → Remembers session (first_memory opening)) }
+    {
+        let mut stamps = HashMap::new(alloc);
+        for id in 0..blocks {
+            stamps.reserve(1)?;
+            set_stamp(&mut stamps, id, 0);
+        }
+        Ok(Session {
+            number,
+            stamps,
+            made: HashMap::new(alloc),
+            adds: 0,
+        })
+    }
+
+    /// Makes room for what one reply can teach.
+    pub fn make_room(&mut self) -> bool
+        ensures number { self.new.number ≡ self.old.number }
+        ensures kept { (m : Memory) → Remembers self.old m → Remembers self.new m }
+        ensures room { OnTrue result (HasRoom self.new) }
+    {
+        self.stamps.reserve(1).is_ok() && self.made.reserve(1).is_ok()
+    }
+
+    /// The block that a name means.
+    pub fn named(&self, name: &BlockName) -> Option<u32>
+        ensures { (m : Memory) → Remembers self.now m → result ≡ named m name.now }
+    {
+        match name {
+            BlockName::Id(id) => Some(*id),
+            BlockName::Own(n) => self.made.get(&(*n as u64)).copied(),
+        }
+    }
+
+    /// The stamp that the session knows of a block.
+    pub fn stamp(&self, id: u32) -> Option<u32>
+        ensures { (m : Memory) → Remembers self.now m → result ≡ m.stamps id }
+    {
+        self.stamps.get(&id).copied()
+    }
+
+    /// Learns from a reply to a command.
+    #[tactic(auto, using(crate::proofs::Made::made))]
+    pub fn learn(&mut self, command: &Command, reply: &Reply)
+        requires { Teaches reply.now → HasRoom self.old }
+        ensures number { self.new.number ≡ self.old.number }
+        ensures learned { (m : Memory) → Remembers self.old m → Remembers self.new (memory_after m command.now reply.now) }
+    {
+        learn_stamp(&mut self.stamps, told(command, reply));
+        if let Command::Add(_, _) = command {
+            self.adds = self.adds.saturating_add(1);
+            if let Reply::Accepted { block, .. } = reply {
+                set_made(&mut self.made, self.adds, *block);
+            }
+        }
+    }
+}

@@ -1,0 +1,89 @@
+//! One command of a session, carried out on the shared book.
+ghost use Rattle.std.specs.Prelude.{◌≡◌, ◌<◌, ◌≤◌};
+ghost use Rattle.edit_book.specs.Turns.{IsRight};
+ghost use Rattle.knit_base.specs.Limits.{IsLawfulProfile};
+ghost use Rattle.edit_sessions.specs.Memory.{Memory, memory_after};
+ghost use Rattle.edit_sessions.specs.Session.{Remembers};
+ghost use Rattle.edit_sessions.specs.Shared.{opening_of};
+ghost use Rattle.edit_sessions.specs.Taken.{IsTaken};
+ghost use Rattle.turn_book.specs.Passes.{IsPassOf, view_of};
+
+use crate::ask::ask;
+use crate::session::Session;
+use edit_book::{Book, Reply};
+use knit_base::{Setting, Steps};
+use script_reader::Command;
+use std::alloc::Global;
+use std::marker::Brand;
+use std::sync::Wait;
+use std::sync::ledger::{Blank, Ledger};
+use std::thread::Threads;
+use turn_book::{Pass, Shared};
+
+/// Carries out one command of a session on a shared book, at one turn, and remembers what the reply tells.
+///
+/// The reply is `Unseen` or `BlockLong` without a turn. The text of a put or an add is prepared before the turn is taken, and
+/// room for what the reply can tell is made before that: where there is none, the reply is want of memory, and no turn is taken.
+/// It may wait for as long as other threads hold the turn.
+pub fn do_command<R: Threads + Wait>(
+    rt: &R,
+    alloc: Global,
+    shared: &Shared<Book>,
+    pass: &mut Pass<Book>,
+    setting: &Setting,
+    session: &mut Session,
+    command: &Command,
+) -> Reply
+    requires of_this { IsPassOf shared.now pass.old }
+    requires number { ((view_of pass.old).first ≤ session.old.number) × (session.old.number < (view_of pass.old).past) }
+    requires setting { (opening_of shared.now).setting ≡ setting.now }
+    requires profile { IsLawfulProfile setting.now.profile }
+    ensures of_this { IsPassOf shared.now pass.new }
+    ensures number { session.new.number ≡ session.old.number }
+    ensures taken { (m : Memory) → Remembers session.old m → IsTaken (opening_of shared.now) session.old.number m command.now result (view_of pass.old) (view_of pass.new) }
+    ensures learned { (m : Memory) → Remembers session.old m → Remembers session.new (memory_after m command.now result) }
+{
+    let reply = if session.make_room() {
+        take::<Brand, R>(
+            rt,
+            alloc,
+            Blank::new(1),
+            shared,
+            pass,
+            setting,
+            session,
+            command,
+        )
+    } else {
+        Reply::NoMemory
+    };
+    session.learn(command, &reply);
+    reply
+}
+
+// The steps are counted by nobody.
+#[tactic(auto, using(crate::proofs::Takes::takes))]
+fn take<L: Ledger, R: Threads + Wait>(
+    rt: &R,
+    alloc: Global,
+    blank: Blank,
+    shared: &Shared<Book>,
+    pass: &mut Pass<Book>,
+    setting: &Setting,
+    session: &Session,
+    command: &Command,
+) -> Reply
+    requires blank { (blank.name ≡ L.name) × (blank.parts ≡ L.parts) × (0 < L.parts) }
+    requires of_this { IsPassOf shared.now pass.old }
+    requires number { ((view_of pass.old).first ≤ session.now.number) × (session.now.number < (view_of pass.old).past) }
+    requires setting { (opening_of shared.now).setting ≡ setting.now }
+    requires profile { IsLawfulProfile setting.now.profile }
+    ensures of_this { IsPassOf shared.now pass.new }
+    ensures taken { (m : Memory) → Remembers session.now m → IsTaken (opening_of shared.now) session.now.number m command.now result (view_of pass.old) (view_of pass.new) }
+{
+    let mut steps = Steps::<L>::start(rt, blank);
+    match ask(alloc, setting, session, command, &mut steps) {
+        Ok(asked) => shared.turn(rt, pass, session.number, asked, &mut steps),
+        Err(reply) => reply,
+    }
+}
