@@ -7,3 +7,4 @@ pub mod Needs
 pub mod Layouts
 pub mod PlainLeaves
 pub mod Starts
+pub mod NeedleEntries

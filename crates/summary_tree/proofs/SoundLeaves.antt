@@ -1,5 +1,5 @@
 -- Leaves that may stand in one tree.
-use Rattle.std.proofs.Common.{◌≡◌, ℕ, zero, suc, ◌+◌, ◌≤◌, List, [], ◌∷◌, ◌++◌, length, take, drop, arith}
+use Rattle.std.proofs.Common.{◌≡◌, ℕ, zero, suc, ◌+◌, ◌≤◌, List, [], ◌∷◌, ◌++◌, length, take, drop, take-append-drop, sym, ap, subst, arith}
 use Rattle.std.specs.List.{All}
 use Rattle.std.proofs.lemmas.List.Elements.{All-nil, All-cons, All-head, All-tail, All-append, Contains-append_left, Contains-append_right}
 use Rattle.knit_base.specs.declared.needle.Needle.{Needle}
@@ -10,7 +10,7 @@ use Rattle.face_data.specs.Sets.{IsWithin}
 use Rattle.face_data.specs.Spots.{IsNumbered}
 use Rattle.face_data.specs.View.{IsPacked, summary_of}
 use Rattle.tree_shape.specs.Fewest.{removed}
-use Rattle.summary_tree.specs.Laws.{lines_append}
+use Rattle.summary_tree.specs.Laws.{lines_append, stand_laws}
 use Rattle.summary_tree.specs.Leaves.{Leaf, lines_of, IsGoodFor, AreGoodFor, AreSound, StandTogether, IsWholeOf, IsRootOf}
 
 abbrev IsGoodLeaf : ℕ → ℕ → Leaf → Type 0
@@ -99,3 +99,11 @@ root_is leaves view s w packed = record {
   packed = packed;
   few = few_new (summary_of view) (record { carriers = s.carriers; limit = s.limit; known = s.known; few_loops = s.few_loops; numbers = s.numbered; good = w.good s.carriers s.limit s.known s.good });
 }
+
+-- the first of leaves that stand together do so too
+pub taken_together : (n : ℕ) (leaves : List Leaf) → StandTogether leaves → StandTogether (take n leaves)
+taken_together n leaves s = stand_laws.front (take n leaves) (drop n leaves) (subst StandTogether (sym (take-append-drop n leaves)) s)
+
+-- and have no more lines
+pub fewer_lines : (n : ℕ) (leaves : List Leaf) → lines_of (take n leaves) ≤ lines_of leaves
+fewer_lines n leaves = omega (arith, lines_append (take n leaves) (drop n leaves), ap lines_of (take-append-drop n leaves))

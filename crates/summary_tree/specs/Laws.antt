@@ -95,7 +95,7 @@ one_leaf leaf = record {
     one_text profile (block ∷ []) e = subst (StandsFor profile leaf.0) (nothing block) e.0
     one_text profile (block ∷ (other ∷ blocks)) e = absurd e.1
 
-applied_append : (xs ys : List Leaf) (s : State) (first : ℕ) → applied_each (xs ++ ys) s first ≡ and_then (applied_each xs s first) (λ t. applied_each ys t (first + lines_of xs))
+pub applied_append : (xs ys : List Leaf) (s : State) (first : ℕ) → applied_each (xs ++ ys) s first ≡ and_then (applied_each xs s first) (λ t. applied_each ys t (first + lines_of xs))
 applied_append [] ys s first = let same : first ≡ first + 0 = omega arith in ap (applied_each ys s) same
 applied_append (x ∷ xs) ys s first =
     and_then_same (applied x.0 s first) (λ t. applied_each (xs ++ ys) t (first + x.0.lines)) (λ t. and_then (applied_each xs t (first + x.0.lines)) (λ u. applied_each ys u (first + x.0.lines + lines_of xs)))

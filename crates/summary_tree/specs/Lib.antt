@@ -6,4 +6,5 @@ pub mod Leaves
 pub mod Laws
 pub mod Store
 pub mod Trees
+pub mod Entries
 pub mod Plain

@@ -1,19 +1,23 @@
 //! The document as a tree of its blocks' faces.
-ghost use Rattle.std.specs.Prelude.{◌≡◌, ℕ, ◌+◌, ◌*◌, ◌<◌, ◌≤◌, ◌↔◌, List, [], length, take, true, slice_set, Some, OnOk, IfOk, IsOk};
+ghost use Rattle.std.specs.Prelude.{◌≡◌, ℕ, ◌+◌, ◌*◌, ◌<◌, ◌≤◌, ◌^◌, ◌↔◌, List, [], length, take, true, slice_set, Some, OnOk, IfOk, IsOk};
 ghost use Rattle.std.specs.List.{slice_get};
+ghost use Rattle.carriage_model.specs.State.{State, empty_state};
 ghost use Rattle.face_data.specs.Drafts.{no_lines};
+ghost use Rattle.face_data.specs.Summaries.Outcome.{went_on};
 ghost use Rattle.face_data.specs.Items.{most_items};
 ghost use Rattle.face_data.specs.View.{IsPacked, summary_of};
 ghost use Rattle.knit_base.specs.declared.needle.Needle.{Needle};
 ghost use Rattle.tree_shape.specs.Fewest.{inserted, removed};
-ghost use Rattle.summary_tree.specs.Leaves.{AreSound, AreGoodFor, IsRootOf, lines_of, place_of_line};
+ghost use Rattle.summary_tree.specs.Leaves.{AreSound, AreGoodFor, IsRootOf, applied_each, lines_of, place_of_line};
 ghost use Rattle.summary_tree.specs.Trees.{TreeView, IsSameTree, Meets, CanReplace, CanInsert, CanRemove, change_steps};
 
+use crate::entry::loops_behind;
 use crate::need::Need;
 use crate::start::put_leaves;
 use crate::store::{FaceStore, kept_room};
+use carriage_model::LoopLines;
 use face_data::{Effect, Ending, Face, FaceView};
-use knit_base::{NoMemory, Steps};
+use knit_base::{Needle, NoMemory, Steps};
 use loop_history::LoopTable;
 use std::alloc::Global;
 use std::marker::Model;
@@ -236,6 +240,26 @@ impl Tree {
             None => None,
         }
     }
+
+    /// The loops that the needle holds where the leaf of a position begins, if the leaves before it are run from empty beds without
+    /// a fault. The first body line has the number `first`, by which loops are named. Fails where memory runs out, or for more loops
+    /// than a `u32` counts.
+    pub fn entry_contents(
+        &self,
+        alloc: Global,
+        at: u32,
+        needle: Needle,
+        first: u32,
+    ) -> Result<LoopLines, NoMemory>
+        requires place { at < length self.now.leaves }
+        requires lines { first + lines_of self.now.leaves < 2 ^ 32 }
+        ensures { IfOk result (λ loops. (s : State) → applied_each (take at self.now.leaves) empty_state first ≡ went_on s → loops ≡ s.stacks needle) }
+    {
+        let _len = self.whole.len();
+        let parts = self.whole.parts_before(alloc, at)?;
+        loops_behind(alloc, self.whole.store(), parts, needle, first)
+    }
+
     /// The face and the table of a position. Takes no memory.
     pub fn leaf(&self, at: u32) -> (FaceView<'_>, &LoopTable)
         requires { at < length self.now.leaves }

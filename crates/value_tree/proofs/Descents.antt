@@ -16,7 +16,8 @@ use Rattle.value_tree.specs.Found.{total}
 use Rattle.value_tree.specs.Walk.{IsDescentAt, IsDescent}
 use Rattle.value_tree.specs.declared.before.Descent.{Descent}
 use Rattle.value_tree.proofs.LeafLists.{length_gathered}
-use Rattle.value_tree.proofs.Offsets.{total_is, part_self, left_of, right_of, opened}
+use Rattle.value_tree.proofs.Offsets.{total_is}
+use Rattle.value_tree.proofs.TreeParts.{part_self, left_of, right_of, opened}
 
 module _ {V : Type 0} (counts : V → ℕ) where
   -- the first values, past some of them
@@ -39,7 +40,7 @@ module _ {V : Type 0} (join : V → V → V) (fits : V → V → Type 0) (cost :
   pub at_inner : (tree : Option Tree) (whole done high : ℕ) (descent : Descent) (n : ℕ) → IsDescent join fits cost counts leaf_at node_at tree whole done high descent → descent.child ≡ Inner n
       → (each : ℕ) × (l : Tree) × (r : Tree) × IsDescentAt join fits cost counts leaf_at node_at tree whole done high descent each (inner n l r)
   at_inner tree whole done high descent n w e =
-      let o = opened join fits cost counts leaf_at node_at law n descent.child w.1 w.2.named e in
+      let o = opened n descent.child w.1 w.2.named e in
       (w.0, o.0, o.1, subst (IsDescentAt join fits cost counts leaf_at node_at tree whole done high descent w.0) o.2 w.2)
 
   module _ (tree : Option Tree) (whole done high : ℕ) (descent : Descent) (each n : ℕ) (l r : Tree) (w : IsDescentAt join fits cost counts leaf_at node_at tree whole done high descent each (inner n l r)) where
@@ -50,7 +51,7 @@ module _ {V : Type 0} (join : V → V → V) (fits : V → V → Type 0) (cost :
     near_counts = total_is join fits cost counts leaf_at node_at law each l w.fit.0 w.fit.6 w.fit.2
 
     pub near_is_part : IsPartOf l tree
-    near_is_part = left_of join fits cost counts leaf_at node_at law n l r tree w.part
+    near_is_part = left_of n l r tree w.part
 
     many : length (gathered leaf_at (leaves l)) ≡ count l
     many = length_gathered leaf_at (leaves l) (there_front leaf_at (leaves l) (leaves r) w.there) ∙ length_leaves l
@@ -89,7 +90,7 @@ module _ {V : Type 0} (join : V → V → V) (fits : V → V → Type 0) (cost :
         let ys = gathered leaf_at (leaves r) in
         record {
           named = e;
-          part = right_of join fits cost counts leaf_at node_at law n l r tree w.part;
+          part = right_of n l r tree w.part;
           there = there_back leaf_at (leaves l) (leaves r) w.there;
           keeps = w.keeps.2;
           fit = w.fit.7;
@@ -119,4 +120,4 @@ module _ {V : Type 0} (join : V → V → V) (fits : V → V → Type 0) (cost :
       let some_cost = cost_law xs s in
       let st = standing sound stands join fits cost leaf_at stand_laws some_cost.0 t there s some_cost.1 in
       let is : root ≡ name t = cc (e) in
-      (3 * some_cost.0, t, record { named = is; part = part_self join fits cost counts leaf_at node_at law t; there = there; keeps = keeps; fit = st.fit; inside = place; counted = omega arith; low = omega arith })
+      (3 * some_cost.0, t, record { named = is; part = part_self t; there = there; keeps = keeps; fit = st.fit; inside = place; counted = omega arith; low = omega arith })

@@ -1,5 +1,6 @@
 pub mod LeafLists
 pub mod Changes
+pub mod TreeParts
 pub mod Offsets
 pub mod Descents
 pub mod Starts

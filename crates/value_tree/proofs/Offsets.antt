@@ -5,9 +5,9 @@ use Rattle.std.specs.Option.{option_map}
 use Rattle.std.proofs.lemmas.Bool.{cases_lt}
 use Rattle.std.proofs.lemmas.Bool.Decides.{nat_tests}
 use Rattle.tree_shape.specs.declared.node.Child.{Child}
-use Rattle.tree_shape.specs.declared.node.Child.TheVariants.{Leaf, Inner}
+use Rattle.tree_shape.specs.declared.node.Child.TheVariants.{Inner}
 use Rattle.tree_shape.specs.Tree.{Tree, leaf, inner, name, leaves, height, count}
-use Rattle.tree_shape.specs.Changes.{IsPart, IsPartOf}
+use Rattle.tree_shape.specs.Changes.{IsPartOf}
 use Rattle.tree_shape.specs.Values.{part, joined_on, gathered, AreThere, Keeps, KeepsAll, leaf_values, value}
 use Rattle.tree_shape.specs.Composing.{Fit, StandLaws, Costs}
 use Rattle.tree_shape.specs.View.{count_of, leaves_of_tree, height_of_tree}
@@ -15,6 +15,7 @@ use Rattle.tree_shape.proofs.NodeValues.{value_of_child}
 use Rattle.tree_shape.proofs.PlanSteps.{standing, gathered-append, there_front, there_back}
 use Rattle.tree_shape.proofs.ArenaTrees.{length_leaves}
 use Rattle.value_tree.proofs.LeafLists.{length_gathered}
+use Rattle.value_tree.proofs.TreeParts.{part_self, left_of, right_of, opened}
 use Rattle.value_tree.specs.Found.{further, total, found_in}
 use Rattle.value_tree.specs.Walk.{IsWalkAt, IsWalk}
 use Rattle.value_tree.specs.declared.find.Walk.{Walk}
@@ -88,34 +89,6 @@ module _ {V : Type 0} (join : V → V → V) (fits : V → V → Type 0) (cost :
       let one : Some (join f.0 f.1) ≡ Some v = sym (cc (f.2, f.3)) ∙ e in
       let is : join f.0 f.1 ≡ v = cc (one) in
       omega (arith, ap counts is, law f.0 f.1 f.4, total_is each l f.0 f.6 f.2, total_is each r f.1 f.7 f.3, ap (total counts) (gathered-append leaf_at (leaves l) (leaves r)), total-append counts (gathered leaf_at (leaves l)) (gathered leaf_at (leaves r)))
-
-  pub part_self : (t : Tree) → IsPart t t
-  part_self (leaf n) = refl
-  part_self (inner n l r) = inl refl
-
-  part_left : (n : ℕ) (l r t : Tree) → IsPart (inner n l r) t → IsPart l t
-  part_left n l r (leaf m) p = cc (p)
-  part_left n l r (inner m a b) (inl p) = let is : a ≡ l = cc (p) in inr (inl (subst (λ u. IsPart u a) is (part_self a)))
-  part_left n l r (inner m a b) (inr (inl p)) = inr (inl (part_left n l r a p))
-  part_left n l r (inner m a b) (inr (inr p)) = inr (inr (part_left n l r b p))
-
-  part_right : (n : ℕ) (l r t : Tree) → IsPart (inner n l r) t → IsPart r t
-  part_right n l r (leaf m) p = cc (p)
-  part_right n l r (inner m a b) (inl p) = let is : b ≡ r = cc (p) in inr (inr (subst (λ u. IsPart u b) is (part_self b)))
-  part_right n l r (inner m a b) (inr (inl p)) = inr (inl (part_right n l r a p))
-  part_right n l r (inner m a b) (inr (inr p)) = inr (inr (part_right n l r b p))
-
-  pub left_of : (n : ℕ) (l r : Tree) (o : Option Tree) → IsPartOf (inner n l r) o → IsPartOf l o
-  left_of n l r None p = p
-  left_of n l r (Some t) p = part_left n l r t p
-
-  pub right_of : (n : ℕ) (l r : Tree) (o : Option Tree) → IsPartOf (inner n l r) o → IsPartOf r o
-  right_of n l r None p = p
-  right_of n l r (Some t) p = part_right n l r t p
-
-  pub opened : (n : ℕ) (child : Child) (t : Tree) → child ≡ name t → child ≡ Inner n → (l : Tree) × (r : Tree) × (t ≡ inner n l r)
-  opened n child (leaf m) e f = let no : Leaf m ≡ Inner n = sym e ∙ f in cc (no)
-  opened n child (inner m l r) e f = let same : Inner m ≡ Inner n = sym e ∙ f in let is : m ≡ n = cc (same) in (l, r, ap (λ k. inner k l r) is)
 
   -- a walk that has come to an inner node
   pub at_inner : (tree : Option Tree) (whole : Option (ℕ × ℕ)) (done high : ℕ) (walk : Walk) (n : ℕ) → IsWalk join fits cost counts leaf_at node_at tree whole done high walk → walk.child ≡ Inner n

@@ -1,5 +1,6 @@
 pub mod Found
 pub mod Kept
 pub mod Need
+pub mod Parts
 pub mod Sums
 pub mod Walk

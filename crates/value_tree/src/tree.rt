@@ -10,10 +10,12 @@ ghost use Rattle.tree_shape.specs.Values.{AreThere, gathered, leaf_values, part,
 ghost use Rattle.tree_shape.specs.Changes.{numbers_below};
 ghost use Rattle.value_tree.specs.Found.{found_in, total};
 ghost use Rattle.value_tree.specs.Kept.{HasLeafPlace, IsKept, IsReplaceNeed, IsInsertNeed, IsRemoveNeed, KeepsNeeds};
+ghost use Rattle.value_tree.specs.Parts.{StandFor};
 
 use crate::before::{Descent, descend};
 use crate::find::{Counts, Walk, step};
 use crate::need::{NewLeaf, need_of};
+use crate::parts::parts_before;
 use crate::refresh::refresh;
 use crate::start::compose_all;
 use crate::values::{Takes, Values};
@@ -306,6 +308,16 @@ impl<S: Values> ValueTree<S> {
             descent = descend(&self.shape, &self.store, descent);
         }
         descent.before
+    }
+
+    /// The children that lie whole before a position, from the first on, no more than one a level: what they have stands for the
+    /// leaves there, one child after the other. Fails where memory runs out.
+    pub fn parts_before(&self, alloc: Global, at: u32) -> Result<Vec<Child>, NoMemory>
+        requires kept { IsKept S.join S.sound (S.leaf_at self.now.store) (S.node_at self.now.store) (S.slots self.now.store) self.now.shape }
+        requires place { at < count_of self.now.shape.tree }
+        ensures { IfOk result (λ parts. StandFor S.stands (part (S.leaf_at self.now.store) (S.node_at self.now.store)) parts.items (take at (leaf_values (S.leaf_at self.now.store) self.now.shape.tree))) }
+    {
+        parts_before(alloc, &self.shape, at)
     }
 
     /// The number of the leaf at a position.
