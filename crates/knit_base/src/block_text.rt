@@ -29,7 +29,7 @@ impl BlockText {
         requires inside { end ≤ length lines.now }
         ensures { IfOk result (λ text. text ≡ slice_range lines.now start end) }
     {
-        let mut copy = Lines::new(alloc);
+        let mut copy = Lines::with_room_for(alloc, lines, start, end)?;
         let _len = lines.len();
         for i in start..end {
             let Some(line) = lines.get(i) else {

@@ -42,7 +42,18 @@ fn place_of(names: &[String], name: &[u8]) -> Option<usize>
 {
     names
         .iter()
-        .position(|declared| name == declared.as_bytes())
+        .position(|declared| is_same(name, declared.as_bytes()))
+}
+
+// Whether two names are the same. Most have one byte, which is compared at once.
+#[inline(always)]
+fn is_same(name: &[u8], declared: &[u8]) -> bool
+    ensures { result ≡ bytes_eq name.now declared.now }
+{
+    match (name, declared) {
+        ([a], [b]) => a == b,
+        _ => name == declared,
+    }
 }
 
 impl Declared {

@@ -44,6 +44,31 @@ impl Lines {
         }
     }
 
+    // No line, with room for a copy of those from `start` to `end`, if they stand one after the other in their buffer. It is a guess: room
+    // grows where it is too little.
+    pub(crate) fn with_room_for(
+        alloc: Global,
+        lines: &Lines,
+        start: u32,
+        end: u32,
+    ) -> Result<Self, NoMemory>
+        requires { start ≤ end }
+        ensures { IfOk result (λ copy. copy ≡ []) }
+    {
+        let spans = &lines.spans;
+        let bytes = match (
+            spans.get(start as usize),
+            spans.get((end as usize).saturating_sub(1)),
+        ) {
+            (Some(first), Some(last)) => last.end.saturating_sub(first.start),
+            _ => 0,
+        };
+        Ok(Lines {
+            bytes: Vec::with_capacity(alloc, bytes)?,
+            spans: Vec::with_capacity(alloc, (end - start) as usize)?,
+        })
+    }
+
     /// The lines that lie in the buffer at these places. Nothing is copied.
     pub fn in_buffer(bytes: Vec<u8>, spans: Vec<Span>) -> Self
         requires few { length spans.items ≤ 16777217 }

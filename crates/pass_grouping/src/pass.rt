@@ -61,18 +61,19 @@ fn goes_one_way(way: Dir, ops: &[PassOp], from: usize, to: usize) -> bool
     true
 }
 
-// Whether b may come behind a in one pass that goes this way.
+// Whether b may come behind a in one pass that goes this way. The places are compared first: most neighbours that don't go this way
+// differ there.
 #[inline(always)]
 fn follows(way: Dir, a: &PassOp, b: &PassOp) -> bool
     ensures { IsTrue result ↔ Follows way a.now b.now }
 {
-    if !are_alike(a, b) {
+    if !is_beyond(way, a.place, b.place) {
         return false;
     }
     if !is_free(a.class, a.dir, way) {
         return false;
     }
-    is_beyond(way, a.place, b.place)
+    are_alike(a, b)
 }
 
 #[inline(always)]
@@ -107,11 +108,15 @@ fn is_same_dir(a: Option<Dir>, b: Option<Dir>) -> bool
     }
 }
 
-// Whether these are the same carriers in the same order.
+// Whether these are the same carriers in the same order. Most lists have one, which is compared at once.
+#[inline(always)]
 fn are_same_yarns(a: &[CarrierNo], b: &[CarrierNo]) -> bool
     ensures { IsTrue result ↔ (a.now ≡ b.now) }
 {
-    a == b
+    match (a, b) {
+        ([x], [y]) => x == y,
+        _ => a == b,
+    }
 }
 
 // Whether an operation of this class and direction may be in a pass that goes this way.
