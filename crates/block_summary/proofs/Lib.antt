@@ -14,4 +14,5 @@ pub mod LineGoodness
 pub mod LineFront
 pub mod LineStands
 pub mod LineSteps
+pub mod TransferSteps
 mod FormedLoops

@@ -318,7 +318,8 @@ impl Draft {
     }
 }
 
-fn no_effect() -> Effect
+// Rack, carriers and hook stay.
+pub(crate) fn no_effect() -> Effect
     ensures { result ≡ no_effect }
 {
     Effect {

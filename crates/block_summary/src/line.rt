@@ -5,26 +5,30 @@ ghost use Rattle.knit_base.specs.Lawful.{IsLawful, IsLawfulRead};
 ghost use Rattle.knit_base.specs.Limits.{IsLawfulProfile};
 ghost use Rattle.knit_base.specs.declared.instr.Read.TheVariants as read;
 ghost use Rattle.knit_base.specs.declared.instr.Instr.{Instr};
-ghost use Rattle.knit_base.specs.declared.instr.Instr.TheVariants.{Knit};
+ghost use Rattle.knit_base.specs.declared.instr.Instr.TheVariants.{Knit, Xfer};
 ghost use Rattle.knit_base.specs.Instr.{forming_needle};
 ghost use Rattle.knit_base.specs.Needle.{is_slider, own_slider};
 ghost use Rattle.face_data.specs.declared.face.Seg.TheVariants.{New};
+ghost use Rattle.face_data.specs.declared.face.Ending.TheVariants.{Through};
 ghost use Rattle.face_data.specs.Composition.{merged};
 ghost use Rattle.face_data.specs.Conditions.{unless};
 ghost use Rattle.face_data.specs.Conditions.Ask.{size_at_most};
+ghost use Rattle.face_data.specs.Goodness.{IsInOrder};
 ghost use Rattle.face_data.specs.Segments.{change_at, segments_on};
 ghost use Rattle.face_data.specs.Sizes.{SizeRule, size_ask, size_asks};
 ghost use Rattle.carriage_model.specs.Machine.{HasPlaces};
+ghost use Rattle.bed_rules.specs.Beds.{moved};
 ghost use Rattle.carrier_rules.specs.declared.conds.OfEach.TheVariants.{InAction};
 ghost use Rattle.carrier_rules.specs.Carriers.{conds_of, conds_of_each};
 ghost use Rattle.slider_rules.specs.Sliders.{bare_slider};
 ghost use Rattle.block_summary.specs.Asks.{instr_ask};
-ghost use Rattle.block_summary.specs.DraftKnowledge.{CanBeAsked, HasAskedAll, HoldsAfter, IsSmall, written};
+ghost use Rattle.block_summary.specs.DraftKnowledge.{CanBeAsked, HasAskedAll, HoldsAfter, IsSmall, effect_in, written};
 ghost use Rattle.block_summary.specs.LineEnds.{EndsAs, carried};
 ghost use Rattle.block_summary.specs.LineSummaries.{asked_by, asked_of_rack, asked_of_sizes, plainly_asked};
 
+use crate::draft::no_effect;
 use crate::{Draft, FormedLoop, InstrAsk, ask_instr};
-use face_data::{Cond, Seg, Segs, SizeAsk};
+use face_data::{Cond, Seg, Segs, SizeAsk, ask_size};
 use knit_base::{
     CarrierNo, Dir, Fault, Instr, Needle, NoMemory, Profile, Quarter, Read, Reason, Rule, Yarns,
 };
@@ -56,7 +60,7 @@ impl Draft {
         }
     }
 
-    // A knit asks only what isn't known of its carriers and its slider.
+    // A knit asks only what isn't known of its carriers and its slider, and a transfer its rack and room alone.
     fn instr(&mut self, instr: &Instr, profile: &Profile) -> Result<LineEnd, NoMemory>
         requires profile { IsLawfulProfile profile.now }
         requires lawful { (carriers : ℕ) × (carriers ≤ 64) × IsLawful profile.now carriers instr.now }
@@ -68,6 +72,7 @@ impl Draft {
                 Some(formed) => Ok(LineEnd::GoesOn(Some(formed))),
                 None => self.first_knit(instr, *dir, *n, yarns, profile),
             },
+            Instr::Xfer(n, n2) => self.transfer(instr, *n, *n2, profile),
             _ => self.any_instr(instr, profile),
         }
     }
@@ -207,6 +212,65 @@ impl Draft {
             yarns,
             through,
         }))
+    }
+
+    // A transfer: the needles have to face each other, and the second has to have room for the loops of both.
+    fn transfer(
+        &mut self,
+        instr: &Instr,
+        n: Needle,
+        n2: Needle,
+        profile: &Profile,
+    ) -> Result<LineEnd, NoMemory>
+        requires profile { IsLawfulProfile profile.now }
+        requires lawful { (carriers : ℕ) × (carriers ≤ 64) × IsLawful profile.now carriers instr.now }
+        requires transfer { instr.now ≡ Xfer n n2 }
+        requires few { self.old.lines < 2 ^ 32 - 1 }
+        ensures { IfOk result (EndsAs profile.now.hold (read.Instr instr.now) self.old self.new) }
+    {
+        if let Some(reason) = self.ask_transfer(instr, n, n2, profile.hold)? {
+            return Ok(LineEnd::Stops(self.stop(reason)));
+        }
+        self.move_loops(n, n2)?;
+        self.move_on(&no_effect(), 0);
+        Ok(LineEnd::GoesOn(None))
+    }
+
+    // Asks the conditions of a transfer. Answers with the reason of one that can't hold.
+    fn ask_transfer(
+        &mut self,
+        instr: &Instr,
+        n: Needle,
+        n2: Needle,
+        hold: u8,
+    ) -> Result<Option<Reason>, NoMemory>
+        requires transfer { instr.now ≡ Xfer n n2 }
+        requires hold { hold ≤ 64 }
+        ensures { IfOk result (HasAskedAll self.old self.new (asked_by hold instr.now)) }
+    {
+        if let Some(reason) = self.ask_rack(rack_align::ask(instr))? {
+            return Ok(Some(reason));
+        }
+        let reason = Reason {
+            rule: Rule::TooManyLoops,
+            at: 2,
+        };
+        let ask = ask_size(self.allocator(), reason, hold, &[n2, n], self.contents())?;
+        let goes = self.ask_size(&ask)?;
+        Ok(reason_unless(goes, reason))
+    }
+
+    // All loops of the first needle go over behind those of the second.
+    fn move_loops(&mut self, n: Needle, n2: Needle) -> Result<(), NoMemory>
+        ensures changes { OnOk result (self.new ≡ record self.old { changes = written self.old.changes (moved self.old.changes n n2) }) }
+        ensures rising { IsInOrder self.old.changes }
+        ensures through { self.old.ending ≡ Through (effect_in self.old.ending) }
+    {
+        let mut both = Segs::new(self.allocator());
+        self.contents().append_segs(n2, &mut both)?;
+        self.contents().append_segs(n, &mut both)?;
+        self.put(n, Segs::new(self.allocator()))?;
+        self.put(n2, both)
     }
 
     fn any_instr(&mut self, instr: &Instr, profile: &Profile) -> Result<LineEnd, NoMemory>
