@@ -1,3 +1,4 @@
+pub mod MadeFileTexts
 pub mod MadeFiles
 pub mod MadeLines
 pub mod PlainLines

@@ -1,13 +1,14 @@
 -- Made lines as they are appended.
-use Rattle.std.proofs.Common.{◌≡◌, ℕ, zero, suc, ◌+◌, ◌-◌, ◌<◌, ◌≤◌, List, [], ◌∷◌, ◌++◌, length, take, get_or, map, ap, sym, ◌∙◌, refl, arith, append_assoc, length-append}
+use Rattle.std.proofs.Common.{◌≡◌, ℕ, zero, suc, ◌+◌, ◌*◌, ◌-◌, ◌<◌, ◌≤◌, List, [], ◌∷◌, ◌++◌, length, take, get_or, map, ap, sym, ◌∙◌, codes, refl, arith, append_assoc, length-append}
 use Rattle.std.specs.List.{range_with_len}
 use Rattle.std.proofs.lemmas.List.{take_more}
+use Rattle.std.proofs.lemmas.Nat.{mod_below}
 use Rattle.std.proofs.lemmas.List.FromFn.{get_or-map-range_with_len, length-map-range_with_len, map-range_with_len_more}
 use Rattle.knit_base.specs.declared.needle.Bed.TheVariants.{Front, Back}
 use Rattle.knit_base.specs.declared.needle.Dir.TheVariants.{Right, Left}
-use Rattle.knit_maker.specs.Made.{Line, course, drawn_after, leftward, picked, rightward, rows_after, stitch_line, transfer_line}
+use Rattle.knit_maker.specs.Made.{Line, course, drawn_after, leftward, made_lines, picked, rightward, rows_after, stitch_line, transfer_line, width_of}
 use Rattle.knit_maker.specs.declared.stitch.Stitch.{Stitch}
-use Rattle.knit_maker.specs.declared.stitch.Stitch.TheVariants.{Knit}
+use Rattle.knit_maker.specs.declared.stitch.Stitch.TheVariants.{Knit, Tuck}
 
 -- one line more, and those that follow it
 pushed_before : (lines next rest whole : List Line) (line : Line) → next ≡ lines ++ line ∷ [] → lines ++ line ∷ rest ≡ whole → next ++ rest ≡ whole
@@ -57,6 +58,28 @@ length-leftward stitch (suc width) = ap suc (length-leftward stitch width)
 pub length-course : (stitch : Stitch) (width : ℕ) → length (course stitch width) ≡ width + width
 length-course stitch width =
     omega (arith, length-append (leftward stitch width) (rightward stitch width), length-leftward stitch width, length-map-range_with_len (stitch_line stitch Right Back) 1 width)
+
+-- how many lines rows have at most
+length-rows : (width drawn rows : ℕ) → width ≤ 16 → length (rows_after width drawn rows) ≤ 33 * rows
+length-rows width drawn zero few = omega arith
+length-rows width drawn (suc rows) few =
+    let next : ℕ = drawn_after drawn in
+    let rest : length (rows_after width next rows) ≤ 33 * rows = length-rows width next rows few in
+    omega (arith, few, rest, length-append (course Knit width) (transfer_line (picked width next) ∷ rows_after width next rows), length-course Knit width)
+
+-- and the whole program
+pub length-made : (rows start : ℕ) → length (made_lines rows start) ≤ 36 + 33 * rows
+length-made rows start =
+    let width : ℕ = width_of start in
+    let end : List Line = codes "out 1" ∷ [] in
+    omega (
+      arith,
+      mod_below start 13 (omega arith),
+      length-append (course Tuck width) (rows_after width start rows ++ end),
+      length-append (rows_after width start rows) end,
+      length-course Tuck width,
+      length-rows width start rows (omega (arith, mod_below start 13 (omega arith))),
+    )
 
 -- the next row
 pub rows-next : (width drawn next_drawn left : ℕ) (lines round mid next whole : List Line) (line : Line) → 0 < left → next_drawn ≡ drawn_after drawn

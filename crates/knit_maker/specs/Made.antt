@@ -1,5 +1,5 @@
 -- The lines of a made program: a tube that is cast on and knitted round and round, and in each round one transfer to the back bed.
-use Rattle.std.specs.Prelude.{ℕ, zero, suc, ◌+◌, ◌*◌, ◌/◌, ◌%◌, pos, List, [], ◌∷◌, ◌++◌, map, codes}
+use Rattle.std.specs.Prelude.{ℕ, zero, suc, ◌+◌, ◌*◌, ◌/◌, ◌%◌, pos, List, [], ◌∷◌, ◌++◌, flat_map, map, codes}
 use Rattle.std.specs.List.{range_with_len}
 use Rattle.knit_base.specs.Spelling.{dir_word, needle_text}
 use Rattle.knit_base.specs.declared.needle.Bed.{Bed}
@@ -68,3 +68,11 @@ opening = codes ";!knitout-2" ∷ codes ";;Carriers: 1 2 3" ∷ codes "in 1" ∷
 -- the whole program with so many rows, whose width and transfers follow from the number at the start
 abbrev pub made_lines : ℕ → ℕ → List Line
 made_lines rows start = opening ++ (course Tuck (width_of start) ++ (rows_after (width_of start) start rows ++ codes "out 1" ∷ []))
+
+-- a line and its line feed
+abbrev pub ended : Line → Line
+ended line = line ++ 10 ∷ []
+
+-- the bytes of a file with these lines
+abbrev pub file_of : List Line → List ℕ
+file_of lines = flat_map ended lines

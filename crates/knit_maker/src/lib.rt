@@ -1,6 +1,7 @@
 //! Long programs of one shape, to try a checker on.
 //!
-//! Promises that `make` gives exactly the lines that `specs/Made` tells. Below it stand std and `knit_base`.
+//! Promises that `make` gives exactly the lines that `specs/Made` tells, and `make_text` the bytes of a file with these lines. Below it
+//! stand std and `knit_base`.
 #![tactic(auto)]
 
 mod course;
@@ -8,6 +9,8 @@ mod program;
 mod stitch;
 #[cfg(test)]
 mod tests;
+mod text;
 
 pub use program::make;
 pub use stitch::Stitch;
+pub use text::make_text;

@@ -31,7 +31,7 @@ pub fn make(alloc: Global, rows: u32, start: u32) -> Result<Lines, NoMemory>
 }
 
 // Appends the head, and the line that brings the carrier in.
-fn push_opening(lines: &mut Lines) -> Result<(), NoMemory>
+pub(crate) fn push_opening(lines: &mut Lines) -> Result<(), NoMemory>
     requires { length lines.old < 100 }
     ensures { OnOk result (lines.new ≡ lines.old ++ opening) }
 {
@@ -68,7 +68,7 @@ fn push_rows(
 }
 
 // The number that is drawn after this one.
-fn drawn_after(drawn: u32) -> u32
+pub(crate) fn drawn_after(drawn: u32) -> u32
     requires { drawn < 2147483648 }
     ensures value { result ≡ drawn_after drawn }
     ensures small { result < 2147483648 }
@@ -77,7 +77,7 @@ fn drawn_after(drawn: u32) -> u32
 }
 
 // The hook that a number picks, of so many.
-fn picked(width: u32, drawn: u32) -> u32
+pub(crate) fn picked(width: u32, drawn: u32) -> u32
     requires { 0 < width }
     ensures value { result ≡ picked width drawn }
     ensures some { 1 ≤ result }
@@ -87,7 +87,7 @@ fn picked(width: u32, drawn: u32) -> u32
 }
 
 // The line at this place, from 0.
-fn nth_line(lines: &Lines, i: u32) -> &str
+pub(crate) fn nth_line(lines: &Lines, i: u32) -> &str
     requires { i < length lines.now }
     ensures text { result.now ≡ slice_index_or lines.now i [] }
     ensures line { IsLine result.now }
@@ -96,7 +96,7 @@ fn nth_line(lines: &Lines, i: u32) -> &str
 }
 
 // Appends the lines of another text.
-fn append(more: &Lines, lines: &mut Lines) -> Result<(), NoMemory>
+pub(crate) fn append(more: &Lines, lines: &mut Lines) -> Result<(), NoMemory>
     requires { length lines.old + length more.now ≤ 16777217 }
     ensures { OnOk result (lines.new ≡ lines.old ++ more.now) }
 {

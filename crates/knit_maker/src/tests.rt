@@ -1,5 +1,5 @@
 //! Made programs, whose lines were worked out by hand.
-use crate::make;
+use crate::{make, make_text};
 use knit_base::Lines;
 use std::test::Fail;
 
@@ -75,3 +75,14 @@ fn the_most_rows(rt: HostRuntime) -> Result<(), Fail> {
     assert!(rt; are_lines(&lines, 180_011, &["out 1"]));
     Ok(())
 }
+
+// The file of a program has its lines, each with a line feed.
+#[test]
+fn the_file_of_one_row(rt: HostRuntime) -> Result<(), Fail> {
+    let text = make_text(rt.alloc(), 1, 0)?;
+    assert!(rt; text.as_slice() == ONE_ROW);
+    Ok(())
+}
+
+const ONE_ROW: &[u8] =
+    b";!knitout-2\n;;Carriers: 1 2 3\nin 1\ntuck - f4 1\ntuck - f3 1\ntuck - f2 1\ntuck - f1 1\ntuck + b1 1\ntuck + b2 1\ntuck + b3 1\ntuck + b4 1\nknit - f4 1\nknit - f3 1\nknit - f2 1\nknit - f1 1\nknit + b1 1\nknit + b2 1\nknit + b3 1\nknit + b4 1\nxfer f1 b1\nout 1\n";
