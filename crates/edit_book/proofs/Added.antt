@@ -11,7 +11,7 @@ use Rattle.edit_journal.specs.Documents.{Block, after, document_of, body, Docume
 use Rattle.face_data.specs.Summaries.{Summary}
 use Rattle.edit_book.specs.declared.block_state.BlockState.{BlockState}
 use Rattle.edit_book.specs.declared.block_state.BlockState.TheVariants.{There}
-use Rattle.edit_book.specs.Books.{BookView, document, ids_of, IsLeafOf, Stands}
+use Rattle.edit_book.specs.Books.{BookView, Each, document, ids_of, IsLeafOf, Stands}
 use Rattle.edit_book.specs.Orders.{is_id, place_of}
 use Rattle.edit_book.specs.Replies.{Add, IsAccepted, IsGranted, refused_anchor, refusal_of}
 use Rattle.edit_book.specs.declared.reply.Reply.{Reply}
@@ -62,6 +62,15 @@ module _ (o : Opening) (es : List Entry) (states : List BlockState) (ids : List 
       let same : length ids ≡ length (document_of o es).blocks = ap length s.order ∙ ids_count (document_of o es).blocks in
       let few = under _ _ _ _ f.2 in
       (omega (arith, within, many, at_here), omega (arith, many, few), omega (arith, within, same, at_here))
+
+  -- there is place for one more id, and the new one was never drawn
+  pub add_new : (length ids < 65536) × Each (λ (k : ℕ). k < id) ids
+  add_new =
+      let f = add_free (document_of o es) es anchor prepared.text add_free_here in
+      let same : length ids ≡ length (document_of o es).blocks = ap length s.order ∙ ids_count (document_of o es).blocks in (
+        omega (arith, under _ _ _ _ f.2, same),
+        subst (λ (p : ℕ × List ℕ). Each (λ (k : ℕ). k < p.0) p.1) (λ i. (sym id_here i, sym s.order i)) s.lawful.has_ids.drawn,
+      )
 
   add_keeps : Stands o (es ++ record { session = session; edit = edit.Add anchor (document_of o es).drawn prepared.text } ∷ []) (insert tree.leaves (place_of anchor (ids_of (document_of o es).blocks)) (prepared.face, prepared.loops))
       (states ++ There (length es + 1) ∷ []) (insert ids (place_of anchor (ids_of (document_of o es).blocks)) (document_of o es).drawn) lines

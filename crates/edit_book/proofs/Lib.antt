@@ -1,14 +1,17 @@
 pub mod Added
 pub mod Adds
 pub mod Appended
+pub mod AskedLoops
 pub mod BedNeedles
 pub mod Blocks
 pub mod Counts
 pub mod Cuts
+pub mod LineLoops
 pub mod LinePlaces
 pub mod Looks
 pub mod Made
 pub mod Openings
+pub mod Orders
 pub mod Puts
 pub mod Rooms
 pub mod Trees

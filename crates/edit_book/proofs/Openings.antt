@@ -1,11 +1,13 @@
 -- The document of an opening, by what is kept of its first blocks.
-use Rattle.std.proofs.Common.{◌≡◌, ℕ, zero, suc, ◌+◌, ◌<◌, ◌≤◌, Bool, true, false, cond, ◌==◌, List, [], ◌∷◌, ◌++◌, length, find, All, Option, Some, None, IfSome, sym, subst, ap, ◌∙◌, refl, length-append, append_assoc, append-nil, arith}
+use Rattle.std.proofs.Common.{◌≡◌, ℕ, zero, suc, ◌+◌, ◌*◌, ◌<◌, ◌≤◌, Bool, true, false, cond, ◌==◌, List, [], ◌∷◌, ◌++◌, length, find, All, Option, Some, None, IfSome, sym, subst, ap, ◌∙◌, refl, length-append, append_assoc, append-nil, add-one, arith}
 use Rattle.std.specs.List.{AllZip, flat_map, slice_get}
 use Rattle.std.specs.Option.{option_map_or}
 use Rattle.std.proofs.lemmas.Bool.{eqb-false, ne_eqb}
 use Rattle.std.proofs.lemmas.List.{length-map, map-append}
 use Rattle.std.proofs.lemmas.List.Elements.{All-head, All-tail}
+use Rattle.knit_base.specs.declared.needle.Needle.{Needle}
 use Rattle.knit_base.specs.declared.setting.Setting.{Setting}
+use Rattle.face_data.specs.Items.{most_items}
 use Rattle.block_summary.specs.declared.prepared.Prepared.{Prepared}
 use Rattle.block_summary.specs.Prepared.{IsPreparedFor}
 use Rattle.edit_journal.specs.declared.opening.Opening.{Opening}
@@ -16,14 +18,22 @@ use Rattle.edit_book.specs.declared.start.Kept.{Kept}
 use Rattle.edit_book.specs.Books.{AreDistinct, Each, HasText, IsLawfulSetting, IsLeafOf, Stands, ids_of, state_of}
 use Rattle.edit_book.specs.Opened.{HasKept, IsAdded, leaves_of, states_at_start, texts_in}
 use Rattle.edit_book.specs.Replies.{block_limit, cut_number, line_limit}
-use Rattle.summary_tree.specs.Leaves.{AreSound, Leaf}
+use Rattle.edit_book.specs.Work.{needles_in, start_limit}
+use Rattle.summary_tree.specs.Leaves.{AreGoodFor, AreSound, Leaf}
 use Rattle.edit_book.proofs.Trees.{sound_of}
+use Rattle.tree_shape.specs.Building.{numbers_from}
+use Rattle.tree_shape.specs.Changes.{numbers_below}
+use Rattle.tree_shape.proofs.Halves.{below_from}
+use Rattle.edit_book.proofs.Work.{KnowsLine, leaves_known, lines_known}
 
 -- the ids of an opening's blocks
-opened_more : (n : ℕ) (texts : List (List (List ℕ))) (text : List (List ℕ)) → ids_of (opened_from n (texts ++ text ∷ [])) ≡ ids_of (opened_from n texts) ++ (n + length texts) ∷ []
-opened_more n [] text = ap (λ (k : ℕ). k ∷ []) (let e : n ≡ n + 0 = omega arith in e)
-opened_more n (t ∷ texts) text =
-    ap (λ (l : List ℕ). n ∷ l) (opened_more (n + 1) texts text ∙ ap (λ (k : ℕ). ids_of (opened_from (n + 1) texts) ++ k ∷ []) (let e : n + 1 + length texts ≡ n + suc (length texts) = omega arith in e))
+opened_from_ids : (n : ℕ) (texts : List (List (List ℕ))) → ids_of (opened_from n texts) ≡ numbers_from n (length texts)
+opened_from_ids n [] = refl
+opened_from_ids n (t ∷ texts) = ap (λ (l : List ℕ). n ∷ l) (ap (λ (k : ℕ). ids_of (opened_from k texts)) (add-one n) ∙ opened_from_ids (suc n) texts)
+
+opened_ids : (blocks : List Prepared) → numbers_below (length blocks) ≡ ids_of (opened_from 0 (texts_in blocks))
+opened_ids blocks =
+    sym (below_from (length blocks)) ∙ (ap (numbers_from 0) (sym (length-map blocks (λ (b : Prepared). b.text))) ∙ sym (opened_from_ids 0 (texts_in blocks)))
 
 opened_count : (n : ℕ) (texts : List (List (List ℕ))) → length (opened_from n texts) ≡ length texts
 opened_count n [] = refl
@@ -93,28 +103,20 @@ kept_more blocks block old new h added = record {
   texts = added.texts ∙ ap (λ (l : List (List (List ℕ))). l ++ block.text ∷ []) h.texts ∙ sym (map-append (λ (b : Prepared). b.text) blocks (block ∷ []));
   leaves = added.leaves ∙ ap (λ (l : List Leaf). l ++ (block.face, block.loops) ∷ []) h.leaves ∙ sym (map-append (λ (b : Prepared). let leaf : Leaf = (b.face, b.loops) in leaf) blocks (block ∷ []));
   states = added.states ∙ ap (λ (l : List BlockState). l ++ There 0 ∷ []) h.states ∙ sym (map-append (λ (b : Prepared). There 0) blocks (block ∷ []));
-  ids =
-      added.ids
-      ∙ (λ i. h.ids i ++ (count i) ∷ [])
-      ∙ sym (opened_more 0 (texts_in blocks) block.text)
-      ∙ ap (λ (l : List (List (List ℕ))). ids_of (opened_from 0 l)) (sym (map-append (λ (b : Prepared). b.text) blocks (block ∷ [])));
   lines = omega (arith, added.lines, h.lines, ap length (flat_more blocks), length-append (flat_map (λ (b : Prepared). b.text) blocks) block.text);
 }
   where
-    count : length old.states.items ≡ 0 + length (texts_in blocks)
-    count = ap length h.states ∙ length-map blocks (λ (b : Prepared). There 0) ∙ sym (length-map blocks (λ (b : Prepared). b.text)) ∙ (let e : length (texts_in blocks) ≡ 0 + length (texts_in blocks) = omega arith in e)
-
     flat_more : (bs : List Prepared) → flat_map (λ (b : Prepared). b.text) (bs ++ block ∷ []) ≡ flat_map (λ (b : Prepared). b.text) bs ++ block.text
     flat_more [] = append-nil block.text
     flat_more (b ∷ bs) = ap (λ (l : List (List ℕ)). b.text ++ l) (flat_more bs) ∙ sym (append_assoc b.text (flat_map (λ (x : Prepared). x.text) bs) block.text)
 
 -- the book of these blocks
-pub opened_stands : (setting : Setting) (blocks : List Prepared) (kept : Kept) (leaves : List Leaf) → IsLawfulSetting setting → All (IsPreparedFor setting.profile setting.declared) blocks → length blocks ≤ block_limit
-    → length (flat_map (λ (block : Prepared). block.text) blocks) ≤ line_limit → HasKept blocks kept → leaves ≡ kept.leaves.items
-    → Stands (record { setting = setting; texts = kept.texts }) [] leaves kept.states.items kept.order.ids kept.lines
-opened_stands setting blocks kept leaves lawful all few lines h leaves_are =
+pub opened_stands : (setting : Setting) (blocks : List Prepared) (kept : Kept) (leaves : List Leaf) (ids : List ℕ) → IsLawfulSetting setting → All (IsPreparedFor setting.profile setting.declared) blocks → length blocks ≤ block_limit
+    → length (flat_map (λ (block : Prepared). block.text) blocks) ≤ line_limit → HasKept blocks kept → leaves ≡ kept.leaves.items → ids ≡ numbers_below (length blocks)
+    → Stands (record { setting = setting; texts = kept.texts }) [] leaves kept.states.items ids kept.lines
+opened_stands setting blocks kept leaves ids lawful all few lines h leaves_are ids_are =
     subst (λ (p : List (List (List ℕ)) × List Leaf × List BlockState × List ℕ). Stands (record { setting = setting; texts = p.0 }) [] p.1 p.2 p.3 kept.lines)
-    (λ i. (sym h.texts i, sym (leaves_are ∙ h.leaves) i, sym h.states i, sym h.ids i)) here
+    (λ i. (sym h.texts i, sym (leaves_are ∙ h.leaves) i, sym h.states i, sym (ids_are ∙ opened_ids blocks) i)) here
   where
     texts : List (List (List ℕ))
     texts = texts_in blocks
@@ -161,7 +163,21 @@ opened_stands setting blocks kept leaves lawful all few lines h leaves_are =
 -- its leaves may stand in one tree
 pub opened_sound : (setting : Setting) (blocks : List Prepared) (kept : Kept) → IsLawfulSetting setting → All (IsPreparedFor setting.profile setting.declared) blocks → length blocks ≤ block_limit
     → length (flat_map (λ (block : Prepared). block.text) blocks) ≤ line_limit → HasKept blocks kept → AreSound kept.leaves.items
-opened_sound setting blocks kept lawful all few lines h = sound_of _ _ _ (opened_stands setting blocks kept kept.leaves.items lawful all few lines h refl).lawful
+opened_sound setting blocks kept lawful all few lines h = sound_of _ _ _ (opened_stands setting blocks kept kept.leaves.items (numbers_below (length blocks)) lawful all few lines h refl refl).lawful
+
+-- a start takes no more steps than it may
+pub opened_work : (setting : Setting) (blocks : List Prepared) (kept : Kept) (before now : ℕ) → All (IsPreparedFor setting.profile setting.declared) blocks → HasKept blocks kept
+    → ((carriers limit : ℕ) (known : List Needle) → AreGoodFor carriers limit known kept.leaves.items → now ≤ before + 3 * most_items carriers limit (length known) * length kept.leaves.items)
+    → now ≤ before + start_limit setting (length blocks) (flat_map (λ (block : Prepared). block.text) blocks)
+opened_work setting blocks kept before now all h steps =
+    let lines : List (List ℕ) = flat_map (λ (b : Prepared). b.text) blocks in
+    let known : List Needle = needles_in setting lines in
+    let good : AreGoodFor (length setting.declared) setting.profile.hold known (leaves_of blocks) =
+    leaves_known setting known (leaves_of blocks) (opened_from 0 (texts_in blocks)) (opened_leaves setting 0 blocks all)
+    (subst (Each (KnowsLine setting known)) (sym (opened_lines 0 blocks)) (lines_known setting lines)) in
+    subst (λ (n : ℕ). now ≤ before + 3 * most_items (length setting.declared) setting.profile.hold (length known) * n)
+    (ap length h.leaves ∙ length-map blocks (λ (b : Prepared). let leaf : Leaf = (b.face, b.loops) in leaf))
+    (steps (length setting.declared) setting.profile.hold known (subst (AreGoodFor (length setting.declared) setting.profile.hold known) (sym h.leaves) good))
 
 pub nothing_left : {X : Type 0} (l : List X) → length l ≡ 0 → l ≡ []
 nothing_left [] h = refl
@@ -175,10 +191,9 @@ flat_both (x ∷ xs) ys =
 -- there is room for one of the blocks behind those that were kept
 pub room_left : (kept_blocks rest blocks : List Prepared) (block : Prepared) (kept : Kept) → kept_blocks ++ block ∷ rest ≡ blocks → HasKept kept_blocks kept → length blocks ≤ block_limit
     → length (flat_map (λ (b : Prepared). b.text) blocks) ≤ line_limit
-    → (length kept.texts < block_limit) × (kept.lines + length block.text ≤ line_limit) × (length kept.states.items ≡ length kept.texts)
+    → (length kept.texts < block_limit) × (kept.lines + length block.text ≤ line_limit)
 room_left kept_blocks rest blocks block kept all h few lines =
     let texts : length kept.texts ≡ length kept_blocks = ap length h.texts ∙ length-map kept_blocks (λ (b : Prepared). b.text) in
-    let states : length kept.states.items ≡ length kept_blocks = ap length h.states ∙ length-map kept_blocks (λ (b : Prepared). There 0) in
     let flat : length (flat_map (λ (b : Prepared). b.text) blocks) ≡ length (flat_map (λ (b : Prepared). b.text) kept_blocks ++ flat_map (λ (b : Prepared). b.text) (block ∷ rest)) =
     ap (λ (l : List Prepared). length (flat_map (λ (b : Prepared). b.text) l)) (sym all) ∙ ap length (flat_both kept_blocks (block ∷ rest)) in (
       omega (arith, few, texts, ap length all, length-append kept_blocks (block ∷ rest)),
@@ -190,5 +205,4 @@ room_left kept_blocks rest blocks block kept all h few lines =
         length-append (flat_map (λ (b : Prepared). b.text) kept_blocks) (block.text ++ flat_map (λ (b : Prepared). b.text) rest),
         length-append block.text (flat_map (λ (b : Prepared). b.text) rest),
       ),
-      states ∙ sym texts,
     )

@@ -159,12 +159,16 @@ named_there d entries id h = go (nat_lt id d.drawn) refl (block_of d.blocks id) 
     go true t None is h = absurd (cc)
     go false t o is h = absurd (cc)
 
-pub place_is : (xs : List ℕ) (id at : ℕ) → position (is_id id) xs ≡ Some at → (at ≡ position_or_len (is_id id) xs) × (at < length xs)
-place_is xs id at h = go (nat_lt (position_or_len (is_id id) xs) (length xs)) refl h
+-- the place that is found is the first
+pub first_place : {X : Type 0} (p : X → Bool) (xs : List X) (at : ℕ) → position p xs ≡ Some at → (at ≡ position_or_len p xs) × (at < length xs)
+first_place p xs at h = go (nat_lt (position_or_len p xs) (length xs)) refl h
   where
-    go : (t : Bool) → nat_lt (position_or_len (is_id id) xs) (length xs) ≡ t → cond t (Some (position_or_len (is_id id) xs)) None ≡ Some at → (at ≡ position_or_len (is_id id) xs) × (at < length xs)
-    go true is h = let e : position_or_len (is_id id) xs ≡ at = cc in (sym e, omega (arith, e, ltb-true (position_or_len (is_id id) xs) (length xs) is))
+    go : (t : Bool) → nat_lt (position_or_len p xs) (length xs) ≡ t → cond t (Some (position_or_len p xs)) None ≡ Some at → (at ≡ position_or_len p xs) × (at < length xs)
+    go true is h = let e : position_or_len p xs ≡ at = cc in (sym e, omega (arith, e, ltb-true (position_or_len p xs) (length xs) is))
     go false is h = absurd (cc)
+
+pub place_is : (xs : List ℕ) (id at : ℕ) → position (is_id id) xs ≡ Some at → (at ≡ position_or_len (is_id id) xs) × (at < length xs)
+place_is xs id at h = first_place (is_id id) xs at h
 
 -- a block that is there has a place
 pub place_there : (bs : List Block) (id : ℕ) (b : Block) → block_of bs id ≡ Some b → position_or_len (is_id id) (ids_of bs) < length (ids_of bs)

@@ -143,7 +143,7 @@ module _ (P : List ℕ → Type 0) where
   new_lines Start bs new h k = each_join P new.lines (lines_in bs) k h
   new_lines (After id) bs new h k = after_lines bs id new h k
 
-leaves_known : (setting : Setting) (known : List Needle) (leaves : List Leaf) (bs : List Block) → AllZip (λ (l : Leaf) (b : Block). IsLeafOf setting l b.lines) leaves bs → Each (KnowsLine setting known) (lines_in bs)
+pub leaves_known : (setting : Setting) (known : List Needle) (leaves : List Leaf) (bs : List Block) → AllZip (λ (l : Leaf) (b : Block). IsLeafOf setting l b.lines) leaves bs → Each (KnowsLine setting known) (lines_in bs)
     → AreGoodFor (length setting.declared) setting.profile.hold known leaves
 leaves_known setting known [] bs h all = tt
 leaves_known setting known (l ∷ leaves) [] h all = absurd h

@@ -1,4 +1,5 @@
 pub mod Books
+pub mod Entered
 pub mod Opened
 pub mod Orders
 pub mod Replies

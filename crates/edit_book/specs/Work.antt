@@ -28,6 +28,10 @@ needles_in setting lines = once (named (each-reads setting.profile setting.decla
 abbrev pub edit_limit : Setting → ℕ → List (List ℕ) → ℕ
 edit_limit setting blocks lines = 16 * (highest blocks + 2) * (most_items (length setting.declared) setting.profile.hold (length (needles_in setting lines)) + 1)
 
+-- for a book's opening: of so many blocks, with these lines
+abbrev pub start_limit : Setting → ℕ → List (List ℕ) → ℕ
+start_limit setting blocks lines = 3 * most_items (length setting.declared) setting.profile.hold (length (needles_in setting lines)) * blocks
+
 -- for a request of a document
 abbrev pub limit_at : Setting → Document → Request → ℕ
 limit_at setting d (Look id) = option_map_or (λ b. length b.lines) (block_of d.blocks id) 0

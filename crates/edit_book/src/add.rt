@@ -74,7 +74,7 @@ impl Book {
         if room_for_entry(&mut self.journal).is_err() {
             return Reply::NoMemory;
         }
-        if self.order.reserve_one().is_err() {
+        if self.order.reserve_one(id).is_err() {
             return Reply::NoMemory;
         }
         if self.states.reserve(1).is_err() {

@@ -1,16 +1,16 @@
 //! The book: a document in blocks with the journal of its edits, and the faces of its blocks in a tree.
 //!
-//! Promises that `put`, `add`, `cut`, `look` and `now` answer what the definition of replies says at the version before, or want of
-//! memory, and then nothing has changed; that the journal grows by the one entry exactly where an edit is accepted; that an edit
-//! tells the verdict on the document after it, and `verdict` that on the document as it is; that a put of a block for which `ready`
-//! holds isn't refused for want of memory; and how many steps a call takes at most: an edit by the needles that are named and the
-//! height of the tree, whatever the number of lines. No call asks yet for the loop of a line. Sessions share a book by turns, each
-//! of which is right (`specs/Turns`); a turn that asks for a loop is answered with want of memory so far.
+//! Promises that each call answers what the definition of replies says at the version before it, or want of memory, and then nothing
+//! has changed; that the journal grows by the one entry exactly where an edit is accepted; that an edit tells the verdict on the
+//! document after it, and `verdict` that on the document as it is; that a put of a block for which `ready` holds isn't refused for want
+//! of memory; and how many steps a call takes at most: an edit by the needles that are named and the height of the tree, whatever the
+//! number of lines, and the loop of a line 14. Sessions share a book by turns, each of which is right (`specs/Turns`).
 //!
 //! Definitions: `specs/Replies` (what is asked, and the one reply), `specs/Verdicts` (verdict and loops of a document's lines, run one
 //! by one from empty beds), `specs/Work` (how many steps a request may take), `specs/Orders` and `specs/Books` (what contracts see of a
-//! book, and what always holds of one) and `specs/Opened` (what is kept of the first blocks). Below it stand std, `knit_base`,
-//! `carriage_model`, `knitout_reader`, `face_data`, `loop_history`, `block_summary`, `edit_journal`, `turn_book` and the tree of faces.
+//! book, and what always holds of one), `specs/Opened` (what is kept of the first blocks) and `specs/Entered` (the state in which a block
+//! begins). Below it stand std, `knit_base`, `carriage_model`, `knitout_reader`, `face_data`, `loop_history`, `block_summary`,
+//! `edit_journal`, `turn_book` and the tree of faces.
 #![tactic(auto)]
 
 mod add;
@@ -18,13 +18,18 @@ mod block_state;
 mod book;
 mod cut;
 mod look;
+mod loops;
 mod now;
 mod order;
+#[cfg(test)]
+mod order_tests;
 mod put;
 mod replies;
 mod reply;
 mod room;
 mod start;
+#[cfg(test)]
+mod tests;
 mod turns;
 
 pub use book::Book;

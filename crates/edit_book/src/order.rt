@@ -1,82 +1,98 @@
 //! The order of blocks.
-ghost use Rattle.std.specs.Prelude.{◌≡◌, ◌<◌, ◌≤◌, [], ◌∷◌, ◌++◌, true, length, position, slice_get, OnOk};
+ghost use Rattle.std.specs.Prelude.{◌≡◌, ◌≢◌, ℕ, ◌+◌, ◌<◌, ◌≤◌, true, length, position, slice_get, Some, None, IfOk, OnOk};
 ghost use Rattle.std.specs.List.{insert, remove};
-ghost use Rattle.edit_book.specs.Orders.{is_id};
+ghost use Rattle.tree_shape.specs.Changes.{numbers_below};
+ghost use Rattle.edit_book.specs.Books.{Each};
+ghost use Rattle.edit_book.specs.Orders.{is_id, number_at};
 
 use knit_base::NoMemory;
 use std::alloc::Global;
 use std::marker::Model;
+use tree_shape::{Dirty, Shape};
 
-/// The ids of the blocks that are there, in their order.
+/// The ids of the blocks that are there, in their order, which is that of the leaves of a tree. Beside it stand the id of each leaf,
+/// by its number, and the number of the leaf of each id that is there, so that an id is found, put in and taken out along one path.
 #[derive(Drop)]
 pub(crate) struct Order {
-    ids: Vec<u32>,
+    shape: Shape,
+    ids: Vec<Option<u32>>,
+    leaves: Vec<Option<u32>>,
 }
 
 impl Model for Order {
-    ghost use Rattle.std.specs.Prelude.{nat_lt, vec_len, vec_capacity};
-    ghost use Rattle.edit_book.specs.Orders.{OrderView};
+    ghost use Rattle.tree_shape.specs.View.{leaves_of_tree};
+    ghost use Rattle.edit_book.specs.Orders.{AreKept, OrderView, number_at, order_view};
 
     ghost Value = { OrderView };
 
-    ghost view = { λ o. record { ids = o.ids.items; room = nat_lt (vec_len o.ids) (vec_capacity o.ids) } };
+    ghost view = { λ o. order_view o.shape o.ids.items o.leaves.items };
+
+    ghost invariant = { λ o. AreKept (leaves_of_tree o.shape.tree) (number_at o.ids.items) (number_at o.leaves.items) };
 }
 
 impl Order {
-    /// No block.
-    pub fn new(alloc: Global) -> Self
-        ensures { result.ids ≡ [] }
+    /// The ids of so many blocks, from 0 on.
+    pub fn start(alloc: Global, count: u32) -> Result<Self, NoMemory>
+        requires { count ≤ 65536 }
+        ensures { IfOk result (λ order. order.ids ≡ numbers_below count) }
     {
-        Order {
-            ids: Vec::new(alloc),
-        }
-    }
-
-    /// One block more, behind the others.
-    pub fn push(&mut self, id: u32) -> Result<(), NoMemory>
-        ensures { OnOk result (self.new.ids ≡ self.old.ids ++ id ∷ []) }
-    {
-        self.ids.push(id)?;
-        Ok(())
+        let shape = Shape::build(alloc, count)?;
+        let ids = all_below(alloc, count)?;
+        let leaves = all_below(alloc, count)?;
+        Ok(Order { shape, ids, leaves })
     }
 
     pub fn len(&self) -> u32
-        requires { length self.now.ids ≤ 65536 }
         ensures { result ≡ length self.now.ids }
     {
-        self.ids.len() as u32
+        self.shape.len()
     }
 
     /// The place of the block with this id.
     pub fn position(&self, id: u32) -> Option<usize>
         ensures { result ≡ position (is_id id) self.now.ids }
     {
-        self.ids.iter().position(|x| *x == id)
+        let _len = self.shape.len();
+        match found(self.leaves.as_slice(), id) {
+            Some(leaf) => Some(self.shape.position(leaf) as usize),
+            None => None,
+        }
     }
 
     /// The id at a place.
     pub fn get(&self, at: u32) -> Option<u32>
         ensures { result ≡ slice_get self.now.ids at }
     {
-        self.ids.get(at as usize).copied()
+        if at < self.shape.len() {
+            return found(self.ids.as_slice(), self.shape.leaf(at));
+        }
+        None
     }
 
-    /// Makes room for one more id.
-    pub fn reserve_one(&mut self) -> Result<(), NoMemory>
+    /// Makes room for one more id, which is this one.
+    pub fn reserve_one(&mut self, id: u32) -> Result<(), NoMemory>
         ensures ok { OnOk result (self.new.room ≡ true) }
+        ensures place { OnOk result (id < self.new.places) }
         ensures ids { self.new.ids ≡ self.old.ids }
     {
-        self.ids.reserve(1)?;
-        Ok(())
+        self.shape.reserve_one()?;
+        lengthen(&mut self.ids, self.shape.leaf_numbers())?;
+        lengthen(&mut self.leaves, id)
     }
 
-    /// Puts an id at a place, before the one that was there. Takes no memory.
+    /// Puts an id at a place, before the one that was there. It is greater than each that is there. Takes no memory.
     pub fn insert(&mut self, at: usize, id: u32)
         requires room { self.old.room ≡ true }
+        requires table { id < self.old.places }
+        requires few { length self.old.ids < 65536 }
         requires place { at ≤ length self.old.ids }
+        requires beyond { Each (λ other. other < id) self.old.ids }
         ensures { self.new.ids ≡ insert self.old.ids at id }
     {
-        let _ = self.ids.insert(at, id);
+        let _len = self.shape.len();
+        let leaf = self.shape.insert(at as u32, &mut Dirty::new());
+        set(&mut self.ids, leaf, Some(id));
+        set(&mut self.leaves, id, Some(leaf));
     }
 
     /// Takes out the id at a place.
@@ -84,6 +100,53 @@ impl Order {
         requires { at < length self.old.ids }
         ensures { self.new.ids ≡ remove self.old.ids at }
     {
-        self.ids.remove(at);
+        let _len = self.shape.len();
+        let leaf = self.shape.remove(at as u32, &mut Dirty::new());
+        if let Some(id) = found(self.ids.as_slice(), leaf) {
+            set(&mut self.leaves, id, None);
+        }
     }
+}
+
+// A table that has each number at its own place.
+fn all_below(alloc: Global, count: u32) -> Result<Vec<Option<u32>>, NoMemory>
+    ensures within { IfOk result (λ table. (k : ℕ) → k < count → number_at table.items k ≡ Some k) }
+    ensures past { IfOk result (λ table. (k : ℕ) → count ≤ k → number_at table.items k ≡ None) }
+{
+    let mut table = Vec::with_capacity(alloc, count as usize)?;
+    for n in 0..count {
+        table.push(Some(n))?;
+    }
+    Ok(table)
+}
+
+// What a table has for a number, if anything.
+fn found(table: &[Option<u32>], at: u32) -> Option<u32>
+    ensures { result ≡ number_at table.now at }
+{
+    match table.get(at as usize) {
+        Some(slot) => *slot,
+        None => None,
+    }
+}
+
+fn set(table: &mut Vec<Option<u32>>, at: u32, value: Option<u32>)
+    requires { at < length table.old.items }
+    ensures here { number_at table.new.items at ≡ value }
+    ensures others { (k : ℕ) → k ≢ at → number_at table.new.items k ≡ number_at table.old.items k }
+    ensures len { length table.new.items ≡ length table.old.items }
+{
+    table[at as usize] = value;
+}
+
+// Makes a place for a number.
+fn lengthen(table: &mut Vec<Option<u32>>, number: u32) -> Result<(), NoMemory>
+    ensures ok { OnOk result (number < length table.new.items) }
+    ensures same { (k : ℕ) → number_at table.new.items k ≡ number_at table.old.items k }
+{
+    let many = number as usize + 1;
+    if table.len() < many {
+        table.resize(many, None)?;
+    }
+    Ok(())
 }

@@ -6,6 +6,7 @@ ghost use Rattle.block_summary.specs.Prepared.{IsPreparedFor};
 ghost use Rattle.block_summary.specs.declared.prepared.Prepared.{Prepared};
 ghost use Rattle.edit_book.specs.Opened.{HasKept, IsAdded};
 ghost use Rattle.edit_book.specs.Replies.{block_limit, line_limit};
+ghost use Rattle.edit_book.specs.Work.{start_limit};
 
 use crate::Book;
 use crate::block_state::BlockState;
@@ -25,7 +26,6 @@ pub(crate) struct Kept {
     texts: ListOf<BlockText>,
     leaves: Vec<(Face, LoopTable)>,
     states: Vec<BlockState>,
-    order: Order,
     lines: u32,
 }
 
@@ -37,7 +37,6 @@ impl Kept {
             texts: ListOf::new(alloc),
             leaves: Vec::new(alloc),
             states: Vec::new(alloc),
-            order: Order::new(alloc),
             lines: 0,
         }
     }
@@ -46,16 +45,14 @@ impl Kept {
     fn add(&mut self, block: Prepared) -> Result<(), NoMemory>
         requires few { length self.old.texts < block_limit }
         requires lines { self.old.lines + length block.text ≤ line_limit }
-        requires counted { length self.old.states.items ≡ length self.old.texts }
         ensures { OnOk result (IsAdded self.old self.new block) }
     {
         let Prepared { text, face, loops } = block;
-        let id = self.states.len() as u32;
         self.lines += text.len();
         self.texts.push(text)?;
         self.leaves.push((face, loops))?;
         self.states.push(BlockState::There(0))?;
-        self.order.push(id)
+        Ok(())
     }
 
     fn of(alloc: Global, blocks: Vec<Prepared>) -> Result<Kept, NoMemory>
@@ -88,13 +85,14 @@ impl Book {
         ensures setting { IfOk result (λ book. book.opening.setting ≡ setting) }
         ensures texts { IfOk result (λ book. book.opening.texts ≡ map (λ (block : Prepared). block.text) blocks.items) }
         ensures entries { IfOk result (λ book. book.entries ≡ []) }
+        ensures steps { steps.new ≤ steps.old + start_limit setting (length blocks.items) (flat_map (λ (block : Prepared). block.text) blocks.items) }
     {
         let _carriers = setting.declared.len();
+        let order = Order::start(alloc, blocks.len() as u32)?;
         let Kept {
             texts,
             leaves,
             states,
-            order,
             lines,
         } = Kept::of(alloc, blocks)?;
         Ok(Book {

@@ -47,8 +47,7 @@ impl Booked for Book {
             } => self.put(number, block, seen, prepared, steps),
             BookCommand::Add { anchor, prepared } => self.add(number, anchor, prepared, steps),
             BookCommand::Cut { block, seen } => self.cut(number, block, seen, steps),
-            // The tree doesn't tell yet what a needle holds where a block begins.
-            BookCommand::LoopAt(_) => Reply::NoMemory,
+            BookCommand::LoopAt(line) => self.loop_at(line, steps),
             BookCommand::Verdict => self.now(steps),
         }
     }

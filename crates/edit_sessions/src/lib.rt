@@ -19,3 +19,6 @@ mod talk;
 pub use run::run_all;
 pub use session::Session;
 pub use take::do_command;
+
+#[cfg(test)]
+mod tests;

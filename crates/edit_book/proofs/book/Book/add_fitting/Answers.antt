@@ -1,11 +1,12 @@
-use Rattle.std.proofs.Common.{ℕ, ◌+◌, ◌++◌, ◌∷◌, [], List, ap, sym, subst, ◌∙◌, arith, length, refl}
+use Rattle.std.proofs.Common.{ℕ, ◌+◌, ◌<◌, ◌++◌, ◌∷◌, [], List, ap, sym, subst, ◌∙◌, arith, length, refl}
 use Rattle.std.specs.Prelude.{insert}
 use Rattle.edit_journal.specs.declared.edit.Entry.{Entry}
 use Rattle.edit_journal.specs.declared.edit.Edit.TheVariants as edit
 use Rattle.edit_book.specs.declared.block_state.BlockState.{BlockState}
 use Rattle.edit_book.specs.declared.block_state.BlockState.TheVariants.{There}
+use Rattle.edit_book.specs.Books.{Each}
 use Rattle.edit_book.specs.Replies.{Add}
-use Rattle.edit_book.proofs.Added.{add_fits, add_granted, add_sound, add_made, add_work}
+use Rattle.edit_book.proofs.Added.{add_fits, add_granted, add_new, add_sound, add_made, add_work}
 use Rattle.edit_book.proofs.Rooms.{made}
 use Rattle.face_data.specs.Summaries.{Summary}
 use Rattle.summary_tree.specs.Trees.{CanInsert}
@@ -26,6 +27,18 @@ insert-requires-clause-place g c =
     let within = (add_fits _ _ _ _ _ c.args.session c.args.id c.place_after-at.result c.lines_after_add-lines.result c.version-version.result c.args.anchor c.args.prepared c.args.self.now _ _ c.self.invariant c.self.view_is c.requires.free
     c.requires.prepared c.requires.id c.place_after-at.ensures.place c.version-version.ensures.version c.lines_after_add-lines.ensures).2 in
     omega (arith, within, ap length c.reserve_one.ensures.ids)
+
+pub insert-requires-clause-few : goal.insert-requires-clause-few
+insert-requires-clause-few g c =
+    let few = (add_new _ _ _ _ _ c.args.session c.args.id c.place_after-at.result c.lines_after_add-lines.result c.version-version.result c.args.anchor c.args.prepared c.args.self.now _ _ c.self.invariant c.self.view_is c.requires.free
+    c.requires.prepared c.requires.id c.place_after-at.ensures.place c.version-version.ensures.version c.lines_after_add-lines.ensures).0 in
+    omega (arith, few, ap length c.reserve_one.ensures.ids)
+
+pub insert-requires-clause-beyond : goal.insert-requires-clause-beyond
+insert-requires-clause-beyond g c =
+    let beyond = (add_new _ _ _ _ _ c.args.session c.args.id c.place_after-at.result c.lines_after_add-lines.result c.version-version.result c.args.anchor c.args.prepared c.args.self.now _ _ c.self.invariant c.self.view_is c.requires.free
+    c.requires.prepared c.requires.id c.place_after-at.ensures.place c.version-version.ensures.version c.lines_after_add-lines.ensures).1 in
+    subst (Each (λ (k : ℕ). k < c.args.id)) (sym c.reserve_one.ensures.ids) beyond
 
 pub insert-requires-2-clause-place : goal.insert-requires-2-clause-place
 insert-requires-2-clause-place g c =

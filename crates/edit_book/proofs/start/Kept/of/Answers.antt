@@ -17,12 +17,6 @@ add-requires-clause-lines c =
     (room_left at.yielded _ _ c.in-Some.block at.kept (ap (λ (l : List Prepared). at.yielded ++ l) (sym c.in-Some.ensures.steps.0) ∙ at.invariant.all ∙ c.into_iter-block-iterator.ensures.into_iter_gives.0)
     at.invariant.kept c.requires.few c.requires.lines).1
 
-pub add-requires-clause-counted : goal.add-requires-clause-counted
-add-requires-clause-counted c =
-    let at = c.loop-block in
-    (room_left at.yielded _ _ c.in-Some.block at.kept (ap (λ (l : List Prepared). at.yielded ++ l) (sym c.in-Some.ensures.steps.0) ∙ at.invariant.all ∙ c.into_iter-block-iterator.ensures.into_iter_gives.0)
-    at.invariant.kept c.requires.few c.requires.lines).2
-
 pub loop-block-preserved : goal.loop-block-preserved
 loop-block-preserved c =
     let at = c.loop-block in

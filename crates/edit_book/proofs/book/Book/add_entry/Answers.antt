@@ -1,0 +1,5 @@
+use Rattle.edit_book.proofs.Trees.{lines_fit}
+use Rattle.edit_book.proofs.book.Book.add_entry.Goals as goal
+
+pub entry_contents-requires-clause-lines : goal.entry_contents-requires-clause-lines
+entry_contents-requires-clause-lines c = lines_fit _ _ _ c.self.invariant.lawful
