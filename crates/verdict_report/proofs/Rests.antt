@@ -1,5 +1,5 @@
 -- The texts of the items of a list, written one by one from some place on.
-use Rattle.std.proofs.Common.{◌≡◌, ◌∙◌, ℕ, zero, suc, ◌+◌, ◌<◌, ◌≤◌, Option, None, Some, List, [], ◌∷◌, ◌++◌, length, drop, flat_map, slice_get, refl, ap, sym, arith, append_assoc, append-nil}
+use Rattle.std.proofs.Common.{◌≡◌, ◌∙◌, ℕ, zero, suc, ◌+◌, ◌<◌, ◌≤◌, None, Some, List, [], ◌∷◌, ◌++◌, length, drop, flat_map, slice_get, ap, sym, arith, append_assoc, append-nil}
 use Rattle.std.proofs.lemmas.List.{drop_more, drop_all}
 use Rattle.std.proofs.lemmas.Option.{slice_get_within, get_or_from_slice_get, none-some}
 use Rattle.verdict_report.specs.VerdictText.{Text}
@@ -32,3 +32,24 @@ written-none text xs i start none = ap (λ rest. start ++ flat_map text rest) (r
 -- all was written
 pub written-all : {A : Type 0} (text : A → Text) (xs : List A) (i : ℕ) (whole end : Text) → length xs ≤ i → end ++ flat_map text (drop i xs) ≡ whole → end ≡ whole
 written-all text xs i whole end past is = sym (append-nil end) ∙ ap (λ rest. end ++ flat_map text rest) (sym (drop_all i xs past)) ∙ is
+
+-- an item's text was written behind its number
+pub numbered-one : {A : Type 0} (rest : ℕ → List A → Text) (text : ℕ → A → Text) → ((n : ℕ) (x : A) (xs : List A) → rest n (x ∷ xs) ≡ text n x ++ rest (n + 1) xs)
+    → (xs : List A) (i n : ℕ) (x : A) (start end : Text) → slice_get xs i ≡ Some x → end ≡ start ++ text n x
+    → end ++ rest (n + 1) (drop (i + 1) xs) ≡ start ++ rest n (drop i xs)
+numbered-one rest text step xs i n x start end is written =
+    ap (λ t. t ++ rest (n + 1) (drop (i + 1) xs)) written
+    ∙ append_assoc start (text n x) (rest (n + 1) (drop (i + 1) xs))
+    ∙ ap (λ t. start ++ t) (sym (step n x (drop (i + 1) xs)))
+    ∙ ap (λ ys. start ++ rest n ys) (sym (rest-at xs i x is))
+
+-- all numbered texts were written
+pub numbered-all : {A : Type 0} (rest : ℕ → List A → Text) → ((n : ℕ) → rest n [] ≡ []) → (xs : List A) (i n : ℕ) (whole end : Text) → length xs ≤ i
+    → end ++ rest n (drop i xs) ≡ whole → end ≡ whole
+numbered-all rest none xs i n whole end past is = sym (append-nil end) ∙ ap (λ t. end ++ t) (sym (none n) ∙ ap (rest n) (sym (drop_all i xs past))) ∙ is
+
+-- there is an item at each place of a list
+pub item-there : {A : Type 0} (xs : List A) (i : ℕ) → i < length xs → slice_get xs i ≡ None → ⊥
+item-there [] i below none = omega (arith, below)
+item-there (x ∷ xs) zero below none = none-some x (sym none)
+item-there (x ∷ xs) (suc i) below none = item-there xs i (omega (arith, below)) none

@@ -1,5 +1,6 @@
 pub mod Carriers
 pub mod JsonText
+pub mod LiveText
 pub mod MadeText
 pub mod PassesText
 pub mod Refusals

@@ -1,7 +1,9 @@
 -- The lines of the program's refusals.
 use Rattle.std.specs.Prelude.{ℕ, List, ◌++◌, codes, decimal}
+use Rattle.script_reader.specs.declared.fault.Cause.{Cause}
+use Rattle.script_reader.specs.declared.fault.Cause.TheVariants.{NoLive, BadLine, ManySessions, NoOwn}
 use Rattle.verdict_report.specs.declared.refusal.Refusal.{Refusal}
-use Rattle.verdict_report.specs.declared.refusal.Refusal.TheVariants.{Usage, ReadFault, TooManyBytes, TooManyLines, TooManyBlocks, NotUtf8, LineLong, BadMagic, NoCarriers, TwoCarriers, CarrierNameTwice, ManyCarriers}
+use Rattle.verdict_report.specs.declared.refusal.Refusal.TheVariants.{Usage, ReadFault, TooManyBytes, TooManyLines, TooManyBlocks, NotUtf8, LineLong, BadMagic, NoCarriers, TwoCarriers, CarrierNameTwice, ManyCarriers, BadScript}
 
 -- a line of the file that can't be read
 abbrev pub bad_line : ℕ → List ℕ → List ℕ
@@ -10,6 +12,17 @@ bad_line line cause = codes "bad input: line " ++ (decimal line ++ cause)
 -- a line of the head that can't be read
 abbrev pub bad_head_line : ℕ → List ℕ → List ℕ
 bad_head_line line cause = codes "bad input: head line " ++ (decimal line ++ cause)
+
+-- what is wrong with a line of a script
+abbrev pub cause_word : Cause → List ℕ
+cause_word NoLive = codes " NoLive\n"
+cause_word BadLine = codes " BadLine\n"
+cause_word ManySessions = codes " ManySessions\n"
+cause_word NoOwn = codes " NoOwn\n"
+
+-- a line of a script that is outside its grammar
+abbrev pub bad_script_line : ℕ → List ℕ → List ℕ
+bad_script_line line cause = codes "bad input: script line " ++ (decimal line ++ cause)
 
 -- the line of a refusal
 abbrev pub refusal_text : Refusal → List ℕ
@@ -25,3 +38,4 @@ refusal_text NoCarriers = codes "bad input: head NoCarriers\n"
 refusal_text (TwoCarriers line) = bad_head_line line (codes " TwoCarriers\n")
 refusal_text (CarrierNameTwice line) = bad_head_line line (codes " CarrierNameTwice\n")
 refusal_text (ManyCarriers line) = bad_head_line line (codes " ManyCarriers\n")
+refusal_text (BadScript line cause) = bad_script_line line (cause_word cause)

@@ -1,26 +1,37 @@
-//! What the program writes: verdicts as text and as JSON, passes, what is made of a made program, and the lines of its refusals.
+//! What the program writes: verdicts as text and as JSON, passes, what is made of a made program, what became of a document that
+//! sessions edited, and the lines of its refusals.
 //!
-//! Promises that each report is appended whole, byte for byte as the definitions say, or not at all. Definitions:
-//! `specs/VerdictText` and `specs/Refusals` (the lines), `specs/VerdictJson` (the value whose compact text is written), and
-//! `specs/Carriers` (sets of carriers by name), `specs/PassesText` and `specs/MadeText`; `specs/JsonText` is for private clauses
-//! alone. Below it stand `knit_base`, `carriage_model`, `pass_grouping`, `serde_json`, which writes the strings, and `json`, whose `quoted` says how.
+//! Promises that each report is appended whole, byte for byte as the definitions say, or not at all. That on a document tells the
+//! replies and the journal that it is given, and a verdict on the lines that the journal leaves. Definitions: `specs/VerdictText` and
+//! `specs/Refusals` (the lines), `specs/VerdictJson` (the value whose compact text is written), `specs/Carriers` (sets of carriers by
+//! name), `specs/PassesText`, `specs/MadeText` and `specs/LiveText`; `specs/JsonText` is for private clauses alone. Below it stand
+//! `knit_base`, `carriage_model`, `pass_grouping`, `edit_journal`, `script_reader`, `edit_book`, `serde_json`, which writes the
+//! strings, and `json`, whose `quoted` says how.
 #![tactic(auto)]
 
 mod as_json;
 mod carriers;
+mod entries;
+#[cfg(test)]
+mod entries_tests;
 mod json_items;
 mod json_list;
 mod json_loops;
+mod live;
 mod made;
 mod passes;
 #[cfg(test)]
 mod passes_tests;
 mod refusal;
+mod replies;
+#[cfg(test)]
+mod replies_tests;
 #[cfg(test)]
 mod tests;
 mod text;
 
 pub use as_json::{json_of, report_json};
+pub use live::{live_of, report_live};
 pub use made::made_of;
 pub use passes::{passes_of, report_passes};
 pub use refusal::{Refusal, report_refusal};

@@ -1,8 +1,9 @@
 //! What the program says where it refuses its words or its input.
-ghost use Rattle.std.specs.Prelude.{◌≡◌, ◌++◌, OnOk, OnErr};
-ghost use Rattle.verdict_report.specs.Refusals.{bad_head_line, bad_line, refusal_text};
+ghost use Rattle.std.specs.Prelude.{◌≡◌, ◌++◌, decimal, OnOk, OnErr};
+ghost use Rattle.verdict_report.specs.Refusals.{bad_head_line, bad_line, bad_script_line, cause_word, refusal_text};
 
 use knit_base::{NoMemory, append_number};
+use script_reader::Cause;
 use std::alloc::Global;
 
 /// Why the program refuses its words or its input. A number is that of a line of the input, from 1.
@@ -32,26 +33,51 @@ pub enum Refusal {
     CarrierNameTwice(u32),
     /// The line of the head that declares more than 64 names.
     ManyCarriers(u32),
+    /// The first line of the script that is outside its grammar, and why.
+    BadScript(u32, Cause),
+}
+
+// Appends a label, the number of a line, and what is wrong with it.
+fn append_at_line(label: &str, line: u32, cause: &str, out: &mut Vec<u8>) -> Result<(), NoMemory>
+    ensures { OnOk result (out.new.items ≡ out.old.items ++ (label.now ++ (decimal line ++ cause.now))) }
+{
+    out.extend_from_slice(label.as_bytes())?;
+    append_number(u64::from(line), out)?;
+    out.extend_from_slice(cause.as_bytes())?;
+    Ok(())
 }
 
 // Appends the line that names a bad line of the file.
 fn append_bad_line(line: u32, cause: &str, out: &mut Vec<u8>) -> Result<(), NoMemory>
     ensures { OnOk result (out.new.items ≡ out.old.items ++ bad_line line cause.now) }
 {
-    out.extend_from_slice(b"bad input: line ")?;
-    append_number(u64::from(line), out)?;
-    out.extend_from_slice(cause.as_bytes())?;
-    Ok(())
+    append_at_line("bad input: line ", line, cause, out)
 }
 
 // Appends the line that names a bad line of the head.
 fn append_bad_head_line(line: u32, cause: &str, out: &mut Vec<u8>) -> Result<(), NoMemory>
     ensures { OnOk result (out.new.items ≡ out.old.items ++ bad_head_line line cause.now) }
 {
-    out.extend_from_slice(b"bad input: head line ")?;
-    append_number(u64::from(line), out)?;
-    out.extend_from_slice(cause.as_bytes())?;
-    Ok(())
+    append_at_line("bad input: head line ", line, cause, out)
+}
+
+// Appends the line that names a bad line of a script.
+fn append_bad_script_line(line: u32, cause: &str, out: &mut Vec<u8>) -> Result<(), NoMemory>
+    ensures { OnOk result (out.new.items ≡ out.old.items ++ bad_script_line line cause.now) }
+{
+    append_at_line("bad input: script line ", line, cause, out)
+}
+
+// What is wrong with a line of a script.
+fn cause_word(cause: Cause) -> &'static str
+    ensures { result.now ≡ cause_word cause }
+{
+    match cause {
+        Cause::NoLive => " NoLive\n",
+        Cause::BadLine => " BadLine\n",
+        Cause::ManySessions => " ManySessions\n",
+        Cause::NoOwn => " NoOwn\n",
+    }
 }
 
 // Appends a text.
@@ -81,6 +107,7 @@ fn append_refusal(refusal: Refusal, out: &mut Vec<u8>) -> Result<(), NoMemory>
         Refusal::TwoCarriers(line) => append_bad_head_line(line, " TwoCarriers\n", out),
         Refusal::CarrierNameTwice(line) => append_bad_head_line(line, " CarrierNameTwice\n", out),
         Refusal::ManyCarriers(line) => append_bad_head_line(line, " ManyCarriers\n", out),
+        Refusal::BadScript(line, cause) => append_bad_script_line(line, cause_word(cause), out),
     }
 }
 

@@ -4,6 +4,7 @@ ghost use Rattle.std.specs.Prelude.{◌<◌, length};
 use crate::{Refusal, report_json, report_refusal, report_text};
 use carriage_model::{Facts, Final, LoopLines, Stack, Stacks, Verdict};
 use knit_base::{Bed, CarrierNo, Declared, Dir, Fault, Needle, Quarter, Reason, Rule, append_rack};
+use script_reader::Cause;
 use std::alloc::Global;
 use std::test::Fail;
 
@@ -194,5 +195,20 @@ fn refusals(rt: HostRuntime) -> Result<(), Fail> {
     report_refusal(alloc, Refusal::Usage, &mut out)?;
     report_refusal(alloc, Refusal::LineLong(1), &mut out)?;
     assert!(rt; is(&out, REFUSALS));
+    Ok(())
+}
+
+const SCRIPT_REFUSALS: &str =
+    "bad input: script line 1 NoLive\nbad input: script line 3 BadLine\nbad input: script line 64 ManySessions\nbad input: script line 2 NoOwn\n";
+
+#[test]
+fn refusals_of_scripts(rt: HostRuntime) -> Result<(), Fail> {
+    let alloc = rt.alloc();
+    let mut out = Vec::new(alloc);
+    report_refusal(alloc, Refusal::BadScript(1, Cause::NoLive), &mut out)?;
+    report_refusal(alloc, Refusal::BadScript(3, Cause::BadLine), &mut out)?;
+    report_refusal(alloc, Refusal::BadScript(64, Cause::ManySessions), &mut out)?;
+    report_refusal(alloc, Refusal::BadScript(2, Cause::NoOwn), &mut out)?;
+    assert!(rt; is(&out, SCRIPT_REFUSALS));
     Ok(())
 }

@@ -174,8 +174,8 @@ fn append_broken(fault: Fault, broken: &str, out: &mut Vec<u8>) -> Result<(), No
     Ok(())
 }
 
-// Appends the end of the program, or its fault.
-fn append_end(
+/// Appends the end of the program, or its fault.
+pub(crate) fn append_end(
     alloc: Global,
     verdict: &Verdict,
     declared: &Declared,
@@ -202,8 +202,12 @@ fn append_place(fact: &FactRef, out: &mut Vec<u8>) -> Result<(), NoMemory>
     Ok(())
 }
 
-// Appends the line of a loop.
-fn append_loop(fact: &FactRef, declared: &Declared, out: &mut Vec<u8>) -> Result<(), NoMemory>
+/// Appends the line of a loop.
+pub(crate) fn append_loop(
+    fact: &FactRef,
+    declared: &Declared,
+    out: &mut Vec<u8>,
+) -> Result<(), NoMemory>
     ensures { OnOk result (out.new.items ≡ out.old.items ++ loop_text declared.now (lent_fact fact.now)) }
 {
     append_place(fact, out)?;

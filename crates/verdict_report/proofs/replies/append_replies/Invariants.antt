@@ -1,0 +1,6 @@
+use Rattle.std.proofs.Common.{◌≡◌, ◌+◌, ◌++◌, drop}
+use Rattle.verdict_report.specs.LiveText.{replies_text}
+use Rattle.verdict_report.proofs.replies.append_replies.Given as goal
+
+abbrev pub invariant-loop-i : goal.invariant-loop-i
+invariant-loop-i l = l.out.items ++ replies_text l.declared (l.i + 1) (drop l.i l.replies) ≡ l.fn.out.items ++ replies_text l.declared 1 l.replies

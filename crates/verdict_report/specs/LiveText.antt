@@ -1,0 +1,143 @@
+-- The lines of a document that sessions edit: what each session was answered, the journal, and the verdict at its end.
+use Rattle.std.specs.Prelude.{◌≡◌, ℕ, ◌+◌, Option, None, Some, List, [], ◌∷◌, ◌++◌, length, flat_map, codes, decimal}
+use Rattle.carriage_model.specs.declared.verdict.Brief.{Brief}
+use Rattle.carriage_model.specs.declared.verdict.Brief.TheVariants as brief
+use Rattle.carriage_model.specs.declared.verdict.LoopFact.{LoopFact}
+use Rattle.carriage_model.specs.declared.verdict.Verdict.{Verdict}
+use Rattle.edit_journal.specs.declared.edit.Anchor.{Anchor}
+use Rattle.edit_journal.specs.declared.edit.Anchor.TheVariants as anchor
+use Rattle.edit_journal.specs.declared.edit.BlockName.{BlockName}
+use Rattle.edit_journal.specs.declared.edit.BlockName.TheVariants as name
+use Rattle.edit_journal.specs.declared.edit.Edit.{Edit}
+use Rattle.edit_journal.specs.declared.edit.Edit.TheVariants as edit
+use Rattle.edit_journal.specs.declared.edit.Entry.{Entry}
+use Rattle.edit_journal.specs.declared.opening.Opening.{Opening}
+use Rattle.edit_journal.specs.Documents.{body, document_of}
+use Rattle.edit_book.specs.declared.reply.Reply.{Reply}
+use Rattle.edit_book.specs.declared.reply.Reply.TheVariants as reply
+use Rattle.edit_book.specs.declared.reply.Which.{Which}
+use Rattle.edit_book.specs.declared.reply.Which.TheVariants as which
+use Rattle.edit_book.specs.Verdicts.{IsVerdictOn, broken_line, setting_of}
+use Rattle.verdict_report.specs.VerdictText.{Text, broken_brief, end_text, labelled, loop_text, sound_brief}
+
+-- a verdict in short
+abbrev pub told_text : Brief → Text
+told_text (brief.Sound lines made held rack) = sound_brief lines made held rack.0
+told_text (brief.Broken fault) = broken_brief fault
+
+-- a block as a session names it
+abbrev pub block_name_text : BlockName → Text
+block_name_text (name.Id id) = decimal id
+block_name_text (name.Own n) = codes "@" ++ decimal n
+
+-- the name of a count that has a limit
+abbrev pub which_word : Which → Text
+which_word which.Entries = codes "entries"
+which_word which.Blocks = codes "blocks"
+which_word which.Lines = codes "lines"
+
+-- a line of a block, behind a bar
+abbrev pub barred : Text → Text
+barred line = codes "|" ++ (line ++ codes "\n")
+
+-- a version and a block, behind a word
+abbrev pub at_block : Text → ℕ → ℕ → Text
+at_block word version block = labelled word version ++ labelled (codes " block ") block
+
+abbrev pub accepted_text : ℕ → ℕ → Brief → Text
+accepted_text version block told = at_block (codes "accepted version ") version block ++ (codes " " ++ (told_text told ++ codes "\n"))
+
+abbrev pub shown_text : ℕ → ℕ → ℕ → ℕ → List Text → Text
+shown_text version block stamp first lines =
+    at_block (codes "shown version ") version block ++ (labelled (codes " stamp ") stamp ++ (labelled (codes " first ") first
+    ++ (labelled (codes " lines ") (length lines) ++ (codes "\n" ++ flat_map barred lines))))
+
+-- the loop that was asked for, or that there is none
+abbrev pub fact_text : List Text → Option LoopFact → Text
+fact_text names None = codes "none\n"
+fact_text names (Some fact) = loop_text names fact
+
+abbrev pub stale_text : ℕ → ℕ → ℕ → ℕ → Text
+stale_text version block seen now = at_block (codes "stale version ") version block ++ (labelled (codes " seen ") seen ++ (labelled (codes " now ") now ++ codes "\n"))
+
+abbrev pub full_text : ℕ → Which → ℕ → Text
+full_text version what limit = labelled (codes "full version ") version ++ (codes " " ++ (which_word what ++ (labelled (codes " limit ") limit ++ codes "\n")))
+
+-- a reply
+abbrev pub reply_text : List Text → Reply → Text
+reply_text names (reply.Accepted version block told) = accepted_text version block told
+reply_text names (reply.Shown version block stamp first lines) = shown_text version block stamp first lines
+reply_text names (reply.Loop version fact) = labelled (codes "loop version ") version ++ (codes " " ++ fact_text names fact)
+reply_text names (reply.Now version verdict line) = labelled (codes "verdict version ") version ++ (codes "\n" ++ end_text names line verdict)
+reply_text names (reply.Stale version block seen now) = stale_text version block seen now
+reply_text names (reply.Gone version block at) = at_block (codes "gone version ") version block ++ (labelled (codes " at ") at ++ codes "\n")
+reply_text names (reply.NoBlock version block ids) = at_block (codes "noblock version ") version block ++ (labelled (codes " ids ") ids ++ codes "\n")
+reply_text names (reply.Full version what limit) = full_text version what limit
+reply_text names (reply.Unseen block) = codes "unseen " ++ (block_name_text block ++ codes "\n")
+reply_text names (reply.BlockLong lines) = labelled (codes "blocklong lines ") lines ++ codes "\n"
+reply_text names reply.NoMemory = codes "nomemory\n"
+
+-- a reply with its number
+abbrev pub numbered_reply : List Text → ℕ → Reply → Text
+numbered_reply names n r = decimal n ++ (codes " " ++ reply_text names r)
+
+-- the replies to a session, numbered from here on
+abbrev pub replies_text : List Text → ℕ → List Reply → Text
+replies_text names n [] = []
+replies_text names n (r ∷ rs) = numbered_reply names n r ++ replies_text names (n + 1) rs
+
+-- a session's number, and its replies
+abbrev pub session_text : List Text → ℕ → List Reply → Text
+session_text names s rs = labelled (codes "session ") s ++ (codes "\n" ++ replies_text names 1 rs)
+
+-- the sessions, numbered from here on, each with its replies
+abbrev pub sessions_text : List Text → ℕ → List (List Reply) → Text
+sessions_text names s [] = []
+sessions_text names s (rs ∷ more) = session_text names s rs ++ sessions_text names (s + 1) more
+
+-- where a new block stands
+abbrev pub anchor_text : Anchor → Text
+anchor_text anchor.Start = codes "start"
+anchor_text (anchor.After id) = decimal id
+
+abbrev pub put_text : ℕ → ℕ → ℕ → Text
+put_text block seen lines = labelled (codes " put ") block ++ (labelled (codes " seen ") seen ++ labelled (codes " lines ") lines)
+
+abbrev pub add_text : Anchor → ℕ → ℕ → Text
+add_text where_ block lines = codes " add " ++ (anchor_text where_ ++ (labelled (codes " block ") block ++ labelled (codes " lines ") lines))
+
+abbrev pub cut_text : ℕ → ℕ → Text
+cut_text block seen = labelled (codes " cut ") block ++ labelled (codes " seen ") seen
+
+-- an edit that was accepted; of a text the number of lines is told
+abbrev pub edit_text : Edit → Text
+edit_text (edit.Put block seen text) = put_text block seen (length text)
+edit_text (edit.Add where_ block text) = add_text where_ block (length text)
+edit_text (edit.Cut block seen) = cut_text block seen
+
+-- an entry with its number
+abbrev pub entry_text : ℕ → Entry → Text
+entry_text n e = decimal n ++ (labelled (codes " session ") e.session ++ (edit_text e.edit ++ codes "\n"))
+
+-- the entries of the journal, numbered from here on
+abbrev pub entries_text : ℕ → List Entry → Text
+entries_text n [] = []
+entries_text n (e ∷ es) = entry_text n e ++ entries_text (n + 1) es
+
+-- how many entries there are, and the entries
+abbrev pub journal_text : List Entry → Text
+journal_text entries = labelled (codes "journal ") (length entries) ++ (codes "\n" ++ entries_text 1 entries)
+
+-- the version at the end and its verdict, of which the broken line is given
+abbrev pub final_text : List Text → ℕ → Text → Verdict → Text
+final_text names version line verdict = labelled (codes "final version ") version ++ (codes "\n" ++ end_text names line verdict)
+
+-- the whole report
+abbrev pub live_text : List Text → List (List Reply) → List Entry → Text → Verdict → Text
+live_text names replies entries line verdict = sessions_text names 0 replies ++ (journal_text entries ++ final_text names (length entries) line verdict)
+
+-- the text tells these replies, this journal, and the verdict on the document that it gives: what one carriage makes of its lines
+pub record IsLiveReport (opening : Opening) (entries : List Entry) (replies : List (List Reply)) (text : Text) : Type 0 where
+  pub verdict_given : Verdict
+  pub judged : let d = document_of opening entries in IsVerdictOn (setting_of opening d) (body d) verdict_given
+  pub reported : text ≡ live_text opening.setting.declared replies entries (let d = document_of opening entries in broken_line (setting_of opening d) (body d) verdict_given) verdict_given

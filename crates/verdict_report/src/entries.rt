@@ -1,0 +1,104 @@
+//! The lines of a journal.
+ghost use Rattle.std.specs.Prelude.{◌≡◌, ◌+◌, ◌++◌, ◌<◌, length, drop, OnOk};
+ghost use Rattle.verdict_report.specs.LiveText.{add_text, anchor_text, cut_text, edit_text, entries_text, entry_text, journal_text, put_text};
+
+use crate::text::append_labelled;
+use edit_journal::{Anchor, Edit, Entry, Journal};
+use knit_base::{NoMemory, append_number};
+
+// Appends where a new block stands.
+fn append_anchor(anchor: Anchor, out: &mut Vec<u8>) -> Result<(), NoMemory>
+    ensures { OnOk result (out.new.items ≡ out.old.items ++ anchor_text anchor) }
+{
+    match anchor {
+        Anchor::Start => {
+            out.extend_from_slice(b"start")?;
+            Ok(())
+        }
+        Anchor::After(id) => append_number(u64::from(id), out),
+    }
+}
+
+// Appends that a block got so many lines.
+fn append_put(block: u32, seen: u32, lines: u32, out: &mut Vec<u8>) -> Result<(), NoMemory>
+    ensures { OnOk result (out.new.items ≡ out.old.items ++ put_text block seen lines) }
+{
+    append_labelled(" put ", u64::from(block), out)?;
+    append_labelled(" seen ", u64::from(seen), out)?;
+    append_labelled(" lines ", u64::from(lines), out)
+}
+
+// Appends that a block of so many lines came in.
+fn append_add(anchor: Anchor, block: u32, lines: u32, out: &mut Vec<u8>) -> Result<(), NoMemory>
+    ensures { OnOk result (out.new.items ≡ out.old.items ++ add_text anchor block lines) }
+{
+    out.extend_from_slice(b" add ")?;
+    append_anchor(anchor, out)?;
+    append_labelled(" block ", u64::from(block), out)?;
+    append_labelled(" lines ", u64::from(lines), out)
+}
+
+// Appends that a block was taken out.
+fn append_cut(block: u32, seen: u32, out: &mut Vec<u8>) -> Result<(), NoMemory>
+    ensures { OnOk result (out.new.items ≡ out.old.items ++ cut_text block seen) }
+{
+    append_labelled(" cut ", u64::from(block), out)?;
+    append_labelled(" seen ", u64::from(seen), out)
+}
+
+// Appends an edit. Of a text the number of lines is told.
+fn append_edit(edit: &Edit, out: &mut Vec<u8>) -> Result<(), NoMemory>
+    ensures { OnOk result (out.new.items ≡ out.old.items ++ edit_text edit.now) }
+{
+    match edit {
+        Edit::Put { block, seen, text } => append_put(*block, *seen, text.len(), out),
+        Edit::Add {
+            anchor,
+            block,
+            text,
+        } => append_add(*anchor, *block, text.len(), out),
+        Edit::Cut { block, seen } => append_cut(*block, *seen, out),
+    }
+}
+
+// Appends an entry with its number.
+fn append_entry(number: u32, entry: &Entry, out: &mut Vec<u8>) -> Result<(), NoMemory>
+    ensures { OnOk result (out.new.items ≡ out.old.items ++ entry_text number entry.now) }
+{
+    append_number(u64::from(number), out)?;
+    append_labelled(" session ", u64::from(entry.session), out)?;
+    append_edit(&entry.edit, out)?;
+    out.extend_from_slice(b"\n")?;
+    Ok(())
+}
+
+// Appends the entry behind so many others.
+fn append_entry_behind(before: u32, journal: &Journal, out: &mut Vec<u8>) -> Result<(), NoMemory>
+    requires { before < length journal.now.entries }
+    ensures { OnOk result (out.new.items ++ entries_text (before + 1 + 1) (drop (before + 1) journal.now.entries) ≡ out.old.items ++ entries_text (before + 1) (drop before journal.now.entries)) }
+{
+    let _entries = journal.len();
+    let Some(entry) = journal.get(before + 1) else {
+        unreachable!();
+    };
+    append_entry(before + 1, entry, out)
+}
+
+// Appends a line for each entry.
+fn append_entries(journal: &Journal, out: &mut Vec<u8>) -> Result<(), NoMemory>
+    ensures { OnOk result (out.new.items ≡ out.old.items ++ entries_text 1 journal.now.entries) }
+{
+    'entries: for before in 0..journal.len() {
+        append_entry_behind(before, journal, out)?;
+    }
+    Ok(())
+}
+
+/// Appends how many entries the journal has, and a line for each.
+pub(crate) fn append_journal(journal: &Journal, out: &mut Vec<u8>) -> Result<(), NoMemory>
+    ensures { OnOk result (out.new.items ≡ out.old.items ++ journal_text journal.now.entries) }
+{
+    append_labelled("journal ", u64::from(journal.len()), out)?;
+    out.extend_from_slice(b"\n")?;
+    append_entries(journal, out)
+}

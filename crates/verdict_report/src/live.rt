@@ -1,0 +1,104 @@
+//! The report on a document that sessions edited.
+ghost use Rattle.std.specs.Prelude.{◌≡◌, ◌++◌, ◌+◌, ◌≤◌, length, IfOk, OnOk, OnErr, List, ℕ};
+ghost use Rattle.edit_journal.specs.Documents.{body, document_of};
+ghost use Rattle.edit_book.specs.Verdicts.{IsVerdictOn, broken_line};
+ghost use Rattle.verdict_report.specs.LiveText.{IsLiveReport, final_text};
+
+use crate::entries::append_journal;
+use crate::replies::{append_sessions, append_verdict};
+use carriage_model::Verdict;
+use edit_book::{Book, Replies, Reply};
+use knit_base::{NoMemory, Steps, Text};
+use std::alloc::Global;
+use std::sync::ledger::Ledger;
+
+/// Appends what each session was answered, the entries of the journal, and the verdict on the document as it is. After `NoMemory`
+/// the buffer is as before. It costs a step at most.
+///
+/// It is for a report that stands in one buffer with others; `live` writes that of `live_of` as it is. A carrier that isn't declared
+/// has an empty name.
+pub fn report_live<L: Ledger>(
+    alloc: Global,
+    book: &Book,
+    replies: &Replies,
+    out: &mut Vec<u8>,
+    steps: &mut Steps<L>,
+) -> Result<(), NoMemory>
+    ensures ok { OnOk result ((text : List ℕ) × (out.new.items ≡ out.old.items ++ text) × IsLiveReport book.now.opening book.now.entries replies.now text) }
+    ensures err { OnErr result (out.new.items ≡ out.old.items) }
+    ensures steps { steps.new ≤ steps.old + 1 }
+{
+    let text = live_of(alloc, book, replies, steps)?;
+    out.extend_from_slice(&text)?;
+    Ok(())
+}
+
+/// The verdict on the document as it is, and the line at which it is broken.
+#[derive(Drop)]
+struct Ending {
+    verdict: Verdict,
+    broken: Text,
+}
+
+// What the document comes to at its version.
+fn ending_of<L: Ledger>(book: &Book, steps: &mut Steps<L>) -> Result<Ending, NoMemory>
+    ensures ending { IfOk result (λ ending. let d = document_of book.now.opening book.now.entries in IsVerdictOn book.now.opening.setting (body d) ending.verdict × (ending.broken ≡ broken_line book.now.opening.setting (body d) ending.verdict)) }
+    ensures steps { steps.new ≤ steps.old + 1 }
+{
+    match book.now(steps) {
+        Reply::Now {
+            version: _,
+            verdict,
+            text,
+        } => Ok(Ending {
+            verdict,
+            broken: text,
+        }),
+        _ => Err(NoMemory),
+    }
+}
+
+// Appends the version at the end, and its verdict.
+fn append_final(
+    alloc: Global,
+    book: &Book,
+    ending: &Ending,
+    out: &mut Vec<u8>,
+) -> Result<(), NoMemory>
+    ensures { OnOk result (out.new.items ≡ out.old.items ++ final_text book.now.opening.setting.declared (length book.now.entries) ending.now.broken ending.now.verdict) }
+{
+    let Ending { verdict, broken } = ending;
+    let declared = &book.setting().declared;
+    append_verdict(
+        alloc,
+        "final version ",
+        book.version(),
+        verdict,
+        declared,
+        broken.as_str(),
+        out,
+    )
+}
+
+/// What each session was answered, the journal and the verdict, as `report_live` appends them.
+pub fn live_of<L: Ledger>(
+    alloc: Global,
+    book: &Book,
+    replies: &Replies,
+    steps: &mut Steps<L>,
+) -> Result<Vec<u8>, NoMemory>
+    ensures text { IfOk result (λ text. IsLiveReport book.now.opening book.now.entries replies.now text.items) }
+    ensures steps { steps.new ≤ steps.old + 1 }
+{
+    let ending = ending_of(book, steps)?;
+    let mut text = Vec::new(alloc);
+    append_sessions(
+        alloc,
+        replies.as_slice(),
+        &book.setting().declared,
+        &mut text,
+    )?;
+    append_journal(book.journal(), &mut text)?;
+    append_final(alloc, book, &ending, &mut text)?;
+    Ok(text)
+}
