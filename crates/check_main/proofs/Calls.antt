@@ -1,17 +1,21 @@
 -- What is due for the words and the source, from what the parts of the program say.
-use Rattle.std.proofs.Common.{◌≡◌, None, Some, ℕ, List, refl, subst, sym}
-use Rattle.std.specs.Io.KnownBytes.{Keeps}
-use Rattle.std.specs.declared.option.Option.{Option}
+use Rattle.std.proofs.Common.{◌≡◌, ℕ, List, subst, sym}
+use Rattle.verdict_report.specs.declared.refusal.Refusal.{Refusal}
+use Rattle.verdict_report.specs.Refusals.{refusal_text}
+use Rattle.check_main.specs.declared.ending.Answer.{Answer}
 use Rattle.check_main.specs.declared.outcome.Status.{Status}
+use Rattle.check_main.specs.Answers.{IsCalled, Refuses}
+use Rattle.check_main.specs.Played.{Played, nothing_played, played_by}
 use Rattle.check_main.specs.Top.{Called, SourceUse}
 
--- this text and this status are those that are due
-pub called-as : (words : List (List ℕ)) (source : SourceUse) (text said : List ℕ) (result ends : Status) → Called words source said ends
-    → (text ≡ said) × (result ≡ ends) → Called words source text result
-called-as words source text said result ends called is =
-    subst (λ (t : List ℕ). Called words source t result) (sym is.0) (subst (λ (s : Status). Called words source said s) (sym is.1) called)
+-- this text, this status and what was played are those that are due
+pub called-as : (words : List (List ℕ)) (source : SourceUse) (answer : Answer) (said : List ℕ) (ends : Status) (played : Played) → Called words source played said ends
+    → answer.text.items ≡ said → answer.outcome.status ≡ ends → played_by answer.outcome ≡ played → IsCalled words source answer
+called-as words source answer said ends played called text status plays =
+    subst (λ (p : Played). Called words source p answer.text.items answer.outcome.status) (sym plays)
+    (subst (λ (t : List ℕ). Called words source played t answer.outcome.status) (sym text) (subst (λ (s : Status). Called words source played said s) (sym status) called))
 
--- what isn't touched is kept
-pub keeps-same : (known : Option (List ℕ)) → Keeps known known
-keeps-same None = tt
-keeps-same (Some bytes) = refl
+-- a refusal that is due
+pub called-refusal : (words : List (List ℕ)) (source : SourceUse) (answer : Answer) (said : Refusal) (ends : Status) → Called words source nothing_played (refusal_text said) ends
+    → Refuses said ends answer → IsCalled words source answer
+called-refusal words source answer said ends called is = called-as words source answer (refusal_text said) ends nothing_played called is.told is.ended is.played

@@ -7,8 +7,11 @@ pub mod Calls
 pub mod Dues
 pub mod Fronts
 pub mod LineRanges
+pub mod LiveDues
 pub mod MadeDues
 pub mod MadeTexts
+pub mod Openings
 pub mod PassesReports
+pub mod ScriptTexts
 pub mod StoppedRuns
 pub mod TextRuns

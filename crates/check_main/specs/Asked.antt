@@ -17,18 +17,21 @@ pub record Ask (words : List (List ℕ)) (command : Command) (chosen : Chosen) :
   pub within : refused request.options ≡ None
   pub values : IsChosen request.options chosen
 
--- the commands that are there and read an input
+-- the commands that read a knitout file
+abbrev pub reads_file : Command → Bool
+reads_file (Check loops json) = true
+reads_file Text = true
+reads_file Passes = true
+reads_file Live = false
+reads_file (Make rows start) = false
+
+-- the commands that read an input: a file or a script
 abbrev pub reads_input : Command → Bool
 reads_input (Check loops json) = true
 reads_input Text = true
 reads_input Passes = true
-reads_input Live = false
+reads_input Live = true
 reads_input (Make rows start) = false
-
--- the words ask for the command that isn't there yet
-pub record AskUnbuilt (words : List (List ℕ)) : Type 0 where
-  pub chosen : Chosen
-  pub ask : Ask words Live chosen
 
 -- the words are outside the grammar, or one of their options is outside its bounds
 pub data AreRefused (words : List (List ℕ)) : Type 0 where

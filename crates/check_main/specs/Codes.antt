@@ -1,7 +1,7 @@
 -- The exit statuses.
 use Rattle.std.specs.Prelude.{ℕ}
 use Rattle.check_main.specs.declared.outcome.Status.{Status}
-use Rattle.check_main.specs.declared.outcome.Status.TheVariants.{Done, Broken, Usage, BadInput, ReadFault, WriteFault, NoMemory, TooLarge, Unbuilt}
+use Rattle.check_main.specs.declared.outcome.Status.TheVariants.{Done, Broken, Usage, BadInput, ReadFault, WriteFault, NoMemory, TooLarge}
 
 abbrev pub code_of : Status → ℕ
 code_of Done = 0
@@ -12,4 +12,3 @@ code_of ReadFault = 4
 code_of WriteFault = 5
 code_of NoMemory = 6
 code_of TooLarge = 7
-code_of Unbuilt = 8

@@ -1,5 +1,5 @@
 -- What the whole program does: the report that is due, the status, and the causes of every other end.
-use Rattle.std.specs.Prelude.{◌≡◌, ℕ, ◌+◌, ◌≤◌, true, List, length, codes}
+use Rattle.std.specs.Prelude.{◌≡◌, ℕ, ◌+◌, ◌≤◌, true, List, length}
 use Rattle.std.specs.declared.option.Option.{Option}
 use Rattle.std.specs.Io.KnownBytes.{Appends, Consumes, IsAtEnd, Keeps}
 use Rattle.knit_ports.specs.declared.limit.TheConstants.{INPUT_LIMIT}
@@ -7,14 +7,16 @@ use Rattle.knit_ports.specs.Faults.{Rose}
 use Rattle.knit_ports.specs.Whole.{GaveAtMost, TookFront}
 use Rattle.machine_profile.specs.declared.Chosen.{Chosen}
 use Rattle.command_words.specs.declared.command.Command.{Command}
-use Rattle.command_words.specs.declared.command.Command.TheVariants.{Make}
+use Rattle.command_words.specs.declared.command.Command.TheVariants.{Live, Make}
 use Rattle.verdict_report.specs.declared.refusal.Refusal.TheVariants as refusal
 use Rattle.verdict_report.specs.Refusals.{refusal_text}
 use Rattle.check_main.specs.declared.outcome.Status.{Status}
-use Rattle.check_main.specs.declared.outcome.Status.TheVariants.{Usage, Unbuilt, ReadFault, TooLarge, WriteFault, NoMemory}
-use Rattle.check_main.specs.Asked.{Ask, AreRefused, AskUnbuilt, reads_input}
+use Rattle.check_main.specs.declared.outcome.Status.TheVariants.{Usage, ReadFault, TooLarge, WriteFault, NoMemory}
+use Rattle.check_main.specs.Asked.{Ask, AreRefused, reads_file, reads_input}
 use Rattle.check_main.specs.Due.{Due}
+use Rattle.check_main.specs.DueLive.{DueLive}
 use Rattle.check_main.specs.DueMade.{DueMade}
+use Rattle.check_main.specs.Played.{Played, nothing_played}
 
 -- the source before and after a run: the bytes that it has left, where it tells them, and how many of its reads have failed
 pub record SourceUse : Type 0 where
@@ -43,37 +45,36 @@ pub record SinkUse : Type 0 where
 abbrev pub sink_use : {K : Type 0} → (K → Option (List ℕ)) → (K → ℕ) → K → K → SinkUse
 sink_use taken faults old new = record { taken_before = taken old; taken_after = taken new; faults_before = faults old; faults_after = faults new }
 
-abbrev pub unbuilt_text : List ℕ
-unbuilt_text = codes "unbuilt\n"
-
--- the text and the status that are due for the words and for what the source gave
-pub data Called (words : List (List ℕ)) (source : SourceUse) : List ℕ → Status → Type 0 where
+-- what sessions did, the text and the status that are due for the words and for what the source gave
+pub data Called (words : List (List ℕ)) (source : SourceUse) : Played → List ℕ → Status → Type 0 where
   -- the words are refused, and the source isn't touched
-  usage : AreRefused words → IsUntouched source → Called words source (refusal_text refusal.Usage) Usage
-  -- the command isn't there yet, and the source isn't touched
-  unbuilt : AskUnbuilt words → IsUntouched source → Called words source unbuilt_text Unbuilt
+  usage : AreRefused words → IsUntouched source → Called words source nothing_played (refusal_text refusal.Usage) Usage
   -- a program is made, and the source isn't touched
   made : (rows start : ℕ) (chosen : Chosen) (text : List ℕ) (status : Status) → Ask words (Make rows start) chosen → IsUntouched source
-      → DueMade chosen rows start text status → Called words source text status
-  -- the source was read to its end
-  whole : (command : Command) (chosen : Chosen) (input text : List ℕ) (status : Status) → Ask words command chosen → reads_input command ≡ true
+      → DueMade chosen rows start text status → Called words source nothing_played text status
+  -- a file was read to its end
+  whole : (command : Command) (chosen : Chosen) (input text : List ℕ) (status : Status) → Ask words command chosen → reads_file command ≡ true
       → Consumes source.left_before source.left_after input → IsAtEnd source.left_after → length input ≤ INPUT_LIMIT
-      → Due command chosen input text status → Called words source text status
+      → Due command chosen input text status → Called words source nothing_played text status
+  -- a script was read to its end
+  live : (chosen : Chosen) (input : List ℕ) (played : Played) (text : List ℕ) (status : Status) → Ask words Live chosen
+      → Consumes source.left_before source.left_after input → IsAtEnd source.left_after → length input ≤ INPUT_LIMIT
+      → DueLive chosen input played text status → Called words source played text status
   -- the source was read to one byte past the limit
   large : (command : Command) (chosen : Chosen) (input : List ℕ) → Ask words command chosen → reads_input command ≡ true
       → Consumes source.left_before source.left_after input → length input ≡ INPUT_LIMIT + 1
-      → Called words source (refusal_text refusal.TooManyBytes) TooLarge
+      → Called words source nothing_played (refusal_text refusal.TooManyBytes) TooLarge
   -- a read failed before that
   broke : (command : Command) (chosen : Chosen) → Ask words command chosen → reads_input command ≡ true
       → Rose source.faults_before source.faults_after → GaveAtMost INPUT_LIMIT source.left_before source.left_after
-      → Called words source (refusal_text refusal.ReadFault) ReadFault
+      → Called words source nothing_played (refusal_text refusal.ReadFault) ReadFault
 
--- what the program did, and the status with which it ended
-pub data Ran (words : List (List ℕ)) (source : SourceUse) (sink : SinkUse) (result : Status) : Type 0 where
+-- what the program did, what its sessions did, and the status with which it ended
+pub data Ran (words : List (List ℕ)) (source : SourceUse) (sink : SinkUse) (played : Played) (result : Status) : Type 0 where
   -- the sink took the whole text that is due, and the status is the one that is due
-  written : (text : List ℕ) → Called words source text result → Appends sink.taken_before sink.taken_after text → Ran words source sink result
+  written : (text : List ℕ) → Called words source played text result → Appends sink.taken_before sink.taken_after text → Ran words source sink played result
   -- a write failed, and the sink took a front of the text that is due
-  cut_short : (text : List ℕ) (status : Status) → Called words source text status → result ≡ WriteFault
-      → Rose sink.faults_before sink.faults_after → TookFront sink.taken_before sink.taken_after text → Ran words source sink result
+  cut_short : (text : List ℕ) (status : Status) → Called words source played text status → result ≡ WriteFault
+      → Rose sink.faults_before sink.faults_after → TookFront sink.taken_before sink.taken_after text → Ran words source sink played result
   -- memory ran out, and the sink took nothing
-  stopped : result ≡ NoMemory → Keeps sink.taken_before sink.taken_after → Ran words source sink result
+  stopped : result ≡ NoMemory → played ≡ nothing_played → Keeps sink.taken_before sink.taken_after → Ran words source sink played result

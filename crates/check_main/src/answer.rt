@@ -3,7 +3,7 @@ ghost use Rattle.std.specs.Prelude.{◌≡◌, ◌≤◌, true, All, List, ℕ, 
 ghost use Rattle.knit_base.specs.Lines.{lines_of};
 ghost use Rattle.line_cutter.specs.Cut.{IsGoodLine};
 ghost use Rattle.machine_profile.specs.Bounds.{IsBlockSize};
-ghost use Rattle.check_main.specs.Asked.{reads_input};
+ghost use Rattle.check_main.specs.Asked.{reads_file};
 ghost use Rattle.check_main.specs.Due.{Due, Fits, IsSizeRefusal, cut_refusal, head_refusal};
 
 use crate::body::Body;
@@ -28,7 +28,7 @@ const BODY_LIMIT: u32 = 1_048_576;
 
 const BLOCK_LIMIT: u32 = 65_536;
 
-/// What is due for an input that was read whole. One pass over the bytes is tried first, which settles nearly every file in less
+/// What is due for a file that was read whole. One pass over the bytes is tried first, which settles nearly every file in less
 /// time and memory; what that doesn't settle goes the general way: the lines are cut, the head is read, and then the body is
 /// judged or written.
 pub fn answer<R: Threads>(
@@ -38,7 +38,7 @@ pub fn answer<R: Threads>(
     input: Vec<u8>,
 ) -> Result<Ending, NoMemory>
     requires size { length input.items ≤ 16777216 }
-    requires reads { reads_input plan.now.command ≡ true }
+    requires reads { reads_file plan.now.command ≡ true }
     ensures { IfOk result (λ ending. Due plan.now.command plan.now.chosen input.items ending.text.items ending.status) }
 {
     match answer_in_one_pass(alloc, plan, &input)? {
@@ -79,7 +79,7 @@ pub(crate) fn answer_by_lines<R: Threads>(
     input: Vec<u8>,
 ) -> Result<Ending, NoMemory>
     requires size { length input.items ≤ 16777216 }
-    requires reads { reads_input plan.now.command ≡ true }
+    requires reads { reads_file plan.now.command ≡ true }
     ensures { IfOk result (λ ending. Due plan.now.command plan.now.chosen input.items ending.text.items ending.status) }
 {
     match cut_buffer(alloc, input) {
@@ -96,7 +96,7 @@ fn answer_lines<R: Threads>(
     lines: Lines,
 ) -> Result<Ending, NoMemory>
     requires good { All IsGoodLine lines }
-    requires reads { reads_input plan.now.command ≡ true }
+    requires reads { reads_file plan.now.command ≡ true }
     ensures { IfOk result (λ ending. (input : List ℕ) → lines ≡ lines_of input
         → Due plan.now.command plan.now.chosen input ending.text.items ending.status) }
 {
@@ -113,7 +113,7 @@ fn answer_body<R: Threads>(
     plan: &Plan,
     body: &Body,
 ) -> Result<Ending, NoMemory>
-    requires { reads_input plan.now.command ≡ true }
+    requires { reads_file plan.now.command ≡ true }
     ensures { IfOk result (λ ending. (input : List ℕ) → body.now.lines ≡ lines_of input
         → Due plan.now.command plan.now.chosen input ending.text.items ending.status) }
 {
@@ -179,8 +179,8 @@ pub(crate) fn refusal_of_size(lines: u32, block: u32) -> Option<Refusal>
     None
 }
 
-// What is said of bytes that aren't lines.
-fn refusal_of_lines(fault: CutFault) -> Result<Refusal, NoMemory>
+/// What is said of bytes that aren't lines.
+pub(crate) fn refusal_of_lines(fault: CutFault) -> Result<Refusal, NoMemory>
     ensures { IfOk result (λ refusal. cut_refusal fault ≡ Some refusal) }
 {
     match fault {
@@ -190,8 +190,8 @@ fn refusal_of_lines(fault: CutFault) -> Result<Refusal, NoMemory>
     }
 }
 
-// What is said of a head that is none.
-fn refusal_of_head(fault: HeadFault) -> Result<Refusal, NoMemory>
+/// What is said of a head that is none.
+pub(crate) fn refusal_of_head(fault: HeadFault) -> Result<Refusal, NoMemory>
     ensures { IfOk result (λ refusal. head_refusal fault ≡ Some refusal) }
 {
     match fault {

@@ -107,8 +107,8 @@ fn add_block<L: Ledger>(
     fold.take(alloc, &block, steps)
 }
 
-// The block's text, prepared for this machine in a draft that may have been used before.
-fn prepared<L: Ledger>(
+/// The block's text, prepared for this machine in a draft that may have been used before.
+pub(crate) fn prepared<L: Ledger>(
     draft: &mut Draft,
     text: BlockText,
     setting: &Setting,

@@ -3,6 +3,7 @@ use crate::example_tests::{FORGOTTEN_RACK, PARKED_LOOP, RIB, SWATCH, TUBE, YARN_
 use crate::outcome::Status;
 use crate::tests::{CROWDED, HEADED, SCARF, SCARF_LOOPS, SCARF_TEXT, is, said, said_of};
 use std::alloc::Global;
+use std::sync::Wait;
 use std::test::Fail;
 use std::thread::Threads;
 
@@ -54,7 +55,7 @@ fn the_first_fault_of_two_blocks(rt: HostRuntime) -> Result<(), Fail> {
 }
 
 // The first size of blocks with which a check of the file, loops and all, says otherwise than one without blocks.
-fn first_other<R: Threads>(
+fn first_other<R: Threads + Wait + Sync>(
     rt: &R,
     alloc: Global,
     file: &[u8],

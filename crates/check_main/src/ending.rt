@@ -1,9 +1,10 @@
 //! What the program is to write, and how it then ends.
 ghost use Rattle.std.specs.Prelude.{◌≡◌, IfOk};
 ghost use Rattle.verdict_report.specs.Refusals.{refusal_text};
-ghost use Rattle.check_main.specs.Top.{unbuilt_text};
+ghost use Rattle.check_main.specs.Answers.{Refuses};
+ghost use Rattle.check_main.specs.Played.{nothing_played, played_by};
 
-use crate::outcome::Status;
+use crate::outcome::{Outcome, Status};
 use knit_base::NoMemory;
 use std::alloc::Global;
 use verdict_report::{Refusal, report_refusal};
@@ -24,15 +25,34 @@ impl Ending {
         report_refusal(alloc, refusal, &mut text)?;
         Ok(Ending { status, text })
     }
+}
 
-    /// The line that says that the command isn't there yet.
-    pub fn unbuilt(alloc: Global) -> Result<Ending, NoMemory>
-        ensures { IfOk result (λ ending. (ending.text.items ≡ unbuilt_text) × (ending.status ≡ Status.Unbuilt)) }
+/// A text to be written, and what a run of the program then gives where the text is written.
+#[derive(Drop)]
+pub struct Answer {
+    pub text: Vec<u8>,
+    pub outcome: Outcome,
+}
+
+impl Answer {
+    /// The same text and status, where no script was carried out.
+    pub fn without_sessions(alloc: Global, ending: Ending) -> Answer
+        ensures text { result.text.items ≡ ending.text.items }
+        ensures status { result.outcome.status ≡ ending.status }
+        ensures played { played_by result.outcome ≡ nothing_played }
     {
-        let text = Vec::from_slice(alloc, b"unbuilt\n")?;
-        Ok(Ending {
-            status: Status::Unbuilt,
+        let Ending { status, text } = ending;
+        Answer {
             text,
-        })
+            outcome: Outcome::without_sessions(alloc, status),
+        }
+    }
+
+    /// The line that says why the program refuses, and this status.
+    pub fn refusal(alloc: Global, refusal: Refusal, status: Status) -> Result<Answer, NoMemory>
+        ensures { IfOk result (Refuses refusal status) }
+    {
+        let ending = Ending::refusal(alloc, refusal, status)?;
+        Ok(Answer::without_sessions(alloc, ending))
     }
 }

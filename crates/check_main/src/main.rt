@@ -3,7 +3,7 @@
 //!
 //! Promises, for every source and every sink, that `top` ends with the status that is due for the words and the input, that
 //! the sink then took exactly the report that is due, and that every other end has its cause (`specs/Top`). What is due for
-//! an input is in `specs/Due`, what the words ask for in `specs/Asked`. Below it stand all crates of the project.
+//! an input is in `specs/Due`, for a script in `specs/DueLive`, what the words ask for in `specs/Asked`. Below it stand all crates of the project.
 #![tactic(auto)]
 
 mod answer;
@@ -18,12 +18,16 @@ mod example_tests;
 mod fold;
 mod front;
 mod judge;
+mod live;
+#[cfg(test)]
+mod live_tests;
 mod made;
 #[cfg(test)]
 mod made_tests;
 mod one_pass;
 #[cfg(test)]
 mod one_pass_tests;
+mod opening;
 mod operation_list;
 mod outcome;
 mod passes;
@@ -40,7 +44,7 @@ mod text_pass_tests;
 mod top;
 mod usual;
 
-use knit_ports::{ReaderSource, WriterSink};
+use knit_ports::{IdleGate, ReaderSource, WriterSink};
 use outcome::Status;
 use std::process::ExitCode;
 use std::rt::Env;
@@ -51,10 +55,10 @@ fn main(rt: HostRuntime) -> ExitCode {
     let mut source = ReaderSource::of(rt.reader());
     let mut sink = WriterSink::of(io::writer(&rt));
     let status = match words(&rt) {
-        Ok(words) => top(&rt, rt.alloc(), &words, &mut source, &mut sink).status,
+        Ok(words) => top(&rt, rt.alloc(), &words, &mut source, &mut sink, &IdleGate).status,
         Err(error) if error.kind() == io::ErrorKind::OutOfMemory => Status::NoMemory,
         // Words that aren't text are outside the grammar, as no words are.
-        Err(_) => top(&rt, rt.alloc(), &[], &mut source, &mut sink).status,
+        Err(_) => top(&rt, rt.alloc(), &[], &mut source, &mut sink, &IdleGate).status,
     };
     ExitCode::from(status.code())
 }

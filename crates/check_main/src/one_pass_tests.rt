@@ -4,7 +4,7 @@ use crate::ending::Ending;
 use crate::judge::Style;
 use crate::one_pass::check_in_one_pass;
 use crate::outcome::Status;
-use crate::plan::{plan_of, reads_input};
+use crate::plan::{plan_of, reads_file};
 use crate::tests::{is, said, texts};
 use knit_ports::INPUT_LIMIT;
 use std::alloc::Global;
@@ -41,7 +41,7 @@ fn agree<R: Threads>(
     let Ok(plan) = plan_of(alloc, &words) else {
         return Ok(false);
     };
-    if !reads_input(plan.command) {
+    if !reads_file(plan.command) {
         return Ok(false);
     }
     if file.len() > INPUT_LIMIT {

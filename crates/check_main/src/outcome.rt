@@ -1,5 +1,12 @@
-//! How the program ends.
+//! How the program ends, and what the sessions of a script did.
 ghost use Rattle.std.specs.Prelude.{◌≡◌};
+ghost use Rattle.check_main.specs.Played.{nothing_played, played_by};
+
+use edit_book::Replies;
+use edit_journal::Journal;
+use knit_base::{Lines, ListOf};
+use script_reader::Script;
+use std::alloc::Global;
 
 /// How the program ends. Each status has an exit status of its own.
 #[derive(Clone, Copy, Debug, PartialEq, Eq)]
@@ -10,7 +17,7 @@ pub enum Status {
     Broken,
     /// The words of the command line are outside its grammar, or an option is out of its bounds.
     Usage,
-    /// The input is no knitout file.
+    /// The input is no knitout file, or no script.
     BadInput,
     /// A read failed.
     ReadFault,
@@ -20,8 +27,6 @@ pub enum Status {
     NoMemory,
     /// The input has too many bytes, body lines or blocks.
     TooLarge,
-    /// The command isn't there yet. Nothing was read.
-    Unbuilt,
 }
 
 impl Status {
@@ -40,13 +45,35 @@ impl Status {
             Status::WriteFault => 5,
             Status::NoMemory => 6,
             Status::TooLarge => 7,
-            Status::Unbuilt => 8,
         }
     }
 }
 
-/// What a run of the program gives.
-#[derive(Clone, Copy, Debug, PartialEq, Eq)]
+/// What a run of the program gives: how it ended, and of a script that was carried out the script, the entries of the journal in
+/// which its sessions' edits stand, and the replies to each session. Else these are empty.
+#[derive(Drop)]
 pub struct Outcome {
     pub status: Status,
+    pub script: Script,
+    pub journal: Journal,
+    pub replies: Replies,
+}
+
+impl Outcome {
+    /// This status, where no script was carried out. It takes no memory.
+    pub fn without_sessions(alloc: Global, status: Status) -> Outcome
+        ensures status { result.status ≡ status }
+        ensures played { played_by result ≡ nothing_played }
+    {
+        let script = Script {
+            text: Lines::new(alloc),
+            sessions: ListOf::new(alloc),
+        };
+        Outcome {
+            status,
+            script,
+            journal: Journal::new(alloc),
+            replies: Replies::of(Vec::new(alloc)),
+        }
+    }
 }

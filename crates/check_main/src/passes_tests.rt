@@ -2,6 +2,7 @@
 use crate::outcome::Status;
 use crate::tests::{Written, is, said, said_of};
 use std::alloc::Global;
+use std::sync::Wait;
 use std::test::Fail;
 use std::thread::Threads;
 
@@ -31,7 +32,7 @@ fn a_rack_makes_room_for_one_pass(rt: HostRuntime) -> Result<(), Fail> {
 }
 
 // A row there, a row back, and four transfers.
-fn rows<R: Threads>(rt: &R, alloc: Global) -> Result<Written, Fail> {
+fn rows<R: Threads + Wait + Sync>(rt: &R, alloc: Global) -> Result<Written, Fail> {
     let mut body = String::from_str(alloc, "in 1\n")?;
     for at in 1..301 {
         body.push_str(&format!(in alloc; "knit + f{at} 1\n")?)?;

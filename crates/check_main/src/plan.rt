@@ -2,7 +2,7 @@
 ghost use Rattle.std.specs.Prelude.{◌≡◌, ℕ, map, string_bytes, IfOk, IsErrOf};
 ghost use Rattle.command_words.specs.declared.command.Command.{Command};
 ghost use Rattle.command_words.specs.Request.{IsMake};
-ghost use Rattle.check_main.specs.Asked.{AreRefused, Ask, IsLawfulChosen, reads_input};
+ghost use Rattle.check_main.specs.Asked.{AreRefused, Ask, IsLawfulChosen, reads_file};
 
 use command_words::{Command, WordFault, request};
 use machine_profile::{Chosen, profile_of};
@@ -52,9 +52,9 @@ pub fn plan_of(alloc: Global, words: &[String]) -> Result<Plan, PlanFault>
     }
 }
 
-/// Whether the command is there and reads an input.
-pub fn reads_input(command: Command) -> bool
-    ensures { result ≡ reads_input command }
+/// Whether the command reads a knitout file.
+pub fn reads_file(command: Command) -> bool
+    ensures { result ≡ reads_file command }
 {
     match command {
         Command::Check { .. } | Command::Text | Command::Passes => true,

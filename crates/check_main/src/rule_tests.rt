@@ -2,6 +2,7 @@
 use crate::outcome::Status;
 use crate::tests::{is, said_of};
 use std::alloc::Global;
+use std::sync::Wait;
 use std::test::Fail;
 use std::thread::Threads;
 
@@ -206,7 +207,7 @@ const SOUND: [Row; 10] = [
 ];
 
 // The first body on which the program ends otherwise.
-fn first_other<R: Threads>(
+fn first_other<R: Threads + Wait + Sync>(
     rt: &R,
     alloc: Global,
     words: &[&str],

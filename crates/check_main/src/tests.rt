@@ -1,8 +1,9 @@
 //! The program on whole inputs, with the bytes that it writes and its status.
 use crate::outcome::Status;
 use crate::top::top;
-use knit_ports::{CalmSource, MemorySink, MemorySource};
+use knit_ports::{CalmSource, IdleGate, MemorySink, MemorySource};
 use std::alloc::Global;
+use std::sync::Wait;
 use std::test::Fail;
 use std::thread::Threads;
 
@@ -22,7 +23,7 @@ pub(crate) fn texts(alloc: Global, words: &[&str]) -> Result<Vec<String>, Fail> 
 }
 
 // The program on an input that is given in memory, over a sink that takes all.
-pub(crate) fn said<R: Threads>(
+pub(crate) fn said<R: Threads + Wait + Sync>(
     rt: &R,
     alloc: Global,
     words: &[&str],
@@ -31,7 +32,7 @@ pub(crate) fn said<R: Threads>(
     let words = texts(alloc, words)?;
     let mut source = CalmSource::of(Vec::from_slice(alloc, input)?);
     let mut sink = MemorySink::of(alloc, 65_536, 65_536, Vec::new(alloc))?;
-    let outcome = top(rt, alloc, &words, &mut source, &mut sink);
+    let outcome = top(rt, alloc, &words, &mut source, &mut sink, &IdleGate);
     let text = Vec::from_slice(alloc, sink.as_slice())?;
     Ok(Written {
         status: outcome.status,
@@ -84,7 +85,7 @@ fn heads_alone(rt: HostRuntime) -> Result<(), Fail> {
 const HEAD: &str = ";!knitout-2\n;;Carriers: 1 2 3\n";
 
 // The program on a file with three carriers and this body.
-pub(crate) fn said_of<R: Threads>(
+pub(crate) fn said_of<R: Threads + Wait + Sync>(
     rt: &R,
     alloc: Global,
     words: &[&str],
@@ -194,7 +195,11 @@ fn json_with_loops(rt: HostRuntime) -> Result<(), Fail> {
 const USAGE: &str = "usage: check_main check|text|passes|live|make N START [options]\n";
 
 // Whether the words are refused.
-fn are_refused<R: Threads>(rt: &R, alloc: Global, words: &[&str]) -> Result<bool, Fail> {
+fn are_refused<R: Threads + Wait + Sync>(
+    rt: &R,
+    alloc: Global,
+    words: &[&str],
+) -> Result<bool, Fail> {
     let said = said(rt, alloc, words, SCARF)?;
     Ok(is(&said, Status::Usage, USAGE))
 }
@@ -302,19 +307,23 @@ fn devices_that_fail(rt: HostRuntime) -> Result<(), Fail> {
     // The second write of ten bytes fails.
     let mut source = CalmSource::of(Vec::from_slice(alloc, SCARF)?);
     let mut sink = MemorySink::of(alloc, 10, 65_536, Vec::from_slice(alloc, &[2])?)?;
-    let outcome = top(&rt, alloc, &words, &mut source, &mut sink);
+    let outcome = top(&rt, alloc, &words, &mut source, &mut sink, &IdleGate);
     assert!(rt; outcome.status == Status::WriteFault);
     assert!(rt; sink.as_slice() == b"sound line".as_slice());
     Ok(())
 }
 
 // What `check` says where this read of the input fails.
-fn said_of_failing_read<R: Threads>(rt: &R, alloc: Global, read: u32) -> Result<Written, Fail> {
+fn said_of_failing_read<R: Threads + Wait + Sync>(
+    rt: &R,
+    alloc: Global,
+    read: u32,
+) -> Result<Written, Fail> {
     let words = texts(alloc, &["check"])?;
     let bytes = Vec::from_slice(alloc, SCARF)?;
     let mut source = MemorySource::of(bytes, 16, Vec::from_slice(alloc, &[read])?);
     let mut sink = MemorySink::of(alloc, 65_536, 65_536, Vec::new(alloc))?;
-    let outcome = top(rt, alloc, &words, &mut source, &mut sink);
+    let outcome = top(rt, alloc, &words, &mut source, &mut sink, &IdleGate);
     let text = Vec::from_slice(alloc, sink.as_slice())?;
     Ok(Written {
         status: outcome.status,
@@ -365,12 +374,5 @@ fn canonical_text(rt: HostRuntime) -> Result<(), Fail> {
             TIDY
         )
     );
-    Ok(())
-}
-
-#[test]
-fn a_command_to_come(rt: HostRuntime) -> Result<(), Fail> {
-    let live = said(&rt, rt.alloc(), &["live"], b"live 1\n")?;
-    assert!(rt; is(&live, Status::Unbuilt, "unbuilt\n"));
     Ok(())
 }

@@ -1,7 +1,7 @@
 //! The one pass over the bytes and the general way, on files of which most lines are copied. Both must write what is expected.
 use crate::answer::answer_by_lines;
 use crate::outcome::Status;
-use crate::plan::{plan_of, reads_input};
+use crate::plan::{plan_of, reads_file};
 use crate::tests::texts;
 use crate::text_pass::text_in_one_pass;
 use knit_ports::INPUT_LIMIT;
@@ -23,7 +23,7 @@ fn agree<R: Threads>(
     let Ok(plan) = plan_of(alloc, &words) else {
         return Ok(None);
     };
-    if !reads_input(plan.command) {
+    if !reads_file(plan.command) {
         return Ok(None);
     }
     if file.len() > INPUT_LIMIT {

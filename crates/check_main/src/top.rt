@@ -1,125 +1,163 @@
 //! The whole program, over any source and sink.
-ghost use Rattle.std.specs.Prelude.{◌≡◌, List, ℕ, true, map, string_bytes, IfOk};
+ghost use Rattle.std.specs.Prelude.{◌≡◌, ◌≤◌, List, ℕ, length, true, map, string_bytes, IfOk};
+ghost use Rattle.std.specs.Io.KnownBytes.{Consumes, IsAtEnd};
+ghost use Rattle.check_main.specs.Answers.{IsCalled};
 ghost use Rattle.check_main.specs.Asked.{Ask, reads_input};
-ghost use Rattle.check_main.specs.Top.{Called, Ran, SourceUse, sink_use, source_use};
+ghost use Rattle.check_main.specs.Played.{played_by};
+ghost use Rattle.check_main.specs.Top.{Ran, SourceUse, sink_use, source_use};
 
 use crate::answer::answer;
-use crate::ending::Ending;
+use crate::ending::{Answer, Ending};
+use crate::live::answer_live;
 use crate::made::answer_made;
 use crate::outcome::{Outcome, Status};
 use crate::plan::{Plan, PlanFault, plan_of};
 use command_words::Command;
 use knit_base::NoMemory;
-use knit_ports::{INPUT_LIMIT, InputFault, Sink, Source, read_input, write_report};
+use knit_ports::{Gate, INPUT_LIMIT, InputFault, Sink, Source, read_input, write_report};
 use std::alloc::Global;
+use std::sync::Wait;
 use std::thread::Threads;
 use verdict_report::Refusal;
 
 /// Does what the words behind the program's name ask for: reads the source to its end, makes the whole report, and only then
-/// writes it to the sink. For words that are refused, that ask for a made program, or that ask for a command that isn't there
-/// yet, nothing is read.
+/// writes it to the sink. For words that are refused, or that ask for a made program, nothing is read.
 ///
 /// Where the source tells the bytes that it has left and the sink those that it has taken, the report is the one that is due
 /// for these very bytes, and the sink takes nothing else. Of a source that tells nothing, as standard input, the report
 /// is due for some bytes. An input has at most 16,777,216 bytes; one byte more is read to see that it has not.
 ///
+/// `live` carries out the sessions of a script, each in a thread of its own, and may wait for other threads and for the gate;
+/// nothing is claimed of how long. What its sessions did is in the outcome, and the report tells it.
+///
 /// The statuses are decided in this order:
 /// - `Usage`: exactly where the words are outside the grammar or an option is out of its bounds.
-/// - `Unbuilt`: exactly where the words ask for `live`, which isn't there yet.
 /// - `ReadFault`: only where a read failed before the input was whole.
 /// - `TooLarge`: exactly where the source gave a byte past the limit.
-/// - `BadInput`: exactly where a line isn't UTF-8 or has more than 4,096 bytes, or else where the head is refused.
-/// - `TooLarge`: exactly where the body that `check`, `passes` or `make` checks has more than 1,048,576 lines, or more than
-///   65,536 blocks.
+/// - `BadInput`: exactly where a line isn't UTF-8 or has more than 4,096 bytes, or else, for `live`, where the lines spell no
+///   script, or else where the head is refused.
+/// - `TooLarge`: exactly where the body that `check`, `passes`, `live` or `make` begins with has more than 1,048,576 lines, or more
+///   than 65,536 blocks.
 /// - `Broken`: for `check` and `passes`, exactly where a line of the body breaks a rule.
-/// - `Done` otherwise.
+/// - `Done` otherwise. So it is for `live`, whatever the verdict on the document at its end.
 ///
 /// `WriteFault` takes the place of any of these, only where a write failed; the sink then took a front of the report.
 /// `NoMemory` may take it at any time before the first write, and the sink then took nothing.
-pub fn top<R: Threads, S: Source, K: Sink>(
+pub fn top<R: Threads + Wait + Sync, S: Source, K: Sink, G: Gate + Sync>(
     rt: &R,
     alloc: Global,
     words: &[String],
     source: &mut S,
     sink: &mut K,
+    gate: &G,
 ) -> Outcome
-    ensures { Ran (map string_bytes words.now) (source_use S.left S.faults source.old source.new)
-        (sink_use K.taken K.faults sink.old sink.new) result.status }
+    ensures ran { Ran (map string_bytes words.now) (source_use S.left S.faults source.old source.new)
+        (sink_use K.taken K.faults sink.old sink.new) (played_by result) result.status }
 {
-    let status = match make_ending(rt, alloc, words, source) {
-        Ok(ending) => write_ending(&ending, sink),
-        Err(NoMemory) => Status::NoMemory,
-    };
-    Outcome { status }
+    match make_answer(rt, alloc, words, source, gate) {
+        Ok(answer) => write_answer(answer, sink),
+        Err(NoMemory) => Outcome::without_sessions(alloc, Status::NoMemory),
+    }
 }
 
 // What is due for the words and for what the source gives.
-fn make_ending<R: Threads, S: Source>(
+fn make_answer<R: Threads + Wait + Sync, S: Source, G: Gate + Sync>(
     rt: &R,
     alloc: Global,
     words: &[String],
     source: &mut S,
-) -> Result<Ending, NoMemory>
-    ensures { IfOk result (λ ending. Called (map string_bytes words.now) (source_use S.left S.faults source.old source.new)
-        ending.text.items ending.status) }
+    gate: &G,
+) -> Result<Answer, NoMemory>
+    ensures { IfOk result (IsCalled (map string_bytes words.now) (source_use S.left S.faults source.old source.new)) }
 {
     match plan_of(alloc, words) {
-        Ok(plan) => carry_out(rt, alloc, &plan, source),
-        Err(PlanFault::Usage) => Ending::refusal(alloc, Refusal::Usage, Status::Usage),
+        Ok(plan) => carry_out(rt, alloc, &plan, source, gate),
+        Err(PlanFault::Usage) => Answer::refusal(alloc, Refusal::Usage, Status::Usage),
         Err(PlanFault::NoMemory) => Err(NoMemory),
     }
 }
 
 // What is due for the plan and for what the source gives.
-fn carry_out<R: Threads, S: Source>(
+fn carry_out<R: Threads + Wait + Sync, S: Source, G: Gate + Sync>(
     rt: &R,
     alloc: Global,
     plan: &Plan,
     source: &mut S,
-) -> Result<Ending, NoMemory>
-    ensures { IfOk result (λ ending. (words : List (List ℕ)) → Ask words plan.now.command plan.now.chosen
-        → Called words (source_use S.left S.faults source.old source.new) ending.text.items ending.status) }
+    gate: &G,
+) -> Result<Answer, NoMemory>
+    ensures { IfOk result (λ answer. (words : List (List ℕ)) → Ask words plan.now.command plan.now.chosen
+        → IsCalled words (source_use S.left S.faults source.old source.new) answer) }
 {
     match plan.command {
-        Command::Check { .. } | Command::Text | Command::Passes => {
-            answer_source(rt, alloc, plan, source)
+        Command::Check { .. } | Command::Text | Command::Passes | Command::Live => {
+            answer_source(rt, alloc, plan, source, gate)
         }
-        Command::Make { rows, start } => answer_made(rt, alloc, plan, rows, start),
-        Command::Live => Ending::unbuilt(alloc),
+        Command::Make { rows, start } => {
+            let ending = answer_made(rt, alloc, plan, rows, start)?;
+            Ok(Answer::without_sessions(alloc, ending))
+        }
     }
 }
 
 // Reads the whole input. What is then due for it.
-fn answer_source<R: Threads, S: Source>(
+fn answer_source<R: Threads + Wait + Sync, S: Source, G: Gate + Sync>(
     rt: &R,
     alloc: Global,
     plan: &Plan,
     source: &mut S,
-) -> Result<Ending, NoMemory>
+    gate: &G,
+) -> Result<Answer, NoMemory>
     requires { reads_input plan.now.command ≡ true }
-    ensures { IfOk result (λ ending. (words : List (List ℕ)) → Ask words plan.now.command plan.now.chosen
-        → Called words (source_use S.left S.faults source.old source.new) ending.text.items ending.status) }
+    ensures { IfOk result (λ answer. (words : List (List ℕ)) → Ask words plan.now.command plan.now.chosen
+        → IsCalled words (source_use S.left S.faults source.old source.new) answer) }
 {
     let input = match read_input(alloc, source, INPUT_LIMIT) {
         Ok(input) => input,
         Err(InputFault::Failed) => {
-            return Ending::refusal(alloc, Refusal::ReadFault, Status::ReadFault);
+            return Answer::refusal(alloc, Refusal::ReadFault, Status::ReadFault);
         }
         Err(InputFault::NoMemory) => return Err(NoMemory),
     };
     if input.len() > INPUT_LIMIT {
-        return Ending::refusal(alloc, Refusal::TooManyBytes, Status::TooLarge);
+        return Answer::refusal(alloc, Refusal::TooManyBytes, Status::TooLarge);
     }
-    answer(rt, alloc, plan, input)
+    answer_input(rt, alloc, plan, input, gate)
 }
 
-// Writes the text that is due. The status with which the program then ends.
-fn write_ending<K: Sink>(ending: &Ending, sink: &mut K) -> Status
-    ensures { (words : List (List ℕ)) (source : SourceUse) → Called words source ending.now.text.items ending.now.status
-        → Ran words source (sink_use K.taken K.faults sink.old sink.new) result }
+// What is due for an input that was read whole.
+fn answer_input<R: Threads + Wait + Sync, G: Gate + Sync>(
+    rt: &R,
+    alloc: Global,
+    plan: &Plan,
+    input: Vec<u8>,
+    gate: &G,
+) -> Result<Answer, NoMemory>
+    requires size { length input.items ≤ INPUT_LIMIT }
+    requires reads { reads_input plan.now.command ≡ true }
+    ensures { IfOk result (λ answer. (words : List (List ℕ)) (source : SourceUse) → Ask words plan.now.command plan.now.chosen
+        → Consumes source.left_before source.left_after input.items → IsAtEnd source.left_after → IsCalled words source answer) }
 {
-    match write_report(sink, &ending.text) {
-        Ok(()) => ending.status,
-        Err(_) => Status::WriteFault,
+    match plan.command {
+        Command::Live => answer_live(rt, alloc, plan, input, gate),
+        Command::Check { .. } | Command::Text | Command::Passes => {
+            let ending = answer(rt, alloc, plan, input)?;
+            Ok(Answer::without_sessions(alloc, ending))
+        }
+        Command::Make { .. } => unreachable!(),
+    }
+}
+
+// Writes the text that is due. What the program then gives.
+fn write_answer<K: Sink>(answer: Answer, sink: &mut K) -> Outcome
+    ensures { (words : List (List ℕ)) (source : SourceUse) → IsCalled words source answer
+        → Ran words source (sink_use K.taken K.faults sink.old sink.new) (played_by result) result.status }
+{
+    let Answer { text, mut outcome } = answer;
+    match write_report(sink, &text) {
+        Ok(()) => outcome,
+        Err(_) => {
+            outcome.status = Status::WriteFault;
+            outcome
+        }
     }
 }
