@@ -1,5 +1,5 @@
 -- A transfer: its rack and its room are asked, and then the loops go over.
-use Rattle.std.proofs.Common.{◌≡◌, ◌+◌, ◌≤◌, ℕ, Bool, List, [], ◌∷◌, ◌++◌, map, Option, None, Some, refl, sym, ap, ◌∙◌, subst, arith}
+use Rattle.std.proofs.Common.{◌≡◌, ◌+◌, ◌≤◌, ℕ, Bool, List, [], ◌∷◌, map, Option, None, Some, refl, sym, ap, ◌∙◌, subst, arith}
 use Rattle.std.proofs.lemmas.Int.{ints}
 use Rattle.std.specs.Option.{option_to_list}
 use Rattle.knit_base.specs.declared.instr.Instr.{Instr}
@@ -20,12 +20,11 @@ use Rattle.face_data.specs.Drafts.{no_effect}
 use Rattle.face_data.specs.Goodness.{IsInOrder}
 use Rattle.face_data.specs.Segments.{Changed}
 use Rattle.face_data.specs.Sizes.{SizeRule, size_ask}
-use Rattle.face_data.specs.Summaries.{Asked, Summary}
+use Rattle.face_data.specs.Summaries.{Summary}
 use Rattle.bed_rules.specs.Beds.{crowded, moved}
 use Rattle.rack_align.specs.Moves.{rack_ask}
 use Rattle.block_summary.specs.Asks.{instr_ask}
 use Rattle.block_summary.specs.DraftKnowledge.{HasAsked, HasAskedAll, IsSmall, effect_in, written}
-use Rattle.block_summary.specs.LineEnds.{carried}
 use Rattle.block_summary.specs.LineSummaries.{asked_by, asked_of_rack, asked_of_sizes, line_summary}
 use Rattle.block_summary.proofs.LineSteps.{both_asked, carried_on, first_stops, line_goes, one_asked}
 

@@ -9,31 +9,34 @@ ghost use Rattle.knit_base.specs.Limits.{IsLawfulProfile};
 ghost use Rattle.knit_base.specs.Needle.{is_slider, own_slider};
 ghost use Rattle.knit_base.specs.Usual.{usual_read};
 ghost use Rattle.knitout_reader.specs.Reading.{ReadsAs};
+ghost use Rattle.knitout_reader.specs.Usual.{KnowsLast};
 ghost use Rattle.face_data.specs.Segments.{change_at};
 ghost use Rattle.block_summary.specs.Prepared.{AddsLine, AreRowsOf, IsKnitIfKnown, row_of};
 
 use crate::{Draft, FormedLoop, LineEnd};
 use knit_base::{CarrierNo, Dir, Fault, Needle, NoMemory, Read, Setting, Usual};
-use knitout_reader::{one_carrier, read_line, usual_reading, usual_whole_line};
+use knitout_reader::{LastNamed, one_carrier, read_line, usual_reading, usual_whole_line};
 use loop_history::{LoopRow, LoopTable};
 
-/// One line more. Answers with its fault where the lines are known to stop at it.
+/// One line more. Answers with its fault where the lines are known to stop at it. `last` is what the lines before named.
 pub fn add_line(
     line: &str,
     setting: &Setting,
+    last: &mut LastNamed,
     draft: &mut Draft,
     loops: &mut LoopTable,
 ) -> Result<Option<Fault>, NoMemory>
     requires profile { IsLawfulProfile setting.now.profile }
     requires short { length line.now < 2 ^ 16 }
+    requires last { KnowsLast setting.now.declared last.old }
     requires few { draft.old.lines < 4096 }
     requires rows { AreRowsOf draft.old.lines loops.old }
+    ensures last { KnowsLast setting.now.declared last.new }
     ensures added { IfOk result (λ stop. (r : Read) → ReadsAs setting.now.profile setting.now.declared line.now r → AddsLine setting.now.profile (length setting.now.declared) r draft.old draft.new loops.old loops.new stop) }
     ensures lines { OnOk result (draft.new.lines ≡ draft.old.lines + 1) }
     ensures rows { OnOk result (AreRowsOf draft.new.lines loops.new) }
 {
-    let declared = &setting.declared;
-    let usual = usual_whole_line(line.as_bytes(), &setting.profile, declared);
+    let usual = usual_whole_line(line.as_bytes(), &setting.profile, &setting.declared, last);
     if let Some(usual) = usual {
         return add_usual(usual, setting, draft, loops);
     }

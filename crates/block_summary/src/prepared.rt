@@ -15,6 +15,7 @@ use crate::Draft;
 use crate::adding::add_line;
 use face_data::Face;
 use knit_base::{BlockText, NoMemory, Setting, Steps};
+use knitout_reader::LastNamed;
 use loop_history::LoopTable;
 use std::alloc::Global;
 use std::sync::ledger::Ledger;
@@ -111,10 +112,11 @@ fn read_block<L: Ledger>(
 {
     draft.clear();
     let lines = text.len();
+    let mut last = LastNamed::none();
     let mut loops = LoopTable::with_capacity(draft.allocator(), lines)?;
     for i in 0..lines {
         let line = text.line(i, steps);
-        match add_line(line, setting, draft, &mut loops)? {
+        match add_line(line, setting, &mut last, draft, &mut loops)? {
             None => {}
             Some(fault) => {
                 loops.shrink_to_fit();

@@ -1,5 +1,6 @@
 -- Lines without a line feed behind them: what is read of them is what is read of them with one.
-use Rattle.std.proofs.Common.{◌≡◌, ℕ, ℤ, false, List, [], ◌∷◌, ◌++◌, Option, None, Some, IfSome, codes, ap, sym, ◌∙◌, refl, append_assoc}
+use Rattle.std.proofs.Common.{◌≡◌, ℕ, ℤ, false, List, [], ◌∷◌, ◌++◌, Option, None, Some, IfSome, codes, ap, sym, ◌∙◌, refl, append_assoc, arith}
+use Rattle.std.proofs.lemmas.List.Elements.{All-cons, All-nil}
 use Rattle.knit_base.specs.declared.needle.Dir.{Dir}
 use Rattle.knit_base.specs.declared.needle.Needle.{Needle}
 use Rattle.knit_base.specs.declared.profile.Profile.{Profile}
@@ -9,7 +10,7 @@ use Rattle.knit_base.specs.Lawful.{IsOnBed}
 use Rattle.knit_base.specs.Names.{carrier_of}
 use Rattle.knit_base.specs.Needle.{is_front, is_slider}
 use Rattle.knit_base.specs.Spelling.{bed_word, dir_word}
-use Rattle.knitout_reader.specs.Usual.{BeginsWithUsualName, BeginsWithUsualNeedle, BeginsWithUsualNeedles, BeginsWithUsualNumber, BeginsWithUsualOperands, IsShortToken}
+use Rattle.knitout_reader.specs.Usual.{BeginsWithUsualName, BeginsWithUsualNeedle, BeginsWithUsualNeedles, BeginsWithUsualNumber, BeginsWithUsualOperands, IsByteName, IsShortToken, IsTokenByte}
 use Rattle.knitout_reader.proofs.UsualLines.{IsReadingOf, alone, knit_spaced, tuck_spaced, xfer_spaced}
 
 number_longer : (text rest more : List ℕ) (at : ℤ) (end : ℕ) → BeginsWithUsualNumber text at end rest → BeginsWithUsualNumber (text ++ more) at end (rest ++ more)
@@ -46,6 +47,19 @@ pub whole_name_is : (names : List (List ℕ)) (name : List ℕ) (found : Option 
     → IfSome found (λ c. BeginsWithUsualName names (name ++ 10 ∷ []) c [])
 whole_name_is names name None token is = tt
 whole_name_is names name (Some c) token is = record { name = name; some = token.some; short = token.short; bytes = token.bytes; named = sym is; text_is = refl }
+
+-- the carrier whose name is this one byte, if there is one
+pub byte_name_is : (names : List (List ℕ)) (name : List ℕ) (byte : ℕ) (found : Option CarrierNo) → name ≡ byte ∷ [] → IfSome found (λ c. IsByteName names byte c.0)
+    → IfSome found (λ c. BeginsWithUsualName names (name ++ 10 ∷ []) c [])
+byte_name_is names name byte None is found = tt
+byte_name_is names name byte (Some c) is found = record {
+  name = byte ∷ [];
+  some = omega arith;
+  short = omega arith;
+  bytes = All-cons IsTokenByte byte [] found.token (All-nil IsTokenByte);
+  named = found.named;
+  text_is = ap (λ (l : List ℕ). l ++ 10 ∷ []) is;
+}
 
 -- the operands of a whole line that forms a loop
 pub whole_operands_are : (profile : Profile) (names : List (List ℕ)) (text behind name : List ℕ) (dir : Dir) (n : Needle) (c : CarrierNo)

@@ -1,5 +1,5 @@
 -- Lines in the spelling that most lines have.
-use Rattle.std.specs.Prelude.{◌≡◌, ◌≢◌, ℕ, ◌+◌, ◌/◌, ◌%◌, ◌<◌, ◌≤◌, ℤ, pos, true, false, List, [], ◌∷◌, ◌++◌, length, drop, slice_index, All, Some}
+use Rattle.std.specs.Prelude.{◌≡◌, ◌≢◌, ℕ, ◌+◌, ◌/◌, ◌%◌, ◌<◌, ◌≤◌, ℤ, pos, true, false, List, [], ◌∷◌, ◌++◌, length, drop, slice_index, All, Some, IfSome}
 use Rattle.std.specs.Str.{is_utf8}
 use Rattle.knit_base.specs.declared.needle.Dir.{Dir}
 use Rattle.knit_base.specs.declared.needle.Needle.{Needle}
@@ -13,6 +13,7 @@ use Rattle.knit_base.specs.Needle.{is_front, is_slider}
 use Rattle.knit_base.specs.Spelling.{bed_word, dir_word}
 use Rattle.knit_base.specs.Usual.{usual_read}
 use Rattle.knitout_reader.specs.declared.byte_names.ByteNames.{ByteNames}
+use Rattle.knitout_reader.specs.declared.whole_line.LastNamed.{LastNamed}
 use Rattle.knitout_reader.specs.Numbers.{AreDigits, number_of}
 use Rattle.knitout_reader.specs.Reading.{ReadsAs}
 use Rattle.knitout_reader.specs.Tokens.{is_blank}
@@ -40,6 +41,10 @@ pub record IsByteName (names : List (List ℕ)) (byte number : ℕ) : Type 0 whe
 -- a number below 100 in two digits
 abbrev pub pair_text : ℕ → List ℕ
 pair_text n = (48 + n / 10) ∷ (48 + n % 10) ∷ []
+
+-- the byte that was kept is the name of the carrier that was kept, if one was
+abbrev pub KnowsLast : List (List ℕ) → LastNamed → Type 0
+KnowsLast names last = IfSome last.carrier (λ c. IsByteName names last.byte c.0)
 
 -- this number in two digits is the name of this carrier
 pub record IsPairName (names : List (List ℕ)) (pair number : ℕ) : Type 0 where

@@ -44,4 +44,4 @@ pub use readings::{one_carrier, usual_reading};
 pub use shortest::is_shortest_spelling;
 pub use tokens::{code_of, comment_at, is_blank_text, next_token};
 pub use usual::usual_line;
-pub use whole_line::usual_whole_line;
+pub use whole_line::{LastNamed, usual_whole_line};

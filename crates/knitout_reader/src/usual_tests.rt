@@ -1,7 +1,7 @@
 //! Lines that are nearly usual. Each is read at once or not, and where it is, the general way reads the same.
 ghost use Rattle.std.specs.Prelude.{◌<◌, ◌^◌, length};
 
-use crate::{ByteNames, is_shortest_spelling, read_line, usual_line, usual_whole_line};
+use crate::{ByteNames, LastNamed, is_shortest_spelling, read_line, usual_line, usual_whole_line};
 use knit_base::{Bed, CarrierNo, Declared, Dir, Instr, Needle, Profile, Read, Usual, Yarns};
 use std::alloc::Global;
 
@@ -126,7 +126,12 @@ fn both_ways_read_alike(rt: HostRuntime) {
 
 // What is read at once of a line without a line feed.
 fn read_whole(alloc: Global, line: &str) -> Option<Usual> {
-    usual_whole_line(line.as_bytes(), &PROFILE, &declared(alloc)?)
+    usual_whole_line(
+        line.as_bytes(),
+        &PROFILE,
+        &declared(alloc)?,
+        &mut LastNamed::none(),
+    )
 }
 
 #[test]

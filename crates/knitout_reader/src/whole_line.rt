@@ -1,30 +1,87 @@
 //! A line alone in the spelling that most lines have, read at once.
 //!
-//! What `usual_line` is to the front of a text, this is to a line without its line feed. It looks the carrier's name up in the header's names, so it needs no table of them.
-ghost use Rattle.std.specs.Prelude.{◌≡◌, ◌∷◌, ◌++◌, [], true, length, IfSome};
+//! What `usual_line` is to the front of a text, this is to a line without its line feed. It looks the carrier's name up in the header's names, so it needs no
+//! table of them; a name that the line before had isn't looked up again.
+ghost use Rattle.std.specs.Prelude.{◌≡◌, ◌∷◌, ◌++◌, ℕ, List, [], true, length, IfSome};
 ghost use Rattle.knit_base.specs.declared.instr.Read.{Read};
 ghost use Rattle.knit_base.specs.Lawful.{IsLawfulRead};
 ghost use Rattle.knit_base.specs.Usual.{usual_read};
 ghost use Rattle.knitout_reader.specs.Numbers.{IsDigit};
 ghost use Rattle.knitout_reader.specs.Reading.{ReadsAs};
-ghost use Rattle.knitout_reader.specs.Usual.{BeginsWithUsualName, BeginsWithUsualNeedle, BeginsWithUsualNeedles, BeginsWithUsualNumber, BeginsWithUsualOperands, IsShortToken, IsTokenByte};
+ghost use Rattle.knitout_reader.specs.Usual.{BeginsWithUsualName, BeginsWithUsualNeedle, BeginsWithUsualNeedles, BeginsWithUsualNumber, BeginsWithUsualOperands, IsByteName, IsShortToken, IsTokenByte, KnowsLast};
 
 use crate::usual::{behind_four, behind_space, digit, hook_bed, spaced_direction, usual_needle};
 use knit_base::{CarrierNo, Declared, Dir, Needle, Profile, Usual};
 
+/// The carrier that a line named last by one byte. Most lines name the carrier of the line before, which then needs no look-up.
+#[derive(Clone, Copy, Debug, PartialEq, Eq)]
+pub struct LastNamed {
+    byte: u8,
+    carrier: Option<CarrierNo>,
+}
+
+impl LastNamed {
+    /// No line has named a carrier.
+    pub fn none() -> Self
+        ensures { (names : List (List ℕ)) → KnowsLast names result }
+    {
+        LastNamed {
+            byte: 0,
+            carrier: None,
+        }
+    }
+
+    // The carrier that this byte names alone.
+    #[inline(always)]
+    fn find(&mut self, byte: u8, declared: &Declared) -> Option<CarrierNo>
+        requires { KnowsLast declared.now self.old }
+        ensures name { IfSome result (λ c. IsByteName declared.now byte c.0) }
+        ensures last { KnowsLast declared.now self.new }
+    {
+        if byte == self.byte && self.carrier.is_some() {
+            return self.carrier;
+        }
+        self.look_up(byte, declared)
+    }
+
+    // The same of a byte that wasn't the last one.
+    #[inline(never)]
+    fn look_up(&mut self, byte: u8, declared: &Declared) -> Option<CarrierNo>
+        requires { KnowsLast declared.now self.old }
+        ensures name { IfSome result (λ c. IsByteName declared.now byte c.0) }
+        ensures last { KnowsLast declared.now self.new }
+    {
+        if !is_plain(byte) {
+            return None;
+        }
+        let c = declared.find_bytes(&[byte])?;
+        self.byte = byte;
+        self.carrier = Some(c);
+        Some(c)
+    }
+}
+
 /// What the line says, where it is spelt as most lines are: `knit` or `tuck` with one carrier whose name has one or two bytes, or
-/// `xfer`, with one space between two tokens and needles of one to three digits. `None` says nothing of the line.
-pub fn usual_whole_line(line: &[u8], profile: &Profile, declared: &Declared) -> Option<Usual>
+/// `xfer`, with one space between two tokens and needles of one to three digits. `None` says nothing of the line. `last` is what the
+/// lines before named with the same declared names.
+pub fn usual_whole_line(
+    line: &[u8],
+    profile: &Profile,
+    declared: &Declared,
+    last: &mut LastNamed,
+) -> Option<Usual>
+    requires { KnowsLast declared.now last.old }
+    ensures last { KnowsLast declared.now last.new }
     ensures reads { IfSome result (λ usual. ReadsAs profile.now declared.now line.now (usual_read usual)) }
     ensures only { IfSome result (λ usual. (other : Read) → ReadsAs profile.now declared.now line.now other → other ≡ usual_read usual) }
     ensures lawful { IfSome result (λ usual. IsLawfulRead profile.now (length declared.now) (usual_read usual)) }
 {
     if let Some(operands) = behind_four(line, *b"knit") {
-        let (dir, needle, c) = whole_operands(operands, profile, declared)?;
+        let (dir, needle, c) = whole_operands(operands, profile, declared, last)?;
         return Some(Usual::Knit(dir, needle, c));
     }
     if let Some(operands) = behind_four(line, *b"tuck") {
-        let (dir, needle, c) = whole_operands(operands, profile, declared)?;
+        let (dir, needle, c) = whole_operands(operands, profile, declared, last)?;
         return Some(Usual::Tuck(dir, needle, c));
     }
     let operands = behind_four(line, *b"xfer")?;
@@ -38,24 +95,43 @@ fn whole_operands(
     text: &[u8],
     profile: &Profile,
     declared: &Declared,
+    last: &mut LastNamed,
 ) -> Option<(Dir, Needle, CarrierNo)>
-    ensures { IfSome result (λ found. BeginsWithUsualOperands profile.now declared.now (text.now ++ 10 ∷ []) found.0 found.1 found.2 []) }
+    requires { KnowsLast declared.now last.old }
+    ensures last { KnowsLast declared.now last.new }
+    ensures operands { IfSome result (λ found. BeginsWithUsualOperands profile.now declared.now (text.now ++ 10 ∷ []) found.0 found.1 found.2 []) }
 {
     let (dir, behind) = spaced_direction(text)?;
     let (needle, name) = usual_needle(behind, b' ', profile)?;
-    let c = whole_name(name, declared)?;
+    let c = whole_name(name, declared, last)?;
     Some((dir, needle, c))
 }
 
 // The carrier of this name.
 #[inline(always)]
-fn whole_name(name: &[u8], declared: &Declared) -> Option<CarrierNo>
-    ensures { IfSome result (λ c. BeginsWithUsualName declared.now (name.now ++ 10 ∷ []) c []) }
+fn whole_name(name: &[u8], declared: &Declared, last: &mut LastNamed) -> Option<CarrierNo>
+    requires { KnowsLast declared.now last.old }
+    ensures last { KnowsLast declared.now last.new }
+    ensures name { IfSome result (λ c. BeginsWithUsualName declared.now (name.now ++ 10 ∷ []) c []) }
 {
+    if let Some(byte) = only_byte(name) {
+        return last.find(byte, declared);
+    }
     if is_short_token(name) {
         return declared.find_bytes(name);
     }
     None
+}
+
+// The one byte of a name that has no other.
+#[inline(always)]
+fn only_byte(name: &[u8]) -> Option<u8>
+    ensures { IfSome result (λ byte. name.now ≡ byte ∷ []) }
+{
+    match name {
+        [byte] => Some(*byte),
+        _ => None,
+    }
 }
 
 // Whether the bytes are a token of one or two bytes.

@@ -1,7 +1,6 @@
 use Rattle.std.proofs.Common.{length, sym, subst}
 use Rattle.std.proofs.lemmas.Result.{IfOk-weaker}
 use Rattle.knit_base.specs.declared.instr.Read.{Read}
-use Rattle.knitout_reader.specs.Reading.{ReadsAs}
 use Rattle.block_summary.specs.Prepared.{AddsLine}
 use Rattle.block_summary.proofs.adding.add_other.Goals as goal
 

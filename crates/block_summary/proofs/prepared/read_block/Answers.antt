@@ -35,6 +35,7 @@ loop-i-preserved g c =
     let i = c.loop-i.i in
     let counted = c.in_ok-add_line.ensures.lines ∙ ap (λ n. n + 1) c.loop-i.invariant.lines in
     record {
+      last = c.in_ok-add_line.ensures.last;
       lines = counted;
       rows = subst (λ n. AreRowsOf n c.add_line.new.loops) counted c.in_ok-add_line.ensures.rows;
       steps = omega (arith, c.line-line.ensures.steps, c.loop-i.invariant.steps);

@@ -1,10 +1,12 @@
 use Rattle.std.proofs.Common.{◌≡◌, ◌+◌, List, length}
 use Rattle.knit_base.specs.declared.instr.Read.{Read}
+use Rattle.knitout_reader.specs.Usual.{KnowsLast}
 use Rattle.block_summary.specs.Prepared.{AreReadings, AreRowsOf, HasRead}
 use Rattle.block_summary.proofs.prepared.read_block.Given as goal
 
 abbrev pub invariant-loop-i : goal.invariant-loop-i
 invariant-loop-i g l = record {
+  last : KnowsLast l.setting.declared l.last;
   lines : l.draft.lines ≡ l.i;
   rows : AreRowsOf l.i l.loops;
   steps : l.steps ≡ l.initial.steps + l.i;

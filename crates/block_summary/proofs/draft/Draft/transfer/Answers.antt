@@ -1,4 +1,4 @@
-use Rattle.std.proofs.Common.{◌≡◌, ◌∙◌, ◌+◌, ◌-◌, ◌<◌, ◌^◌, Option, ap, sym, subst}
+use Rattle.std.proofs.Common.{◌∙◌, ◌+◌, ◌-◌, ◌<◌, ◌^◌, Option, ap, sym, subst}
 use Rattle.knit_base.specs.declared.rule.Reason.{Reason}
 use Rattle.face_data.specs.declared.face.Ending.TheVariants.{Through}
 use Rattle.face_data.specs.Composition.{effect_of_both}
