@@ -366,6 +366,36 @@ fn a_bad_line_is_named_and_a_block_shown(rt: HostRuntime) -> Result<(), Fail> {
     Ok(())
 }
 
+// Whether a text for which room is made is ready.
+fn warms<L: Ledger>(alloc: Global, book: &mut Book, steps: &mut Steps<L>) -> bool
+    requires { IsLawfulProfile book.old.opening.setting.profile }
+{
+    match prepared(alloc, 0, 3, book.setting(), steps) {
+        Ok(block) => book.warm(0, &block).is_ok() && book.ready(0, &block),
+        Err(NoMemory) => false,
+    }
+}
+
+fn a_warmed_book<L: Ledger, R: Threads>(
+    rt: &R,
+    blank: Blank,
+    alloc: Global,
+) -> Result<bool, NoMemory>
+    requires name { (blank.name ≡ L.name) × (blank.parts ≡ L.parts) × (0 < L.parts) }
+{
+    let mut steps = Steps::<L>::start(rt, blank);
+    let mut book = opened(alloc, 2, &mut steps)?;
+    Ok(warms(alloc, &mut book, &mut steps))
+}
+
+// It asks for memory as often as the test below, which puts the text, too: so a put of a ready text asks for none (`integrations/refused_memory.py` counts).
+#[test]
+fn a_block_is_made_ready(rt: HostRuntime) -> Result<(), Fail> {
+    let told = a_warmed_book::<Brand, _>(&rt, Blank::new(1), rt.alloc())?;
+    assert!(rt; told);
+    Ok(())
+}
+
 // Whether a text whose room is made before is ready, and then accepted.
 fn puts_warm<L: Ledger>(alloc: Global, book: &mut Book, steps: &mut Steps<L>) -> [bool; 2]
     requires { IsLawfulProfile book.old.opening.setting.profile }

@@ -1,0 +1,194 @@
+#!/usr/bin/env python3
+"""Refuses each request for memory of the program check_main in turn, and looks at what it answers.
+
+`python3 integrations/refused_memory.py [COMMAND ..]` tries all five commands, or those named, on files of examples/, with the check_main
+that TEKHVUMO_PROGRAM names or that is found; then the put of a text for which room was made, by the tests of `edit_book` that the gate built, if they are
+there. It wants a C compiler (`cc`), for the few lines that stand before the system's `malloc`.
+
+A run in which the Nth request was refused has to end in one of two ways. Either it tells of the want of memory by the status 6 alone, and has
+written nothing. Or, of `live` alone, it ends well: then the replies of some commands say `nomemory`, and what stands in the journal, carried
+out anew as a script of one session, ends in the same verdict.
+"""
+from __future__ import annotations
+
+import os
+import re
+import subprocess
+import sys
+import tempfile
+from pathlib import Path
+
+import tekhvumo
+
+EXAMPLES = Path(__file__).resolve().parent.parent / "examples"
+BOOK_TESTS = EXAMPLES.parent / "crates" / "edit_book" / "out" / "edit_book_tests"
+NO_MEMORY = 6
+
+# Stands before the system's malloc. The request with this number, from 1, is refused, and a byte on descriptor 9 says that there was one.
+REFUSER = r"""
+#define _GNU_SOURCE
+#include <dlfcn.h>
+#include <stdatomic.h>
+#include <stddef.h>
+#include <stdlib.h>
+#include <unistd.h>
+
+static void *(*given)(size_t);
+static atomic_long made;
+static long refused;
+
+__attribute__((constructor)) static void begin(void) {
+    given = dlsym(RTLD_NEXT, "malloc");
+    const char *text = getenv("REFUSED_REQUEST");
+    made = 0;
+    refused = text ? atol(text) : 0;
+}
+
+void *malloc(size_t size) {
+    if (!given)
+        given = dlsym(RTLD_NEXT, "malloc");
+    if (atomic_fetch_add(&made, 1) + 1 == refused) {
+        if (write(9, "x", 1)) {}
+        return NULL;
+    }
+    return given(size);
+}
+"""
+
+COMMANDS = {
+    "check": (["check", "--loops"], "tube.k"),
+    "blocks": (["check", "--block", "4", "--json", "--loops"], "tube.k"),
+    "text": (["text"], "rib.k"),
+    "passes": (["passes"], "tube.k"),
+    "make": (["make", "2", "0"], None),
+    "live": (["live"], "mended-transfer.live"),
+}
+
+
+def build_refuser(folder: str) -> str:
+    """The library that refuses a request, built in this folder."""
+    source, library = f"{folder}/refuser.c", f"{folder}/refuser.so"
+    Path(source).write_text(REFUSER)
+    subprocess.run(["cc", "-O1", "-shared", "-fPIC", "-o", library, source, "-ldl"], check=True)
+    return library
+
+
+def run(words: list[str], given: bytes, library: str, request: int) -> tuple[int, bytes, bool]:
+    """The status and the output of a run in which this request is refused, and whether there was such a request."""
+    behind, front = os.pipe()
+    os.dup2(front, 9)
+    os.set_inheritable(9, True)
+    ways = {**os.environ, "LD_PRELOAD": library, "REFUSED_REQUEST": str(request)}
+    ran = subprocess.run(words, input=given, capture_output=True, env=ways, pass_fds=[9])
+    os.close(front)
+    os.close(9)
+    was_refused = os.read(behind, 1) != b""
+    os.close(behind)
+    return ran.returncode, ran.stdout, was_refused
+
+
+def commands_of(script: str) -> tuple[list[str], list[tuple[str, list[str]]]]:
+    """The lines of a script of one session up to its first command, and its commands, each with its lines of text."""
+    lines = [line for line in script.splitlines() if line.strip() and not line.startswith("#")]
+    begin = lines.index("session") + 1
+    commands: list[tuple[str, list[str]]] = []
+    for line in lines[begin:]:
+        if line.startswith("|"):
+            commands[-1][1].append(line)
+        else:
+            commands.append((line, []))
+    return lines[:begin], commands
+
+
+def replies_of(report: str) -> dict[int, str]:
+    """The first line of the reply to each command of the one session, by its number."""
+    return {int(m[1]): m[2] for m in re.finditer(r"^(\d+) (.*)$", report.split("journal ")[0], re.M)}
+
+
+def accepted_alone(script: str, report: str) -> str:
+    """The script of the commands that the report says were accepted, each block named by its id."""
+    front, commands = commands_of(script)
+    replies = replies_of(report)
+    ids: dict[str, str] = {}
+    kept = list(front)
+    adds = 0
+    for number, (command, text) in enumerate(commands, 1):
+        word = command.split()[0]
+        adds += word == "add"
+        accepted = re.match(r"accepted version \d+ block (\d+)", replies[number])
+        if not accepted:
+            continue
+        if word == "add":
+            ids[f"@{adds}"] = accepted[1]
+        kept += [" ".join(ids.get(token, token) for token in command.split()), *text]
+    return "\n".join(kept) + "\n"
+
+
+def end_of(report: str) -> str:
+    """The version at the end, with the verdict on the document."""
+    return report[report.index("final version") :]
+
+
+def fault_of(name: str, whole: bytes, status: int, written: bytes, again) -> str | None:
+    """What is wrong with a run in which a request was refused, if anything is. `again` is what the program writes of a script."""
+    if status == NO_MEMORY:
+        return "it wrote something" if written else None
+    if status != 0 or name != "live":
+        return f"its status is {status}"
+    report = written.decode()
+    refused = [reply for reply in replies_of(report).values() if reply == "nomemory"]
+    if not refused and written != whole:
+        return "its replies are others"
+    if end_of(again(accepted_alone(EXAMPLES.joinpath("mended-transfer.live").read_text(), report))) != end_of(report):
+        return "its journal, carried out anew, ends otherwise"
+    return None
+
+
+def try_command(name: str, program: str, library: str) -> bool:
+    """Refuses each request of this command in turn, says what came of it, and answers whether all was well."""
+    words, file = COMMANDS[name]
+    given = EXAMPLES.joinpath(file).read_bytes() if file else b""
+    whole = subprocess.run([program, *words], input=given, capture_output=True).stdout
+    again = lambda script: subprocess.run([program, "live"], input=script.encode(), capture_output=True).stdout.decode()
+    request, well, silent = 0, True, 0
+    while True:
+        request += 1
+        status, written, was_refused = run([program, *words], given, library, request)
+        if not was_refused:
+            break
+        fault = fault_of(name, whole, status, written, again)
+        silent += status == NO_MEMORY
+        if fault:
+            well = False
+            print(f"{name}: request {request} refused: {fault}")
+    print(f"{name}: {request - 1} requests, each refused once: {silent} ends with the status {NO_MEMORY}, {request - 1 - silent} with 0")
+    return well
+
+
+def requests_of(test: str, library: str) -> int:
+    """How many requests a test of `edit_book` makes."""
+    request = 1
+    while run([str(BOOK_TESTS), f"tests::{test}"], b"", library, request)[2]:
+        request += 1
+    return request - 1
+
+
+def try_ready_put(library: str) -> bool:
+    """Whether a put of a text for which room was made asks for no memory: the test that puts it asks as often as the one that doesn't."""
+    without, with_put = requests_of("a_block_is_made_ready", library), requests_of("a_warm_block_is_ready", library)
+    print(f"a ready put: {without} requests up to it, {with_put} with it")
+    return 0 < without == with_put
+
+
+def main(names: list[str]) -> int:
+    program = tekhvumo.find_program(None)
+    with tempfile.TemporaryDirectory(prefix="refused-") as folder:
+        library = build_refuser(folder)
+        well = [try_command(name, program, library) for name in names or COMMANDS]
+        if BOOK_TESTS.is_file():
+            well.append(try_ready_put(library))
+        return 0 if all(well) else 1
+
+
+if __name__ == "__main__":
+    sys.exit(main(sys.argv[1:]))
