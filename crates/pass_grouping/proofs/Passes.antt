@@ -1,5 +1,5 @@
 -- A range is one pass exactly where each operation follows its neighbour, and so is each range within it.
-use Rattle.std.proofs.Common.{◌≡◌, inl, inr, ℕ, ◌+◌, ◌<◌, ◌≤◌, ℤ, List, length, get_or, sym, subst, ◌∙◌, arith}
+use Rattle.std.proofs.Common.{◌≡◌, inl, inr, ℕ, ◌+◌, ◌-◌, ◌<◌, ◌≤◌, ℤ, List, length, get_or, ap, sym, subst, ◌∙◌, arith}
 use Rattle.std.proofs.lemmas.Bool.{cases_lt}
 use Rattle.std.proofs.lemmas.Int.{ints}
 use Rattle.std.proofs.lemmas.List.{get_or_default}
@@ -62,6 +62,12 @@ goes-pair way ops from to i a b above below within first second goes =
     let here : Follows way (get_or ops i a) (get_or ops (i + 1) a) = goes.pairs i (i + 1) a above (omega arith) (omega arith) in
     let later : get_or ops (i + 1) a ≡ b = get_or_default ops (i + 1) a b (omega arith) ∙ sym second in
     subst (λ x. Follows way x b) (sym first) (subst (λ y. Follows way (get_or ops i a) y) later here)
+
+-- of the last two operations the second follows the first
+pub goes-last : (way : Dir) (ops : List PassOp) (from to : ℕ) (a b : PassOp) → from < to → to < length ops → a ≡ get_or ops (to - 1) a → b ≡ get_or ops to b → GoesOneWay way ops from to → Follows way a b
+goes-last way ops from to a b some within first second goes =
+    let back : to ≡ to - 1 + 1 = omega arith in
+    goes-pair way ops from to (to - 1) a b (omega arith) (omega arith) within first (second ∙ ap (λ n. get_or ops n b) back) goes
 
 pub neither-way : (ops : List PassOp) (from to : ℕ) → ¬ GoesOneWay Right ops from to → ¬ GoesOneWay Left ops from to → ¬ IsOnePass ops from to
 neither-way ops from to not_right not_left pass = elim pass [ inl right ↦ not_right right | inr left ↦ not_left left ]

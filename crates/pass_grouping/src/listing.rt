@@ -22,16 +22,17 @@ pub struct Listing {
 }
 
 impl Listing {
-    /// No operation, before the line with this number.
-    pub fn start(alloc: Global, first: u32) -> Listing
-        ensures { HasListed first [] result }
+    /// No operation, before the line with this number. Memory for so many operations is asked for at once.
+    pub fn start(alloc: Global, first: u32, room: u32) -> Result<Listing, NoMemory>
+        ensures { IfOk result (HasListed first []) }
     {
-        Listing {
-            ops: PassOps::new(alloc),
+        let ops = PassOps::with_capacity(alloc, room)?;
+        Ok(Listing {
+            ops,
             line: first,
             stretch: 0,
             rack: 0,
-        }
+        })
     }
 
     /// Takes the reading of the next line. A line that the reader found broken ends a stretch. The rack that it sets lies within the
@@ -80,7 +81,7 @@ pub fn operations(alloc: Global, reads: &Reads, first: u32) -> Result<PassOps, N
     requires racks { All IsRackWithin reads.now }
     ensures { IfOk result (λ ops. ops ≡ operations_after first [] reads.now) }
 {
-    let mut listing = Listing::start(alloc, first);
+    let mut listing = Listing::start(alloc, first, reads.len())?;
     for read in reads.as_slice() {
         listing.take(alloc, read)?;
     }

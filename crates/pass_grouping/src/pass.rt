@@ -48,11 +48,17 @@ fn run_end(way: Dir, ops: &[PassOp], from: usize) -> usize
     ops.len()
 }
 
-// Whether the range is one pass that goes this way. Each operation is compared with the one behind it.
+// Whether the range is one pass that goes this way. Each operation is compared with the one behind it, the last two first: a window
+// ends with two that can't be in one pass.
 fn goes_one_way(way: Dir, ops: &[PassOp], from: usize, to: usize) -> bool
     requires within { to < length ops.now }
     ensures { IsTrue result ↔ GoesOneWay way ops.now from to }
 {
+    if from < to {
+        if !follows(way, &ops[to - 1], &ops[to]) {
+            return false;
+        }
+    }
     for i in from..to {
         if !follows(way, &ops[i], &ops[i + 1]) {
             return false;

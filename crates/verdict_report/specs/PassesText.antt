@@ -39,9 +39,13 @@ carriers_text names Drop cs = []
 abbrev pub range_text : Text → ℕ → ℕ → Text
 range_text label first last = labelled label first ++ labelled (codes "-") last
 
+-- a class and a direction
+abbrev pub kind_words : Class → Dir → Text
+kind_words class way = codes " " ++ (class_word class ++ (codes " " ++ dir_word way))
+
 -- the class and the direction of a pass with these ends
 abbrev pub kind_text : PassOp → PassOp → Text
-kind_text first last = codes " " ++ (class_word first.class ++ (codes " " ++ dir_word (way_of first.dir first.place last.place)))
+kind_text first last = kind_words first.class (way_of first.dir first.place last.place)
 
 -- the line of a pass with these ends and so many operations
 abbrev pub ends_text : List Text → PassOp → PassOp → ℕ → Text

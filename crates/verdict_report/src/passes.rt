@@ -1,22 +1,26 @@
 //! The passes of a program.
 ghost use Rattle.std.specs.Prelude.{◌≡◌, ◌++◌, ◌∷◌, [], length, flat_map, codes, IfOk, OnOk, OnErr};
 ghost use Rattle.pass_grouping.specs.Groupings.{IsCertificate, IsGrouping, passes_from};
-ghost use Rattle.verdict_report.specs.PassesText.{carriers_text, class_word, counts_text, ends_text, kind_text, last_of, line_at, pass_text, passes_text, range_text, way_of, window_text};
+ghost use Rattle.verdict_report.specs.PassesText.{carriers_text, counts_text, ends_text, kind_text, kind_words, last_of, line_at, pass_text, passes_text, range_text, way_of, window_text};
 
 use crate::text::{append_labelled, append_names};
 use knit_base::{CarrierNo, Declared, Dir, NoMemory};
 use pass_grouping::{Class, Grouping, PassOp, PassOps, Window, pass_at};
 use std::alloc::Global;
 
-// The name of a class.
-fn class_word(class: Class) -> &'static str
-    ensures { result.now ≡ class_word class }
+// The class and the direction of a pass.
+fn kind_words(class: Class, way: Dir) -> &'static str
+    ensures { result.now ≡ kind_words class way }
 {
-    match class {
-        Class::Form => "form",
-        Class::Split => "split",
-        Class::Move => "move",
-        Class::Drop => "drop",
+    match (class, way) {
+        (Class::Form, Dir::Right) => " form +",
+        (Class::Form, Dir::Left) => " form -",
+        (Class::Split, Dir::Right) => " split +",
+        (Class::Split, Dir::Left) => " split -",
+        (Class::Move, Dir::Right) => " move +",
+        (Class::Move, Dir::Left) => " move -",
+        (Class::Drop, Dir::Right) => " drop +",
+        (Class::Drop, Dir::Left) => " drop -",
     }
 }
 
@@ -71,10 +75,7 @@ fn append_kind(first: &PassOp, last: &PassOp, out: &mut Vec<u8>) -> Result<(), N
     ensures { OnOk result (out.new.items ≡ out.old.items ++ kind_text first.now last.now) }
 {
     let way = way_of(first.dir, first.place, last.place);
-    out.extend_from_slice(b" ")?;
-    out.extend_from_slice(class_word(first.class).as_bytes())?;
-    out.extend_from_slice(b" ")?;
-    out.extend_from_slice(way.sign().as_bytes())?;
+    out.extend_from_slice(kind_words(first.class, way).as_bytes())?;
     Ok(())
 }
 
