@@ -2,10 +2,11 @@
 use Rattle.std.proofs.Common.{◌≡◌, ℕ, List, subst, sym}
 use Rattle.verdict_report.specs.declared.refusal.Refusal.{Refusal}
 use Rattle.verdict_report.specs.Refusals.{refusal_text}
-use Rattle.check_main.specs.declared.ending.Answer.{Answer}
-use Rattle.check_main.specs.declared.outcome.Status.{Status}
-use Rattle.check_main.specs.Answers.{IsCalled, Refuses}
-use Rattle.check_main.specs.Played.{Played, nothing_played, played_by}
+use Rattle.input_answers.specs.declared.ending.Answer.{Answer}
+use Rattle.input_answers.specs.declared.outcome.Status.{Status}
+use Rattle.input_answers.specs.Answers.{Refuses}
+use Rattle.check_main.specs.Calls.{IsCalled}
+use Rattle.input_answers.specs.Played.{Played, nothing_played, played_by}
 use Rattle.check_main.specs.Top.{Called, SourceUse}
 
 -- this text, this status and what was played are those that are due

@@ -10,13 +10,13 @@ use Rattle.command_words.specs.declared.command.Command.{Command}
 use Rattle.command_words.specs.declared.command.Command.TheVariants.{Live, Make}
 use Rattle.verdict_report.specs.declared.refusal.Refusal.TheVariants as refusal
 use Rattle.verdict_report.specs.Refusals.{refusal_text}
-use Rattle.check_main.specs.declared.outcome.Status.{Status}
-use Rattle.check_main.specs.declared.outcome.Status.TheVariants.{Usage, ReadFault, TooLarge, WriteFault, NoMemory}
-use Rattle.check_main.specs.Asked.{Ask, AreRefused, reads_file, reads_input}
-use Rattle.check_main.specs.Due.{Due}
-use Rattle.check_main.specs.DueLive.{DueLive}
-use Rattle.check_main.specs.DueMade.{DueMade}
-use Rattle.check_main.specs.Played.{Played, nothing_played}
+use Rattle.input_answers.specs.declared.outcome.Status.{Status}
+use Rattle.input_answers.specs.declared.outcome.Status.TheVariants.{Usage, ReadFault, TooLarge, WriteFault, NoMemory}
+use Rattle.input_answers.specs.Asked.{Ask, AreRefused, reads_file, reads_input}
+use Rattle.input_answers.specs.Due.{Due}
+use Rattle.input_answers.specs.DueLive.{DueLive}
+use Rattle.input_answers.specs.DueMade.{DueMade}
+use Rattle.input_answers.specs.Played.{Played, nothing_played}
 
 -- the source before and after a run: the bytes that it has left, where it tells them, and how many of its reads have failed
 pub record SourceUse : Type 0 where

@@ -1,7 +1,7 @@
 //! Checks by blocks.
 use crate::example_tests::{FORGOTTEN_RACK, PARKED_LOOP, RIB, SWATCH, TUBE, YARN_LEFT_OUT};
-use crate::outcome::Status;
 use crate::tests::{CROWDED, HEADED, SCARF, SCARF_LOOPS, SCARF_TEXT, is, said, said_of};
+use input_answers::Status;
 use std::alloc::Global;
 use std::sync::Wait;
 use std::test::Fail;

@@ -1,6 +1,6 @@
 //! The program on the files of `examples/`, as they stand there.
-use crate::outcome::Status;
 use crate::tests::{is, said};
+use input_answers::Status;
 use std::test::Fail;
 
 pub(crate) const SWATCH: &[u8] = b";!knitout-2

@@ -1,7 +1,7 @@
 //! Scripts, with all that the program writes of them. The replies are worked out by hand.
-use crate::outcome::{Outcome, Status};
 use crate::tests::{is, said, texts};
 use crate::top::top;
+use input_answers::{Outcome, Status};
 use knit_ports::{CalmSource, CountGate, Gate, IdleGate, MemorySink};
 use std::alloc::Global;
 use std::sync::Wait;

@@ -1,6 +1,6 @@
 //! `make`, with numbers that follow from its formulas.
-use crate::outcome::Status;
 use crate::tests::{is, said};
+use input_answers::Status;
 use std::test::Fail;
 
 const TWO_ROWS: &str =

@@ -2,50 +2,32 @@
 //! sink takes and an exit status.
 //!
 //! Promises, for every source and every sink, that `top` ends with the status that is due for the words and the input, that
-//! the sink then took exactly the report that is due, and that every other end has its cause (`specs/Top`). What is due for
-//! an input is in `specs/Due`, for a script in `specs/DueLive`, what the words ask for in `specs/Asked`. Below it stand all crates of the project.
+//! the sink then took exactly the report that is due, and that every other end has its cause (`specs/Top`). What is due is told by
+//! `input_answers`. Below it stand all crates of the project.
 #![tactic(auto)]
 
-mod answer;
-mod block_loops;
-mod body;
-mod by_blocks;
 #[cfg(test)]
 mod by_blocks_tests;
-mod ending;
 #[cfg(test)]
 mod example_tests;
-mod fold;
-mod front;
-mod judge;
-mod live;
 #[cfg(test)]
 mod live_tests;
-mod made;
 #[cfg(test)]
 mod made_tests;
-mod one_pass;
 #[cfg(test)]
 mod one_pass_tests;
-mod opening;
-mod operation_list;
-mod outcome;
-mod passes;
 #[cfg(test)]
 mod passes_tests;
-mod plan;
 #[cfg(test)]
 mod rule_tests;
 #[cfg(test)]
 mod tests;
-mod text_pass;
 #[cfg(test)]
 mod text_pass_tests;
 mod top;
-mod usual;
 
+use input_answers::Status;
 use knit_ports::{IdleGate, ReaderSource, WriterSink};
-use outcome::Status;
 use std::process::ExitCode;
 use std::rt::Env;
 use std::{env, io};

@@ -1,11 +1,8 @@
 //! The one pass over the bytes and the general way, on files that are nearly usual. Both must say what is expected.
-use crate::answer::answer_by_lines;
-use crate::ending::Ending;
-use crate::judge::Style;
-use crate::one_pass::check_in_one_pass;
-use crate::outcome::Status;
-use crate::plan::{plan_of, reads_file};
 use crate::tests::{is, said, texts};
+use input_answers::{
+    Ending, Status, Style, answer_by_lines, check_in_one_pass, plan_of, reads_file,
+};
 use knit_ports::INPUT_LIMIT;
 use std::alloc::Global;
 use std::test::Fail;

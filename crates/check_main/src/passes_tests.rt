@@ -1,6 +1,6 @@
 //! `passes` on whole files.
-use crate::outcome::Status;
 use crate::tests::{Written, is, said, said_of};
+use input_answers::Status;
 use std::alloc::Global;
 use std::sync::Wait;
 use std::test::Fail;

@@ -1,6 +1,6 @@
 //! Each rule and each instruction, on the whole program. The expected verdicts are those of the table of the rules.
-use crate::outcome::Status;
 use crate::tests::{is, said_of};
+use input_answers::Status;
 use std::alloc::Global;
 use std::sync::Wait;
 use std::test::Fail;

@@ -1,6 +1,6 @@
 //! The program on whole inputs, with the bytes that it writes and its status.
-use crate::outcome::Status;
 use crate::top::top;
+use input_answers::Status;
 use knit_ports::{CalmSource, IdleGate, MemorySink, MemorySource};
 use std::alloc::Global;
 use std::sync::Wait;

@@ -1,9 +1,6 @@
 //! The one pass over the bytes and the general way, on files of which most lines are copied. Both must write what is expected.
-use crate::answer::answer_by_lines;
-use crate::outcome::Status;
-use crate::plan::{plan_of, reads_file};
 use crate::tests::texts;
-use crate::text_pass::text_in_one_pass;
+use input_answers::{Status, answer_by_lines, plan_of, reads_file, text_in_one_pass};
 use knit_ports::INPUT_LIMIT;
 use std::alloc::Global;
 use std::test::Fail;

@@ -1,18 +1,15 @@
 //! The whole program, over any source and sink.
 ghost use Rattle.std.specs.Prelude.{◌≡◌, ◌≤◌, List, ℕ, length, true, map, string_bytes, IfOk};
 ghost use Rattle.std.specs.Io.KnownBytes.{Consumes, IsAtEnd};
-ghost use Rattle.check_main.specs.Answers.{IsCalled};
-ghost use Rattle.check_main.specs.Asked.{Ask, reads_input};
-ghost use Rattle.check_main.specs.Played.{played_by};
+ghost use Rattle.check_main.specs.Calls.{IsCalled};
+ghost use Rattle.input_answers.specs.Asked.{Ask, reads_input};
+ghost use Rattle.input_answers.specs.Played.{played_by};
 ghost use Rattle.check_main.specs.Top.{Ran, SourceUse, sink_use, source_use};
 
-use crate::answer::answer;
-use crate::ending::{Answer, Ending};
-use crate::live::answer_live;
-use crate::made::answer_made;
-use crate::outcome::{Outcome, Status};
-use crate::plan::{Plan, PlanFault, plan_of};
 use command_words::Command;
+use input_answers::{
+    Answer, Outcome, Plan, PlanFault, Status, answer, answer_live, answer_made, plan_of,
+};
 use knit_base::NoMemory;
 use knit_ports::{Gate, INPUT_LIMIT, InputFault, Sink, Source, read_input, write_report};
 use std::alloc::Global;

@@ -1,8 +1,8 @@
 use Rattle.std.proofs.Common.{◌≡◌, rules, subst, true}
 use Rattle.std.proofs.lemmas.Result.{IfOk-weaker}
 use Rattle.command_words.specs.declared.command.Command.{Command}
-use Rattle.check_main.specs.Asked.{Ask, reads_file}
-use Rattle.check_main.specs.Played.{nothing_played, played_by}
+use Rattle.input_answers.specs.Asked.{Ask, reads_file}
+use Rattle.input_answers.specs.Played.{nothing_played, played_by}
 use Rattle.check_main.specs.Top.{live, whole}
 use Rattle.check_main.proofs.Calls.{called-as}
 use Rattle.check_main.proofs.top.answer_input.Goals as goal

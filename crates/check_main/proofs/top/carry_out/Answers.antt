@@ -1,7 +1,7 @@
 use Rattle.std.proofs.Common.{refl, subst}
 use Rattle.command_words.specs.declared.command.Command.{Command}
-use Rattle.check_main.specs.Asked.{Ask}
-use Rattle.check_main.specs.Played.{nothing_played}
+use Rattle.input_answers.specs.Asked.{Ask}
+use Rattle.input_answers.specs.Played.{nothing_played}
 use Rattle.check_main.specs.Top.{made}
 use Rattle.check_main.proofs.Calls.{called-as}
 use Rattle.check_main.proofs.top.carry_out.Goals as goal

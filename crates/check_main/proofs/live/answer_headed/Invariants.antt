@@ -1,4 +1,0 @@
-use Rattle.check_main.proofs.live.answer_headed.Given as goal
-
-abbrev pub ghosts-carry_out : goal.ghosts-carry_out
-ghosts-carry_out g a = record { name = a.blank.name; parts = a.blank.parts }

@@ -1,0 +1,16 @@
+pub mod BlockCounts
+pub mod BlockFolds
+pub mod BlockLoops
+pub mod BodyListings
+pub mod BodyRuns
+pub mod Dues
+pub mod Fronts
+pub mod LineRanges
+pub mod LiveDues
+pub mod MadeDues
+pub mod MadeTexts
+pub mod Openings
+pub mod PassesReports
+pub mod ScriptTexts
+pub mod StoppedRuns
+pub mod TextRuns

@@ -1,0 +1,21 @@
+use Rattle.std.proofs.Common.{◌+◌, ◌<◌, ◌≤◌, length, Some, ap, sym, ◌∙◌, [], arith}
+use Rattle.std.proofs.lemmas.Option.{slice_get-get_or}
+use Rattle.input_answers.proofs.BodyRuns.{HasBodyRun, body_run-all, body_run-more, head_len-le}
+use Rattle.input_answers.proofs.judge.run_body.Goals as goal
+
+pub overflow_add-head : goal.overflow_add-head
+overflow_add-head c = omega (arith, head_len-le c.args.body.now.lines, c.args.body.now.headed.len, c.len-count.ensures.len, c.len-count.ensures.few)
+
+pub loop-i-preserved : goal.loop-i-preserved
+loop-i-preserved c =
+    let within : c.loop-i.i < length c.args.body.now.lines = omega (arith, c.loop-i-test.true, c.len-count.ensures.len) in
+    body_run-more c.args.plan.now.chosen.profile c.args.with_loops c.args.body.now.head.declared c.args.body.now.lines c.args.body.now.head.lines c.loop-i.i c.loop-i.carriage
+    c.execute_line.new.carriage c.nth_line-line.result.now c.loop-i.invariant within
+    (slice_get-get_or c.args.body.now.lines c.loop-i.i [] within ∙ ap Some (sym c.nth_line-line.ensures.text)) c.in_ok-execute_line.ensures
+
+pub returns : goal.returns
+returns c =
+    let past : length c.args.body.now.lines ≤ c.loop-i.i = omega (arith, c.loop-i-test.false, c.len-count.ensures.len) in
+    let here : HasBodyRun c.args.plan.now.chosen.profile c.args.with_loops c.args.body.now.head.declared c.args.body.now.lines c.args.body.now.head.lines c.loop-i.i c.loop-i.carriage = c.loop-i.invariant in
+    body_run-all c.args.plan.now.chosen.profile c.args.with_loops c.args.body.now.lines c.args.body.now.head c.loop-i.i c.loop-i.carriage _ c.args.body.now.headed past here
+    (c.in_ok-verdict.ensures c.args.plan.now.chosen.profile c.args.with_loops (c.args.body.now.head.lines + 1) here.readings here.run)

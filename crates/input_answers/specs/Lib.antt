@@ -1,0 +1,13 @@
+pub mod Answers
+pub mod Asked
+pub mod BodyRun
+pub mod CheckReport
+pub mod Codes
+pub mod Due
+pub mod DueLive
+pub mod DueMade
+pub mod Folds
+pub mod ListingRun
+pub mod Openings
+pub mod PassesReport
+pub mod Played

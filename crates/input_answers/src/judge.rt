@@ -1,0 +1,153 @@
+//! The verdict on a file, and its report.
+ghost use Rattle.std.specs.Prelude.{◌≡◌, ◌<◌, ◌+◌, ◌^◌, length, IfOk, OnOk};
+ghost use Rattle.carriage_model.specs.Carriage.{IsRunning, next_line, profile_of};
+ghost use Rattle.input_answers.specs.BodyRun.{ExecutesLine, IsJudgement};
+ghost use Rattle.input_answers.specs.CheckReport.{IsCheckReport, broken_line, numbered_line, report_of, status_of};
+
+use crate::body::Body;
+use crate::by_blocks::judge_by_blocks;
+use crate::ending::Ending;
+use crate::outcome::Status;
+use crate::plan::Plan;
+use carriage_model::{Carriage, Facts, Verdict};
+use knit_base::{Declared, Lines, NoMemory, Profile};
+use knitout_reader::{nth_line, read_line};
+use std::alloc::Global;
+use std::thread::Threads;
+use verdict_report::{json_of, text_of};
+
+/// Which report of a verdict is asked for: with the loops made, and as JSON.
+#[derive(Clone, Copy, Debug, PartialEq, Eq)]
+pub struct Style {
+    pub loops: bool,
+    pub json: bool,
+}
+
+/// What is made of a file: the verdict, and the loops made, where these are asked for.
+#[derive(Drop)]
+pub struct Judgement {
+    pub verdict: Verdict,
+    pub loops: Option<Facts>,
+}
+
+/// The report of the verdict on a file.
+pub fn judge<R: Threads>(
+    rt: &R,
+    alloc: Global,
+    style: Style,
+    plan: &Plan,
+    body: &Body,
+) -> Result<Ending, NoMemory>
+    ensures { IfOk result (λ ending. IsCheckReport plan.now.chosen.profile style.loops style.json body.now.head.declared body.now.lines
+        ending.text.items ending.status) }
+{
+    let judgement = judge_body(rt, alloc, style.loops, plan, body)?;
+    let broken = line_of(&body.lines, &judgement.verdict);
+    report(alloc, style.json, &judgement, &body.head.declared, broken)
+}
+
+/// What the lines behind the head make: by blocks, where the words say how many lines these have, and else by one carriage.
+pub(crate) fn judge_body<R: Threads>(
+    rt: &R,
+    alloc: Global,
+    with_loops: bool,
+    plan: &Plan,
+    body: &Body,
+) -> Result<Judgement, NoMemory>
+    ensures { IfOk result (λ judgement. IsJudgement with_loops plan.now.chosen.profile body.now.head.declared body.now.lines judgement) }
+{
+    if plan.by_blocks {
+        return judge_by_blocks(rt, alloc, with_loops, plan, body);
+    }
+    run_body(alloc, with_loops, plan, body)
+}
+
+// What one carriage makes of the lines behind the head.
+fn run_body(
+    alloc: Global,
+    with_loops: bool,
+    plan: &Plan,
+    body: &Body,
+) -> Result<Judgement, NoMemory>
+    ensures { IfOk result (λ judgement. IsJudgement with_loops plan.now.chosen.profile body.now.head.declared body.now.lines judgement) }
+{
+    let profile = &plan.chosen.profile;
+    let head = &body.head;
+    let count = body.lines.len();
+    let mut carriage = Carriage::start(alloc, profile, head.lines + 1, with_loops)?;
+    for i in head.lines..count {
+        let line = nth_line(&body.lines, i);
+        execute_line(alloc, line, profile, &head.declared, &mut carriage)?;
+    }
+    let (verdict, loops) = carriage.finish()?;
+    Ok(Judgement { verdict, loops })
+}
+
+/// Reads a line, and executes it.
+pub(crate) fn execute_line(
+    alloc: Global,
+    line: &str,
+    profile: &Profile,
+    names: &Declared,
+    carriage: &mut Carriage,
+) -> Result<(), NoMemory>
+    requires short { length line.now < 2 ^ 16 }
+    requires running { IsRunning carriage.old }
+    requires profile { profile_of carriage.old ≡ profile.now }
+    requires lines { next_line carriage.old + 1 < 2 ^ 32 }
+    ensures { OnOk result (ExecutesLine profile.now names.now line.now carriage.old carriage.new) }
+{
+    let read = read_line(alloc, line, profile, names)?;
+    carriage.execute(&read)
+}
+
+/// The line at which the verdict is broken, or no text.
+pub(crate) fn line_of<'a>(lines: &'a Lines, verdict: &Verdict) -> &'a str
+    ensures { result.now ≡ broken_line lines.now verdict.now }
+{
+    match verdict {
+        Verdict::Sound(_) => "",
+        Verdict::Broken(fault) => numbered_line(lines, fault.line),
+    }
+}
+
+// The line with this number, from 1, or no text where there is none.
+fn numbered_line(lines: &Lines, number: u32) -> &str
+    ensures { result.now ≡ numbered_line lines.now number }
+{
+    match lines.get(number.saturating_sub(1)) {
+        Some(line) => line,
+        None => "",
+    }
+}
+
+/// The report, as text or as JSON, and the status that says whether the program is sound.
+pub(crate) fn report(
+    alloc: Global,
+    json: bool,
+    judgement: &Judgement,
+    names: &Declared,
+    broken: &str,
+) -> Result<Ending, NoMemory>
+    ensures text { IfOk result (λ ending. ending.text.items ≡ report_of json names.now broken.now judgement.now.verdict judgement.now.loops) }
+    ensures status { IfOk result (λ ending. ending.status ≡ status_of judgement.now.verdict) }
+{
+    let Judgement { verdict, loops } = judgement;
+    let status = status_of(verdict);
+    let text = if json {
+        json_of(alloc, verdict, loops.as_ref(), names, broken)?
+    } else {
+        text_of(alloc, verdict, loops.as_ref(), names, broken)?
+    };
+    Ok(Ending { status, text })
+}
+
+// Whether the program is sound.
+fn status_of(verdict: &Verdict) -> Status
+    ensures { result ≡ status_of verdict.now }
+{
+    match verdict {
+        Verdict::Sound(_) => Status::Done,
+        Verdict::Broken(_) => Status::Broken,
+    }
+}

@@ -1,0 +1,36 @@
+//! What the program answers: to a file, to a script, and where a program is to be made.
+//!
+//! Promises that the text and the status of an answer are those that are due: for a file whose verdict, canonical text or passes are
+//! asked for (`specs/Due`), for a made program (`specs/DueMade`), and for a script, whose sessions edit one document, each in a thread of
+//! its own (`specs/DueLive`). What the words ask for is in `specs/Asked`. Nothing is read or written here; below it stand all crates of the
+//! project but `check_main`.
+#![tactic(auto)]
+
+mod answers;
+mod block_loops;
+mod body;
+mod by_blocks;
+mod ending;
+mod fold;
+mod front;
+mod judge;
+mod live;
+mod made;
+mod one_pass;
+mod opening;
+mod operation_list;
+mod outcome;
+mod passes;
+mod plan;
+mod text_pass;
+mod usual;
+
+pub use answers::{answer, answer_by_lines};
+pub use ending::{Answer, Ending};
+pub use judge::Style;
+pub use live::answer_live;
+pub use made::answer_made;
+pub use one_pass::check_in_one_pass;
+pub use outcome::{Outcome, Status};
+pub use plan::{Plan, PlanFault, plan_of, reads_file};
+pub use text_pass::text_in_one_pass;
