@@ -5,9 +5,9 @@
 that TEKHVUMO_PROGRAM names or that is found; then the put of a text for which room was made, by the tests of `edit_book` that the gate built, if they are
 there. It wants a C compiler (`cc`), for the few lines that stand before the system's `malloc`.
 
-A run in which the Nth request was refused has to end in one of two ways. Either it tells of the want of memory by the status 6 alone, and has
-written nothing. Or, of `live` alone, it ends well: then the replies of some commands say `nomemory`, and what stands in the journal, carried
-out anew as a script of one session, ends in the same verdict.
+A run in which the Nth request was refused has to end in one of three ways. It tells of the want of memory by the status 6 alone, and has written
+nothing. Or it does without, and ends and writes as if nothing had been refused. Or, of `live` alone, the replies of some commands say
+`nomemory`, and what stands in the journal, carried out anew as a script of one session, ends in the same verdict.
 """
 from __future__ import annotations
 
@@ -133,12 +133,13 @@ def fault_of(name: str, whole: bytes, status: int, written: bytes, again) -> str
     """What is wrong with a run in which a request was refused, if anything is. `again` is what the program writes of a script."""
     if status == NO_MEMORY:
         return "it wrote something" if written else None
-    if status != 0 or name != "live":
+    if status != 0:
         return f"its status is {status}"
+    if written == whole:
+        return None
     report = written.decode()
-    refused = [reply for reply in replies_of(report).values() if reply == "nomemory"]
-    if not refused and written != whole:
-        return "its replies are others"
+    if name != "live" or "nomemory" not in replies_of(report).values():
+        return "it wrote something else"
     if end_of(again(accepted_alone(EXAMPLES.joinpath("mended-transfer.live").read_text(), report))) != end_of(report):
         return "its journal, carried out anew, ends otherwise"
     return None
@@ -150,7 +151,7 @@ def try_command(name: str, program: str, library: str) -> bool:
     given = EXAMPLES.joinpath(file).read_bytes() if file else b""
     whole = subprocess.run([program, *words], input=given, capture_output=True).stdout
     again = lambda script: subprocess.run([program, "live"], input=script.encode(), capture_output=True).stdout.decode()
-    request, well, silent = 0, True, 0
+    request, well, silent, without = 0, True, 0, 0
     while True:
         request += 1
         status, written, was_refused = run([program, *words], given, library, request)
@@ -158,10 +159,12 @@ def try_command(name: str, program: str, library: str) -> bool:
             break
         fault = fault_of(name, whole, status, written, again)
         silent += status == NO_MEMORY
+        without += written == whole
         if fault:
             well = False
             print(f"{name}: request {request} refused: {fault}")
-    print(f"{name}: {request - 1} requests, each refused once: {silent} ends with the status {NO_MEMORY}, {request - 1 - silent} with 0")
+    told = request - 1 - silent - without
+    print(f"{name}: {request - 1} requests: {silent} end with the status {NO_MEMORY}, {without} as if nothing were refused, {told} with `nomemory` replies")
     return well
 
 
