@@ -10,9 +10,12 @@ use std::marker::Model;
 /// A piece of a buffer: the bytes from `start` to `end`, which isn't counted.
 #[derive(Clone, Copy, Debug, PartialEq, Eq)]
 pub struct Span {
-    pub start: usize,
-    pub end: usize,
+    pub start: u32,
+    pub end: u32,
 }
+
+// A buffer of lines has at most so many bytes, so that 32 bits count them.
+const MOST_BYTES: usize = 4_294_967_295;
 
 /// A list of texts without a line feed, of at most 65,535 bytes each, whose bytes lie in one buffer. There are at most
 /// 16,777,217 of them.
@@ -64,7 +67,7 @@ impl Lines {
             _ => 0,
         };
         Ok(Lines {
-            bytes: Vec::with_capacity(alloc, bytes)?,
+            bytes: Vec::with_capacity(alloc, bytes as usize)?,
             spans: Vec::with_capacity(alloc, (end - start) as usize)?,
         })
     }
@@ -92,12 +95,12 @@ impl Lines {
         ensures line { IfSome result (λ line. IsLine line.now) }
     {
         let span = self.spans.get(i as usize)?;
-        let line = &self.bytes[span.start..span.end];
+        let line = &self.bytes[span.start as usize..span.end as usize];
         // SAFETY: each line is UTF-8, which the check proves here.
         Some(unsafe { str::from_utf8_unchecked(line) })
     }
 
-    /// Appends a copy of the line.
+    /// Appends a copy of the line. A buffer of 4 GiB takes no more: that is answered as want of memory.
     pub fn push(&mut self, s: &str) -> Result<(), NoMemory>
         requires one { HasNoLineEnd s.now }
         requires short { length s.now < 2 ^ 16 }
@@ -106,10 +109,16 @@ impl Lines {
         ensures err { OnErr result (self.new ≡ self.old) }
     {
         let start = self.bytes.len();
+        if start.saturating_add(s.len()) > MOST_BYTES {
+            return Err(NoMemory);
+        }
         self.spans.reserve(1)?;
         self.bytes.extend_from_slice(s.as_bytes())?;
         let end = self.bytes.len();
-        self.spans.push(Span { start, end })?;
+        self.spans.push(Span {
+            start: start as u32,
+            end: end as u32,
+        })?;
         Ok(())
     }
 

@@ -22,7 +22,7 @@ pub struct Found {
 /// The line that begins at `start`, which is the one with this number.
 pub fn next_line(text: &[u8], start: usize, number: u32) -> Result<Found, CutFault>
     requires some { start < length text.now }
-    requires size { length text.now < 2 ^ 60 }
+    requires size { length text.now ≤ 16777216 }
     ensures ok { IfOk result (IsNextLine text.now start) }
     ensures err { IfErr result (IsNextRefused text.now start number) }
 {
@@ -32,8 +32,8 @@ pub fn next_line(text: &[u8], start: usize, number: u32) -> Result<Found, CutFau
     check_line(line, number)?;
     Ok(Found {
         line: Span {
-            start,
-            end: start + line.len(),
+            start: start as u32,
+            end: (start + line.len()) as u32,
         },
         next: start + piece.len() + 1,
     })

@@ -19,7 +19,7 @@ pub fn line_at<'a>(text: &'a [u8], start: usize) -> Option<(&'a str, usize)>
     let Ok(found) = next_line(text, start, UNNUMBERED) else {
         return None;
     };
-    let line = &text[found.line.start..found.line.end];
+    let line = &text[found.line.start as usize..found.line.end as usize];
     // SAFETY: the line is UTF-8, which the check proves here.
     Some((unsafe { str::from_utf8_unchecked(line) }, found.next))
 }
