@@ -3,7 +3,8 @@
 
 `python3 integrations/refused_memory.py [COMMAND ..]` tries all five commands, or those named, on files of examples/, with the check_main
 that TEKHVUMO_PROGRAM names or that is found; then the put of a text for which room was made, by the tests of `edit_book` that the gate built, if they are
-there. It wants a C compiler (`cc`), for the few lines that stand before the system's `malloc`.
+there. It wants a C compiler (`cc`), for the few lines that stand before the system's `malloc`
+and `realloc`.
 
 A run in which the Nth request was refused has to end in one of three ways. It tells of the want of memory by the status 6 alone, and has written
 nothing. Or it does without, and ends and writes as if nothing had been refused. Or, of `live` alone, the replies of some commands say
@@ -24,7 +25,7 @@ EXAMPLES = Path(__file__).resolve().parent.parent / "examples"
 BOOK_TESTS = EXAMPLES.parent / "crates" / "edit_book" / "out" / "edit_book_tests"
 NO_MEMORY = 6
 
-# Stands before the system's malloc. The request with this number, from 1, is refused, and a byte on descriptor 9 says that there was one.
+# Stands before the system's malloc and realloc. The request with this number, from 1, is refused, and a byte on descriptor 9 says that there was one.
 REFUSER = r"""
 #define _GNU_SOURCE
 #include <dlfcn.h>
@@ -33,25 +34,29 @@ REFUSER = r"""
 #include <stdlib.h>
 #include <unistd.h>
 
-static void *(*given)(size_t);
 static atomic_long made;
-static long refused;
 
-__attribute__((constructor)) static void begin(void) {
-    given = dlsym(RTLD_NEXT, "malloc");
+static int is_refused(void) {
     const char *text = getenv("REFUSED_REQUEST");
-    made = 0;
-    refused = text ? atol(text) : 0;
+    long refused = text ? atol(text) : 0;
+    if (atomic_fetch_add(&made, 1) + 1 != refused)
+        return 0;
+    if (write(9, "x", 1)) {}
+    return 1;
 }
 
 void *malloc(size_t size) {
+    static void *(*given)(size_t);
     if (!given)
         given = dlsym(RTLD_NEXT, "malloc");
-    if (atomic_fetch_add(&made, 1) + 1 == refused) {
-        if (write(9, "x", 1)) {}
-        return NULL;
-    }
-    return given(size);
+    return is_refused() ? NULL : given(size);
+}
+
+void *realloc(void *block, size_t size) {
+    static void *(*given)(void *, size_t);
+    if (!given)
+        given = dlsym(RTLD_NEXT, "realloc");
+    return is_refused() ? NULL : given(block, size);
 }
 """
 

@@ -2,8 +2,8 @@
 //!
 //! Promises that the text and the status of an answer are those that are due: for a file whose verdict, canonical text or passes are
 //! asked for (`specs/Due`), for a made program (`specs/DueMade`), and for a script, whose sessions edit one document, each in a thread of
-//! its own (`specs/DueLive`). What the words ask for is in `specs/Asked`. Nothing is read or written here; below it stand all crates of the
-//! project but `check_main`.
+//! its own (`specs/DueLive`). What the words ask for is in `specs/Asked`. No source and no sink is touched here; below it stand all crates of
+//! the project but `check_main`.
 #![tactic(auto)]
 
 mod answers;
