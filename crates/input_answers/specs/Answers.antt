@@ -1,4 +1,4 @@
--- What an answer says. No public contract speaks of it.
+-- What an answer says.
 use Rattle.std.specs.Prelude.{◌≡◌, ℕ, List}
 use Rattle.machine_profile.specs.declared.Chosen.{Chosen}
 use Rattle.verdict_report.specs.declared.refusal.Refusal.{Refusal}
