@@ -12,14 +12,14 @@ use Rattle.std.proofs.lemmas.Str.{is_utf8-from_IsUtf8}
 use Rattle.knit_base.specs.Lines.{AreLines, HasNoLineEnd, IsLine, IsWithin, piece}
 
 -- a piece that lies in the buffer stays as it is when the buffer grows
-piece-append : (bytes more : List ℕ) (span : Span) → IsWithin bytes span → piece (bytes ++ more) span ≡ piece bytes span
+pub piece-append : (bytes more : List ℕ) (span : Span) → IsWithin bytes span → piece (bytes ++ more) span ≡ piece bytes span
 piece-append bytes more span within =
     let start : span.start ≤ length bytes = omega (arith, within.ordered, within.inside) in
     let fits : span.end - span.start ≤ length (drop span.start bytes) = omega (arith, length-drop span.start bytes, within.ordered, within.inside) in
     ap (take (span.end - span.start)) (drop-append-le span.start bytes more start)
     ∙ take-append-le (span.end - span.start) (drop span.start bytes) more fits
 
-pieces-append : (bytes more : List ℕ) (spans : List Span) → All (IsWithin bytes) spans → map (piece (bytes ++ more)) spans ≡ map (piece bytes) spans
+pub pieces-append : (bytes more : List ℕ) (spans : List Span) → All (IsWithin bytes) spans → map (piece (bytes ++ more)) spans ≡ map (piece bytes) spans
 pieces-append bytes more [] within = refl
 pieces-append bytes more (span ∷ spans) within =
     ap (λ p. p ∷ map (piece (bytes ++ more)) spans) (piece-append bytes more span (All-head (IsWithin bytes) span spans within))

@@ -1,4 +1,5 @@
 pub mod Buffers
+pub mod Copied
 pub mod FirstLine
 pub mod Masks
 pub mod Naming

@@ -1,5 +1,5 @@
 -- The lines of a text.
-use Rattle.std.specs.Prelude.{◌≡◌, ◌≢◌, ◌==◌, ℕ, ◌-◌, ◌<◌, ◌≤◌, ◌^◌, Bool, true, List, [], ◌∷◌, length, take, drop, map, All, if◌then◌else◌}
+use Rattle.std.specs.Prelude.{◌≡◌, ◌≢◌, ◌==◌, ℕ, ◌+◌, ◌-◌, ◌<◌, ◌≤◌, ◌^◌, Bool, true, List, [], ◌∷◌, ◌++◌, length, take, drop, map, All, if◌then◌else◌}
 use Rattle.std.specs.List.{slice_split}
 use Rattle.std.specs.Str.{is_utf8}
 use Rattle.knit_base.specs.declared.lines.Span.{Span}
@@ -47,3 +47,26 @@ without_return (byte ∷ bytes) = byte ∷ without_return bytes
 -- return at the end of each.
 abbrev pub lines_of : List ℕ → List (List ℕ)
 lines_of bytes = map without_return (without_empty_end (slice_split is_line_feed bytes))
+
+-- the line has a first byte, and what stands behind it is a line
+pub record MayLoseFirst (line : List ℕ) : Type 0 where
+  pub some : 0 < length line
+  pub rest : IsLine (drop 1 line)
+
+-- the span without so many bytes in front
+abbrev pub behind_first : ℕ → Span → Span
+behind_first count span = record { start = span.start + count; end = span.end }
+
+-- the span has at least so many bytes
+abbrev pub HasBytes : ℕ → Span → Type 0
+HasBytes count span = span.start + count ≤ span.end
+
+-- the bytes begin with these
+pub record BeginWith (front bytes : List ℕ) : Type 0 where
+  pub rest : List ℕ
+  pub whole : bytes ≡ front ++ rest
+
+-- the places hold, one by one, what the spans do without so many bytes in front
+pub record AreCopied (bytes : List ℕ) (count : ℕ) (spans : List Span) (copy : List ℕ) (places : List Span) : Type 0 where
+  pub within : All (IsWithin copy) places
+  pub same : map (piece copy) places ≡ map (λ span. piece bytes (behind_first count span)) spans

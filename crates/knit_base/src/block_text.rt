@@ -22,22 +22,20 @@ impl Model for BlockText {
 }
 
 impl BlockText {
-    /// A copy of the lines from `start` to `end`, which isn't counted.
-    #[tactic(auto, using(crate::proofs::Ranges::range_more))]
+    /// A copy of the lines from `start` to `end`, which isn't counted. Bytes that stand between them in their buffer are copied, too.
     pub fn of(alloc: Global, lines: &Lines, start: u32, end: u32) -> Result<Self, NoMemory>
         requires ordered { start ≤ end }
         requires inside { end ≤ length lines.now }
         ensures { IfOk result (λ text. text ≡ slice_range lines.now start end) }
     {
-        let mut copy = Lines::with_room_for(alloc, lines, start, end)?;
-        let _len = lines.len();
-        for i in start..end {
-            let Some(line) = lines.get(i) else {
-                unreachable!();
-            };
-            copy.push(line)?;
+        if start == 0 && end == lines.len() {
+            return Ok(BlockText {
+                lines: lines.try_clone()?,
+            });
         }
-        Ok(BlockText { lines: copy })
+        Ok(BlockText {
+            lines: Lines::range(alloc, lines, start, end)?,
+        })
     }
 
     pub fn len(&self) -> u32

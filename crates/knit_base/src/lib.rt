@@ -10,6 +10,7 @@
 #![tactic(auto)]
 
 mod block_text;
+mod copies;
 mod declared;
 mod instr;
 mod lines;

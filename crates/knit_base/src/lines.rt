@@ -1,9 +1,10 @@
 //! Lines of text, kept in one buffer.
-ghost use Rattle.std.specs.Prelude.{◌≡◌, ◌<◌, ◌≤◌, ◌^◌, [], ◌∷◌, ◌++◌, All, length, map, OnOk, OnErr, IfOk, IfSome, slice_get};
+ghost use Rattle.std.specs.Prelude.{◌≡◌, ◌<◌, ◌≤◌, ◌^◌, [], ◌∷◌, ◌++◌, All, length, drop, map, OnOk, OnErr, IfOk, IfSome, slice_get, slice_range};
 ghost use Rattle.std.specs.Option.{option_copied};
-ghost use Rattle.knit_base.specs.Lines.{HasNoLineEnd, IsLine, IsWithin, piece};
+ghost use Rattle.knit_base.specs.Lines.{HasNoLineEnd, IsLine, IsWithin, MayLoseFirst, piece};
 
 use crate::NoMemory;
+use crate::copies::{append_piece, copy_pieces};
 use std::alloc::Global;
 use std::marker::Model;
 
@@ -13,9 +14,6 @@ pub struct Span {
     pub start: u32,
     pub end: u32,
 }
-
-// A buffer of lines has at most so many bytes, so that 32 bits count them.
-const MOST_BYTES: usize = 4_294_967_295;
 
 /// A list of texts without a line feed, of at most 65,535 bytes each, whose bytes lie in one buffer. There are at most
 /// 16,777,217 of them.
@@ -47,31 +45,6 @@ impl Lines {
         }
     }
 
-    // No line, with room for a copy of those from `start` to `end`, if they stand one after the other in their buffer. It is a guess: room
-    // grows where it is too little.
-    pub(crate) fn with_room_for(
-        alloc: Global,
-        lines: &Lines,
-        start: u32,
-        end: u32,
-    ) -> Result<Self, NoMemory>
-        requires { start ≤ end }
-        ensures { IfOk result (λ copy. copy ≡ []) }
-    {
-        let spans = &lines.spans;
-        let bytes = match (
-            spans.get(start as usize),
-            spans.get((end as usize).saturating_sub(1)),
-        ) {
-            (Some(first), Some(last)) => last.end.saturating_sub(first.start),
-            _ => 0,
-        };
-        Ok(Lines {
-            bytes: Vec::with_capacity(alloc, bytes as usize)?,
-            spans: Vec::with_capacity(alloc, (end - start) as usize)?,
-        })
-    }
-
     /// The lines that lie in the buffer at these places. Nothing is copied.
     pub fn in_buffer(bytes: Vec<u8>, spans: Vec<Span>) -> Self
         requires few { length spans.items ≤ 16777217 }
@@ -80,6 +53,34 @@ impl Lines {
         ensures { result ≡ map (piece bytes.items) spans.items }
     {
         Lines { bytes, spans }
+    }
+
+    /// A copy of the lines from `start` to `end`, which isn't counted. Bytes that stand between them in their buffer are copied, too.
+    pub fn range(alloc: Global, lines: &Lines, start: u32, end: u32) -> Result<Self, NoMemory>
+        requires ordered { start ≤ end }
+        requires inside { end ≤ length lines.now }
+        ensures { IfOk result (λ copy. copy ≡ slice_range lines.now start end) }
+    {
+        let spans = &lines.spans[start as usize..end as usize];
+        let (bytes, places) = copy_pieces(alloc, &lines.bytes, spans, 0)?;
+        Ok(Lines::in_buffer(bytes, places))
+    }
+
+    /// A copy of the lines from `start` to `end`, which isn't counted, each without its first byte.
+    pub fn range_without_first(
+        alloc: Global,
+        lines: &Lines,
+        start: u32,
+        end: u32,
+    ) -> Result<Self, NoMemory>
+        requires ordered { start ≤ end }
+        requires inside { end ≤ length lines.now }
+        requires first { All MayLoseFirst (slice_range lines.now start end) }
+        ensures { IfOk result (λ copy. copy ≡ map (drop 1) (slice_range lines.now start end)) }
+    {
+        let spans = &lines.spans[start as usize..end as usize];
+        let (bytes, places) = copy_pieces(alloc, &lines.bytes, spans, 1)?;
+        Ok(Lines::in_buffer(bytes, places))
     }
 
     pub fn len(&self) -> u32
@@ -108,17 +109,9 @@ impl Lines {
         ensures ok { OnOk result (self.new ≡ self.old ++ s.now ∷ []) }
         ensures err { OnErr result (self.new ≡ self.old) }
     {
-        let start = self.bytes.len();
-        if start.saturating_add(s.len()) > MOST_BYTES {
-            return Err(NoMemory);
-        }
         self.spans.reserve(1)?;
-        self.bytes.extend_from_slice(s.as_bytes())?;
-        let end = self.bytes.len();
-        self.spans.push(Span {
-            start: start as u32,
-            end: end as u32,
-        })?;
+        let place = append_piece(&mut self.bytes, s.as_bytes())?;
+        self.spans.push_reserved(place);
         Ok(())
     }
 

@@ -1,7 +1,8 @@
 //! Each kind of value once, with ample memory.
+use crate::copies::copy_pieces;
 use crate::{
     AddName, Bed, BlockText, CarrierNo, Declared, Dir, Instr, Lines, ListOf, Needle, Profile,
-    Quarter, Setting, Text, Yarns, append_needle, append_rack, is_in_set, needle_order,
+    Quarter, Setting, Span, Text, Yarns, append_needle, append_rack, is_in_set, needle_order,
 };
 use std::cmp::Ordering;
 use std::test::Fail;
@@ -71,6 +72,35 @@ fn lines_share_a_buffer(rt: HostRuntime) -> Result<(), Fail> {
     assert_eq!(rt; lines.get(3), None);
     let text = Text::of(rt.alloc(), "out 1")?;
     assert_eq!(rt; text.as_str(), "out 1");
+    Ok(())
+}
+
+#[test]
+fn some_lines_are_copied(rt: HostRuntime) -> Result<(), Fail> {
+    let mut lines = Lines::new(rt.alloc());
+    lines.push("in 1")?;
+    lines.push("|\u{e9}")?;
+    lines.push("out 1")?;
+    let block = BlockText::of(rt.alloc(), &lines, 1, 3)?;
+    assert_eq!(rt; block.len(), 2);
+    let middle = Lines::range(rt.alloc(), &lines, 1, 2)?;
+    assert_eq!(rt; middle.get(0), Some("|\u{e9}"));
+    assert_eq!(rt; middle.get(1), None);
+    Ok(())
+}
+
+#[test]
+fn a_piece_that_lies_elsewhere_is_put_behind(rt: HostRuntime) -> Result<(), Fail> {
+    let spans = [
+        Span { start: 3, end: 5 },
+        Span { start: 0, end: 2 },
+        Span { start: 6, end: 8 },
+    ];
+    let (copy, places) = copy_pieces(rt.alloc(), b"ab|cd|ef", &spans, 1)?;
+    assert_eq!(rt; copy.as_slice(), b"cd|efb".as_slice());
+    assert_eq!(rt; places.get(0).copied(), Some(Span { start: 1, end: 2 }));
+    assert_eq!(rt; places.get(1).copied(), Some(Span { start: 5, end: 6 }));
+    assert_eq!(rt; places.get(2).copied(), Some(Span { start: 4, end: 5 }));
     Ok(())
 }
 
