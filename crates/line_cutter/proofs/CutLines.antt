@@ -1,6 +1,6 @@
 -- Line after line of a text.
 use Rattle.std.proofs.Common.{◌≡◌, ◌≢◌, ℕ, ◌+◌, ◌-◌, ◌<◌, ◌≤◌, true, false, List, [], ◌∷◌, ◌++◌, length, take, drop, get_or, map, All, ap, sym, subst, ◌∙◌, refl, arith, length-drop, length-append, append_assoc, append-nil}
-use Rattle.std.specs.List.{position_or_len, before_first, after_first}
+use Rattle.std.specs.List.{count_by, position_or_len, before_first, after_first}
 use Rattle.std.proofs.lemmas.List.{take_all, drop_all, drop-drop, map-append, length-map, length-take, get_or-take, take-take}
 use Rattle.std.proofs.lemmas.List.Sums.{fails_before_first}
 use Rattle.std.proofs.lemmas.List.Elements.{All-push}
@@ -10,7 +10,7 @@ use Rattle.line_cutter.specs.declared.line.Found.{Found}
 use Rattle.line_cutter.specs.declared.fault.CutFault.{CutFault}
 use Rattle.line_cutter.specs.declared.fault.CutFault.TheVariants.{NotUtf8, LineLong, NoMemory}
 use Rattle.line_cutter.specs.Cut.{AreCut, IsFirstBad, IsGoodLine, IsNextLine, IsNextRefused, IsRefused}
-use Rattle.line_cutter.proofs.Pieces.{lines_of-next}
+use Rattle.line_cutter.proofs.Pieces.{lines_few, lines_of-next}
 
 -- the lines so far and those of what is left are the lines of the text
 pub record CutSoFar (text : List ℕ) (spans : List Span) (start : ℕ) : Type 0 where
@@ -38,6 +38,13 @@ cut_more text spans more start found so_far some next pushed =
           ∙ ap (λ l. map (piece text) spans ++ l) (sym next.first) ∙ so_far.so_far;
       good = subst (All IsGoodLine) (sym grown) (All-push IsGoodLine (map (piece text) spans) (piece text found.line) so_far.good next.good);
     }
+
+-- so there is room for one more, where there was room for a line more than line feeds
+pub cut_few : (text : List ℕ) (spans : List Span) (start : ℕ) (found : Found) → CutSoFar text spans start → IsNextLine text start found
+    → length spans < count_by is_line_feed text + 1
+cut_few text spans start found so_far next =
+    omega
+    (arith, lines_few text, ap length so_far.so_far, length-append (map (piece text) spans) (lines_of (drop start text)), length-map spans (piece text), ap length next.first)
 
 -- nothing is cut yet
 pub cut_none : (text : List ℕ) → CutSoFar text [] 0

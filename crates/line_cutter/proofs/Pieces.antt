@@ -1,12 +1,13 @@
 -- The first piece of a text, and its line.
-use Rattle.std.proofs.Common.{◌≡◌, ◌≢◌, ℕ, ◌+◌, ◌-◌, ◌<◌, ◌≤◌, false, List, [], ◌∷◌, ◌++◌, length, take, get_or, map, All, MatchOption, Option, None, Some, ap, sym, ◌∙◌, refl, arith, ⊎_elim}
-use Rattle.std.specs.List.{slice_split, position_or_len, before_first, after_first}
-use Rattle.std.proofs.lemmas.Bool.{cases_lt, false_from_ne_true}
-use Rattle.std.proofs.lemmas.List.{take_all, drop_all, take_more}
-use Rattle.std.proofs.lemmas.List.Sums.{fails_before_first, position_or_len_is}
+use Rattle.std.proofs.Common.{◌≡◌, ◌≢◌, ℕ, ◌+◌, ◌-◌, ◌<◌, ◌≤◌, false, List, [], ◌∷◌, ◌++◌, length, take, get_or, map, All, MatchOption, Option, None, Some, ap, sym, subst, ◌∙◌, refl, arith, ⊎_elim}
+use Rattle.std.specs.List.{count_by, slice_split, position_or_len, before_first, after_first}
+use Rattle.std.proofs.lemmas.Bool.{cases_lt, false_from_ne_true, false≢true}
+use Rattle.std.proofs.lemmas.List.{take_all, drop_all, length-map, take_more}
+use Rattle.std.proofs.lemmas.List.Sums.{fails_before_first, passes_at_first, position_or_len_is}
 use Rattle.std.proofs.lemmas.List.Splits.{slice_split_first, slice_split_none, length-slice_split}
 use Rattle.knit_base.specs.Lines.{is_line_feed, lines_of, without_empty_end, without_return}
-use Rattle.memchr.specs.Find.{IsFirstByte, is_byte}
+use Rattle.memchr.specs.Find.{IsFirstByte, NoneBefore, Nowhere, Passes, TakesFirst, is_byte, places, places_between}
+use Rattle.memchr.proofs.lemmas.PlaceLemmas.{places_between-first, places_between-none}
 
 -- a piece that others follow stays, also where it is empty
 pub not_last : (piece : List ℕ) (pieces : List (List ℕ)) → 0 < length pieces → without_empty_end (piece ∷ pieces) ≡ piece ∷ without_empty_end pieces
@@ -75,3 +76,57 @@ nothing_dropped (byte ∷ bytes) other =
     take_all (length (byte ∷ bytes)) (byte ∷ bytes) (omega arith) ∙ front_and_last (byte ∷ bytes) some
     ∙ sym (kept (take (length (byte ∷ bytes) - 1) (byte ∷ bytes)) (get_or (byte ∷ bytes) (length (byte ∷ bytes) - 1) 0) (other some))
     ∙ ap without_return (sym (front_and_last (byte ∷ bytes) some))
+
+-- the first line feed, where there is one
+found_first : (text : List ℕ) → position_or_len is_line_feed text < length text
+    → NoneBefore (Passes (is_byte 10) text) 0 (length text) (position_or_len is_line_feed text) × Passes (is_byte 10) text (position_or_len is_line_feed text)
+found_first text inside = (
+  record {
+    low = omega arith;
+    high = inside;
+    before = λ k low below passes. absurd (false≢true (sym (fails_before_first is_line_feed text k 0 below) ∙ passes));
+  },
+  passes_at_first is_line_feed text 0 inside,
+)
+
+found_none : (text : List ℕ) → length text ≤ position_or_len is_line_feed text → Nowhere (Passes (is_byte 10) text) 0 (length text)
+found_none text past = λ k low below passes. absurd (false≢true (sym (fails_before_first is_line_feed text k 0 (omega arith)) ∙ passes))
+
+-- what the first step of a walk over the line feeds gives
+pub first_step : (text feeds later : List ℕ) (place : Option ℕ) → feeds ≡ places (is_byte 10) text → TakesFirst feeds place later → IsFirstByte (is_byte 10) text place
+first_step text feeds later None are step =
+    let first : ℕ = position_or_len is_line_feed text in
+    ⊎_elim
+    (λ inside.
+    let here = found_first text inside in
+    let begins : places (is_byte 10) text ≡ first ∷ places_between (is_byte 10) text (first + 1) (length text) = places_between-first (is_byte 10) text 0 (length text) first here.0 here.1 in
+    let none : feeds ≡ [] = step.0 in
+    absurd (cc))
+    (λ past. found_none text past)
+    (cases_lt first (length text))
+first_step text feeds later (Some k) are step =
+    let first : ℕ = position_or_len is_line_feed text in
+    ⊎_elim
+    (λ inside.
+    let here = found_first text inside in
+    let begins : places (is_byte 10) text ≡ first ∷ places_between (is_byte 10) text (first + 1) (length text) = places_between-first (is_byte 10) text 0 (length text) first here.0 here.1 in
+    let some : feeds ≡ k ∷ later = step in
+    let same : first ≡ k = cc in
+    subst (λ n. NoneBefore (Passes (is_byte 10) text) 0 (length text) n × Passes (is_byte 10) text n) same here)
+    (λ past.
+    let none : places (is_byte 10) text ≡ [] = places_between-none (is_byte 10) text 0 (length text) (omega arith) (found_none text past) in
+    let some : feeds ≡ k ∷ later = step in
+    absurd (cc))
+    (cases_lt first (length text))
+
+without-few : (pieces : List (List ℕ)) → length (without_empty_end pieces) ≤ length pieces
+without-few [] = omega arith
+without-few ([] ∷ []) = omega arith
+without-few ((byte ∷ bytes) ∷ []) = omega arith
+without-few (piece ∷ next ∷ pieces) = omega (arith, ap length (not_last piece (next ∷ pieces) (omega arith)), without-few (next ∷ pieces))
+
+-- a text has at most one line more than line feeds
+pub lines_few : (text : List ℕ) → length (lines_of text) ≤ count_by is_line_feed text + 1
+lines_few text =
+    omega
+    (arith, length-map (without_empty_end (slice_split is_line_feed text)) without_return, without-few (slice_split is_line_feed text), length-slice_split is_line_feed text)

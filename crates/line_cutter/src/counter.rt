@@ -53,13 +53,13 @@ fn ascii_lines_at(text: &[u8], start: usize) -> Option<(u32, usize)>
     Some((line_feeds(lines) as u32 + 1, start + end + 1))
 }
 
-// How many line feeds there are. They are counted in bytes, which takes many at a time.
+// How many line feeds there are. They are counted in bytes, which takes many at a time: 32 of them, so that chunks are whole.
 pub(crate) fn line_feeds(text: &[u8]) -> usize
     ensures few { result ≤ length text.now }
     ensures counted { result ≡ count_by is_line_feed text.now }
 {
     let mut count = 0;
-    for chunk in text.chunks(255) {
+    for chunk in text.chunks(224) {
         count += usize::from(line_feeds_of_few(chunk));
     }
     count

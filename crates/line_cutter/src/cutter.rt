@@ -43,11 +43,12 @@ fn cut_spans(alloc: Global, text: &[u8]) -> Result<Vec<Span>, CutFault>
     ensures ok { IfOk result (λ spans. AreCut text.now spans.items) }
     ensures err { IfErr result (IsFirstBad (lines_of text.now)) }
 {
+    let is_ascii = text.is_ascii();
     let mut spans = Vec::with_capacity(alloc, line_feeds(text) + 1)?;
     let mut start = 0;
     'cutting: while start < text.len() {
-        let found = next_line(text, start, spans.len() as u32 + 1)?;
-        spans.push(found.line)?;
+        let found = next_line(text, start, spans.len() as u32 + 1, is_ascii)?;
+        spans.push_reserved(found.line);
         start = found.next;
     }
     Ok(spans)

@@ -16,7 +16,7 @@ pub fn line_at<'a>(text: &'a [u8], start: usize) -> Option<(&'a str, usize)>
     requires size { length text.now ≤ 16777216 }
     ensures { IfSome result (λ found. StandsAt text.now start found.0.now found.1) }
 {
-    let Ok(found) = next_line(text, start, UNNUMBERED) else {
+    let Ok(found) = next_line(text, start, UNNUMBERED, false) else {
         return None;
     };
     let line = &text[found.line.start as usize..found.line.end as usize];

@@ -32,12 +32,24 @@ fn lines_are_cut(rt: HostRuntime) -> Result<(), Fail> {
         ("\r", "<>"),
         ("a\r\r\n\rb\n\n", "<a\r><\rb><>"),
         ("\t\n\u{feff};\0\n", "<\t><\u{feff};\0>"),
+        ("in 1\r\n;\u{e9}\r\nout 1", "<in 1><;\u{e9}><out 1>"),
     ] {
         assert!(rt; text.len() < 100);
         let lines = cut(rt.alloc(), text.as_bytes())?;
         let shown = shown(&rt, rt.alloc(), &lines)?;
         assert_eq!(rt; shown.as_str(), want);
     }
+    Ok(())
+}
+
+// The line ends between the lines are copied, and are no part of them.
+#[test]
+fn a_block_is_taken_from_the_middle(rt: HostRuntime) -> Result<(), Fail> {
+    let lines = cut(rt.alloc(), b"a\r\nbc\r\n\xc3\xa9\nd")?;
+    assert!(rt; lines.len() == 4);
+    let block = Lines::range(rt.alloc(), &lines, 1, 3)?;
+    let shown = shown(&rt, rt.alloc(), &block)?;
+    assert_eq!(rt; shown.as_str(), "<bc><\u{e9}>");
     Ok(())
 }
 
@@ -66,6 +78,11 @@ fn the_first_bad_line_is_named(rt: HostRuntime) -> Result<(), Fail> {
         (
             long,
             b"\n\xff".as_slice(),
+            Some(CutFault::LineLong { line: 1 }),
+        ),
+        (
+            long,
+            b"\nb".as_slice(),
             Some(CutFault::LineLong { line: 1 }),
         ),
         (

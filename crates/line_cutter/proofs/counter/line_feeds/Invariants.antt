@@ -8,6 +8,6 @@ abbrev pub invariant-loop-chunk : goal.invariant-loop-chunk
 invariant-loop-chunk l =
     (goal.iterator-loop-chunk).can_next l.chunk-iterator
     × (goal.iterator-loop-chunk).is_finite l.chunk-iterator
-    × (chunks_size l.chunk-iterator ≡ 255)
+    × (chunks_size l.chunk-iterator ≡ 224)
     × (l.count + length (chunks_rest l.chunk-iterator) ≤ length l.text)
     × (l.count + count_by is_line_feed (chunks_rest l.chunk-iterator) ≡ count_by is_line_feed l.text)
