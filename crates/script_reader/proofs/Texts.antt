@@ -1,10 +1,11 @@
 -- The text of a text line is a text.
-use Rattle.std.proofs.Common.{◌≡◌, ℕ, ◌<◌, Bool, true, false, cond, Option, Some, None, codes, refl, ◌≢◌, List, [], ◌∷◌, length, drop, get_or, sym, ap, arith, length-drop}
+use Rattle.std.proofs.Common.{◌≡◌, ℕ, ◌<◌, Bool, true, false, cond, Option, Some, None, codes, refl, ◌≢◌, List, [], ◌∷◌, length, drop, get_or, sym, ap, subst, arith, length-drop}
 use Rattle.std.specs.Str.{IsCharBoundary, bytes_eq}
 use Rattle.std.proofs.lemmas.List.Elements.{All-drop}
 use Rattle.std.proofs.lemmas.Slice.Eq.{bytes_eq-Decides}
 use Rattle.std.proofs.lemmas.Str.{IsUtf8-from_is_utf8, is_utf8-from_IsUtf8, IsUtf8-drop, IsCharBoundary-after_ascii}
-use Rattle.knit_base.specs.Lines.{IsLine}
+use Rattle.knit_base.specs.Lines.{IsLine, MayLoseFirst}
+use Rattle.script_reader.specs.Reading.{IsTextLine}
 use Rattle.script_reader.specs.Statements.{is_skipped, is_text_line, kind_of, kind_of_words, command_line_of}
 use Rattle.script_reader.specs.declared.line.CommandLine.{CommandLine}
 use Rattle.script_reader.specs.declared.line.CommandLine.TheVariants.{Verdict}
@@ -50,3 +51,14 @@ text_kind line is = go (is_skipped line) (is_text_line line) is
     go false true r = refl
     go true false r = absurd (cc)
     go false false r = absurd (words_no_text (tokens_of line) r)
+
+-- a line that begins as a text line is one
+pub text_line_kind : (line : List ℕ) → is_text_line line ≡ true → kind_of line ≡ kind.Text
+text_line_kind [] is = absurd (cc)
+text_line_kind (byte ∷ bytes) is =
+    let same : 124 ∷ [] ≡ byte ∷ [] = (bytes_eq-Decides (124 ∷ []) (byte ∷ [])).0 is in
+    subst (λ b. kind_of (b ∷ bytes) ≡ kind.Text) (ap (λ (l : List ℕ). get_or l 0 0) same) refl
+
+-- what it says behind its first byte is a line
+pub text_may_lose : (line : List ℕ) → IsTextLine line → MayLoseFirst line
+text_may_lose line is = record { some = (first_byte line is.begins).0; rest = text_is_line line is.is_line is.begins }

@@ -1,7 +1,8 @@
 -- The script of a list of lines, or its refusal, as a walk from the first line to the last. The proofs alone speak of it.
-use Rattle.std.specs.Prelude.{◌≡◌, ℕ, ◌+◌, ◌-◌, List, [], ◌∷◌, ◌++◌, length, drop, Option, Some, None, Result, Ok, Err, if◌then◌else◌}
+use Rattle.std.specs.Prelude.{◌≡◌, ℕ, ◌+◌, ◌-◌, true, List, [], ◌∷◌, ◌++◌, length, drop, Option, Some, None, Result, Ok, Err, if◌then◌else◌}
+use Rattle.knit_base.specs.Lines.{IsLine}
 use Rattle.script_reader.specs.Script.{cause_of, takes_text}
-use Rattle.script_reader.specs.Statements.{Statement, Nothing, Text, Session, Command, Nonsense, is_live, kind_of, statement_of}
+use Rattle.script_reader.specs.Statements.{Statement, Nothing, Text, Session, Command, Nonsense, is_live, is_text_line, kind_of, statement_of}
 use Rattle.script_reader.specs.declared.command.Command as declared
 use Rattle.script_reader.specs.declared.command.Command.TheVariants as command
 use Rattle.script_reader.specs.declared.command.Script.{Script}
@@ -102,6 +103,11 @@ command_in_front command_line lines = command_of command_line (if takes_text com
 
 abbrev pub behind_command : CommandLine → List (List ℕ) → List (List ℕ)
 behind_command command_line lines = if takes_text command_line then behind_texts lines else lines
+
+-- the line is a text line
+pub record IsTextLine (line : List ℕ) : Type 0 where
+  pub begins : is_text_line line ≡ true
+  pub is_line : IsLine line
 
 -- the line is neither a text nor skipped
 abbrev pub IsHeading : Kind → Type 0

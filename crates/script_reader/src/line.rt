@@ -70,11 +70,11 @@ pub(crate) fn is_live(line: &[u8]) -> bool
 pub(crate) fn kind_of(line: &[u8]) -> Kind
     ensures { result ≡ kind_of line.now }
 {
+    if is_text_line(line) {
+        return Kind::Text;
+    }
     if is_skipped(line) {
         return Kind::Skipped;
-    }
-    if line.starts_with(b"|") {
-        return Kind::Text;
     }
     let Some((word, rest)) = next_token(line) else {
         return Kind::Other;
@@ -86,6 +86,13 @@ pub(crate) fn kind_of(line: &[u8]) -> Kind
         return Kind::Other;
     }
     two_words(word, operand)
+}
+
+/// Whether the line is `|` and a text.
+pub(crate) fn is_text_line(line: &[u8]) -> bool
+    ensures { result ≡ is_text_line line.now }
+{
+    line.starts_with(b"|")
 }
 
 /// The text of a text line.

@@ -1,13 +1,13 @@
 //! A script, read from its first line to its last.
-ghost use Rattle.std.specs.Prelude.{◌≡◌, ◌⊎◌, ◌↔◌, IsTrue, ◌+◌, ◌<◌, ◌≤◌, false, List, ℕ, [], ◌∷◌, ◌++◌, length, drop, IfOk, IfErr, Ok};
+ghost use Rattle.std.specs.Prelude.{◌≡◌, ◌⊎◌, ◌↔◌, IsTrue, ◌+◌, ◌<◌, ◌≤◌, false, List, ℕ, [], ◌∷◌, ◌++◌, All, length, drop, slice_range, IfOk, IfErr, Ok};
 ghost use Rattle.script_reader.specs.Script.{IsScript, IsRefusal, adds_in, adds_of, is_known, last_takes_text, names_known};
-ghost use Rattle.script_reader.specs.Reading.{BeginWithHeading, BeginWithSession, IsErr, behind_command, behind_texts, command_in_front, reading, script_of, texts_in_front, walk};
+ghost use Rattle.script_reader.specs.Reading.{BeginWithHeading, BeginWithSession, IsErr, IsTextLine, behind_command, behind_texts, command_in_front, reading, script_of, texts_in_front, walk};
 ghost use Rattle.script_reader.specs.declared.command.Command.{Command};
 ghost use Rattle.script_reader.specs.declared.command.Script.{Script};
 
 use crate::command::{Command, CommandList, Place, Script, SessionScripts};
 use crate::fault::{Cause, ScriptFault};
-use crate::line::{CommandLine, Kind, is_live, kind_of, text_of};
+use crate::line::{CommandLine, Kind, is_live, is_text_line, kind_of, text_of};
 use edit_journal::BlockName;
 use knit_base::{Lines, ListOf, NoMemory};
 use knitout_reader::nth_line;
@@ -156,8 +156,10 @@ fn read_text(alloc: Global, lines: &Lines, start: u32) -> Result<(Lines, u32), N
     ensures texts { IfOk result (λ read. read.0 ≡ texts_in_front (drop start lines.now)) }
     ensures behind { IfOk result (λ read. drop read.1 lines.now ≡ behind_texts (drop start lines.now)) }
 {
-    let mut text = Lines::new(alloc);
-    for i in start..lines.len() {
+    // The first run of text lines is copied at once, and lines behind a skipped one are copied one by one.
+    let end = run_end(lines, start);
+    let mut text = Lines::range_without_first(alloc, lines, start, end)?;
+    for i in end..lines.len() {
         let line = nth_line(lines, i);
         match kind_of(line.as_bytes()) {
             Kind::Skipped => {}
@@ -166,6 +168,20 @@ fn read_text(alloc: Global, lines: &Lines, start: u32) -> Result<(Lines, u32), N
         }
     }
     Ok((text, lines.len()))
+}
+
+// Where the run of text lines ends that begins here: most texts are one run.
+fn run_end(lines: &Lines, start: u32) -> u32
+    requires { start ≤ length lines.now }
+    ensures within { (start ≤ result) × (result ≤ length lines.now) }
+    ensures texts { All IsTextLine (slice_range lines.now start result) }
+{
+    for i in start..lines.len() {
+        if !is_text_line(nth_line(lines, i).as_bytes()) {
+            return i;
+        }
+    }
+    lines.len()
 }
 
 // Whether a command names blocks that can have been made, behind so many add commands of its session.

@@ -118,6 +118,20 @@ fn skipped_lines_are_counted(rt: HostRuntime) {
 }
 
 #[test]
+fn a_text_goes_on_behind_a_skipped_line(rt: HostRuntime) -> Result<(), Fail> {
+    let alloc = rt.alloc();
+    let lines = lines_of(alloc, &["live 1", "|a", "|\u{e9}", "# x", "|", "session"])?;
+    let Ok(script) = read_script(alloc, &lines) else {
+        panic!(rt; "refused")
+    };
+    assert_eq!(rt; script.text.len(), 3);
+    assert_eq!(rt; script.text.get(0), Some("a"));
+    assert_eq!(rt; script.text.get(1), Some("\u{e9}"));
+    assert_eq!(rt; script.text.get(2), Some(""));
+    Ok(())
+}
+
+#[test]
 fn a_script_is_read(rt: HostRuntime) -> Result<(), Fail> {
     let alloc = rt.alloc();
     let lines = lines_of(
