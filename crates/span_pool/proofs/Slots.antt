@@ -29,10 +29,6 @@ changes old new before spare room key list items e u is = record {
   others = λ other h. slot new other ∙ (ap (option_map (λ v. v.items)) (u.others other h) ∙ (sym (slot old other) ∙ ap (λ v. slice_index_or v other None) (sym e)));
 }
 
--- taken out and put back under the same key
-pub replaced : {T : Type 0} (old mid new : Slab (Vec T Global)) (key : ℕ) (list : Option (Vec T Global)) → Updates old mid key None → Updates mid new key list → Updates old new key list
-replaced old mid new key list u v = record { changed = v.changed; others = λ other h. v.others other h ∙ u.others other h }
-
 -- each span that is out still has its room, once one has come
 pub rooms : {T : Type 0} (old new : Slab (Vec T Global)) (key room : ℕ) (list : Vec T Global) → Updates old new key (Some list) → IsInRoom room list
     → ((k : ℕ) (v : Vec T Global) → get old k ≡ Some v → IsInRoom room v) → (k : ℕ) (v : Vec T Global) → get new k ≡ Some v → IsInRoom room v

@@ -142,12 +142,12 @@ impl<T: Copy> Shelf<T> {
         ensures spare { self.new.spare ≡ self.old.spare }
         ensures room { self.new.room ≡ self.old.room }
     {
-        let mut list = emptied(self.out.remove(key));
-        match list.extend_from_slice(items) {
+        let held = &mut self.out[key];
+        held.clear();
+        match held.extend_from_slice(items) {
             Ok(()) => {}
             Err(_) => unreachable!(),
         }
-        self.out.insert_reserved(list);
     }
 
     /// What a span holds.

@@ -63,21 +63,35 @@ fn room_at<S: Values>(
     }
 }
 
-/// The rooms of a change's rows, and then that of its new leaf.
+/// Puts the rooms of a change's rows into a need, and then that of its new leaf, in place of what it had.
+pub(crate) fn fill_need<S: Values>(
+    store: &S,
+    new: Option<NewLeaf<S::Room>>,
+    dirty: &Dirty,
+    need: &mut S::Need,
+)
+    requires there { (all : List S.Room) × (map (λ r. Some r) all ≡ composed_all S.after (leaf_rooms S.room (S.leaf_at store.now) new) (node_rooms S.room (S.node_at store.now)) dirty.now) }
+    ensures { (rest : List S.Room) × (S.rooms need.new ≡ rest ++ more_rooms new) × (map (λ r. Some r) rest ≡ composed_all S.after (leaf_rooms S.room (S.leaf_at store.now) new) (node_rooms S.room (S.node_at store.now)) dirty.now) }
+{
+    S::clear(need);
+    for i in 0..dirty.len() {
+        if let Some(row) = dirty.get(i) {
+            let left = room_at(store, new, need, dirty, i, row.left);
+            let right = room_at(store, new, need, dirty, i, row.right);
+            S::push(need, S::both(left, right));
+        }
+    }
+    if let Some(leaf) = new {
+        S::push(need, leaf.room);
+    }
+}
+
+/// The same as a need of its own.
 pub(crate) fn need_of<S: Values>(store: &S, new: Option<NewLeaf<S::Room>>, dirty: &Dirty) -> S::Need
     requires there { (all : List S.Room) × (map (λ r. Some r) all ≡ composed_all S.after (leaf_rooms S.room (S.leaf_at store.now) new) (node_rooms S.room (S.node_at store.now)) dirty.now) }
     ensures { (rest : List S.Room) × (S.rooms result ≡ rest ++ more_rooms new) × (map (λ r. Some r) rest ≡ composed_all S.after (leaf_rooms S.room (S.leaf_at store.now) new) (node_rooms S.room (S.node_at store.now)) dirty.now) }
 {
     let mut need = S::no_need();
-    for i in 0..dirty.len() {
-        if let Some(row) = dirty.get(i) {
-            let left = room_at(store, new, &need, dirty, i, row.left);
-            let right = room_at(store, new, &need, dirty, i, row.right);
-            S::push(&mut need, S::both(left, right));
-        }
-    }
-    if let Some(leaf) = new {
-        S::push(&mut need, leaf.room);
-    }
+    fill_need(store, new, dirty, &mut need);
     need
 }

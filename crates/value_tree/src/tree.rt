@@ -14,7 +14,7 @@ ghost use Rattle.value_tree.specs.Parts.{StandFor};
 
 use crate::before::{Descent, descend};
 use crate::find::{Counts, Walk, step};
-use crate::need::{NewLeaf, need_of};
+use crate::need::{NewLeaf, fill_need, need_of};
 use crate::parts::parts_before;
 use crate::refresh::refresh;
 use crate::start::compose_all;
@@ -114,11 +114,22 @@ impl<S: Values> ValueTree<S> {
         requires place { at < count_of self.now.shape.tree }
         ensures need { IsReplaceNeed S.room S.after (S.leaf_at self.now.store) (S.node_at self.now.store) self.now.shape at room (S.rooms result) }
     {
+        let mut need = S::no_need();
+        self.fill_replace(at, room, &mut need);
+        need
+    }
+
+    /// The same, put into a need in place of what it had.
+    pub fn fill_replace(&self, at: u32, room: S::Room, need: &mut S::Need)
+        requires kept { IsKept S.join S.sound (S.leaf_at self.now.store) (S.node_at self.now.store) (S.slots self.now.store) self.now.shape }
+        requires place { at < count_of self.now.shape.tree }
+        ensures need { IsReplaceNeed S.room S.after (S.leaf_at self.now.store) (S.node_at self.now.store) self.now.shape at room (S.rooms need.new) }
+    {
         let mut dirty = Dirty::new();
         let _len = self.shape.len();
         let number = self.shape.leaf(at);
         self.shape.touch(at, &mut dirty);
-        need_of(&self.store, Some(NewLeaf { number, room }), &dirty)
+        fill_need(&self.store, Some(NewLeaf { number, room }), &dirty, need);
     }
 
     /// What inserting a value of this room at a position needs.

@@ -72,6 +72,10 @@ pub trait Values: Drop {
     fn no_need() -> Self::Need
         ensures { rooms result ≡ [] };
 
+    /// Takes all rooms out of a need.
+    fn clear(need: &mut Self::Need)
+        ensures { rooms need.new ≡ [] };
+
     /// Appends a room. Takes no memory: a need has 73 rooms at most.
     fn push(need: &mut Self::Need, size: Self::Room)
         requires { length (rooms need.old) < 73 }

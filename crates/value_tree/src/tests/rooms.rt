@@ -31,6 +31,12 @@ impl Rooms {
         }
     }
 
+    pub fn clear(&mut self)
+        ensures { self.new ≡ [] }
+    {
+        self.len = 0;
+    }
+
     pub fn push(&mut self, room: u64)
         requires { length self.old < 73 }
         ensures { self.new ≡ self.old ++ room ∷ [] }

@@ -109,6 +109,10 @@ impl Values for Sums {
         Rooms::new()
     }
 
+    fn clear(need: &mut Rooms) {
+        need.clear();
+    }
+
     fn push(need: &mut Rooms, size: u64) {
         need.push(size);
     }

@@ -7,13 +7,13 @@ use Rattle.tree_shape.specs.Composing.{IsFinding}
 use Rattle.tree_shape.proofs.Rows.{some_row}
 use Rattle.tree_shape.proofs.Rooms.{latest-none, finding_next, next_there}
 use Rattle.value_tree.specs.Need.{leaf_rooms, node_rooms, found_at}
-use Rattle.value_tree.proofs.need.need_of.Goals as goal
-use Rattle.value_tree.proofs.need.need_of.Goals.{in-Some, in_default}
+use Rattle.value_tree.proofs.need.fill_need.Goals as goal
+use Rattle.value_tree.proofs.need.fill_need.Goals.{in-Some, in_default}
 
 pub loop-i-init : goal.loop-i-init
 loop-i-init g c =
     let before = node_rooms g.S.Values.room (g.S.Values.node_at c.args.store.now) in
-    rw c.no_need-need.ensures (record { now = before; found = λ n. sym (latest-none n c.args.dirty.now (before n)); rest = refl; long = refl })
+    rw c.clear.ensures (record { now = before; found = λ n. sym (latest-none n c.args.dirty.now (before n)); rest = refl; long = refl })
 
 -- the room of a child, as the walk has it
 found_is : {V R : Type 0} (room : V → R) (after : R → R → R) (leaf_at node_at : ℕ → Option V) (new : _) (rows : List DirtyRow) (rs : List R) (at : ℕ) (f : IsFinding after (leaf_rooms room leaf_at new) (node_rooms room node_at) rows rs at) (child : Child) → part (leaf_rooms room leaf_at new) f.now child ≡ found_at room leaf_at node_at new rows rs child
