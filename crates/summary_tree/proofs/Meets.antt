@@ -1,8 +1,8 @@
 -- Taking spans for a face that was reckoned with.
 use Rattle.std.proofs.Common.{◌≡◌, ◌≢◌, ℕ, zero, suc, ◌+◌, ◌*◌, ◌-◌, ◌^◌, ◌<◌, ◌≤◌, List, [], ◌∷◌, length, map, Option, Some, None, Bool, true, false, refl, sym, ◌∙◌, ap, subst, arith, inl, inr}
-use Rattle.std.specs.Prelude.{◌==◌, cond}
+use Rattle.std.specs.Prelude.{◌==◌, cond, count_by}
 use Rattle.std.specs.List.{All}
-use Rattle.std.proofs.lemmas.Bool.{cases_lt}
+use Rattle.std.proofs.lemmas.Bool.{cases_Bool, cases_lt}
 use Rattle.std.proofs.lemmas.Bool.Decides.{eqb_tells, nat_tests}
 use Rattle.std.proofs.lemmas.List.{length-map}
 use Rattle.std.proofs.lemmas.List.Sums.{sum_by-cons}
@@ -38,6 +38,10 @@ use Rattle.summary_tree.specs.Leaves.{LeavesFit}
 use Rattle.face_data.specs.Composition.{composed}
 use Rattle.summary_tree.specs.Meeting.{reaches, IsMet}
 use Rattle.summary_tree.specs.Rooms.{kept_room}
+
+-- a test can't have failed and passed
+pub clash : {X : Type 0} (b : Bool) → b ≡ false → b ≡ true → X
+clash b e f = let no : false ≡ true = sym e ∙ f in absurd (cc)
 
 exponent : (a b : ℕ) → 2 ^ a < 2 ^ b → a < b
 exponent a b h = elim (cases_lt a b) [
@@ -91,6 +95,35 @@ module _ {X : Type 0} (len : X → ℕ) where
   -- more spare spans are no harm
   pub met_more : (old new : ℕ → ℕ) (rooms : List X) → ((class : ℕ) → old class ≤ new class) → IsMet old len rooms → IsMet new len rooms
   met_more old new rooms more m = record { low = m.low; enough = λ class few. omega (arith, m.enough class few, more class) }
+
+-- a length that needs a span of a class or of a higher one needs no lower class than a greater length does
+stops : (class k len longest : ℕ) → class ≤ k → len ≤ longest → reaches k len ≡ true → reaches class longest ≡ true
+stops class k len longest up h r = elim (eqb_tells class 0) [
+  | inl w ↦ let zero_is : (class == 0) ≡ true = w.0 in rw zero_is refl
+  | inr w ↦
+      let positive : (k == 0) ≡ false = grind (arith, nat_tests) in
+      let beyond : 2 ^ (k - 1) < len = grind (arith, nat_tests) in
+      let below : 2 ^ (class - 1) ≤ 2 ^ (k - 1) = pow_mono (omega (arith, up)) in
+      let reached : 2 ^ (class - 1) < longest = omega arith in
+      grind (arith, nat_tests)
+]
+
+module _ {X : Type 0} (len : X → ℕ) where
+  -- where the longest length doesn't reach a class, none of them reaches it or a higher one
+  none_beyond : (class k longest : ℕ) (rooms : List X) → class ≤ k → All (λ r. len r ≤ longest) rooms → reaches class longest ≡ false → count_by (λ r. reaches k (len r)) rooms ≡ 0
+  none_beyond class k longest [] up all short = refl
+  none_beyond class k longest (r ∷ rest) up all short = elim (cases_Bool (reaches k (len r))) [
+    | inl w ↦ clash (reaches class longest) short (stops class k (len r) longest up (All-head (λ x. len x ≤ longest) r rest all) w)
+    | inr w ↦ omega (arith, none_beyond class k longest rest up (All-tail (λ x. len x ≤ longest) r rest all) short, ap {B = ℕ} (λ b. cond b 1 0) w, sum_by-cons (λ x. cond (reaches k (len x)) 1 0) r rest)
+  ]
+
+  -- so there are enough spare spans of all classes where there are of the classes below
+  pub met_beyond : (spare : ℕ → ℕ) (class longest : ℕ) (rooms : List X) → All (λ r. len r ≤ 2 ^ 62) rooms → All (λ r. len r ≤ longest) rooms → reaches class longest ≡ false
+      → ((k : ℕ) → k < class → count_by (λ r. reaches k (len r)) rooms ≤ spare k) → IsMet spare len rooms
+  met_beyond spare class longest rooms low all short enough = record {
+    low = low;
+    enough = λ k few. elim (cases_lt k class) [ inl w ↦ enough k w | inr w ↦ omega (arith, none_beyond class k longest rooms w all short) ];
+  }
 
 -- the lists of a smaller room are no longer
 pub no_greater_in : (a b : Room) → IsNoGreater a b → (list : FaceList) → length_in list a ≤ length_in list b
@@ -210,7 +243,3 @@ one_more xs i most next d inside all up here =
 -- what two leaves compose to takes no more room than was reckoned with
 pub composed_within : (a b : Summary × List LoopRow) (r : Room) → LeavesFit a b → IsNoGreater (room_after (kept_room a.0) (kept_room b.0)) r → IsNoGreater (kept_room (composed a.0 b.0)) r
 composed_within a b r f h = along_rooms (kept_room (composed a.0 b.0)) (room_after (kept_room a.0) (kept_room b.0)) r (bounds a b f) h
-
--- a test can't have failed and passed
-pub clash : {X : Type 0} (b : Bool) → b ≡ false → b ≡ true → X
-clash b e f = let no : false ≡ true = sym e ∙ f in absurd (cc)

@@ -74,6 +74,23 @@ module _ {T : Type 0} where
     pub given_others : (k : ℕ) → k ≢ at → list_in (slice_set slots at None) new k ≡ list_in slots old k
     given_others k ne = ap (list_of new) (get_or-set_other slots at k None None ne) ∙ kept_list old new (slice_index_or slots k None) (λ a e. stays k a ne e)
 
+    -- or its list is another one from then on
+    module _ (items : List T) (holds : Holds new span items) where
+      refilled_class : (k : ℕ) (a : SpanView) → slice_index_or slots k None ≡ Some a → class_in (held new a.number) ≡ Some a.class
+      refilled_class k a e = elim (eqb_tells k at) [
+        | inl w ↦
+            let both : Some span ≡ Some a = sym here ∙ (ap (λ n. slice_index_or slots n None) (sym w.1) ∙ e) in
+            let is : span ≡ a = cc (both) in
+            subst (λ (s : SpanView). class_in (held new s.number) ≡ Some s.class) is (ap class_in holds)
+        | inr w ↦ ap class_in (stays k a w.1 e) ∙ t.out k a e
+      ]
+
+      pub refilled_table : IsTable slots new
+      refilled_table = record { out = refilled_class; apart = t.apart }
+
+    pub refilled_others : (k : ℕ) → k ≢ at → list_in slots new k ≡ list_in slots old k
+    refilled_others k ne = kept_list old new (slice_index_or slots k None) (λ a e. stays k a ne e)
+
   -- a fresh token is put at a place
   module _ (slots : List (Option SpanView)) (old new : PoolView T) (at : ℕ) (span : SpanView) (items : List T) (t : IsTable slots old) (inside : at < length slots) (none : held old span.number ≡ None) (holds : Holds new span items) (others : KeepsOthers old new span.number) where
     other_number : (k : ℕ) (a : SpanView) → slice_index_or slots k None ≡ Some a → a.number ≢ span.number

@@ -56,8 +56,31 @@ impl<T: Copy> Lists<T> {
         }
     }
 
-    /// Puts a list at a place, in a span of its own, in place of what was there.
+    /// Puts a list at a place, in a span of its own, in place of what was there. A span of its class that is there is filled again.
     pub fn put(&mut self, at: usize, items: &[T])
+        requires place { at < length self.old.slots.items }
+        requires few { length items.now ≤ 2 ^ 62 }
+        requires spare { (class : ℕ) → IsClassOf (length items.now) class → 1 ≤ spare_of self.old.pool class }
+        ensures here { list_in self.new.slots.items self.new.pool at ≡ Some items.now }
+        ensures least { IfSome (slice_index_or self.new.slots.items at None) (λ span. IsClassOf (length items.now) span.class) }
+        ensures back { (old span : SpanView) → slice_index_or self.old.slots.items at None ≡ Some old → slice_index_or self.new.slots.items at None ≡ Some span → Exchanged self.old.pool self.new.pool old.class span.class }
+        ensures others { (k : ℕ) → k ≢ at → list_in self.new.slots.items self.new.pool k ≡ list_in self.old.slots.items self.old.pool k }
+        ensures len { length self.new.slots.items ≡ length self.old.slots.items }
+        ensures spare_of_class { (class : ℕ) → IsClassOf (length items.now) class → spare_of self.old.pool class ≤ spare_of self.new.pool class + 1 }
+        ensures spare_of_others { (class other : ℕ) → IsClassOf (length items.now) class → other ≢ class → spare_of self.old.pool other ≤ spare_of self.new.pool other }
+    {
+        let class = class_of(items.len() as u64);
+        if let Some(span) = &self.slots[at] {
+            if span.class() == class {
+                self.pool.fill(span, items);
+                return;
+            }
+        }
+        self.put_anew(at, items);
+    }
+
+    // The same in another span.
+    fn put_anew(&mut self, at: usize, items: &[T])
         requires place { at < length self.old.slots.items }
         requires few { length items.now ≤ 2 ^ 62 }
         requires spare { (class : ℕ) → IsClassOf (length items.now) class → 1 ≤ spare_of self.old.pool class }

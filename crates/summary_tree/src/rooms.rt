@@ -31,7 +31,7 @@ impl Model for Rooms {
 const LONGEST: u64 = 1 << 62;
 
 // Whether a list of this length needs a span of at least this class.
-fn reaches(class: u8, len: u64) -> bool
+pub(crate) fn reaches(class: u8, len: u64) -> bool
     requires { class ≤ 62 }
     ensures { result ≡ reaches class len }
 {
@@ -57,6 +57,12 @@ impl Rooms {
             rooms: [Room::NONE; 73],
             len: 0,
         }
+    }
+
+    pub(crate) fn clear(&mut self)
+        ensures { self.new ≡ [] }
+    {
+        self.len = 0;
     }
 
     pub(crate) fn push(&mut self, room: Room)
@@ -90,6 +96,24 @@ impl Rooms {
             .iter()
             .filter(|room| reaches(class, length_in(list, *room)))
             .count() as u32
+    }
+
+    /// How many rooms there are.
+    pub(crate) fn len(&self) -> u32
+        ensures { result ≡ length self.now }
+    {
+        self.len as u32
+    }
+
+    /// A length that none of the lists passes.
+    pub(crate) fn longest(&self, list: FaceList) -> u64
+        ensures { All (λ r. length_in list r ≤ result) self.now }
+    {
+        let mut most = 0;
+        for room in self.list() {
+            most = most.max(length_in(list, room));
+        }
+        most
     }
 
     /// Whether none of the lists is too long for a span.

@@ -1,5 +1,5 @@
 //! Faces and loop tables at the leaves of a tree, and faces at its inner nodes.
-ghost use Rattle.std.specs.Prelude.{◌≡◌, ◌≢◌, ℕ, ◌+◌, ◌*◌, ◌<◌, ◌≤◌, ◌↔◌, true, List, length, slice_index_or, slice_set, Option, Some, None, IfSome, IsNone, OnOk};
+ghost use Rattle.std.specs.Prelude.{◌≡◌, ◌≢◌, ℕ, ◌+◌, ◌*◌, ◌<◌, ◌≤◌, ◌↔◌, true, List, count_by, length, slice_index_or, slice_set, Option, Some, None, IfSome, IsNone, OnOk};
 ghost use Rattle.face_data.specs.Composition.{composed};
 ghost use Rattle.face_data.specs.Items.{items};
 ghost use Rattle.face_data.specs.Summaries.{Summary};
@@ -11,12 +11,12 @@ ghost use Rattle.tree_shape.specs.declared.node.Child.TheVariants.{Leaf, Inner};
 ghost use Rattle.summary_tree.specs.Faces.{face_in, spare_in, length_in, KeepsSpares};
 ghost use Rattle.summary_tree.specs.Laws.{stand_laws, room_laws, cost_law, lines_law, rooms_any_order};
 ghost use Rattle.summary_tree.specs.Leaves.{StandTogether, WholeLeaf, joined_leaf, LeavesFit, leaf_items, leaf_room, leaf_lines};
-ghost use Rattle.summary_tree.specs.Meeting.{IsMet};
+ghost use Rattle.summary_tree.specs.Meeting.{IsMet, reaches};
 ghost use Rattle.summary_tree.specs.Rooms.{kept_room};
 ghost use Rattle.summary_tree.specs.Store.{place_of, leaf_in, node_in, places_in, HasRooms};
 
 use crate::faces::{FaceList, Faces};
-use crate::rooms::Rooms;
+use crate::rooms::{Rooms, reaches};
 use face_data::{Face, FaceView};
 use knit_base::{NoMemory, Steps};
 use loop_history::LoopTable;
@@ -51,6 +51,18 @@ pub(crate) fn kept_room(face: &FaceView) -> Room
     Room::of(face).after(&Room::NONE)
 }
 
+// Whether there are as many spare spans of a class for one of the lists as rooms that need one of it or of a higher one.
+fn class_is_met(faces: &Faces, list: FaceList, class: u8, need: &Rooms) -> bool
+    requires { class ≤ 62 }
+    ensures { (result ≡ true) ↔ (count_by (λ r. reaches class (length_in list r)) need.now ≤ spare_in faces.now list class) }
+{
+    let spare = faces.spare(list, class);
+    if need.len() <= spare {
+        return true;
+    }
+    need.count(list, class) <= spare
+}
+
 // Whether there are spans for one of the lists of each room.
 fn list_is_met(faces: &Faces, list: FaceList, need: &Rooms) -> bool
     ensures { (result ≡ true) ↔ IsMet (spare_in faces.now list) (length_in list) need.now }
@@ -58,8 +70,12 @@ fn list_is_met(faces: &Faces, list: FaceList, need: &Rooms) -> bool
     if !need.is_short(list) {
         return false;
     }
+    let longest = need.longest(list);
     for class in 0..63 {
-        if faces.spare(list, class) < need.count(list, class) {
+        if !reaches(class, longest) {
+            return true;
+        }
+        if !class_is_met(faces, list, class, need) {
             return false;
         }
     }
@@ -75,7 +91,11 @@ fn reserve_list(faces: &mut Faces, list: FaceList, need: &Rooms) -> Result<(), N
     if !need.is_short(list) {
         return Err(NoMemory);
     }
+    let most = need.longest(list);
     for class in 0..63 {
+        if !reaches(class, most) {
+            return Ok(());
+        }
         faces.reserve(list, class, need.count(list, class))?;
     }
     Ok(())
@@ -204,6 +224,10 @@ impl Values for FaceStore {
 
     fn no_need() -> Rooms {
         Rooms::new()
+    }
+
+    fn clear(need: &mut Rooms) {
+        need.clear();
     }
 
     fn push(need: &mut Rooms, size: Room) {

@@ -1,5 +1,5 @@
 //! The document as a tree of its blocks' faces.
-ghost use Rattle.std.specs.Prelude.{◌≡◌, ℕ, ◌+◌, ◌*◌, ◌<◌, ◌≤◌, ◌^◌, ◌↔◌, List, [], length, take, true, slice_set, Some, OnOk, IfOk, IsOk};
+ghost use Rattle.std.specs.Prelude.{◌≡◌, ℕ, ◌+◌, ◌*◌, ◌<◌, ◌≤◌, ◌^◌, ◌↔◌, List, [], length, take, true, slice_set, Some, OnOk, IfOk, IsOk, IfSome};
 ghost use Rattle.std.specs.List.{slice_get};
 ghost use Rattle.carriage_model.specs.State.{State, empty_state};
 ghost use Rattle.face_data.specs.Drafts.{no_lines};
@@ -13,6 +13,7 @@ ghost use Rattle.summary_tree.specs.Trees.{TreeView, IsSameTree, Meets, CanRepla
 
 use crate::entry::loops_behind;
 use crate::need::Need;
+use crate::rooms::Rooms;
 use crate::start::put_leaves;
 use crate::store::{FaceStore, kept_room};
 use carriage_model::LoopLines;
@@ -28,6 +29,8 @@ use value_tree::ValueTree;
 #[derive(Drop)]
 pub struct Tree {
     whole: ValueTree<FaceStore>,
+    // where the rooms of a change are listed, in the same place each time
+    rooms: Option<Box<Rooms>>,
 }
 
 impl Model for Tree {
@@ -65,6 +68,16 @@ fn no_lines() -> FaceView<'static>
     }
 }
 
+// A place in which the rooms of changes are listed, if there is memory for one. A change can do without.
+fn place_for_rooms(alloc: Global) -> Option<Box<Rooms>>
+    ensures { IfSome result (λ rooms. rooms.value ≡ []) }
+{
+    match Box::new(alloc, Rooms::new()) {
+        Ok(rooms) => Some(rooms),
+        Err(_) => None,
+    }
+}
+
 impl Tree {
     /// A tree without leaves, which takes no memory.
     pub fn new(alloc: Global) -> Tree
@@ -72,6 +85,7 @@ impl Tree {
     {
         Tree {
             whole: ValueTree::new(alloc, FaceStore::new(alloc)),
+            rooms: None,
         }
     }
 
@@ -89,7 +103,10 @@ impl Tree {
         let mut store = FaceStore::new(alloc);
         put_leaves(&mut store, leaves)?;
         let whole = ValueTree::build(alloc, store, many, steps)?;
-        Ok(Tree { whole })
+        Ok(Tree {
+            whole,
+            rooms: place_for_rooms(alloc),
+        })
     }
 
     /// How many leaves there are.
@@ -180,6 +197,38 @@ impl Tree {
         } else {
             self.whole.reserve(&need.rooms)
         }
+    }
+
+    /// Makes the room that another face at a position needs. Where it is there already, it takes no memory. Fails where memory runs
+    /// out.
+    pub fn reserve_replace(&mut self, at: u32, face: &FaceView) -> Result<(), NoMemory>
+        requires place { at < length self.old.leaves }
+        requires packed { IsPacked face.now }
+        ensures ok { OnOk result (CanReplace self.new at (summary_of face.now)) }
+        ensures same { IsSameTree self.old self.new }
+        ensures ready { CanReplace self.old at (summary_of face.now) → IsOk result }
+    {
+        let _len = self.whole.len();
+        match &mut self.rooms {
+            Some(rooms) => {
+                self.whole.fill_replace(at, kept_room(face), rooms);
+                self.whole.reserve(rooms)
+            }
+            None => self.reserve_anew(at, face),
+        }
+    }
+
+    // The same with a need of its own, which costs more.
+    #[inline(never)]
+    fn reserve_anew(&mut self, at: u32, face: &FaceView) -> Result<(), NoMemory>
+        requires place { at < length self.old.leaves }
+        requires packed { IsPacked face.now }
+        ensures ok { OnOk result (CanReplace self.new at (summary_of face.now)) }
+        ensures same { IsSameTree self.old self.new }
+        ensures ready { CanReplace self.old at (summary_of face.now) → IsOk result }
+    {
+        let need = self.need_replace(at, face);
+        self.reserve(&need)
     }
 
     /// Puts another face and table at a position. Takes no memory.

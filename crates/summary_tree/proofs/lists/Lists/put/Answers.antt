@@ -1,21 +1,19 @@
-use Rattle.std.proofs.Common.{◌∙◌, subst, arith}
-use Rattle.span_pool.specs.Pool.{SpanView}
-use Rattle.summary_tree.specs.Lists.{Exchanged}
-use Rattle.summary_tree.proofs.SpanTables.{exchanged, filled_table, filled_others, put_there}
+use Rattle.std.proofs.Common.{◌≡◌, Some, None}
+use Rattle.std.specs.Prelude.{slice_index_or}
+use Rattle.summary_tree.proofs.SpanTables.{of_pool, read_at, refilled_table, refilled_others}
 use Rattle.summary_tree.proofs.lists.Lists.put.Goals as goal
+
+pub fill-requires-clause-of_pool : goal.fill-requires-clause-of_pool
+fill-requires-clause-of_pool g c =
+    let here : slice_index_or c.args.self.now.slots.items c.args.at None ≡ Some c.in-Some.span = read_at c.args.self.now.slots.items c.args.at c.index.result.now c.in-Some.span c.index.ensures c.requires.place c.in-Some.is in
+    of_pool c.args.self.now.slots.items c.args.self.now.pool c.args.at c.in-Some.span c.args.self.now.table here
 
 pub invariant_of-self : goal.invariant_of-self
 invariant_of-self g c =
-    let pool = c.clear.new.self.pool in
-    record { table = filled_table c.clear.new.self.slots.items pool c.fill.new.self c.args.at c.in-Ok.span c.args.items.now c.clear.new.self.table (omega (arith, c.requires.place, c.clear.ensures.len)) c.in-Ok.ensures.fresh c.fill.ensures.holds (λ o ne. c.fill.ensures.others o ne ∙ c.in-Ok.ensures.others o ne) }
+    let here : slice_index_or c.args.self.now.slots.items c.args.at None ≡ Some c.in-Some.span = read_at c.args.self.now.slots.items c.args.at c.index.result.now c.in-Some.span c.index.ensures c.requires.place c.in-Some.is in
+    record { table = refilled_table c.args.self.now.slots.items c.args.self.now.pool c.fill.new.self c.args.at c.in-Some.span c.args.self.now.table here c.requires.place c.fill.ensures.others c.args.items.now c.fill.ensures.holds }
 
-pub returns-in-Ok-clause-others : goal.returns-in-Ok-clause-others
-returns-in-Ok-clause-others g c =
-    let pool = c.clear.new.self.pool in
-    λ k ne. filled_others c.clear.new.self.slots.items pool c.fill.new.self c.args.at c.in-Ok.span c.args.items.now c.clear.new.self.table (omega (arith, c.requires.place, c.clear.ensures.len)) c.in-Ok.ensures.fresh c.fill.ensures.holds (λ o ne. c.fill.ensures.others o ne ∙ c.in-Ok.ensures.others o ne) k ne ∙ c.clear.ensures.others k ne
-
-pub returns-in-Ok-clause-back : goal.returns-in-Ok-clause-back
-returns-in-Ok-clause-back g c = λ old span before after.
-    let is = put_there c.clear.new.self.slots.items c.args.at c.in-Ok.span span (omega (arith, c.requires.place, c.clear.ensures.len)) after in
-    subst (λ (s : SpanView). Exchanged c.args.self.now.pool c.fill.new.self old.class s.class) is
-    (exchanged c.args.self.now.pool c.clear.new.self.pool c.take.new.self c.fill.new.self old.class c.in-Ok.span.class (c.clear.ensures.back old before) c.in-Ok.ensures.spare c.fill.ensures.spare)
+pub returns-then-class-clause-others : goal.returns-then-class-clause-others
+returns-then-class-clause-others g c =
+    let here : slice_index_or c.args.self.now.slots.items c.args.at None ≡ Some c.in-Some.span = read_at c.args.self.now.slots.items c.args.at c.index.result.now c.in-Some.span c.index.ensures c.requires.place c.in-Some.is in
+    refilled_others c.args.self.now.slots.items c.args.self.now.pool c.fill.new.self c.args.at c.in-Some.span c.args.self.now.table here c.requires.place c.fill.ensures.others
