@@ -138,7 +138,7 @@ unfolding reads
 reads_step effect changes lines kept now rest c goes_on h =
     next_step (against_kept kept (read_answer effect changes c.ask)) kept now (raised lines c.fault) goes_on (λ ks. reads effect changes lines ks rest) h
 
-plain_ask : (names : List Needle) (c : Cond) → IsPlainCond c → ask_of names c ≡ ask_of [] c
+pub plain_ask : (names : List Needle) (c : Cond) → IsPlainCond c → ask_of names c ≡ ask_of [] c
 plain_ask names (SizeAtMost p most) plain = absurd plain
 plain_ask names (RackIs q) plain = refl
 plain_ask names (CarrierIn c) plain = refl
@@ -147,7 +147,7 @@ plain_ask names HookFree plain = refl
 plain_ask names (HookIs set) plain = refl
 plain_ask names (HookLacks c) plain = refl
 
-plain_condition : (c : Cond) → IsPlainCond c → IsPlainCondition (ask_of [] c)
+pub plain_condition : (c : Cond) → IsPlainCond c → IsPlainCondition (ask_of [] c)
 plain_condition (SizeAtMost p most) plain = absurd plain
 plain_condition (RackIs q) plain = tt
 plain_condition (CarrierIn c) plain = tt

@@ -1,5 +1,5 @@
 -- Conditions of a second face that a condition of the first at the same place implies.
-use Rattle.std.proofs.Common.{◌≡◌, ◌⊎◌, inl, inr, ℕ, ◌≤◌, ◌+◌, ◌<◌, Bool, true, false, List, [], ◌∷◌, ◌++◌, length, refl, sym, ap, ◌∙◌, subst, arith, get_or}
+use Rattle.std.proofs.Common.{◌≡◌, ◌⊎◌, inl, inr, ℕ, ◌≤◌, ◌+◌, ◌<◌, Bool, true, false, List, [], ◌∷◌, ◌++◌, length, refl, sym, ap, ◌∙◌, subst, arith}
 use Rattle.std.specs.Prelude.{nat_le, ◌&&◌, ◌||◌}
 use Rattle.std.specs.List.{Contains, list_any}
 use Rattle.std.proofs.Math.Path.{ap₂}
@@ -34,12 +34,6 @@ use Rattle.summary_compose.specs.Tables.{suits}
 use Rattle.summary_compose.proofs.Readings.{check_at, reads_begin, reads_on}
 use Rattle.summary_compose.proofs.Answers.{plain_known}
 use Rattle.summary_compose.proofs.Steps.{noted_own}
-
--- a list of one
-pub one_item : {X : Type 0} (xs : List X) (d : X) → 1 ≤ length xs → length xs < 2 → xs ≡ get_or xs 0 d ∷ []
-one_item [] d some few = absurd (omega arith)
-one_item (x ∷ []) d some few = refl
-one_item (x ∷ y ∷ ys) d some few = absurd (omega arith)
 
 either : (a b : Bool) → (a ≡ true) ⊎ (b ≡ true) → (a || b) ≡ true
 either true b h = refl

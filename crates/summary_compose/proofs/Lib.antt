@@ -1,3 +1,4 @@
+pub mod AlikeConditions
 pub mod Answers
 pub mod Checks
 pub mod ComposedRooms

@@ -1,5 +1,5 @@
 -- Changes whose segments are laid one after the other.
-use Rattle.std.proofs.Common.{◌≡◌, ◌+◌, ◌-◌, ◌≤◌, List, [], ◌∷◌, ◌++◌, length, take, drop, map, refl, sym, ap, ◌∙◌, subst, arith, length-append}
+use Rattle.std.proofs.Common.{◌≡◌, ◌+◌, ◌-◌, ◌≤◌, List, [], ◌∷◌, ◌++◌, length, take, drop, map, refl, sym, ap, ◌∙◌, subst, arith, length-append, get_or}
 use Rattle.std.specs.Prelude.{pos}
 use Rattle.knit_base.specs.declared.needle.Needle.{Needle}
 use Rattle.knit_base.specs.declared.needle.Bed.TheVariants.{Front}
@@ -8,7 +8,7 @@ use Rattle.std.specs.List.{flat_map}
 use Rattle.std.proofs.Math.Path.{ap₂}
 use Rattle.std.proofs.Math.Seq.{drop-append_seam, take-length}
 use Rattle.std.proofs.lemmas.Grind.{flat_map-append}
-use Rattle.std.proofs.lemmas.List.{map-append, append-nil}
+use Rattle.std.proofs.lemmas.List.{map-append, append-nil, drop_more}
 use Rattle.std.proofs.lemmas.List.Elements.{All-push}
 use Rattle.std.proofs.lemmas.List.Sums.{sum_by-cons}
 use Rattle.face_data.specs.declared.face.Change.{Change}
@@ -25,6 +25,12 @@ pub part_of-end : {X : Type 0} (xs ys : List X) (p : Part) → p.start ≡ lengt
 part_of-end xs ys p s l =
     let size : (p.start + p.len) - p.start ≡ length ys = omega arith in
     ap₂ (λ n (zs : List _). take n zs) size (ap (λ k. drop k (xs ++ ys)) s ∙ drop-append_seam xs ys) ∙ take-length ys
+
+-- a part of one item
+pub part_of-one : {X : Type 0} (xs : List X) (p : Part) (d : X) → p.start + p.len ≤ length xs → p.len ≡ 1 → part_of xs p ≡ get_or xs p.start d ∷ []
+part_of-one xs p d fits one =
+    let size : (p.start + p.len) - p.start ≡ 1 = omega arith in
+    ap₂ (λ n (zs : List _). take n zs) size (drop_more xs p.start d (omega arith))
 
 -- one change more, with its segments behind the others
 pub laid_changes : (cs now : List Change) (old more all : List Seg) (c : Change) → PartsFit old cs → all ≡ old ++ more → c.part.start ≡ length old → c.part.len ≡ length more →

@@ -70,7 +70,7 @@ pub tells_all : (entries : List ℕ) (changes : List Change) (i : ℕ) → lengt
 tells_all entries changes i all h = subst (λ cs. IsTableOf entries (changed_needles cs)) (take_all i changes all) h
 
 -- a needle that isn't among the changes is unchanged
-cond_false : (b : Bool) (x y : Option (List Seg)) → b ≡ false → cond b x y ≡ y
+pub cond_false : (b : Bool) (x y : Option (List Seg)) → b ≡ false → cond b x y ≡ y
 cond_false true x y e = absurd (true≢false e)
 cond_false false x y e = refl
 

@@ -158,19 +158,19 @@ both_next a b i j d segs first second equal read =
     ∙ ap (λ (c : Changed). c ∷ merged (drop (i + 1) xs) (drop (j + 1) ys)) (second_is a b j d (first_default a d) segs second read)
 
 -- where both lists change a needle at the same place, and the second leaves one new loop on it
-pub new_next : (a b : FaceView) (i : ℕ) (d : Change) (segs : List Seg) (offset : ℕ) → i < length a.changes.now → i < length b.changes.now →
-    (get_or a.changes.now i d).needle ≡ (get_or b.changes.now i d).needle → segs ≡ part_of b.segs.now (get_or b.changes.now i d).part → segs ≡ New offset ∷ [] →
+pub new_next : (a b : FaceView) (i : ℕ) (d : Change) (offset : ℕ) → i < length a.changes.now → i < length b.changes.now →
+    (get_or a.changes.now i d).needle ≡ (get_or b.changes.now i d).needle → part_of b.segs.now (get_or b.changes.now i d).part ≡ New offset ∷ [] →
     merged (drop i (changes_in a)) (drop i (changes_through (changes_in a) a.lines (changes_in b)))
     ≡ ((get_or b.changes.now i d).needle, New (a.lines + offset) ∷ []) ∷ merged (drop (i + 1) (changes_in a)) (drop (i + 1) (changes_through (changes_in a) a.lines (changes_in b)))
-new_next a b i d segs offset first second same read one =
+new_next a b i d offset first second same one =
     both_next a b i i d (New offset ∷ []) first second
-    (ap (λ n. needle_cmp n (get_or b.changes.now i d).needle) same ∙ needle_cmp-refl (get_or b.changes.now i d).needle) (sym one ∙ read)
+    (ap (λ n. needle_cmp n (get_or b.changes.now i d).needle) same ∙ needle_cmp-refl (get_or b.changes.now i d).needle) (sym one)
 
 -- the line of that loop can be raised
-pub new_rises : (a b : FaceView) (i : ℕ) (d : Change) (segs : List Seg) (offset : ℕ) → HaveOffsets a.lines b.segs.now b.changes.now → i < length b.changes.now →
-    segs ≡ part_of b.segs.now (get_or b.changes.now i d).part → segs ≡ New offset ∷ [] → a.lines + offset < 2 ^ 32
-new_rises a b i d segs offset offsets within read one =
-    let fits : All (OffsetFits a.lines) (New offset ∷ []) = subst (All (OffsetFits a.lines)) (sym read ∙ one) (offsets i d within) in
+pub new_rises : (a b : FaceView) (i : ℕ) (d : Change) (offset : ℕ) → HaveOffsets a.lines b.segs.now b.changes.now → i < length b.changes.now →
+    part_of b.segs.now (get_or b.changes.now i d).part ≡ New offset ∷ [] → a.lines + offset < 2 ^ 32
+new_rises a b i d offset offsets within one =
+    let fits : All (OffsetFits a.lines) (New offset ∷ []) = subst (All (OffsetFits a.lines)) one (offsets i d within) in
     fits 0 (New offset) (omega arith)
 
 -- all changes are laid

@@ -1,7 +1,8 @@
 -- Changes whose segments stand in one list.
-use Rattle.std.specs.Prelude.{ℕ, List, length, map, All}
+use Rattle.std.specs.Prelude.{◌≡◌, ℕ, List, false, length, map, All}
 use Rattle.std.specs.List.{sum_by}
 use Rattle.knit_base.specs.declared.needle.Needle.{Needle}
+use Rattle.knit_base.specs.Needle.{is_slider}
 use Rattle.face_data.specs.declared.face.Change.{Change}
 use Rattle.face_data.specs.declared.face.Seg.{Seg}
 use Rattle.face_data.specs.Conditions.{part_of}
@@ -26,6 +27,10 @@ HaveOffsets lines segs changes = All (λ (c : Change). All (OffsetFits lines) (p
 -- the changes of a face with their segments written out
 abbrev pub changes_in : FaceView → List Changed
 changes_in face = map (changed_of face.segs.now) face.changes.now
+
+-- no change is of a slider
+abbrev pub SpareSliders : List Change → Type 0
+SpareSliders changes = All (λ (c : Change). is_slider c.needle.bed ≡ false) changes
 
 -- the changes of both faces, those of the second read through the first
 abbrev pub merged_of : FaceView → FaceView → List Changed

@@ -1,14 +1,15 @@
 //! Composition.
-ghost use Rattle.std.specs.Prelude.{◌≡◌, ◌<◌, ◌≤◌, ◌+◌, ◌^◌, [], length};
+ghost use Rattle.std.specs.Prelude.{◌≡◌, ◌<◌, ◌≤◌, ◌+◌, ◌^◌, true, [], length};
 ghost use Rattle.face_data.specs.Composition.{composed, composed_at, reads, closed};
+ghost use Rattle.face_data.specs.Digests.{digest_of};
 ghost use Rattle.face_data.specs.View.{summary_of};
 ghost use Rattle.summary_compose.specs.Changes.{changed_needles, changes_in, merged_of, segs_in};
 ghost use Rattle.summary_compose.specs.Composing.{Composes, FindsRoom, Holds, KeepsRooms, made_in};
-ghost use Rattle.summary_compose.specs.Known.{checks_in, names_count, names_read_count};
+ghost use Rattle.summary_compose.specs.Known.{AreAlike, checks_in, names_count, names_read_count};
 ghost use Rattle.summary_compose.specs.Tables.{IsTableOf};
 ghost use Rattle.summary_compose.specs.declared.room.Room.{Room};
 
-use crate::alike::count_alike;
+use crate::alike::{count_alike, spare_sliders};
 use crate::index::Index;
 use crate::kept::Kept;
 use crate::making::Making;
@@ -19,36 +20,66 @@ use crate::reading::read_checks;
 use face_data::{Digest, Effect, Ending, FaceView};
 use knit_base::Fault;
 
-// Gathers the conditions of both faces. Answers the fault of one that can't hold.
+// Gathers the conditions of both faces. Answers the fault of one that can't hold, and whether the first face's changes were noted.
 fn gather(
     kept: &mut Kept,
     index: &mut Index,
-    places: &Places,
+    places: &mut Places,
     a: &FaceView,
     effect: &Effect,
     b: &FaceView,
-) -> Option<Fault>
+) -> (Option<Fault>, bool)
     requires composes { Composes a.now b.now }
     requires through { a.now.ending ≡ Ending.Through effect.now }
     requires begun { kept.old.checks ≡ checks_in a.now }
     requires check_room { length a.now.checks.now + length b.now.checks.now ≤ kept.old.check_room }
     requires name_room { names_count (checks_in a.now) + names_read_count (changes_in a.now) (checks_in b.now) ≤ kept.old.name_room }
     requires index_room { names_count (checks_in a.now) + names_read_count (changes_in a.now) (checks_in b.now) ≤ index.old.room }
-    requires noted { IsTableOf places.now.table.entries.items (changed_needles a.now.changes.now) }
-    ensures read { reads effect.now (changes_in a.now) a.now.lines (checks_in a.now) (checks_in b.now) ≡ record { checks = kept.new.checks; stop = result } }
+    ensures read { reads effect.now (changes_in a.now) a.now.lines (checks_in a.now) (checks_in b.now) ≡ record { checks = kept.new.checks; stop = result.0 } }
+    ensures noted { result.1 ≡ true → IsTableOf places.new.table.entries.items (changed_needles a.now.changes.now) }
     ensures check_room { kept.new.check_room ≡ kept.old.check_room }
     ensures name_room { kept.new.name_room ≡ kept.old.name_room }
     ensures index_room { index.new.room ≡ index.old.room }
 {
     let mut digest = Digest::blank();
+    let seen = count_alike(false, &digest, places, a, effect, b);
+    if seen >= b.checks.len() {
+        if spare_sliders(a.changes) {
+            return (None, false);
+        }
+    }
+    places.note(a.changes);
     note_plain(a, &mut digest);
-    let alike = count_alike(&digest, places, a, effect, b);
+    let alike = count_known(seen, &digest, places, a, effect, b);
     if alike >= b.checks.len() {
-        return None;
+        return (None, true);
     }
     index.clear();
     note_sizes(a, index);
-    read_checks(kept, index, &mut digest, places, a, effect, b, alike)
+    let stop = read_checks(kept, index, &mut digest, places, a, effect, b, alike);
+    (stop, true)
+}
+
+// How many of the second face's first conditions hold, as far as the first's at their places and what is noted tell. Where less than half
+// were alike at sight it isn't tried.
+fn count_known(
+    seen: usize,
+    digest: &Digest,
+    places: &Places,
+    a: &FaceView,
+    effect: &Effect,
+    b: &FaceView,
+) -> usize
+    requires composes { Composes a.now b.now }
+    requires through { a.now.ending ≡ Ending.Through effect.now }
+    requires digest { digest.now ≡ digest_of (checks_in a.now) }
+    requires noted { IsTableOf places.now.table.entries.items (changed_needles a.now.changes.now) }
+    ensures { AreAlike a.now b.now effect.now result }
+{
+    if seen < b.checks.len() / 2 {
+        return 0;
+    }
+    count_alike(true, digest, places, a, effect, b)
 }
 
 /// Makes the face of the first face's text followed by the second's.
@@ -81,15 +112,15 @@ fn go_on(a: &FaceView, effect: &Effect, b: &FaceView, making: &mut Making)
     ensures made { made_in making.new ≡ closed (reads effect.now (changes_in a.now) a.now.lines (checks_in a.now) (checks_in b.now)) effect.now (summary_of a.now) (summary_of b.now) }
     ensures keeps { KeepsRooms making.old making.new }
 {
-    making.places.note(a.changes);
-    if let Some(fault) = gather(
+    let (stop, noted) = gather(
         &mut making.kept,
         &mut making.index,
-        &making.places,
+        &mut making.places,
         a,
         effect,
         b,
-    ) {
+    );
+    if let Some(fault) = stop {
         making.ending = Ending::Broken(fault);
         return;
     }
@@ -103,7 +134,7 @@ fn go_on(a: &FaceView, effect: &Effect, b: &FaceView, making: &mut Making)
         Ending::Through(more) => {
             making.made = a.made + b.made;
             making.ending = Ending::Through(effect.then(&more));
-            merge(&mut making.laid, a, b, &making.places);
+            merge(&mut making.laid, a, b, &mut making.places, noted);
         }
     }
 }

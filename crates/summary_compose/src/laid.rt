@@ -98,17 +98,17 @@ impl Laid {
         self.changes.push_reserved(Change { needle, part });
     }
 
-    /// Appends a change to one segment.
+    /// Appends a change to the new loop of this line.
     #[inline(always)]
-    pub fn lay_one(&mut self, needle: Needle, seg: Seg)
+    pub fn lay_new(&mut self, needle: Needle, line: u32)
         requires room { length self.old.changes < self.old.change_room }
         requires seg_room { segs_in self.old.changes < self.old.seg_room }
-        ensures changes { self.new.changes ≡ self.old.changes ++ (needle, seg ∷ []) ∷ [] }
+        ensures changes { self.new.changes ≡ self.old.changes ++ (needle, New line ∷ []) ∷ [] }
         ensures change_room { self.new.change_room ≡ self.old.change_room }
         ensures seg_room { self.new.seg_room ≡ self.old.seg_room }
     {
         let start = self.segs.len() as u64;
-        self.segs.push_reserved(seg);
+        self.segs.push_reserved(Seg::New(line));
         let part = Part { start, len: 1 };
         self.changes.push_reserved(Change { needle, part });
     }
@@ -128,7 +128,7 @@ impl Laid {
         ensures seg_room { self.new.seg_room ≡ self.old.seg_room }
     {
         if let Some(offset) = new_alone(segs) {
-            self.lay_one(needle, Seg::New(a.lines + offset));
+            self.lay_new(needle, a.lines + offset);
             return;
         }
         let start = self.segs.len();
@@ -150,6 +150,21 @@ pub fn new_alone(segs: &[Seg]) -> Option<u32>
     match segs {
         [Seg::New(offset)] => Some(*offset),
         _ => None,
+    }
+}
+
+/// The offset of a new loop that is the only segment of a part.
+#[inline(always)]
+pub fn new_in(segs: &[Seg], part: Part) -> Option<u32>
+    requires { part.start + part.len ≤ length segs.now }
+    ensures { IfSome result (λ offset. part_of segs.now part ≡ New offset ∷ []) }
+{
+    if part.len != 1 {
+        return None;
+    }
+    match segs[part.start as usize] {
+        Seg::New(offset) => Some(offset),
+        Seg::Entry(_) => None,
     }
 }
 

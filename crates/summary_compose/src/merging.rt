@@ -1,5 +1,5 @@
 //! The changes of two faces in the order of needles.
-ghost use Rattle.std.specs.Prelude.{◌≡◌, ◌<◌, ◌≤◌, ◌+◌, ◌^◌, ◌⊎◌, [], ◌++◌, All, drop, length, map, slice_index_or};
+ghost use Rattle.std.specs.Prelude.{◌≡◌, ◌<◌, ◌≤◌, ◌+◌, ◌^◌, ◌⊎◌, true, [], ◌++◌, All, drop, length, map, slice_index_or};
 ghost use Rattle.face_data.specs.Composition.{merged};
 ghost use Rattle.face_data.specs.Through.{changes_through};
 ghost use Rattle.knit_base.specs.Needle.{needle_cmp};
@@ -10,7 +10,7 @@ ghost use Rattle.face_data.specs.View.{changed_of, PartsFit};
 ghost use Rattle.summary_compose.specs.Changes.{changed_needles, HaveOffsets, segs_in, changes_in, merged_of};
 ghost use Rattle.summary_compose.specs.Tables.{IsTableOf};
 
-use crate::laid::{Laid, new_alone};
+use crate::laid::{Laid, new_in};
 use crate::places::Places;
 use crate::spots::is_same;
 use face_data::{Change, FaceView, Seg};
@@ -79,25 +79,53 @@ fn lay_alike(laid: &mut Laid, a: &FaceView, b: &FaceView) -> usize
     ensures change_room { laid.new.change_room ≡ laid.old.change_room }
     ensures seg_room { laid.new.seg_room ≡ laid.old.seg_room }
 {
-    let count = a.changes.len().min(b.changes.len());
+    let lines = a.lines;
+    let first = a.changes;
+    let second = b.changes;
+    let segs = b.segs;
+    let count = first.len().min(second.len());
     let mut i = 0;
     while i < count {
-        let change = b.changes[i];
-        if !is_same(a.changes[i].needle, change.needle) {
+        let change = second[i];
+        if !is_same(first[i].needle, change.needle) {
             return i;
         }
-        let Some(offset) = new_alone(segs_of(b.segs, change)) else {
+        let Some(offset) = new_in(segs, change.part) else {
             return i;
         };
-        laid.lay_one(change.needle, Seg::New(a.lines + offset));
+        laid.lay_new(change.needle, lines + offset);
         i += 1;
     }
     i
 }
 
-/// Lays the changes of both faces in the order of needles, those of the second read through the first.
-pub fn merge(laid: &mut Laid, a: &FaceView, b: &FaceView, places: &Places)
+/// Lays the changes of both faces in the order of needles, those of the second read through the first. Notes the first face's changes
+/// only where that is needed.
+pub fn merge(laid: &mut Laid, a: &FaceView, b: &FaceView, places: &mut Places, noted: bool)
     requires none { laid.old.changes ≡ [] }
+    requires room { length (merged_of a.now b.now) ≤ laid.old.change_room }
+    requires seg_room { segs_in (merged_of a.now b.now) ≤ laid.old.seg_room }
+    requires few { segs_in (merged_of a.now b.now) < 2 ^ 32 }
+    requires noted { noted ≡ true → IsTableOf places.old.table.entries.items (changed_needles a.now.changes.now) }
+    requires fit { PartsFit a.now.segs.now a.now.changes.now }
+    requires order { IsInOrder (map (changed_of a.now.segs.now) a.now.changes.now) }
+    requires second_fit { PartsFit b.now.segs.now b.now.changes.now }
+    requires offsets { HaveOffsets a.now.lines b.now.segs.now b.now.changes.now }
+    ensures changes { laid.new.changes ≡ merged_of a.now b.now }
+    ensures change_room { laid.new.change_room ≡ laid.old.change_room }
+    ensures seg_room { laid.new.seg_room ≡ laid.old.seg_room }
+{
+    let alike = lay_alike(laid, a, b);
+    if alike >= a.changes.len().max(b.changes.len()) {
+        return;
+    }
+    places.note_once(a.changes, noted);
+    lay_others(laid, a, b, places, alike);
+}
+
+// Lays the changes from this place of both faces on.
+fn lay_others(laid: &mut Laid, a: &FaceView, b: &FaceView, places: &Places, alike: usize)
+    requires begun { laid.old.changes ++ merged (drop alike (changes_in a.now)) (drop alike (changes_through (changes_in a.now) a.now.lines (changes_in b.now))) ≡ merged_of a.now b.now }
     requires room { length (merged_of a.now b.now) ≤ laid.old.change_room }
     requires seg_room { segs_in (merged_of a.now b.now) ≤ laid.old.seg_room }
     requires few { segs_in (merged_of a.now b.now) < 2 ^ 32 }
@@ -110,7 +138,6 @@ pub fn merge(laid: &mut Laid, a: &FaceView, b: &FaceView, places: &Places)
     ensures change_room { laid.new.change_room ≡ laid.old.change_room }
     ensures seg_room { laid.new.seg_room ≡ laid.old.seg_room }
 {
-    let alike = lay_alike(laid, a, b);
     let mut i = alike;
     let mut j = alike;
     while i < a.changes.len() || j < b.changes.len() {

@@ -1,5 +1,5 @@
 //! Needles read through a face.
-ghost use Rattle.std.specs.Prelude.{◌≡◌, ◌<◌, ◌≤◌, ◌+◌, ◌^◌, ◌++◌, length, map, vec_len, vec_capacity};
+ghost use Rattle.std.specs.Prelude.{◌≡◌, ◌<◌, ◌≤◌, ◌+◌, ◌^◌, [], ◌∷◌, ◌++◌, length, map, vec_len, vec_capacity, IfSome};
 ghost use Rattle.face_data.specs.Conditions.{part_of};
 ghost use Rattle.face_data.specs.Goodness.{IsInOrder};
 ghost use Rattle.face_data.specs.Segments.{segments_on, entries_of, names_through, new_of, new_through};
@@ -20,6 +20,18 @@ pub fn names_at(names: &[Needle], part: Part) -> &[Needle]
     let start = part.start as usize;
     let end = start + part.len as usize;
     &names[start..end]
+}
+
+/// The needle of a part that has one alone.
+#[inline(always)]
+pub fn one_name(names: &[Needle], part: Part) -> Option<Needle>
+    requires { part.start + part.len ≤ length names.now }
+    ensures { IfSome result (λ n. part_of names.now part ≡ n ∷ []) }
+{
+    if part.len != 1 {
+        return None;
+    }
+    Some(names[part.start as usize])
 }
 
 /// Appends the needles whose entries these needles hold after the face, and tells how many new loops they hold.

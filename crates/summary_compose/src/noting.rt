@@ -1,5 +1,5 @@
 //! The conditions of a first face noted.
-ghost use Rattle.std.specs.Prelude.{◌≡◌, ◌<◌, ◌≤◌, ◌+◌, ◌^◌, [], ◌++◌, All, length};
+ghost use Rattle.std.specs.Prelude.{◌≡◌, ◌<◌, ◌≤◌, ◌+◌, ◌^◌, List, [], ◌++◌, All, length};
 ghost use Rattle.face_data.specs.declared.face.Check.{Check};
 ghost use Rattle.face_data.specs.Conditions.{ask_of};
 ghost use Rattle.face_data.specs.Digests.{blank, digest_of, noted, CarrierFits};
@@ -11,16 +11,24 @@ use crate::sizes::note_each;
 use face_data::{Check, Cond, Digest, FaceView};
 use knit_base::Needle;
 
-// Notes a condition, if it isn't on sizes.
+// Notes a condition, if it isn't on sizes. Most are, so what is done for the others stays out of the loop.
 #[inline(always)]
 #[tactic(auto, unfolding(face_data::specs::Digests::noted))]
-fn note_if_plain(names: &[Needle], cond: Cond, digest: &mut Digest)
-    requires { CarrierFits cond }
-    ensures { digest.new ≡ noted digest.old (ask_of names.now cond) }
+fn note_if_plain(names: &[Needle], check: &Check, digest: &mut Digest)
+    requires { CarrierFits check.now.cond }
+    ensures { digest.new ≡ noted digest.old (ask_of names.now check.now.cond) }
 {
-    if let Cond::SizeAtMost(_, _) = cond {
+    if let Cond::SizeAtMost(_, _) = check.cond {
         return;
     }
+    note_cond(check.cond, digest);
+}
+
+#[inline(never)]
+fn note_cond(cond: Cond, digest: &mut Digest)
+    requires { CarrierFits cond }
+    ensures { (names : List Needle) → digest.new ≡ noted digest.old (ask_of names cond) }
+{
     digest.note(cond);
 }
 
@@ -32,7 +40,7 @@ pub fn note_plain(face: &FaceView, digest: &mut Digest)
 {
     let mut i = 0;
     while i < face.checks.len() {
-        note_if_plain(face.names, face.checks[i].cond, digest);
+        note_if_plain(face.names, &face.checks[i], digest);
         i += 1;
     }
 }

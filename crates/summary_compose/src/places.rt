@@ -1,5 +1,5 @@
 //! What needles hold after a face.
-ghost use Rattle.std.specs.Prelude.{◌≡◌, ◌<◌, ◌+◌, ◌^◌, [], ◌∷◌, length, map, IfNone, IfSome};
+ghost use Rattle.std.specs.Prelude.{◌≡◌, ◌<◌, ◌+◌, ◌^◌, true, [], ◌∷◌, length, map, IfNone, IfSome};
 ghost use Rattle.face_data.specs.declared.face.Change.{Change};
 ghost use Rattle.face_data.specs.declared.face.Seg.TheVariants.{Entry};
 ghost use Rattle.face_data.specs.Goodness.{IsInOrder};
@@ -38,6 +38,16 @@ impl Places {
     {
         for (place, change) in changes.iter().enumerate() {
             self.table.set(change.needle, place);
+        }
+    }
+
+    /// Notes the places of all changes, unless they are noted already.
+    pub fn note_once(&mut self, changes: &[Change], noted: bool)
+        requires { noted ≡ true → IsTableOf self.old.table.entries.items (changed_needles changes.now) }
+        ensures { IsTableOf self.new.table.entries.items (changed_needles changes.now) }
+    {
+        if !noted {
+            self.note(changes);
         }
     }
 

@@ -1,16 +1,28 @@
 -- What the code knows of the condition is that it holds.
 use Rattle.std.proofs.Common.{◌∙◌, refl}
 use Rattle.face_data.specs.Chains.{chain_at}
+use Rattle.face_data.specs.Conditions.{part_of}
+use Rattle.face_data.specs.Digests.{digest_of}
 use Rattle.summary_compose.specs.Changes.{changes_in}
 use Rattle.summary_compose.specs.Known.{checks_in, notes_of}
 use Rattle.summary_compose.proofs.Answers.{sized_known}
-use Rattle.summary_compose.proofs.ImpliedChecks.{implied_yes}
+use Rattle.summary_compose.proofs.ImpliedChecks.{alike_next, implied_yes}
+use Rattle.summary_compose.proofs.Readings.{first_check}
 use Rattle.summary_compose.proofs.alike.implied.Goals as goal
 
 pub returns-in-SizeAtMost : goal.returns-in-SizeAtMost
-returns-in-SizeAtMost c = λ yes.
-    sized_known c.args.digest.now (notes_of (checks_in c.args.a.now)) c.args.effect.now (changes_in c.args.a.now) c.args.names.now c.names_at.result.now c.args.cond c.in-SizeAtMost.part c.in-SizeAtMost.most (checks_in c.args.a.now)
-    (record { digest_is = c.requires.digest; notes_are = refl }) c.in-SizeAtMost.is c.names_at.ensures ∙ c.size_implied.ensures yes
+returns-in-SizeAtMost c = λ yes spared.
+    let a = c.args.a.now in
+    let b = c.args.b.now in
+    let known = digest_of (checks_in a) in
+    alike_next a b c.args.effect.now c.args.at first_check known c.requires.good c.requires.through (c.requires.alike spared) c.requires.second_there refl
+    (sized_known known (notes_of (checks_in a)) c.args.effect.now (changes_in a) b.names.now (part_of b.names.now c.in-SizeAtMost.part) _ c.in-SizeAtMost.part c.in-SizeAtMost.most (checks_in a)
+    (record { digest_is = refl; notes_are = refl }) c.in-SizeAtMost.is refl ∙ c.size_implied.ensures yes spared)
 
 pub returns : goal.returns
-returns c = λ yes. implied_yes c.args.digest.now (chain_at (checks_in c.args.a.now)) c.args.effect.now (changes_in c.args.a.now) c.args.names.now c.args.cond (c.plain_implied.ensures yes)
+returns c = λ yes spared.
+    let a = c.args.a.now in
+    let b = c.args.b.now in
+    let known = digest_of (checks_in a) in
+    alike_next a b c.args.effect.now c.args.at first_check known c.requires.good c.requires.through (c.requires.alike spared) c.requires.second_there refl
+    (implied_yes known (chain_at (checks_in a)) c.args.effect.now (changes_in a) b.names.now _ (c.plain_implied.ensures yes))

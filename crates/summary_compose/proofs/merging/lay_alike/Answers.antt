@@ -4,26 +4,26 @@ use Rattle.summary_compose.specs.Changes.{merged_of}
 use Rattle.summary_compose.proofs.Turns.{laid_on, laid_room, laid_segs, new_next, new_rises}
 use Rattle.summary_compose.proofs.merging.lay_alike.Goals as goal
 
-pub overflow_add-a : goal.overflow_add-a
-overflow_add-a c =
+pub overflow_add-lines : goal.overflow_add-lines
+overflow_add-lines c =
     let within : c.loop-i.i < length c.args.b.now.changes.now = omega (arith, c.loop-i-test.true, c.min-count.ensures) in
-    let rises = new_rises c.args.a.now c.args.b.now c.loop-i.i _ c.segs_of.result.now c.in-Some.offset c.requires.offsets within c.segs_of.ensures.segs c.in-Some.ensures in
+    let rises = new_rises c.args.a.now c.args.b.now c.loop-i.i _ c.in-Some.offset c.requires.offsets within c.in-Some.ensures in
     omega (arith, rises)
 
-pub lay_one-requires-clause-room : goal.lay_one-requires-clause-room
-lay_one-requires-clause-room c =
+pub lay_new-requires-clause-room : goal.lay_new-requires-clause-room
+lay_new-requires-clause-room c =
     let first : c.loop-i.i < length c.args.a.now.changes.now = omega (arith, c.loop-i-test.true, c.min-count.ensures) in
     let second : c.loop-i.i < length c.args.b.now.changes.now = omega (arith, c.loop-i-test.true, c.min-count.ensures) in
     let room = laid_room c.loop-i.laid.changes _ _ (merged_of c.args.a.now c.args.b.now) _
-    (new_next c.args.a.now c.args.b.now c.loop-i.i _ c.segs_of.result.now c.in-Some.offset first second ((c.if-not-is_same.ensures).0 refl) c.segs_of.ensures.segs c.in-Some.ensures) c.loop-i.invariant.whole in
+    (new_next c.args.a.now c.args.b.now c.loop-i.i _ c.in-Some.offset first second ((c.if-not-is_same.ensures).0 refl) c.in-Some.ensures) c.loop-i.invariant.whole in
     omega (arith, room, c.requires.room, c.loop-i.invariant.change_room)
 
-pub lay_one-requires-clause-seg_room : goal.lay_one-requires-clause-seg_room
-lay_one-requires-clause-seg_room c =
+pub lay_new-requires-clause-seg_room : goal.lay_new-requires-clause-seg_room
+lay_new-requires-clause-seg_room c =
     let first : c.loop-i.i < length c.args.a.now.changes.now = omega (arith, c.loop-i-test.true, c.min-count.ensures) in
     let second : c.loop-i.i < length c.args.b.now.changes.now = omega (arith, c.loop-i-test.true, c.min-count.ensures) in
     let room = laid_segs c.loop-i.laid.changes _ _ (merged_of c.args.a.now c.args.b.now) _
-    (new_next c.args.a.now c.args.b.now c.loop-i.i _ c.segs_of.result.now c.in-Some.offset first second ((c.if-not-is_same.ensures).0 refl) c.segs_of.ensures.segs c.in-Some.ensures) c.loop-i.invariant.whole in
+    (new_next c.args.a.now c.args.b.now c.loop-i.i _ c.in-Some.offset first second ((c.if-not-is_same.ensures).0 refl) c.in-Some.ensures) c.loop-i.invariant.whole in
     omega (arith, room, c.requires.seg_room, c.loop-i.invariant.seg_room)
 
 pub loop-i-preserved : goal.loop-i-preserved
@@ -31,8 +31,8 @@ loop-i-preserved c =
     let first : c.loop-i.i < length c.args.a.now.changes.now = omega (arith, c.loop-i-test.true, c.min-count.ensures) in
     let second : c.loop-i.i < length c.args.b.now.changes.now = omega (arith, c.loop-i-test.true, c.min-count.ensures) in
     record {
-      whole = laid_on c.loop-i.laid.changes c.lay_one.new.self.changes _ _ (merged_of c.args.a.now c.args.b.now) _ c.lay_one.ensures.changes
-          (new_next c.args.a.now c.args.b.now c.loop-i.i _ c.segs_of.result.now c.in-Some.offset first second ((c.if-not-is_same.ensures).0 refl) c.segs_of.ensures.segs c.in-Some.ensures) c.loop-i.invariant.whole;
-      change_room = c.lay_one.ensures.change_room ∙ c.loop-i.invariant.change_room;
-      seg_room = c.lay_one.ensures.seg_room ∙ c.loop-i.invariant.seg_room;
+      whole = laid_on c.loop-i.laid.changes c.lay_new.new.self.changes _ _ (merged_of c.args.a.now c.args.b.now) _ c.lay_new.ensures.changes
+          (new_next c.args.a.now c.args.b.now c.loop-i.i _ c.in-Some.offset first second ((c.if-not-is_same.ensures).0 refl) c.in-Some.ensures) c.loop-i.invariant.whole;
+      change_room = c.lay_new.ensures.change_room ∙ c.loop-i.invariant.change_room;
+      seg_room = c.lay_new.ensures.seg_room ∙ c.loop-i.invariant.seg_room;
     }

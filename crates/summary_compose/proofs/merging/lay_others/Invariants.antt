@@ -2,7 +2,7 @@ use Rattle.std.proofs.Common.{◌≡◌, ◌++◌, ◌+◌, ◌-◌, drop, lengt
 use Rattle.face_data.specs.Composition.{merged}
 use Rattle.face_data.specs.Through.{changes_through}
 use Rattle.summary_compose.specs.Changes.{changes_in, merged_of}
-use Rattle.summary_compose.proofs.merging.merge.Given as goal
+use Rattle.summary_compose.proofs.merging.lay_others.Given as goal
 
 abbrev pub invariant-loop-i : goal.invariant-loop-i
 invariant-loop-i l = record {

@@ -2,7 +2,7 @@
 use Rattle.std.proofs.Common.{refl, arith, ◌∙◌}
 use Rattle.summary_compose.specs.Changes.{merged_of}
 use Rattle.summary_compose.proofs.Turns.{first_next, second_next, both_next, laid_on, laid_room, laid_segs}
-use Rattle.summary_compose.proofs.merging.merge.Goals as goal
+use Rattle.summary_compose.proofs.merging.lay_others.Goals as goal
 
 pub lay_old-requires-clause-room : goal.lay_old-requires-clause-room
 lay_old-requires-clause-room c =
