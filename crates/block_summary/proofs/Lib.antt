@@ -14,5 +14,6 @@ pub mod LineGoodness
 pub mod LineFront
 pub mod LineStands
 pub mod LineSteps
+pub mod NewLoops
 pub mod TransferSteps
 mod FormedLoops

@@ -1,5 +1,5 @@
 -- A transfer: its rack and its room are asked, and then the loops go over.
-use Rattle.std.proofs.Common.{◌≡◌, ◌+◌, ◌≤◌, ℕ, Bool, List, [], ◌∷◌, map, Option, None, Some, refl, sym, ap, ◌∙◌, subst, arith}
+use Rattle.std.proofs.Common.{◌≡◌, ◌+◌, ◌≤◌, ℕ, Bool, true, List, [], ◌∷◌, map, Option, None, Some, refl, sym, ap, ◌∙◌, subst, arith}
 use Rattle.std.proofs.lemmas.Int.{ints}
 use Rattle.std.specs.Option.{option_to_list}
 use Rattle.knit_base.specs.declared.instr.Instr.{Instr}
@@ -8,6 +8,7 @@ use Rattle.knit_base.specs.declared.instr.Quarter.{Quarter}
 use Rattle.knit_base.specs.declared.instr.Read.TheVariants as read
 use Rattle.knit_base.specs.declared.needle.Needle.{Needle}
 use Rattle.knit_base.specs.declared.profile.Profile.{Profile}
+use Rattle.knit_base.specs.declared.rule.Fault.{Fault}
 use Rattle.knit_base.specs.declared.rule.Reason.{Reason}
 use Rattle.knit_base.specs.declared.rule.Rule.TheVariants.{TooManyLoops}
 use Rattle.knit_base.specs.Lawful.{IsLawful}
@@ -24,7 +25,7 @@ use Rattle.face_data.specs.Summaries.{Summary}
 use Rattle.bed_rules.specs.Beds.{crowded, moved}
 use Rattle.rack_align.specs.Moves.{rack_ask}
 use Rattle.block_summary.specs.Asks.{instr_ask}
-use Rattle.block_summary.specs.DraftKnowledge.{HasAsked, HasAskedAll, IsSmall, effect_in, written}
+use Rattle.block_summary.specs.DraftKnowledge.{HasAsked, HasAskedAll, HoldsAfter, IsSmall, Took, effect_in, written}
 use Rattle.block_summary.specs.LineSummaries.{asked_by, asked_of_rack, asked_of_sizes, line_summary}
 use Rattle.block_summary.proofs.LineSteps.{both_asked, carried_on, first_stops, line_goes, one_asked}
 
@@ -53,6 +54,19 @@ transfer_asked hold instr n n2 old mid new rack stop end ask goes is rack_is ask
     (subst (λ (r : Option (Reason × Quarter)). HasAskedAll old mid (map asked_of_rack (option_to_list r)) None) (rack_is ∙ ap rack_ask is)
     (subst (λ s. HasAskedAll old mid (map asked_of_rack (option_to_list rack)) s) goes_on asked))
     (subst (λ s. HasAskedAll mid new (asked_of_sizes rule ∷ []) s) (sym ends) (one_asked mid new rule.reason (size_at_most rule.needles rule.most) goes (took rule ask_is))))
+
+-- the rack was asked about, and there is known to be room
+pub transfer_roomy : (hold : ℕ) (instr : Instr) (n n2 : Needle) (old mid : Summary) (rack : Option (Reason × Quarter)) (stop : Option Reason) → instr ≡ Xfer n n2 →
+    rack ≡ rack_ask instr → HasAskedAll old mid (map asked_of_rack (option_to_list rack)) stop → stop ≡ None → HoldsAfter mid (size_at_most (n2 ∷ n ∷ []) hold) → HasAskedAll old mid (asked_by hold instr) None
+transfer_roomy hold instr n n2 old mid rack stop is rack_is asked goes_on holds =
+    let rule : SizeRule = room_rule hold n n2 in
+    let fault : Fault = record { line = mid.lines; reason = rule.reason } in
+    let took : HasAsked mid mid fault (size_at_most rule.needles rule.most) true = subst (λ answer. Took answer mid mid fault true) (sym holds) (refl, refl) in
+    subst (λ (i : Instr). HasAskedAll old mid (asked_by hold i) None) (sym is)
+    (both_asked old mid mid (map asked_of_rack (option_to_list (rack_ask (Xfer n n2)))) (asked_of_sizes rule ∷ []) None
+    (subst (λ (r : Option (Reason × Quarter)). HasAskedAll old mid (map asked_of_rack (option_to_list r)) None) (rack_is ∙ ap rack_ask is)
+    (subst (λ s. HasAskedAll old mid (map asked_of_rack (option_to_list rack)) s) goes_on asked))
+    (one_asked mid mid rule.reason (size_at_most rule.needles rule.most) true took))
 
 -- room for so few loops is a small condition
 pub room_small : (hold : ℕ) (n n2 : Needle) (changes : List Changed) (ask : SizeAsk) → hold ≤ 64 → ask ≡ size_ask changes (room_rule hold n n2) → IsSmall ask

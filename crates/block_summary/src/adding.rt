@@ -1,7 +1,7 @@
 //! One line more of a block that is prepared: in the draft of its lines, and in the table of its loops.
 ghost use Rattle.std.specs.Prelude.{◌≡◌, ℕ, ◌+◌, ◌<◌, ◌^◌, ◌++◌, [], ◌∷◌, false, List, Option, IfOk, OnOk, None, length};
 ghost use Rattle.std.specs.Option.{option_map, option_to_list};
-ghost use Rattle.knit_base.specs.declared.instr.Instr.TheVariants.{Knit};
+ghost use Rattle.knit_base.specs.declared.instr.Instr.TheVariants.{Knit, Xfer};
 ghost use Rattle.knit_base.specs.declared.instr.Read.{Read};
 ghost use Rattle.knit_base.specs.declared.instr.Read.TheVariants as read;
 ghost use Rattle.knit_base.specs.Lawful.{IsLawfulRead};
@@ -14,7 +14,7 @@ ghost use Rattle.face_data.specs.Segments.{change_at};
 ghost use Rattle.block_summary.specs.Prepared.{AddsLine, AreRowsOf, IsKnitIfKnown, row_of};
 
 use crate::{Draft, FormedLoop, LineEnd};
-use knit_base::{CarrierNo, Dir, Fault, Needle, NoMemory, Read, Setting, Usual};
+use knit_base::{CarrierNo, Dir, Fault, Instr, Needle, NoMemory, Read, Setting, Usual};
 use knitout_reader::{LastNamed, one_carrier, read_line, usual_reading, usual_whole_line};
 use loop_history::{LoopRow, LoopTable};
 
@@ -115,7 +115,8 @@ fn add_usual(
             }
             add_reading(usual, setting, draft, loops)
         }
-        Usual::Tuck(..) | Usual::Xfer(..) => add_reading(usual, setting, draft, loops),
+        Usual::Tuck(..) => add_reading(usual, setting, draft, loops),
+        Usual::Xfer(n, n2) => add_transfer(n, n2, setting, draft, loops),
     }
 }
 
@@ -138,6 +139,31 @@ fn add_reading(
     let _carriers = setting.declared.len();
     let read = usual_reading(draft.allocator(), usual)?;
     add_read(&read, setting, draft, loops)
+}
+
+// A transfer more, which forms no loop.
+#[inline(never)]
+fn add_transfer(
+    n: Needle,
+    n2: Needle,
+    setting: &Setting,
+    draft: &mut Draft,
+    loops: &mut LoopTable,
+) -> Result<Option<Fault>, NoMemory>
+    requires profile { IsLawfulProfile setting.now.profile }
+    requires lawful { IsLawfulRead setting.now.profile (length setting.now.declared) (read.Instr (Xfer n n2)) }
+    requires few { draft.old.lines < 4096 }
+    requires rows { AreRowsOf draft.old.lines loops.old }
+    ensures added { IfOk result (AddsLine setting.now.profile (length setting.now.declared) (read.Instr (Xfer n n2)) draft.old draft.new loops.old loops.new) }
+    ensures lines { OnOk result (draft.new.lines ≡ draft.old.lines + 1) }
+    ensures rows { OnOk result (AreRowsOf draft.new.lines loops.new) }
+{
+    let _carriers = setting.declared.len();
+    let instr = Instr::Xfer(n, n2);
+    match draft.transfer(&instr, n, n2, &setting.profile)? {
+        LineEnd::Stops(fault) => Ok(Some(fault)),
+        LineEnd::GoesOn(_) => Ok(None),
+    }
 }
 
 // A knit more of which all is known, with its row. Answers whether it is one; where it isn't, nothing was done.

@@ -23,6 +23,7 @@ ghost use Rattle.block_summary.specs.LineSummaries.{line_summary};
 
 use crate::kept::Kept;
 use crate::laid::{Laid, face_of};
+use crate::room::new_loops_on;
 use face_data::{Bearing, Cond, Effect, Ending, Face, Seg, Segs, SizeAsk, Symbols, slot_of};
 use knit_base::{Fault, Needle, NoMemory, Reason, Yarns};
 use std::alloc::Global;
@@ -190,6 +191,19 @@ impl Draft {
         ensures { IsTrue result → change_at self.now.changes n ≡ None }
     {
         self.symbols.of(n).is_none()
+    }
+
+    /// Whether both needles are known to hold at most so many loops together, since the lines made them all. False says nothing.
+    pub(crate) fn has_room(&self, n: Needle, n2: Needle, hold: u8) -> bool
+        ensures { IsTrue result → HoldsAfter self.now (size_at_most (n ∷ n2 ∷ []) hold) }
+    {
+        let Some(first) = new_loops_on(&self.symbols, n) else {
+            return false;
+        };
+        let Some(second) = new_loops_on(&self.symbols, n2) else {
+            return false;
+        };
+        u64::from(first) + u64::from(second) <= u64::from(hold)
     }
 
     /// These needles are to hold at most so many loops at the block's entry.

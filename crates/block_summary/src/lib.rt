@@ -30,6 +30,7 @@ mod laid;
 mod line;
 mod line_ask;
 mod prepared;
+mod room;
 #[cfg(test)]
 mod tests;
 

@@ -60,7 +60,7 @@ impl Draft {
         }
     }
 
-    // A knit asks only what isn't known of its carriers and its slider, and a transfer its rack and room alone.
+    // A knit asks only what isn't known of its carriers and its slider, a transfer its rack and room alone, and a pause nothing.
     fn instr(&mut self, instr: &Instr, profile: &Profile) -> Result<LineEnd, NoMemory>
         requires profile { IsLawfulProfile profile.now }
         requires lawful { (carriers : ℕ) × (carriers ≤ 64) × IsLawful profile.now carriers instr.now }
@@ -73,6 +73,10 @@ impl Draft {
                 None => self.first_knit(instr, *dir, *n, yarns, profile),
             },
             Instr::Xfer(n, n2) => self.transfer(instr, *n, *n2, profile),
+            Instr::Pause => {
+                self.pass();
+                Ok(LineEnd::GoesOn(None))
+            }
             _ => self.any_instr(instr, profile),
         }
     }
@@ -214,8 +218,8 @@ impl Draft {
         }))
     }
 
-    // A transfer: the needles have to face each other, and the second has to have room for the loops of both.
-    fn transfer(
+    /// A transfer: the needles have to face each other, and the second has to have room for the loops of both.
+    pub(crate) fn transfer(
         &mut self,
         instr: &Instr,
         n: Needle,
@@ -250,6 +254,9 @@ impl Draft {
     {
         if let Some(reason) = self.ask_rack(rack_align::ask(instr))? {
             return Ok(Some(reason));
+        }
+        if self.has_room(n2, n, hold) {
+            return Ok(None);
         }
         let reason = Reason {
             rule: Rule::TooManyLoops,

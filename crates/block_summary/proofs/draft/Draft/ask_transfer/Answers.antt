@@ -1,13 +1,18 @@
 use Rattle.std.proofs.Common.{[], ◌∷◌, ap, ◌∙◌}
 use Rattle.face_data.specs.Sizes.{size_ask}
 use Rattle.bed_rules.specs.Beds.{crowded}
-use Rattle.block_summary.proofs.TransferSteps.{room_small, transfer_asked, transfer_stops}
+use Rattle.block_summary.proofs.TransferSteps.{room_small, transfer_asked, transfer_roomy, transfer_stops}
 use Rattle.block_summary.proofs.draft.Draft.ask_transfer.Goals as goal
 
 pub returns-in-Some : goal.returns-in-Some
 returns-in-Some c =
     transfer_stops c.args.hold c.args.instr.now c.args.n c.args.n2 c.args.self.now c.ask_rack.new.self c.ask.result c.in_ok-reason.field-0 c.in-Some.reason c.requires.transfer c.ask.ensures.is
     c.in_ok-reason.ensures c.in-Some.is
+
+pub returns-then-has_room : goal.returns-then-has_room
+returns-then-has_room c =
+    transfer_roomy c.args.hold c.args.instr.now c.args.n c.args.n2 c.args.self.now c.ask_rack.new.self c.ask.result c.in_ok-reason.field-0 c.requires.transfer c.ask.ensures.is
+    c.in_ok-reason.ensures c.in_default.is (c.has_room.ensures c.if-has_room.true)
 
 pub ask_size-requires-2 : goal.ask_size-requires-2
 ask_size-requires-2 c = room_small c.args.hold c.args.n c.args.n2 c.contents.result.now c.in_ok-ask.ask c.requires.hold c.in_ok-ask.ensures.is
