@@ -6,6 +6,7 @@ pub mod BedNeedles
 pub mod Blocks
 pub mod Counts
 pub mod Cuts
+pub mod Heights
 pub mod LineLoops
 pub mod LinePlaces
 pub mod Looks

@@ -50,7 +50,8 @@ impl Book {
         self.add_fitting(session, anchor, id, prepared, steps)
     }
 
-    // An add that nothing refuses.
+    // An add that nothing refuses, apart from the others, since a call pays for all values that it may have.
+    #[inline(never)]
     fn add_fitting<L: Ledger>(
         &mut self,
         session: u32,

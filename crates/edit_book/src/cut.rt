@@ -39,7 +39,8 @@ impl Book {
         self.cut_fitting(session, block, seen, steps)
     }
 
-    // A cut that nothing refuses.
+    // A cut that nothing refuses, apart from the others, since a call pays for all values that it may have.
+    #[inline(never)]
     fn cut_fitting<L: Ledger>(
         &mut self,
         session: u32,

@@ -17,6 +17,8 @@ mod add;
 mod block_state;
 mod book;
 mod cut;
+#[cfg(test)]
+mod limits_tests;
 mod look;
 mod loops;
 mod now;

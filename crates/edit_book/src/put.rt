@@ -49,7 +49,8 @@ impl Book {
         self.put_fitting(session, block, seen, prepared, steps)
     }
 
-    // A put that nothing refuses.
+    // A put that nothing refuses, apart from the others, since a call pays for all values that it may have.
+    #[inline(never)]
     fn put_fitting<L: Ledger>(
         &mut self,
         session: u32,
@@ -74,8 +75,7 @@ impl Book {
         if room_for_entry(&mut self.journal).is_err() {
             return Reply::NoMemory;
         }
-        let need = self.tree.need_replace(at as u32, &face.view());
-        if self.tree.reserve(&need).is_err() {
+        if self.tree.reserve_replace(at as u32, &face.view()).is_err() {
             return Reply::NoMemory;
         }
         self.journal.push(Entry {

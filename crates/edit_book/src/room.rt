@@ -28,9 +28,8 @@ impl Book {
         let Some(at) = self.order.position(block) else {
             return Ok(());
         };
-        let need = self.tree.need_replace(at as u32, &prepared.face.view());
         room_for_entry(&mut self.journal)?;
-        self.tree.reserve(&need)
+        self.tree.reserve_replace(at as u32, &prepared.face.view())
     }
 }
 

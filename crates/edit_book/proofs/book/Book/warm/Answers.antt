@@ -9,16 +9,16 @@ use Rattle.summary_tree.specs.Trees.{CanReplace}
 use Rattle.edit_book.proofs.Made.{at_fits}
 use Rattle.edit_book.proofs.book.Book.warm.Goals as goal
 
-pub need_replace-need-requires-clause-place : goal.need_replace-need-requires-clause-place
-need_replace-need-requires-clause-place c = (at_fits _ _ _ _ _ _ _ _ c.self.invariant (sym c.position.ensures ∙ c.in-Some.is)).0
+pub reserve_replace-requires-clause-place : goal.reserve_replace-requires-clause-place
+reserve_replace-requires-clause-place c = (at_fits _ _ _ _ _ _ _ _ c.self.invariant (sym c.position.ensures ∙ c.in-Some.is)).0
 
 pub returns-clause-ok : goal.returns-clause-ok
 returns-clause-ok c =
     let stands = subst (λ (p : List Entry × List Leaf). Stands c.self.inside.opening p.0 p.1 c.self.inside.states.items c.self.inside.order.ids c.self.inside.lines)
-    (λ i. (sym c.in_ok-room_for_entry.ensures.entries i, sym c.reserve.ensures.same.leaves i)) c.self.invariant in
-    on_ok_weaker c.reserve.result
+    (λ i. (sym c.in_ok-room_for_entry.ensures.entries i, sym c.reserve_replace.ensures.same.leaves i)) c.self.invariant in
+    on_ok_weaker c.reserve_replace.result
     (λ met.
-    ready_by c.self.inside.opening c.room_for_entry.new.journal.entries c.self.inside.states.items c.self.inside.order.ids c.self.inside.lines c.args.block c.in-Some.at _ c.room_for_entry.new.journal.room c.reserve.new.self
+    ready_by c.self.inside.opening c.room_for_entry.new.journal.entries c.self.inside.states.items c.self.inside.order.ids c.self.inside.lines c.args.block c.in-Some.at _ c.room_for_entry.new.journal.room c.reserve_replace.new.self
     c.args.prepared.now.face stands refl (sym c.position.ensures ∙ c.in-Some.is) c.in_ok-room_for_entry.ensures.ok
-    (subst (λ (s : Summary). CanReplace c.reserve.new.self c.in-Some.at s) c.view.ensures.summary ((c.need_replace-need.ensures c.reserve.new.self c.reserve.ensures.same).0 met)))
-    c.reserve.ensures.ok
+    (subst (λ (s : Summary). CanReplace c.reserve_replace.new.self c.in-Some.at s) c.view.ensures.summary met))
+    c.reserve_replace.ensures.ok
