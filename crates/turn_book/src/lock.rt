@@ -11,7 +11,6 @@ use crate::steps::{Count, Look, Release, Take};
 use crate::turn_rule::ViewOf;
 use atomic_table::Seat;
 use std::sync::Wait;
-use std::thread::yield_now;
 
 // A pass's seat at the table.
 pub(crate) type Place<B> = Seat<Option<B>, ViewOf<B>>;
@@ -31,7 +30,8 @@ impl<B: Booked> Shared<B> {
                 };
                 return book;
             }
-            yield_now();
+            // Sleeps while the turn is held. What is woken for no reason asks again.
+            self.table.shared.park(rt, 0, 1);
         }
         unreachable!()
     }
@@ -81,5 +81,6 @@ impl<B: Booked> Shared<B> {
             unreachable!()
         };
         self.table.shared.store::<Release<B>>(seat, 0, 0);
+        self.table.shared.wake_one(0);
     }
 }
