@@ -3,19 +3,24 @@ use Rattle.std.specs.Prelude.{◌≡◌, ℕ, ◌<◌, ◌-◌, ◌^◌, min, le
 use Rattle.std.specs.HashMap.{get, spare}
 use Rattle.edit_book.specs.declared.reply.Reply.{Reply}
 use Rattle.edit_book.specs.declared.reply.Reply.TheVariants.{Accepted, Shown}
+use Rattle.edit_sessions.specs.declared.session.Learned.{Learned}
 use Rattle.edit_sessions.specs.declared.session.Session.{Session}
 use Rattle.edit_sessions.specs.Memory.{Memory, own_block}
 
--- the count of adds stops at its last value, which no name reaches
-pub record Remembers (s : Session) (m : Memory) : Type 0 where
-  pub stamps : (id : ℕ) → get nat_eq s.stamps id ≡ m.stamps id
-  pub made : (n : ℕ) → n < 2 ^ 32 → get nat_eq s.made n ≡ own_block m.adds n
-  pub adds : s.adds ≡ min (length m.adds) (2 ^ 64 - 1)
+-- What was learned is what is remembered. The count of adds stops at its last value, which no name reaches.
+pub record HasLearned (l : Learned) (m : Memory) : Type 0 where
+  pub stamps : (id : ℕ) → get nat_eq l.stamps id ≡ m.stamps id
+  pub made : (n : ℕ) → n < 2 ^ 32 → get nat_eq l.made n ≡ own_block m.adds n
+  pub adds : l.adds ≡ min (length m.adds) (2 ^ 64 - 1)
+
+-- what a session keeps; its draft is room alone, and says nothing
+abbrev pub Remembers : Session → Memory → Type 0
+Remembers s m = HasLearned s.learned m
 
 -- room for one more stamp and one more block of its own
-pub record HasRoom (s : Session) : Type 0 where
-  pub stamps : 0 < spare s.stamps
-  pub made : 0 < spare s.made
+pub record HasRoom (l : Learned) : Type 0 where
+  pub stamps : 0 < spare l.stamps
+  pub made : 0 < spare l.made
 
 -- the reply tells a stamp
 abbrev pub Teaches : Reply → Type 0

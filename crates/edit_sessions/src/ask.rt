@@ -6,12 +6,12 @@ ghost use Rattle.edit_book.specs.Turns.{IsFit};
 ghost use Rattle.block_summary.specs.Prepared.{IsPreparedFor};
 ghost use Rattle.knit_base.specs.Limits.{IsLawfulProfile};
 ghost use Rattle.edit_sessions.specs.Memory.{Memory, asked, if_anchored, if_named, if_seen, unless_long};
-ghost use Rattle.edit_sessions.specs.Session.{Remembers};
+ghost use Rattle.edit_sessions.specs.Session.{HasLearned};
 ghost use Rattle.edit_book.specs.declared.reply.Reply.{Reply};
 ghost use Rattle.edit_journal.specs.declared.edit.Anchor.{Anchor};
 
-use crate::session::Session;
-use block_summary::{PrepareFault, Prepared, prepare};
+use crate::session::Learned;
+use block_summary::{Draft, PrepareFault, Prepared, prepare_with};
 use edit_book::{BookCommand, Reply};
 use edit_journal::{Anchor, BlockName};
 use knit_base::{BlockText, Lines, Setting, Steps};
@@ -26,22 +26,23 @@ use std::sync::ledger::Ledger;
 pub(crate) fn ask<L: Ledger>(
     alloc: Global,
     setting: &Setting,
-    session: &Session,
+    learned: &Learned,
+    draft: &mut Draft,
     command: &Command,
     steps: &mut Steps<L>,
 ) -> Result<BookCommand, Reply>
     requires { IsLawfulProfile setting.now.profile }
     ensures fits { IfOk result (λ request. (opening : Opening) → opening.setting ≡ setting.now → IsFit opening request) }
-    ensures asked { (m : Memory) → Remembers session.now m → MatchResult result (λ request. asked m command.now ≡ Ok (request_of request)) (λ reply. (reply ≡ Reply.NoMemory) ⊎ (asked m command.now ≡ Err reply)) }
+    ensures asked { (m : Memory) → HasLearned learned.now m → MatchResult result (λ request. asked m command.now ≡ Ok (request_of request)) (λ reply. (reply ≡ Reply.NoMemory) ⊎ (asked m command.now ≡ Err reply)) }
 {
     match command {
-        Command::Look(name) => match known(session, *name) {
+        Command::Look(name) => match known(learned, *name) {
             Ok(id) => Ok(BookCommand::Look(id)),
             Err(reply) => Err(reply),
         },
-        Command::Put(name, text) => ask_put(alloc, setting, session, *name, text, steps),
-        Command::Add(place, text) => ask_add(alloc, setting, session, *place, text, steps),
-        Command::Cut(name) => match seen(session, *name) {
+        Command::Put(name, text) => ask_put(alloc, setting, learned, draft, *name, text, steps),
+        Command::Add(place, text) => ask_add(alloc, setting, learned, draft, *place, text, steps),
+        Command::Cut(name) => match seen(learned, *name) {
             Ok((block, seen)) => Ok(BookCommand::Cut { block, seen }),
             Err(reply) => Err(reply),
         },
@@ -54,20 +55,21 @@ pub(crate) fn ask<L: Ledger>(
 fn ask_put<L: Ledger>(
     alloc: Global,
     setting: &Setting,
-    session: &Session,
+    learned: &Learned,
+    draft: &mut Draft,
     name: BlockName,
     text: &Lines,
     steps: &mut Steps<L>,
 ) -> Result<BookCommand, Reply>
     requires { IsLawfulProfile setting.now.profile }
     ensures fits { IfOk result (λ request. (opening : Opening) → opening.setting ≡ setting.now → IsFit opening request) }
-    ensures asked { (m : Memory) → Remembers session.now m → MatchResult result (λ request. asked m (Command.Put name text.now) ≡ Ok (request_of request)) (λ reply. (reply ≡ Reply.NoMemory) ⊎ (asked m (Command.Put name text.now) ≡ Err reply)) }
+    ensures asked { (m : Memory) → HasLearned learned.now m → MatchResult result (λ request. asked m (Command.Put name text.now) ≡ Ok (request_of request)) (λ reply. (reply ≡ Reply.NoMemory) ⊎ (asked m (Command.Put name text.now) ≡ Err reply)) }
 {
-    let (block, seen) = match seen(session, name) {
+    let (block, seen) = match seen(learned, name) {
         Ok(found) => found,
         Err(reply) => return Err(reply),
     };
-    match prepared(alloc, setting, text, steps) {
+    match prepared(alloc, setting, draft, text, steps) {
         Ok(prepared) => Ok(BookCommand::Put {
             block,
             seen,
@@ -81,20 +83,21 @@ fn ask_put<L: Ledger>(
 fn ask_add<L: Ledger>(
     alloc: Global,
     setting: &Setting,
-    session: &Session,
+    learned: &Learned,
+    draft: &mut Draft,
     place: Place,
     text: &Lines,
     steps: &mut Steps<L>,
 ) -> Result<BookCommand, Reply>
     requires { IsLawfulProfile setting.now.profile }
     ensures fits { IfOk result (λ request. (opening : Opening) → opening.setting ≡ setting.now → IsFit opening request) }
-    ensures asked { (m : Memory) → Remembers session.now m → MatchResult result (λ request. asked m (Command.Add place text.now) ≡ Ok (request_of request)) (λ reply. (reply ≡ Reply.NoMemory) ⊎ (asked m (Command.Add place text.now) ≡ Err reply)) }
+    ensures asked { (m : Memory) → HasLearned learned.now m → MatchResult result (λ request. asked m (Command.Add place text.now) ≡ Ok (request_of request)) (λ reply. (reply ≡ Reply.NoMemory) ⊎ (asked m (Command.Add place text.now) ≡ Err reply)) }
 {
-    let anchor = match anchor(session, place) {
+    let anchor = match anchor(learned, place) {
         Ok(anchor) => anchor,
         Err(reply) => return Err(reply),
     };
-    match prepared(alloc, setting, text, steps) {
+    match prepared(alloc, setting, draft, text, steps) {
         Ok(prepared) => Ok(BookCommand::Add { anchor, prepared }),
         Err(reply) => Err(reply),
     }
@@ -102,10 +105,10 @@ fn ask_add<L: Ledger>(
 
 // The block that a name means.
 #[tactic(auto, using(crate::proofs::Asks::names))]
-fn known(session: &Session, name: BlockName) -> Result<u32, Reply>
-    ensures { (m : Memory) (ask : ℕ → Result Request Reply) → Remembers session.now m → MatchResult result (λ id. if_named m name ask ≡ ask id) (λ reply. if_named m name ask ≡ Err reply) }
+fn known(learned: &Learned, name: BlockName) -> Result<u32, Reply>
+    ensures { (m : Memory) (ask : ℕ → Result Request Reply) → HasLearned learned.now m → MatchResult result (λ id. if_named m name ask ≡ ask id) (λ reply. if_named m name ask ≡ Err reply) }
 {
-    match session.named(&name) {
+    match learned.named(&name) {
         Some(id) => Ok(id),
         None => Err(Reply::Unseen { name }),
     }
@@ -113,13 +116,13 @@ fn known(session: &Session, name: BlockName) -> Result<u32, Reply>
 
 // The block that a name means, and the stamp that the session knows of it.
 #[tactic(auto, using(crate::proofs::Asks::names))]
-fn seen(session: &Session, name: BlockName) -> Result<(u32, u32), Reply>
-    ensures { (m : Memory) (ask : ℕ → ℕ → Result Request Reply) → Remembers session.now m → MatchResult result (λ found. if_seen m name ask ≡ ask found.0 found.1) (λ reply. if_seen m name ask ≡ Err reply) }
+fn seen(learned: &Learned, name: BlockName) -> Result<(u32, u32), Reply>
+    ensures { (m : Memory) (ask : ℕ → ℕ → Result Request Reply) → HasLearned learned.now m → MatchResult result (λ found. if_seen m name ask ≡ ask found.0 found.1) (λ reply. if_seen m name ask ≡ Err reply) }
 {
-    let Some(id) = session.named(&name) else {
+    let Some(id) = learned.named(&name) else {
         return Err(Reply::Unseen { name });
     };
-    match session.stamp(id) {
+    match learned.stamp(id) {
         Some(seen) => Ok((id, seen)),
         None => Err(Reply::Unseen { name }),
     }
@@ -127,23 +130,24 @@ fn seen(session: &Session, name: BlockName) -> Result<(u32, u32), Reply>
 
 // Where a place is in the document.
 #[tactic(auto, using(crate::proofs::Asks::names))]
-fn anchor(session: &Session, place: Place) -> Result<Anchor, Reply>
-    ensures { (m : Memory) (ask : Anchor → Result Request Reply) → Remembers session.now m → MatchResult result (λ anchor. if_anchored m place ask ≡ ask anchor) (λ reply. if_anchored m place ask ≡ Err reply) }
+fn anchor(learned: &Learned, place: Place) -> Result<Anchor, Reply>
+    ensures { (m : Memory) (ask : Anchor → Result Request Reply) → HasLearned learned.now m → MatchResult result (λ anchor. if_anchored m place ask ≡ ask anchor) (λ reply. if_anchored m place ask ≡ Err reply) }
 {
     match place {
         Place::Start => Ok(Anchor::Start),
-        Place::After(name) => match known(session, name) {
+        Place::After(name) => match known(learned, name) {
             Ok(id) => Ok(Anchor::After(id)),
             Err(reply) => Err(reply),
         },
     }
 }
 
-/// A text, prepared for the setting, or the reply that it is too long.
+/// A text, prepared in this draft for the setting, or the reply that it is too long.
 #[tactic(auto, using(crate::proofs::Asks::texts))]
 pub(crate) fn prepared<L: Ledger>(
     alloc: Global,
     setting: &Setting,
+    draft: &mut Draft,
     text: &Lines,
     steps: &mut Steps<L>,
 ) -> Result<Prepared, Reply>
@@ -155,7 +159,7 @@ pub(crate) fn prepared<L: Ledger>(
     let Ok(copy) = BlockText::of(alloc, text, 0, text.len()) else {
         return Err(Reply::NoMemory);
     };
-    match prepare(alloc, copy, setting, steps) {
+    match prepare_with(draft, copy, setting, steps) {
         Ok(prepared) => Ok(prepared),
         Err(PrepareFault::BlockLong { lines }) => Err(Reply::BlockLong { lines }),
         Err(PrepareFault::NoMemory) => Err(Reply::NoMemory),

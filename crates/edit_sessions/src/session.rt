@@ -4,8 +4,9 @@ ghost use Rattle.std.specs.Bool.{OnTrue};
 ghost use Rattle.std.specs.HashMap.{get, spare};
 ghost use Rattle.edit_journal.specs.declared.opening.Opening.{Opening};
 ghost use Rattle.edit_sessions.specs.Memory.{Memory, first_memory, memory_after, with_stamp, with_told, told_by, named};
-ghost use Rattle.edit_sessions.specs.Session.{Remembers, HasRoom, Teaches};
+ghost use Rattle.edit_sessions.specs.Session.{HasLearned, HasRoom, Remembers, Teaches};
 
+use block_summary::Draft;
 use edit_book::Reply;
 use edit_journal::BlockName;
 use knit_base::NoMemory;
@@ -13,13 +14,21 @@ use script_reader::Command;
 use std::alloc::Global;
 use std::collections::HashMap;
 
-/// The adds are counted, and those that were accepted are kept by their number: counting takes no memory.
+/// What a session has learned from its replies. The adds are counted, and those that were accepted are kept by their number: counting
+/// takes no memory.
 #[derive(Drop)]
-pub struct Session {
-    pub(crate) number: u32,
+pub struct Learned {
     stamps: HashMap<u32, u32>,
     made: HashMap<u64, u32>,
     adds: u64,
+}
+
+/// A session. The draft is room in which its texts are prepared, one after the other.
+#[derive(Drop)]
+pub struct Session {
+    pub(crate) number: u32,
+    pub(crate) learned: Learned,
+    pub(crate) draft: Draft,
 }
 
 fn set_stamp(stamps: &mut HashMap<u32, u32>, block: u32, stamp: u32)
@@ -78,16 +87,20 @@ impl Session {
         }
         Ok(Session {
             number,
-            stamps,
-            made: HashMap::new(alloc),
-            adds: 0,
+            learned: Learned {
+                stamps,
+                made: HashMap::new(alloc),
+                adds: 0,
+            },
+            draft: Draft::new(alloc),
         })
     }
+}
 
+impl Learned {
     /// Makes room for what one reply can teach.
     pub fn make_room(&mut self) -> bool
-        ensures number { self.new.number ≡ self.old.number }
-        ensures kept { (m : Memory) → Remembers self.old m → Remembers self.new m }
+        ensures kept { (m : Memory) → HasLearned self.old m → HasLearned self.new m }
         ensures room { OnTrue result (HasRoom self.new) }
     {
         self.stamps.reserve(1).is_ok() && self.made.reserve(1).is_ok()
@@ -95,7 +108,7 @@ impl Session {
 
     /// The block that a name means.
     pub fn named(&self, name: &BlockName) -> Option<u32>
-        ensures { (m : Memory) → Remembers self.now m → result ≡ named m name.now }
+        ensures { (m : Memory) → HasLearned self.now m → result ≡ named m name.now }
     {
         match name {
             BlockName::Id(id) => Some(*id),
@@ -105,7 +118,7 @@ impl Session {
 
     /// The stamp that the session knows of a block.
     pub fn stamp(&self, id: u32) -> Option<u32>
-        ensures { (m : Memory) → Remembers self.now m → result ≡ m.stamps id }
+        ensures { (m : Memory) → HasLearned self.now m → result ≡ m.stamps id }
     {
         self.stamps.get(&id).copied()
     }
@@ -114,8 +127,7 @@ impl Session {
     #[tactic(auto, using(crate::proofs::Made::made))]
     pub fn learn(&mut self, command: &Command, reply: &Reply)
         requires { Teaches reply.now → HasRoom self.old }
-        ensures number { self.new.number ≡ self.old.number }
-        ensures learned { (m : Memory) → Remembers self.old m → Remembers self.new (memory_after m command.now reply.now) }
+        ensures { (m : Memory) → HasLearned self.old m → HasLearned self.new (memory_after m command.now reply.now) }
     {
         learn_stamp(&mut self.stamps, told(command, reply));
         if let Command::Add(_, _) = command {

@@ -3,13 +3,14 @@ ghost use Rattle.std.specs.Prelude.{◌≡◌, ◌<◌, ◌≤◌};
 ghost use Rattle.edit_book.specs.Turns.{IsRight};
 ghost use Rattle.knit_base.specs.Limits.{IsLawfulProfile};
 ghost use Rattle.edit_sessions.specs.Memory.{Memory, memory_after};
-ghost use Rattle.edit_sessions.specs.Session.{Remembers};
+ghost use Rattle.edit_sessions.specs.Session.{HasLearned, Remembers};
 ghost use Rattle.edit_sessions.specs.Shared.{opening_of};
 ghost use Rattle.edit_sessions.specs.Taken.{IsTaken};
 ghost use Rattle.turn_book.specs.Passes.{IsPassOf, view_of};
 
 use crate::ask::ask;
-use crate::session::Session;
+use crate::session::{Learned, Session};
+use block_summary::Draft;
 use edit_book::{Book, Reply};
 use knit_base::{Setting, Steps};
 use script_reader::Command;
@@ -43,7 +44,12 @@ pub fn do_command<R: Threads + Wait>(
     ensures taken { (m : Memory) → Remembers session.old m → IsTaken (opening_of shared.now) session.old.number m command.now result (view_of pass.old) (view_of pass.new) }
     ensures learned { (m : Memory) → Remembers session.old m → Remembers session.new (memory_after m command.now result) }
 {
-    let reply = if session.make_room() {
+    let Session {
+        number,
+        learned,
+        draft,
+    } = session;
+    let reply = if learned.make_room() {
         take::<Brand, R>(
             rt,
             alloc,
@@ -51,13 +57,15 @@ pub fn do_command<R: Threads + Wait>(
             shared,
             pass,
             setting,
-            session,
+            *number,
+            learned,
+            draft,
             command,
         )
     } else {
         Reply::NoMemory
     };
-    session.learn(command, &reply);
+    learned.learn(command, &reply);
     reply
 }
 
@@ -70,20 +78,22 @@ fn take<L: Ledger, R: Threads + Wait>(
     shared: &Shared<Book>,
     pass: &mut Pass<Book>,
     setting: &Setting,
-    session: &Session,
+    number: u32,
+    learned: &Learned,
+    draft: &mut Draft,
     command: &Command,
 ) -> Reply
     requires blank { (blank.name ≡ L.name) × (blank.parts ≡ L.parts) × (0 < L.parts) }
     requires of_this { IsPassOf shared.now pass.old }
-    requires number { ((view_of pass.old).first ≤ session.now.number) × (session.now.number < (view_of pass.old).past) }
+    requires number { ((view_of pass.old).first ≤ number) × (number < (view_of pass.old).past) }
     requires setting { (opening_of shared.now).setting ≡ setting.now }
     requires profile { IsLawfulProfile setting.now.profile }
     ensures of_this { IsPassOf shared.now pass.new }
-    ensures taken { (m : Memory) → Remembers session.now m → IsTaken (opening_of shared.now) session.now.number m command.now result (view_of pass.old) (view_of pass.new) }
+    ensures taken { (m : Memory) → HasLearned learned.now m → IsTaken (opening_of shared.now) number m command.now result (view_of pass.old) (view_of pass.new) }
 {
     let mut steps = Steps::<L>::start(rt, blank);
-    match ask(alloc, setting, session, command, &mut steps) {
-        Ok(asked) => shared.turn(rt, pass, session.number, asked, &mut steps),
+    match ask(alloc, setting, learned, draft, command, &mut steps) {
+        Ok(asked) => shared.turn(rt, pass, number, asked, &mut steps),
         Err(reply) => reply,
     }
 }

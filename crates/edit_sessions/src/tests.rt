@@ -8,6 +8,7 @@ mod threads;
 
 use crate::ask::prepared;
 use crate::run_all;
+use block_summary::Draft;
 use carriage_model::{Brief, Verdict};
 use edit_book::{Book, Replies, Reply};
 use edit_journal::BlockName;
@@ -69,7 +70,8 @@ fn opened<L: Ledger>(alloc: Global, text: &Lines, steps: &mut Steps<L>) -> Resul
     ensures empty { IfOk result (λ book. book.entries ≡ []) }
 {
     let setting = setting(alloc);
-    let Ok(block) = prepared(alloc, &setting, text, steps) else {
+    let mut draft = Draft::new(alloc);
+    let Ok(block) = prepared(alloc, &setting, &mut draft, text, steps) else {
         return Err(NoMemory);
     };
     let mut blocks = Vec::new(alloc);
