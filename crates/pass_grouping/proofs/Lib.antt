@@ -3,6 +3,7 @@ pub mod OperationList
 pub mod PartialGroupings
 pub mod Passes
 pub mod Racks
+pub mod Tallies
 pub mod UsualOperations
 pub mod Windows
 pub mod Yarns

@@ -1,24 +1,12 @@
 -- A grouping that grows from the left, with its windows.
 use Rattle.std.proofs.Common.{◌≡◌, ℕ, ◌+◌, ◌-◌, ◌<◌, ◌≤◌, List, [], ◌∷◌, ◌++◌, length, get_or, All, sym, ap, subst, ◌∙◌, refl, arith, zero, suc, length-append}
+use Rattle.std.proofs.lemmas.List.{get_or_append_left}
 use Rattle.std.proofs.lemmas.List.Elements.{All-push}
 use Rattle.pass_grouping.specs.declared.operation.PassOp.{PassOp}
 use Rattle.pass_grouping.specs.declared.certificate.Window.{Window}
 use Rattle.pass_grouping.specs.Passes.{IsOnePass}
 use Rattle.pass_grouping.specs.Groupings.{Part, parts, first_or, IsPass, IsWindow, AreApart, IsCertificate, between_starts}
-
--- the operations before this one are grouped, the last part from this start on
-pub record Grouped (ops : List PassOp) (starts : List ℕ) (windows : List Window) (start behind : ℕ) : Type 0 where
-  pub first : first_or starts (length ops) ≡ 0
-  pub passes : All (IsPass ops) (parts starts behind)
-  pub between : windows ≡ between_starts starts
-  pub hold : All (IsWindow ops) windows
-  pub counts : length starts ≡ length windows + 1
-  pub earlier : List ℕ
-  pub last : starts ≡ earlier ++ start ∷ []
-  pub some : start < behind
-  pub within : behind ≤ length ops
-  pub longest : behind < length ops → ¬ IsOnePass ops start behind
-  pub few : length starts ≤ behind
+use Rattle.pass_grouping.specs.Tallies.{Grouped}
 
 first_or-push : (starts : List ℕ) (start behind : ℕ) → first_or (starts ++ start ∷ []) behind ≡ first_or starts start
 first_or-push [] start behind = refl
@@ -53,8 +41,8 @@ between-apart starts k d below =
     subst (λ n. (get_or (between_starts starts) k d).to ≤ (get_or (between_starts starts) n d).from) next (neighbours starts k d (omega arith))
 
 pub grouped-start : (ops : List PassOp) (starts : List ℕ) (windows : List Window) (behind : ℕ) → starts ≡ 0 ∷ [] → windows ≡ [] → 0 < behind → behind ≤ length ops
-    → IsOnePass ops 0 (behind - 1) → (behind < length ops → ¬ IsOnePass ops 0 behind) → Grouped ops starts windows 0 behind
-grouped-start ops starts windows behind one none some within pass longest =
+    → IsOnePass ops 0 (behind - 1) → Grouped ops starts windows 0 behind
+grouped-start ops starts windows behind one none some within pass =
     subst (λ (ss : List ℕ). Grouped ops ss windows 0 behind) (sym one)
     (subst (λ (ws : List Window). Grouped ops (0 ∷ []) ws 0 behind) (sym none) (record {
       first = refl;
@@ -66,14 +54,13 @@ grouped-start ops starts windows behind one none some within pass longest =
       last = refl;
       some = some;
       within = within;
-      longest = longest;
       few = omega arith;
     }))
 
-pub grouped-next : (ops : List PassOp) (starts starts' : List ℕ) (windows windows' : List Window) (start behind behind' : ℕ) → Grouped ops starts windows start behind → behind < length ops
+pub grouped-next : (ops : List PassOp) (starts starts' : List ℕ) (windows windows' : List Window) (start behind behind' : ℕ) → Grouped ops starts windows start behind → ¬ IsOnePass ops start behind → behind < length ops
     → windows' ≡ windows ++ record { from = start; to = behind } ∷ [] → starts' ≡ starts ++ behind ∷ [] → behind < behind' → behind' ≤ length ops
-    → IsOnePass ops behind (behind' - 1) → (behind' < length ops → ¬ IsOnePass ops behind behind') → Grouped ops starts' windows' behind behind'
-grouped-next ops starts starts' windows windows' start behind behind' so_far more pushed_window pushed_start some within pass longest =
+    → IsOnePass ops behind (behind' - 1) → Grouped ops starts' windows' behind behind'
+grouped-next ops starts starts' windows windows' start behind behind' so_far broken more pushed_window pushed_start some within pass =
     let windows_are : windows' ≡ between_starts (starts ++ behind ∷ []) =
     pushed_window ∙ ap (λ (ws : List Window). ws ++ record { from = start; to = behind } ∷ []) (so_far.between ∙ ap between_starts so_far.last)
     ∙ sym (between-push so_far.earlier start behind) ∙ ap (λ (ss : List ℕ). between_starts (ss ++ behind ∷ [])) (sym so_far.last) in
@@ -88,14 +75,41 @@ grouped-next ops starts starts' windows windows' start behind behind' so_far mor
       between = windows_are ∙ ap between_starts (sym pushed_start);
       hold =
           subst (All (IsWindow ops)) (sym pushed_window)
-          (All-push (IsWindow ops) windows (record { from = start; to = behind }) so_far.hold (record { ordered = omega (arith, so_far.some); within = more; broken = so_far.longest more }));
+          (All-push (IsWindow ops) windows (record { from = start; to = behind }) so_far.hold (record { ordered = omega (arith, so_far.some); within = more; broken = broken }));
       counts = omega (arith, ap length pushed_start, ap length pushed_window, length-append starts (behind ∷ []), length-append windows (record { from = start; to = behind } ∷ []), so_far.counts);
       earlier = starts;
       last = pushed_start;
       some = some;
       within = within;
-      longest = longest;
       few = omega (arith, ap length pushed_start, length-append starts (behind ∷ []), so_far.few);
+    }
+
+-- what holds of all holds of the first
+all-front : (P : Part → Type 0) (xs ys : List Part) → All P (xs ++ ys) → All P xs
+all-front P xs ys all k d below = subst P (get_or_append_left xs ys d k below) (all k d (omega (arith, length-append xs ys)))
+
+-- the last part is one operation longer
+pub grouped-more : (ops : List PassOp) (starts : List ℕ) (windows : List Window) (start behind : ℕ) → Grouped ops starts windows start behind → behind < length ops → IsOnePass ops start behind
+    → Grouped ops starts windows start (behind + 1)
+grouped-more ops starts windows start behind so_far more pass =
+    let were : All (IsPass ops) (parts so_far.earlier start ++ record { start = start; behind = behind } ∷ []) =
+    subst (All (IsPass ops)) (ap (λ (ss : List ℕ). parts ss behind) so_far.last ∙ parts-push so_far.earlier start behind) so_far.passes in
+    let part : IsPass ops (record { start = start; behind = behind + 1 }) =
+    record { some = omega (arith, so_far.some); within = omega arith; pass = subst (IsOnePass ops start) (omega arith) pass } in
+    record {
+      first = so_far.first;
+      passes =
+          subst (All (IsPass ops)) (sym (ap (λ (ss : List ℕ). parts ss (behind + 1)) so_far.last ∙ parts-push so_far.earlier start (behind + 1)))
+          (All-push (IsPass ops) (parts so_far.earlier start) (record { start = start; behind = behind + 1 })
+          (all-front (IsPass ops) (parts so_far.earlier start) (record { start = start; behind = behind } ∷ []) were) part);
+      between = so_far.between;
+      hold = so_far.hold;
+      counts = so_far.counts;
+      earlier = so_far.earlier;
+      last = so_far.last;
+      some = omega (arith, so_far.some);
+      within = omega arith;
+      few = omega (arith, so_far.few);
     }
 
 pub grouped-end : (ops : List PassOp) (starts : List ℕ) (windows : List Window) (start behind : ℕ) → Grouped ops starts windows start behind → length ops ≤ behind

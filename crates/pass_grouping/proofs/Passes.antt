@@ -69,5 +69,24 @@ goes-last way ops from to a b some within first second goes =
     let back : to ≡ to - 1 + 1 = omega arith in
     goes-pair way ops from to (to - 1) a b (omega arith) (omega arith) within first (second ∙ ap (λ n. get_or ops n b) back) goes
 
-pub neither-way : (ops : List PassOp) (from to : ℕ) → ¬ GoesOneWay Right ops from to → ¬ GoesOneWay Left ops from to → ¬ IsOnePass ops from to
-neither-way ops from to not_right not_left pass = elim pass [ inl right ↦ not_right right | inr left ↦ not_left left ]
+-- all but the last, which follows the one before it
+pub goes-end : (way : Dir) (ops : List PassOp) (from to : ℕ) → from < to → GoesOneWay way ops from (to - 1)
+    → ((d : PassOp) → Follows way (get_or ops (to - 1) d) (get_or ops to d)) → GoesOneWay way ops from to
+goes-end way ops from to some goes last =
+    let back : to - 1 + 1 ≡ to = omega arith in
+    subst (GoesOneWay way ops from) back
+    (goes-more way ops from (to - 1) (omega arith) goes (λ d. subst (λ n. Follows way (get_or ops (to - 1) d) (get_or ops n d)) (sym back) (last d)))
+
+-- what goes one way is one pass
+pub one_pass : (way : Dir) (ops : List PassOp) (from to : ℕ) → GoesOneWay way ops from to → IsOnePass ops from to
+one_pass Right ops from to goes = inl goes
+one_pass Left ops from to goes = inr goes
+
+-- one pass goes the way that its first two operations tell
+pub goes-told : (told : Dir) (ops : List PassOp) (from to : ℕ) (a b : PassOp) → from < to → to < length ops → a ≡ get_or ops from a → b ≡ get_or ops (from + 1) b
+    → ((way : Dir) → IsBeyond way a.place b.place → way ≡ told) → IsOnePass ops from to → GoesOneWay told ops from to
+goes-told told ops from to a b some within first second tells pass =
+    elim pass [
+      | inl right ↦ subst (λ w. GoesOneWay w ops from to) (tells Right (goes-pair Right ops from to from a b (omega arith) some within first second right).place) right
+      | inr left ↦ subst (λ w. GoesOneWay w ops from to) (tells Left (goes-pair Left ops from to from a b (omega arith) some within first second left).place) left
+    ]

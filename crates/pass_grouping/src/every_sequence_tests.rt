@@ -1,8 +1,8 @@
-//! The number of passes that `group` gives, against a search through all ways to cut, for every sequence of six short lines.
+//! The number of passes that `group` gives, and what a tally counts, against a search through all ways to cut, for every sequence of six short lines.
 ghost use Rattle.std.specs.Prelude.{◌≡◌, ◌+◌, ◌<◌, All, OnOk, IfOk, length};
 ghost use Rattle.pass_grouping.specs.Operations.{IsRackWithin};
 
-use crate::{Class, PassOp, check_certificate, group, operations};
+use crate::{Class, Counts, PassOp, Tally, check_certificate, group, operations};
 use knit_base::{Bed, CarrierNo, Dir, Instr, Needle, NoMemory, Read, Reads, Yarns};
 use std::alloc::Global;
 use std::test::Fail;
@@ -103,7 +103,19 @@ fn fewest(alloc: Global, ops: &[PassOp]) -> Result<u32, NoMemory> {
     Ok(fewest.last().copied().unwrap_or(0))
 }
 
-// Whether `group` gives as many passes, with a certificate.
+// What a tally counts of six readings.
+fn tallied(alloc: Global, reads: &Reads) -> Result<Counts, NoMemory>
+    requires six { length reads.now ≡ 6 }
+    requires racks { All IsRackWithin reads.now }
+{
+    let mut tally = Tally::start(3);
+    for read in reads.as_slice() {
+        tally.take(alloc, read)?;
+    }
+    Ok(tally.counts())
+}
+
+// Whether `group` gives as many passes, with a certificate, and a tally counts the same.
 fn is_fewest(alloc: Global, number: u32) -> Result<bool, NoMemory> {
     let reads = six_lines(alloc, number)?;
     let ops = operations(alloc, &reads, 3)?;
@@ -112,7 +124,15 @@ fn is_fewest(alloc: Global, number: u32) -> Result<bool, NoMemory> {
     if !check_certificate(&ops, starts, grouping.windows.as_slice()) {
         return Ok(false);
     }
-    Ok(grouping.starts.len() == fewest(alloc, ops.as_slice())?)
+    let counts = Counts {
+        passes: grouping.starts.len(),
+        operations: ops.len(),
+        windows: grouping.windows.len(),
+    };
+    if tallied(alloc, &reads)? != counts {
+        return Ok(false);
+    }
+    Ok(counts.passes == fewest(alloc, ops.as_slice())?)
 }
 
 // Whether that is so of all 46,656 sequences.

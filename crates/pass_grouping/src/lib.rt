@@ -2,9 +2,10 @@
 //!
 //! Promises that `operations`, and `Listing` reading by reading, list the carriage operations of a text exactly, that `check_certificate` answers true exactly
 //! for the certificates, that no grouping has fewer passes than one that it accepts, and that `group` gives one with its
-//! certificate.
+//! certificate. `Tally` counts the operations, the passes and the windows as the readings come, and keeps no list of them.
 //! Definitions: `specs/Operations` (what each line is to the carriage), `specs/Listings` (operations listed one by one),
-//! `specs/Passes` (one pass, by pairs of operations) and `specs/Groupings` (groupings, windows and certificates). Below it stand std and `knit_base`.
+//! `specs/Passes` (one pass, by pairs of operations), `specs/Groupings` (groupings, windows and certificates) and `specs/Tallies`
+//! (operations grouped as they come). Below it stand std and `knit_base`.
 #![tactic(auto)]
 
 mod certificate;
@@ -14,6 +15,7 @@ mod grouping;
 mod listing;
 mod operation;
 mod pass;
+mod tally;
 #[cfg(test)]
 mod tests;
 
@@ -21,3 +23,4 @@ pub use certificate::{Grouping, Starts, Window, Windows, check_certificate, pass
 pub use grouping::group;
 pub use listing::{Listing, operations};
 pub use operation::{Class, PassOp, PassOps};
+pub use tally::{Counts, Tally};

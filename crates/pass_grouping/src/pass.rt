@@ -1,19 +1,21 @@
 //! One pass of the carriage over a range of operations.
 ghost use Rattle.std.specs.Prelude.{◌≡◌, ◌+◌, ◌-◌, ◌<◌, ◌≤◌, ◌↔◌, ℕ, length, IsTrue};
+ghost use Rattle.knit_base.specs.declared.needle.Dir.{Dir};
 ghost use Rattle.pass_grouping.specs.Passes.{AreAlike, way_asked, IsFree, IsBeyond, Follows, GoesOneWay, IsOnePass};
 
 use crate::{Class, PassOp};
 use knit_base::{CarrierNo, Dir};
 
-/// Whether the range, both ends counted, is one pass.
+/// Whether the range, both ends counted, is one pass. Its first two operations tell which way it would go.
 pub(crate) fn is_one_pass(ops: &[PassOp], from: usize, to: usize) -> bool
     requires within { to < length ops.now }
     ensures { IsTrue result ↔ IsOnePass ops.now from to }
 {
-    if goes_one_way(Dir::Right, ops, from, to) {
+    if to <= from {
         return true;
     }
-    goes_one_way(Dir::Left, ops, from, to)
+    let way = way_between(&ops[from], &ops[from + 1]);
+    goes_one_way(way, ops, from, to)
 }
 
 /// The operation behind the longest pass that begins with this one.
@@ -24,12 +26,21 @@ pub(crate) fn pass_end(ops: &[PassOp], from: usize) -> usize
     ensures pass { IsOnePass ops.now from (result - 1) }
     ensures longest { result < length ops.now → ¬ IsOnePass ops.now from result }
 {
-    let right = run_end(Dir::Right, ops, from);
-    let left = run_end(Dir::Left, ops, from);
-    if left < right {
-        return right;
+    if ops.len() <= from + 1 {
+        return from + 1;
     }
-    left
+    let way = way_between(&ops[from], &ops[from + 1]);
+    run_end(way, ops, from)
+}
+
+/// The one way in which b may lie of a. Where they have one place there is none, and it is either.
+pub(crate) fn way_between(a: &PassOp, b: &PassOp) -> Dir
+    ensures { (way : Dir) → IsBeyond way a.now.place b.now.place → way ≡ result }
+{
+    if a.place < b.place {
+        return Dir::Right;
+    }
+    Dir::Left
 }
 
 // The operation behind the longest pass that begins with this one and goes this way.
@@ -51,15 +62,14 @@ fn run_end(way: Dir, ops: &[PassOp], from: usize) -> usize
 // Whether the range is one pass that goes this way. Each operation is compared with the one behind it, the last two first: a window
 // ends with two that can't be in one pass.
 fn goes_one_way(way: Dir, ops: &[PassOp], from: usize, to: usize) -> bool
+    requires some { from < to }
     requires within { to < length ops.now }
     ensures { IsTrue result ↔ GoesOneWay way ops.now from to }
 {
-    if from < to {
-        if !follows(way, &ops[to - 1], &ops[to]) {
-            return false;
-        }
+    if !follows(way, &ops[to - 1], &ops[to]) {
+        return false;
     }
-    for i in from..to {
+    for i in from..to - 1 {
         if !follows(way, &ops[i], &ops[i + 1]) {
             return false;
         }
@@ -67,10 +77,10 @@ fn goes_one_way(way: Dir, ops: &[PassOp], from: usize, to: usize) -> bool
     true
 }
 
-// Whether b may come behind a in one pass that goes this way. The places are compared first: most neighbours that don't go this way
-// differ there.
+/// Whether b may come behind a in one pass that goes this way. The places are compared first: most neighbours that don't go this way
+/// differ there.
 #[inline(always)]
-fn follows(way: Dir, a: &PassOp, b: &PassOp) -> bool
+pub(crate) fn follows(way: Dir, a: &PassOp, b: &PassOp) -> bool
     ensures { IsTrue result ↔ Follows way a.now b.now }
 {
     if !is_beyond(way, a.place, b.place) {

@@ -1,9 +1,10 @@
-use Rattle.std.proofs.Common.{◌-◌, length}
-use Rattle.pass_grouping.proofs.PartialGroupings.{Grouped}
+use Rattle.std.proofs.Common.{◌-◌, ◌<◌, length}
+use Rattle.pass_grouping.specs.Passes.{IsOnePass}
+use Rattle.pass_grouping.specs.Tallies.{Grouped}
 use Rattle.pass_grouping.proofs.grouping.group.Given as goal
 
 abbrev pub invariant-loop-behind : goal.invariant-loop-behind
-invariant-loop-behind l = Grouped l.items l.starts l.windows l.start l.behind
+invariant-loop-behind l = Grouped l.items l.starts l.windows l.start l.behind × (l.behind < length l.items → ¬ IsOnePass l.items l.start l.behind)
 
 abbrev pub decreases-loop-behind : goal.decreases-loop-behind
 decreases-loop-behind l = length l.items - l.behind
