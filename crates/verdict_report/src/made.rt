@@ -1,12 +1,12 @@
 //! What is made of a made program, in three lines.
-ghost use Rattle.std.specs.Prelude.{◌≡◌, ◌++◌, length, IfOk, OnOk};
+ghost use Rattle.std.specs.Prelude.{◌≡◌, ◌++◌, IfOk, OnOk};
 ghost use Rattle.verdict_report.specs.MadeText.{brief_text, made_text, sizes_text};
 
 use crate::passes::append_counts;
 use crate::text::{append_broken_brief, append_labelled, append_sound_brief, held};
 use carriage_model::Verdict;
 use knit_base::NoMemory;
-use pass_grouping::{Grouping, PassOps};
+use pass_grouping::Counts;
 use std::alloc::Global;
 
 // Appends how many lines and blocks were made.
@@ -42,21 +42,14 @@ pub fn made_of(
     lines: u32,
     blocks: u32,
     verdict: &Verdict,
-    ops: &PassOps,
-    grouping: &Grouping,
+    counts: Counts,
 ) -> Result<Vec<u8>, NoMemory>
-    ensures { IfOk result (λ text. text.items ≡ made_text lines blocks verdict.now
-        (length grouping.now.starts) (length ops.now) (length grouping.now.windows)) }
+    ensures { IfOk result (λ text. text.items ≡ made_text lines blocks verdict.now counts.passes counts.operations counts.windows) }
 {
     let mut text = Vec::new(alloc);
     append_sizes(lines, blocks, &mut text)?;
     append_brief(verdict, &mut text)?;
     text.extend_from_slice(b"\n")?;
-    append_counts(
-        grouping.starts.len(),
-        ops.len(),
-        grouping.windows.len(),
-        &mut text,
-    )?;
+    append_counts(counts.passes, counts.operations, counts.windows, &mut text)?;
     Ok(text)
 }

@@ -2,7 +2,7 @@
 use crate::{made_of, passes_of, report_passes};
 use carriage_model::Verdict;
 use knit_base::{CarrierNo, Declared, Dir, Fault, NoMemory, Reason, Rule, Yarns};
-use pass_grouping::{Class, PassOp, PassOps, group};
+use pass_grouping::{Class, Counts, PassOp, PassOps, group};
 use std::alloc::Global;
 use std::test::Fail;
 
@@ -72,7 +72,12 @@ fn a_made_program(rt: HostRuntime) -> Result<(), Fail> {
         at: 0,
     };
     let verdict = Verdict::Broken(Fault { line: 3, reason });
-    let text = made_of(alloc, 30, 1, &verdict, &ops, &grouping)?;
+    let counts = Counts {
+        passes: grouping.starts.len(),
+        operations: ops.len(),
+        windows: grouping.windows.len(),
+    };
+    let text = made_of(alloc, 30, 1, &verdict, counts)?;
     assert!(rt; text.as_slice() == MADE);
     Ok(())
 }

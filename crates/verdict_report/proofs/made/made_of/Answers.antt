@@ -1,4 +1,4 @@
-use Rattle.std.proofs.Common.{◌≡◌, ◌++◌, length, ap, arith, codes, ◌∙◌}
+use Rattle.std.proofs.Common.{◌≡◌, ◌++◌, ap, arith, codes, ◌∙◌}
 use Rattle.std.proofs.lemmas.Grind.{common_steps}
 use Rattle.verdict_report.specs.MadeText.{brief_text, sizes_text}
 use Rattle.verdict_report.specs.PassesText.{counts_text}
@@ -9,6 +9,6 @@ pub returns : goal.returns
 returns c =
     let first : c.append_sizes.new.out.items ≡ sizes_text c.args.lines c.args.blocks = grind (arith, common_steps) in
     after_three c.append_sizes.new.out.items c.append_brief.new.out.items c.extend_from_slice.new.self.items c.append_counts.new.out.items
-    (brief_text c.args.verdict.now) (codes "\n") (counts_text (length c.args.grouping.now.starts) (length c.args.ops.now) (length c.args.grouping.now.windows))
+    (brief_text c.args.verdict.now) (codes "\n") (counts_text c.args.counts.passes c.args.counts.operations c.args.counts.windows)
     c.in_ok-append_brief.ensures (grind (arith, common_steps)) (grind (arith, common_steps))
-    ∙ ap (λ t. t ++ (brief_text c.args.verdict.now ++ (codes "\n" ++ counts_text (length c.args.grouping.now.starts) (length c.args.ops.now) (length c.args.grouping.now.windows)))) first
+    ∙ ap (λ t. t ++ (brief_text c.args.verdict.now ++ (codes "\n" ++ counts_text c.args.counts.passes c.args.counts.operations c.args.counts.windows))) first
