@@ -2,10 +2,12 @@
 use Rattle.std.proofs.Common.{◌≡◌, ℕ, ◌+◌, ◌-◌, ◌<◌, ◌≤◌, List, [], ◌∷◌, ◌++◌, length, drop, slice_get, Some, Bool, ap, arith, ◌∙◌, subst, sym, refl}
 use Rattle.std.specs.List.{AllZip}
 use Rattle.std.proofs.lemmas.List.{length-drop}
-use Rattle.std.proofs.lemmas.List.Sums.{prefix_len-le-length}
+use Rattle.std.proofs.lemmas.List.Sums.{count_by-le-length, prefix_len-le-length}
 use Rattle.std.proofs.lemmas.Slice.Zip.{AllZip-long}
 use Rattle.knit_base.specs.declared.instr.Read.{Read}
 use Rattle.knit_base.specs.declared.profile.Profile.{Profile}
+use Rattle.knit_base.specs.Lines.{is_line_feed, lines_of}
+use Rattle.line_cutter.proofs.Pieces.{lines_few}
 use Rattle.knitout_reader.specs.declared.head.Head.{Head}
 use Rattle.knitout_reader.specs.Head.{head_len, is_head_line, IsHead}
 use Rattle.knitout_reader.specs.Reading.{ReadsAs}
@@ -26,6 +28,10 @@ use Rattle.input_answers.specs.CheckReport.{IsCheckReport, body_of, broken_line,
 pub head_len-le : (lines : List (List ℕ)) → head_len lines ≤ length lines
 head_len-le [] = omega arith
 head_len-le (first ∷ lines) = omega (arith, prefix_len-le-length is_head_line lines)
+
+-- the lines of a head are no more than a text has
+pub head_lines-few : (text : List ℕ) (head : Head) → IsHead (lines_of text) head → head.lines ≤ length text + 1
+head_lines-few text head is = omega (arith, head_len-le (lines_of text), is.len, lines_few text, count_by-le-length is_line_feed text)
 
 -- the length of the body
 pub body_len : (lines : List (List ℕ)) (all head : ℕ) → all ≡ length lines → head ≡ head_len lines → all - head ≡ length (body_of lines)

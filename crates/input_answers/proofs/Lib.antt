@@ -6,6 +6,7 @@ pub mod BodyRuns
 pub mod Dues
 pub mod Fronts
 pub mod LineRanges
+pub mod ListedRuns
 pub mod LiveDues
 pub mod MadeDues
 pub mod MadeTexts

@@ -8,15 +8,29 @@ use knitout_reader::{Head, read_head};
 use line_cutter::cut;
 use std::alloc::Global;
 
-// Only so many bytes are cut to find the head. Nearly every head is shorter.
-const FRONT_LEN: usize = 8_192;
+// Only so many bytes are cut to find the head: first these, and where it doesn't end there, those. Most heads end in the first front, and nearly every
+// other in the second.
+const SHORT_FRONT: usize = 512;
+
+const LONG_FRONT: usize = 8_192;
 
 /// The head of a text that ends within the front. `None` where it doesn't, or where there may be none.
 pub fn head_in_front(alloc: Global, text: &[u8]) -> Result<Option<Head>, NoMemory>
     requires { length text.now ≤ 16777216 }
     ensures { IfOk result (λ found. IfSome found (λ head. IsHead (lines_of text.now) head)) }
 {
-    let len = front_len(text);
+    let Some(head) = head_within(alloc, text, SHORT_FRONT)? else {
+        return head_within(alloc, text, LONG_FRONT);
+    };
+    Ok(Some(head))
+}
+
+// The head of a text that ends within so many bytes.
+fn head_within(alloc: Global, text: &[u8], most: usize) -> Result<Option<Head>, NoMemory>
+    requires { length text.now ≤ 16777216 }
+    ensures { IfOk result (λ found. IfSome found (λ head. IsHead (lines_of text.now) head)) }
+{
+    let len = front_len(text, most);
     let Ok(lines) = cut(alloc, &text[..len]) else {
         return Ok(None);
     };
@@ -30,12 +44,12 @@ pub fn head_in_front(alloc: Global, text: &[u8]) -> Result<Option<Head>, NoMemor
     Ok(Some(head))
 }
 
-// How many bytes the whole lines take that stand in the front.
-fn front_len(text: &[u8]) -> usize
+// How many bytes the whole lines take that stand in the first bytes, of which there are so many.
+fn front_len(text: &[u8], most: usize) -> usize
     ensures within { result ≤ length text.now }
     ensures whole { (result ≡ 0) ⊎ (slice_index text.now (result - 1) ≡ 10) }
 {
-    let mut len = text.len().min(FRONT_LEN);
+    let mut len = text.len().min(most);
     while len > 0 {
         if text[len - 1] == b'\n' {
             return len;

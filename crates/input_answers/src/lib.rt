@@ -14,6 +14,7 @@ mod ending;
 mod fold;
 mod front;
 mod judge;
+mod listed_run;
 mod live;
 mod made;
 mod one_pass;
@@ -22,6 +23,9 @@ mod operation_list;
 mod outcome;
 mod passes;
 mod plan;
+mod taken_run;
+mod taker;
+mod tallied_run;
 mod text_pass;
 mod usual;
 

@@ -1,15 +1,14 @@
 //! What is due for a program that is made.
-ghost use Rattle.std.specs.Prelude.{◌≡◌, ◌≤◌, false, ℕ, List, length, IfOk, IfSome};
+ghost use Rattle.std.specs.Prelude.{◌≡◌, ◌≤◌, ℕ, List, length, IfOk, IfSome};
 ghost use Rattle.knit_base.specs.Lines.{lines_of};
 ghost use Rattle.knitout_reader.specs.Head.{IsHead};
 ghost use Rattle.carriage_model.specs.declared.verdict.LoopFact.{LoopFact};
 ghost use Rattle.command_words.specs.Request.{IsMake};
 ghost use Rattle.knit_maker.specs.Made.{made_lines};
-ghost use Rattle.input_answers.specs.BodyRun.{IsRun};
 ghost use Rattle.input_answers.specs.CheckReport.{IsJudged, body_of};
 ghost use Rattle.input_answers.specs.Due.{Fits};
 ghost use Rattle.input_answers.specs.DueMade.{DueMade, IsMadeReport};
-ghost use Rattle.input_answers.specs.PassesReport.{AreOperations};
+ghost use Rattle.input_answers.specs.ListingRun.{AreCountedIn, IsTalliedRun};
 ghost use Rattle.input_answers.specs.declared.outcome.Status.TheVariants.{Done};
 
 use crate::answers::refusal_of_size;
@@ -17,16 +16,16 @@ use crate::body::Body;
 use crate::ending::Ending;
 use crate::front::head_in_front;
 use crate::judge::judge_body;
-use crate::one_pass::{Run, run_text};
-use crate::operation_list::{operations_of_body, operations_of_text};
+use crate::operation_list::operations_of_body;
 use crate::outcome::Status;
 use crate::passes::grouping_of;
 use crate::plan::Plan;
+use crate::tallied_run::{TalliedRun, run_and_tally};
 use carriage_model::Verdict;
 use knit_base::{Lines, NoMemory};
 use knit_maker::{make, make_text};
 use knitout_reader::{Head, HeadFault};
-use pass_grouping::PassOps;
+use pass_grouping::Counts;
 use std::alloc::Global;
 use std::thread::Threads;
 use verdict_report::made_of;
@@ -62,12 +61,12 @@ fn made_in_one_pass(alloc: Global, plan: &Plan, text: &[u8]) -> Result<Option<En
     let Some(head) = head_in_front(alloc, text)? else {
         return Ok(None);
     };
-    let Some(run) = run_text(alloc, false, plan, text, &head)? else {
+    let Some(both) = run_and_tally(alloc, plan, text, &head)? else {
         return Ok(None);
     };
-    match refusal_of_size(run.lines - head.lines, plan.chosen.block) {
+    match refusal_of_size(both.run.lines - head.lines, plan.chosen.block) {
         Some(refusal) => Ok(Some(Ending::refusal(alloc, refusal, Status::TooLarge)?)),
-        None => made_of_run(alloc, plan, text, &head, &run),
+        None => made_of_run(alloc, plan, text, &head, &both),
     }
 }
 
@@ -77,20 +76,21 @@ fn made_of_run(
     plan: &Plan,
     text: &[u8],
     head: &Head,
-    run: &Run,
+    both: &TalliedRun,
 ) -> Result<Option<Ending>, NoMemory>
     requires size { length text.now ≤ 16777216 }
     requires head { IsHead (lines_of text.now) head.now }
-    requires run { IsRun false plan.now.chosen.profile head.now.declared text.now run.now }
+    requires both { IsTalliedRun plan.now.chosen.profile head.now.declared text.now both.now }
     requires fits { Fits plan.now.chosen.block (length (body_of (lines_of text.now))) }
     ensures { IfOk result (λ found. IfSome found (λ ending. (rows start : ℕ) → lines_of text.now ≡ made_lines rows start
         → DueMade plan.now.chosen rows start ending.text.items ending.status)) }
 {
-    let Some(ops) = operations_of_text(alloc, plan, text, head)? else {
+    let Some(counts) = both.counts else {
         return Ok(None);
     };
+    let run = &both.run;
     let body = run.lines - head.lines;
-    let ending = summarise(alloc, plan, run.lines, body, &run.judgement.verdict, &ops)?;
+    let ending = summarise(alloc, plan, run.lines, body, &run.judgement.verdict, counts)?;
     Ok(Some(ending))
 }
 
@@ -140,35 +140,34 @@ fn made_of_body<R: Threads>(
 {
     let judgement = judge_body(rt, alloc, false, plan, body)?;
     let ops = operations_of_body(alloc, plan, body)?;
-    let behind = body.len();
-    let ending = summarise(
-        alloc,
-        plan,
-        body.lines.len(),
-        behind,
-        &judgement.verdict,
-        &ops,
-    )?;
+    let grouping = grouping_of(alloc, &ops)?;
+    let counts = Counts {
+        passes: grouping.starts.len(),
+        operations: ops.len(),
+        windows: grouping.windows.len(),
+    };
+    let count = body.lines.len();
+    let ending = summarise(alloc, plan, count, body.len(), &judgement.verdict, counts)?;
     Ok(ending)
 }
 
-// What is made of a program with so many lines, so many of them behind the head, of which this is the verdict and these are the operations.
+// What is made of a program with so many lines, so many of them behind the head, of which this is the verdict, and these are the counts of the operations
+// and the passes.
 fn summarise(
     alloc: Global,
     plan: &Plan,
     count: u32,
     behind: u32,
     verdict: &Verdict,
-    ops: &PassOps,
+    counts: Counts,
 ) -> Result<Ending, NoMemory>
     ensures report { IfOk result (λ ending. (names lines : List (List ℕ)) (loops : List LoopFact) → count ≡ length lines → behind ≡ length (body_of lines)
-        → IsJudged plan.now.chosen.profile names lines verdict.now loops → AreOperations plan.now.chosen.profile names lines ops.now
+        → IsJudged plan.now.chosen.profile names lines verdict.now loops → AreCountedIn plan.now.chosen.profile names lines counts
         → IsMadeReport plan.now.chosen.profile plan.now.chosen.block names lines ending.text.items) }
     ensures status { IfOk result (λ ending. ending.status ≡ Done) }
 {
-    let grouping = grouping_of(alloc, ops)?;
     let blocks = behind.div_ceil(plan.chosen.block);
-    let text = made_of(alloc, count, blocks, verdict, ops, &grouping)?;
+    let text = made_of(alloc, count, blocks, verdict, counts)?;
     Ok(Ending {
         status: Status::Done,
         text,

@@ -131,8 +131,8 @@ pub(crate) fn run_text(
     Ok(Some(Run { judgement, lines }))
 }
 
-// Passes over all lines from `start` on, which a fault stands before, and says how many they are. `None` where one is bad.
-fn pass_over_rest(text: &[u8], start: usize, carriage: &mut Carriage) -> Option<u32>
+/// Passes over all lines from `start` on, which a fault stands before, and says how many they are. `None` where one is bad.
+pub(crate) fn pass_over_rest(text: &[u8], start: usize, carriage: &mut Carriage) -> Option<u32>
     requires size { length text.now ≤ 16777216 }
     requires some { start < length text.now }
     requires stopped { is_stopped carriage.old ≡ true }

@@ -3,11 +3,9 @@ ghost use Rattle.std.specs.Prelude.{◌≡◌, ◌≤◌, ℕ, List, length, IfO
 ghost use Rattle.knit_base.specs.Lines.{lines_of};
 ghost use Rattle.knitout_reader.specs.Head.{IsHead};
 ghost use Rattle.command_words.specs.declared.command.Command.{Command};
-ghost use Rattle.std.specs.Prelude.{false};
-ghost use Rattle.input_answers.specs.BodyRun.{IsRun};
 ghost use Rattle.input_answers.specs.CheckReport.{body_of};
 ghost use Rattle.input_answers.specs.Due.{Due, Fits};
-ghost use Rattle.input_answers.specs.ListingRun.{ReportsPasses};
+ghost use Rattle.input_answers.specs.ListingRun.{IsListedRun, ReportsPasses};
 ghost use Rattle.input_answers.specs.PassesReport.{AreFewest};
 ghost use Rattle.input_answers.specs.declared.outcome.Status.TheVariants.{Done};
 
@@ -16,8 +14,8 @@ use crate::body::Body;
 use crate::ending::Ending;
 use crate::front::head_in_front;
 use crate::judge::{judge_body, line_of, report};
-use crate::one_pass::{Run, run_text};
-use crate::operation_list::{operations_of_body, operations_of_text};
+use crate::listed_run::{ListedRun, run_and_list};
+use crate::operation_list::operations_of_body;
 use crate::outcome::Status;
 use crate::plan::Plan;
 use carriage_model::Verdict;
@@ -41,12 +39,12 @@ pub fn passes_in_one_pass(
     let Some(head) = head_in_front(alloc, text)? else {
         return Ok(None);
     };
-    let Some(run) = run_text(alloc, false, plan, text, &head)? else {
+    let Some(both) = run_and_list(alloc, plan, text, &head)? else {
         return Ok(None);
     };
-    match refusal_of_size(run.lines - head.lines, plan.chosen.block) {
+    match refusal_of_size(both.run.lines - head.lines, plan.chosen.block) {
         Some(refusal) => Ok(Some(Ending::refusal(alloc, refusal, Status::TooLarge)?)),
-        None => passes_of_run(alloc, plan, text, &head, &run),
+        None => passes_of_run(alloc, plan, text, &head, &both),
     }
 }
 
@@ -56,28 +54,29 @@ fn passes_of_run(
     plan: &Plan,
     text: &[u8],
     head: &Head,
-    run: &Run,
+    both: &ListedRun,
 ) -> Result<Option<Ending>, NoMemory>
     requires size { length text.now ≤ 16777216 }
     requires head { IsHead (lines_of text.now) head.now }
-    requires run { IsRun false plan.now.chosen.profile head.now.declared text.now run.now }
+    requires both { IsListedRun plan.now.chosen.profile head.now.declared text.now both.now }
     requires fits { Fits plan.now.chosen.block (length (body_of (lines_of text.now))) }
     ensures { IfOk result (λ found. IfSome found (λ ending.
         Due Command.Passes plan.now.chosen text.now ending.text.items ending.status)) }
 {
-    match &run.judgement.verdict {
+    let judgement = &both.run.judgement;
+    match &judgement.verdict {
         Verdict::Broken(_) => {
-            let Some(broken) = crate::one_pass::line_of(text, &run.judgement.verdict) else {
+            let Some(broken) = crate::one_pass::line_of(text, &judgement.verdict) else {
                 return Ok(None);
             };
-            let told = report(alloc, false, &run.judgement, &head.declared, broken)?;
+            let told = report(alloc, false, judgement, &head.declared, broken)?;
             Ok(Some(told))
         }
         Verdict::Sound(_) => {
-            let Some(ops) = operations_of_text(alloc, plan, text, head)? else {
+            let Some(ops) = &both.ops else {
                 return Ok(None);
             };
-            let grouped = report_passes_of(alloc, &ops, &head.declared)?;
+            let grouped = report_passes_of(alloc, ops, &head.declared)?;
             Ok(Some(grouped))
         }
     }

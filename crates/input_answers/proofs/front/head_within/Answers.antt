@@ -1,6 +1,6 @@
 use Rattle.std.proofs.Common.{arith}
 use Rattle.input_answers.proofs.Fronts.{front-head}
-use Rattle.input_answers.proofs.front.head_in_front.Goals as goal
+use Rattle.input_answers.proofs.front.head_within.Goals as goal
 
 pub returns : goal.returns
 returns c =
