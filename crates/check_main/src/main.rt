@@ -9,7 +9,11 @@
 #[cfg(test)]
 mod by_blocks_tests;
 #[cfg(test)]
+mod device_tests;
+#[cfg(test)]
 mod example_tests;
+#[cfg(test)]
+mod large_tests;
 #[cfg(test)]
 mod live_tests;
 #[cfg(test)]

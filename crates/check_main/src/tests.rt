@@ -1,7 +1,7 @@
 //! The program on whole inputs, with the bytes that it writes and its status.
 use crate::top::top;
 use input_answers::Status;
-use knit_ports::{CalmSource, IdleGate, MemorySink, MemorySource};
+use knit_ports::{CalmSource, IdleGate, MemorySink};
 use std::alloc::Global;
 use std::sync::Wait;
 use std::test::Fail;
@@ -297,48 +297,6 @@ fn most_carriers(rt: HostRuntime) -> Result<(), Fail> {
             "bad input: head line 2 ManyCarriers\n"
         )
     );
-    Ok(())
-}
-
-#[test]
-fn devices_that_fail(rt: HostRuntime) -> Result<(), Fail> {
-    let alloc = rt.alloc();
-    let words = texts(alloc, &["check"])?;
-    // The second write of ten bytes fails.
-    let mut source = CalmSource::of(Vec::from_slice(alloc, SCARF)?);
-    let mut sink = MemorySink::of(alloc, 10, 65_536, Vec::from_slice(alloc, &[2])?)?;
-    let outcome = top(&rt, alloc, &words, &mut source, &mut sink, &IdleGate);
-    assert!(rt; outcome.status == Status::WriteFault);
-    assert!(rt; sink.as_slice() == b"sound line".as_slice());
-    Ok(())
-}
-
-// What `check` says where this read of the input fails.
-fn said_of_failing_read<R: Threads + Wait + Sync>(
-    rt: &R,
-    alloc: Global,
-    read: u32,
-) -> Result<Written, Fail> {
-    let words = texts(alloc, &["check"])?;
-    let bytes = Vec::from_slice(alloc, SCARF)?;
-    let mut source = MemorySource::of(bytes, 16, Vec::from_slice(alloc, &[read])?);
-    let mut sink = MemorySink::of(alloc, 65_536, 65_536, Vec::new(alloc))?;
-    let outcome = top(rt, alloc, &words, &mut source, &mut sink, &IdleGate);
-    let text = Vec::from_slice(alloc, sink.as_slice())?;
-    Ok(Written {
-        status: outcome.status,
-        text,
-    })
-}
-
-#[test]
-fn reads_that_fail(rt: HostRuntime) -> Result<(), Fail> {
-    let alloc = rt.alloc();
-    // A closed input fails at its first read.
-    for read in [1, 2] {
-        let said = said_of_failing_read(&rt, alloc, read)?;
-        assert!(rt; is(&said, Status::ReadFault, "read fault\n"));
-    }
     Ok(())
 }
 
