@@ -1,7 +1,7 @@
 #!/usr/bin/env python3
 """Refuses each request for memory of the program check_main in turn, and looks at what it answers.
 
-`python3 integrations/refused_memory.py [COMMAND ..]` tries all five commands, or those named, on files of examples/, with the check_main
+`python3 integrations/refused_memory.py [RUN ..]` tries all five commands, or the runs named, on files of examples/ and on a short script, with the check_main
 that TEKHVUMO_PROGRAM names or that is found; then the put of a text for which room was made, by the tests of `edit_book` that the gate built, if they are
 there. It wants a C compiler (`cc`), for the few lines that stand before the system's `malloc`
 and `realloc`.
@@ -60,13 +60,38 @@ void *realloc(void *block, size_t size) {
 }
 """
 
-COMMANDS = {
-    "check": (["check", "--loops"], "tube.k"),
-    "blocks": (["check", "--block", "4", "--json", "--loops"], "tube.k"),
-    "text": (["text"], "rib.k"),
-    "passes": (["passes"], "tube.k"),
-    "make": (["make", "2", "0"], None),
-    "live": (["live"], "mended-transfer.live"),
+# Two puts of one block by one session, and the verdict.
+TWO_PUTS = b"""\
+live 1
+|;!knitout-2
+|;;Carriers: 1
+|in 1
+|knit + f1 1
+session
+put 0
+|in 1
+|knit + f1 1
+|knit + f2 1
+put 0
+|in 1
+verdict
+"""
+
+
+def example(name: str) -> bytes:
+    """The bytes of a file of examples/."""
+    return EXAMPLES.joinpath(name).read_bytes()
+
+
+# The words of each run, and its standard input.
+RUNS = {
+    "check": (["check", "--loops"], example("tube.k")),
+    "blocks": (["check", "--block", "4", "--json", "--loops"], example("tube.k")),
+    "text": (["text"], example("rib.k")),
+    "passes": (["passes"], example("tube.k")),
+    "make": (["make", "2", "0"], b""),
+    "puts": (["live"], TWO_PUTS),
+    "live": (["live"], example("mended-transfer.live")),
 }
 
 
@@ -134,8 +159,8 @@ def end_of(report: str) -> str:
     return report[report.index("final version") :]
 
 
-def fault_of(name: str, whole: bytes, status: int, written: bytes, again) -> str | None:
-    """What is wrong with a run in which a request was refused, if anything is. `again` is what the program writes of a script."""
+def fault_of(script: str | None, whole: bytes, status: int, written: bytes, again) -> str | None:
+    """What is wrong with a run in which a request was refused, if anything is. `script` is that of `live`, and `again` is what the program writes of one."""
     if status == NO_MEMORY:
         return "it wrote something" if written else None
     if status != 0:
@@ -143,17 +168,17 @@ def fault_of(name: str, whole: bytes, status: int, written: bytes, again) -> str
     if written == whole:
         return None
     report = written.decode()
-    if name != "live" or "nomemory" not in replies_of(report).values():
+    if script is None or "nomemory" not in replies_of(report).values():
         return "it wrote something else"
-    if end_of(again(accepted_alone(EXAMPLES.joinpath("mended-transfer.live").read_text(), report))) != end_of(report):
+    if end_of(again(accepted_alone(script, report))) != end_of(report):
         return "its journal, carried out anew, ends otherwise"
     return None
 
 
-def try_command(name: str, program: str, library: str) -> bool:
-    """Refuses each request of this command in turn, says what came of it, and answers whether all was well."""
-    words, file = COMMANDS[name]
-    given = EXAMPLES.joinpath(file).read_bytes() if file else b""
+def try_run(name: str, program: str, library: str) -> bool:
+    """Refuses each request of this run in turn, says what came of it, and answers whether all was well."""
+    words, given = RUNS[name]
+    script = given.decode() if words == ["live"] else None
     whole = subprocess.run([program, *words], input=given, capture_output=True).stdout
     again = lambda script: subprocess.run([program, "live"], input=script.encode(), capture_output=True).stdout.decode()
     request, well, silent, without = 0, True, 0, 0
@@ -162,7 +187,7 @@ def try_command(name: str, program: str, library: str) -> bool:
         status, written, was_refused = run([program, *words], given, library, request)
         if not was_refused:
             break
-        fault = fault_of(name, whole, status, written, again)
+        fault = fault_of(script, whole, status, written, again)
         silent += status == NO_MEMORY
         without += written == whole
         if fault:
@@ -192,7 +217,7 @@ def main(names: list[str]) -> int:
     program = tekhvumo.find_program(None)
     with tempfile.TemporaryDirectory(prefix="refused-") as folder:
         library = build_refuser(folder)
-        well = [try_command(name, program, library) for name in names or COMMANDS]
+        well = [try_run(name, program, library) for name in names or RUNS]
         if BOOK_TESTS.is_file():
             well.append(try_ready_put(library))
         return 0 if all(well) else 1
