@@ -131,6 +131,7 @@ fn talk<G: Gate, R: Threads + Wait>(
         gate.after(rt, number, i as u32);
         replies.push_reserved(reply);
     }
+    shared.rest();
 }
 
 // Each session in a thread of its own, by halves.

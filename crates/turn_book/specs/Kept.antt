@@ -66,7 +66,7 @@ module _ {B O E : Type 0} (opening_of : B → O) (journal_of : B → List E) whe
   -- the rule: all is H, which some view that isn't spent has seen (shown), and no number is of two views (apart)
   pub record Kept (number_of : E → ℕ) (opening : O) (count : ℕ) (s : State (Option B) (View O E)) : Type 0 where
     pub all : List E
-    pub two : length s.words ≡ 2
+    pub four : length s.words ≡ 4
     pub long : slice_index s.words 1 ≡ length all
     pub few : length all < 2 ^ 32
     pub numbers : Each (λ e. number_of e < count) all

@@ -6,6 +6,11 @@ use Rattle.turn_book.specs.declared.view.View.{View}
 use Rattle.turn_book.specs.Turn.{Catches}
 use Rattle.turn_book.specs.Views.{caught, holding, freed}
 
+module _ {B O E : Type 0} where
+  -- a step on a word of which the rule says nothing: the seat stays as it is
+  abbrev pub beside : Step (Option B) → Me (Option B) (View O E) → ℕ → Me (Option B) (View O E) → Type 0
+  beside st m r n = n ≡ m
+
 module _ {B O E : Type 0} (opening_of : B → O) (journal_of : B → List E) (number_of : E → ℕ) where
   -- the turn is taken, and the book with it, which has the opening of the start
   abbrev pub Takes : Me (Option B) (View O E) → Me (Option B) (View O E) → Type 0

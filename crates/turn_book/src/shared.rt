@@ -40,7 +40,7 @@ impl<B: Booked> Shared<B> {
             return Err(NoMemory);
         };
         slots.push_reserved(Some(book));
-        match Table::new(alloc, &[0, 0], slots, &told) {
+        match Table::new(alloc, &[0, 0, 0, 0], slots, &told) {
             Ok((table, seat)) => Ok((
                 Shared { table },
                 Pass {
