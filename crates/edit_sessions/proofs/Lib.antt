@@ -7,6 +7,7 @@ pub mod Made
 pub mod Merge
 pub mod Played
 pub mod Sessions
+pub mod Stamps
 pub mod Asks
 pub mod Takes
 pub mod Talked

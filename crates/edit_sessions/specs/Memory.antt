@@ -23,9 +23,12 @@ pub record Memory : Type 0 where
   -- the block that each of its add commands made
   pub adds : List (Option ℕ)
 
--- at the start: stamp 0 for each opening block
+-- at the start: stamp 0 for each of so many opening blocks
+abbrev pub opening_stamp : ℕ → ℕ → Option ℕ
+opening_stamp blocks id = if nat_lt id blocks then Some 0 else None
+
 abbrev pub first_memory : Opening → Memory
-first_memory opening = record { stamps = (λ id. if nat_lt id (length opening.texts) then Some 0 else None); adds = [] }
+first_memory opening = record { stamps = opening_stamp (length opening.texts); adds = [] }
 
 abbrev pub with_stamp : ℕ → ℕ → (ℕ → Option ℕ) → ℕ → Option ℕ
 with_stamp block stamp stamps id = if id == block then Some stamp else stamps id

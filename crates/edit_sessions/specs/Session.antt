@@ -1,15 +1,20 @@
 -- What a session keeps stands for what it remembers.
-use Rattle.std.specs.Prelude.{◌≡◌, ℕ, ◌<◌, ◌-◌, ◌^◌, min, length, nat_eq}
+use Rattle.std.specs.Prelude.{◌≡◌, ℕ, ◌<◌, ◌-◌, ◌^◌, Option, min, length, nat_eq}
 use Rattle.std.specs.HashMap.{get, spare}
+use Rattle.std.specs.Option.{option_or}
 use Rattle.edit_book.specs.declared.reply.Reply.{Reply}
 use Rattle.edit_book.specs.declared.reply.Reply.TheVariants.{Accepted, Shown}
 use Rattle.edit_sessions.specs.declared.session.Learned.{Learned}
 use Rattle.edit_sessions.specs.declared.session.Session.{Session}
-use Rattle.edit_sessions.specs.Memory.{Memory, own_block}
+use Rattle.edit_sessions.specs.Memory.{Memory, opening_stamp, own_block}
+
+-- the stamp of a block: the one that was learned since the opening, and else that of the opening
+abbrev pub stamp_of : ℕ → (ℕ → Option ℕ) → ℕ → Option ℕ
+stamp_of blocks learned id = option_or (learned id) (opening_stamp blocks id)
 
 -- What was learned is what is remembered. The count of adds stops at its last value, which no name reaches.
 pub record HasLearned (l : Learned) (m : Memory) : Type 0 where
-  pub stamps : (id : ℕ) → get nat_eq l.stamps id ≡ m.stamps id
+  pub stamps : (id : ℕ) → stamp_of l.opening (get nat_eq l.stamps) id ≡ m.stamps id
   pub made : (n : ℕ) → n < 2 ^ 32 → get nat_eq l.made n ≡ own_block m.adds n
   pub adds : l.adds ≡ min (length m.adds) (2 ^ 64 - 1)
 

@@ -14,10 +14,11 @@ use script_reader::Command;
 use std::alloc::Global;
 use std::collections::HashMap;
 
-/// What a session has learned from its replies. The adds are counted, and those that were accepted are kept by their number: counting
-/// takes no memory.
+/// What a session has learned from its replies. The stamps of the opening blocks are known by their number alone, until a reply tells
+/// another. The adds are counted, and those that were accepted are kept by their number: counting takes no memory.
 #[derive(Drop)]
 pub struct Learned {
+    opening: u32,
     stamps: HashMap<u32, u32>,
     made: HashMap<u64, u32>,
     adds: u64,
@@ -75,20 +76,16 @@ fn learn_stamp(stamps: &mut HashMap<u32, u32>, told: Option<(u32, u32)>)
 }
 
 impl Session {
-    /// The session with this number, which knows stamp 0 of each opening block.
+    /// The session with this number, which knows stamp 0 of each opening block. Takes no memory.
     pub fn start(alloc: Global, number: u32, blocks: u32) -> Result<Session, NoMemory>
         ensures number { IfOk result (λ session. session.number ≡ number) }
         ensures remembers { IfOk result (λ session. (opening : Opening) → length opening.texts ≡ blocks → Remembers session (first_memory opening)) }
     {
-        let mut stamps = HashMap::new(alloc);
-        for id in 0..blocks {
-            stamps.reserve(1)?;
-            set_stamp(&mut stamps, id, 0);
-        }
         Ok(Session {
             number,
             learned: Learned {
-                stamps,
+                opening: blocks,
+                stamps: HashMap::new(alloc),
                 made: HashMap::new(alloc),
                 adds: 0,
             },
@@ -120,11 +117,15 @@ impl Learned {
     pub fn stamp(&self, id: u32) -> Option<u32>
         ensures { (m : Memory) → HasLearned self.now m → result ≡ m.stamps id }
     {
-        self.stamps.get(&id).copied()
+        match self.stamps.get(&id) {
+            Some(stamp) => Some(*stamp),
+            None if id < self.opening => Some(0),
+            None => None,
+        }
     }
 
     /// Learns from a reply to a command.
-    #[tactic(auto, using(crate::proofs::Made::made))]
+    #[tactic(auto, using(crate::proofs::Made::made, crate::proofs::Stamps::stamps))]
     pub fn learn(&mut self, command: &Command, reply: &Reply)
         requires { Teaches reply.now → HasRoom self.old }
         ensures { (m : Memory) → HasLearned self.old m → HasLearned self.new (memory_after m command.now reply.now) }

@@ -1,0 +1,23 @@
+-- One more stamp that a reply tells.
+use Rattle.std.proofs.Common.{◌≡◌, ℕ, Bool, true, false, cond, ◌==◌, Option, Some, None, ap, ◌∙◌, refl}
+use Rattle.std.specs.Option.{option_or}
+use Rattle.edit_sessions.specs.Memory.{opening_stamp, with_told}
+use Rattle.edit_sessions.specs.Session.{stamp_of}
+
+told_over : (blocks : ℕ) (t : Option (ℕ × ℕ)) (learned : ℕ → Option ℕ) (id : ℕ) → stamp_of blocks (with_told t learned) id ≡ with_told t (stamp_of blocks learned) id
+told_over blocks None learned id = refl
+told_over blocks (Some told) learned id = go (id == told.0)
+  where
+    go : (t : Bool) → option_or (cond t (Some told.1) (learned id)) (opening_stamp blocks id) ≡ cond t (Some told.1) (option_or (learned id) (opening_stamp blocks id))
+    go true = refl
+    go false = refl
+
+told_same : (t : Option (ℕ × ℕ)) (f g : ℕ → Option ℕ) (id : ℕ) → f id ≡ g id → with_told t f id ≡ with_told t g id
+told_same None f g id e = e
+told_same (Some told) f g id e = ap (cond (id == told.0) (Some told.1)) e
+
+-- what was told over what was learned is what is remembered then
+pub stamp_more : (blocks : ℕ) (t : Option (ℕ × ℕ)) (old new stamps : ℕ → Option ℕ) (id : ℕ) → new id ≡ with_told t old id → stamp_of blocks old id ≡ stamps id → stamp_of blocks new id ≡ with_told t stamps id
+stamp_more blocks t old new stamps id is had = ap (λ s. option_or s (opening_stamp blocks id)) is ∙ (told_over blocks t old id ∙ told_same t (stamp_of blocks old) stamps id had)
+
+pub ruleset stamps = (stamp_more)
