@@ -9,6 +9,9 @@ use std::alloc::Global;
 use std::marker::Model;
 use std::sync::ledger::Ledger;
 
+// So many rows are moved in less time than their memory is cut.
+const FEW_ROWS: usize = 128;
+
 /// The loops that a block makes, in the order of their lines. There are at most 4,096 of them.
 #[derive(Drop)]
 pub struct LoopTable {
@@ -59,11 +62,31 @@ impl LoopTable {
         Ok(())
     }
 
-    /// Lets go of room that no row takes.
+    /// Lets go of room that no row takes, where there is memory for few rows alone.
     pub fn shrink_to_fit(&mut self)
         ensures { self.new ≡ self.old }
     {
-        self.rows.shrink_to_fit();
+        if self.rows.len() <= FEW_ROWS {
+            self.move_rows();
+        } else {
+            self.rows.shrink_to_fit();
+        }
+    }
+
+    // Moves the rows to memory of their size, where there is some. The room that they had is then given back whole, and the next table can
+    // have it: cutting off its end would leave a piece that no table fits in.
+    fn move_rows(&mut self)
+        ensures { self.new ≡ self.old }
+    {
+        if self.rows.len() == self.rows.capacity() {
+            return;
+        }
+        let Ok(mut fitting) = Vec::with_capacity(*self.rows.allocator(), self.rows.len()) else {
+            return;
+        };
+        if fitting.append(&mut self.rows).is_ok() {
+            self.rows = fitting;
+        }
     }
 
     /// How many loops there are.
