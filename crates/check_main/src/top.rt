@@ -86,7 +86,11 @@ fn carry_out<R: Threads + Wait + Sync, S: Source, G: Gate + Sync>(
         → IsCalled words (source_use S.left S.faults source.old source.new) answer) }
 {
     match plan.command {
-        Command::Check { .. } | Command::Text | Command::Passes | Command::Live => {
+        Command::Check { .. } | Command::Text | Command::Passes => {
+            answer_source(rt, alloc, plan, source, gate)
+        }
+        Command::Live => {
+            keep_large_pieces(alloc);
             answer_source(rt, alloc, plan, source, gate)
         }
         Command::Make { rows, start } => {
@@ -94,6 +98,14 @@ fn carry_out<R: Threads + Wait + Sync, S: Source, G: Gate + Sync>(
             Ok(Answer::without_sessions(alloc, ending))
         }
     }
+}
+
+// Asks for room for the longest input, and gives it back unused. The C library's allocator takes a large piece from the kernel and
+// returns it there, until it is given one back; from then on it keeps pieces up to that size. So the memory of a script's lines, which
+// are let go before its sessions begin, serves the texts of their edits, and the kernel needn't clear as many pages. Another allocator
+// may make nothing of it, and nothing depends on whether there is room.
+fn keep_large_pieces(alloc: Global) {
+    let _ = Vec::<u8>::with_capacity(alloc, INPUT_LIMIT);
 }
 
 // Reads the whole input. What is then due for it.
