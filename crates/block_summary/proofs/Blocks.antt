@@ -90,7 +90,7 @@ pub named_known : (rs : List Read) → AreKnown (named rs) rs
 named_known rs r there = line_known r (named rs) (within_named rs r there)
 
 -- the new loops that a needle holds are of earlier lines
-held_earlier : (carriers limit : ℕ) (known : List Needle) (s : Summary) (n : Needle) → IsGood carriers limit known s → All (IsOfEarlier s.lines) (segments_on s.changes n)
+pub held_earlier : (carriers limit : ℕ) (known : List Needle) (s : Summary) (n : Needle) → IsGood carriers limit known s → All (IsOfEarlier s.lines) (segments_on s.changes n)
 held_earlier carriers limit known s n good = elim (changed_or_own s.changes n) [
   | inl changed ↦ subst (All (IsOfEarlier s.lines)) (sym changed.3)
       (All-weaker (Contains changed.0.1) (IsOfEarlier s.lines) (seg changed.0 changed.1) changed.0.1 (All-contains_itself changed.0.1))

@@ -1,4 +1,5 @@
 pub mod AskedHold
+pub mod BedNeedles
 pub mod Blocks
 pub mod ChainWalks
 pub mod DraftSteps
@@ -12,6 +13,7 @@ pub mod LineChanges
 pub mod LineChecks
 pub mod LineGoodness
 pub mod LineFront
+pub mod LineRanges
 pub mod LineStands
 pub mod LineSteps
 pub mod NewLoops

@@ -7,7 +7,7 @@
 //! more it is composed with that line's summary, or that the lines are known to stop at it. `prepare` goes through a text once: it
 //! promises that the face stands for the text's lines from every state, is good and has a bounded number of items, that the table
 //! of loops stands for them, that a text of too many lines is refused and no other, and that a line costs at most one step.
-//! `prepare_with` promises the same of a draft that was used before.
+//! `prepare_with` promises the same of a draft that was used before, and `prepare_part` of some lines of a text, as of a text of these lines alone.
 //!
 //! Definitions: `specs/Asks` (what a line asks and changes), `specs/LineSummaries` (the summary of a line and of a block),
 //! `specs/DraftKnowledge` (what is known of lines, and of conditions that were asked), `specs/LineEnds` (how a line ends that is read
@@ -39,4 +39,4 @@ pub use formed::FormedLoop;
 pub use instr_ask::{InstrAsk, ask_instr};
 pub use line::LineEnd;
 pub use line_ask::{LineAsk, ask_line};
-pub use prepared::{MOST_LINES, PrepareFault, Prepared, prepare, prepare_with};
+pub use prepared::{MOST_LINES, PrepareFault, Prepared, prepare, prepare_part, prepare_with};

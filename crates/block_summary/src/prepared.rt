@@ -1,5 +1,5 @@
 //! A block's text, with its summary and the loops that it makes.
-ghost use Rattle.std.specs.Prelude.{◌≡◌, ℕ, ◌+◌, ◌*◌, ◌<◌, ◌≤◌, ◌^◌, ◌++◌, false, List, Option, IfErr, IfOk, OnOk, None, length};
+ghost use Rattle.std.specs.Prelude.{◌≡◌, ℕ, ◌+◌, ◌-◌, ◌*◌, ◌<◌, ◌≤◌, ◌^◌, ◌++◌, false, List, Option, IfErr, IfOk, OnOk, None, length, slice_range};
 ghost use Rattle.std.specs.Option.{option_map, option_to_list};
 ghost use Rattle.knit_base.specs.declared.instr.Read.{Read};
 ghost use Rattle.knit_base.specs.Lawful.{IsLawfulRead};
@@ -82,7 +82,7 @@ pub fn prepare_with<L: Ledger>(
     if lines > MOST_LINES {
         return Err(PrepareFault::BlockLong { lines });
     }
-    match read_block(draft, &text, setting, steps) {
+    match read_block(draft, &text, 0, lines, setting, steps) {
         Ok(block) => Ok(Prepared {
             text,
             face: block.face,
@@ -92,29 +92,56 @@ pub fn prepare_with<L: Ledger>(
     }
 }
 
-// What is made of a text.
+/// The face and the table of the lines from `start` to `end`, which isn't counted, as of a text of these lines alone: offsets are counted from the
+/// first of them.
+pub fn prepare_part<L: Ledger>(
+    alloc: Global,
+    text: &BlockText,
+    start: u32,
+    end: u32,
+    setting: &Setting,
+    steps: &mut Steps<L>,
+) -> Result<(Face, LoopTable), NoMemory>
+    requires profile { IsLawfulProfile setting.now.profile }
+    requires ordered { start ≤ end }
+    requires inside { end ≤ length text.now }
+    requires few { end ≤ start + 4096 }
+    ensures made { IfOk result (λ part. (lines : List Read) → AreReadings setting.now.profile setting.now.declared (slice_range text.now start end) lines → IsMadeOf setting.now.profile (length setting.now.declared) part.0 part.1 lines) }
+    ensures steps { steps.new ≤ steps.old + (end - start) }
+{
+    let mut draft = Draft::new(alloc);
+    let block = read_block(&mut draft, text, start, end, setting, steps)?;
+    Ok((block.face, block.loops))
+}
+
+// What is made of lines.
 #[derive(Drop)]
 struct Block {
     face: Face,
     loops: LoopTable,
 }
 
+// Reads the lines from `start` to `end`, which isn't counted.
 fn read_block<L: Ledger>(
     draft: &mut Draft,
     text: &BlockText,
+    start: u32,
+    end: u32,
     setting: &Setting,
     steps: &mut Steps<L>,
 ) -> Result<Block, NoMemory>
     requires profile { IsLawfulProfile setting.now.profile }
-    requires few { length text.now ≤ 4096 }
-    ensures made { IfOk result (λ block. (lines : List Read) → AreReadings setting.now.profile setting.now.declared text.now lines → IsMadeOf setting.now.profile (length setting.now.declared) block.face block.loops lines) }
-    ensures steps { steps.new ≤ steps.old + length text.now }
+    requires ordered { start ≤ end }
+    requires inside { end ≤ length text.now }
+    requires few { end ≤ start + 4096 }
+    ensures made { IfOk result (λ block. (lines : List Read) → AreReadings setting.now.profile setting.now.declared (slice_range text.now start end) lines → IsMadeOf setting.now.profile (length setting.now.declared) block.face block.loops lines) }
+    ensures steps { steps.new ≤ steps.old + (end - start) }
 {
     draft.clear();
-    let lines = text.len();
+    let lines = end - start;
     let mut last = LastNamed::none();
     let mut loops = LoopTable::with_capacity(draft.allocator(), lines)?;
-    for i in 0..lines {
+    for i in start..end {
         let line = text.line(i, steps);
         match add_line(line, setting, &mut last, draft, &mut loops)? {
             None => {}

@@ -2,7 +2,6 @@ pub mod Added
 pub mod Adds
 pub mod Appended
 pub mod AskedLoops
-pub mod BedNeedles
 pub mod Blocks
 pub mod Counts
 pub mod Cuts

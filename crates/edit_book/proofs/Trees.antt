@@ -18,7 +18,7 @@ use Rattle.loop_history.specs.Tables.{TableStandsFor}
 use Rattle.block_summary.specs.Prepared.{AreReadings, IsMadeOf}
 use Rattle.block_summary.proofs.Blocks.{named, named_known}
 use Rattle.edit_book.specs.Books.{IsLawful, IsLawfulSetting, IsLeafOf}
-use Rattle.edit_book.proofs.BedNeedles.{named_numbered}
+use Rattle.block_summary.proofs.BedNeedles.{named_numbered}
 use Rattle.summary_tree.specs.Leaves.{Leaf, AreSound, EachStandsFor, IsGoodFor, IsRootOf, all_lines, lines_of}
 
 pub zip_count : {A B : Type 0} (R : A → B → Type 0) (xs : List A) (ys : List B) → AllZip R xs ys → length xs ≡ length ys

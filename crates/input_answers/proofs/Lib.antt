@@ -5,7 +5,6 @@ pub mod BodyListings
 pub mod BodyRuns
 pub mod Dues
 pub mod Fronts
-pub mod LineRanges
 pub mod ListedRuns
 pub mod LiveDues
 pub mod MadeDues

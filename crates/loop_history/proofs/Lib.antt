@@ -2,3 +2,4 @@ pub mod Entries
 pub mod Search
 pub mod TableLines
 pub mod TextTables
+mod FaceChanges

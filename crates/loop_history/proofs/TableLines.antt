@@ -1,5 +1,5 @@
 -- Tables of lines, as one line more comes behind them.
-use Rattle.std.proofs.Common.{◌≡◌, ℕ, ◌+◌, ◌<◌, ◌≤◌, cond, nat_lt, List, [], ◌∷◌, ◌++◌, length, All, Option, Some, None, IfSome, refl, sym, ap, ◌∙◌, arith, length-append, append-nil, append_assoc, lt-ltb, subst}
+use Rattle.std.proofs.Common.{◌≡◌, ℕ, ◌+◌, ◌<◌, ◌≤◌, cond, nat_lt, List, [], ◌∷◌, ◌++◌, length, get_or, zero, suc, All, Option, Some, None, IfSome, refl, sym, ap, ◌∙◌, arith, length-append, append-nil, append_assoc, lt-ltb, subst}
 use Rattle.std.specs.Prelude.{filter}
 use Rattle.std.specs.Option.{option_map, option_to_list}
 use Rattle.std.proofs.lemmas.Bool.{le-ltb}
@@ -194,3 +194,13 @@ broken_stops profile summary lines fault sums broke s first = go (run profile s 
         let same : Broken fault ≡ Through through.0 = sym broke ∙ through.1 in
         absurd (cc)
     go (Stops t fault) stops = tt
+
+offset_at : (rows : List LoopRow) (i : ℕ) (d : LoopRow) → OffsetsRise rows → i < length rows → i ≤ (get_or rows i d).offset
+offset_at rows zero d rising within = omega arith
+offset_at rows (suc i) d rising within = omega (arith, offset_at rows i d rising (omega (arith, within)), rising i (suc i) d (omega arith) within)
+
+-- There are no more rows than lines.
+pub rows_few : (lines : ℕ) (rows : List LoopRow) → OffsetsRise rows → All (IsRowOf lines) rows → length rows ≤ lines
+rows_few lines [] rising within = omega arith
+rows_few lines (row ∷ rows) rising within =
+    omega (arith, offset_at (row ∷ rows) (length rows) row rising (omega arith), (within (length rows) row (omega arith)).within)

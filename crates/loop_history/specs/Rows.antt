@@ -1,11 +1,11 @@
 -- The loops that a block makes, row by row.
-use Rattle.std.specs.Prelude.{ℕ, ◌+◌, ◌<◌, ◌≤◌, nat_lt, List, length, filter, map}
+use Rattle.std.specs.Prelude.{ℕ, ◌+◌, ◌<◌, ◌≤◌, ◌^◌, nat_lt, List, All, length, filter, map}
 use Rattle.std.specs.List.{AllPairs}
 use Rattle.carriage_model.specs.declared.verdict.LoopFact.{LoopFact}
 use Rattle.carriage_model.specs.Run.{Ended}
 use Rattle.carriage_model.specs.Run.Ended.{Ends, Stops}
 use Rattle.carriage_model.specs.State.{State}
-use Rattle.face_data.specs.Segments.{Changed, read_segs}
+use Rattle.face_data.specs.Segments.{Changed, OffsetFits, read_segs}
 use Rattle.face_data.specs.Through.{through}
 use Rattle.loop_history.specs.declared.row.LoopRow.{LoopRow}
 
@@ -34,3 +34,8 @@ pub record IsTable (rows : List LoopRow) : Type 0 where
 -- a row of a second text, told from the entry of a first one that makes these changes and has so many lines
 abbrev pub row_through : List Changed → ℕ → LoopRow → LoopRow
 row_through changes lines row = record row { offset = lines + row.offset; through = through changes lines row.through }
+
+-- the row's lines have numbers of 32 bits, where so many lines stand before its text
+pub record RowFits (lines : ℕ) (row : LoopRow) : Type 0 where
+  pub offset : lines + row.offset < 2 ^ 32
+  pub through : All (OffsetFits lines) row.through

@@ -8,6 +8,7 @@
 //! line, and of one line more). Below it stand std, `knit_base`, `carriage_model` and `face_data`.
 #![tactic(auto)]
 
+mod joining;
 mod resolving;
 mod row;
 mod table;

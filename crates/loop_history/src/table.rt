@@ -1,9 +1,13 @@
 //! The loops of a block.
-ghost use Rattle.std.specs.Prelude.{◌≡◌, ◌==◌, ◌+◌, ◌<◌, ◌≤◌, [], ◌∷◌, ◌++◌, All, IfOk, OnErr, OnOk, Some, length, position, slice_get};
-ghost use Rattle.loop_history.specs.Rows.{OffsetsRise};
+ghost use Rattle.std.specs.Prelude.{◌≡◌, ◌==◌, ◌+◌, ◌<◌, ◌≤◌, [], ◌∷◌, ◌++◌, All, IfOk, OnErr, OnOk, Some, length, map, position, slice_get};
+ghost use Rattle.face_data.specs.Goodness.{IsGoodFace};
+ghost use Rattle.face_data.specs.View.{IsPacked, changed_of, summary_of};
+ghost use Rattle.loop_history.specs.Rows.{OffsetsRise, RowFits, row_through};
 ghost use Rattle.loop_history.specs.declared.row.LoopRow.{LoopRow};
 
 use crate::LoopRow;
+use crate::joining::rows_through;
+use face_data::FaceView;
 use knit_base::{NoMemory, Steps};
 use std::alloc::Global;
 use std::marker::Model;
@@ -59,6 +63,23 @@ impl LoopTable {
     {
         self.rows.reserve(1)?;
         self.rows.push_reserved(row);
+        Ok(())
+    }
+
+    /// Appends the rows of a second text's table, told from the entry of a first one, to which this table belongs and which has this face: the
+    /// second one's lines are counted from the first one's, and what its loops are drawn through is read through the first one's changes.
+    /// After `NoMemory`, which also comes where a loop would be drawn through more segments than a `u32` counts, the table is as before.
+    pub fn append_through(&mut self, first: &FaceView, later: LoopTable) -> Result<(), NoMemory>
+        requires good { IsGoodFace (summary_of first.now) }
+        requires packed { IsPacked first.now }
+        requires before { All (λ (row : LoopRow). row.offset < first.now.lines) self.old }
+        requires few { length self.old + length later ≤ 4096 }
+        requires fit { All (RowFits first.now.lines) later }
+        ensures ok { OnOk result (self.new ≡ self.old ++ map (row_through (map (changed_of first.now.segs.now) first.now.changes.now) first.now.lines) later) }
+        ensures err { OnErr result (self.new ≡ self.old) }
+    {
+        let mut more = rows_through(*self.rows.allocator(), first, later.rows)?;
+        self.rows.append(&mut more)?;
         Ok(())
     }
 
