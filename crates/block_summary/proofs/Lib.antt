@@ -13,7 +13,7 @@ pub mod LineChanges
 pub mod LineChecks
 pub mod LineGoodness
 pub mod LineFront
-pub mod LineRanges
+pub mod LinePlaces
 pub mod LineStands
 pub mod LineSteps
 pub mod NewLoops

@@ -14,8 +14,8 @@
 //! after others), `specs/Prepared` (what is made of a text), and `specs/Segments`, `specs/Conditions`, `specs/Summaries`,
 //! `specs/Stands` and `specs/Goodness` of `face_data` and `specs/Tables` of `loop_history`.
 //! Lemmas that the crates above cite: `proofs/LineStands`, `proofs/LineGoodness` (the summary of a line and of a block stands for its
-//! lines and is good), `proofs/LineFront` (a line that asks nothing new), `proofs/KnownNeedles` (lawful lines name needles whose
-//! numbers have 16 bits). Below it stand std, `thiserror`, `knit_base`, `carriage_model`, `knitout_reader`, `face_data`,
+//! lines and is good), `proofs/LineFront` (a line that asks nothing new), `proofs/KnownNeedles` and `proofs/BedNeedles` (lines name
+//! needles whose numbers have 16 bits). Below it stand std, `thiserror`, `knit_base`, `carriage_model`, `knitout_reader`, `face_data`,
 //! `loop_history` and the crates of the four groups of rules.
 #![tactic(auto)]
 

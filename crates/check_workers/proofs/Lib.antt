@@ -1,1 +1,4 @@
+pub mod Faces
+pub mod LineRanges
 pub mod Lots
+mod Pieces

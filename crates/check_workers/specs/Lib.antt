@@ -1,1 +1,3 @@
+pub mod Faces
+pub mod Pieces
 pub mod Texts

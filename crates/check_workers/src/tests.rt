@@ -1,11 +1,21 @@
 //! Texts whose lines and loops are counted by hand.
+ghost use Rattle.std.specs.Prelude.{◌≡◌, ◌<◌, ◌≤◌};
 ghost use Rattle.knit_base.specs.Limits.{IsLawfulProfile};
 
-use crate::prepare_all;
+use crate::{prepare_all, prepare_wide};
 use block_summary::{PrepareFault, Prepared};
-use knit_base::{BlockText, Declared, Lines, NoMemory, Profile, Setting};
+use face_data::{FaceView, Seg};
+use knit_base::{Bed, BlockText, Declared, Lines, Needle, NoMemory, Profile, Setting, Steps};
+use loop_history::{LoopRow, LoopTable};
 use std::alloc::Global;
+use std::marker::Brand;
+use std::sync::ledger::{Blank, Ledger};
 use std::thread::Threads;
+
+const F1: Needle = Needle {
+    bed: Bed::Front,
+    at: 1,
+};
 
 // The setting of a file whose head declares the carrier 1.
 fn setting(alloc: Global) -> Setting
@@ -110,6 +120,115 @@ fn the_first_long_text_is_told(rt: HostRuntime) {
         is_long(&rt, rt.alloc(), &[4096], 4097),
         is_long(&rt, rt.alloc(), &[1, 4096, 4097], 4097),
         is_long(&rt, rt.alloc(), &[4095, 2, 4097, 4096], 4098),
+    ];
+    assert_eq!(rt; are, [true; 3]);
+}
+
+// The body of a small scarf.
+const SCARF: [&str; 6] = [
+    "in 1",
+    "tuck - f2 1",
+    "tuck - f1 1",
+    "knit + f1 1",
+    "knit + f2 1",
+    "out 1",
+];
+
+fn scarf(alloc: Global) -> Result<BlockText, NoMemory> {
+    let mut lines = Lines::new(alloc);
+    for line in SCARF {
+        lines.push(line)?;
+    }
+    BlockText::of(alloc, &lines, 0, lines.len())
+}
+
+// The scarf, prepared in so many pieces.
+fn scarf_in<R: Threads + Sync>(rt: &R, alloc: Global, pieces: u32) -> Result<Prepared, PrepareFault>
+    requires { (1 ≤ pieces) × (pieces ≤ 64) }
+{
+    let Ok(text) = scarf(alloc) else {
+        return Err(PrepareFault::NoMemory);
+    };
+    prepare_wide(rt, alloc, text, pieces, &setting(alloc))
+}
+
+// The scarf, prepared at once.
+fn scarf_at_once<R: Threads + Sync>(rt: &R, alloc: Global) -> Result<Option<Prepared>, NoMemory> {
+    let mut texts = Vec::new(alloc);
+    texts.push(scarf(alloc)?)?;
+    match prepare_all(rt, alloc, texts, &setting(alloc)) {
+        Ok(mut blocks) => Ok(blocks.pop()),
+        Err(_) => Err(NoMemory),
+    }
+}
+
+fn is_face(face: &FaceView, other: &FaceView) -> bool {
+    face.lines == other.lines
+        && face.made == other.made
+        && face.checks == other.checks
+        && face.names == other.names
+        && face.changes == other.changes
+        && face.segs == other.segs
+        && face.ending == other.ending
+}
+
+fn is_row(row: &LoopRow, other: &LoopRow) -> bool {
+    row.offset == other.offset
+        && row.needle == other.needle
+        && row.dir == other.dir
+        && row.yarns.as_slice() == other.yarns.as_slice()
+        && row.through.as_slice() == other.through.as_slice()
+}
+
+fn are_rows<L: Ledger>(table: &LoopTable, other: &LoopTable, steps: &mut Steps<L>) -> bool {
+    let count = table.len();
+    if count != other.len() {
+        return false;
+    }
+    for i in 0..count {
+        if !is_row(table.row(i, steps), other.row(i, steps)) {
+            return false;
+        }
+    }
+    true
+}
+
+// Whether four loops are made, the third by the line with the offset 3, on f1, through what f1 held before the scarf and the loop of the line before.
+fn is_knit_through<L: Ledger>(table: &LoopTable, steps: &mut Steps<L>) -> bool {
+    if table.len() != 4 {
+        return false;
+    }
+    let row = table.row(2, steps);
+    row.offset == 3
+        && row.needle == F1
+        && row.through.as_slice() == [Seg::Entry(F1), Seg::New(2)].as_slice()
+}
+
+fn is_scarf<L: Ledger, R: Threads>(rt: &R, blank: Blank, block: &Prepared, other: &Prepared) -> bool
+    requires { (blank.name ≡ L.name) × (blank.parts ≡ L.parts) × (0 < L.parts) }
+{
+    let mut steps = Steps::<L>::start(rt, blank);
+    is_face(&block.face.view(), &other.face.view())
+        && are_rows(&block.loops, &other.loops, &mut steps)
+        && is_knit_through(&block.loops, &mut steps)
+}
+
+// Whether the scarf in so many pieces is what it is at once.
+fn is_the_scarf<R: Threads + Sync>(rt: &R, alloc: Global, pieces: u32) -> bool
+    requires { (1 ≤ pieces) × (pieces ≤ 64) }
+{
+    match (scarf_in(rt, alloc, pieces), scarf_at_once(rt, alloc)) {
+        (Ok(block), Ok(Some(other))) => is_scarf::<Brand, R>(rt, Blank::new(1), &block, &other),
+        _ => false,
+    }
+}
+
+#[test]
+fn pieces_of_a_scarf_are_the_scarf(rt: HostRuntime) {
+    let are = [
+        is_the_scarf(&rt, rt.alloc(), 1),
+        is_the_scarf(&rt, rt.alloc(), 2),
+        is_the_scarf(&rt, rt.alloc(), 6),
     ];
     assert_eq!(rt; are, [true; 3]);
 }

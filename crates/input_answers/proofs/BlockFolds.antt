@@ -45,7 +45,7 @@ use Rattle.input_answers.specs.BodyRun.{IsJudgement}
 use Rattle.input_answers.specs.Folds.{AreOfOneMachine, HasFolded, Took, fault_of, fault_of_run, rows_before}
 use Rattle.input_answers.proofs.BlockLoops.{loops_are_asked, loops_more, still_kept}
 use Rattle.input_answers.proofs.BodyRuns.{judged_readings}
-use Rattle.block_summary.proofs.LineRanges.{both_ranges, range_len, range_rest}
+use Rattle.check_workers.proofs.LineRanges.{both_ranges, range_len, range_rest}
 use Rattle.input_answers.proofs.StoppedRuns.{loops_made-stays, run-stays, verdict-stays}
 
 -- what the lines of a block read as, and that it was prepared for them

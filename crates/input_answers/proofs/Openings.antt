@@ -15,7 +15,7 @@ use Rattle.input_answers.specs.CheckReport.{body_of}
 use Rattle.input_answers.specs.Due.{Fits, blocks_of}
 use Rattle.input_answers.specs.DueLive.{AreBlocks, IsOpening}
 use Rattle.input_answers.specs.Openings.{AreFull, IsCut, texts_of}
-use Rattle.block_summary.proofs.LineRanges.{both_ranges, range_len, range_rest}
+use Rattle.check_workers.proofs.LineRanges.{both_ranges, range_len, range_rest}
 
 -- a last block behind full ones
 blocks-last : (size : ℕ) (blocks : List (List (List ℕ))) (last : List (List ℕ)) → AreFull size blocks → 0 < length last → length last ≤ size → AreBlocks size (blocks ++ last ∷ [])

@@ -8,7 +8,7 @@ use Rattle.loop_history.specs.declared.row.LoopRow.{LoopRow}
 use Rattle.block_summary.specs.DraftKnowledge.{stopped_at}
 use Rattle.block_summary.specs.Prepared.{AreRowsOf, HasRead, IsMadeOf}
 use Rattle.block_summary.proofs.Blocks.{all_read, read_more, read_stopped, zip_at}
-use Rattle.block_summary.proofs.LineRanges.{range_at, range_len}
+use Rattle.block_summary.proofs.LinePlaces.{part_at, part_len}
 use Rattle.block_summary.proofs.prepared.read_block.Goals as goal
 
 pub returns-in-Some-clause-made : goal.returns-in-Some-clause-made
@@ -21,10 +21,10 @@ returns-in-Some-clause-made g c lines reads =
     let k : ℕ = i - c.args.start in
     let new = c.add_line.new.draft in
     let fault = c.in-Some.fault in
-    let long : length lines ≡ c.args.end - c.args.start = AllZip-long (ReadsAs profile names) part lines reads ∙ range_len c.args.text.now c.args.start c.args.end c.requires.inside in
+    let long : length lines ≡ c.args.end - c.args.start = AllZip-long (ReadsAs profile names) part lines reads ∙ part_len c.args.text.now c.args.start c.args.end c.requires.inside in
     let within : k < length lines = omega (arith, long, c.loop-i-test.true, c.loop-i.invariant.begun) in
     let here = zip_at (ReadsAs profile names) part lines k c.line-line.result.now read.Blank reads
-    (range_at c.args.text.now c.args.start c.args.end i c.line-line.result.now c.requires.inside c.loop-i.invariant.begun c.loop-i-test.true c.line-line.ensures.line) in
+    (part_at c.args.text.now c.args.start c.args.end i c.line-line.result.now c.requires.inside c.loop-i.invariant.begun c.loop-i-test.true c.line-line.ensures.line) in
     let adds = c.in_ok-add_line.ensures.added (get_or lines k read.Blank) here in
     let face = c.in_ok-broken_face-in-Some.ensures ∙ (λ j. stopped_at fault (record new { lines = sym long j })) in
     subst (λ (rows : List LoopRow). IsMadeOf profile carriers c.in_ok-broken_face-in-Some.field-0 rows lines) (sym c.shrink_to_fit.ensures)
@@ -50,10 +50,10 @@ loop-i-preserved g c =
       rows = subst (λ n. AreRowsOf n c.add_line.new.loops) counted c.in_ok-add_line.ensures.rows;
       steps = omega (arith, c.line-line.ensures.steps, c.loop-i.invariant.steps, begun);
       read = λ lines reads.
-          let long : length lines ≡ c.args.end - c.args.start = AllZip-long (ReadsAs profile names) part lines reads ∙ range_len c.args.text.now c.args.start c.args.end c.requires.inside in
+          let long : length lines ≡ c.args.end - c.args.start = AllZip-long (ReadsAs profile names) part lines reads ∙ part_len c.args.text.now c.args.start c.args.end c.requires.inside in
           let within : k < length lines = omega (arith, long, c.loop-i-test.true, begun) in
           let here = zip_at (ReadsAs profile names) part lines k c.line-line.result.now read.Blank reads
-          (range_at c.args.text.now c.args.start c.args.end i c.line-line.result.now c.requires.inside begun c.loop-i-test.true c.line-line.ensures.line) in
+          (part_at c.args.text.now c.args.start c.args.end i c.line-line.result.now c.requires.inside begun c.loop-i-test.true c.line-line.ensures.line) in
           subst (λ n. HasRead profile (length names) lines n c.add_line.new.draft c.add_line.new.loops) next
           (read_more profile (length names) lines k read.Blank c.loop-i.draft c.add_line.new.draft c.loop-i.loops c.add_line.new.loops c.in_ok-add_line.field-0 c.requires.profile.some within
           (c.in_ok-add_line.ensures.added (get_or lines k read.Blank) here) c.in-None.is (c.loop-i.invariant.read lines reads));
@@ -66,7 +66,7 @@ returns-clause-made g c lines reads =
     let carriers = length names in
     let part = slice_range c.args.text.now c.args.start c.args.end in
     let k : ℕ = c.loop-i.i - c.args.start in
-    let long : length lines ≡ c.args.end - c.args.start = AllZip-long (ReadsAs profile names) part lines reads ∙ range_len c.args.text.now c.args.start c.args.end c.requires.inside in
+    let long : length lines ≡ c.args.end - c.args.start = AllZip-long (ReadsAs profile names) part lines reads ∙ part_len c.args.text.now c.args.start c.args.end c.requires.inside in
     let past : length lines ≤ k = omega (arith, long, c.loop-i-test.false, c.loop-i.invariant.begun) in
     subst (λ (rows : List LoopRow). IsMadeOf profile carriers c.in_ok-face.field-0 rows lines) (sym c.shrink_to_fit-2.ensures)
     (subst (λ (s : Summary). IsMadeOf profile carriers s c.loop-i.loops lines) (sym c.in_ok-face.ensures)

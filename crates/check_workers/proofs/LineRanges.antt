@@ -1,9 +1,8 @@
 -- Lines from one place to another, and those behind them.
-use Rattle.std.proofs.Common.{◌≡◌, ◌+◌, ◌-◌, ◌<◌, ◌≤◌, ℕ, List, Some, ◌++◌, length, take, drop, get_or, slice_get, ap, sym, ◌∙◌, arith}
+use Rattle.std.proofs.Common.{◌≡◌, ◌-◌, ◌≤◌, ℕ, List, ◌++◌, length, take, drop, ap, sym, ◌∙◌, arith}
 use Rattle.std.specs.List.{slice_range}
-use Rattle.std.proofs.lemmas.Option.{get_or_from_slice_get, slice_get-get_or}
 use Rattle.std.proofs.Math.Seq.{take-add}
-use Rattle.std.proofs.lemmas.List.{drop-drop, get_or-drop, get_or-take, length-drop, length-take-le, take_rest}
+use Rattle.std.proofs.lemmas.List.{drop-drop, length-drop, length-take-le, take_rest}
 
 -- one range, and the one behind it
 pub both_ranges : {X : Type 0} (xs : List X) (from mid to : ℕ) → from ≤ mid → mid ≤ to → slice_range xs from mid ++ slice_range xs mid to ≡ slice_range xs from to
@@ -20,14 +19,3 @@ range_rest xs from to all = ap (λ n. take (n - from) (drop from xs)) all ∙ ta
 -- how many lines there are
 pub range_len : {X : Type 0} (xs : List X) (from to : ℕ) → to ≤ length xs → length (slice_range xs from to) ≡ to - from
 range_len xs from to inside = length-take-le (to - from) (drop from xs) (omega (arith, length-drop from xs))
-
--- all lines
-pub range_all : {X : Type 0} (xs : List X) (to : ℕ) → to ≡ length xs → slice_range xs 0 to ≡ xs
-range_all xs to all = range_rest xs 0 to all
-
--- what stands at a place of a range
-pub range_at : {X : Type 0} (xs : List X) (from to i : ℕ) (x : X) → to ≤ length xs → from ≤ i → i < to → slice_get xs i ≡ Some x → slice_get (slice_range xs from to) (i - from) ≡ Some x
-range_at xs from to i x inside begun before is =
-    let back : from + (i - from) ≡ i = omega (arith, begun) in
-    let same = get_or-take (to - from) (drop from xs) (i - from) x (omega (arith, begun, before)) ∙ get_or-drop from xs (i - from) x ∙ ap (λ k. get_or xs k x) back ∙ get_or_from_slice_get xs i x x is in
-    slice_get-get_or (slice_range xs from to) (i - from) x (omega (arith, range_len xs from to inside, begun, before)) ∙ ap Some same

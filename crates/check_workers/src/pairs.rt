@@ -1,0 +1,58 @@
+//! Faces of lines that follow one another.
+ghost use Rattle.std.specs.Prelude.{◌≡◌, ◌+◌, ◌<◌, ◌^◌, IfOk};
+ghost use Rattle.face_data.specs.Composition.{composed};
+ghost use Rattle.face_data.specs.Drafts.{no_lines};
+ghost use Rattle.face_data.specs.View.{IsPacked, summary_of};
+ghost use Rattle.check_workers.specs.Faces.{AreOfOneMachine};
+
+use face_data::{Effect, Ending, Face, FaceView};
+use knit_base::{NoMemory, Steps};
+use std::alloc::Global;
+use std::sync::ledger::Ledger;
+use summary_compose::{Scratch, compose_into, room_for};
+
+/// The face of no line.
+pub fn empty_face(alloc: Global) -> Result<Face, NoMemory>
+    ensures { IfOk result (λ face. face ≡ no_lines) }
+{
+    Face::of(alloc, &empty_view())
+}
+
+fn empty_view() -> FaceView<'static>
+    ensures summary { summary_of result ≡ no_lines }
+    ensures packed { IsPacked result }
+{
+    FaceView {
+        lines: 0,
+        made: 0,
+        checks: &[],
+        names: &[],
+        changes: &[],
+        segs: &[],
+        ending: Ending::Through(Effect {
+            rack: None,
+            came: 0,
+            went: 0,
+            hook: None,
+        }),
+    }
+}
+
+/// The face of the lines of both, made in a scratch that may have been used before.
+pub fn join_faces<L: Ledger>(
+    alloc: Global,
+    first: &Face,
+    second: &Face,
+    scratch: &mut Scratch,
+    steps: &mut Steps<L>,
+) -> Result<Face, NoMemory>
+    requires machine { AreOfOneMachine first.now second.now }
+    requires lines { first.now.lines + second.now.lines < 2 ^ 32 }
+    ensures { IfOk result (λ face. face ≡ composed first.now second.now) }
+{
+    let first = first.view();
+    let second = second.view();
+    scratch.reserve(&room_for(&first, &second))?;
+    compose_into(&first, &second, scratch, steps);
+    Face::of(alloc, &scratch.view())
+}
