@@ -18,6 +18,14 @@ fn a_cast_on_line_by_line(rt: HostRuntime) -> Result<(), Fail> {
 }
 
 #[test]
+fn a_cast_on_in_one_block(rt: HostRuntime) -> Result<(), Fail> {
+    let verdict = "sound lines 11 made 6 held 3 rack 0\nin:\nhook:\nf1: 13\nf3: 16\nb2: 14\n";
+    let said = said(&rt, rt.alloc(), &["check", "--block", "4096"], HEADED)?;
+    assert!(rt; is(&said, Status::Done, verdict));
+    Ok(())
+}
+
+#[test]
 fn loops_across_blocks(rt: HostRuntime) -> Result<(), Fail> {
     let alloc = rt.alloc();
     let text = format!(in alloc; "{SCARF_TEXT}{SCARF_LOOPS}")?;

@@ -23,6 +23,18 @@ fn two_made_rows_by_blocks(rt: HostRuntime) -> Result<(), Fail> {
     Ok(())
 }
 
+#[test]
+fn two_made_rows_in_one_block(rt: HostRuntime) -> Result<(), Fail> {
+    let made = said(
+        &rt,
+        rt.alloc(),
+        &["make", "2", "0", "--block", "4096"],
+        b"",
+    )?;
+    assert!(rt; is(&made, Status::Done, TWO_ROWS));
+    Ok(())
+}
+
 const MANY_ROWS: &str =
     "maker lines 18012 blocks 282\nsound lines 18010 made 16008 held 8 rack 0\npasses 6002 operations 18008 windows 6001 checked\n";
 

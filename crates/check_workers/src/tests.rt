@@ -134,28 +134,44 @@ const SCARF: [&str; 6] = [
     "out 1",
 ];
 
-fn scarf(alloc: Global) -> Result<BlockText, NoMemory> {
+// The scarf, with so many lines that say nothing behind each of its lines.
+fn scarf(alloc: Global, gap: u16) -> Result<BlockText, NoMemory> {
     let mut lines = Lines::new(alloc);
     for line in SCARF {
         lines.push(line)?;
+        for _ in 0..gap {
+            if lines.len() > 5000 {
+                break;
+            }
+            lines.push("")?;
+        }
     }
     BlockText::of(alloc, &lines, 0, lines.len())
 }
 
-// The scarf, prepared in so many pieces.
-fn scarf_in<R: Threads + Sync>(rt: &R, alloc: Global, pieces: u32) -> Result<Prepared, PrepareFault>
+// That in so many pieces.
+fn scarf_in<R: Threads + Sync>(
+    rt: &R,
+    alloc: Global,
+    gap: u16,
+    pieces: u32,
+) -> Result<Prepared, PrepareFault>
     requires { (1 ≤ pieces) × (pieces ≤ 64) }
 {
-    let Ok(text) = scarf(alloc) else {
+    let Ok(text) = scarf(alloc, gap) else {
         return Err(PrepareFault::NoMemory);
     };
     prepare_wide(rt, alloc, text, pieces, &setting(alloc))
 }
 
-// The scarf, prepared at once.
-fn scarf_at_once<R: Threads + Sync>(rt: &R, alloc: Global) -> Result<Option<Prepared>, NoMemory> {
+// And at once.
+fn scarf_at_once<R: Threads + Sync>(
+    rt: &R,
+    alloc: Global,
+    gap: u16,
+) -> Result<Option<Prepared>, NoMemory> {
     let mut texts = Vec::new(alloc);
-    texts.push(scarf(alloc)?)?;
+    texts.push(scarf(alloc, gap)?)?;
     match prepare_all(rt, alloc, texts, &setting(alloc)) {
         Ok(mut blocks) => Ok(blocks.pop()),
         Err(_) => Err(NoMemory),
@@ -193,42 +209,64 @@ fn are_rows<L: Ledger>(table: &LoopTable, other: &LoopTable, steps: &mut Steps<L
     true
 }
 
-// Whether four loops are made, the third by the line with the offset 3, on f1, through what f1 held before the scarf and the loop of the line before.
-fn is_knit_through<L: Ledger>(table: &LoopTable, steps: &mut Steps<L>) -> bool {
+// Whether four loops are made, the third by the scarf's fourth line, on f1, through what f1 held before the scarf and the loop of the third line.
+fn is_knit_through<L: Ledger>(gap: u16, table: &LoopTable, steps: &mut Steps<L>) -> bool {
     if table.len() != 4 {
         return false;
     }
     let row = table.row(2, steps);
-    row.offset == 3
-        && row.needle == F1
-        && row.through.as_slice() == [Seg::Entry(F1), Seg::New(2)].as_slice()
+    let apart = u32::from(gap) + 1;
+    let through = [Seg::Entry(F1), Seg::New(2 * apart)];
+    row.offset == 3 * apart && row.needle == F1 && row.through.as_slice() == through.as_slice()
 }
 
-fn is_scarf<L: Ledger, R: Threads>(rt: &R, blank: Blank, block: &Prepared, other: &Prepared) -> bool
+fn is_scarf<L: Ledger, R: Threads>(
+    rt: &R,
+    blank: Blank,
+    gap: u16,
+    block: &Prepared,
+    other: &Prepared,
+) -> bool
     requires { (blank.name ≡ L.name) × (blank.parts ≡ L.parts) × (0 < L.parts) }
 {
     let mut steps = Steps::<L>::start(rt, blank);
     is_face(&block.face.view(), &other.face.view())
         && are_rows(&block.loops, &other.loops, &mut steps)
-        && is_knit_through(&block.loops, &mut steps)
+        && is_knit_through(gap, &block.loops, &mut steps)
 }
 
 // Whether the scarf in so many pieces is what it is at once.
-fn is_the_scarf<R: Threads + Sync>(rt: &R, alloc: Global, pieces: u32) -> bool
+fn is_the_scarf<R: Threads + Sync>(rt: &R, alloc: Global, gap: u16, pieces: u32) -> bool
     requires { (1 ≤ pieces) × (pieces ≤ 64) }
 {
-    match (scarf_in(rt, alloc, pieces), scarf_at_once(rt, alloc)) {
-        (Ok(block), Ok(Some(other))) => is_scarf::<Brand, R>(rt, Blank::new(1), &block, &other),
-        _ => false,
+    let Ok(block) = scarf_in(rt, alloc, gap, pieces) else {
+        return false;
+    };
+    match scarf_at_once(rt, alloc, gap) {
+        Ok(Some(other)) => is_scarf::<Brand, R>(rt, Blank::new(1), gap, &block, &other),
+        Ok(None) => false,
+        Err(_) => false,
     }
 }
 
 #[test]
 fn pieces_of_a_scarf_are_the_scarf(rt: HostRuntime) {
     let are = [
-        is_the_scarf(&rt, rt.alloc(), 1),
-        is_the_scarf(&rt, rt.alloc(), 2),
-        is_the_scarf(&rt, rt.alloc(), 6),
+        is_the_scarf(&rt, rt.alloc(), 0, 1),
+        is_the_scarf(&rt, rt.alloc(), 0, 2),
+        is_the_scarf(&rt, rt.alloc(), 0, 6),
     ];
     assert_eq!(rt; are, [true; 3]);
+}
+
+// A text of many lines is cut, here between the lines of the scarf.
+#[test]
+fn pieces_of_a_long_scarf_are_the_scarf(rt: HostRuntime) {
+    let are = [
+        is_the_scarf(&rt, rt.alloc(), 399, 2),
+        is_the_scarf(&rt, rt.alloc(), 399, 4),
+        is_the_scarf(&rt, rt.alloc(), 399, 6),
+        is_the_scarf(&rt, rt.alloc(), 399, 64),
+    ];
+    assert_eq!(rt; are, [true; 4]);
 }

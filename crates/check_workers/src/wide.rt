@@ -17,8 +17,11 @@ use std::sync::ledger::{Blank, Ledger};
 use std::thread::{Threads, join};
 use summary_compose::Scratch;
 
+// Of how many lines it is worth while to put pieces together, and to make threads.
+const MANY_LINES: u32 = 2_048;
+
 /// Prepares the text in so many pieces of nearly equal numbers of lines, each in a thread of its own where one can be made, and puts them together.
-/// What comes of it is what `prepare` makes.
+/// A text that isn't worth it is one piece. What comes of it is what `prepare` makes.
 pub fn prepare_wide<R: Threads + Sync>(
     rt: &R,
     alloc: Global,
@@ -37,10 +40,30 @@ pub fn prepare_wide<R: Threads + Sync>(
     if lines > MOST_LINES {
         return Err(PrepareFault::BlockLong { lines });
     }
-    match prepare_pieces(rt, alloc, &text, pieces, 0, pieces, setting) {
-        Ok((face, loops)) => Ok(Prepared { text, face, loops }),
+    let count = piece_count(lines, pieces);
+    match prepare_pieces(rt, alloc, &text, count, 0, count, setting) {
+        Ok(made) => Ok(Prepared {
+            text,
+            face: made.face,
+            loops: made.loops,
+        }),
         Err(NoMemory) => Err(PrepareFault::NoMemory),
     }
+}
+
+fn piece_count(lines: u32, pieces: u32) -> u32
+    requires { (1 ≤ pieces) × (pieces ≤ 64) }
+    ensures { (1 ≤ result) × (result ≤ 64) }
+{
+    if lines < MANY_LINES { 1 } else { pieces }
+}
+
+// What is made of pieces that follow one another, and where they were put together: there is room there that can be used again.
+#[derive(Drop)]
+struct Made {
+    face: Face,
+    loops: LoopTable,
+    scratch: Scratch,
 }
 
 // Where the piece with this number begins, of so many pieces.
@@ -62,9 +85,9 @@ fn prepare_pieces<R: Threads + Sync>(
     from: u32,
     to: u32,
     setting: &Setting,
-) -> Result<(Face, LoopTable), NoMemory>
+) -> Result<Made, NoMemory>
     requires { CanCut setting.now text.now pieces from to }
-    ensures { IfOk result (IsPartOf setting.now (lines_of_pieces text.now pieces from to)) }
+    ensures { IfOk result (λ made. IsPartOf setting.now (lines_of_pieces text.now pieces from to) (made.face, made.loops)) }
 {
     let _carriers = setting.declared.len();
     if to - from < 2 {
@@ -75,13 +98,13 @@ fn prepare_pieces<R: Threads + Sync>(
     let middle = from + (to - from) / 2;
     let (front, back) = join(
         rt,
-        move || -> Result<(Face, LoopTable), NoMemory>
+        move || -> Result<Made, NoMemory>
             requires { IsSync R.row × CanCut setting.now text.now pieces from middle }
-            ensures { IfOk result (IsPartOf setting.entry.now (lines_of_pieces text.entry.now pieces from middle)) }
+            ensures { IfOk result (λ made. IsPartOf setting.entry.now (lines_of_pieces text.entry.now pieces from middle) (made.face, made.loops)) }
         { prepare_pieces(rt, alloc, text, pieces, from, middle, setting) },
-        move || -> Result<(Face, LoopTable), NoMemory>
+        move || -> Result<Made, NoMemory>
             requires { IsSync R.row × CanCut setting.now text.now pieces middle to }
-            ensures { IfOk result (IsPartOf setting.entry.now (lines_of_pieces text.entry.now pieces middle to)) }
+            ensures { IfOk result (λ made. IsPartOf setting.entry.now (lines_of_pieces text.entry.now pieces middle to) (made.face, made.loops)) }
         { prepare_pieces(rt, alloc, text, pieces, middle, to, setting) },
     );
     both(rt, alloc, front?, back?)
@@ -95,12 +118,12 @@ fn prepare_piece<R: Threads>(
     start: u32,
     end: u32,
     setting: &Setting,
-) -> Result<(Face, LoopTable), NoMemory>
+) -> Result<Made, NoMemory>
     requires profile { IsLawfulProfile setting.now.profile }
     requires ordered { start ≤ end }
     requires inside { end ≤ length text.now }
     requires few { length text.now ≤ 4096 }
-    ensures { IfOk result (IsPartOf setting.now (slice_range text.now start end)) }
+    ensures { IfOk result (λ made. IsPartOf setting.now (slice_range text.now start end) (made.face, made.loops)) }
 {
     prepare_counted::<Brand, R>(rt, Blank::new(1), alloc, text, start, end, setting)
 }
@@ -113,27 +136,27 @@ fn prepare_counted<L: Ledger, R: Threads>(
     start: u32,
     end: u32,
     setting: &Setting,
-) -> Result<(Face, LoopTable), NoMemory>
+) -> Result<Made, NoMemory>
     requires profile { IsLawfulProfile setting.now.profile }
     requires ordered { start ≤ end }
     requires inside { end ≤ length text.now }
     requires few { length text.now ≤ 4096 }
     requires blank { (blank.name ≡ L.name) × (blank.parts ≡ L.parts) × (0 < L.parts) }
-    ensures { IfOk result (IsPartOf setting.now (slice_range text.now start end)) }
+    ensures { IfOk result (λ made. IsPartOf setting.now (slice_range text.now start end) (made.face, made.loops)) }
 {
     let mut steps = Steps::<L>::start(rt, blank);
-    prepare_part(alloc, text, start, end, setting, &mut steps)
+    let (face, loops) = prepare_part(alloc, text, start, end, setting, &mut steps)?;
+    Ok(Made {
+        face,
+        loops,
+        scratch: Scratch::new(alloc),
+    })
 }
 
 // Two pieces that follow one another, as one. The steps are counted by nobody.
-fn both<R: Threads>(
-    rt: &R,
-    alloc: Global,
-    front: (Face, LoopTable),
-    back: (Face, LoopTable),
-) -> Result<(Face, LoopTable), NoMemory>
-    requires { CanJoin front back }
-    ensures { IfOk result (IsOfBoth front back) }
+fn both<R: Threads>(rt: &R, alloc: Global, front: Made, back: Made) -> Result<Made, NoMemory>
+    requires { CanJoin (front.face, front.loops) (back.face, back.loops) }
+    ensures { IfOk result (λ made. IsOfBoth (front.face, front.loops) (back.face, back.loops) (made.face, made.loops)) }
 {
     both_counted::<Brand, R>(rt, Blank::new(1), alloc, front, back)
 }
@@ -142,17 +165,24 @@ fn both_counted<L: Ledger, R: Threads>(
     rt: &R,
     blank: Blank,
     alloc: Global,
-    front: (Face, LoopTable),
-    back: (Face, LoopTable),
-) -> Result<(Face, LoopTable), NoMemory>
-    requires neighbours { CanJoin front back }
+    front: Made,
+    back: Made,
+) -> Result<Made, NoMemory>
+    requires neighbours { CanJoin (front.face, front.loops) (back.face, back.loops) }
     requires blank { (blank.name ≡ L.name) × (blank.parts ≡ L.parts) × (0 < L.parts) }
-    ensures { IfOk result (IsOfBoth front back) }
+    ensures { IfOk result (λ made. IsOfBoth (front.face, front.loops) (back.face, back.loops) (made.face, made.loops)) }
 {
     let mut steps = Steps::<L>::start(rt, blank);
-    let mut scratch = Scratch::new(alloc);
-    let (first, mut loops) = front;
-    let face = join_faces(alloc, &first, &back.0, &mut scratch, &mut steps)?;
-    loops.append_through(&first.view(), back.1)?;
-    Ok((face, loops))
+    let Made {
+        face: first,
+        mut loops,
+        mut scratch,
+    } = front;
+    let face = join_faces(alloc, &first, &back.face, &mut scratch, &mut steps)?;
+    loops.append_through(&first.view(), back.loops)?;
+    Ok(Made {
+        face,
+        loops,
+        scratch,
+    })
 }

@@ -1,5 +1,5 @@
 //! The document that the sessions of a script begin with: the body of the script's text, in blocks of so many lines as were chosen, the last one shorter. The
-//! blocks are prepared by several threads at once.
+//! blocks are prepared by several threads at once, and so are the pieces of a single one.
 ghost use Rattle.std.specs.Prelude.{◌≡◌, ◌+◌, ◌<◌, ◌≤◌, ◌^◌, ◌++◌, ◌∷◌, [], All, IfOk, OnOk, length, slice_range};
 ghost use Rattle.knit_base.specs.Limits.{IsLawfulProfile};
 ghost use Rattle.knitout_reader.specs.Head.{IsHead};
@@ -12,13 +12,16 @@ ghost use Rattle.input_answers.specs.Openings.{IsCut, texts_of};
 
 use crate::plan::Plan;
 use block_summary::Prepared;
-use check_workers::prepare_all;
+use check_workers::{prepare_all, prepare_wide};
 use edit_book::Book;
 use knit_base::{BlockText, Lines, NoMemory, Setting, Steps};
 use knitout_reader::Head;
 use std::alloc::Global;
 use std::sync::ledger::Ledger;
 use std::thread::Threads;
+
+/// How many pieces a body that is one block is prepared in.
+const PIECES: u32 = 4;
 
 /// A book that nobody has edited yet, and how many blocks it begins with.
 #[derive(Drop)]
@@ -93,7 +96,7 @@ fn add_text(
     Ok(())
 }
 
-// The texts, each prepared for the setting. None of them is too long, so what is answered else is want of memory.
+// The texts, each prepared for the setting: a single one in pieces, several beside each other.
 fn prepared_blocks<R: Threads + Sync>(
     rt: &R,
     alloc: Global,
@@ -104,8 +107,38 @@ fn prepared_blocks<R: Threads + Sync>(
     ensures texts { IfOk result (λ blocks. texts_of blocks.items ≡ texts.items) }
     ensures prepared { IfOk result (λ blocks. All (IsPreparedFor setting.now.profile setting.now.declared) blocks.items) }
 {
+    if texts.len() == 1 {
+        return prepared_alone(rt, alloc, texts, setting);
+    }
     match prepare_all(rt, alloc, texts, setting) {
         Ok(blocks) => Ok(blocks),
+        // No text is too long.
         Err(_) => Err(NoMemory),
+    }
+}
+
+// The last of the texts alone, in pieces.
+fn prepared_alone<R: Threads + Sync>(
+    rt: &R,
+    alloc: Global,
+    mut texts: Vec<BlockText>,
+    setting: &Setting,
+) -> Result<Vec<Prepared>, NoMemory>
+    requires profile { IsLawfulProfile setting.now.profile }
+    requires one { length texts.items ≡ 1 }
+    ensures texts { IfOk result (λ blocks. texts_of blocks.items ≡ texts.items) }
+    ensures prepared { IfOk result (λ blocks. All (IsPreparedFor setting.now.profile setting.now.declared) blocks.items) }
+{
+    match texts.pop() {
+        None => Ok(Vec::new(alloc)),
+        Some(text) => match prepare_wide(rt, alloc, text, PIECES, setting) {
+            Ok(block) => {
+                let mut blocks = Vec::new(alloc);
+                blocks.push(block)?;
+                Ok(blocks)
+            }
+            // The text isn't too long.
+            Err(_) => Err(NoMemory),
+        },
     }
 }
