@@ -26,7 +26,7 @@ fn says(ending: &Ending, expected: &str) -> bool {
 }
 
 // Whether both ways say what the row says.
-fn agree<R: Threads>(
+fn agree<R: Threads + Sync>(
     rt: &R,
     alloc: Global,
     style: Style,
@@ -55,7 +55,7 @@ fn agree<R: Threads>(
 }
 
 // The first row that one of the ways tells otherwise.
-fn first_other<R: Threads>(
+fn first_other<R: Threads + Sync>(
     rt: &R,
     alloc: Global,
     rows: &[Row],
@@ -69,7 +69,7 @@ fn first_other<R: Threads>(
 }
 
 // The same where the loops are told.
-fn first_other_loops<R: Threads>(
+fn first_other_loops<R: Threads + Sync>(
     rt: &R,
     alloc: Global,
     rows: &[Row],

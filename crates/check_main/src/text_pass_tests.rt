@@ -10,7 +10,7 @@ use std::thread::Threads;
 type Row = (&'static [u8], &'static [u8]);
 
 // What both ways write, if they agree. `None` where one pass doesn't settle the file.
-fn agree<R: Threads>(
+fn agree<R: Threads + Sync>(
     rt: &R,
     alloc: Global,
     file: &[u8],
@@ -39,7 +39,7 @@ fn agree<R: Threads>(
 }
 
 // Whether both ways write what each row says.
-fn all_agree<R: Threads>(rt: &R, alloc: Global, rows: &[Row]) -> Result<bool, Fail> {
+fn all_agree<R: Threads + Sync>(rt: &R, alloc: Global, rows: &[Row]) -> Result<bool, Fail> {
     for (file, expected) in rows {
         if agree(rt, alloc, file, expected)? != Some(true) {
             return Ok(false);

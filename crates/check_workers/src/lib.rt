@@ -14,7 +14,9 @@ mod prepare;
 #[cfg(test)]
 mod tests;
 mod wide;
+mod workers;
 
 pub use pairs::{empty_face, join_faces};
-pub use prepare::{MOST_LOTS, prepare_all};
+pub use prepare::prepare_all;
 pub use wide::prepare_wide;
+pub use workers::{MOST_LOTS, worker_count};

@@ -1,5 +1,5 @@
 //! Texts that are prepared beside each other.
-ghost use Rattle.std.specs.Prelude.{◌≡◌, ◌<◌, ◌≤◌, IfErr, IfNone, IfOk, IfSome, All, length, map};
+ghost use Rattle.std.specs.Prelude.{◌≡◌, ◌<◌, IfErr, IfNone, IfOk, IfSome, All, length, map};
 ghost use Rattle.std.specs.List.{find};
 ghost use Rattle.std.specs.Option.{option_map};
 ghost use Rattle.std.specs.Thread.{IsSync};
@@ -8,18 +8,13 @@ ghost use Rattle.block_summary.specs.Prepared.{IsPreparedFor};
 ghost use Rattle.block_summary.specs.declared.prepared.PrepareFault.{PrepareFault};
 ghost use Rattle.check_workers.specs.Texts.{ArePrepared, is_too_long};
 
+use crate::workers::lot_count;
 use block_summary::{Draft, MOST_LINES, PrepareFault, Prepared, prepare_with};
 use knit_base::{BlockText, NoMemory, Setting, Steps};
 use std::alloc::Global;
 use std::marker::Brand;
 use std::sync::ledger::{Blank, Ledger};
-use std::thread::{Threads, available_parallelism, join};
-
-/// How many lots the texts are given out in at most.
-pub const MOST_LOTS: usize = 16;
-
-// How many lines make a lot worth a thread.
-const LOT_LINES: usize = 4_096;
+use std::thread::{Threads, join};
 
 /// Prepares the texts in lots of nearly equal numbers, each lot in a thread of its own where one can be made, and in no more lots than
 /// there are processors, so that each has some thousand lines. A text that is too long is told before any is prepared.
@@ -38,7 +33,8 @@ pub fn prepare_all<R: Threads + Sync>(
     if let Some(lines) = first_too_long(texts.as_slice()) {
         return Err(PrepareFault::BlockLong { lines });
     }
-    match prepare_lots(rt, alloc, lot_count(rt, texts.as_slice()), texts, setting) {
+    let lots = lot_count(rt, line_count(texts.as_slice()));
+    match prepare_lots(rt, alloc, lots, texts, setting) {
         Ok(blocks) => Ok(blocks),
         Err(NoMemory) => Err(PrepareFault::NoMemory),
     }
@@ -52,20 +48,6 @@ fn first_too_long(texts: &[BlockText]) -> Option<u32>
         .iter()
         .find(|text| text.len() > MOST_LINES)
         .map(|text| text.len())
-}
-
-// One for each processor, where there are lines enough: a thread takes the time of some hundred lines.
-fn lot_count<R: Threads>(rt: &R, texts: &[BlockText]) -> usize
-    ensures { result ≤ 16 }
-{
-    let most = MOST_LOTS.min((line_count(texts) / LOT_LINES).saturating_add(1));
-    if most < 2 {
-        return 1;
-    }
-    match available_parallelism(rt) {
-        Ok(processors) => most.min(processors.get()),
-        Err(_) => most,
-    }
 }
 
 // How many lines the texts have together.

@@ -51,18 +51,11 @@ loops_and (Some loops) more = Some (loops ++ more)
 abbrev pub entries_held : List Changed → ℕ → List Needle → List (Needle × List ℕ)
 entries_held changes first needles = map (λ n. (n, read_segs empty_state first (segments_on changes n))) needles
 
--- both summaries are good for the same machine, whose needles have numbers of 16 bits
-pub record AreOfOneMachine (first second : Summary) : Type 0 where
-  pub carriers : ℕ
-  pub limit : ℕ
-  pub first_known : List Needle
-  pub second_known : List Needle
-  pub few : carriers ≤ 64
-  pub few_loops : limit < 2 ^ 8
-  pub first_numbers : All IsNumbered first_known
-  pub second_numbers : All IsNumbered second_known
-  pub first_good : IsGood carriers limit first_known first
-  pub second_good : IsGood carriers limit second_known second
+-- The face of more lines was taken: the face is that of both, and the fault is the one at which they stop on empty beds.
+pub record TookFace (old new : Fold) (more : Summary) : Type 0 where
+  pub face : new.face ≡ composed old.face more
+  pub first : new.first ≡ old.first
+  pub stop : new.stop ≡ fault_of (applied new.face empty_state new.first)
 
 -- One block more was taken: the face is that of both, the fault is the one at which they stop on empty beds, and the loops of the block's lines
 -- before it stand behind the others, where loops are kept.

@@ -31,7 +31,7 @@ const BLOCK_LIMIT: u32 = 65_536;
 /// What is due for a file that was read whole. One pass over the bytes is tried first, which settles nearly every file in less
 /// time and memory; what that doesn't settle goes the general way: the lines are cut, the head is read, and then the body is
 /// judged or written.
-pub fn answer<R: Threads>(
+pub fn answer<R: Threads + Sync>(
     rt: &R,
     alloc: Global,
     plan: &Plan,
@@ -72,7 +72,7 @@ fn answer_in_one_pass(alloc: Global, plan: &Plan, input: &[u8]) -> Result<Option
 }
 
 /// The same, in the general way.
-pub fn answer_by_lines<R: Threads>(
+pub fn answer_by_lines<R: Threads + Sync>(
     rt: &R,
     alloc: Global,
     plan: &Plan,
@@ -89,7 +89,7 @@ pub fn answer_by_lines<R: Threads>(
 }
 
 // What is due for an input with these lines.
-fn answer_lines<R: Threads>(
+fn answer_lines<R: Threads + Sync>(
     rt: &R,
     alloc: Global,
     plan: &Plan,
@@ -107,7 +107,7 @@ fn answer_lines<R: Threads>(
 }
 
 // What is due for an input with this body.
-fn answer_body<R: Threads>(
+fn answer_body<R: Threads + Sync>(
     rt: &R,
     alloc: Global,
     plan: &Plan,
@@ -126,7 +126,7 @@ fn answer_body<R: Threads>(
 }
 
 // The verdict on a file with this body, unless that is too large.
-fn check<R: Threads>(
+fn check<R: Threads + Sync>(
     rt: &R,
     alloc: Global,
     style: Style,
@@ -143,7 +143,7 @@ fn check<R: Threads>(
 }
 
 // The passes of a file with this body, unless that is too large.
-fn passes<R: Threads>(rt: &R, alloc: Global, plan: &Plan, body: &Body) -> Result<Ending, NoMemory>
+fn passes<R: Threads + Sync>(rt: &R, alloc: Global, plan: &Plan, body: &Body) -> Result<Ending, NoMemory>
     ensures { IfOk result (λ ending. (input : List ℕ) → body.now.lines ≡ lines_of input
         → Due Command.Passes plan.now.chosen input ending.text.items ending.status) }
 {

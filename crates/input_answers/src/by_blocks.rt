@@ -10,15 +10,19 @@ use crate::body::Body;
 use crate::fold::Fold;
 use crate::judge::Judgement;
 use crate::plan::Plan;
-use block_summary::{Draft, PrepareFault, Prepared, prepare_with};
+use block_summary::Draft;
+use check_workers::{fold_lines, prepared, worker_count};
 use knit_base::{BlockText, NoMemory, Setting, Steps};
 use std::alloc::Global;
 use std::marker::Brand;
 use std::sync::ledger::{Blank, Ledger};
 use std::thread::Threads;
 
+// So many lines are taken before any are given out to several threads.
+const FIRST_LINES: u32 = 16_384;
+
 /// What the lines behind the head make, by blocks of so many lines as the plan says.
-pub fn judge_by_blocks<R: Threads>(
+pub fn judge_by_blocks<R: Threads + Sync>(
     rt: &R,
     alloc: Global,
     with_loops: bool,
@@ -31,7 +35,7 @@ pub fn judge_by_blocks<R: Threads>(
 }
 
 // The same with a counter of steps, which no contract here reads.
-fn judge_counted<L: Ledger, R: Threads>(
+fn judge_counted<L: Ledger, R: Threads + Sync>(
     rt: &R,
     blank: Blank,
     alloc: Global,
@@ -45,10 +49,11 @@ fn judge_counted<L: Ledger, R: Threads>(
     ensures { IfOk result (λ judgement. IsJudgement with_loops plan.now.chosen.profile body.now.head.declared body.now.lines judgement) }
 {
     let mut steps = Steps::<L>::start(rt, blank);
-    fold_body(alloc, with_loops, plan, body, &mut steps)
+    fold_body(rt, alloc, with_loops, plan, body, &mut steps)
 }
 
-fn fold_body<L: Ledger>(
+fn fold_body<L: Ledger, R: Threads + Sync>(
+    rt: &R,
     alloc: Global,
     with_loops: bool,
     plan: &Plan,
@@ -64,6 +69,11 @@ fn fold_body<L: Ledger>(
         first: body.head.lines + 1,
     };
     let size = plan.chosen.block;
+    let workers = if with_loops {
+        1
+    } else {
+        worker_count(rt) as u32
+    };
     let mut fold = Fold::new(alloc, setting.first, with_loops)?;
     let mut draft = Draft::new(alloc);
     let mut start = body.head.lines;
@@ -71,13 +81,50 @@ fn fold_body<L: Ledger>(
         if fold.stop.is_some() {
             return fold.finish(alloc);
         }
-        let end = start + size.min(count - start);
-        add_block(
-            alloc, &setting, body, start, end, &mut draft, &mut fold, steps,
-        )?;
-        start = end;
+        let left = count - start;
+        let round = round_lines(workers, start - body.head.lines);
+        if with_loops || round <= size {
+            let end = start + size.min(left);
+            add_block(
+                alloc, &setting, body, start, end, &mut draft, &mut fold, steps,
+            )?;
+            start = end;
+        } else {
+            let end = start + round.min(left);
+            add_round(rt, alloc, &setting, body, start, end, size, &mut fold, steps)?;
+            start = end;
+        }
     }
     fold.finish(alloc)
+}
+
+// How many lines are given out to so many workers at once, behind so many that were taken. None, where there are too few to be worth it.
+fn round_lines(workers: u32, taken: u32) -> u32 {
+    if workers < 2 {
+        return 0;
+    }
+    if taken < FIRST_LINES {
+        return 0;
+    }
+    taken.saturating_mul(workers)
+}
+
+// Takes the lines from the one place to the other, which isn't counted.
+fn add_round<L: Ledger, R: Threads + Sync>(
+    rt: &R,
+    alloc: Global,
+    setting: &Setting,
+    body: &Body,
+    start: u32,
+    end: u32,
+    size: u32,
+    fold: &mut Fold,
+    steps: &mut Steps<L>,
+) -> Result<(), NoMemory>
+{
+    let face = fold_lines(rt, alloc, &body.lines, start, end, size, setting)?;
+    fold.take_face(alloc, &face, steps)?;
+    Ok(())
 }
 
 // Takes the lines from the one place to the other, which isn't counted.
@@ -91,39 +138,8 @@ fn add_block<L: Ledger>(
     fold: &mut Fold,
     steps: &mut Steps<L>,
 ) -> Result<(), NoMemory>
-    requires profile { IsLawfulProfile setting.now.profile }
-    requires names { setting.now.declared ≡ body.now.head.declared }
-    requires ordered { start ≤ end }
-    requires inside { end ≤ length body.now.lines }
-    requires size { end ≤ start + 4096 }
-    requires numbers { end + 1 < 2 ^ 32 }
-    requires folded { HasFolded setting.now.profile body.now.head.declared body.now.lines body.now.head.lines start fold.old }
-    requires goes_on { fold.old.stop ≡ None }
-    ensures folded { OnOk result (HasFolded setting.now.profile body.now.head.declared body.now.lines body.now.head.lines end fold.new) }
-    ensures kept { OnOk result (is_some fold.new.loops ≡ is_some fold.old.loops) }
 {
     let text = BlockText::of(alloc, &body.lines, start, end)?;
     let block = prepared(draft, text, setting, steps)?;
     fold.take(alloc, &block, steps)
-}
-
-/// The block's text, prepared for this machine in a draft that may have been used before.
-pub(crate) fn prepared<L: Ledger>(
-    draft: &mut Draft,
-    text: BlockText,
-    setting: &Setting,
-    steps: &mut Steps<L>,
-) -> Result<Prepared, NoMemory>
-    requires profile { IsLawfulProfile setting.now.profile }
-    requires few { length text ≤ 4096 }
-    ensures text { IfOk result (λ block. block.text ≡ text) }
-    ensures prepared { IfOk result (IsPreparedFor setting.now.profile setting.now.declared) }
-    ensures carriers { length setting.now.declared ≤ 64 }
-{
-    let _carriers = setting.declared.len();
-    match prepare_with(draft, text, setting, steps) {
-        Ok(block) => Ok(block),
-        Err(PrepareFault::BlockLong { .. }) => unreachable!(),
-        Err(PrepareFault::NoMemory) => Err(NoMemory),
-    }
 }

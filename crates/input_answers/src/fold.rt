@@ -6,24 +6,24 @@ ghost use Rattle.carriage_model.specs.Loops.{loops_asked, loops_made};
 ghost use Rattle.carriage_model.specs.Run.{run};
 ghost use Rattle.carriage_model.specs.State.{empty_state};
 ghost use Rattle.carriage_model.specs.Verdict.{IsVerdict};
-ghost use Rattle.face_data.specs.Composition.{composed};
 ghost use Rattle.face_data.specs.Drafts.{no_lines};
 ghost use Rattle.face_data.specs.Goodness.{IsGoodFace};
 ghost use Rattle.face_data.specs.Stands.{StandsFor};
 ghost use Rattle.face_data.specs.Summaries.{applied};
-ghost use Rattle.face_data.specs.View.{IsPacked, summary_of};
 ghost use Rattle.loop_history.specs.Tables.{IsRowOf};
-ghost use Rattle.input_answers.specs.Folds.{AreOfOneMachine, Took, fault_of};
+ghost use Rattle.check_workers.specs.Faces.{AreOfOneMachine};
+ghost use Rattle.input_answers.specs.Folds.{Took, TookFace, fault_of};
 
 use crate::block_loops::add_loops;
 use crate::judge::Judgement;
 use block_summary::Prepared;
 use carriage_model::{Brief, Facts};
-use face_data::{Effect, Ending, Face, FaceView, brief_of, verdict_of};
+use check_workers::{empty_face, join_faces};
+use face_data::{Face, brief_of, verdict_of};
 use knit_base::{Fault, NoMemory, Steps};
 use std::alloc::Global;
 use std::sync::ledger::Ledger;
-use summary_compose::{Scratch, compose_into, room_for};
+use summary_compose::Scratch;
 
 /// What the blocks so far make of empty beds: their face, the fault at which they stop there, and the loops that they make, where these are kept. The first of
 /// their lines has the number `first`.
@@ -46,7 +46,7 @@ impl Fold {
     {
         Ok(Fold {
             first,
-            face: Face::of(alloc, &empty_view())?,
+            face: empty_face(alloc)?,
             stop: None,
             loops: kept_loops(alloc, with_loops),
             scratch: Scratch::new(alloc),
@@ -65,7 +65,7 @@ impl Fold {
         requires rows { All (IsRowOf block.now.face.lines) block.now.loops }
         ensures { OnOk result (Took self.old self.new block.now) }
     {
-        let face = composed(alloc, &self.face, &block.face, &mut self.scratch, steps)?;
+        let face = join_faces(alloc, &self.face, &block.face, &mut self.scratch, steps)?;
         let stop = stop_of(&face, self.first);
         match &mut self.loops {
             None => {}
@@ -74,6 +74,25 @@ impl Fold {
                 add_loops(alloc, &before, self.first, stop, &block.loops, loops, steps)?;
             }
         }
+        self.face = face;
+        self.stop = stop;
+        Ok(())
+    }
+
+    /// The face of more lines, behind the others, which stop at no fault. No loops are kept.
+    pub fn take_face<L: Ledger>(
+        &mut self,
+        alloc: Global,
+        more: &Face,
+        steps: &mut Steps<L>,
+    ) -> Result<(), NoMemory>
+        requires machine { AreOfOneMachine self.old.face more.now }
+        requires lines { self.old.first + self.old.face.lines + more.now.lines < 2 ^ 32 }
+        ensures took { OnOk result (TookFace self.old self.new more.now) }
+        ensures loops { OnOk result (self.new.loops ≡ self.old.loops) }
+    {
+        let face = join_faces(alloc, &self.face, more, &mut self.scratch, steps)?;
+        let stop = stop_of(&face, self.first);
         self.face = face;
         self.stop = stop;
         Ok(())
@@ -95,27 +114,6 @@ impl Fold {
     }
 }
 
-// The face of no line.
-fn empty_view() -> FaceView<'static>
-    ensures summary { summary_of result ≡ no_lines }
-    ensures packed { IsPacked result }
-{
-    FaceView {
-        lines: 0,
-        made: 0,
-        checks: &[],
-        names: &[],
-        changes: &[],
-        segs: &[],
-        ending: Ending::Through(Effect {
-            rack: None,
-            came: 0,
-            went: 0,
-            hook: None,
-        }),
-    }
-}
-
 // No loops, where loops are kept.
 fn kept_loops(alloc: Global, with_loops: bool) -> Option<Facts>
     ensures { result ≡ loops_asked with_loops [] }
@@ -125,25 +123,6 @@ fn kept_loops(alloc: Global, with_loops: bool) -> Option<Facts>
     } else {
         None
     }
-}
-
-// The face of the lines of both.
-fn composed<L: Ledger>(
-    alloc: Global,
-    first: &Face,
-    second: &Face,
-    scratch: &mut Scratch,
-    steps: &mut Steps<L>,
-) -> Result<Face, NoMemory>
-    requires machine { AreOfOneMachine first.now second.now }
-    requires lines { first.now.lines + second.now.lines < 2 ^ 32 }
-    ensures { IfOk result (λ face. face ≡ composed first.now second.now) }
-{
-    let first = first.view();
-    let second = second.view();
-    scratch.reserve(&room_for(&first, &second))?;
-    compose_into(&first, &second, scratch, steps);
-    Face::of(alloc, &scratch.view())
 }
 
 // The fault at which the lines of the face stop on empty beds.

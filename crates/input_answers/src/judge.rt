@@ -31,7 +31,7 @@ pub struct Judgement {
 }
 
 /// The report of the verdict on a file.
-pub fn judge<R: Threads>(
+pub fn judge<R: Threads + Sync>(
     rt: &R,
     alloc: Global,
     style: Style,
@@ -47,7 +47,7 @@ pub fn judge<R: Threads>(
 }
 
 /// What the lines behind the head make: by blocks, where the words say how many lines these have, and else by one carriage.
-pub(crate) fn judge_body<R: Threads>(
+pub(crate) fn judge_body<R: Threads + Sync>(
     rt: &R,
     alloc: Global,
     with_loops: bool,

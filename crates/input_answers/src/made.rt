@@ -32,7 +32,7 @@ use verdict_report::made_of;
 
 /// What is due for a made program of so many rows, whose width and transfers follow from `start`: its file is made, checked as a file would be, and grouped
 /// into passes. One pass over the bytes is tried first, as for a file that is read.
-pub fn answer_made<R: Threads>(
+pub fn answer_made<R: Threads + Sync>(
     rt: &R,
     alloc: Global,
     plan: &Plan,
@@ -95,7 +95,7 @@ fn made_of_run(
 }
 
 // What is due for a made program, in the general way.
-fn made_by_lines<R: Threads>(
+fn made_by_lines<R: Threads + Sync>(
     rt: &R,
     alloc: Global,
     plan: &Plan,
@@ -129,7 +129,7 @@ fn body_of(alloc: Global, rows: u32, start: u32, lines: Lines) -> Result<Body, N
 }
 
 // What is made of a program with this body.
-fn made_of_body<R: Threads>(
+fn made_of_body<R: Threads + Sync>(
     rt: &R,
     alloc: Global,
     plan: &Plan,

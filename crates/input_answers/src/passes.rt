@@ -83,7 +83,7 @@ fn passes_of_run(
 }
 
 /// What is due for the passes of a file with this body, in the general way.
-pub fn passes_by_lines<R: Threads>(
+pub fn passes_by_lines<R: Threads + Sync>(
     rt: &R,
     alloc: Global,
     plan: &Plan,
