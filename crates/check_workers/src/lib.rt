@@ -11,6 +11,7 @@
 
 mod pairs;
 mod prepare;
+mod stretch;
 #[cfg(test)]
 mod tests;
 mod wide;
@@ -18,5 +19,6 @@ mod workers;
 
 pub use pairs::{empty_face, join_faces};
 pub use prepare::prepare_all;
+pub use stretch::{fold_lines, prepared};
 pub use wide::prepare_wide;
 pub use workers::{MOST_LOTS, worker_count};
