@@ -1,5 +1,5 @@
 -- Blocks that are taken one after the other.
-use Rattle.std.proofs.Common.{◌≡◌, ℕ, ◌+◌, ◌-◌, ◌<◌, ◌≤◌, ◌^◌, Bool, true, false, List, [], ◌∷◌, ◌++◌, length, drop, take, All, Option, None, IfSome, is_some, Result, Ok, Err, IfOk, refl, ap, sym, subst, ◌∙◌, arith}
+use Rattle.std.proofs.Common.{◌≡◌, ℕ, ◌+◌, ◌-◌, ◌<◌, ◌≤◌, ◌^◌, Bool, true, false, List, [], ◌∷◌, ◌++◌, length, drop, take, All, Option, None, Some, IfSome, is_some, Result, Ok, Err, IfOk, OnOk, refl, ap, sym, subst, ◌∙◌, arith}
 use Rattle.std.specs.List.{AllZip, Contains, slice_range}
 use Rattle.std.proofs.lemmas.List.Elements.{All-append, All-drop, All-nil, All-take, All-weaker}
 use Rattle.std.proofs.lemmas.Slice.Zip.{AllZip-long}
@@ -42,9 +42,11 @@ use Rattle.block_summary.proofs.LineGoodness.{block_good, block_stands}
 use Rattle.input_answers.specs.declared.fold.Fold.{Fold}
 use Rattle.input_answers.specs.declared.judge.Judgement.{Judgement}
 use Rattle.input_answers.specs.BodyRun.{IsJudgement}
-use Rattle.input_answers.specs.Folds.{AreOfOneMachine, HasFolded, Took, fault_of, fault_of_run, rows_before}
+use Rattle.input_answers.specs.Folds.{HasFolded, Took, TookFace, fault_of, fault_of_run, rows_before}
 use Rattle.input_answers.proofs.BlockLoops.{loops_are_asked, loops_more, still_kept}
 use Rattle.input_answers.proofs.BodyRuns.{judged_readings}
+use Rattle.check_workers.specs.Faces.{AreOfOneMachine, AreShort, IsFaceOf}
+use Rattle.check_workers.proofs.Faces.{GoodOf, face_lines, good_of, short_range}
 use Rattle.check_workers.proofs.LineRanges.{both_ranges, range_len, range_rest}
 use Rattle.input_answers.proofs.StoppedRuns.{loops_made-stays, run-stays, verdict-stays}
 
@@ -75,6 +77,27 @@ reads_of profile names declared lines from to block bounds good same text prepar
       named = known_of profile (length names) rest.0 bounds (each-lawful profile names block.text rest.0 short rest.1);
     }
 
+-- the lines of a file without bad lines are short
+pub short_lines : (lines : List (List ℕ)) → All IsGoodLine lines → AreShort lines
+short_lines lines good = All-weaker IsGoodLine (λ (line : List ℕ). length line < 2 ^ 16) short_line lines good
+
+-- the face of some of them, and what they read as
+pub reads_in : (profile : Profile) (names declared lines : List (List ℕ)) (from to : ℕ) (face : Summary) → IsLawfulProfile profile → All IsGoodLine lines → declared ≡ names
+    → IsFaceOf profile declared (slice_range lines from to) face → GoodOf profile names (slice_range lines from to) face
+reads_in profile names declared lines from to face bounds good same of_lines =
+    good_of profile names (slice_range lines from to) face bounds (short_range lines from to (short_lines lines good))
+    (subst (λ (ns : List (List ℕ)). IsFaceOf profile ns (slice_range lines from to) face) same of_lines)
+
+-- the same of a block
+block_reads : (profile : Profile) (names : List (List ℕ)) (text : List (List ℕ)) (block : Prepared) → block.text ≡ text → ReadsOf profile names block → GoodOf profile names text block.face
+block_reads profile names text block is next = record {
+  lines = next.more;
+  read = subst (λ (ls : List (List ℕ)). AllZip (ReadsAs profile names) ls next.more) is next.read;
+  stands = next.made.stands;
+  named = next.named;
+  good = next.made.good next.named.known next.named.knows;
+}
+
 -- how many lines a block has
 pub block_lines : (profile : Profile) (names lines : List (List ℕ)) (from to : ℕ) (block : Prepared) → to ≤ length lines → block.text ≡ slice_range lines from to
     → ReadsOf profile names block → block.face.lines ≡ to - from
@@ -102,10 +125,10 @@ folded_good profile names lines from to fold bounds here = record {
   good = here.good;
 }
 
--- it can be composed with that of a block
-pub one_machine : (profile : Profile) (names lines : List (List ℕ)) (from to : ℕ) (fold : Fold) (block : Prepared) → IsLawfulProfile profile → length names ≤ 64
-    → HasFolded profile names lines from to fold → ReadsOf profile names block → AreOfOneMachine fold.face block.face
-one_machine profile names lines from to fold block bounds few here next = record {
+-- it can be composed with that of the lines behind it
+pub one_machine : (profile : Profile) (names lines : List (List ℕ)) (from to : ℕ) (fold : Fold) (text : List (List ℕ)) (face : Summary) → IsLawfulProfile profile → length names ≤ 64
+    → HasFolded profile names lines from to fold → GoodOf profile names text face → AreOfOneMachine fold.face face
+one_machine profile names lines from to fold text face bounds few here next = record {
   carriers = length names;
   limit = profile.hold;
   first_known = here.known;
@@ -115,7 +138,7 @@ one_machine profile names lines from to fold block bounds few here next = record
   first_numbers = here.numbers;
   second_numbers = next.named.numbers;
   first_good = here.good;
-  second_good = next.made.good next.named.known next.named.knows;
+  second_good = next.good;
 }
 
 -- two faces compose to a good one
@@ -189,18 +212,56 @@ folded_none profile names lines from with_loops fold bounds inside first face st
     none_kept true kept is = subst (λ (o : Option (List LoopFact)). IfSome o (λ loops. loops ≡ [])) (sym is) refl
     none_kept false kept is = subst (λ (o : Option (List LoopFact)). IfSome o (λ loops. loops ≡ [])) (sym is) tt
 
+-- The face of the lines behind is taken.
+folded_face : (profile : Profile) (names lines : List (List ℕ)) (from mid to : ℕ) (old new : Fold) (face : Summary) → mid ≤ to → to ≤ length lines
+    → (here : HasFolded profile names lines from mid old) → (next : GoodOf profile names (slice_range lines mid to) face) → TookFace old new face
+    → IfSome new.loops (λ loops. loops ≡ loops_made profile empty_state (from + 1) (here.readings ++ next.lines)) → HasFolded profile names lines from to new
+folded_face profile names lines from mid to old new face ordered inside here next took loops =
+    let carriers : ℕ = length names in
+    let hold : ℕ = profile.hold in
+    let xs : List Read = here.readings in
+    let ys : List Read = next.lines in
+    let stands : StandsFor profile (composed old.face face) (xs ++ ys) =
+    stands_both profile carriers hold here.known next.named.known old.face face xs ys here.good next.good here.stands next.stands in
+    let first : ℕ = from + 1 in
+    let told : applied new.face empty_state new.first ≡ applied (composed old.face face) empty_state first =
+    ap (λ (s : Summary). applied s empty_state new.first) took.face ∙ ap (applied (composed old.face face) empty_state) (took.first ∙ here.first) in
+    record {
+      ordered = omega (arith, here.ordered);
+      inside = inside;
+      first = took.first ∙ here.first;
+      readings = xs ++ ys;
+      read = subst (λ (ls : List (List ℕ)). AllZip (ReadsAs profile names) ls (xs ++ ys)) (both_ranges lines from mid to here.ordered ordered)
+          (zip-append (ReadsAs profile names) (slice_range lines from mid) (slice_range lines mid to) xs ys here.read next.read);
+      stands = subst (λ (s : Summary). StandsFor profile s (xs ++ ys)) (sym took.face) stands;
+      known = here.known ++ next.named.known;
+      numbers = All-append IsNumbered here.known next.named.known here.numbers next.named.numbers;
+      good = subst (IsGood carriers hold (here.known ++ next.named.known)) (sym took.face)
+          (composed_good carriers hold here.known next.named.known old.face face here.good next.good);
+      stop = took.stop ∙ ap fault_of (told ∙ stands.outcome empty_state first) ∙ fault_told (run profile empty_state first (xs ++ ys));
+      loops = loops;
+    }
+
+-- Where no loops are kept, it is all that is taken.
+pub folded_round : (profile : Profile) (names lines : List (List ℕ)) (from mid to : ℕ) (old new : Fold) (face : Summary) → mid ≤ to → to ≤ length lines
+    → HasFolded profile names lines from mid old → GoodOf profile names (slice_range lines mid to) face → old.loops ≡ None → new.loops ≡ old.loops → TookFace old new face
+    → HasFolded profile names lines from to new
+folded_round profile names lines from mid to old new face ordered inside here next none same took =
+    folded_face profile names lines from mid to old new face ordered inside here next took
+    (subst (λ (o : Option (List LoopFact)). IfSome o (λ loops. loops ≡ loops_made profile empty_state (from + 1) (here.readings ++ next.lines))) (sym (same ∙ none)) tt)
+
 -- One block more is taken.
 pub folded_more : (profile : Profile) (names lines : List (List ℕ)) (from mid to : ℕ) (old new : Fold) (block : Prepared) → mid ≤ to → to ≤ length lines
     → HasFolded profile names lines from mid old → old.stop ≡ None → block.text ≡ slice_range lines mid to → ReadsOf profile names block → Took old new block
     → HasFolded profile names lines from to new
+unfolding block_reads
 folded_more profile names lines from mid to old new block ordered inside here goes text next took =
     let carriers : ℕ = length names in
     let hold : ℕ = profile.hold in
+    let taken = took.taken in
     let xs : List Read = here.readings in
     let ys : List Read = next.more in
     let good : IsGood carriers hold next.named.known block.face = next.made.good next.named.known next.named.knows in
-    let stands : StandsFor profile (composed old.face block.face) (xs ++ ys) =
-    stands_both profile carriers hold here.known next.named.known old.face block.face xs ys here.good good here.stands next.made.stands in
     let first : ℕ = from + 1 in
     let ended = ends_well (run profile empty_state first xs) (sym here.stop ∙ goes) in
     let u : State = ended.0 in
@@ -208,15 +269,13 @@ folded_more profile names lines from mid to old new block ordered inside here go
     let number : old.first + old.face.lines ≡ k = omega (arith, here.first, here.stands.lines_are) in
     let begins : first + old.face.lines ≡ k = omega (arith, here.stands.lines_are) in
     let told : applied new.face empty_state new.first ≡ applied (composed old.face block.face) empty_state first =
-    ap (λ (s : Summary). applied s empty_state new.first) took.face ∙ ap (applied (composed old.face block.face) empty_state) (took.first ∙ here.first) in
-    let stop : new.stop ≡ fault_of_run (run profile empty_state first (xs ++ ys)) =
-    took.stop ∙ ap fault_of (told ∙ stands.outcome empty_state first) ∙ fault_told (run profile empty_state first (xs ++ ys)) in
+    ap (λ (s : Summary). applied s empty_state new.first) taken.face ∙ ap (applied (composed old.face block.face) empty_state) (taken.first ∙ here.first) in
     let behind : applied (composed old.face block.face) empty_state first ≡ outcome_of_run (run profile u k ys) =
     composed_runs_both carriers hold here.known next.named.known old.face block.face here.good good empty_state first
     ∙ ap (λ o. and_then o (λ t. applied block.face t (first + old.face.lines))) (here.stands.outcome empty_state first ∙ ap outcome_of_run ended.1)
     ∙ ap (applied block.face u) begins
     ∙ next.made.stands.outcome u k in
-    let stop_behind : fault_of_run (run profile u k ys) ≡ new.stop = sym (took.stop ∙ ap fault_of (told ∙ behind) ∙ fault_told (run profile u k ys)) in
+    let stop_behind : fault_of_run (run profile u k ys) ≡ new.stop = sym (taken.stop ∙ ap fault_of (told ∙ behind) ∙ fault_told (run profile u k ys)) in
     let read : AreRead old.face.changes empty_state old.first u.stacks =
     subst (λ n. AreRead old.face.changes empty_state n u.stacks) (sym here.first) (ends_read profile old.face xs here.stands empty_state u first ended.1) in
     let made : facts_of_rows u (old.first + old.face.lines) (rows_before new.stop (old.first + old.face.lines) block.loops) ≡ loops_made profile u k ys =
@@ -224,25 +283,34 @@ folded_more profile names lines from mid to old new block ordered inside here go
     ∙ ap (λ o. facts_of_rows u k (rows_before o k block.loops)) (sym stop_behind)
     ∙ ap (facts_of_rows u k) (sym (rows_told (run profile u k ys) k block.loops))
     ∙ sym (next.made.table.made u k) in
-    record {
-      ordered = omega (arith, here.ordered);
-      inside = inside;
-      first = took.first ∙ here.first;
-      readings = xs ++ ys;
-      read = subst (λ (ls : List (List ℕ)). AllZip (ReadsAs profile names) ls (xs ++ ys)) (both_ranges lines from mid to here.ordered ordered)
-          (zip-append (ReadsAs profile names) (slice_range lines from mid) (slice_range lines mid to) xs ys here.read
-          (subst (λ (ls : List (List ℕ)). AllZip (ReadsAs profile names) ls ys) text next.read));
-      stands = subst (λ (s : Summary). StandsFor profile s (xs ++ ys)) (sym took.face) stands;
-      known = here.known ++ next.named.known;
-      numbers = All-append IsNumbered here.known next.named.known here.numbers next.named.numbers;
-      good = subst (IsGood carriers hold (here.known ++ next.named.known)) (sym took.face)
-          (composed_good carriers hold here.known next.named.known old.face block.face here.good good);
-      stop = stop;
-      loops = loops_more old.loops new.loops (loops_made profile empty_state first xs)
-          (facts_of_rows u (old.first + old.face.lines) (rows_before new.stop (old.first + old.face.lines) block.loops)) (loops_made profile empty_state first (xs ++ ys))
-          (took.loops u read) here.loops
-          (ap (λ fs. loops_made profile empty_state first xs ++ fs) made ∙ sym (loops_made-append profile empty_state u first xs ys ended.1));
-    }
+    folded_face profile names lines from mid to old new block.face ordered inside here (block_reads profile names (slice_range lines mid to) block text next) taken
+    (loops_more old.loops new.loops (loops_made profile empty_state first xs)
+    (facts_of_rows u (old.first + old.face.lines) (rows_before new.stop (old.first + old.face.lines) block.loops)) (loops_made profile empty_state first (xs ++ ys))
+    (took.loops u read) here.loops
+    (ap (λ fs. loops_made profile empty_state first xs ++ fs) made ∙ sym (loops_made-append profile empty_state u first xs ys ended.1)))
+
+-- a block's face can be composed with what was taken
+pub block_machine : (profile : Profile) (names lines : List (List ℕ)) (from to : ℕ) (fold : Fold) (block : Prepared) → IsLawfulProfile profile → length names ≤ 64
+    → HasFolded profile names lines from to fold → ReadsOf profile names block → AreOfOneMachine fold.face block.face
+block_machine profile names lines from to fold block bounds few here next =
+    one_machine profile names lines from to fold block.text block.face bounds few here (block_reads profile names block.text block refl next)
+
+-- more lines than a block's are taken at once only where no loops are kept
+pub no_loops : (with_loops : Bool) (loops : Option (List LoopFact)) (start end lines size : ℕ) → (with_loops ≡ true → lines ≤ size) → is_some loops ≡ with_loops → end ≤ start + lines
+    → start + size < end → loops ≡ None
+no_loops true loops start end lines size one kept within more = absurd (let few : lines ≤ size = one refl in omega (arith, few, within, more))
+no_loops false None start end lines size one kept within more = refl
+no_loops false (Some facts) start end lines size one kept within more = absurd (cc)
+
+-- how many lines a stretch has
+pub round_lines : (profile : Profile) (names lines : List (List ℕ)) (from to : ℕ) (face : Summary) → to ≤ length lines → IsFaceOf profile names (slice_range lines from to) face
+    → face.lines ≡ to - from
+round_lines profile names lines from to face inside of_lines = face_lines profile names (slice_range lines from to) face of_lines ∙ range_len lines from to inside
+
+-- what follows from two things that hold where all went well
+pub both_ok : {T E : Type 0} (r : Result T E) (P Q R : Type 0) → (P → Q → R) → OnOk r P → OnOk r Q → OnOk r R
+both_ok (Ok x) P Q R both p q = both p q
+both_ok (Err e) P Q R both p q = tt
 
 -- loops are kept as before
 pub took_kept : (old new : Fold) (block : Prepared) → Took old new block → is_some new.loops ≡ is_some old.loops

@@ -57,12 +57,9 @@ pub record TookFace (old new : Fold) (more : Summary) : Type 0 where
   pub first : new.first ≡ old.first
   pub stop : new.stop ≡ fault_of (applied new.face empty_state new.first)
 
--- One block more was taken: the face is that of both, the fault is the one at which they stop on empty beds, and the loops of the block's lines
--- before it stand behind the others, where loops are kept.
+-- One block more was taken: its face, and the loops of the block's lines before the fault stand behind the others, where loops are kept.
 pub record Took (old new : Fold) (block : Prepared) : Type 0 where
-  pub face : new.face ≡ composed old.face block.face
-  pub first : new.first ≡ old.first
-  pub stop : new.stop ≡ fault_of (applied new.face empty_state new.first)
+  pub taken : TookFace old new block.face
   pub loops : (s : State) → AreRead old.face.changes empty_state old.first s.stacks
       → new.loops ≡ loops_and old.loops (facts_of_rows s (old.first + old.face.lines) (rows_before new.stop (old.first + old.face.lines) block.loops))
 

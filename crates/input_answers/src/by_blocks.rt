@@ -1,8 +1,8 @@
 //! The verdict on a file by blocks of its lines: each is prepared by itself, for every state in which it may be entered, and then the blocks are put together
-//! one after the other. A block behind a fault isn't prepared.
-ghost use Rattle.std.specs.Prelude.{◌≡◌, ◌+◌, ◌<◌, ◌≤◌, ◌^◌, IfOk, None, OnOk, is_some, length};
+//! one after the other. Where no loops are asked for, several threads fold a stretch of blocks each, and the stretches are put together. Of the lines behind a fault
+//! at most so many are prepared for each thread as stand before it, and none beyond its block where there is one thread or loops are asked for.
+ghost use Rattle.std.specs.Prelude.{◌≡◌, ◌+◌, ◌<◌, ◌≤◌, ◌^◌, IfOk, IsTrue, None, OnOk, is_some, length};
 ghost use Rattle.knit_base.specs.Limits.{IsLawfulProfile};
-ghost use Rattle.block_summary.specs.Prepared.{IsPreparedFor};
 ghost use Rattle.input_answers.specs.BodyRun.{IsJudgement};
 ghost use Rattle.input_answers.specs.Folds.{HasFolded};
 
@@ -69,11 +69,7 @@ fn fold_body<L: Ledger, R: Threads + Sync>(
         first: body.head.lines + 1,
     };
     let size = plan.chosen.block;
-    let workers = if with_loops {
-        1
-    } else {
-        worker_count(rt) as u32
-    };
+    let workers = worker_count(rt) as u32;
     let mut fold = Fold::new(alloc, setting.first, with_loops)?;
     let mut draft = Draft::new(alloc);
     let mut start = body.head.lines;
@@ -81,35 +77,68 @@ fn fold_body<L: Ledger, R: Threads + Sync>(
         if fold.stop.is_some() {
             return fold.finish(alloc);
         }
-        let left = count - start;
-        let round = round_lines(workers, start - body.head.lines);
-        if with_loops || round <= size {
-            let end = start + size.min(left);
-            add_block(
-                alloc, &setting, body, start, end, &mut draft, &mut fold, steps,
-            )?;
-            start = end;
-        } else {
-            let end = start + round.min(left);
-            add_round(rt, alloc, &setting, body, start, end, size, &mut fold, steps)?;
-            start = end;
-        }
+        let lines = lines_at_once(with_loops, workers, size, start - body.head.lines);
+        let end = start + lines.min(count - start);
+        add_lines(
+            rt, alloc, &setting, body, start, end, size, &mut draft, &mut fold, steps,
+        )?;
+        start = end;
     }
     fold.finish(alloc)
 }
 
-// How many lines are given out to so many workers at once, behind so many that were taken. None, where there are too few to be worth it.
-fn round_lines(workers: u32, taken: u32) -> u32 {
+// How many lines are taken at once, behind so many that were taken: a block's, or as many for each worker as were taken, so that what is prepared behind a
+// fault takes each of them no longer than the lines before it took. Where loops are kept it is a block's.
+fn lines_at_once(with_loops: bool, workers: u32, size: u32, taken: u32) -> u32
+    requires { 1 ≤ size }
+    ensures some { 1 ≤ result }
+    ensures block { IsTrue with_loops → result ≤ size }
+{
+    if with_loops {
+        return size;
+    }
     if workers < 2 {
-        return 0;
+        return size;
     }
     if taken < FIRST_LINES {
-        return 0;
+        return size;
     }
-    taken.saturating_mul(workers)
+    size.max(taken.saturating_mul(workers))
 }
 
-// Takes the lines from the one place to the other, which isn't counted.
+// Takes the lines from the one place to the other, which isn't counted: as one block, or in blocks by several threads.
+fn add_lines<L: Ledger, R: Threads + Sync>(
+    rt: &R,
+    alloc: Global,
+    setting: &Setting,
+    body: &Body,
+    start: u32,
+    end: u32,
+    size: u32,
+    draft: &mut Draft,
+    fold: &mut Fold,
+    steps: &mut Steps<L>,
+) -> Result<(), NoMemory>
+    requires profile { IsLawfulProfile setting.now.profile }
+    requires names { setting.now.declared ≡ body.now.head.declared }
+    requires ordered { start ≤ end }
+    requires inside { end ≤ length body.now.lines }
+    requires some { 1 ≤ size }
+    requires few { size ≤ 4096 }
+    requires numbers { end + 1 < 2 ^ 32 }
+    requires loops { start + size < end → fold.old.loops ≡ None }
+    requires folded { HasFolded setting.now.profile body.now.head.declared body.now.lines body.now.head.lines start fold.old }
+    requires goes_on { fold.old.stop ≡ None }
+    ensures folded { OnOk result (HasFolded setting.now.profile body.now.head.declared body.now.lines body.now.head.lines end fold.new) }
+    ensures kept { OnOk result (is_some fold.new.loops ≡ is_some fold.old.loops) }
+{
+    if end - start <= size {
+        return add_block(alloc, setting, body, start, end, draft, fold, steps);
+    }
+    add_round(rt, alloc, setting, body, start, end, size, fold, steps)
+}
+
+// Takes them in blocks of so many lines, by several threads.
 fn add_round<L: Ledger, R: Threads + Sync>(
     rt: &R,
     alloc: Global,
@@ -121,13 +150,24 @@ fn add_round<L: Ledger, R: Threads + Sync>(
     fold: &mut Fold,
     steps: &mut Steps<L>,
 ) -> Result<(), NoMemory>
+    requires profile { IsLawfulProfile setting.now.profile }
+    requires names { setting.now.declared ≡ body.now.head.declared }
+    requires ordered { start ≤ end }
+    requires inside { end ≤ length body.now.lines }
+    requires some { 1 ≤ size }
+    requires few { size ≤ 4096 }
+    requires numbers { end + 1 < 2 ^ 32 }
+    requires loops { fold.old.loops ≡ None }
+    requires folded { HasFolded setting.now.profile body.now.head.declared body.now.lines body.now.head.lines start fold.old }
+    ensures folded { OnOk result (HasFolded setting.now.profile body.now.head.declared body.now.lines body.now.head.lines end fold.new) }
+    ensures kept { OnOk result (is_some fold.new.loops ≡ is_some fold.old.loops) }
 {
+    let _carriers = setting.declared.len();
     let face = fold_lines(rt, alloc, &body.lines, start, end, size, setting)?;
-    fold.take_face(alloc, &face, steps)?;
-    Ok(())
+    fold.take_face(alloc, &face, steps)
 }
 
-// Takes the lines from the one place to the other, which isn't counted.
+// Takes them as one block.
 fn add_block<L: Ledger>(
     alloc: Global,
     setting: &Setting,
@@ -138,6 +178,16 @@ fn add_block<L: Ledger>(
     fold: &mut Fold,
     steps: &mut Steps<L>,
 ) -> Result<(), NoMemory>
+    requires profile { IsLawfulProfile setting.now.profile }
+    requires names { setting.now.declared ≡ body.now.head.declared }
+    requires ordered { start ≤ end }
+    requires inside { end ≤ length body.now.lines }
+    requires size { end ≤ start + 4096 }
+    requires numbers { end + 1 < 2 ^ 32 }
+    requires folded { HasFolded setting.now.profile body.now.head.declared body.now.lines body.now.head.lines start fold.old }
+    requires goes_on { fold.old.stop ≡ None }
+    ensures folded { OnOk result (HasFolded setting.now.profile body.now.head.declared body.now.lines body.now.head.lines end fold.new) }
+    ensures kept { OnOk result (is_some fold.new.loops ≡ is_some fold.old.loops) }
 {
     let text = BlockText::of(alloc, &body.lines, start, end)?;
     let block = prepared(draft, text, setting, steps)?;

@@ -1,4 +1,4 @@
-use Rattle.std.proofs.Common.{◌≡◌, arith, refl, subst, sym}
+use Rattle.std.proofs.Common.{◌≡◌, arith, subst, sym}
 use Rattle.std.specs.List.{slice_range}
 use Rattle.check_workers.specs.Faces.{IsFaceOf}
 use Rattle.check_workers.proofs.Faces.{face_at}

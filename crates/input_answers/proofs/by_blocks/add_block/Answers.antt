@@ -1,6 +1,6 @@
 use Rattle.std.proofs.Common.{◌∙◌, ap, arith, length}
 use Rattle.std.proofs.lemmas.Result.{on_ok_weaker}
-use Rattle.input_answers.proofs.BlockFolds.{ReadsOf, block_lines, block_rows, folded_lines, folded_more, one_machine, reads_of, took_kept}
+use Rattle.input_answers.proofs.BlockFolds.{ReadsOf, block_lines, block_machine, block_rows, folded_lines, folded_more, reads_of, took_kept}
 use Rattle.input_answers.proofs.by_blocks.add_block.Goals as goal
 
 pub take-requires-clause-machine : goal.take-requires-clause-machine
@@ -12,7 +12,7 @@ take-requires-clause-machine g c =
     let next : ReadsOf profile body.head.declared block =
     reads_of profile body.head.declared c.args.setting.now.declared body.lines c.args.start c.args.end block c.requires.profile body.good c.requires.names text c.in_ok-block.ensures.prepared in
     let few = c.prepared.ensures.carriers in
-    one_machine profile body.head.declared body.lines body.head.lines c.args.start c.args.fold.now block c.requires.profile (omega (arith, few, ap length c.requires.names)) c.requires.folded next
+    block_machine profile body.head.declared body.lines body.head.lines c.args.start c.args.fold.now block c.requires.profile (omega (arith, few, ap length c.requires.names)) c.requires.folded next
 
 pub take-requires-clause-lines : goal.take-requires-clause-lines
 take-requires-clause-lines g c =
