@@ -1,9 +1,11 @@
+pub mod Asks
 pub mod BlockCounts
 pub mod BlockFolds
 pub mod BlockLoops
 pub mod BodyListings
 pub mod BodyRuns
 pub mod Dues
+pub mod Exclusions
 pub mod Fronts
 pub mod ListedRuns
 pub mod LiveDues

@@ -1,0 +1,56 @@
+-- What is refused of an input excludes what is lawful.
+use Rattle.std.proofs.Common.{◌≡◌, inl, inr, ℕ, ◌∷◌, ◌++◌, List, [], length, Some, Ok, Err, All, sym, subst, ◌∙◌, arith, append_assoc, length-append}
+use Rattle.std.proofs.lemmas.Bool.{false≢true}
+use Rattle.std.proofs.Math.Seq.{get_or-append_seam}
+use Rattle.line_cutter.specs.declared.fault.CutFault.{CutFault}
+use Rattle.line_cutter.specs.declared.fault.CutFault.TheVariants as cut
+use Rattle.line_cutter.specs.Cut.{IsFirstBad, IsGoodLine}
+use Rattle.knitout_reader.specs.declared.head.Head.{Head}
+use Rattle.knitout_reader.specs.declared.head.HeadFault.{HeadFault}
+use Rattle.knitout_reader.specs.declared.head.HeadFault.TheVariants as head
+use Rattle.knitout_reader.specs.Head.{IsHead, IsHeadFault}
+use Rattle.script_reader.specs.declared.command.Script.{Script}
+use Rattle.script_reader.specs.declared.fault.Cause.{Cause}
+use Rattle.script_reader.specs.declared.fault.ScriptFault.TheVariants.{At}
+use Rattle.script_reader.specs.Script.{IsRefusal, IsScript}
+use Rattle.script_reader.proofs.Scripts.{is_read, only_script}
+use Rattle.verdict_report.specs.declared.refusal.Refusal.{Refusal}
+use Rattle.input_answers.specs.Due.{Fits, IsSizeRefusal, cut_refusal, head_refusal}
+
+good_there : (before : List (List ℕ)) (line : List ℕ) (after : List (List ℕ)) → All IsGoodLine (before ++ line ∷ after) → IsGoodLine line
+good_there before line after good =
+    subst IsGoodLine (get_or-append_seam before line after []) (good (length before) [] (omega (arith, length-append before (line ∷ after))))
+
+-- of good lines none is bad
+pub good-not_bad : (lines : List (List ℕ)) (fault : CutFault) (said : Refusal) → All IsGoodLine lines → IsFirstBad lines fault → cut_refusal fault ≡ Some said → ⊥
+good-not_bad lines (cut.NotUtf8 number) said good bad tells =
+    let is = good_there bad.before bad.bad bad.after (subst (All IsGoodLine) bad.lines_are good) in
+    false≢true (sym bad.is_bad ∙ is.utf8)
+good-not_bad lines (cut.LineLong number) said good bad tells =
+    let is = good_there bad.before bad.bad bad.after (subst (All IsGoodLine) bad.lines_are good) in
+    omega (arith, is.short, bad.is_bad.long)
+good-not_bad lines cut.NoMemory said good bad tells = cc
+
+-- lines that have a head are refused for none
+pub head-not_bad : (lines : List (List ℕ)) (is_head : Head) (fault : HeadFault) (said : Refusal) → IsHead lines is_head → IsHeadFault lines fault → head_refusal fault ≡ Some said → ⊥
+head-not_bad lines is_head head.BadMagic said is bad tells = let clash : Ok is_head.declared ≡ Err head.BadMagic = sym is.names ∙ bad in cc
+head-not_bad lines is_head head.NoCarriers said is bad tells = let clash : Ok is_head.declared ≡ Err head.NoCarriers = sym is.names ∙ bad in cc
+head-not_bad lines is_head (head.TwoCarriers line) said is bad tells = let clash : Ok is_head.declared ≡ Err (head.TwoCarriers line) = sym is.names ∙ bad in cc
+head-not_bad lines is_head (head.CarrierNameTwice line) said is bad tells = let clash : Ok is_head.declared ≡ Err (head.CarrierNameTwice line) = sym is.names ∙ bad in cc
+head-not_bad lines is_head (head.ManyCarriers line) said is bad tells = let clash : Ok is_head.declared ≡ Err (head.ManyCarriers line) = sym is.names ∙ bad in cc
+head-not_bad lines is_head head.NoMemory said is bad tells = cc
+
+-- a body that fits isn't too large
+pub fits-not_large : (size count : ℕ) (said : Refusal) → Fits size count → IsSizeRefusal size count said → ⊥
+fits-not_large size count said fits (inl lines) = omega (arith, fits.lines, lines.1)
+fits-not_large size count said fits (inr blocks) = omega (arith, fits.blocks, blocks.2)
+
+-- lines that spell a script are refused for none
+pub script-not_bad : (lines : List (List ℕ)) (script : Script) (line : ℕ) (cause : Cause) → IsScript lines script → IsRefusal lines (At line cause) → ⊥
+script-not_bad lines script line cause is (inl bad) = bad.none script is
+script-not_bad lines script line cause is (inr bad) =
+    bad.ends bad.after script (subst (λ (ls : List (List ℕ)). IsScript ls script) (bad.lines_are ∙ sym (append_assoc bad.before (bad.line ∷ []) bad.after)) is)
+
+-- they spell no other
+pub script-only : (lines : List (List ℕ)) (script other : Script) → IsScript lines script → IsScript lines other → other ≡ script
+script-only lines script other is also = only_script lines script other (is_read lines script is) also
