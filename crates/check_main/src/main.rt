@@ -2,8 +2,8 @@
 //! sink takes and an exit status.
 //!
 //! Promises, for every source and every sink, that `top` ends with the status that is due for the words and the input, that
-//! the sink then took exactly the report that is due, and that every other end has its cause (`specs/Top`). What is due is told by
-//! `input_answers`. Below it stand all crates of the project.
+//! the sink then took exactly the report that is due, and that every other end has its cause (`specs/Top`); so a run that nothing
+//! hinders ends well (`specs/Complete`). What is due is told by `input_answers`. Below it stand all crates of the project.
 #![tactic(auto)]
 
 #[cfg(test)]

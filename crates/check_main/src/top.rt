@@ -1,7 +1,10 @@
 //! The whole program, over any source and sink.
 ghost use Rattle.std.specs.Prelude.{◌≡◌, ◌≤◌, List, ℕ, length, true, map, string_bytes, IfOk};
 ghost use Rattle.std.specs.Io.KnownBytes.{Consumes, IsAtEnd};
+ghost use Rattle.machine_profile.specs.declared.Chosen.{Chosen};
+ghost use Rattle.command_words.specs.declared.command.Command.{Command};
 ghost use Rattle.check_main.specs.Calls.{IsCalled};
+ghost use Rattle.check_main.specs.Complete.{EndsWell, IsUnhindered};
 ghost use Rattle.input_answers.specs.Asked.{Ask, reads_input};
 ghost use Rattle.input_answers.specs.Played.{played_by};
 ghost use Rattle.check_main.specs.Top.{Ran, SourceUse, sink_use, source_use};
@@ -40,6 +43,9 @@ use verdict_report::Refusal;
 ///
 /// `WriteFault` takes the place of any of these, only where a write failed; the sink then took a front of the report.
 /// `NoMemory` may take it at any time before the first write, and the sink then took nothing.
+///
+/// So a run that nothing hinders ends well: where the words are lawful, the source tells an input within the grammars and limits
+/// of their command, and no read and no write failed, the status is `Done`, or `Broken` as the verdict says, or `NoMemory`.
 pub fn top<R: Threads + Wait + Sync, S: Source, K: Sink, G: Gate + Sync>(
     rt: &R,
     alloc: Global,
@@ -50,6 +56,10 @@ pub fn top<R: Threads + Wait + Sync, S: Source, K: Sink, G: Gate + Sync>(
 ) -> Outcome
     ensures ran { Ran (map string_bytes words.now) (source_use S.left S.faults source.old source.new)
         (sink_use K.taken K.faults sink.old sink.new) (played_by result) result.status }
+    ensures complete { (command : Command) (chosen : Chosen) (input : List ℕ)
+        → IsUnhindered (map string_bytes words.now) command chosen input (source_use S.left S.faults source.old source.new)
+        (sink_use K.taken K.faults sink.old sink.new)
+        → EndsWell command chosen input result.status }
 {
     match make_answer(rt, alloc, words, source, gate) {
         Ok(answer) => write_answer(answer, sink),

@@ -1,0 +1,116 @@
+-- Runs that nothing hinders: for each command there are such.
+use Rattle.std.proofs.Common.{◌≡◌, ℕ, ◌≤◌, true, false, ◌&&◌, nat_lt, List, [], ◌∷◌, Some, None, All, codes, refl, sym, subst, arith, length, pos}
+use Rattle.std.specs.Prelude.{◌-ℤ◌}
+use Rattle.std.specs.List.{list_all}
+use Rattle.std.proofs.lemmas.Bool.{ltb-true}
+use Rattle.std.proofs.lemmas.List.Elements.{All-cons, All-nil}
+use Rattle.std.proofs.lemmas.Str.{is_utf8-from_IsUtf8}
+use Rattle.knit_base.specs.Lines.{lines_of}
+use Rattle.knit_maker.proofs.PlainLines.{is_printed, plain-text, plain-utf8}
+use Rattle.knit_ports.specs.declared.limit.TheConstants.{INPUT_LIMIT}
+use Rattle.line_cutter.specs.Cut.{IsGoodLine}
+use Rattle.machine_profile.specs.declared.Chosen.{Chosen}
+use Rattle.machine_profile.specs.declared.Options.{Options}
+use Rattle.machine_profile.specs.Bounds.{IsChosen}
+use Rattle.command_words.specs.declared.command.Command.{Command}
+use Rattle.command_words.specs.declared.command.Command.TheVariants.{Check, Text, Passes, Live, Make}
+use Rattle.command_words.specs.Request.{request_of}
+use Rattle.script_reader.specs.declared.command.Command.TheVariants.{Verdict}
+use Rattle.script_reader.specs.declared.command.Script.{Script}
+use Rattle.script_reader.specs.Script.{IsScript}
+use Rattle.script_reader.proofs.LawfulScripts.{first_true, second_true}
+use Rattle.input_answers.specs.Asked.{Ask}
+use Rattle.check_main.specs.Complete.{Gives, IsFile, IsFileThatFits, IsScriptThatFits, IsUnhindered}
+use Rattle.check_main.specs.Top.{SinkUse, SourceUse}
+
+abbrev no_options : Options
+no_options = record { low = None; high = None; rack = None; hold = None; block = None }
+
+-- the limits that are chosen where no option is given
+abbrev usual : Chosen
+usual = record { profile = record { low = pos 0 -ℤ pos 1024; high = pos 1023; rack = 8; hold = 16 }; block = 64 }
+
+usual_chosen : IsChosen no_options usual
+usual_chosen = record { low = refl; high = refl; rack = refl; hold = refl; block = refl }
+
+abbrev file : List ℕ
+file = codes ";!knitout-2\n;;Carriers: 1\ndrop f1\n"
+
+-- a source that gave the bytes, and a sink that took some
+abbrev giving : List ℕ → SourceUse
+giving input = record { left_before = Some input; left_after = Some []; faults_before = 0; faults_after = 0 }
+
+abbrev taking : List ℕ → SinkUse
+taking text = record { taken_before = Some []; taken_after = Some text; faults_before = 0; faults_after = 0 }
+
+-- lines of printed characters are good
+all_good : (lines : List (List ℕ)) → list_all (λ (line : List ℕ). list_all is_printed line && nat_lt (length line) 4097) lines ≡ true → All IsGoodLine lines
+all_good [] are = All-nil IsGoodLine
+all_good (line ∷ lines) are =
+    let here : (list_all is_printed line && nat_lt (length line) 4097) ≡ true = first_true _ _ are in
+    let short : length line ≤ 4096 = omega (arith, ltb-true (length line) 4097 (second_true (list_all is_printed line) (nat_lt (length line) 4097) here)) in
+    let plain = plain-text 4096 line (first_true (list_all is_printed line) (nat_lt (length line) 4097) here) short in
+    All-cons IsGoodLine line lines (record { utf8 = is_utf8-from_IsUtf8 line (plain-utf8 4096 line plain); short = short })
+    (all_good lines (second_true (list_all is_printed line && nat_lt (length line) 4097) _ are))
+
+is_file : IsFile file
+is_file = record { head = record { lines = 2; declared = codes "1" ∷ [] }; has = record { good = all_good (lines_of file) refl; head_is = record { len = refl; names = refl } } }
+
+fits_file : IsFileThatFits 64 file
+fits_file = record { file = is_file; fits = record { lines = omega arith; blocks = omega arith } }
+
+gives : (input : List ℕ) → length input ≤ INPUT_LIMIT → Gives (giving input) input
+gives input few = record { left = refl; few = few; no_fault = λ rose. omega (arith, rose) }
+
+asks : (words : List (List ℕ)) (command : Command) → request_of words ≡ Some (record { command = command; options = no_options }) → Ask words command usual
+asks words command is = record { request = record { command = command; options = no_options }; in_grammar = is; commands = refl; within = refl; values = usual_chosen }
+
+-- a program that drops a loop is checked, grouped, and written anew
+free_check : (text : List ℕ) → IsUnhindered (codes "check" ∷ []) (Check false false) usual file (giving file) (taking text)
+free_check text = record { asked = asks _ _ refl; within = fits_file; given = λ reads. gives file (omega arith); no_fault = λ rose. omega (arith, rose) }
+
+free_passes : (text : List ℕ) → IsUnhindered (codes "passes" ∷ []) Passes usual file (giving file) (taking text)
+free_passes text = record { asked = asks _ _ refl; within = fits_file; given = λ reads. gives file (omega arith); no_fault = λ rose. omega (arith, rose) }
+
+free_text : (text : List ℕ) → IsUnhindered (codes "text" ∷ []) Text usual file (giving file) (taking text)
+free_text text = record { asked = asks _ _ refl; within = is_file; given = λ reads. gives file (omega arith); no_fault = λ rose. omega (arith, rose) }
+
+-- one session asks for the verdict on that program
+abbrev live_file : List ℕ
+live_file = codes "live 1\n|;!knitout-2\n|;;Carriers: 1\n|drop f1\nsession\nverdict\n"
+
+abbrev live_lines : List (List ℕ)
+live_lines = codes "live 1" ∷ codes "|;!knitout-2" ∷ codes "|;;Carriers: 1" ∷ codes "|drop f1" ∷ codes "session" ∷ codes "verdict" ∷ []
+
+cut : lines_of live_file ≡ live_lines
+cut = refl
+
+abbrev script : Script
+script = record { text = codes ";!knitout-2" ∷ codes ";;Carriers: 1" ∷ codes "drop f1" ∷ []; sessions = (Verdict ∷ []) ∷ [] }
+
+spelt : IsScript live_lines script
+spelt = record { live = refl; said = refl; few = omega arith; known = refl }
+
+plays : IsScriptThatFits 64 live_file
+plays = record {
+  script = script;
+  head = record { lines = 2; declared = codes "1" ∷ [] };
+  has = record {
+    good = subst (All IsGoodLine) (sym cut) (all_good live_lines refl);
+    spelt = subst (λ (ls : List (List ℕ)). IsScript ls script) (sym cut) spelt;
+    head_is = record { len = refl; names = refl };
+  };
+  fits = record { lines = omega arith; blocks = omega arith };
+}
+
+free_live : (text : List ℕ) → IsUnhindered (codes "live" ∷ []) Live usual live_file (giving live_file) (taking text)
+free_live text = record { asked = asks _ _ refl; within = plays; given = λ reads. gives live_file (omega arith); no_fault = λ rose. omega (arith, rose) }
+
+-- one row is made, and nothing is read
+free_make : (text : List ℕ) (source : SourceUse) → IsUnhindered (codes "make" ∷ codes "1" ∷ codes "0" ∷ []) (Make 1 0) usual [] source (taking text)
+free_make text source = record {
+  asked = asks _ _ refl;
+  within = record { lines = omega arith; blocks = omega arith };
+  given = λ reads. absurd (cc);
+  no_fault = λ rose. omega (arith, rose);
+}
