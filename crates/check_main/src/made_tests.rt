@@ -25,12 +25,7 @@ fn two_made_rows_by_blocks(rt: HostRuntime) -> Result<(), Fail> {
 
 #[test]
 fn two_made_rows_in_one_block(rt: HostRuntime) -> Result<(), Fail> {
-    let made = said(
-        &rt,
-        rt.alloc(),
-        &["make", "2", "0", "--block", "4096"],
-        b"",
-    )?;
+    let made = said(&rt, rt.alloc(), &["make", "2", "0", "--block", "4096"], b"")?;
     assert!(rt; is(&made, Status::Done, TWO_ROWS));
     Ok(())
 }

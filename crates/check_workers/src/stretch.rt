@@ -171,7 +171,16 @@ fn fold_in_turn<L: Ledger, R: Threads>(
         let text = BlockText::of(alloc, lines, at, next)?;
         let block = prepared(&mut draft, text, setting, &mut steps)?;
         face = with_block(
-            alloc, lines, start, at, next, setting, &face, &block, &mut scratch, &mut steps,
+            alloc,
+            lines,
+            start,
+            at,
+            next,
+            setting,
+            &face,
+            &block,
+            &mut scratch,
+            &mut steps,
         )?;
         at = next;
     }

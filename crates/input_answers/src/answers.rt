@@ -143,7 +143,12 @@ fn check<R: Threads + Sync>(
 }
 
 // The passes of a file with this body, unless that is too large.
-fn passes<R: Threads + Sync>(rt: &R, alloc: Global, plan: &Plan, body: &Body) -> Result<Ending, NoMemory>
+fn passes<R: Threads + Sync>(
+    rt: &R,
+    alloc: Global,
+    plan: &Plan,
+    body: &Body,
+) -> Result<Ending, NoMemory>
     ensures { IfOk result (λ ending. (input : List ℕ) → body.now.lines ≡ lines_of input
         → Due Command.Passes plan.now.chosen input ending.text.items ending.status) }
 {

@@ -25,7 +25,7 @@ put_together-requires-clause-lines g t c =
     omega (
       arith,
       lines_in setting.profile setting.declared lines c.args.start middle c.args.end c.in_ok-front.front.face c.in_ok-back.back.face (omega arith)
-      (omega (arith, c.half_of.ensures, c.requires.ordered)) c.requires.inside front back,
+          (omega (arith, c.half_of.ensures, c.requires.ordered)) c.requires.inside front back,
       c.len-lines.ensures.few,
     )
 

@@ -21,7 +21,7 @@ join_faces-requires-clause-lines g c =
     omega (
       arith,
       lines_in setting.profile setting.declared c.args.lines.now c.args.start c.args.middle c.args.end c.args.before.now block.face c.requires.ordered.0 c.requires.ordered.1
-      c.requires.ordered.2 c.requires.before more,
+          c.requires.ordered.2 c.requires.before more,
       c.len-lines.ensures.few,
     )
 
