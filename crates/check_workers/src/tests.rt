@@ -1,6 +1,7 @@
 //! Texts whose lines and loops are counted by hand.
-ghost use Rattle.std.specs.Prelude.{◌≡◌, ◌<◌, ◌≤◌};
+ghost use Rattle.std.specs.Prelude.{◌≡◌, ◌<◌, ◌≤◌, ◌^◌, length};
 ghost use Rattle.knit_base.specs.Limits.{IsLawfulProfile};
+ghost use Rattle.knit_base.specs.Lines.{HasNoLineEnd};
 
 use crate::{prepare_all, prepare_wide};
 use block_summary::{PrepareFault, Prepared};
@@ -134,16 +135,23 @@ const SCARF: [&str; 6] = [
     "out 1",
 ];
 
+fn push(line: &str, lines: &mut Lines) -> Result<(), NoMemory>
+    requires line { HasNoLineEnd line.now }
+    requires short { length line.now < 2 ^ 16 }
+{
+    if lines.len() > 5000 {
+        return Ok(());
+    }
+    lines.push(line)
+}
+
 // The scarf, with so many lines that say nothing behind each of its lines.
 fn scarf(alloc: Global, gap: u16) -> Result<BlockText, NoMemory> {
     let mut lines = Lines::new(alloc);
     for line in SCARF {
-        lines.push(line)?;
+        push(line, &mut lines)?;
         for _ in 0..gap {
-            if lines.len() > 5000 {
-                break;
-            }
-            lines.push("")?;
+            push("", &mut lines)?;
         }
     }
     BlockText::of(alloc, &lines, 0, lines.len())
