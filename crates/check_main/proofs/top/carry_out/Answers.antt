@@ -1,4 +1,4 @@
-use Rattle.std.proofs.Common.{refl, subst}
+use Rattle.std.proofs.Common.{refl, rules, subst}
 use Rattle.command_words.specs.declared.command.Command.{Command}
 use Rattle.input_answers.specs.Asked.{Ask}
 use Rattle.input_answers.specs.Played.{nothing_played}
@@ -7,7 +7,7 @@ use Rattle.check_main.proofs.Calls.{called-as}
 use Rattle.check_main.proofs.top.carry_out.Goals as goal
 
 pub answer_made-requires : goal.answer_made-requires
-answer_made-requires g c = c.args.plan.now.numbers c.in-Make.rows c.in-Make.start c.in-Make.is
+answer_made-requires g c = (search rules, c.args.plan.now.numbers c.in-Make.rows c.in-Make.start c.in-Make.is)
 
 pub returns-in_ok-ending-in-Make : goal.returns-in_ok-ending-in-Make
 returns-in_ok-ending-in-Make g c = λ words ask.
