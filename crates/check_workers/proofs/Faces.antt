@@ -26,8 +26,9 @@ use Rattle.block_summary.specs.Prepared.{AreKnown, AreReadings, IsPreparedFor}
 use Rattle.block_summary.proofs.Blocks.{named, named_known}
 use Rattle.block_summary.proofs.KnownNeedles.{KnownOf, known_of}
 use Rattle.block_summary.proofs.LineGoodness.{block_good, block_stands}
+use Rattle.block_summary.proofs.LinePlaces.{part_len}
 use Rattle.check_workers.specs.Faces.{AreOfOneMachine, AreShort, IsFaceOf}
-use Rattle.check_workers.proofs.LineRanges.{both_ranges, range_len}
+use Rattle.check_workers.proofs.LineRanges.{both_ranges}
 
 -- readings of two texts, one behind the other, and which of them are of the first
 pub record SplitReadings (profile : Profile) (names first second : List (List ℕ)) (lines : List Read) : Type 0 where
@@ -152,8 +153,8 @@ lines_in profile names text from mid to a b ordered later inside of_first of_sec
       arith,
       face_lines profile names (slice_range text from mid) a of_first,
       face_lines profile names (slice_range text mid to) b of_second,
-      range_len text from mid (omega (arith, later, inside)),
-      range_len text mid to inside,
+      part_len text from mid (omega (arith, later, inside)),
+      part_len text mid to inside,
       ordered,
       later,
       inside,

@@ -2,7 +2,7 @@
 use Rattle.std.proofs.Common.{◌≡◌, ◌-◌, ◌≤◌, ℕ, List, ◌++◌, length, take, drop, ap, sym, ◌∙◌, arith}
 use Rattle.std.specs.List.{slice_range}
 use Rattle.std.proofs.Math.Seq.{take-add}
-use Rattle.std.proofs.lemmas.List.{drop-drop, length-drop, length-take-le, take_rest}
+use Rattle.std.proofs.lemmas.List.{drop-drop, take_rest}
 
 -- one range, and the one behind it
 pub both_ranges : {X : Type 0} (xs : List X) (from mid to : ℕ) → from ≤ mid → mid ≤ to → slice_range xs from mid ++ slice_range xs mid to ≡ slice_range xs from to
@@ -15,7 +15,3 @@ both_ranges xs from mid to before behind =
 -- up to the last one
 pub range_rest : {X : Type 0} (xs : List X) (from to : ℕ) → to ≡ length xs → slice_range xs from to ≡ drop from xs
 range_rest xs from to all = ap (λ n. take (n - from) (drop from xs)) all ∙ take_rest xs from
-
--- how many lines there are
-pub range_len : {X : Type 0} (xs : List X) (from to : ℕ) → to ≤ length xs → length (slice_range xs from to) ≡ to - from
-range_len xs from to inside = length-take-le (to - from) (drop from xs) (omega (arith, length-drop from xs))

@@ -23,10 +23,10 @@ use Rattle.loop_history.proofs.TextTables.{table_both}
 use Rattle.block_summary.specs.Prepared.{IsMadeOf}
 use Rattle.block_summary.proofs.BedNeedles.{named_numbered}
 use Rattle.block_summary.proofs.Blocks.{held_earlier, named, named_known}
-use Rattle.block_summary.proofs.LinePlaces.{part_all}
+use Rattle.block_summary.proofs.LinePlaces.{part_all, part_len}
 use Rattle.check_workers.specs.Faces.{IsFaceOf}
 use Rattle.check_workers.specs.Pieces.{CanCut, CanJoin, IsOfBoth, IsPartOf, Part, lines_of_pieces, place_of}
-use Rattle.check_workers.proofs.LineRanges.{both_ranges, range_len}
+use Rattle.check_workers.proofs.LineRanges.{both_ranges}
 use Rattle.check_workers.proofs.Faces.{SplitReadings, face_both, face_lines, split_readings}
 
 -- the face of a part
@@ -113,7 +113,7 @@ place_first : (lines pieces : ℕ) → 1 ≤ pieces → place_of lines pieces 0 
 place_first lines pieces some = ap (λ n. n / pieces) (let none : lines * 0 ≡ 0 * pieces + 0 = omega arith in none) ∙ div-mul-add 0 pieces 0 some
 
 pieces_len : (text : List (List ℕ)) (pieces from to : ℕ) → 1 ≤ pieces → to ≤ pieces → length (lines_of_pieces text pieces from to) ≡ place_of (length text) pieces to - place_of (length text) pieces from
-pieces_len text pieces from to some inside = range_len text (place_of (length text) pieces from) (place_of (length text) pieces to) (place_inside (length text) pieces to some inside)
+pieces_len text pieces from to some inside = part_len text (place_of (length text) pieces from) (place_of (length text) pieces to) (place_inside (length text) pieces to some inside)
 
 -- some pieces, and those behind them
 pub pieces_can_join : (setting : Setting) (text : List (List ℕ)) (pieces from middle to : ℕ) (front back : Part) → length setting.declared ≤ 64 → CanCut setting text pieces from to → from ≤ middle → middle ≤ to

@@ -39,6 +39,7 @@ use Rattle.block_summary.specs.LineSummaries.{NeedlesKnownInLine}
 use Rattle.block_summary.specs.Prepared.{IsMadeOf, IsPreparedFor}
 use Rattle.block_summary.proofs.KnownNeedles.{KnownOf, known_of}
 use Rattle.block_summary.proofs.LineGoodness.{block_good, block_stands}
+use Rattle.block_summary.proofs.LinePlaces.{part_len}
 use Rattle.input_answers.specs.declared.fold.Fold.{Fold}
 use Rattle.input_answers.specs.declared.judge.Judgement.{Judgement}
 use Rattle.input_answers.specs.BodyRun.{IsJudgement}
@@ -47,7 +48,7 @@ use Rattle.input_answers.proofs.BlockLoops.{loops_are_asked, loops_more, still_k
 use Rattle.input_answers.proofs.BodyRuns.{judged_readings}
 use Rattle.check_workers.specs.Faces.{AreOfOneMachine, AreShort, IsFaceOf}
 use Rattle.check_workers.proofs.Faces.{GoodOf, face_lines, good_of, short_range}
-use Rattle.check_workers.proofs.LineRanges.{both_ranges, range_len, range_rest}
+use Rattle.check_workers.proofs.LineRanges.{both_ranges, range_rest}
 use Rattle.input_answers.proofs.StoppedRuns.{loops_made-stays, run-stays, verdict-stays}
 
 -- what the lines of a block read as, and that it was prepared for them
@@ -102,7 +103,7 @@ block_reads profile names text block is next = record {
 pub block_lines : (profile : Profile) (names lines : List (List ℕ)) (from to : ℕ) (block : Prepared) → to ≤ length lines → block.text ≡ slice_range lines from to
     → ReadsOf profile names block → block.face.lines ≡ to - from
 block_lines profile names lines from to block inside text next =
-    next.made.stands.lines_are ∙ AllZip-long (ReadsAs profile names) block.text next.more next.read ∙ ap length text ∙ range_len lines from to inside
+    next.made.stands.lines_are ∙ AllZip-long (ReadsAs profile names) block.text next.more next.read ∙ ap length text ∙ part_len lines from to inside
 
 -- the rows of a block's loops are of its lines
 pub block_rows : (profile : Profile) (names : List (List ℕ)) (block : Prepared) → ReadsOf profile names block → All (IsRowOf block.face.lines) block.loops
@@ -112,7 +113,7 @@ block_rows profile names block next = subst (λ n. All (IsRowOf n) block.loops) 
 pub folded_lines : (profile : Profile) (names lines : List (List ℕ)) (from to : ℕ) (fold : Fold) → HasFolded profile names lines from to fold → fold.first + fold.face.lines ≡ to + 1
 folded_lines profile names lines from to fold here =
     let long : length here.readings ≡ length (slice_range lines from to) = AllZip-long (ReadsAs profile names) (slice_range lines from to) here.readings here.read in
-    omega (arith, here.first, here.stands.lines_are, long, here.ordered, here.inside, range_len lines from to here.inside)
+    omega (arith, here.first, here.stands.lines_are, long, here.ordered, here.inside, part_len lines from to here.inside)
 
 -- the face of what was taken is good
 pub folded_good : (profile : Profile) (names lines : List (List ℕ)) (from to : ℕ) (fold : Fold) → IsLawfulProfile profile → HasFolded profile names lines from to fold → IsGoodFace fold.face
@@ -295,17 +296,10 @@ pub block_machine : (profile : Profile) (names lines : List (List ℕ)) (from to
 block_machine profile names lines from to fold block bounds few here next =
     one_machine profile names lines from to fold block.text block.face bounds few here (block_reads profile names block.text block refl next)
 
--- more lines than a block's are taken at once only where no loops are kept
-pub no_loops : (with_loops : Bool) (loops : Option (List LoopFact)) (start end lines size : ℕ) → (with_loops ≡ true → lines ≤ size) → is_some loops ≡ with_loops → end ≤ start + lines
-    → start + size < end → loops ≡ None
-no_loops true loops start end lines size one kept within more = absurd (let few : lines ≤ size = one refl in omega (arith, few, within, more))
-no_loops false None start end lines size one kept within more = refl
-no_loops false (Some facts) start end lines size one kept within more = absurd (cc)
-
 -- how many lines a stretch has
 pub round_lines : (profile : Profile) (names lines : List (List ℕ)) (from to : ℕ) (face : Summary) → to ≤ length lines → IsFaceOf profile names (slice_range lines from to) face
     → face.lines ≡ to - from
-round_lines profile names lines from to face inside of_lines = face_lines profile names (slice_range lines from to) face of_lines ∙ range_len lines from to inside
+round_lines profile names lines from to face inside of_lines = face_lines profile names (slice_range lines from to) face of_lines ∙ part_len lines from to inside
 
 -- what follows from two things that hold where all went well
 pub both_ok : {T E : Type 0} (r : Result T E) (P Q R : Type 0) → (P → Q → R) → OnOk r P → OnOk r Q → OnOk r R

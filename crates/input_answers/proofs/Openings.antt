@@ -10,12 +10,13 @@ use Rattle.knitout_reader.specs.declared.head.Head.{Head}
 use Rattle.knitout_reader.specs.Head.{IsHead}
 use Rattle.machine_profile.specs.declared.Chosen.{Chosen}
 use Rattle.block_summary.specs.declared.prepared.Prepared.{Prepared}
+use Rattle.block_summary.proofs.LinePlaces.{part_len}
 use Rattle.edit_journal.specs.declared.opening.Opening.{Opening}
 use Rattle.input_answers.specs.CheckReport.{body_of}
 use Rattle.input_answers.specs.Due.{Fits, blocks_of}
 use Rattle.input_answers.specs.DueLive.{AreBlocks, IsOpening}
 use Rattle.input_answers.specs.Openings.{AreFull, IsCut, texts_of}
-use Rattle.check_workers.proofs.LineRanges.{both_ranges, range_len, range_rest}
+use Rattle.check_workers.proofs.LineRanges.{both_ranges, range_rest}
 
 -- a last block behind full ones
 blocks-last : (size : ℕ) (blocks : List (List (List ℕ))) (last : List (List ℕ)) → AreFull size blocks → 0 < length last → length last ≤ size → AreBlocks size (blocks ++ last ∷ [])
@@ -59,7 +60,7 @@ cut_more size text from mid to old new some left reached here added =
     let inside : to ≤ length text = omega (arith, reached, left) in
     let behind : mid ≤ to = omega (arith, reached) in
     let piece : List (List ℕ) = slice_range text mid to in
-    let long : length (slice_range text mid to) ≡ to - mid = range_len text mid to inside in
+    let long : length (slice_range text mid to) ≡ to - mid = part_len text mid to inside in
     record {
       ordered = ordered;
       inside = inside;
