@@ -32,22 +32,27 @@ mod tests;
 mod text_pass_tests;
 mod top;
 
-use input_answers::Status;
+use input_answers::{Outcome, Status};
 use knit_ports::{IdleGate, ReaderSource, WriterSink};
 use std::process::ExitCode;
 use std::rt::Env;
-use std::{env, io};
+use std::{env, io, mem};
 use top::top;
 
 fn main(rt: HostRuntime) -> ExitCode {
     let mut source = ReaderSource::of(rt.reader());
     let mut sink = WriterSink::of(io::writer(&rt));
-    let status = match words(&rt) {
-        Ok(words) => top(&rt, rt.alloc(), &words, &mut source, &mut sink, &IdleGate).status,
-        Err(error) if error.kind() == io::ErrorKind::OutOfMemory => Status::NoMemory,
+    let outcome = match words(&rt) {
+        Ok(words) => top(&rt, rt.alloc(), &words, &mut source, &mut sink, &IdleGate),
+        Err(error) if error.kind() == io::ErrorKind::OutOfMemory => {
+            Outcome::without_sessions(rt.alloc(), Status::NoMemory)
+        }
         // Words that aren't text are outside the grammar, as no words are.
-        Err(_) => top(&rt, rt.alloc(), &[], &mut source, &mut sink, &IdleGate).status,
+        Err(_) => top(&rt, rt.alloc(), &[], &mut source, &mut sink, &IdleGate),
     };
+    let status = outcome.status;
+    // The system takes back at once what a script, its journal and its replies take.
+    mem::forget(outcome);
     ExitCode::from(status.code())
 }
 

@@ -17,6 +17,7 @@ use face_data::brief_of;
 use knit_base::{BlockText, Setting};
 use std::alloc::Global;
 use std::marker::Model;
+use std::mem;
 use summary_tree::Tree;
 
 /// A document in blocks with the journal of its edits. It keeps the summary of each block, and that of all of them.
@@ -73,6 +74,26 @@ impl Book {
         ensures { result.entries ≡ self.entries }
     {
         self.journal
+    }
+
+    /// The journal, for a program that is about to end. The rest isn't given back piece by piece, which for a long document takes a
+    /// good part of the time that opening it took, but left to the system, which takes back all of it at once.
+    pub fn leave_journal(self) -> Journal
+        ensures { result.entries ≡ self.entries }
+    {
+        let Book {
+            opening,
+            journal,
+            states,
+            order,
+            tree,
+            ..
+        } = self;
+        mem::forget(opening);
+        mem::forget(states);
+        mem::forget(order);
+        mem::forget(tree);
+        journal
     }
 
     /// The verdict on the document, in short.

@@ -148,7 +148,7 @@ fn carry_out<L: Ledger, R: Threads + Wait + Sync, G: Gate + Sync>(
     let outcome = Outcome {
         status: Status::Done,
         script,
-        journal: book.into_journal(),
+        journal: book.leave_journal(),
         replies,
     };
     Ok(Answer { text, outcome })
