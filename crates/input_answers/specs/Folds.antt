@@ -1,5 +1,5 @@
 -- What blocks of lines make of empty beds, one after the other. No public contract speaks of it.
-use Rattle.std.specs.Prelude.{◌≡◌, ℕ, ◌+◌, ◌<◌, ◌≤◌, ◌^◌, nat_lt, Bool, true, List, ◌++◌, length, filter, map, Option, None, Some, IfSome, All, slice_range}
+use Rattle.std.specs.Prelude.{◌≡◌, ℕ, ◌+◌, ◌≤◌, nat_lt, Bool, true, List, ◌++◌, length, filter, map, Option, None, Some, IfSome, All, slice_range}
 use Rattle.std.specs.List.{AllZip}
 use Rattle.knit_base.specs.declared.instr.Read.{Read}
 use Rattle.knit_base.specs.declared.needle.Needle.{Needle}

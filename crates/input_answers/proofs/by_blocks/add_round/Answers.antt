@@ -1,7 +1,7 @@
 use Rattle.std.proofs.Common.{ap, arith, is_some, length}
 use Rattle.std.specs.List.{slice_range}
 use Rattle.std.proofs.lemmas.Result.{on_ok_weaker}
-use Rattle.input_answers.proofs.BlockFolds.{both_ok, folded_lines, folded_round, one_machine, reads_in, round_lines, short_lines}
+use Rattle.input_answers.proofs.BlockFolds.{both_ok, folded_lines, folded_round, one_machine, reads_in, round_lines}
 use Rattle.input_answers.proofs.by_blocks.add_round.Goals as goal
 
 pub take_face-requires-clause-machine : goal.take_face-requires-clause-machine

@@ -1,4 +1,4 @@
-use Rattle.std.proofs.Common.{◌∙◌, ◌≡◌, ◌+◌, ◌-◌, min, length, sym, arith}
+use Rattle.std.proofs.Common.{◌∙◌, ◌≡◌, length, sym, arith}
 use Rattle.input_answers.proofs.BlockFolds.{folded_all, folded_lines, folded_none, folded_stopped, from_both, kept_at_first}
 use Rattle.input_answers.proofs.BodyRuns.{head_len-le}
 use Rattle.input_answers.proofs.by_blocks.fold_body.Goals as goal
