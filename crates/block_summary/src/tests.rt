@@ -16,13 +16,6 @@ use std::sync::ledger::{Blank, Ledger};
 use std::test::Fail;
 use std::thread::Threads;
 
-const MACHINE: Profile = Profile {
-    low: -1024,
-    high: 1023,
-    rack: 8,
-    hold: 16,
-};
-
 const NO_EFFECT: Effect = Effect {
     rack: None,
     came: 0,
@@ -106,7 +99,7 @@ fn a_tuck_joins_what_was_formed(rt: HostRuntime) -> Result<(), Fail> {
     segs.push(Seg::Entry(back))?;
     segments.set(back, segs)?;
     let tuck = Instr::Tuck(Dir::Left, back, fourth_carrier(alloc)?);
-    let ask = ask_instr(alloc, &tuck, &MACHINE, &segments)?;
+    let ask = ask_instr(alloc, &tuck, &Profile::USUAL, &segments)?;
     assert!(rt; is_tuck(&ask));
     Ok(())
 }
@@ -139,7 +132,7 @@ fn a_transfer_from_an_untouched_needle(rt: HostRuntime) -> Result<(), Fail> {
     let alloc = rt.alloc();
     let segments = Symbols::new(alloc);
     let xfer = Instr::Xfer(needle(Bed::Front, 3), needle(Bed::Back, 1));
-    let ask = ask_instr(alloc, &xfer, &MACHINE, &segments)?;
+    let ask = ask_instr(alloc, &xfer, &Profile::USUAL, &segments)?;
     assert!(rt; is_transfer(&ask));
     Ok(())
 }
@@ -164,7 +157,7 @@ fn a_split_moves_the_loops_and_forms_one(rt: HostRuntime) -> Result<(), Fail> {
         back,
         fourth_carrier(alloc)?,
     );
-    let ask = ask_instr(alloc, &split, &MACHINE, &segments)?;
+    let ask = ask_instr(alloc, &split, &Profile::USUAL, &segments)?;
     assert!(rt; is_split(&ask));
     Ok(())
 }
@@ -192,7 +185,7 @@ fn a_carrier_that_goes_out_by_the_hook(rt: HostRuntime) -> Result<(), Fail> {
     let alloc = rt.alloc();
     let segments = Symbols::new(alloc);
     let outhook = Instr::HookOut(fourth_carrier(alloc)?);
-    let ask = ask_instr(alloc, &outhook, &MACHINE, &segments)?;
+    let ask = ask_instr(alloc, &outhook, &Profile::USUAL, &segments)?;
     assert!(rt; is_outhook(&ask));
     Ok(())
 }
@@ -216,7 +209,7 @@ fn a_line_asks_what_its_instruction_does(rt: HostRuntime) -> Result<(), Fail> {
     let alloc = rt.alloc();
     let segments = Symbols::new(alloc);
     let outhook = Read::Instr(Instr::HookOut(fourth_carrier(alloc)?));
-    let ask = ask_line(alloc, &outhook, &MACHINE, &segments)?;
+    let ask = ask_line(alloc, &outhook, &Profile::USUAL, &segments)?;
     assert!(rt; asks_as_outhook(&ask));
     Ok(())
 }
@@ -226,7 +219,7 @@ fn a_line_that_breaks_a_rule_ends_the_block(rt: HostRuntime) -> Result<(), Fail>
     let alloc = rt.alloc();
     let segments = Symbols::new(alloc);
     let off_bed = reason(Rule::OffBed, 1);
-    let ask = ask_line(alloc, &Read::Broken(off_bed), &MACHINE, &segments)?;
+    let ask = ask_line(alloc, &Read::Broken(off_bed), &Profile::USUAL, &segments)?;
     assert!(rt; ends_for(&ask, off_bed));
     Ok(())
 }
@@ -235,7 +228,7 @@ fn a_line_that_breaks_a_rule_ends_the_block(rt: HostRuntime) -> Result<(), Fail>
 fn a_blank_line_asks_nothing(rt: HostRuntime) -> Result<(), Fail> {
     let alloc = rt.alloc();
     let segments = Symbols::new(alloc);
-    let ask = ask_line(alloc, &Read::Blank, &MACHINE, &segments)?;
+    let ask = ask_line(alloc, &Read::Blank, &Profile::USUAL, &segments)?;
     assert!(rt; matches!(ask, LineAsk::Nothing));
     Ok(())
 }
@@ -254,7 +247,7 @@ fn a_knit_is_drawn_through_what_was_formed(rt: HostRuntime) -> Result<(), Fail> 
     let mut segments = Symbols::new(alloc);
     segments.set(front, Segs::one(alloc, Seg::New(5)))?;
     let knit = Read::Instr(Instr::Knit(Dir::Left, front, fourth_carrier(alloc)?));
-    let ask = ask_line(alloc, &knit, &MACHINE, &segments)?;
+    let ask = ask_line(alloc, &knit, &Profile::USUAL, &segments)?;
     assert!(rt; asks_to_knit(&ask, front));
     Ok(())
 }
@@ -271,7 +264,7 @@ fn prepared_of<L: Ledger, R: Threads>(
     let mut declared = Declared::new(alloc);
     let _ = declared.add("1");
     let setting = Setting {
-        profile: MACHINE,
+        profile: Profile::USUAL,
         declared,
         first: 1,
     };

@@ -9,13 +9,6 @@ use knit_base::{
 use std::alloc::Global;
 use std::test::Fail;
 
-const MACHINE: Profile = Profile {
-    low: -1024,
-    high: 1023,
-    rack: 8,
-    hold: 16,
-};
-
 const FRONT: Needle = Needle {
     bed: Bed::Front,
     at: 1,
@@ -42,11 +35,11 @@ fn a_loop_by_its_line(rt: HostRuntime) -> Result<(), Fail> {
     let mut reads = Reads::new(alloc);
     reads.push(Read::Instr(Instr::CarryIn(first_carrier(alloc)?)))?;
     reads.push(Read::Instr(Instr::Tuck(Dir::Left, FRONT, first_carrier(alloc)?)))?;
-    let none = fact_plain(alloc, &MACHINE, &declared, &reads, 3, 3)?;
+    let none = fact_plain(alloc, &Profile::USUAL, &declared, &reads, 3, 3)?;
     assert!(rt; none.is_none());
-    let fact = fact_plain(alloc, &MACHINE, &declared, &reads, 3, 4)?;
+    let fact = fact_plain(alloc, &Profile::USUAL, &declared, &reads, 3, 4)?;
     assert_eq!(rt; fact.map(|f| f.needle), Some(FRONT));
-    let brief = run_plain(alloc, &MACHINE, &declared, &reads, 3)?.brief();
+    let brief = run_plain(alloc, &Profile::USUAL, &declared, &reads, 3)?.brief();
     let sound = Brief::Sound {
         lines: 2,
         made: 1,
@@ -60,7 +53,7 @@ fn a_loop_by_its_line(rt: HostRuntime) -> Result<(), Fail> {
 #[test]
 fn the_loops_of_a_carriage(rt: HostRuntime) -> Result<(), Fail> {
     let alloc = rt.alloc();
-    let mut carriage = Carriage::start(alloc, &MACHINE, 3, true)?;
+    let mut carriage = Carriage::start(alloc, &Profile::USUAL, 3, true)?;
     carriage.execute(&Read::Instr(Instr::CarryIn(first_carrier(alloc)?)))?;
     assert_eq!(rt; carriage.line_count(), 1);
     let (verdict, loops) = carriage.finish()?;
@@ -95,7 +88,7 @@ fn loops_in_lists_that_they_share(rt: HostRuntime) -> Result<(), Fail> {
 
 #[test]
 fn a_usual_transfer_at_once(rt: HostRuntime) -> Result<(), Fail> {
-    let mut carriage = Carriage::start(rt.alloc(), &MACHINE, 3, false)?;
+    let mut carriage = Carriage::start(rt.alloc(), &Profile::USUAL, 3, false)?;
     assert!(rt; carriage.carry_usual(Usual::Xfer(FRONT, BACK))?);
     assert_eq!(rt; carriage.line_count(), 1);
     Ok(())
@@ -104,7 +97,7 @@ fn a_usual_transfer_at_once(rt: HostRuntime) -> Result<(), Fail> {
 // Its carrier isn't in action.
 #[test]
 fn a_refused_knit_is_left_to_the_other_call(rt: HostRuntime) -> Result<(), Fail> {
-    let mut carriage = Carriage::start(rt.alloc(), &MACHINE, 3, false)?;
+    let mut carriage = Carriage::start(rt.alloc(), &Profile::USUAL, 3, false)?;
     let knit = Usual::Knit(Dir::Right, FRONT, CarrierNo(0));
     assert!(rt; !carriage.carry_usual(knit)?);
     assert_eq!(rt; carriage.line_count(), 0);
@@ -114,7 +107,7 @@ fn a_refused_knit_is_left_to_the_other_call(rt: HostRuntime) -> Result<(), Fail>
 #[test]
 fn a_refused_knit_stops_the_carriage(rt: HostRuntime) -> Result<(), Fail> {
     let alloc = rt.alloc();
-    let mut carriage = Carriage::start(alloc, &MACHINE, 3, false)?;
+    let mut carriage = Carriage::start(alloc, &Profile::USUAL, 3, false)?;
     let knit = Instr::Knit(Dir::Right, FRONT, first_carrier(alloc)?);
     carriage.execute(&Read::Instr(knit))?;
     assert!(rt; carriage.is_stopped());

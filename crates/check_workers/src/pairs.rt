@@ -2,10 +2,9 @@
 ghost use Rattle.std.specs.Prelude.{◌≡◌, ◌+◌, ◌<◌, ◌^◌, IfOk};
 ghost use Rattle.face_data.specs.Composition.{composed};
 ghost use Rattle.face_data.specs.Drafts.{no_lines};
-ghost use Rattle.face_data.specs.View.{IsPacked, summary_of};
 ghost use Rattle.check_workers.specs.Faces.{AreOfOneMachine};
 
-use face_data::{Effect, Ending, Face, FaceView};
+use face_data::{Face, FaceView};
 use knit_base::{NoMemory, Steps};
 use std::alloc::Global;
 use std::sync::ledger::Ledger;
@@ -15,27 +14,7 @@ use summary_compose::{Scratch, compose_into, room_for};
 pub fn empty_face(alloc: Global) -> Result<Face, NoMemory>
     ensures { IfOk result (λ face. face ≡ no_lines) }
 {
-    Face::of(alloc, &empty_view())
-}
-
-fn empty_view() -> FaceView<'static>
-    ensures summary { summary_of result ≡ no_lines }
-    ensures packed { IsPacked result }
-{
-    FaceView {
-        lines: 0,
-        made: 0,
-        checks: &[],
-        names: &[],
-        changes: &[],
-        segs: &[],
-        ending: Ending::Through(Effect {
-            rack: None,
-            came: 0,
-            went: 0,
-            hook: None,
-        }),
-    }
+    Face::of(alloc, &FaceView::of_no_line())
 }
 
 /// The face of the lines of both, made in a scratch that may have been used before.

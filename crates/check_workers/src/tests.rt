@@ -25,14 +25,9 @@ fn setting(alloc: Global) -> Setting
     let mut declared = Declared::new(alloc);
     let _ = declared.add("1");
     Setting {
-        profile: Profile {
-            low: -1024,
-            high: 1023,
-            rack: 8,
-            hold: 16,
-        },
-        declared,
         first: 2,
+        profile: Profile::USUAL,
+        declared,
     }
 }
 

@@ -44,32 +44,19 @@ fn script(alloc: Global, texts: &[&str]) -> Result<Script, NoMemory> {
     }
 }
 
-// The setting of a file whose head declares the carrier 1 and ends with line 2.
-fn setting(alloc: Global) -> Setting
-    ensures profile { IsLawfulProfile result.profile }
-    ensures first { result.first ≡ 3 }
-{
-    let mut declared = Declared::new(alloc);
-    let _ = declared.add("1");
-    Setting {
-        profile: Profile {
-            low: -1024,
-            high: 1023,
-            rack: 8,
-            hold: 16,
-        },
-        declared,
-        first: 3,
-    }
-}
-
-// A book of one block, which has these lines.
+// A book of one block, which has these lines, of a file whose head declares the carrier 1 and ends with line 2.
 fn opened<L: Ledger>(alloc: Global, text: &Lines, steps: &mut Steps<L>) -> Result<Book, NoMemory>
     ensures profile { IfOk result (λ book. IsLawfulProfile book.opening.setting.profile) }
     ensures one { IfOk result (λ book. length book.opening.texts ≡ 1) }
     ensures empty { IfOk result (λ book. book.entries ≡ []) }
 {
-    let setting = setting(alloc);
+    let mut declared = Declared::new(alloc);
+    let _ = declared.add("1");
+    let setting = Setting {
+        profile: Profile::USUAL,
+        declared,
+        first: 3,
+    };
     let mut draft = Draft::new(alloc);
     let Ok(block) = prepared(alloc, &setting, &mut draft, text, steps) else {
         return Err(NoMemory);

@@ -12,6 +12,7 @@ pub mod Digests
 pub mod Drafts
 pub mod Effects
 pub mod EmptyBeds
+pub mod FaceChanges
 pub mod FaceOffsets
 pub mod Front
 pub mod Gathering

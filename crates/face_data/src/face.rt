@@ -1,4 +1,8 @@
 //! The lists of a face, and what stands in them.
+ghost use Rattle.std.specs.Prelude.{◌≡◌};
+ghost use Rattle.face_data.specs.Drafts.{no_lines};
+ghost use Rattle.face_data.specs.View.{IsPacked, summary_of};
+
 use crate::ShortList;
 use knit_base::{CarrierNo, Fault, Needle, Quarter, Reason};
 
@@ -78,4 +82,27 @@ pub struct FaceView<'a> {
     pub changes: &'a [Change],
     pub segs: &'a [Seg],
     pub ending: Ending,
+}
+
+impl FaceView<'_> {
+    /// The face of no line, which asks for nothing and changes nothing.
+    pub fn of_no_line() -> FaceView<'static>
+        ensures summary { summary_of result ≡ no_lines }
+        ensures packed { IsPacked result }
+    {
+        FaceView {
+            lines: 0,
+            made: 0,
+            checks: &[],
+            names: &[],
+            changes: &[],
+            segs: &[],
+            ending: Ending::Through(Effect {
+                rack: None,
+                came: 0,
+                went: 0,
+                hook: None,
+            }),
+        }
+    }
 }

@@ -4,8 +4,9 @@
 //! hold at entry so that they hold few enough now. `ShortList` is the list of an instruction's few conditions and changes: it
 //! promises that its first four items take no memory but its own. A `Digest` tells what conditions that are kept say of another
 //! one that isn't on sizes, `Effect::bearing_on` what a block says of one that is asked after it, and `Effect::then` puts two
-//! effects together. A `Face` owns the lists of a summary. `verdict_of`, `brief_of` and `loops_on` tell what a program comes to
-//! whose good face is known, run from empty beds: its verdict, the same in short, and the loops that a needle holds.
+//! effects together. A `Face` owns the lists of a summary. `segs_through` tells segments of later lines from the entry of earlier
+//! ones, and `loops_of` those of a block that was entered on empty beds. `verdict_of`, `brief_of` and `loops_on` tell what a program
+//! comes to whose good face is known, run from empty beds: its verdict, the same in short, and the loops that a needle holds.
 //!
 //! Definitions: `specs/Segments` (what needles hold, in terms of the entry), `specs/Conditions`, `specs/Summaries` (what a
 //! block makes of a state), `specs/View` (a face's lists), `specs/Goodness` with `specs/Bearings` and `specs/Sets`, and
@@ -30,6 +31,7 @@ mod effect;
 mod face;
 mod needle_loops;
 mod owned;
+mod read_through;
 mod short_list;
 mod sizes;
 mod storage;
@@ -43,7 +45,8 @@ pub use digest::Digest;
 pub use face::{Change, Check, Cond, CondList, Effect, Ending, FaceView, Part, Seg, Segs};
 pub use needle_loops::loops_on;
 pub use owned::Face;
+pub use read_through::segs_through;
 pub use short_list::ShortList;
 pub use sizes::{NeedleList, SizeAsk, SizeAsks, ask_size};
 pub use symbols::{SymbolList, Symbols, slot_of};
-pub use verdicts::{brief_of, verdict_of};
+pub use verdicts::{brief_of, loops_of, verdict_of};

@@ -154,8 +154,9 @@ pub(crate) fn segs_at(segs: &[Seg], part: Part) -> &[Seg]
     &segs[start..end]
 }
 
-/// The new loops among the segments, where the needles held nothing before.
-pub(crate) fn loops_of(alloc: Global, segs: &[Seg], first: u32) -> Result<LoopLines, NoMemory>
+/// The new loops among the segments, named by their lines, where the needles held nothing at the block's entry. The block's first line has
+/// the number `first`. `NoMemory` also comes where there would be more loops than a `u32` counts.
+pub fn loops_of(alloc: Global, segs: &[Seg], first: u32) -> Result<LoopLines, NoMemory>
     requires { All (OffsetFits first) segs.now }
     ensures { IfOk result (λ loops. loops ≡ read_segs empty_state first segs.now) }
 {

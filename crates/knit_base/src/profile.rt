@@ -9,3 +9,14 @@ pub struct Profile {
     pub rack: u8,
     pub hold: u8,
 }
+
+impl Profile {
+    /// A usual machine, which is meant where no limits are given: needles from -1024 to 1023, racks of 8 needles to either side,
+    /// 16 loops on a needle.
+    pub const USUAL: Profile = Profile {
+        low: -1024,
+        high: 1023,
+        rack: 8,
+        hold: 16,
+    };
+}

@@ -8,13 +8,6 @@ use knit_base::{
 use std::alloc::Global;
 use std::test::Fail;
 
-const PROFILE: Profile = Profile {
-    low: -1024,
-    high: 1023,
-    rack: 8,
-    hold: 16,
-};
-
 // What the line says where the carriers `A` and `B` are declared, if there is memory.
 fn reading(alloc: Global, line: &str) -> Option<Read>
     requires { length line.now < 2 ^ 16 }
@@ -22,7 +15,7 @@ fn reading(alloc: Global, line: &str) -> Option<Read>
     let mut declared = Declared::new(alloc);
     declared.add("A").ok()?;
     declared.add("B").ok()?;
-    read_line(alloc, line, &PROFILE, &declared).ok()
+    read_line(alloc, line, &Profile::USUAL, &declared).ok()
 }
 
 fn reason_of(read: &Read) -> Option<Reason> {
@@ -90,7 +83,7 @@ fn reads_a_body(rt: HostRuntime) -> Result<(), Fail> {
     lines.push(";knit").ok().ok_or("memory")?;
     lines.push("xfer bs-1 f2").ok().ok_or("memory")?;
     let declared = Declared::new(rt.alloc());
-    let reads = read_body(rt.alloc(), &lines, 1, &PROFILE, &declared)
+    let reads = read_body(rt.alloc(), &lines, 1, &Profile::USUAL, &declared)
         .ok()
         .ok_or("memory")?;
     assert_eq!(rt; reads.len(), 2);

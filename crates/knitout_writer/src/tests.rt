@@ -7,13 +7,6 @@ use knitout_reader::{read_head, read_line};
 use line_cutter::{CutFault, cut};
 use std::alloc::Global;
 
-const PROFILE: Profile = Profile {
-    low: -1024,
-    high: 1023,
-    rack: 8,
-    hold: 16,
-};
-
 const FILE: &[u8] =
     b";!knitout-2\n;;Carriers: A B\n in   A   ;bring\nknit + f+01 A B\nrack -0.50\nx-vendor   7  \"q\"\nknit ?\n\t;note\n\t\n";
 
@@ -40,9 +33,9 @@ fn is_text(alloc: Global, file: &[u8], want: &[u8]) -> Option<bool>
 {
     let lines = lines_of(alloc, file).ok()?;
     let head = read_head(alloc, &lines).ok()?;
-    let text = canonical_text(alloc, &lines, &head, &PROFILE).ok()?;
+    let text = canonical_text(alloc, &lines, &head, &Profile::USUAL).ok()?;
     let mut out = Vec::new(alloc);
-    write_text(alloc, &lines, &head, &PROFILE, &mut out).ok()?;
+    write_text(alloc, &lines, &head, &Profile::USUAL, &mut out).ok()?;
     Some(text.as_slice() == want && out.as_slice() == want)
 }
 
@@ -52,7 +45,7 @@ fn is_spelling(alloc: Global, line: &str, want: &[u8]) -> Option<bool>
 {
     let lines = lines_of(alloc, b";!knitout-2\n;;Carriers: A B").ok()?;
     let head = read_head(alloc, &lines).ok()?;
-    let read = read_line(alloc, line, &PROFILE, &head.declared).ok()?;
+    let read = read_line(alloc, line, &Profile::USUAL, &head.declared).ok()?;
     let mut out = Vec::new(alloc);
     write_line(alloc, &read, line, &head.declared, &mut out).ok()?;
     Some(out.as_slice() == want)

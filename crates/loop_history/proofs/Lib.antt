@@ -2,4 +2,3 @@ pub mod Entries
 pub mod Search
 pub mod TableLines
 pub mod TextTables
-mod FaceChanges

@@ -151,13 +151,11 @@ mod tests {
 
     #[test]
     fn the_defaults_are_chosen(rt: HostRuntime) {
-        let profile = Profile {
-            low: -1024,
-            high: 1023,
-            rack: 8,
-            hold: 16,
+        let usual = Chosen {
+            profile: Profile::USUAL,
+            block: 64,
         };
-        assert!(rt; profile_of(&NONE) == Ok(Chosen { profile, block: 64 }));
+        assert!(rt; profile_of(&NONE) == Ok(usual));
     }
 
     #[test]

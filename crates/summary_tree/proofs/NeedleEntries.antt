@@ -12,7 +12,7 @@ use Rattle.face_data.specs.declared.face.Ending.TheVariants.{Through, Broken}
 use Rattle.face_data.specs.declared.face.Seg.{Seg}
 use Rattle.face_data.specs.declared.face.Seg.TheVariants.{Entry, New}
 use Rattle.face_data.specs.Composition.{and_then}
-use Rattle.face_data.specs.Goodness.{ChangeFits}
+use Rattle.face_data.specs.Goodness.{ChangeFits, IsInOrder}
 use Rattle.face_data.specs.Segments.{AreRead, Changed, OffsetFits, change_at, segs_or_own, segments_on, read_segs}
 use Rattle.face_data.specs.Summaries.{Summary, Outcome, applied, first_fault, outcome_of}
 use Rattle.face_data.specs.Summaries.Outcome.{went_on, faulted}
@@ -164,6 +164,13 @@ module _ (faces : FacesView) (tables : List (Option (List LoopRow))) (all : List
     part_fits summary e s =
         let same : last.2.0 ≡ summary = same_there (face_in faces (place_of child)) last.2.0 summary has_face e in
         subst (λ (f : Summary). All (OffsetFits f.lines) segs) same (offsets_fit all needle last.0 last.1 last.2 segs s last.6 told_there)
+
+    -- a part's changes stand in the order of their needles
+    pub part_in_order : (summary : Summary) → face_in faces (place_of child) ≡ Some summary → IsInOrder summary.changes
+    part_in_order summary e =
+        let same : last.2.0 ≡ summary = same_there (face_in faces (place_of child)) last.2.0 summary has_face e in
+        let b = stand_laws.back last.0 last.1 together_there in
+        subst (λ (f : Summary). IsInOrder f.changes) same (last.6.good b.carriers b.limit b.known b.good).fair.in_order
 
     -- one part less
     pub part_read : (summary : Summary) (next : List Seg) → face_in faces (place_of child) ≡ Some summary → next ≡ through summary.changes summary.lines segs → IsToldOf rest next

@@ -2,7 +2,6 @@
 ghost use Rattle.std.specs.Prelude.{◌≡◌, ℕ, ◌+◌, ◌*◌, ◌<◌, ◌≤◌, ◌^◌, ◌↔◌, List, [], length, take, true, slice_set, Some, OnOk, IfOk, IsOk, IfSome};
 ghost use Rattle.std.specs.List.{slice_get};
 ghost use Rattle.carriage_model.specs.State.{State, empty_state};
-ghost use Rattle.face_data.specs.Drafts.{no_lines};
 ghost use Rattle.face_data.specs.Summaries.Outcome.{went_on};
 ghost use Rattle.face_data.specs.Items.{most_items};
 ghost use Rattle.face_data.specs.View.{IsPacked, summary_of};
@@ -17,7 +16,7 @@ use crate::rooms::Rooms;
 use crate::start::put_leaves;
 use crate::store::{FaceStore, kept_room};
 use carriage_model::LoopLines;
-use face_data::{Effect, Ending, Face, FaceView};
+use face_data::{Face, FaceView};
 use knit_base::{Needle, NoMemory, Steps};
 use loop_history::LoopTable;
 use std::alloc::Global;
@@ -45,27 +44,6 @@ impl Model for Tree {
     ghost view = { λ t. laid_out t.whole.shape t.whole.store.faces t.whole.store.tables.items t.whole.store.scratch.room };
 
     ghost invariant = { λ t. IsTree t.whole.shape t.whole.store.faces t.whole.store.tables.items };
-}
-
-// The face of no line.
-fn no_lines() -> FaceView<'static>
-    ensures summary { summary_of result ≡ no_lines }
-    ensures packed { IsPacked result }
-{
-    FaceView {
-        lines: 0,
-        made: 0,
-        checks: &[],
-        names: &[],
-        changes: &[],
-        segs: &[],
-        ending: Ending::Through(Effect {
-            rack: None,
-            came: 0,
-            went: 0,
-            hook: None,
-        }),
-    }
 }
 
 // A place in which the rooms of changes are listed, if there is memory for one. A change can do without.
@@ -123,11 +101,11 @@ impl Tree {
     {
         let _len = self.whole.len();
         let Some(root) = self.whole.root() else {
-            return no_lines();
+            return FaceView::of_no_line();
         };
         match self.whole.store().face(root) {
             Some(face) => face,
-            None => no_lines(),
+            None => FaceView::of_no_line(),
         }
     }
 

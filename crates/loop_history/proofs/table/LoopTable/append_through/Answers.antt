@@ -15,3 +15,9 @@ invariant_of-self-2 c =
     (is_table_both (map (changed_of c.args.first.now.segs.now) c.args.first.now.changes.now) lines rows later c.self.invariant c.later.invariant
     (subst (All (λ (row : LoopRow). row.offset < lines)) (sym c.self.view_is) c.requires.before)
     (omega (arith, c.requires.few, ap length c.self.view_is, ap length c.later.view_is)))
+
+pub rows_through-requires-clause-order : goal.rows_through-requires-clause-order
+rows_through-requires-clause-order c = c.requires.good.good.fair.in_order
+
+pub rows_through-requires-clause-parts : goal.rows_through-requires-clause-parts
+rows_through-requires-clause-parts c = c.requires.packed.changes_fit

@@ -16,8 +16,8 @@ returns-in_default c =
     let here = c.self.inside.whole in
     let all = leaf_values (leaf_in here.store.faces here.store.tables.items) here.shape.tree in
     let empty : all ≡ [] = c.in_default.ensures.none refl in
-    let whole = subst (λ (leaves : List Leaf). IsWholeOf leaves (summary_of c.no_lines.result)) (sym empty) (subst (IsWholeOf []) (sym c.no_lines.ensures.summary) no_leaves) in
-    subst (λ (v : TreeView). IsRootOf v.leaves c.no_lines.result) c.self.view_is (root_is all c.no_lines.result c.self.invariant.sound_leaves whole c.no_lines.ensures.packed)
+    let whole = subst (λ (leaves : List Leaf). IsWholeOf leaves (summary_of c.of_no_line.result)) (sym empty) (subst (IsWholeOf []) (sym c.of_no_line.ensures.summary) no_leaves) in
+    subst (λ (v : TreeView). IsRootOf v.leaves c.of_no_line.result) c.self.view_is (root_is all c.of_no_line.result c.self.invariant.sound_leaves whole c.of_no_line.ensures.packed)
 
 pub returns-in-Some-face : goal.returns-in-Some-face
 returns-in-Some-face c =

@@ -1,7 +1,7 @@
 use Rattle.std.proofs.Common.{◌-◌, ◌≤◌, length, take, drop, map}
 use Rattle.face_data.specs.Places.{AllBefore, AllBehind}
 use Rattle.face_data.specs.View.{changed_of}
-use Rattle.loop_history.proofs.joining.segs_on.Given as goal
+use Rattle.face_data.proofs.read_through.segs_on.Given as goal
 
 abbrev pub decreases-loop-low : goal.decreases-loop-low
 decreases-loop-low l = l.high - l.low

@@ -1,8 +1,8 @@
 use Rattle.std.proofs.Common.{◌+◌, ◌-◌, ◌/◌, ℕ, map, sym, ◌∙◌, arith}
 use Rattle.std.proofs.lemmas.List.{length-map}
 use Rattle.face_data.specs.View.{changed_of}
-use Rattle.loop_history.proofs.FaceChanges.{above_at, below_at, held_at, own_at}
-use Rattle.loop_history.proofs.joining.segs_on.Goals as goal
+use Rattle.face_data.proofs.FaceChanges.{above_at, below_at, held_at, own_at}
+use Rattle.face_data.proofs.read_through.segs_on.Goals as goal
 
 pub loop-low-preserved-in-Less : goal.loop-low-preserved-in-Less
 loop-low-preserved-in-Less c =
