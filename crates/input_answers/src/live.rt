@@ -69,11 +69,12 @@ fn answer_lines<R: Threads + Wait + Sync, G: Gate + Sync>(
     }
 }
 
-// The script that the lines spell, which are let go before a session begins.
+// The script that the lines spell, whose texts share the input's bytes. The places of the lines are let go before a session begins.
 fn script_of(alloc: Global, lines: Lines) -> Result<Script, ScriptFault>
     ensures script { IfOk result (IsScript lines) }
     ensures fault { IfErr result (IsRefusal lines) }
 {
+    let lines = lines.into_shared()?;
     read_script(alloc, &lines)
 }
 

@@ -2,7 +2,7 @@
 use Rattle.std.proofs.Common.{◌≡◌, ℕ, ◌+◌, ◌-◌, ◌<◌, ◌≤◌, List, [], ◌∷◌, ◌++◌, length, take, drop, get_or, map, All, ap, sym, ◌∙◌, refl, arith, subst, length-append, append_assoc}
 use Rattle.std.specs.List.{slice_range}
 use Rattle.std.proofs.lemmas.List.{drop-drop, drop-map, drop-take, get_or-map, length-drop, length-map, length-take, map-append, take-map, take-take, take_more}
-use Rattle.std.proofs.lemmas.List.Elements.{All-drop, All-head, All-push, All-tail, All-take}
+use Rattle.std.proofs.lemmas.List.Elements.{All-cons, All-drop, All-head, All-nil, All-push, All-tail, All-take}
 use Rattle.knit_base.specs.declared.lines.Span.{Span}
 use Rattle.knit_base.specs.Lines.{AreCopied, BeginWith, HasBytes, IsWithin, MayLoseFirst, behind_first, piece}
 use Rattle.knit_base.proofs.Buffers.{piece-append, pieces-append}
@@ -113,3 +113,22 @@ pub have_none : (bytes : List ℕ) (spans : List Span) (start end : ℕ) → All
 have_none bytes spans start end within = λ k d below.
     let here = All-take (IsWithin bytes) (end - start) (drop start spans) (All-drop (IsWithin bytes) start spans within) k d below in
     omega (arith, here.ordered)
+
+-- the bytes themselves hold what a copy would
+pub kept_bytes : (bytes : List ℕ) (count : ℕ) (spans places : List Span) → All (IsWithin bytes) spans → All (HasBytes count) spans → places ≡ map (behind_first count) spans
+    → AreCopied bytes count spans bytes places
+kept_bytes bytes count spans places within long is = record {
+  within = subst (All (IsWithin bytes)) (sym is) (each spans within long);
+  same = ap (map (piece bytes)) is ∙ read spans;
+}
+  where
+    each : (some : List Span) → All (IsWithin bytes) some → All (HasBytes count) some → All (IsWithin bytes) (map (behind_first count) some)
+    each [] w h = All-nil (IsWithin bytes)
+    each (span ∷ rest) w h =
+        let here = All-head (IsWithin bytes) span rest w in
+        All-cons (IsWithin bytes) (behind_first count span) (map (behind_first count) rest)
+        (record { ordered = All-head (HasBytes count) span rest h; inside = here.inside })
+        (each rest (All-tail (IsWithin bytes) span rest w) (All-tail (HasBytes count) span rest h))
+    read : (some : List Span) → map (piece bytes) (map (behind_first count) some) ≡ map (λ span. piece bytes (behind_first count span)) some
+    read [] = refl
+    read (span ∷ rest) = ap (λ (ps : List (List ℕ)). piece bytes (behind_first count span) ∷ ps) (read rest)

@@ -1,3 +1,4 @@
+pub mod Buffers
 pub mod Instr
 pub mod Lawful
 pub mod Limits

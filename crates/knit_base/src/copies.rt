@@ -1,5 +1,5 @@
 //! Copies of pieces of a buffer.
-ghost use Rattle.std.specs.Prelude.{◌≡◌, ◌++◌, ℕ, List, All, length, OnOk, OnErr, IfOk};
+ghost use Rattle.std.specs.Prelude.{◌≡◌, ◌++◌, ℕ, List, All, length, map, OnOk, OnErr, IfOk};
 ghost use Rattle.knit_base.specs.Lines.{AreCopied, BeginWith, HasBytes, IsWithin, behind_first, piece};
 
 use crate::NoMemory;
@@ -33,6 +33,22 @@ pub(crate) fn copy_pieces(
         places.push_reserved(place);
     }
     Ok((copy, places))
+}
+
+/// The spans, each without so many bytes in front.
+pub(crate) fn behind_each_first(
+    alloc: Global,
+    spans: &[Span],
+    count: u32,
+) -> Result<Vec<Span>, NoMemory>
+    requires { All (HasBytes count) spans.now }
+    ensures { IfOk result (λ places. places.items ≡ map (behind_first count) spans.now) }
+{
+    let mut places = Vec::with_capacity(alloc, spans.len())?;
+    for span in spans {
+        places.push_reserved(behind_first(*span, count));
+    }
+    Ok(places)
 }
 
 // The span without so many bytes in front.

@@ -10,6 +10,7 @@
 #![tactic(auto)]
 
 mod block_text;
+mod buffer;
 mod copies;
 mod declared;
 mod instr;

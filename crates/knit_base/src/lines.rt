@@ -1,12 +1,15 @@
 //! Lines of text, kept in one buffer.
 ghost use Rattle.std.specs.Prelude.{◌≡◌, ◌<◌, ◌≤◌, ◌^◌, [], ◌∷◌, ◌++◌, All, length, drop, map, OnOk, OnErr, IfOk, IfSome, slice_get, slice_range};
 ghost use Rattle.std.specs.Option.{option_copied};
-ghost use Rattle.knit_base.specs.Lines.{HasNoLineEnd, IsLine, IsWithin, MayLoseFirst, piece};
+ghost use Rattle.knit_base.specs.Buffers.{bytes_in};
+ghost use Rattle.knit_base.specs.Lines.{AreCopied, HasBytes, HasNoLineEnd, IsLine, IsWithin, MayLoseFirst, piece};
 
 use crate::NoMemory;
-use crate::copies::{append_piece, copy_pieces};
+use crate::buffer::Buffer;
+use crate::copies::{behind_each_first, copy_pieces};
 use std::alloc::Global;
 use std::marker::Model;
+use std::sync::Arc;
 
 /// A piece of a buffer: the bytes from `start` to `end`, which isn't counted.
 #[derive(Clone, Copy, Debug, PartialEq, Eq)]
@@ -19,7 +22,7 @@ pub struct Span {
 /// 16,777,217 of them.
 #[derive(Drop)]
 pub struct Lines {
-    bytes: Vec<u8>,
+    bytes: Buffer,
     spans: Vec<Span>,
 }
 
@@ -28,11 +31,12 @@ impl Model for Lines {
 
     ghost Value = { List (List ℕ) };
 
+    ghost use Rattle.knit_base.specs.Buffers.{bytes_in};
     ghost use Rattle.knit_base.specs.Lines.{AreLines, piece};
 
-    ghost view = { λ l. map (piece l.bytes.items) l.spans.items };
+    ghost view = { λ l. map (piece (bytes_in l.bytes)) l.spans.items };
 
-    ghost invariant = { λ l. AreLines l.bytes.items l.spans.items };
+    ghost invariant = { λ l. AreLines (bytes_in l.bytes) l.spans.items };
 }
 
 impl Lines {
@@ -40,7 +44,7 @@ impl Lines {
         ensures { result ≡ [] }
     {
         Lines {
-            bytes: Vec::new(alloc),
+            bytes: Buffer::Own(Vec::new(alloc)),
             spans: Vec::new(alloc),
         }
     }
@@ -52,6 +56,15 @@ impl Lines {
         requires lines { All IsLine (map (piece bytes.items) spans.items) }
         ensures { result ≡ map (piece bytes.items) spans.items }
     {
+        Lines::lying_in(Buffer::Own(bytes), spans)
+    }
+
+    fn lying_in(bytes: Buffer, spans: Vec<Span>) -> Self
+        requires few { length spans.items ≤ 16777217 }
+        requires within { All (IsWithin (bytes_in bytes)) spans.items }
+        requires lines { All IsLine (map (piece (bytes_in bytes)) spans.items) }
+        ensures { result ≡ map (piece (bytes_in bytes)) spans.items }
+    {
         Lines { bytes, spans }
     }
 
@@ -62,8 +75,8 @@ impl Lines {
         ensures { IfOk result (λ copy. copy ≡ slice_range lines.now start end) }
     {
         let spans = &lines.spans[start as usize..end as usize];
-        let (bytes, places) = copy_pieces(alloc, &lines.bytes, spans, 0)?;
-        Ok(Lines::in_buffer(bytes, places))
+        let (bytes, places) = pieces(alloc, &lines.bytes, spans, 0)?;
+        Ok(Lines::lying_in(bytes, places))
     }
 
     /// A copy of the lines from `start` to `end`, which isn't counted, each without its first byte.
@@ -79,8 +92,18 @@ impl Lines {
         ensures { IfOk result (λ copy. copy ≡ map (drop 1) (slice_range lines.now start end)) }
     {
         let spans = &lines.spans[start as usize..end as usize];
-        let (bytes, places) = copy_pieces(alloc, &lines.bytes, spans, 1)?;
-        Ok(Lines::in_buffer(bytes, places))
+        let (bytes, places) = pieces(alloc, &lines.bytes, spans, 1)?;
+        Ok(Lines::lying_in(bytes, places))
+    }
+
+    /// The same lines, which share their bytes with copies and ranges that are made of them from now on: these then copy places of lines alone.
+    pub fn into_shared(self) -> Result<Self, NoMemory>
+        ensures { IfOk result (λ lines. lines ≡ self) }
+    {
+        Ok(Lines {
+            bytes: self.bytes.into_shared()?,
+            spans: self.spans,
+        })
     }
 
     pub fn len(&self) -> u32
@@ -96,7 +119,7 @@ impl Lines {
         ensures line { IfSome result (λ line. IsLine line.now) }
     {
         let span = self.spans.get(i as usize)?;
-        let line = &self.bytes[span.start as usize..span.end as usize];
+        let line = &self.bytes.as_slice()[span.start as usize..span.end as usize];
         // SAFETY: each line is UTF-8, which the check proves here.
         Some(unsafe { str::from_utf8_unchecked(line) })
     }
@@ -110,7 +133,7 @@ impl Lines {
         ensures err { OnErr result (self.new ≡ self.old) }
     {
         self.spans.reserve(1)?;
-        let place = append_piece(&mut self.bytes, s.as_bytes())?;
+        let place = self.bytes.append(s.as_bytes())?;
         self.spans.push_reserved(place);
         Ok(())
     }
@@ -120,8 +143,31 @@ impl Lines {
         ensures { IfOk result (λ lines. lines ≡ self.now) }
     {
         Ok(Lines {
-            bytes: self.bytes.clone()?,
+            bytes: self.bytes.try_clone()?,
             spans: self.spans.clone()?,
         })
+    }
+}
+
+// The pieces, each without so many bytes in front: of a copy, or of the same bytes where they are shared.
+fn pieces(
+    alloc: Global,
+    bytes: &Buffer,
+    spans: &[Span],
+    skipped: u32,
+) -> Result<(Buffer, Vec<Span>), NoMemory>
+    requires within { All (IsWithin (bytes_in bytes.now)) spans.now }
+    requires long { All (HasBytes skipped) spans.now }
+    ensures { IfOk result (λ copy. AreCopied (bytes_in bytes.now) skipped spans.now (bytes_in copy.0) copy.1.items) }
+{
+    match bytes {
+        Buffer::Own(own) => {
+            let (copy, places) = copy_pieces(alloc, own, spans, skipped)?;
+            Ok((Buffer::Own(copy), places))
+        }
+        Buffer::Shared(shared) => {
+            let places = behind_each_first(alloc, spans, skipped)?;
+            Ok((Buffer::Shared(Arc::try_clone(shared)?), places))
+        }
     }
 }
