@@ -2,14 +2,14 @@
 use Rattle.std.proofs.Common.{◌≡◌, ℕ, ◌+◌, ◌-◌, ◌<◌, ◌≤◌, ◌^◌, Some, List, [], ◌∷◌, ◌++◌, length, take, drop, get_or, map, All, ap, sym, subst, ◌∙◌, refl, arith, length-append}
 use Rattle.std.proofs.lemmas.List.{map-append, take-append-le, drop-append-le, length-drop, take_all, length-map, get_or-map}
 use Rattle.std.proofs.lemmas.List.Elements.{All-push, All-head, All-tail}
-use Rattle.std.proofs.lemmas.Option.{slice_get-map, slice_get-get_or}
+use Rattle.std.proofs.lemmas.Option.{get_or_from_slice_get, slice_get-map, slice_get_within}
 use Rattle.std.specs.List.{slice_get}
 use Rattle.std.specs.Option.{option_map}
 use Rattle.std.proofs.Math.Seq.{drop-append_seam}
 use Rattle.knit_base.specs.declared.lines.Span.{Span}
 use Rattle.std.specs.Str.{IsUtf8}
 use Rattle.std.proofs.lemmas.Str.{is_utf8-from_IsUtf8}
-use Rattle.knit_base.specs.Lines.{AreLines, HasNoLineEnd, IsLine, IsWithin, piece}
+use Rattle.knit_base.specs.Lines.{AreLines, HasNoLineEnd, IsLine, IsWithin, last_span, piece}
 
 -- a piece that lies in the buffer stays as it is when the buffer grows
 pub piece-append : (bytes more : List ℕ) (span : Span) → IsWithin bytes span → piece (bytes ++ more) span ≡ piece bytes span
@@ -24,9 +24,6 @@ pieces-append bytes more [] within = refl
 pieces-append bytes more (span ∷ spans) within =
     ap (λ p. p ∷ map (piece (bytes ++ more)) spans) (piece-append bytes more span (All-head (IsWithin bytes) span spans within))
     ∙ ap (λ ps. piece bytes span ∷ ps) (pieces-append bytes more spans (All-tail (IsWithin bytes) span spans within))
-
-abbrev pub last_span : List ℕ → List ℕ → Span
-last_span bytes line = record { start = length bytes; end = length bytes + length line }
 
 -- what was appended is a piece
 piece-last : (bytes line : List ℕ) → piece (bytes ++ line) (last_span bytes line) ≡ line
@@ -62,27 +59,22 @@ line_at bytes spans i d lines within =
     subst IsLine (get_or-map (piece bytes) spans i d [] within) (lines.lines i [] (subst (λ n. i < n) (sym (length-map spans (piece bytes))) within))
 
 -- the piece at a place is a line, and the line at that place
-pub got_line : (bytes buffer : List ℕ) (spans places : List Span) (names : List (List ℕ)) (i : ℕ) (span : Span) → AreLines bytes spans → map (piece bytes) spans ≡ names
-    → places ≡ spans → buffer ≡ bytes → i < length places → span ≡ get_or places i span
-    → IsLine (piece buffer span) × (Some (piece buffer span) ≡ slice_get names i)
-got_line bytes buffer spans places names i span lines view same same_bytes below is =
-    let within : i < length spans = subst (λ (s : List Span). i < length s) same below in
-    let here : span ≡ get_or spans i span = is ∙ ap (λ (s : List Span). get_or s i span) same in
-    let text : piece buffer span ≡ piece bytes (get_or spans i span) = ap (λ b. piece b span) same_bytes ∙ ap (piece bytes) here in (
+pub got_line : (bytes buffer : List ℕ) (spans : List Span) (names : List (List ℕ)) (i : ℕ) (span : Span) → AreLines bytes spans → map (piece bytes) spans ≡ names
+    → buffer ≡ bytes → slice_get spans i ≡ Some span → IsLine (piece buffer span) × (Some (piece buffer span) ≡ slice_get names i)
+got_line bytes buffer spans names i span lines view same found =
+    let within : i < length spans = slice_get_within spans i span found in
+    let here : span ≡ get_or spans i span = sym (get_or_from_slice_get spans i span span found) in
+    let text : piece buffer span ≡ piece bytes (get_or spans i span) = ap (λ b. piece b span) same ∙ ap (piece bytes) here in (
       subst IsLine (sym text) (line_at bytes spans i span lines within),
-      ap Some text ∙ sym (ap (option_map (piece bytes)) (slice_get-get_or spans i span within)) ∙ sym (slice_get-map (piece bytes) spans i) ∙ ap (λ ls. slice_get ls i) view,
+      ap (λ b. Some (piece b span)) same ∙ sym (ap (option_map (piece bytes)) found) ∙ sym (slice_get-map (piece bytes) spans i) ∙ ap (λ ls. slice_get ls i) view,
     )
 
 -- a line was put at the end of the buffer, and its span behind the others
-pub lines-pushed : (bytes bytes' text line : List ℕ) (spans spans' all : List Span) (names : List (List ℕ)) (start end : ℕ)
-    → AreLines bytes spans → map (piece bytes) spans ≡ names → IsLine line → length names < 16777217
-    → spans' ≡ spans → text ≡ line → bytes' ≡ bytes ++ text → start ≡ length bytes → end ≡ length bytes' → all ≡ spans' ++ record { start = start; end = end } ∷ []
-    → AreLines bytes' all × (map (piece bytes') all ≡ names ++ line ∷ [])
-lines-pushed bytes bytes' text line spans spans' all names start end lines view is few same_spans same_text grown starts ends pushed =
+pub lines-pushed : (bytes bytes' text line : List ℕ) (spans all : List Span) (names : List (List ℕ)) → AreLines bytes spans → map (piece bytes) spans ≡ names → IsLine line → length names < 16777217
+    → text ≡ line → bytes' ≡ bytes ++ text → all ≡ spans ++ last_span bytes text ∷ [] → AreLines bytes' all × (map (piece bytes') all ≡ names ++ line ∷ [])
+lines-pushed bytes bytes' text line spans all names lines view is few same_text grown pushed =
     let buffer : bytes' ≡ bytes ++ line = grown ∙ ap (λ t. bytes ++ t) same_text in
-    let past : end ≡ length bytes + length line = ends ∙ ap length buffer ∙ length-append bytes line in
-    let span : ◌≡◌ {A = Span} (record { start = start; end = end }) (last_span bytes line) = λ i. record { start = starts i; end = past i } in
-    let places : all ≡ spans ++ last_span bytes line ∷ [] = pushed ∙ ap (λ s. s ++ record { start = start; end = end } ∷ []) same_spans ∙ ap (λ s. spans ++ s ∷ []) span in
+    let places : all ≡ spans ++ last_span bytes line ∷ [] = pushed ∙ ap (λ t. spans ++ last_span bytes t ∷ []) same_text in
     let room : length spans < 16777217 = omega (arith, length-map spans (piece bytes), ap length view) in (
       subst (λ b. AreLines b all) (sym buffer) (subst (AreLines (bytes ++ line)) (sym places) (lines-push bytes line spans lines is room)),
       ap (λ b. map (piece b) all) buffer ∙ ap (map (piece (bytes ++ line))) places ∙ pieces-push bytes line spans lines.within ∙ ap (λ n. n ++ line ∷ []) view,

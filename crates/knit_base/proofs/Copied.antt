@@ -129,6 +129,7 @@ kept_bytes bytes count spans places within long is = record {
         All-cons (IsWithin bytes) (behind_first count span) (map (behind_first count) rest)
         (record { ordered = All-head (HasBytes count) span rest h; inside = here.inside })
         (each rest (All-tail (IsWithin bytes) span rest w) (All-tail (HasBytes count) span rest h))
+
     read : (some : List Span) → map (piece bytes) (map (behind_first count) some) ≡ map (λ span. piece bytes (behind_first count span)) some
     read [] = refl
     read (span ∷ rest) = ap (λ (ps : List (List ℕ)). piece bytes (behind_first count span) ∷ ps) (read rest)

@@ -7,3 +7,4 @@ pub mod Needles
 pub mod Places
 pub mod Ranges
 pub mod Reasons
+pub mod Shares

@@ -1,4 +1,4 @@
-pub mod Buffers
+pub mod Held
 pub mod Instr
 pub mod Lawful
 pub mod Limits

@@ -1,6 +1,6 @@
 -- The lines of a text.
 use Rattle.std.specs.Prelude.{◌≡◌, ◌≢◌, ◌==◌, ℕ, ◌+◌, ◌-◌, ◌<◌, ◌≤◌, ◌^◌, Bool, true, List, [], ◌∷◌, ◌++◌, length, take, drop, map, All, if◌then◌else◌}
-use Rattle.std.specs.List.{slice_split}
+use Rattle.std.specs.List.{slice_range, slice_split}
 use Rattle.std.specs.Str.{is_utf8}
 use Rattle.knit_base.specs.declared.lines.Span.{Span}
 
@@ -60,6 +60,16 @@ behind_first count span = record { start = span.start + count; end = span.end }
 -- the span has at least so many bytes
 abbrev pub HasBytes : ℕ → Span → Type 0
 HasBytes count span = span.start + count ≤ span.end
+
+-- these are some of the spans, each of which has at least so many bytes
+pub record IsPart (spans : List Span) (start end count : ℕ) : Type 0 where
+  pub ordered : start ≤ end
+  pub inside : end ≤ length spans
+  pub long : All (HasBytes count) (slice_range spans start end)
+
+-- the span of a line that is put behind the bytes
+abbrev pub last_span : List ℕ → List ℕ → Span
+last_span bytes line = record { start = length bytes; end = length bytes + length line }
 
 -- the bytes begin with these
 pub record BeginWith (front bytes : List ℕ) : Type 0 where

@@ -22,7 +22,8 @@ impl Model for BlockText {
 }
 
 impl BlockText {
-    /// A copy of the lines from `start` to `end`, which isn't counted. Bytes that stand between them in their buffer are copied, too.
+    /// The lines from `start` to `end`, which isn't counted: shared where `lines` are, and else a copy, in which bytes that stand between
+    /// them in their buffer are copied, too.
     pub fn of(alloc: Global, lines: &Lines, start: u32, end: u32) -> Result<Self, NoMemory>
         requires ordered { start ≤ end }
         requires inside { end ≤ length lines.now }
@@ -59,7 +60,7 @@ impl BlockText {
         line
     }
 
-    /// An equal text.
+    /// An equal text: shared where this one is, and else a copy.
     pub fn try_clone(&self) -> Result<Self, NoMemory>
         ensures { IfOk result (λ text. text ≡ self.now) }
     {

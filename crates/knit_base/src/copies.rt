@@ -51,8 +51,9 @@ pub(crate) fn behind_each_first(
     Ok(places)
 }
 
-// The span without so many bytes in front.
-fn behind_first(span: Span, count: u32) -> Span
+/// The span without so many bytes in front.
+#[inline(always)]
+pub(crate) fn behind_first(span: Span, count: u32) -> Span
     requires { HasBytes count span }
     ensures { result ≡ behind_first count span }
 {

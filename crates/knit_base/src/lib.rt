@@ -1,7 +1,8 @@
 //! The plain values of the checker: needles, carriers, instructions and their readings, texts and their lines.
 //!
 //! Promises that a contract of a crate above sees each of these types as the plain value that it stands for: a text as its
-//! bytes, `Lines` as a list of texts, `Yarns` and every other list type as a list, `Declared` as the list of its names.
+//! bytes, `Lines` as a list of texts, whether they are shared or not, `Yarns` and every other list type as a list, `Declared` as the
+//! list of its names.
 //! Definitions: `specs/Needle` (order, beds, sliders, needles that face each other), `specs/Instr` (what an instruction names),
 //! `specs/Lawful` (what a machine can be asked to carry out), `specs/Spelling` (how needles, racks and rules are written),
 //! `specs/Yarns` (sets of carriers as bits), `specs/Names` (look-up by name), `specs/Reasons` (which rule is broken first),
@@ -10,9 +11,10 @@
 #![tactic(auto)]
 
 mod block_text;
-mod buffer;
 mod copies;
+mod cut;
 mod declared;
+mod held;
 mod instr;
 mod lines;
 mod list;

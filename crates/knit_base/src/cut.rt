@@ -1,0 +1,31 @@
+//! Where lines lie: in a buffer of their own, or in one that several lists of lines share.
+ghost use Rattle.std.specs.Arc.{arc_value};
+ghost use Rattle.knit_base.specs.Lines.{IsPart};
+
+use crate::lines::Span;
+use std::sync::Arc;
+
+/// Bytes, and where lines lie in them.
+#[derive(Drop)]
+pub(crate) struct Cut {
+    pub bytes: Vec<u8>,
+    pub spans: Vec<Span>,
+}
+
+/// Some of the lines of a cut that others may hold, too: from `start` to `end`, which isn't counted, each without its first `skipped`
+/// bytes.
+#[derive(Drop)]
+pub(crate) struct Part {
+    pub cut: Arc<Cut>,
+    pub start: u32,
+    pub end: u32,
+    pub skipped: u32,
+    ghost part: { IsPart (arc_value cut).spans.items start end skipped },
+}
+
+/// Where the lines of a list lie.
+#[derive(Drop)]
+pub(crate) enum Held {
+    Own(Cut),
+    Shared(Part),
+}
