@@ -36,12 +36,13 @@ own_line : (line : ℕ) (fact : Option LoopFact) (later : List LoopFact) → IfS
 own_line line None later named none = none
 own_line line (Some fact) later named none = ap (λ b. cond b (Some fact) (fact_of line later)) (eq-eqb fact.line line named)
 
-made_on-other : (k line : ℕ) (b : Option Reason) (fact : Option LoopFact) (later : List LoopFact) → IfSome fact (IsOfLine k) → k ≢ line → fact_of line later ≡ None → fact_of line (made_on b fact later) ≡ None
+-- a line other than this one makes no loop of this line
+pub made_on-other : (k line : ℕ) (b : Option Reason) (fact : Option LoopFact) (later : List LoopFact) → IfSome fact (IsOfLine k) → k ≢ line → fact_of line later ≡ None → fact_of line (made_on b fact later) ≡ None
 made_on-other k line None fact later named apart none = other_line k line fact later named apart ∙ none
 made_on-other k line (Some reason) fact later named apart none = refl
 
 -- later lines make no loop of this line
-later_lines : (profile : Profile) (s : State) (k line : ℕ) (rs : List Read) → line < k → fact_of line (loops_made profile s k rs) ≡ None
+pub later_lines : (profile : Profile) (s : State) (k line : ℕ) (rs : List Read) → line < k → fact_of line (loops_made profile s k rs) ≡ None
 later_lines profile s k line [] later = refl
 later_lines profile s k line (r ∷ rs) later =
     let further : line < k + 1 = omega arith in

@@ -40,7 +40,9 @@ use Rattle.edit_book.specs.declared.block_state.BlockState.{BlockState}
 use Rattle.edit_book.specs.Books.{BookView, Stands, document}
 use Rattle.edit_book.specs.Entered.{IsBehind, entries_held, stops_by}
 use Rattle.edit_book.specs.Verdicts.{IsLoopOn}
-use Rattle.edit_book.proofs.LineLoops.{BeginsIn, GoesPast, at_offset, at_stop, before_lines, begins_in, behind_lines, each_runs, in_no_block, past_stop, row_found, row_missing}
+use Rattle.carriage_model.proofs.LoopOfLine.{later_lines}
+use Rattle.summary_tree.proofs.NeedleEntries.{own_fit}
+use Rattle.edit_book.proofs.LineLoops.{BeginsIn, GoesPast, at_offset, at_stop, begins_in, behind_lines, each_runs, in_no_block, past_stop, row_found, row_missing}
 use Rattle.edit_book.proofs.Trees.{AllRead, all_read}
 use Rattle.summary_tree.specs.Leaves.{IsRootOf, Leaf, all_lines, applied_each, place_of_line}
 use Rattle.summary_tree.specs.Trees.{TreeView}
@@ -61,13 +63,6 @@ entries_told s segs entries is n there = sym (ap (λ (found : Option (List ℕ))
 found_has : (within place : ℕ) (rows : List LoopRow) (row : LoopRow) → position (at_offset within) rows ≡ Some place → slice_get rows place ≡ Some row → row.offset ≡ within
 found_has within place rows row found there =
     eqb-true row.offset within (ap (at_offset within) (sym (get_or_from_slice_get rows place row row there)) ∙ (position-Some (at_offset within) rows place row found).1)
-
-earlier_fits : (first offset : ℕ) (segs : List Seg) → first + offset < 2 ^ 32 → All (IsOfEarlier offset) segs → All (OffsetFits first) segs
-earlier_fits first offset segs fits all = All-weaker (IsOfEarlier offset) (OffsetFits first) one segs all
-  where
-    one : (seg : Seg) → IsOfEarlier offset seg → OffsetFits first seg
-    one (entry n) h = tt
-    one (New e) h = omega (arith, h, fits)
 
 -- the brief on the root tells where the document stops
 pub goes_told : (leaves : List Leaf) (view : FaceView) (first line lines made held : ℕ) (rack : Quarter) → IsRootOf leaves view → brief.Sound lines made held rack ≡ brief_of (verdict_of (summary_of view) first)
@@ -99,7 +94,7 @@ module _ (o : Opening) (es : List Entry) (states : List BlockState) (ids : List 
 
   -- no line of the head makes a loop
   pub none_in_head : line < o.setting.first → IsLoopOn v.opening.setting (body (document v)) line None
-  none_in_head early = told None (sym (before_lines o.setting.profile empty_state o.setting.first line reads early))
+  none_in_head early = told None (sym (later_lines o.setting.profile empty_state o.setting.first line reads early))
 
   -- nor one that isn't carried out
   pub none_at_stop : stops_by line (applied_each v.tree.leaves empty_state v.opening.setting.first) ≡ true → IsLoopOn v.opening.setting (body (document v)) line None
@@ -167,7 +162,7 @@ module _ (o : Opening) (es : List Entry) (states : List BlockState) (ids : List 
         row_fits few =
             let offset : row.offset ≡ within = found_has within place leaf.1 row hit row_is in
             let fits : line - within + row.offset < 2 ^ 32 = omega (arith, offset, same_line, few) in
-            (fits, earlier_fits (line - within) row.offset row.through fits is_row.earlier)
+            (fits, own_fit row.offset (line - within) row.through fits is_row.earlier)
 
         -- the line stands at or behind its block's first
         pub row_behind : within ≤ line

@@ -16,7 +16,7 @@ use Rattle.carriage_model.specs.Run.{Ended, run, run_on}
 use Rattle.carriage_model.specs.Run.Ended.{Ends, Stops}
 use Rattle.carriage_model.specs.State.{State}
 use Rattle.carriage_model.specs.Steps.{step}
-use Rattle.carriage_model.proofs.LoopOfLine.{IsOfLine, fact_made-line, other_line}
+use Rattle.carriage_model.proofs.LoopOfLine.{IsOfLine, fact_made-line, later_lines, made_on-other, other_line}
 use Rattle.face_data.specs.Composition.{and_then}
 use Rattle.face_data.specs.Stands.{StandsFor, outcome_of_run}
 use Rattle.face_data.specs.Summaries.{Outcome, applied}
@@ -84,21 +84,11 @@ among_second line (f ∷ first) second none = go (f.line == line) none (among_se
     go true none rest = absurd (cc)
     go false none rest = rest none
 
-other_made : (k line : ℕ) (o : Option Reason) (fact : Option LoopFact) (later : List LoopFact) → IfSome fact (IsOfLine k) → k ≢ line → fact_of line later ≡ None → fact_of line (made_on o fact later) ≡ None
-other_made k line None fact later named apart none = other_line k line fact later named apart ∙ none
-other_made k line (Some reason) fact later named apart none = refl
-
--- later lines make no loop of this line
-pub before_lines : (profile : Profile) (s : State) (k line : ℕ) (rs : List Read) → line < k → fact_of line (loops_made profile s k rs) ≡ None
-before_lines profile s k line [] early = refl
-before_lines profile s k line (r ∷ rs) early =
-    other_made k line (broken profile r s) (fact_made k r s) (loops_made profile (step k r s) (k + 1) rs) (fact_made-line k r s) (λ e. omega arith) (before_lines profile (step k r s) (k + 1) line rs (omega arith))
-
--- nor do earlier ones
+-- earlier lines make no loop of this line, nor do later ones (`later_lines`)
 pub behind_lines : (profile : Profile) (s : State) (k line : ℕ) (rs : List Read) → k + length rs ≤ line → fact_of line (loops_made profile s k rs) ≡ None
 behind_lines profile s k line [] late = refl
 behind_lines profile s k line (r ∷ rs) late =
-    other_made k line (broken profile r s) (fact_made k r s) (loops_made profile (step k r s) (k + 1) rs) (fact_made-line k r s) (λ e. omega arith) (behind_lines profile (step k r s) (k + 1) line rs (omega arith))
+    made_on-other k line (broken profile r s) (fact_made k r s) (loops_made profile (step k r s) (k + 1) rs) (fact_made-line k r s) (λ e. omega arith) (behind_lines profile (step k r s) (k + 1) line rs (omega arith))
 
 -- nor does a line at the fault or behind it
 faulted_at : (k line : ℕ) (o : Option Reason) (s u : State) (fault : Fault) (rest : Ended) (fact : Option LoopFact) (later : List LoopFact) → IfSome fact (IsOfLine k) → run_on k o s rest ≡ Stops u fault
@@ -157,7 +147,7 @@ begins_here profile l leaves xs ys s first offset stands table early goes = go (
     go (Ends u) is =
         result (subst (GoesPast (first + offset)) (sym is) tt)
         (ap (fact_of (first + offset)) (loops_made-append profile s u first xs ys is)
-        ∙ among_both (first + offset) (loops_made profile s first xs) (loops_made profile u (first + length xs) ys) (before_lines profile u (first + length xs) (first + offset) ys (omega (arith, early))))
+        ∙ among_both (first + offset) (loops_made profile s first xs) (loops_made profile u (first + length xs) ys) (later_lines profile u (first + length xs) (first + offset) ys (omega (arith, early))))
     go (Stops u fault) is =
         result (subst (GoesPast (first + offset)) (run_stops profile s u fault first xs ys is ∙ sym is) goes)
         (ap (fact_of (first + offset)) (loops_stop profile s u fault first xs ys is))

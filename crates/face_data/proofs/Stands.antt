@@ -64,11 +64,12 @@ pub goes_through : (a : Summary) (s t : State) (first : ℕ) → applied a s fir
 goes_through a s t first goes = through_outcome (first_fault a.checks s) a.ending a.changes s t first goes
 
 -- the state in which a block ends that goes on
-abbrev state_in : Outcome → State → State
+abbrev pub state_in : Outcome → State → State
 state_in (went_on t) s = t
 state_in (faulted fault) s = s
 
-ends_read_at : (found : Option Fault) (ending : Ending) (changes : List Changed) (s t : State) (first : ℕ) → outcome_of found ending changes s first ≡ went_on t → AreRead changes s first t.stacks
+-- the needles hold what the changes say where a summary goes on
+pub ends_read_at : (found : Option Fault) (ending : Ending) (changes : List Changed) (s t : State) (first : ℕ) → outcome_of found ending changes s first ≡ went_on t → AreRead changes s first t.stacks
 ends_read_at (Some fault) ending changes s t first goes n = absurd (cc)
 ends_read_at None (Broken fault) changes s t first goes n = absurd (cc)
 ends_read_at None (Through e) changes s t first goes n = sym (ap (λ o. (state_in o s).stacks n) goes)

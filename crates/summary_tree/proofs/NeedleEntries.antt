@@ -18,6 +18,7 @@ use Rattle.face_data.specs.Summaries.{Summary, Outcome, applied, first_fault, ou
 use Rattle.face_data.specs.Summaries.Outcome.{went_on, faulted}
 use Rattle.face_data.specs.Through.{through}
 use Rattle.face_data.proofs.Members.{Contains-head, Contains-tail}
+use Rattle.face_data.proofs.Stands.{ends_read_at, state_in}
 use Rattle.face_data.proofs.Through.{with_stacks, read-through}
 use Rattle.knit_base.specs.Needle.{same_needle}
 use Rattle.loop_history.specs.Tables.{IsOfEarlier}
@@ -38,16 +39,6 @@ went_before : (o : Outcome) (f : State → Outcome) (t : State) → and_then o f
 went_before (went_on u) f t e = (u, refl, e)
 went_before (faulted fault) f t e = absurd (cc (e))
 
-abbrev state_in : Outcome → State → State
-state_in (went_on t) s = t
-state_in (faulted fault) s = s
-
--- the needles hold what the changes say where a summary goes on
-read_where_on : (found : Option Fault) (ending : Ending) (changes : List Changed) (s t : State) (first : ℕ) → outcome_of found ending changes s first ≡ went_on t → AreRead changes s first t.stacks
-read_where_on (Some fault) ending changes s t first goes n = absurd (cc (goes))
-read_where_on None (Broken fault) changes s t first goes n = absurd (cc (goes))
-read_where_on None (Through e) changes s t first goes n = sym (ap (λ o. (state_in o s).stacks n) goes)
-
 -- segments are read alike where the needles hold the same
 read_alike : (s t : State) (first : ℕ) (segs : List Seg) → ((n : Needle) → s.stacks n ≡ t.stacks n) → read_segs s first segs ≡ read_segs t first segs
 read_alike s t first [] same = refl
@@ -57,7 +48,7 @@ read_alike s t first (New offset ∷ segs) same = ap (λ rest. read_segs s first
 -- read behind a summary, they are those that are read through it before
 read_before : (summary : Summary) (s t : State) (first : ℕ) (segs : List Seg) → applied summary s first ≡ went_on t → read_segs t (first + summary.lines) segs ≡ read_segs s first (through summary.changes summary.lines segs)
 read_before summary s t first segs goes =
-    read_alike t (with_stacks s (λ n. read_segs s first (segments_on summary.changes n))) (first + summary.lines) segs (read_where_on (first_fault summary.checks s) summary.ending summary.changes s t first goes)
+    read_alike t (with_stacks s (λ n. read_segs s first (segments_on summary.changes n))) (first + summary.lines) segs (ends_read_at (first_fault summary.checks s) summary.ending summary.changes s t first goes)
     ∙ sym (read-through s first summary.lines summary.changes segs)
 
 -- the segments of a change are of the summary's own lines
@@ -126,7 +117,8 @@ read_on_empty all needle segs first s loops h goes is =
     let here : first + 0 ≡ first = omega arith in
     is ∙ sym (end.2 ∙ (ap (λ t. read_segs t (first + 0) segs) none ∙ ap (λ n. read_segs empty_state n segs) here))
 
-own_fit : (few first : ℕ) (segs : List Seg) → first + few < 2 ^ 32 → All (IsOfEarlier few) segs → All (OffsetFits first) segs
+-- lines of a text that begins there have numbers of 32 bits
+pub own_fit : (few first : ℕ) (segs : List Seg) → first + few < 2 ^ 32 → All (IsOfEarlier few) segs → All (OffsetFits first) segs
 own_fit few first [] room all = All-nil (OffsetFits first)
 own_fit few first (Entry n ∷ segs) room all = All-cons (OffsetFits first) (Entry n) segs tt (own_fit few first segs room (All-tail (IsOfEarlier few) (Entry n) segs all))
 own_fit few first (New offset ∷ segs) room all =

@@ -17,7 +17,7 @@ use std::time::Duration;
 pub(crate) type Place<B> = Seat<Option<B>, ViewOf<B>>;
 
 // How many turns end between one wake and the next.
-const TURNS: u64 = 16;
+const TURNS: u64 = 32;
 
 // After so many milliseconds a thread that waits looks again.
 const LOOK_AGAIN: u64 = 20;
