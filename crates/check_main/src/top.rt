@@ -111,9 +111,9 @@ fn carry_out<R: Threads + Wait + Sync, S: Source, G: Gate + Sync>(
 }
 
 // Asks for room for the longest input, and gives it back unused. The C library's allocator takes a large piece from the kernel and
-// returns it there, until it is given one back; from then on it keeps pieces up to that size. So the memory of a script's lines, which
-// are let go before its sessions begin, serves the texts of their edits, and the kernel needn't clear as many pages. Another allocator
-// may make nothing of it, and nothing depends on whether there is room.
+// returns it there, until it is given one back; from then on it keeps pieces up to that size. So what an opening and its edits let go of
+// serves those that come next, and the kernel needn't clear as many pages. Another allocator may make nothing of it, and nothing depends on
+// whether there is room.
 fn keep_large_pieces(alloc: Global) {
     let _ = Vec::<u8>::with_capacity(alloc, INPUT_LIMIT);
 }
