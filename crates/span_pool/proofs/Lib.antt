@@ -1,3 +1,2 @@
 pub mod Classes
-pub mod Slots
-pub mod Spans
+pub mod Shelves

@@ -1,83 +1,69 @@
--- What a contract sees of a pool: the spans that are out, by number, and what is spare.
-use Rattle.std.specs.Prelude.{◌≡◌, ◌≢◌, ℕ, ◌+◌, ◌*◌, ◌/◌, ◌%◌, ◌<◌, ◌^◌, ◌⊎◌, List, [], length, Option, Some, slice_index_or}
-use Rattle.std.specs.Option.{option_map}
-use Rattle.std.specs.Coded.{Coded, coded_list}
-use Rattle.span_pool.specs.Shelf.{ShelfView, shelf_code, list_at}
+-- What a contract sees of a span, and of a pool: what is spare and what is out.
+use Rattle.std.specs.Prelude.{◌≡◌, ◌≢◌, ℕ, ◌+◌, ◌<◌, ◌≤◌, ◌^◌, ◌⊎◌, List, refl, length, vec_capacity, slice_index_or}
+use Rattle.std.specs.Coded.{Coded, code_by, coded×, coded_ℕ, coded_list}
+use Rattle.std.specs.declared.vec.Vec.{Vec}
+use Rattle.std.specs.declared.alloc.Global.{Global}
+use Rattle.span_pool.specs.Shelf.{ShelfView}
 
--- a span: its number, which is unique among the spans that are out, and its class
-pub record SpanView : Type 0 where
-  pub number : ℕ
-  pub class : ℕ
-
--- the number of the span under this key of a class: keys of different classes give different numbers
-abbrev pub number_of : ℕ → ℕ → ℕ
-number_of key class = key * 64 + class
-
--- the class of a span that is out, and the list that it holds
-pub record Held (T : Type 0) : Type 0 where
+-- a span: its class, and the items that it holds
+pub record SpanView (T : Type 0) : Type 0 where
   pub class : ℕ
   pub items : List T
 
--- a pool: its classes in order, each with its spans
-abbrev pub PoolView : Type 0 → Type 0
-PoolView T = List (ShelfView T)
+-- a span is stored as the tuple of its fields
+abbrev pub span_code : {T : Type 0} → Coded T → Coded (SpanView T)
+span_code {T} code =
+    code_by
+    (ℕ × List T)
+    (coded× coded_ℕ (coded_list code))
+    (λ s. (s.class, s.items))
+    (λ p. record { class = p.0; items = p.1 })
+    (λ _. refl)
 
-abbrev pub pool_code : {T : Type 0} → Coded T → Coded (PoolView T)
-pool_code code = coded_list (shelf_code code)
+-- a span has the room of its class, and holds no more
+pub record IsSpan {T : Type 0} (list : Vec T Global) (class : ℕ) : Type 0 where
+  pub roomy : 2 ^ class ≤ vec_capacity list
+  pub short : length list.items ≤ 2 ^ class
 
-module _ {T : Type 0} where
-  -- a class for which nothing was reserved yet
-  abbrev pub bare : ShelfView T
-  bare = record { lists = []; spare = 0; room = 0 }
+-- a pool: its classes in order
+abbrev pub PoolView : Type 0
+PoolView = List ShelfView
 
-  -- the spans of a class
-  abbrev pub shelf_of : PoolView T → ℕ → ShelfView T
-  shelf_of pool class = slice_index_or pool class bare
+-- a class for which nothing was reserved yet
+abbrev pub bare : ShelfView
+bare = record { spare = 0; out = 0; room = 0 }
 
-  -- the class and the list of the span with this number, if that is out
-  unfoldable pub held : PoolView T → ℕ → Option (Held T)
-  held pool number =
-      option_map (λ items. record { class = number % 64; items = items }) (list_at (shelf_of pool (number % 64)) (number / 64))
+-- the spans of a class
+abbrev pub shelf_of : PoolView → ℕ → ShelfView
+shelf_of pool class = slice_index_or pool class bare
 
-  -- how many spans of a class are spare
-  unfoldable pub spare_of : PoolView T → ℕ → ℕ
-  spare_of pool class = (shelf_of pool class).spare
+-- how many spans of a class are spare
+unfoldable pub spare_of : PoolView → ℕ → ℕ
+spare_of pool class = (shelf_of pool class).spare
 
-  -- the span is out with its class, and holds this list
-  abbrev pub Holds : PoolView T → SpanView → List T → Type 0
-  Holds pool span items = held pool span.number ≡ Some (record { class = span.class; items = items })
+-- how many spans of a class are out
+unfoldable pub out_of : PoolView → ℕ → ℕ
+out_of pool class = (shelf_of pool class).out
 
-  -- the span's number is out with its class
-  abbrev pub IsOfPool : PoolView T → SpanView → Type 0
-  IsOfPool pool span = (items : List T) × Holds pool span items
+-- every class but this one has as many as it had
+abbrev pub KeepsOthers : (ℕ → ℕ) → (ℕ → ℕ) → ℕ → Type 0
+KeepsOthers old new class = (other : ℕ) → other ≢ class → new other ≡ old other
 
-  -- every span but that of this number is as it was
-  abbrev pub KeepsOthers : PoolView T → PoolView T → ℕ → Type 0
-  KeepsOthers old new number = (other : ℕ) → other ≢ number → held new other ≡ held old other
+-- this class has one fewer, and every other as many as it had
+pub record OneFewer (old new : ℕ → ℕ) (class : ℕ) : Type 0 where
+  pub here : new class + 1 ≡ old class
+  pub others : KeepsOthers old new class
 
-  -- every class but this one has as many spare as it had
-  abbrev pub KeepsOtherClasses : PoolView T → PoolView T → ℕ → Type 0
-  KeepsOtherClasses old new class = (other : ℕ) → other ≢ class → spare_of new other ≡ spare_of old other
+-- this class has one more, and every other as many as it had
+pub record OneMore (old new : ℕ → ℕ) (class : ℕ) : Type 0 where
+  pub here : new class ≡ old class + 1
+  pub others : KeepsOthers old new class
 
-  -- every class has as many spare as it had
-  abbrev pub KeepsSpare : PoolView T → PoolView T → Type 0
-  KeepsSpare old new = (class : ℕ) → spare_of new class ≡ spare_of old class
+-- nothing is there yet, or each class has a shelf of its room
+pub record IsPool (shelves : PoolView) : Type 0 where
+  pub classes : (length shelves ≡ 0) ⊎ (length shelves ≡ 63)
+  pub rooms : (class : ℕ) → class < length shelves → (shelf_of shelves class).room ≡ 2 ^ class
 
-  -- this class has one spare fewer, and every other as many as it had
-  pub record OneFewer (old new : PoolView T) (class : ℕ) : Type 0 where
-    pub here : spare_of new class + 1 ≡ spare_of old class
-    pub others : KeepsOtherClasses old new class
-
-  -- this class has one more spare, and every other as many as it had
-  pub record OneMore (old new : PoolView T) (class : ℕ) : Type 0 where
-    pub here : spare_of new class ≡ spare_of old class + 1
-    pub others : KeepsOtherClasses old new class
-
-  -- nothing is there yet, or each class has a shelf of its room
-  pub record IsPool (shelves : PoolView T) : Type 0 where
-    pub classes : (length shelves ≡ 0) ⊎ (length shelves ≡ 63)
-    pub rooms : (class : ℕ) → class < length shelves → (shelf_of shelves class).room ≡ 2 ^ class
-
-  -- each shelf has the room of its class, and no span
-  abbrev pub AreBare : PoolView T → Type 0
-  AreBare shelves = (class : ℕ) → class < length shelves → shelf_of shelves class ≡ record { lists = []; spare = 0; room = 2 ^ class }
+-- each shelf has the room of its class, and no span
+abbrev pub AreBare : PoolView → Type 0
+AreBare shelves = (class : ℕ) → class < length shelves → shelf_of shelves class ≡ record { spare = 0; out = 0; room = 2 ^ class }

@@ -1,7 +1,7 @@
 //! The pool: one shelf for each class.
-ghost use Rattle.std.specs.Prelude.{◌≡◌, ℕ, ◌<◌, ◌≤◌, ◌^◌, ◌↔◌, [], length, None, OnOk, OnErr, IfOk, IsOk, IsErr, vec_len};
+ghost use Rattle.std.specs.Prelude.{◌≡◌, ℕ, ◌<◌, ◌≤◌, ◌^◌, ◌↔◌, [], OnOk, OnErr, IfOk, IsOk, IsErr, vec_len};
 ghost use Rattle.span_pool.specs.Class.{IsClassOf};
-ghost use Rattle.span_pool.specs.Pool.{PoolView, held, spare_of, Holds, IsOfPool, KeepsOthers, KeepsOtherClasses, KeepsSpare, OneFewer, OneMore, AreBare};
+ghost use Rattle.span_pool.specs.Pool.{PoolView, spare_of, out_of, KeepsOthers, OneFewer, OneMore, AreBare};
 
 use crate::class::{CLASSES, class_of, room_of};
 use crate::shelf::Shelf;
@@ -14,7 +14,7 @@ use std::marker::Model;
 #[derive(Clone, Copy, Debug, PartialEq, Eq)]
 pub struct NoSpare;
 
-/// A region of memory in classes of spans: a span of class `k` has room for 2 to the power `k` items, `k` from 0 to 62.
+/// Spare memory in classes of spans: a span of class `k` has room for 2 to the power `k` items, `k` from 0 to 62.
 ///
 /// Only `reserve` takes memory. A span that is dropped in place of being given back stays out.
 #[derive(Drop)]
@@ -23,11 +23,9 @@ pub struct Pool<T> {
 }
 
 impl<T> Model for Pool<T> {
-    ghost use Rattle.span_pool.specs.Pool.{PoolView, pool_code, IsPool};
+    ghost use Rattle.span_pool.specs.Pool.{PoolView, IsPool};
 
-    ghost Value = { PoolView T };
-
-    ghost coded = { pool_code T.code };
+    ghost Value = { PoolView };
 
     ghost view = { λ p. p.shelves.items };
 
@@ -49,8 +47,8 @@ fn all_shelves<T: Copy>(alloc: Global) -> Result<Vec<Shelf<T>>, NoMemory>
 impl<T: Copy> Pool<T> {
     /// A pool without spans, which takes no memory.
     pub fn new(alloc: Global) -> Self
-        ensures none_out { (number : ℕ) → held result number ≡ None }
         ensures none_spare { (class : ℕ) → spare_of result class ≡ 0 }
+        ensures none_out { (class : ℕ) → out_of result class ≡ 0 }
     {
         Pool {
             shelves: Vec::new(alloc),
@@ -64,8 +62,8 @@ impl<T: Copy> Pool<T> {
         ensures ok { OnOk result (n ≤ spare_of self.new class) }
         ensures met { n ≤ spare_of self.old class → IsOk result }
         ensures never_lower { spare_of self.old class ≤ spare_of self.new class }
-        ensures other_classes { KeepsOtherClasses self.old self.new class }
-        ensures spans { (number : ℕ) → held self.new number ≡ held self.old number }
+        ensures other_classes { KeepsOthers (spare_of self.old) (spare_of self.new) class }
+        ensures out { (class : ℕ) → out_of self.new class ≡ out_of self.old class }
         ensures err { OnErr result (self.new ≡ self.old) }
     {
         if n <= self.spare(class) {
@@ -79,8 +77,8 @@ impl<T: Copy> Pool<T> {
         requires { class ≤ 62 }
         ensures ok { OnOk result (n ≤ spare_of self.new class) }
         ensures never_lower { spare_of self.old class ≤ spare_of self.new class }
-        ensures other_classes { KeepsOtherClasses self.old self.new class }
-        ensures spans { (number : ℕ) → held self.new number ≡ held self.old number }
+        ensures other_classes { KeepsOthers (spare_of self.old) (spare_of self.new) class }
+        ensures out { (class : ℕ) → out_of self.new class ≡ out_of self.old class }
         ensures err { OnErr result (self.new ≡ self.old) }
     {
         let alloc = *self.shelves.allocator();
@@ -107,53 +105,32 @@ impl<T: Copy> Pool<T> {
     /// An empty span with room for `len` items. It takes constant time and no memory.
     ///
     /// Answers `NoSpare` exactly where no span of the class of `len` is spare, even where a larger class has one.
-    pub fn take(&mut self, len: u64) -> Result<Span, NoSpare>
+    pub fn take(&mut self, len: u64) -> Result<Span<T>, NoSpare>
         requires { len ≤ 2 ^ 62 }
         ensures refused { (class : ℕ) → IsClassOf len class → (IsErr result ↔ (spare_of self.old class ≡ 0)) }
         ensures class { IfOk result (λ span. IsClassOf len span.class) }
-        ensures fresh { IfOk result (λ span. held self.old span.number ≡ None) }
-        ensures empty { IfOk result (λ span. Holds self.new span []) }
-        ensures others { IfOk result (λ span. KeepsOthers self.old self.new span.number) }
-        ensures spare { IfOk result (λ span. OneFewer self.old self.new span.class) }
+        ensures empty { IfOk result (λ span. span.items ≡ []) }
+        ensures spare { IfOk result (λ span. OneFewer (spare_of self.old) (spare_of self.new) span.class) }
+        ensures out { IfOk result (λ span. OneMore (out_of self.old) (out_of self.new) span.class) }
         ensures err { OnErr result (self.new ≡ self.old) }
     {
         let class = class_of(len);
         if class as usize >= self.shelves.len() {
             return Err(NoSpare);
         }
-        let Some(key) = self.shelves[class as usize].take() else {
+        let Some(list) = self.shelves[class as usize].take() else {
             return Err(NoSpare);
         };
-        Ok(Span { key, class })
+        Ok(Span { list, class })
     }
 
-    /// Puts the items into the span, in place of what it held.
-    pub fn fill(&mut self, span: &Span, items: &[T])
-        requires of_pool { IsOfPool self.old span.now }
-        requires fits { length items.now ≤ 2 ^ span.now.class }
-        ensures holds { Holds self.new span.now items.now }
-        ensures others { KeepsOthers self.old self.new span.now.number }
-        ensures spare { KeepsSpare self.old self.new }
+    /// Takes a span back, whose room is spare again. It takes constant time and no memory.
+    pub fn give(&mut self, span: Span<T>)
+        requires out { 1 ≤ out_of self.old span.class }
+        ensures spare { OneMore (spare_of self.old) (spare_of self.new) span.class }
+        ensures out { OneFewer (out_of self.old) (out_of self.new) span.class }
     {
-        self.shelves[span.class as usize].fill(span.key, items);
-    }
-
-    /// What the span holds. It takes constant time.
-    pub fn get(&self, span: &Span) -> &[T]
-        requires { IsOfPool self.now span.now }
-        ensures holds { Holds self.now span.now result.now }
-        ensures fits { length result.now ≤ 2 ^ span.now.class }
-    {
-        self.shelves[span.class as usize].get(span.key)
-    }
-
-    /// Gives the span back, whose room is spare again. It takes constant time and no memory.
-    pub fn give(&mut self, span: Span)
-        requires { IsOfPool self.old span }
-        ensures gone { held self.new span.number ≡ None }
-        ensures others { KeepsOthers self.old self.new span.number }
-        ensures spare { OneMore self.old self.new span.class }
-    {
-        self.shelves[span.class as usize].give(span.key);
+        let Span { list, class } = span;
+        self.shelves[class as usize].give(list);
     }
 }

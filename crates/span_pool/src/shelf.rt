@@ -1,33 +1,30 @@
 //! The spans of one class.
-ghost use Rattle.std.specs.Prelude.{◌≡◌, ◌+◌, ◌-◌, ◌<◌, ◌≤◌, [], length, Option, Some, None, OnOk, OnErr, IsOk, IsSome, IfSome, IsNone, vec_len, vec_capacity, ◌↔◌};
+ghost use Rattle.std.specs.Prelude.{◌≡◌, ◌+◌, ◌-◌, ◌<◌, ◌≤◌, [], OnOk, OnErr, IsOk, IfSome, IsNone, vec_len, vec_capacity, ◌↔◌};
 ghost use Rattle.std.specs.List.{All};
-ghost use Rattle.span_pool.specs.Shelf.{ShelfView, list_at, Changes};
+ghost use Rattle.span_pool.specs.Shelf.{ShelfView};
 
 use knit_base::NoMemory;
-use slab::Slab;
 use std::alloc::Global;
 use std::marker::Model;
 
-/// The spans of one class: those that are out, by their keys, and the spare ones. Each is a vector that has the room of the
-/// class, and there is room to put back all that is out.
+/// The spans of one class: the spare ones, and how many are out. Each is a vector that has the room of the class, and there is
+/// room to put back all that is out.
 #[derive(Drop)]
 pub(crate) struct Shelf<T> {
-    out: Slab<Vec<T>>,
     spare: Vec<Vec<T>>,
+    out: usize,
     room: usize,
 }
 
 impl<T> Model for Shelf<T> {
     ghost use Rattle.std.specs.Prelude.{vec_len};
-    ghost use Rattle.span_pool.specs.Shelf.{ShelfView, shelf_code, lists_of, IsShelf};
+    ghost use Rattle.span_pool.specs.Shelf.{ShelfView, IsShelf};
 
-    ghost Value = { ShelfView T };
+    ghost Value = { ShelfView };
 
-    ghost coded = { shelf_code T.code };
+    ghost view = { λ s. record { spare = vec_len s.spare; out = s.out; room = s.room } };
 
-    ghost view = { λ s. record { lists = lists_of s.out; spare = vec_len s.spare; room = s.room } };
-
-    ghost invariant = { λ s. IsShelf s.out s.spare s.room };
+    ghost invariant = { λ s. IsShelf s.spare s.out s.room };
 }
 
 // Adds empty lists of this room until there are so many, or none where memory runs out.
@@ -70,11 +67,11 @@ fn emptied<T: Copy>(mut list: Vec<T>) -> Vec<T>
 impl<T: Copy> Shelf<T> {
     /// A shelf without spans, which takes no memory.
     pub fn new(alloc: Global, room: usize) -> Self
-        ensures { result ≡ record { lists = []; spare = 0; room = room } }
+        ensures { result ≡ record { spare = 0; out = 0; room = room } }
     {
         Shelf {
-            out: Slab::new(alloc),
             spare: Vec::new(alloc),
+            out: 0,
             room,
         }
     }
@@ -90,7 +87,7 @@ impl<T: Copy> Shelf<T> {
         ensures ok { OnOk result (n ≤ self.new.spare) }
         ensures met { n ≤ self.old.spare → IsOk result }
         ensures kept { self.old.spare ≤ self.new.spare }
-        ensures lists { self.new.lists ≡ self.old.lists }
+        ensures out { self.new.out ≡ self.old.out }
         ensures room { self.new.room ≡ self.old.room }
         ensures err { OnErr result (self.new ≡ self.old) }
     {
@@ -99,63 +96,42 @@ impl<T: Copy> Shelf<T> {
         if wanted <= spare {
             return Ok(());
         }
-        let all = self.out.len() + wanted;
+        let all = self.out + wanted;
         if all > u32::MAX as usize {
             return Err(NoMemory);
         }
-        self.out.reserve(wanted)?;
         self.spare.reserve(all - spare)?;
         add_lists(alloc, &mut self.spare, wanted, self.room)
     }
 
-    /// An empty span whose key was not out, or none where nothing is spare.
-    pub fn take(&mut self) -> Option<usize>
+    /// An empty list with the room of the class, or none where nothing is spare.
+    pub fn take(&mut self) -> Option<Vec<T>>
         ensures refused { IsNone result ↔ (self.old.spare ≡ 0) }
         ensures none { IsNone result → self.new ≡ self.old }
-        ensures fresh { IfSome result (λ key. list_at self.old key ≡ None) }
-        ensures changes { IfSome result (λ key. Changes self.old self.new key (Some [])) }
+        ensures empty { IfSome result (λ list. list.items ≡ []) }
+        ensures roomy { IfSome result (λ list. self.old.room ≤ vec_capacity list) }
         ensures spare { IfSome result (λ _. self.new.spare + 1 ≡ self.old.spare) }
+        ensures out { IfSome result (λ _. self.new.out ≡ self.old.out + 1) }
         ensures room { self.new.room ≡ self.old.room }
     {
         match self.spare.pop() {
             None => None,
-            Some(list) => Some(self.out.insert_reserved(emptied(list))),
+            Some(list) => {
+                self.out += 1;
+                Some(emptied(list))
+            }
         }
     }
 
-    /// Gives a span back.
-    pub fn give(&mut self, key: usize)
-        requires { IsSome (list_at self.old key) }
-        ensures changes { Changes self.old self.new key None }
+    /// Puts back a list that was out.
+    pub fn give(&mut self, list: Vec<T>)
+        requires out { 1 ≤ self.old.out }
+        requires roomy { self.old.room ≤ vec_capacity list }
         ensures spare { self.new.spare ≡ self.old.spare + 1 }
+        ensures out { self.new.out + 1 ≡ self.old.out }
         ensures room { self.new.room ≡ self.old.room }
     {
-        let list = self.out.remove(key);
         self.spare.push_reserved(list);
-    }
-
-    /// The span then holds the items.
-    pub fn fill(&mut self, key: usize, items: &[T])
-        requires out { IsSome (list_at self.old key) }
-        requires fits { length items.now ≤ self.old.room }
-        ensures changes { Changes self.old self.new key (Some items.now) }
-        ensures spare { self.new.spare ≡ self.old.spare }
-        ensures room { self.new.room ≡ self.old.room }
-    {
-        let held = &mut self.out[key];
-        held.clear();
-        match held.extend_from_slice(items) {
-            Ok(()) => {}
-            Err(_) => unreachable!(),
-        }
-    }
-
-    /// What a span holds.
-    pub fn get(&self, key: usize) -> &[T]
-        requires { IsSome (list_at self.now key) }
-        ensures list { list_at self.now key ≡ Some result.now }
-        ensures fits { length result.now ≤ self.now.room }
-    {
-        self.out[key].as_slice()
+        self.out -= 1;
     }
 }

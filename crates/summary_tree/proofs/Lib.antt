@@ -1,4 +1,4 @@
-pub mod SpanTables
+pub mod SpanCounts
 pub mod FaceTables
 pub mod Meets
 pub mod Roots

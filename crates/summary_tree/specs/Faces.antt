@@ -1,68 +1,61 @@
 -- A table of faces, each list in a span of its pool.
-use Rattle.std.specs.Prelude.{◌≡◌, ◌≢◌, ℕ, suc, ◌+◌, ◌≤◌, List, [], ◌∷◌, Option, Some, None, map, slice_index_or}
-use Rattle.knit_base.specs.declared.needle.Needle.{Needle}
-use Rattle.face_data.specs.declared.face.Change.{Change}
-use Rattle.face_data.specs.declared.face.Check.{Check}
-use Rattle.face_data.specs.declared.face.Seg.{Seg}
+use Rattle.std.specs.Prelude.{◌≡◌, ◌≢◌, ℕ, ◌+◌, ◌≤◌, ◌==◌, cond, List, Option, Some, None, map, slice_index_or}
+use Rattle.std.specs.List.{sum_by}
+use Rattle.std.specs.Option.{option_map}
 use Rattle.face_data.specs.Summaries.{Summary}
 use Rattle.face_data.specs.View.{asked_of, changed_of, AreNamed, ArePacked}
 use Rattle.span_pool.specs.Class.{IsClassOf}
-use Rattle.span_pool.specs.Pool.{PoolView}
+use Rattle.span_pool.specs.Pool.{PoolView, out_of}
 use Rattle.span_pool.specs.Shelf.{ShelfView}
 use Rattle.summary_compose.specs.declared.room.Room.{Room}
-use Rattle.summary_tree.specs.declared.faces.Head.{Head}
+use Rattle.summary_tree.specs.declared.faces.Entry.{Entry}
+use Rattle.summary_tree.specs.declared.faces.Pools.{Pools}
 use Rattle.summary_tree.specs.declared.faces.FaceList.{FaceList}
 use Rattle.summary_tree.specs.declared.faces.FaceList.TheVariants.{Checks, Names, Changes, Segs}
 use Rattle.summary_tree.specs.Meeting.{IsMet}
 
--- the four lists of a face
-pub record FaceLists : Type 0 where
-  pub checks : List Check
-  pub names : List Needle
-  pub changes : List Change
-  pub segs : List Seg
-
--- the summary that they show with the rest of the face
-abbrev pub summary_from : Head → FaceLists → Summary
-summary_from head lists = record {
-  lines = head.lines;
-  made = head.made;
-  checks = map (asked_of lists.names) lists.checks;
-  changes = map (changed_of lists.segs) lists.changes;
-  ending = head.ending;
+-- the summary that an entry shows
+abbrev pub summary_in : Entry → Summary
+summary_in e = record {
+  lines = e.head.lines;
+  made = e.head.made;
+  checks = map (asked_of e.names.items) e.checks.items;
+  changes = map (changed_of e.segs.items) e.changes.items;
+  ending = e.head.ending;
 }
 
--- all four, if each is there
-abbrev pub all_four : Option (List Check) → Option (List Needle) → Option (List Change) → Option (List Seg) → Option FaceLists
-all_four None names changes segs = None
-all_four (Some cs) None changes segs = None
-all_four (Some cs) (Some ns) None segs = None
-all_four (Some cs) (Some ns) (Some hs) None = None
-all_four (Some cs) (Some ns) (Some hs) (Some ss) = Some (record { checks = cs; names = ns; changes = hs; segs = ss })
+-- its names and segments are made up of the parts of its checks and changes
+pub record IsPackedEntry (e : Entry) : Type 0 where
+  pub named : AreNamed e.names.items e.checks.items
+  pub packed : ArePacked e.segs.items e.changes.items
 
--- the summary, if the lists and the rest are there
-abbrev pub whole_of : Option Head → Option FaceLists → Option Summary
-whole_of None lists = None
-whole_of (Some head) None = None
-whole_of (Some head) (Some lists) = Some (summary_from head lists)
+-- the class of the span of one of the lists
+abbrev pub class_in : FaceList → Entry → ℕ
+class_in Checks e = e.checks.class
+class_in Names e = e.names.class
+class_in Changes e = e.changes.class
+class_in Segs e = e.segs.class
 
--- the summaries from a place on
-abbrev pub summaries_from : (ℕ → Option FaceLists) → ℕ → List (Option Head) → List (Option Summary)
-summaries_from lists at [] = []
-summaries_from lists at (head ∷ heads) = whole_of head (lists at) ∷ summaries_from lists (suc at) heads
+-- the pool of one of the lists
+abbrev pub pool_in : FaceList → Pools → PoolView
+pool_in Checks pools = pools.checks
+pool_in Names pools = pools.names
+pool_in Changes pools = pools.changes
+pool_in Segs pools = pools.segs
 
--- names and segments are made up of the parts of checks and changes
-pub record ListsPacked (lists : FaceLists) : Type 0 where
-  pub named : AreNamed lists.names lists.checks
-  pub packed : ArePacked lists.segs lists.changes
+-- how many spans of a class are at a place for one of the lists
+abbrev pub spans_at : FaceList → ℕ → Option Entry → ℕ
+spans_at list class None = 0
+spans_at list class (Some e) = cond (class == class_in list e) 1 0
 
--- so are those at each place
-abbrev pub AllPacked : (ℕ → Option FaceLists) → Type 0
-AllPacked lists = (at : ℕ) (four : FaceLists) → lists at ≡ Some four → ListsPacked four
+-- each entry is packed, and the spans that are out are those in the table
+pub record IsTable (entries : List (Option Entry)) (pools : Pools) : Type 0 where
+  pub packed : (at : ℕ) (e : Entry) → slice_index_or entries at None ≡ Some e → IsPackedEntry e
+  pub out : (list : FaceList) (class : ℕ) → sum_by (spans_at list class) entries ≡ out_of (pool_in list pools) class
 
 -- the spare spans of each class of a pool
-abbrev pub spares_of : {T : Type 0} → PoolView T → List ℕ
-spares_of {T} pool = map (λ (shelf : ShelfView T). shelf.spare) pool
+abbrev pub spares_of : PoolView → List ℕ
+spares_of pool = map (λ (shelf : ShelfView). shelf.spare) pool
 
 -- what contracts see of a table: the summary at each place, and the spare spans of the four pools
 pub record FacesView : Type 0 where
@@ -71,6 +64,16 @@ pub record FacesView : Type 0 where
   pub name_spares : List ℕ
   pub change_spares : List ℕ
   pub seg_spares : List ℕ
+
+-- those of a table with these entries and pools
+abbrev pub table_view : List (Option Entry) → Pools → FacesView
+table_view entries pools = record {
+  faces = map (option_map summary_in) entries;
+  check_spares = spares_of pools.checks;
+  name_spares = spares_of pools.names;
+  change_spares = spares_of pools.changes;
+  seg_spares = spares_of pools.segs;
+}
 
 -- the spare spans for one of the lists
 abbrev pub spares_in : FacesView → FaceList → List ℕ

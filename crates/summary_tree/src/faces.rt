@@ -1,14 +1,17 @@
 //! A table of faces whose lists lie in spans.
-ghost use Rattle.std.specs.Prelude.{◌≡◌, ◌≢◌, ℕ, ◌+◌, ◌<◌, ◌≤◌, ◌^◌, [], length, slice_index_or, slice_set, max, Option, Some, None, IfSome, IsNone, OnOk};
+ghost use Rattle.std.specs.Prelude.{◌≡◌, ◌≢◌, ℕ, ◌+◌, ◌<◌, ◌≤◌, ◌^◌, [], length, slice_index_or, slice_set, Some, None, IfSome, IsNone, OnOk};
+ghost use Rattle.std.specs.List.{sum_by};
 ghost use Rattle.face_data.specs.View.{IsPacked, summary_of};
 ghost use Rattle.span_pool.specs.Class.{IsClassOf};
+ghost use Rattle.span_pool.specs.Pool.{OneFewer, OneMore, out_of, spare_of};
 ghost use Rattle.summary_compose.specs.Rooms.{room_of};
-ghost use Rattle.summary_tree.specs.Lists.{Lengthened};
-ghost use Rattle.summary_tree.specs.Faces.{face_in, spare_in, length_in, TookSpans, KeepsSpares};
+ghost use Rattle.summary_tree.specs.Lists.{Exchanged, TookSpan};
+ghost use Rattle.summary_tree.specs.Faces.{IsPackedEntry, summary_in, class_in, pool_in, spans_at, face_in, spare_in, length_in, TookSpans, KeepsSpares};
 
-use crate::lists::Lists;
+use crate::lists::{put_anew, refill};
 use face_data::{Change, Check, Ending, FaceView, Seg};
 use knit_base::{Needle, NoMemory};
+use span_pool::{Pool, Span};
 use std::alloc::Global;
 use std::marker::Model;
 
@@ -29,26 +32,159 @@ pub(crate) enum FaceList {
     Segs,
 }
 
+/// A face that is kept: each list in a span of its own, side by side, so that few places of memory are read for it.
+#[derive(Drop)]
+pub(crate) struct Entry {
+    checks: Span<Check>,
+    names: Span<Needle>,
+    changes: Span<Change>,
+    segs: Span<Seg>,
+    head: Head,
+}
+
+impl Entry {
+    fn view(&self) -> FaceView<'_>
+        requires { IsPackedEntry self.now }
+        ensures summary { summary_of result ≡ summary_in self.now }
+        ensures packed { IsPacked result }
+    {
+        FaceView {
+            lines: self.head.lines,
+            made: self.head.made,
+            checks: self.checks.get(),
+            names: self.names.get(),
+            changes: self.changes.get(),
+            segs: self.segs.get(),
+            ending: self.head.ending,
+        }
+    }
+}
+
+/// Spare spans for each of the lists.
+#[derive(Drop)]
+pub(crate) struct Pools {
+    checks: Pool<Check>,
+    names: Pool<Needle>,
+    changes: Pool<Change>,
+    segs: Pool<Seg>,
+}
+
+impl Pools {
+    fn new(alloc: Global) -> Pools
+        ensures { (list : FaceList) (class : ℕ) → out_of (pool_in list result) class ≡ 0 }
+    {
+        Pools {
+            checks: Pool::new(alloc),
+            names: Pool::new(alloc),
+            changes: Pool::new(alloc),
+            segs: Pool::new(alloc),
+        }
+    }
+
+    fn spare(&self, list: FaceList, class: u8) -> u32
+        ensures { result ≡ spare_of (pool_in list self.now) class }
+    {
+        match list {
+            FaceList::Checks => self.checks.spare(class),
+            FaceList::Names => self.names.spare(class),
+            FaceList::Changes => self.changes.spare(class),
+            FaceList::Segs => self.segs.spare(class),
+        }
+    }
+
+    fn reserve(&mut self, list: FaceList, class: u8, n: u32) -> Result<(), NoMemory>
+        requires { class ≤ 62 }
+        ensures ok { OnOk result (n ≤ spare_of (pool_in list self.new) class) }
+        ensures never_lower { (list : FaceList) (class : ℕ) → spare_of (pool_in list self.old) class ≤ spare_of (pool_in list self.new) class }
+        ensures out { (list : FaceList) (class : ℕ) → out_of (pool_in list self.new) class ≡ out_of (pool_in list self.old) class }
+    {
+        match list {
+            FaceList::Checks => self.checks.reserve(class, n),
+            FaceList::Names => self.names.reserve(class, n),
+            FaceList::Changes => self.changes.reserve(class, n),
+            FaceList::Segs => self.segs.reserve(class, n),
+        }
+    }
+
+    // The face in spans of its own.
+    fn entry_of(&mut self, face: &FaceView) -> Entry
+        requires packed { IsPacked face.now }
+        requires few { (list : FaceList) → length_in list (room_of face.now) ≤ 2 ^ 62 }
+        requires spare { (list : FaceList) (class : ℕ) → IsClassOf (length_in list (room_of face.now)) class → 1 ≤ spare_of (pool_in list self.old) class }
+        ensures summary { summary_in result ≡ summary_of face.now }
+        ensures packed { IsPackedEntry result }
+        ensures least { (list : FaceList) → IsClassOf (length_in list (room_of face.now)) (class_in list result) }
+        ensures taken { (list : FaceList) → OneFewer (spare_of (pool_in list self.old)) (spare_of (pool_in list self.new)) (class_in list result) }
+        ensures out { (list : FaceList) → OneMore (out_of (pool_in list self.old)) (out_of (pool_in list self.new)) (class_in list result) }
+        ensures took { (list : FaceList) → TookSpan (spare_of (pool_in list self.old)) (spare_of (pool_in list self.new)) (length_in list (room_of face.now)) }
+    {
+        Entry {
+            checks: put_anew(&mut self.checks, face.checks),
+            names: put_anew(&mut self.names, face.names),
+            changes: put_anew(&mut self.changes, face.changes),
+            segs: put_anew(&mut self.segs, face.segs),
+            head: head_of(face),
+        }
+    }
+
+    // Puts the face into the spans of another, or into others where these are of other classes.
+    fn refill(&mut self, entry: &mut Entry, face: &FaceView)
+        requires packed { IsPacked face.now }
+        requires few { (list : FaceList) → length_in list (room_of face.now) ≤ 2 ^ 62 }
+        requires spare { (list : FaceList) (class : ℕ) → IsClassOf (length_in list (room_of face.now)) class → 1 ≤ spare_of (pool_in list self.old) class }
+        requires of_pools { (list : FaceList) → 1 ≤ out_of (pool_in list self.old) (class_in list entry.old) }
+        ensures summary { summary_in entry.new ≡ summary_of face.now }
+        ensures packed { IsPackedEntry entry.new }
+        ensures least { (list : FaceList) → IsClassOf (length_in list (room_of face.now)) (class_in list entry.new) }
+        ensures back { (list : FaceList) → Exchanged (spare_of (pool_in list self.old)) (spare_of (pool_in list self.new)) (class_in list entry.old) (class_in list entry.new) }
+        ensures out { (list : FaceList) → Exchanged (out_of (pool_in list self.old)) (out_of (pool_in list self.new)) (class_in list entry.new) (class_in list entry.old) }
+        ensures took { (list : FaceList) → TookSpan (spare_of (pool_in list self.old)) (spare_of (pool_in list self.new)) (length_in list (room_of face.now)) }
+    {
+        refill(&mut self.checks, &mut entry.checks, face.checks);
+        refill(&mut self.names, &mut entry.names, face.names);
+        refill(&mut self.changes, &mut entry.changes, face.changes);
+        refill(&mut self.segs, &mut entry.segs, face.segs);
+        entry.head = head_of(face);
+    }
+
+    // Takes the spans of a face back.
+    fn give(&mut self, entry: Entry)
+        requires of_pools { (list : FaceList) → 1 ≤ out_of (pool_in list self.old) (class_in list entry) }
+        ensures spare { (list : FaceList) → OneMore (spare_of (pool_in list self.old)) (spare_of (pool_in list self.new)) (class_in list entry) }
+        ensures out { (list : FaceList) → OneFewer (out_of (pool_in list self.old)) (out_of (pool_in list self.new)) (class_in list entry) }
+    {
+        self.checks.give(entry.checks);
+        self.names.give(entry.names);
+        self.changes.give(entry.changes);
+        self.segs.give(entry.segs);
+    }
+}
+
+fn head_of(face: &FaceView) -> Head
+    ensures { result ≡ record { lines = face.now.lines; made = face.now.made; ending = face.now.ending } }
+{
+    Head {
+        lines: face.lines,
+        made: face.made,
+        ending: face.ending,
+    }
+}
+
 /// Faces by place. Only `lengthen` and `reserve` take memory.
 #[derive(Drop)]
 pub(crate) struct Faces {
-    heads: Vec<Option<Head>>,
-    checks: Lists<Check>,
-    names: Lists<Needle>,
-    changes: Lists<Change>,
-    segs: Lists<Seg>,
+    entries: Vec<Option<Entry>>,
+    pools: Pools,
 }
 
 impl Model for Faces {
-    ghost use Rattle.std.specs.Prelude.{◌≤◌, length};
-    ghost use Rattle.summary_tree.specs.Faces.{FacesView, all_four, summaries_from, spares_of, AllPacked};
-    ghost use Rattle.summary_tree.specs.Lists.{list_in};
+    ghost use Rattle.summary_tree.specs.Faces.{FacesView, IsTable, table_view};
 
     ghost Value = { FacesView };
 
-    ghost view = { λ f. record { faces = summaries_from (λ at. all_four (list_in f.checks.slots.items f.checks.pool at) (list_in f.names.slots.items f.names.pool at) (list_in f.changes.slots.items f.changes.pool at) (list_in f.segs.slots.items f.segs.pool at)) 0 f.heads.items; check_spares = spares_of f.checks.pool; name_spares = spares_of f.names.pool; change_spares = spares_of f.changes.pool; seg_spares = spares_of f.segs.pool } };
+    ghost view = { λ f. table_view f.entries.items f.pools };
 
-    ghost invariant = { λ f. AllPacked (λ at. all_four (list_in f.checks.slots.items f.checks.pool at) (list_in f.names.slots.items f.names.pool at) (list_in f.changes.slots.items f.changes.pool at) (list_in f.segs.slots.items f.segs.pool at)) × (length f.heads.items ≤ length f.checks.slots.items) × (length f.heads.items ≤ length f.names.slots.items) × (length f.heads.items ≤ length f.changes.slots.items) × (length f.heads.items ≤ length f.segs.slots.items) };
+    ghost invariant = { λ f. IsTable f.entries.items f.pools };
 }
 
 impl Faces {
@@ -56,11 +192,8 @@ impl Faces {
         ensures { result.faces ≡ [] }
     {
         Faces {
-            heads: Vec::new(alloc),
-            checks: Lists::new(alloc),
-            names: Lists::new(alloc),
-            changes: Lists::new(alloc),
-            segs: Lists::new(alloc),
+            entries: Vec::new(alloc),
+            pools: Pools::new(alloc),
         }
     }
 
@@ -68,7 +201,7 @@ impl Faces {
     pub fn len(&self) -> u64
         ensures { result ≡ length self.now.faces }
     {
-        self.heads.len() as u64
+        self.entries.len() as u64
     }
 
     /// The face at a place, if there is one.
@@ -77,33 +210,13 @@ impl Faces {
         ensures packed { IfSome result (λ view. IsPacked view) }
         ensures none { IsNone result → face_in self.now at ≡ None }
     {
-        let Some(slot) = self.heads.get(at) else {
-            return None;
-        };
-        let Some(head) = *slot else {
-            return None;
-        };
-        let Some(checks) = self.checks.get(at) else {
-            return None;
-        };
-        let Some(names) = self.names.get(at) else {
-            return None;
-        };
-        let Some(changes) = self.changes.get(at) else {
-            return None;
-        };
-        let Some(segs) = self.segs.get(at) else {
-            return None;
-        };
-        Some(FaceView {
-            lines: head.lines,
-            made: head.made,
-            checks,
-            names,
-            changes,
-            segs,
-            ending: head.ending,
-        })
+        match self.entries.get(at) {
+            Some(slot) => match slot {
+                Some(entry) => Some(entry.view()),
+                None => None,
+            },
+            None => None,
+        }
     }
 
     /// Gives the spans of a place back.
@@ -111,12 +224,10 @@ impl Faces {
         ensures faces { self.new.faces ≡ slice_set self.old.faces at None }
         ensures spares { KeepsSpares self.old self.new }
     {
-        if at < self.heads.len() {
-            self.heads[at] = None;
-            self.checks.clear(at);
-            self.names.clear(at);
-            self.changes.clear(at);
-            self.segs.clear(at);
+        if at < self.entries.len() {
+            if let Some(entry) = self.entries[at].take() {
+                self.pools.give(entry);
+            }
         }
     }
 
@@ -129,27 +240,17 @@ impl Faces {
         ensures faces { self.new.faces ≡ slice_set self.old.faces at (Some (summary_of face.now)) }
         ensures spares { TookSpans self.old self.new (room_of face.now) }
     {
-        self.checks.put(at, face.checks);
-        self.names.put(at, face.names);
-        self.changes.put(at, face.changes);
-        self.segs.put(at, face.segs);
-        self.heads[at] = Some(Head {
-            lines: face.lines,
-            made: face.made,
-            ending: face.ending,
-        });
+        match &mut self.entries[at] {
+            Some(entry) => self.pools.refill(entry, face),
+            None => self.entries[at] = Some(self.pools.entry_of(face)),
+        }
     }
 
     /// How many spans of the class are spare for one of the lists.
     pub fn spare(&self, list: FaceList, class: u8) -> u32
         ensures { result ≡ spare_in self.now list class }
     {
-        match list {
-            FaceList::Checks => self.checks.spare(class),
-            FaceList::Names => self.names.spare(class),
-            FaceList::Changes => self.changes.spare(class),
-            FaceList::Segs => self.segs.spare(class),
-        }
+        self.pools.spare(list, class)
     }
 
     /// Makes at least `n` spans of the class spare for one of the lists.
@@ -159,12 +260,7 @@ impl Faces {
         ensures faces { self.new.faces ≡ self.old.faces }
         ensures spares { KeepsSpares self.old self.new }
     {
-        match list {
-            FaceList::Checks => self.checks.reserve(class, n),
-            FaceList::Names => self.names.reserve(class, n),
-            FaceList::Changes => self.changes.reserve(class, n),
-            FaceList::Segs => self.segs.reserve(class, n),
-        }
+        self.pools.reserve(list, class, n)
     }
 
     /// Makes so many places.
@@ -174,45 +270,19 @@ impl Faces {
         ensures same { (at : ℕ) → face_in self.new at ≡ face_in self.old at }
         ensures spares { KeepsSpares self.old self.new }
     {
-        lengthen_lists(
-            &mut self.checks,
-            &mut self.names,
-            &mut self.changes,
-            &mut self.segs,
-            many,
-        )?;
-        lengthen_heads(&mut self.heads, many)
+        lengthen_entries(&mut self.entries, many)
     }
 }
 
-fn lengthen_lists(
-    checks: &mut Lists<Check>,
-    names: &mut Lists<Needle>,
-    changes: &mut Lists<Change>,
-    segs: &mut Lists<Seg>,
-    many: u64,
-) -> Result<(), NoMemory>
-    ensures checks { Lengthened checks.old.slots.items checks.old.pool checks.new.slots.items checks.new.pool }
-    ensures names { Lengthened names.old.slots.items names.old.pool names.new.slots.items names.new.pool }
-    ensures changes { Lengthened changes.old.slots.items changes.old.pool changes.new.slots.items changes.new.pool }
-    ensures segs { Lengthened segs.old.slots.items segs.old.pool segs.new.slots.items segs.new.pool }
-    ensures places { OnOk result ((many ≤ length checks.new.slots.items) × (many ≤ length names.new.slots.items) × (many ≤ length changes.new.slots.items) × (many ≤ length segs.new.slots.items)) }
+fn lengthen_entries(entries: &mut Vec<Option<Entry>>, many: u64) -> Result<(), NoMemory>
+    ensures ok { OnOk result (many ≤ length entries.new.items) }
+    ensures more { length entries.old.items ≤ length entries.new.items }
+    ensures same { (at : ℕ) → slice_index_or entries.new.items at None ≡ slice_index_or entries.old.items at None }
+    ensures spans { (list : FaceList) (class : ℕ) → sum_by (spans_at list class) entries.new.items ≡ sum_by (spans_at list class) entries.old.items }
 {
-    checks.lengthen(many)?;
-    names.lengthen(many)?;
-    changes.lengthen(many)?;
-    segs.lengthen(many)
-}
-
-fn lengthen_heads(heads: &mut Vec<Option<Head>>, many: u64) -> Result<(), NoMemory>
-    ensures ok { OnOk result (many ≤ length heads.new.items) }
-    ensures more { length heads.old.items ≤ length heads.new.items }
-    ensures few { length heads.new.items ≤ max (length heads.old.items) many }
-    ensures same { (at : ℕ) → slice_index_or heads.new.items at None ≡ slice_index_or heads.old.items at None }
-{
-    let start = heads.len() as u64;
+    let start = entries.len() as u64;
     for _i in start..many {
-        heads.push(None)?;
+        entries.push(None)?;
     }
     Ok(())
 }

@@ -1,140 +1,48 @@
-//! A table of lists by number, each in a span of one pool.
-ghost use Rattle.std.specs.Prelude.{◌≡◌, ◌≢◌, ℕ, ◌+◌, ◌<◌, ◌≤◌, ◌^◌, length, slice_index_or, Option, Some, None, IfSome, IsNone, OnOk};
+//! Lists in spans of a pool.
+ghost use Rattle.std.specs.Prelude.{◌≡◌, ℕ, ◌≤◌, ◌^◌, length};
 ghost use Rattle.span_pool.specs.Class.{IsClassOf};
-ghost use Rattle.span_pool.specs.Pool.{SpanView, OneMore, spare_of};
-ghost use Rattle.std.proofs.Props.{props};
-ghost use Rattle.summary_tree.specs.Lists.{Exchanged, IsTable, Lengthened, list_in};
+ghost use Rattle.span_pool.specs.Pool.{OneFewer, OneMore, out_of, spare_of};
+ghost use Rattle.summary_tree.specs.Lists.{Exchanged, TookSpan};
 
-use knit_base::NoMemory;
 use span_pool::{Pool, Span, class_of};
-use std::alloc::Global;
+use std::mem;
 
-/// Lists by number. Only `lengthen` and `reserve` take memory.
-#[derive(Drop)]
-pub struct Lists<T> {
-    pub(crate) slots: Vec<Option<Span>>,
-    pub(crate) pool: Pool<T>,
-    ghost table: { IsTable slots.items pool } by { Prim.hlevel props },
-}
-
-impl<T: Copy> Lists<T> {
-    pub fn new(alloc: Global) -> Self
-        ensures { (at : ℕ) → list_in result.slots.items result.pool at ≡ None }
-    {
-        Lists {
-            slots: Vec::new(alloc),
-            pool: Pool::new(alloc),
-        }
-    }
-
-    /// The list at a place, if there is one.
-    pub fn get(&self, at: usize) -> Option<&[T]>
-        ensures some { IfSome result (λ list. list_in self.now.slots.items self.now.pool at ≡ Some list.now) }
-        ensures none { IsNone result → list_in self.now.slots.items self.now.pool at ≡ None }
-    {
-        match self.slots.get(at) {
-            Some(slot) => match slot {
-                Some(span) => Some(self.pool.get(span)),
-                None => None,
-            },
-            None => None,
-        }
-    }
-
-    /// Gives the span of a place back.
-    pub fn clear(&mut self, at: usize)
-        ensures gone { list_in self.new.slots.items self.new.pool at ≡ None }
-        ensures back { (span : SpanView) → slice_index_or self.old.slots.items at None ≡ Some span → OneMore self.old.pool self.new.pool span.class }
-        ensures others { (k : ℕ) → k ≢ at → list_in self.new.slots.items self.new.pool k ≡ list_in self.old.slots.items self.old.pool k }
-        ensures len { length self.new.slots.items ≡ length self.old.slots.items }
-        ensures spare { (class : ℕ) → spare_of self.old.pool class ≤ spare_of self.new.pool class }
-    {
-        if at < self.slots.len() {
-            if let Some(span) = self.slots[at].take() {
-                self.pool.give(span);
-            }
-        }
-    }
-
-    /// Puts a list at a place, in a span of its own, in place of what was there. A span of its class that is there is filled again.
-    pub fn put(&mut self, at: usize, items: &[T])
-        requires place { at < length self.old.slots.items }
-        requires few { length items.now ≤ 2 ^ 62 }
-        requires spare { (class : ℕ) → IsClassOf (length items.now) class → 1 ≤ spare_of self.old.pool class }
-        ensures here { list_in self.new.slots.items self.new.pool at ≡ Some items.now }
-        ensures least { IfSome (slice_index_or self.new.slots.items at None) (λ span. IsClassOf (length items.now) span.class) }
-        ensures back { (old span : SpanView) → slice_index_or self.old.slots.items at None ≡ Some old → slice_index_or self.new.slots.items at None ≡ Some span → Exchanged self.old.pool self.new.pool old.class span.class }
-        ensures others { (k : ℕ) → k ≢ at → list_in self.new.slots.items self.new.pool k ≡ list_in self.old.slots.items self.old.pool k }
-        ensures len { length self.new.slots.items ≡ length self.old.slots.items }
-        ensures spare_of_class { (class : ℕ) → IsClassOf (length items.now) class → spare_of self.old.pool class ≤ spare_of self.new.pool class + 1 }
-        ensures spare_of_others { (class other : ℕ) → IsClassOf (length items.now) class → other ≢ class → spare_of self.old.pool other ≤ spare_of self.new.pool other }
-    {
-        let class = class_of(items.len() as u64);
-        if let Some(span) = &self.slots[at] {
-            if span.class() == class {
-                self.pool.fill(span, items);
-                return;
-            }
-        }
-        self.put_anew(at, items);
-    }
-
-    // The same in another span.
-    fn put_anew(&mut self, at: usize, items: &[T])
-        requires place { at < length self.old.slots.items }
-        requires few { length items.now ≤ 2 ^ 62 }
-        requires spare { (class : ℕ) → IsClassOf (length items.now) class → 1 ≤ spare_of self.old.pool class }
-        ensures here { list_in self.new.slots.items self.new.pool at ≡ Some items.now }
-        ensures least { IfSome (slice_index_or self.new.slots.items at None) (λ span. IsClassOf (length items.now) span.class) }
-        ensures back { (old span : SpanView) → slice_index_or self.old.slots.items at None ≡ Some old → slice_index_or self.new.slots.items at None ≡ Some span → Exchanged self.old.pool self.new.pool old.class span.class }
-        ensures others { (k : ℕ) → k ≢ at → list_in self.new.slots.items self.new.pool k ≡ list_in self.old.slots.items self.old.pool k }
-        ensures len { length self.new.slots.items ≡ length self.old.slots.items }
-        ensures spare_of_class { (class : ℕ) → IsClassOf (length items.now) class → spare_of self.old.pool class ≤ spare_of self.new.pool class + 1 }
-        ensures spare_of_others { (class other : ℕ) → IsClassOf (length items.now) class → other ≢ class → spare_of self.old.pool other ≤ spare_of self.new.pool other }
-    {
-        self.clear(at);
-        let len = items.len() as u64;
-        let _class = class_of(len);
-        if let Ok(span) = self.pool.take(len) {
-            self.pool.fill(&span, items);
-            self.slots[at] = Some(span);
-        }
-    }
-
-    pub fn spare(&self, class: u8) -> u32
-        ensures { result ≡ spare_of self.now.pool class }
-    {
-        self.pool.spare(class)
-    }
-
-    /// Makes at least `n` spans of the class spare.
-    pub fn reserve(&mut self, class: u8, n: u32) -> Result<(), NoMemory>
-        requires { class ≤ 62 }
-        ensures ok { OnOk result (n ≤ spare_of self.new.pool class) }
-        ensures spare { (other : ℕ) → spare_of self.old.pool other ≤ spare_of self.new.pool other }
-        ensures same { (k : ℕ) → list_in self.new.slots.items self.new.pool k ≡ list_in self.old.slots.items self.old.pool k }
-        ensures len { length self.new.slots.items ≡ length self.old.slots.items }
-    {
-        self.pool.reserve(class, n)
-    }
-
-    /// Makes so many places.
-    pub fn lengthen(&mut self, many: u64) -> Result<(), NoMemory>
-        ensures ok { OnOk result (many ≤ length self.new.slots.items) }
-        ensures lengthened { Lengthened self.old.slots.items self.old.pool self.new.slots.items self.new.pool }
-    {
-        lengthen_slots(&mut self.slots, many)
-    }
-}
-
-fn lengthen_slots(slots: &mut Vec<Option<Span>>, many: u64) -> Result<(), NoMemory>
-    ensures ok { OnOk result (many ≤ length slots.new.items) }
-    ensures more { length slots.old.items ≤ length slots.new.items }
-    ensures same { (k : ℕ) → slice_index_or slots.new.items k None ≡ slice_index_or slots.old.items k None }
+/// A list in a span of the least class that holds it.
+pub(crate) fn put_anew<T: Copy>(pool: &mut Pool<T>, items: &[T]) -> Span<T>
+    requires few { length items.now ≤ 2 ^ 62 }
+    requires spare { (class : ℕ) → IsClassOf (length items.now) class → 1 ≤ spare_of pool.old class }
+    ensures here { result.items ≡ items.now }
+    ensures least { IsClassOf (length items.now) result.class }
+    ensures taken { OneFewer (spare_of pool.old) (spare_of pool.new) result.class }
+    ensures out { OneMore (out_of pool.old) (out_of pool.new) result.class }
+    ensures took { TookSpan (spare_of pool.old) (spare_of pool.new) (length items.now) }
 {
-    let start = slots.len() as u64;
-    for _i in start..many {
-        slots.push(None)?;
+    let len = items.len() as u64;
+    let _class = class_of(len);
+    let Ok(mut span) = pool.take(len) else {
+        unreachable!();
+    };
+    span.fill(items);
+    span
+}
+
+/// Puts a list into a span of its class, in place of what that holds. A span of another class is given back, and another one
+/// stands in its place.
+pub(crate) fn refill<T: Copy>(pool: &mut Pool<T>, span: &mut Span<T>, items: &[T])
+    requires few { length items.now ≤ 2 ^ 62 }
+    requires spare { (class : ℕ) → IsClassOf (length items.now) class → 1 ≤ spare_of pool.old class }
+    requires of_pool { 1 ≤ out_of pool.old span.old.class }
+    ensures here { span.new.items ≡ items.now }
+    ensures least { IsClassOf (length items.now) span.new.class }
+    ensures back { Exchanged (spare_of pool.old) (spare_of pool.new) span.old.class span.new.class }
+    ensures out { Exchanged (out_of pool.old) (out_of pool.new) span.new.class span.old.class }
+    ensures took { TookSpan (spare_of pool.old) (spare_of pool.new) (length items.now) }
+{
+    let class = class_of(items.len() as u64);
+    if span.class() == class {
+        span.fill(items);
+        return;
     }
-    Ok(())
+    let old = mem::replace(span, put_anew(pool, items));
+    pool.give(old);
 }

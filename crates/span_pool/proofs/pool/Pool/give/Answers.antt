@@ -1,31 +1,46 @@
-use Rattle.std.proofs.Common.{arith, None}
-use Rattle.span_pool.proofs.Spans.{found, out_here, read_here, emptied, kept_others, one_more}
+use Rattle.std.proofs.Common.{◌≤◌, arith, sym, ap, ◌∙◌, subst}
+use Rattle.std.specs.Prelude.{slice_set}
+use Rattle.span_pool.specs.Shelf.{ShelfView}
+use Rattle.span_pool.specs.Pool.{SpanView, spare_of, out_of, OneFewer, OneMore}
+use Rattle.span_pool.proofs.Shelves.{has_shelf, read_here, is_put, out_seen}
 use Rattle.span_pool.proofs.pool.Pool.give.Goals as goal
 
 pub index_mut-requires : goal.index_mut-requires
 index_mut-requires g c =
-    let f = found c.self.inside.shelves.items c.args.self.now c.span.inside.key c.span.inside.class c.args.span c.self.view_is c.span.view_is c.requires in
-    omega (arith, f.inside)
+    let class = ap (λ (s : SpanView g.row.T.Denot). s.class) c.span.view_is in
+    omega (arith, has_shelf c.self.inside.shelves.items c.args.self.now c.span.inside.class c.self.view_is (subst (λ k. 1 ≤ out_of c.args.self.now k) (sym class) c.requires.out))
 
-pub give-requires : goal.give-requires
-give-requires g c =
-    let f = found c.self.inside.shelves.items c.args.self.now c.span.inside.key c.span.inside.class c.args.span c.self.view_is c.span.view_is c.requires in
-    let here = read_here c.self.inside.shelves.items c.span.inside.class c.index_mut.result.now c.index_mut.ensures.value f.inside in
-    out_here c.self.inside.shelves.items c.span.inside.key c.span.inside.class (c.requires.0) c.index_mut.result.now f here
+pub give-requires-clause-out : goal.give-requires-clause-out
+give-requires-clause-out g c =
+    let class = ap (λ (s : SpanView g.row.T.Denot). s.class) c.span.view_is in
+    let out = subst (λ k. 1 ≤ out_of c.args.self.now k) (sym class) c.requires.out in
+    let inside = has_shelf c.self.inside.shelves.items c.args.self.now c.span.inside.class c.self.view_is out in
+    let here = read_here c.self.inside.shelves.items c.span.inside.class c.index_mut.result.now c.index_mut.ensures.value inside in
+    subst (λ n. 1 ≤ n) (out_seen c.self.inside.shelves.items c.args.self.now c.span.inside.class c.index_mut.result.now c.self.view_is here) out
 
-pub returns-clause-gone : goal.returns-clause-gone
-returns-clause-gone g c =
-    let f = found c.self.inside.shelves.items c.args.self.now c.span.inside.key c.span.inside.class c.args.span c.self.view_is c.span.view_is c.requires in
-    emptied c.self.inside.shelves.items c.span.inside.key c.span.inside.class c.args.span c.index_mut.result.now c.give.new.self c.span.view_is f.small f.inside c.give.ensures.changes
-
-pub returns-clause-others : goal.returns-clause-others
-returns-clause-others g c =
-    let f = found c.self.inside.shelves.items c.args.self.now c.span.inside.key c.span.inside.class c.args.span c.self.view_is c.span.view_is c.requires in
-    let here = read_here c.self.inside.shelves.items c.span.inside.class c.index_mut.result.now c.index_mut.ensures.value f.inside in
-    kept_others c.self.inside.shelves.items c.args.self.now c.span.inside.key c.span.inside.class c.args.span c.index_mut.result.now c.give.new.self None c.self.view_is c.span.view_is f.small f.inside here c.give.ensures.changes
+pub give-requires-clause-roomy : goal.give-requires-clause-roomy
+give-requires-clause-roomy g c =
+    let class = ap (λ (s : SpanView g.row.T.Denot). s.class) c.span.view_is in
+    let out = subst (λ k. 1 ≤ out_of c.args.self.now k) (sym class) c.requires.out in
+    let inside = has_shelf c.self.inside.shelves.items c.args.self.now c.span.inside.class c.self.view_is out in
+    let here = read_here c.self.inside.shelves.items c.span.inside.class c.index_mut.result.now c.index_mut.ensures.value inside in
+    let room = ap (λ (s : ShelfView). s.room) here ∙ c.self.invariant.rooms c.span.inside.class inside in
+    omega (arith, room, c.span.invariant.roomy)
 
 pub returns-clause-spare : goal.returns-clause-spare
 returns-clause-spare g c =
-    let f = found c.self.inside.shelves.items c.args.self.now c.span.inside.key c.span.inside.class c.args.span c.self.view_is c.span.view_is c.requires in
-    let here = read_here c.self.inside.shelves.items c.span.inside.class c.index_mut.result.now c.index_mut.ensures.value f.inside in
-    one_more c.self.inside.shelves.items c.args.self.now c.span.inside.key c.span.inside.class c.args.span c.index_mut.result.now c.give.new.self c.self.view_is c.span.view_is f.inside here c.give.ensures.spare
+    let class = ap (λ (s : SpanView g.row.T.Denot). s.class) c.span.view_is in
+    let inside = has_shelf c.self.inside.shelves.items c.args.self.now c.span.inside.class c.self.view_is (subst (λ k. 1 ≤ out_of c.args.self.now k) (sym class) c.requires.out) in
+    let here = read_here c.self.inside.shelves.items c.span.inside.class c.index_mut.result.now c.index_mut.ensures.value inside in
+    let put = is_put c.self.inside.shelves.items c.args.self.now c.span.inside.class c.index_mut.result.now c.give.new.self c.self.view_is inside here in
+    subst (λ k. OneMore (spare_of c.args.self.now) (spare_of (slice_set c.self.inside.shelves.items c.span.inside.class c.give.new.self)) k) class
+    (record { here = omega (arith, put.has_spare, put.had_spare, c.give.ensures.spare); others = put.other_spare })
+
+pub returns-clause-out : goal.returns-clause-out
+returns-clause-out g c =
+    let class = ap (λ (s : SpanView g.row.T.Denot). s.class) c.span.view_is in
+    let inside = has_shelf c.self.inside.shelves.items c.args.self.now c.span.inside.class c.self.view_is (subst (λ k. 1 ≤ out_of c.args.self.now k) (sym class) c.requires.out) in
+    let here = read_here c.self.inside.shelves.items c.span.inside.class c.index_mut.result.now c.index_mut.ensures.value inside in
+    let put = is_put c.self.inside.shelves.items c.args.self.now c.span.inside.class c.index_mut.result.now c.give.new.self c.self.view_is inside here in
+    subst (λ k. OneFewer (out_of c.args.self.now) (out_of (slice_set c.self.inside.shelves.items c.span.inside.class c.give.new.self)) k) class
+    (record { here = omega (arith, put.has_out, put.had_out, c.give.ensures.out); others = put.other_out })

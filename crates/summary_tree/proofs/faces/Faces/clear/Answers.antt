@@ -1,33 +1,33 @@
-use Rattle.std.proofs.Common.{◌≡◌, ◌≢◌, ℕ, ◌≤◌, None, length, ◌∙◌, ap, subst, arith}
-use Rattle.std.specs.Prelude.{slice_set}
-use Rattle.std.proofs.Math.ListN.{length-set}
-use Rattle.std.proofs.lemmas.Grind.{common_steps}
-use Rattle.summary_tree.specs.Faces.{FacesView, KeepsSpares, summaries_from}
-use Rattle.summary_tree.proofs.FaceTables.{four_in, view_of, length_summaries, set_first, same_four, no_checks, packed_but, none_there, keeps_spares, set_past}
+use Rattle.std.proofs.Common.{◌≡◌, Some, None, sym, ◌∙◌, ap, subst, arith}
+use Rattle.std.specs.Prelude.{slice_index_or, slice_set}
+use Rattle.std.specs.Option.{option_map}
+use Rattle.std.proofs.lemmas.List.{map-set}
+use Rattle.span_pool.specs.Pool.{spare_of}
+use Rattle.summary_tree.specs.Faces.{FacesView, IsTable, KeepsSpares, class_in, pool_in, summary_in, table_view}
+use Rattle.summary_tree.proofs.SpanCounts.{no_fewer}
+use Rattle.summary_tree.proofs.FaceTables.{emptied, keeps_spares, read_at}
 use Rattle.summary_tree.proofs.faces.Faces.clear.Goals as goal
 
 pub invariant_of-self : goal.invariant_of-self
 invariant_of-self c =
-    let same : (j : ℕ) → j ≢ c.args.at → four_in c.clear.new.self.slots.items c.clear.new.self.pool c.clear-then-at-len.new.self.slots.items c.clear-then-at-len.new.self.pool c.clear-then-at-len-2.new.self.slots.items c.clear-then-at-len-2.new.self.pool c.clear-then-at-len-3.new.self.slots.items c.clear-then-at-len-3.new.self.pool j ≡ four_in c.self.inside.checks.slots.items c.self.inside.checks.pool c.self.inside.names.slots.items c.self.inside.names.pool c.self.inside.changes.slots.items c.self.inside.changes.pool c.self.inside.segs.slots.items c.self.inside.segs.pool j = λ j apart. same_four (c.clear.ensures.others j apart) (c.clear-then-at-len.ensures.others j apart) (c.clear-then-at-len-2.ensures.others j apart) (c.clear-then-at-len-3.ensures.others j apart) in (
-      packed_but (four_in c.self.inside.checks.slots.items c.self.inside.checks.pool c.self.inside.names.slots.items c.self.inside.names.pool c.self.inside.changes.slots.items c.self.inside.changes.pool c.self.inside.segs.slots.items c.self.inside.segs.pool) (four_in c.clear.new.self.slots.items c.clear.new.self.pool c.clear-then-at-len.new.self.slots.items c.clear-then-at-len.new.self.pool c.clear-then-at-len-2.new.self.slots.items c.clear-then-at-len-2.new.self.pool c.clear-then-at-len-3.new.self.slots.items c.clear-then-at-len-3.new.self.pool) c.args.at c.self.invariant.0 same (λ these e. none_there (four_in c.clear.new.self.slots.items c.clear.new.self.pool c.clear-then-at-len.new.self.slots.items c.clear-then-at-len.new.self.pool c.clear-then-at-len-2.new.self.slots.items c.clear-then-at-len-2.new.self.pool c.clear-then-at-len-3.new.self.slots.items c.clear-then-at-len-3.new.self.pool c.args.at) these (no_checks _ _ _ _ c.clear.ensures.gone) e),
-      omega (arith, length-set c.self.inside.heads.items c.args.at None, c.clear.ensures.len, c.self.invariant.1),
-      omega (arith, length-set c.self.inside.heads.items c.args.at None, c.clear-then-at-len.ensures.len, c.self.invariant.2),
-      omega (arith, length-set c.self.inside.heads.items c.args.at None, c.clear-then-at-len-2.ensures.len, c.self.invariant.3),
-      omega (arith, length-set c.self.inside.heads.items c.args.at None, c.clear-then-at-len-3.ensures.len, c.self.invariant.4),
-    )
+    let here : slice_index_or c.self.inside.entries.items c.args.at None ≡ Some c.in-Some.entry = read_at c.self.inside.entries.items c.args.at c.index_mut.result.now (Some c.in-Some.entry) c.index_mut.ensures.value (omega arith) (sym c.take.ensures.value ∙ c.in-Some.is) in
+    subst (λ o. IsTable (slice_set c.self.inside.entries.items c.args.at o) c.give.new.self) (sym c.take.ensures.after)
+    (emptied c.self.inside.entries.items c.self.inside.pools c.give.new.self c.args.at c.in-Some.entry c.self.invariant (omega arith) here c.give.ensures.out)
 
-pub returns-then-at-len-clause-faces : goal.returns-then-at-len-clause-faces
-returns-then-at-len-clause-faces c =
-    let same : (j : ℕ) → j ≢ c.args.at → four_in c.clear.new.self.slots.items c.clear.new.self.pool c.clear-then-at-len.new.self.slots.items c.clear-then-at-len.new.self.pool c.clear-then-at-len-2.new.self.slots.items c.clear-then-at-len-2.new.self.pool c.clear-then-at-len-3.new.self.slots.items c.clear-then-at-len-3.new.self.pool j ≡ four_in c.self.inside.checks.slots.items c.self.inside.checks.pool c.self.inside.names.slots.items c.self.inside.names.pool c.self.inside.changes.slots.items c.self.inside.changes.pool c.self.inside.segs.slots.items c.self.inside.segs.pool j = λ j apart. same_four (c.clear.ensures.others j apart) (c.clear-then-at-len.ensures.others j apart) (c.clear-then-at-len-2.ensures.others j apart) (c.clear-then-at-len-3.ensures.others j apart) in
-    set_first (four_in c.self.inside.checks.slots.items c.self.inside.checks.pool c.self.inside.names.slots.items c.self.inside.names.pool c.self.inside.changes.slots.items c.self.inside.changes.pool c.self.inside.segs.slots.items c.self.inside.segs.pool) (four_in c.clear.new.self.slots.items c.clear.new.self.pool c.clear-then-at-len.new.self.slots.items c.clear-then-at-len.new.self.pool c.clear-then-at-len-2.new.self.slots.items c.clear-then-at-len-2.new.self.pool c.clear-then-at-len-3.new.self.slots.items c.clear-then-at-len-3.new.self.pool) c.args.at None c.self.inside.heads.items same ∙ ap (λ (v : FacesView). slice_set v.faces c.args.at None) c.self.view_is
+pub returns-in-Some-clause-faces : goal.returns-in-Some-clause-faces
+returns-in-Some-clause-faces c =
+    map-set (option_map summary_in) c.self.inside.entries.items c.args.at c.take.new.self
+    ∙ (ap (λ (v : FacesView). slice_set v.faces c.args.at (option_map summary_in c.take.new.self)) c.self.view_is
+    ∙ ap (λ o. slice_set c.args.self.now.faces c.args.at (option_map summary_in o)) c.take.ensures.after)
 
-pub returns-then-at-len-clause-spares : goal.returns-then-at-len-clause-spares
-returns-then-at-len-clause-spares c =
-    let all = keeps_spares (summaries_from (four_in c.self.inside.checks.slots.items c.self.inside.checks.pool c.self.inside.names.slots.items c.self.inside.names.pool c.self.inside.changes.slots.items c.self.inside.changes.pool c.self.inside.segs.slots.items c.self.inside.segs.pool) 0 c.self.inside.heads.items) (summaries_from (four_in c.clear.new.self.slots.items c.clear.new.self.pool c.clear-then-at-len.new.self.slots.items c.clear-then-at-len.new.self.pool c.clear-then-at-len-2.new.self.slots.items c.clear-then-at-len-2.new.self.pool c.clear-then-at-len-3.new.self.slots.items c.clear-then-at-len-3.new.self.pool) 0 (slice_set c.self.inside.heads.items c.args.at None)) c.self.inside.checks.pool c.clear.new.self.pool c.self.inside.names.pool c.clear-then-at-len.new.self.pool c.self.inside.changes.pool c.clear-then-at-len-2.new.self.pool c.self.inside.segs.pool c.clear-then-at-len-3.new.self.pool c.clear.ensures.spare c.clear-then-at-len.ensures.spare c.clear-then-at-len-2.ensures.spare c.clear-then-at-len-3.ensures.spare in
-    subst (λ (v : FacesView). KeepsSpares v (view_of (summaries_from (four_in c.clear.new.self.slots.items c.clear.new.self.pool c.clear-then-at-len.new.self.slots.items c.clear-then-at-len.new.self.pool c.clear-then-at-len-2.new.self.slots.items c.clear-then-at-len-2.new.self.pool c.clear-then-at-len-3.new.self.slots.items c.clear-then-at-len-3.new.self.pool) 0 (slice_set c.self.inside.heads.items c.args.at None)) c.clear.new.self.pool c.clear-then-at-len.new.self.pool c.clear-then-at-len-2.new.self.pool c.clear-then-at-len-3.new.self.pool)) c.self.view_is all
+pub returns-in-Some-clause-spares : goal.returns-in-Some-clause-spares
+returns-in-Some-clause-spares c =
+    subst (λ (v : FacesView). KeepsSpares v (table_view (slice_set c.self.inside.entries.items c.args.at c.take.new.self) c.give.new.self)) c.self.view_is
+    (keeps_spares c.self.inside.entries.items (slice_set c.self.inside.entries.items c.args.at c.take.new.self) c.self.inside.pools c.give.new.self
+    (λ list class. no_fewer (spare_of (pool_in list c.self.inside.pools)) (spare_of (pool_in list c.give.new.self)) (class_in list c.in-Some.entry) class (c.give.ensures.spare list)))
 
-pub returns-else-at-len-clause-faces : goal.returns-else-at-len-clause-faces
-returns-else-at-len-clause-faces c =
-    let faces : summaries_from (four_in c.self.inside.checks.slots.items c.self.inside.checks.pool c.self.inside.names.slots.items c.self.inside.names.pool c.self.inside.changes.slots.items c.self.inside.changes.pool c.self.inside.segs.slots.items c.self.inside.segs.pool) 0 c.self.inside.heads.items ≡ c.args.self.now.faces = ap (λ (v : FacesView). v.faces) c.self.view_is in
-    let short : length c.self.inside.heads.items ≤ c.args.at = grind (arith, common_steps) in
-    set_past c.args.self.now.faces c.args.at None (omega (arith, short, ap length faces, length_summaries (four_in c.self.inside.checks.slots.items c.self.inside.checks.pool c.self.inside.names.slots.items c.self.inside.names.pool c.self.inside.changes.slots.items c.self.inside.changes.pool c.self.inside.segs.slots.items c.self.inside.segs.pool) 0 c.self.inside.heads.items))
+pub returns-in_default-clause-faces : goal.returns-in_default-clause-faces
+returns-in_default-clause-faces c =
+    map-set (option_map summary_in) c.self.inside.entries.items c.args.at c.take.new.self
+    ∙ (ap (λ (v : FacesView). slice_set v.faces c.args.at (option_map summary_in c.take.new.self)) c.self.view_is
+    ∙ ap (λ o. slice_set c.args.self.now.faces c.args.at (option_map summary_in o)) c.take.ensures.after)

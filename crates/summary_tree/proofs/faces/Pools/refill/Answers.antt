@@ -1,0 +1,30 @@
+use Rattle.summary_tree.specs.declared.faces.FaceList.TheVariants.{Checks, Names, Changes, Segs}
+use Rattle.summary_tree.proofs.FaceTables.{packed_as}
+use Rattle.summary_tree.proofs.faces.Pools.refill.Goals as goal
+
+pub refill-requires-clause-spare : goal.refill-requires-clause-spare
+refill-requires-clause-spare c = c.requires.spare Checks
+
+pub refill-requires-clause-of_pool : goal.refill-requires-clause-of_pool
+refill-requires-clause-of_pool c = c.requires.of_pools Checks
+
+pub refill-requires-2-clause-spare : goal.refill-requires-2-clause-spare
+refill-requires-2-clause-spare c = c.requires.spare Names
+
+pub refill-requires-2-clause-of_pool : goal.refill-requires-2-clause-of_pool
+refill-requires-2-clause-of_pool c = c.requires.of_pools Names
+
+pub refill-requires-3-clause-spare : goal.refill-requires-3-clause-spare
+refill-requires-3-clause-spare c = c.requires.spare Changes
+
+pub refill-requires-3-clause-of_pool : goal.refill-requires-3-clause-of_pool
+refill-requires-3-clause-of_pool c = c.requires.of_pools Changes
+
+pub refill-requires-4-clause-spare : goal.refill-requires-4-clause-spare
+refill-requires-4-clause-spare c = c.requires.spare Segs
+
+pub refill-requires-4-clause-of_pool : goal.refill-requires-4-clause-of_pool
+refill-requires-4-clause-of_pool c = c.requires.of_pools Segs
+
+pub returns-clause-packed : goal.returns-clause-packed
+returns-clause-packed c = packed_as _ c.args.face.now c.refill.ensures.here c.refill-2.ensures.here c.refill-3.ensures.here c.refill-4.ensures.here c.requires.packed
