@@ -1,3 +1,4 @@
+mod Cuts
 pub mod Faces
 pub mod LineRanges
 pub mod Lots

@@ -1,3 +1,4 @@
+pub mod Cuts
 pub mod Faces
 pub mod Pieces
 pub mod Texts

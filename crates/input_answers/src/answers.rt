@@ -14,11 +14,12 @@ use crate::outcome::Status;
 use crate::passes::{passes_by_lines, passes_in_one_pass};
 use crate::plan::Plan;
 use crate::text_pass::text_in_one_pass;
+use check_workers::cut_lines;
 use command_words::Command;
 use knit_base::{Lines, NoMemory};
 use knitout_reader::HeadFault;
 use knitout_writer::canonical_text;
-use line_cutter::{CutFault, cut_buffer};
+use line_cutter::CutFault;
 use std::alloc::Global;
 use std::thread::Threads;
 use verdict_report::Refusal;
@@ -82,7 +83,7 @@ pub fn answer_by_lines<R: Threads + Sync>(
     requires reads { reads_file plan.now.command ≡ true }
     ensures { IfOk result (λ ending. Due plan.now.command plan.now.chosen input.items ending.text.items ending.status) }
 {
-    match cut_buffer(alloc, input) {
+    match cut_lines(rt, alloc, input) {
         Ok(lines) => answer_lines(rt, alloc, plan, lines),
         Err(fault) => Ending::refusal(alloc, refusal_of_lines(fault)?, Status::BadInput),
     }

@@ -1,95 +1,107 @@
 -- Line after line of a text.
 use Rattle.std.proofs.Common.{◌≡◌, ◌≢◌, ℕ, ◌+◌, ◌-◌, ◌<◌, ◌≤◌, true, false, List, [], ◌∷◌, ◌++◌, length, take, drop, get_or, map, All, ap, sym, subst, ◌∙◌, refl, arith, length-drop, length-append, append_assoc, append-nil}
-use Rattle.std.specs.List.{count_by, position_or_len, before_first, after_first}
+use Rattle.std.specs.List.{position_or_len, before_first, after_first}
 use Rattle.std.proofs.lemmas.List.{take_all, drop_all, drop-drop, map-append, length-map, length-take, get_or-take, take-take}
 use Rattle.std.proofs.lemmas.List.Sums.{fails_before_first}
-use Rattle.std.proofs.lemmas.List.Elements.{All-push}
+use Rattle.std.proofs.lemmas.List.Elements.{All-append, All-push}
 use Rattle.knit_base.specs.declared.lines.Span.{Span}
 use Rattle.knit_base.specs.Lines.{HasNoLineEnd, IsLine, IsWithin, is_line_feed, lines_of, piece, without_return}
 use Rattle.line_cutter.specs.declared.line.Found.{Found}
 use Rattle.line_cutter.specs.declared.fault.CutFault.{CutFault}
 use Rattle.line_cutter.specs.declared.fault.CutFault.TheVariants.{NotUtf8, LineLong, NoMemory}
-use Rattle.line_cutter.specs.Cut.{AreCut, IsFirstBad, IsGoodLine, IsNextLine, IsNextRefused, IsRefused}
-use Rattle.line_cutter.proofs.Pieces.{lines_few, lines_of-next}
-
--- the lines so far and those of what is left are the lines of the text
-pub record CutSoFar (text : List ℕ) (spans : List Span) (start : ℕ) : Type 0 where
-  pub few : length spans ≤ start
-  pub fit : length spans ≤ length text
-  pub within : All (IsWithin text) spans
-  pub lines : All IsLine (map (piece text) spans)
-  pub so_far : map (piece text) spans ++ lines_of (drop start text) ≡ lines_of text
-  pub good : All IsGoodLine (map (piece text) spans)
+use Rattle.line_cutter.specs.Cut.{IsFirstBad, IsFirstBadLine, IsGoodLine, IsNextLine, IsNextRefused, IsRefused, IsStretch}
+use Rattle.line_cutter.proofs.Pieces.{lines_of-next}
 
 -- one more line
-pub cut_more : (text : List ℕ) (spans more : List Span) (start : ℕ) (found : Found) → CutSoFar text spans start → start < length text
-    → IsNextLine text start found → more ≡ spans ++ found.line ∷ [] → CutSoFar text more found.next
-cut_more text spans more start found so_far some next pushed =
+pub cut_more : (text : List ℕ) (spans more : List Span) (start next : ℕ) (found : Found) → IsStretch text start spans next → next < length text
+    → IsNextLine text next found → more ≡ spans ++ found.line ∷ [] → IsStretch text start more found.next
+cut_more text spans more start next found so_far some here pushed =
     let grown : map (piece text) more ≡ map (piece text) spans ++ piece text found.line ∷ [] = ap (map (piece text)) pushed ∙ map-append (piece text) spans (found.line ∷ []) in
-    let line : IsLine (piece text found.line) = record { utf8 = next.good.utf8; one = next.one; short = omega (arith, next.good.short) } in
+    let line : IsLine (piece text found.line) = record { utf8 = here.good.utf8; one = here.one; short = omega (arith, here.good.short) } in
     let count : length more ≡ length spans + 1 = ap length pushed ∙ length-append spans (found.line ∷ []) in
     record {
-      few = omega (arith, so_far.few, next.further, count);
-      fit = omega (arith, so_far.few, count);
-      within = subst (All (IsWithin text)) (sym pushed) (All-push (IsWithin text) spans found.line so_far.within next.within);
-      lines = subst (All IsLine) (sym grown) (All-push IsLine (map (piece text) spans) (piece text found.line) so_far.lines line);
-      so_far = ap (λ l. l ++ lines_of (drop found.next text)) grown
+      lines_are = ap (λ l. l ++ lines_of (drop found.next text)) grown
           ∙ append_assoc (map (piece text) spans) (piece text found.line ∷ []) (lines_of (drop found.next text))
-          ∙ ap (λ l. map (piece text) spans ++ l) (sym next.first) ∙ so_far.so_far;
-      good = subst (All IsGoodLine) (sym grown) (All-push IsGoodLine (map (piece text) spans) (piece text found.line) so_far.good next.good);
+          ∙ ap (λ l. map (piece text) spans ++ l) (sym here.first) ∙ so_far.lines_are;
+      good = subst (All IsGoodLine) (sym grown) (All-push IsGoodLine (map (piece text) spans) (piece text found.line) so_far.good here.good);
+      within = subst (All (IsWithin text)) (sym pushed) (All-push (IsWithin text) spans found.line so_far.within here.within);
+      lines = subst (All IsLine) (sym grown) (All-push IsLine (map (piece text) spans) (piece text found.line) so_far.lines line);
+      few = omega (arith, so_far.few, here.further, count);
+      fit = omega (arith, so_far.few, count);
     }
 
--- so there is room for one more, where there was room for a line more than line feeds
-pub cut_few : (text : List ℕ) (spans : List Span) (start : ℕ) (found : Found) → CutSoFar text spans start → IsNextLine text start found
-    → length spans < count_by is_line_feed text + 1
-cut_few text spans start found so_far next =
-    omega
-    (arith, lines_few text, ap length so_far.so_far, length-append (map (piece text) spans) (lines_of (drop start text)), length-map spans (piece text), ap length next.first)
-
 -- nothing is cut yet
-pub cut_none : (text : List ℕ) → CutSoFar text [] 0
-cut_none text = record {
-  few = omega arith;
-  fit = omega arith;
+pub cut_none : (text : List ℕ) (start : ℕ) → start ≤ length text → IsStretch text start [] start
+cut_none text start inside = record {
+  lines_are = refl;
+  good = λ k d below. absurd (omega arith);
   within = λ k d below. absurd (omega arith);
   lines = λ k d below. absurd (omega arith);
-  so_far = refl;
-  good = λ k d below. absurd (omega arith);
+  few = omega arith;
+  fit = omega arith;
 }
 
 -- nothing is left
-pub cut_all : (text : List ℕ) (spans : List Span) (start : ℕ) → CutSoFar text spans start → length text ≤ start → length text ≤ 16777216 → AreCut text spans
-cut_all text spans start so_far past room =
-    let all : map (piece text) spans ≡ lines_of text =
-    sym (append-nil (map (piece text) spans)) ∙ ap (λ rest. map (piece text) spans ++ lines_of rest) (sym (drop_all start text past)) ∙ so_far.so_far in
+pub cut_all : (text : List ℕ) (spans : List Span) (start next : ℕ) → IsStretch text start spans next → length text ≤ next → map (piece text) spans ≡ lines_of (drop start text)
+cut_all text spans start next all past =
+    sym (append-nil (map (piece text) spans)) ∙ ap (λ rest. map (piece text) spans ++ lines_of rest) (sym (drop_all next text past)) ∙ all.lines_are
+
+-- the lines of a stretch, and those of the one behind it
+pub cut_both : (text : List ℕ) (first second : List Span) (start middle next : ℕ) → IsStretch text start first middle → IsStretch text middle second next
+    → IsStretch text start (first ++ second) next
+cut_both text first second start middle next front back =
+    let both : map (piece text) (first ++ second) ≡ map (piece text) first ++ map (piece text) second = map-append (piece text) first second in
+    let count : length (first ++ second) ≡ length first + length second = length-append first second in
     record {
-      are_lines = record { few = omega (arith, so_far.fit); within = so_far.within; lines = so_far.lines };
-      all_lines = all;
-      good = subst (All IsGoodLine) all so_far.good;
+      lines_are = ap (λ l. l ++ lines_of (drop next text)) both
+          ∙ append_assoc (map (piece text) first) (map (piece text) second) (lines_of (drop next text))
+          ∙ ap (λ l. map (piece text) first ++ l) back.lines_are ∙ front.lines_are;
+      good = subst (All IsGoodLine) (sym both) (All-append IsGoodLine (map (piece text) first) (map (piece text) second) front.good back.good);
+      within = All-append (IsWithin text) first second front.within back.within;
+      lines = subst (All IsLine) (sym both) (All-append IsLine (map (piece text) first) (map (piece text) second) front.lines back.lines);
+      few = omega (arith, front.few, back.few, count);
+      fit = omega (arith, front.few, back.fit, count);
     }
 
 -- the next line is refused, so it is the first bad one
-pub bad_found : (text : List ℕ) (spans : List Span) (start number : ℕ) (fault : CutFault) → CutSoFar text spans start → number ≡ length spans + 1
-    → IsNextRefused text start number fault → IsFirstBad (lines_of text) fault
-bad_found text spans start number (NotUtf8 named) so_far count next = record {
+pub bad_found : (text : List ℕ) (spans : List Span) (start next number : ℕ) (fault : CutFault) → IsStretch text start spans next → number ≡ length spans + 1
+    → IsNextRefused text next number fault → IsFirstBad (lines_of (drop start text)) fault
+bad_found text spans start next number (NotUtf8 named) so_far count here = record {
   before = map (piece text) spans;
-  bad = next.line;
-  after = next.later;
-  lines_are = sym so_far.so_far ∙ ap (λ l. map (piece text) spans ++ l) next.first;
-  counted = next.refused.0 ∙ count ∙ ap (λ n. n + 1) (sym (length-map spans (piece text)));
+  bad = here.line;
+  after = here.later;
+  lines_are = sym so_far.lines_are ∙ ap (λ l. map (piece text) spans ++ l) here.first;
+  counted = here.refused.0 ∙ count ∙ ap (λ n. n + 1) (sym (length-map spans (piece text)));
   good_before = so_far.good;
-  is_bad = next.refused.1;
+  is_bad = here.refused.1;
 }
-bad_found text spans start number (LineLong named) so_far count next = record {
+bad_found text spans start next number (LineLong named) so_far count here = record {
   before = map (piece text) spans;
-  bad = next.line;
-  after = next.later;
-  lines_are = sym so_far.so_far ∙ ap (λ l. map (piece text) spans ++ l) next.first;
-  counted = next.refused.0 ∙ count ∙ ap (λ n. n + 1) (sym (length-map spans (piece text)));
+  bad = here.line;
+  after = here.later;
+  lines_are = sym so_far.lines_are ∙ ap (λ l. map (piece text) spans ++ l) here.first;
+  counted = here.refused.0 ∙ count ∙ ap (λ n. n + 1) (sym (length-map spans (piece text)));
   good_before = so_far.good;
-  is_bad = next.refused.1;
+  is_bad = here.refused.1;
 }
-bad_found text spans start number NoMemory so_far count next = absurd next.refused
+bad_found text spans start next number NoMemory so_far count here = absurd here.refused
+
+-- the first bad line, with good lines before those that were counted
+pub bad_behind : (IsBad : List ℕ → Type 0) (front lines : List (List ℕ)) (number named : ℕ) → All IsGoodLine front → named ≡ number + length front
+    → IsFirstBadLine IsBad lines number → IsFirstBadLine IsBad (front ++ lines) named
+bad_behind IsBad front lines number named good is here = record {
+  before = front ++ here.before;
+  bad = here.bad;
+  after = here.after;
+  lines_are = ap (λ l. front ++ l) here.lines_are ∙ sym (append_assoc front here.before (here.bad ∷ here.after));
+  counted = omega (arith, is, here.counted, length-append front here.before);
+  good_before = All-append IsGoodLine front here.before good here.good_before;
+  is_bad = here.is_bad;
+}
+
+-- its number is one of a line
+pub bad_within : (IsBad : List ℕ → Type 0) (lines : List (List ℕ)) (number : ℕ) → IsFirstBadLine IsBad lines number → number ≤ length lines
+bad_within IsBad lines number here = omega (arith, here.counted, ap length here.lines_are, length-append here.before (here.bad ∷ here.after))
 
 is_no_feed : (byte : ℕ) → is_line_feed byte ≡ false → byte ≢ 10
 is_no_feed byte fails same =

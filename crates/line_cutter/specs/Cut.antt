@@ -2,7 +2,7 @@
 use Rattle.std.specs.Prelude.{◌≡◌, ℕ, ◌+◌, ◌<◌, ◌≤◌, true, false, List, ◌∷◌, ◌++◌, length, take, drop, map, All}
 use Rattle.std.specs.Str.{is_utf8}
 use Rattle.knit_base.specs.declared.lines.Span.{Span}
-use Rattle.knit_base.specs.Lines.{AreLines, HasNoLineEnd, IsWithin, lines_of, piece}
+use Rattle.knit_base.specs.Lines.{HasNoLineEnd, IsLine, IsWithin, lines_of, piece}
 use Rattle.line_cutter.specs.declared.line.TheConstants.{LINE_LIMIT}
 use Rattle.line_cutter.specs.declared.fault.CutFault.{CutFault}
 use Rattle.line_cutter.specs.declared.fault.CutFault.TheVariants.{NotUtf8, LineLong, NoMemory}
@@ -38,11 +38,14 @@ IsFirstBad lines (NotUtf8 number) = IsFirstBadLine IsNotUtf8 lines number
 IsFirstBad lines (LineLong number) = IsFirstBadLine IsLong lines number
 IsFirstBad lines NoMemory = Unit {0}
 
--- the spans are the lines of the text, all of them good
-pub record AreCut (text : List ℕ) (spans : List Span) : Type 0 where
-  pub are_lines : AreLines text spans
-  pub all_lines : map (piece text) spans ≡ lines_of text
-  pub good : All IsGoodLine (lines_of text)
+-- good lines that follow one another: they, and behind them the lines of the text from the next place on, are its lines from this place on
+pub record IsStretch (text : List ℕ) (start : ℕ) (spans : List Span) (next : ℕ) : Type 0 where
+  pub lines_are : map (piece text) spans ++ lines_of (drop next text) ≡ lines_of (drop start text)
+  pub good : All IsGoodLine (map (piece text) spans)
+  pub within : All (IsWithin text) spans
+  pub lines : All IsLine (map (piece text) spans)
+  pub few : start + length spans ≤ next
+  pub fit : start + length spans ≤ length text
 
 -- the refusal names this line and what is wrong with it
 abbrev pub IsRefused : List ℕ → ℕ → CutFault → Type 0

@@ -1,12 +1,11 @@
 //! All lines of a text.
-ghost use Rattle.std.specs.Prelude.{◌≡◌, ◌<◌, ◌≤◌, length, All, IfOk, IfErr};
+ghost use Rattle.std.specs.Prelude.{◌≡◌, ◌≤◌, length, All, IfOk, IfErr};
 ghost use Rattle.knit_base.specs.Lines.{lines_of};
-ghost use Rattle.line_cutter.specs.Cut.{AreCut, IsFirstBad, IsGoodLine};
+ghost use Rattle.line_cutter.specs.Cut.{IsFirstBad, IsGoodLine};
 
 use crate::CutFault;
-use crate::counter::line_feeds;
-use crate::line::next_line;
-use knit_base::{Lines, Span};
+use crate::stretch::cut_stretch;
+use knit_base::Lines;
 use std::alloc::Global;
 
 /// The lines of the bytes, which stay where they are, 16 MiB at most.
@@ -20,8 +19,8 @@ pub fn cut_buffer(alloc: Global, bytes: Vec<u8>) -> Result<Lines, CutFault>
     ensures good { IfOk result (All IsGoodLine) }
     ensures fault { IfErr result (IsFirstBad (lines_of bytes.items)) }
 {
-    let spans = cut_spans(alloc, &bytes)?;
-    Ok(Lines::in_buffer(bytes, spans))
+    let stretch = cut_stretch(alloc, &bytes, 0, bytes.len(), bytes.is_ascii())?;
+    Ok(stretch.lines_in(bytes))
 }
 
 /// The lines of a copy of the bytes, for callers that keep their own. Limits and refusals are those of `cut_buffer`; memory is
@@ -35,21 +34,4 @@ pub fn cut(alloc: Global, bytes: &[u8]) -> Result<Lines, CutFault>
     let mut copy = Vec::with_capacity(alloc, bytes.len())?;
     copy.extend_from_slice(bytes)?;
     cut_buffer(alloc, copy)
-}
-
-// The places of the lines.
-fn cut_spans(alloc: Global, text: &[u8]) -> Result<Vec<Span>, CutFault>
-    requires { length text.now ≤ 16777216 }
-    ensures ok { IfOk result (λ spans. AreCut text.now spans.items) }
-    ensures err { IfErr result (IsFirstBad (lines_of text.now)) }
-{
-    let is_ascii = text.is_ascii();
-    let mut spans = Vec::with_capacity(alloc, line_feeds(text) + 1)?;
-    let mut start = 0;
-    'cutting: while start < text.len() {
-        let found = next_line(text, start, spans.len() as u32 + 1, is_ascii)?;
-        spans.push_reserved(found.line);
-        start = found.next;
-    }
-    Ok(spans)
 }
