@@ -1,8 +1,8 @@
 -- Where lines lie.
 use Rattle.std.specs.Prelude.{ℕ, List, map, slice_range}
 use Rattle.std.specs.Arc.{arc_value}
-use Rattle.knit_base.specs.declared.cut.Held.{Held}
-use Rattle.knit_base.specs.declared.cut.Held.TheVariants.{Own, Shared}
+use Rattle.knit_base.specs.declared.held.Held.{Held}
+use Rattle.knit_base.specs.declared.held.Held.TheVariants.{Own, Shared}
 use Rattle.knit_base.specs.declared.cut.Part.{Part}
 use Rattle.knit_base.specs.declared.lines.Span.{Span}
 use Rattle.knit_base.specs.Lines.{behind_first}

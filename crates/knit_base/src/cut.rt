@@ -1,4 +1,4 @@
-//! Where lines lie: in a buffer of their own, or in one that several lists of lines share.
+//! Lines in a buffer, and some of those that several lists share.
 ghost use Rattle.std.specs.Arc.{arc_value};
 ghost use Rattle.knit_base.specs.Lines.{IsPart};
 
@@ -21,11 +21,4 @@ pub(crate) struct Part {
     pub end: u32,
     pub skipped: u32,
     ghost part: { IsPart (arc_value cut).spans.items start end skipped },
-}
-
-/// Where the lines of a list lie.
-#[derive(Drop)]
-pub(crate) enum Held {
-    Own(Cut),
-    Shared(Part),
 }

@@ -1,14 +1,30 @@
-//! What is asked of where lines lie.
+//! Where lines lie: in a buffer of their own, or in one that several lists of lines share.
 ghost use Rattle.std.specs.Prelude.{◌≡◌, ◌≤◌, ◌<◌, ◌^◌, ◌++◌, [], ◌∷◌, All, length, map, IfOk, OnErr, OnOk, slice_get, slice_range};
 ghost use Rattle.knit_base.specs.Held.{bytes_in, bytes_of_part, spans_in, spans_of_part};
 ghost use Rattle.knit_base.specs.Lines.{AreCopied, HasBytes, IsWithin, behind_first, last_span};
 
 use crate::NoMemory;
 use crate::copies::{append_piece, behind_each_first, behind_first, copy_pieces};
-use crate::cut::{Cut, Held, Part};
+use crate::cut::{Cut, Part};
 use crate::lines::Span;
 use std::alloc::Global;
 use std::sync::Arc;
+
+/// Where the lines of a list lie.
+pub(crate) enum Held {
+    Own(Cut),
+    Shared(Part),
+}
+
+// A call, so that a proof about who drops lines needn't ask how they are held.
+impl Drop for Held {
+    fn drop(self) {
+        match self {
+            Held::Own(cut) => drop(cut),
+            Held::Shared(part) => drop(part),
+        }
+    }
+}
 
 impl Cut {
     // Puts a line behind the others.

@@ -5,7 +5,8 @@ ghost use Rattle.knit_base.specs.Held.{bytes_in, spans_in};
 ghost use Rattle.knit_base.specs.Lines.{HasNoLineEnd, IsLine, IsWithin, MayLoseFirst, piece};
 
 use crate::NoMemory;
-use crate::cut::{Cut, Held};
+use crate::cut::Cut;
+use crate::held::Held;
 use std::alloc::Global;
 use std::marker::Model;
 

@@ -5,7 +5,7 @@ use Rattle.knit_base.specs.declared.lines.Span.{Span}
 use Rattle.knit_base.specs.Held.{bytes_in, bytes_of_part, spans_in, spans_of_part}
 use Rattle.knit_base.specs.Lines.{AreCopied, IsWithin, behind_first}
 use Rattle.knit_base.proofs.Copied.{kept_bytes}
-use Rattle.knit_base.proofs.cut.Held.range.Goals as goal
+use Rattle.knit_base.proofs.held.Held.range.Goals as goal
 
 pub returns-in_ok-range-in-Shared : goal.returns-in_ok-range-in-Shared
 returns-in_ok-range-in-Shared c =

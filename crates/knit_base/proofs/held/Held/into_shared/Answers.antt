@@ -6,7 +6,7 @@ use Rattle.knit_base.specs.Held.{bytes_in, spans_in}
 use Rattle.knit_base.specs.Lines.{IsPart, IsWithin, behind_first}
 use Rattle.knit_base.proofs.Copied.{have_none}
 use Rattle.knit_base.proofs.Shares.{whole_spans}
-use Rattle.knit_base.proofs.cut.Held.into_shared.Goals as goal
+use Rattle.knit_base.proofs.held.Held.into_shared.Goals as goal
 
 pub invariant_of-result : goal.invariant_of-result
 invariant_of-result c =
