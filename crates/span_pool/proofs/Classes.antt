@@ -25,7 +25,3 @@ class_above len power low high more = record {
 -- a length has one class
 pub class_is : (len a b : ℕ) → IsClassOf len a → IsClassOf len b → a ≡ b
 class_is len a b p q = omega (arith, p.least b q.fits, q.least a p.fits)
-
--- and there are few classes
-pub class_small : (len class : ℕ) → IsClassOf len class → len ≤ 2 ^ 62 → class < 64
-class_small len class p h = omega (arith, p.least 62 h)

@@ -1,7 +1,6 @@
 -- What a change of one shelf is to the pool.
-use Rattle.std.proofs.Common.{◌≡◌, ℕ, ◌^◌, ◌<◌, ◌≤◌, [], sym, ◌∙◌, ap, subst, arith, inl, inr, ◌∷◌, ◌++◌, length, length-append}
-use Rattle.std.proofs.Math.Seq.{get_or-append_seam}
-use Rattle.std.proofs.lemmas.List.{get_or_append_left, set-get_or, get_or_past, get_or_default, get_or-set_same, get_or-set_other}
+use Rattle.std.proofs.Common.{◌≡◌, ℕ, ◌<◌, ◌≤◌, sym, ◌∙◌, ap, arith, inl, inr, length}
+use Rattle.std.proofs.lemmas.List.{get_or_past, get_or_default, get_or-set_same, get_or-set_other}
 use Rattle.std.proofs.lemmas.Bool.{cases_lt}
 use Rattle.std.proofs.lemmas.Bool.Decides.{eqb_tells}
 use Rattle.std.specs.Prelude.{slice_set, slice_index_or}
@@ -66,22 +65,6 @@ same_out {old} {new} {class} {before} {after} put same k = elim (eqb_tells k cla
   | inl w ↦ ap (out_of new) w.1 ∙ (put.has_out ∙ (same ∙ (sym put.had_out ∙ ap (out_of old) (sym w.1))))
   | inr w ↦ put.other_out k w.1
 ]
-
--- a shelf that is put back as it was
-pub same_pool : (shelves pool : PoolView) (class : ℕ) (before after : ShelfView) → shelves ≡ pool → before ≡ shelf_of shelves class → after ≡ before → slice_set shelves class after ≡ pool
-same_pool shelves pool class before after view here same = ap (slice_set shelves class) (same ∙ here) ∙ set-get_or shelves class bare ∙ view
-
--- shelves without spans, and one more
-pub bare_pushed : (shelves : PoolView) (shelf : ShelfView) (class : ℕ) → AreBare shelves → length shelves ≡ class → shelf ≡ record { spare = 0; out = 0; room = 2 ^ class } → AreBare (shelves ++ shelf ∷ [])
-bare_pushed shelves shelf class are count is = λ k below.
-    elim (cases_lt k (length shelves)) [
-      | inl w ↦ get_or_append_left shelves (shelf ∷ []) bare k w ∙ are k w
-      | inr w ↦
-          let last : length shelves ≡ k = omega (arith, length-append shelves (shelf ∷ []), below) in
-          let P : ℕ → Type 0 = λ n. shelf_of (shelves ++ shelf ∷ []) n ≡ record { spare = 0; out = 0; room = 2 ^ n } in
-          let seam : P (length shelves) = get_or-append_seam shelves shelf [] bare ∙ is ∙ ap (λ n. record { spare = 0; out = 0; room = 2 ^ n }) (sym count) in
-          subst P last seam
-    ]
 
 shelf_bare : (shelves : PoolView) (class : ℕ) → AreBare shelves → ((shelf_of shelves class).spare ≡ 0) × ((shelf_of shelves class).out ≡ 0)
 shelf_bare shelves class are = elim (cases_lt class (length shelves)) [

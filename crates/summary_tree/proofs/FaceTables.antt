@@ -141,9 +141,3 @@ same_table entries others old new table same spans out = record {
   packed = λ at e is. table.packed at e (sym (same at) ∙ is);
   out = λ list class. omega (arith, table.out list class, spans list class, out list class);
 }
-
--- a write behind the end changes nothing
-pub set_past : {X : Type 0} (xs : List X) (k : ℕ) (x : X) → length xs ≤ k → xs ≡ slice_set xs k x
-set_past [] k x h = refl
-set_past (y ∷ ys) zero x h = absurd (omega arith)
-set_past (y ∷ ys) (suc k) x h = ap (λ v. y ∷ v) (set_past ys k x (omega arith))
