@@ -130,7 +130,7 @@ fn put_counted<L: Ledger, R: Threads>(
     Ok(Folded { face, scratch })
 }
 
-// One lot. The steps are counted by nobody.
+// One lot, with a setting of its own: what a thread reads for each line shouldn't lie beside what another writes. The steps are counted by nobody.
 fn fold_lot<R: Threads>(
     rt: &R,
     alloc: Global,
@@ -143,7 +143,8 @@ fn fold_lot<R: Threads>(
     requires { CanFold setting.now.profile lines.now start end size }
     ensures { IfOk result (λ folded. IsFaceOf setting.now.profile setting.now.declared (slice_range lines.now start end) folded.face) }
 {
-    fold_in_turn::<Brand, R>(rt, Blank::new(1), alloc, lines, start, end, size, setting)
+    let own = setting.try_clone()?;
+    fold_in_turn::<Brand, R>(rt, Blank::new(1), alloc, lines, start, end, size, &own)
 }
 
 // One block after the other, in one draft and one scratch.
