@@ -1,4 +1,4 @@
-use Rattle.std.proofs.Common.{◌≡◌, ◌+◌, ◌-◌, ◌++◌, [], ap, arith, get_or, length, ◌∙◌}
+use Rattle.std.proofs.Common.{◌≡◌, ◌+◌, ◌-◌, ◌++◌, [], ap, append-nil, arith, get_or, length, sym, ◌∙◌}
 use Rattle.std.proofs.lemmas.List.FromFn.{length-map-range_with_len}
 use Rattle.knit_maker.specs.Made.{file_of, rows_after, transfer_line}
 use Rattle.knit_maker.proofs.MadeFileTexts.{row_appended}
@@ -23,3 +23,8 @@ loop-row-preserved c =
           (line ∙ ap transfer_line c.picked.ensures.value) c.in_ok-append_line.ensures c.loop-row.invariant.text;
       drawn = c.drawn_after-drawn.ensures.small;
     }
+
+pub returns : goal.returns
+returns c =
+    let none : c.args.rows - c.loop-row.row ≡ 0 = omega (arith, c.loop-row-test.false) in
+    sym (append-nil c.loop-row.text.items) ∙ ap (λ n. c.loop-row.text.items ++ file_of (rows_after c.args.width c.loop-row.drawn n)) (sym none) ∙ c.loop-row.invariant.text
