@@ -4,13 +4,16 @@ ghost use Rattle.face_data.specs.View.{IsPacked};
 ghost use Rattle.summary_compose.specs.Known.{AreGood};
 
 use carriage_model::{Brief, Verdict};
-use face_data::{Change, Check, Cond, Effect, Ending, FaceView, Part, Seg, brief_of, verdict_of};
+use face_data::{
+    Change, Check, Cond, Effect, Ending, Face, FaceView, Part, Seg, brief_of, verdict_of,
+};
 use knit_base::{Bed, Fault, Needle, Quarter, Reason, Rule, Steps};
+use std::alloc::Global;
 use std::marker::Brand;
 use std::sync::ledger::{Blank, Ledger};
 use std::test::Fail;
 use std::thread::Threads;
-use summary_compose::{Scratch, compose_into, room_for};
+use summary_compose::compose;
 
 const STAYS: Effect = Effect {
     rack: None,
@@ -58,125 +61,99 @@ const HAS_ROOM: Check = Check {
     cond: Cond::SizeAtMost(BOTH, 16),
 };
 
-fn compose<L: Ledger, R: Threads>(
-    rt: &R,
-    blank: Blank,
-    first: &FaceView,
-    second: &FaceView,
-    scratch: &mut Scratch,
-) -> Result<(), Fail>
-    requires name { (blank.name ≡ L.name) × (blank.parts ≡ L.parts) × (0 < L.parts) }
-    requires good { AreGood first.now second.now }
-    requires packed { IsPacked first.now }
-    requires second_packed { IsPacked second.now }
-    requires lines { first.now.lines + second.now.lines < 2 ^ 32 }
-{
-    let mut steps = Steps::<L>::start(rt, blank);
-    scratch.reserve(&room_for(first, second))?;
-    compose_into(first, second, scratch, &mut steps);
-    Ok(())
-}
-
 // `xfer f1 b1`
-#[test]
-fn a_transfer_on_empty_beds_is_sound(rt: HostRuntime) -> Result<(), Fail> {
-    let checks = [
+const FIRST: FaceView = FaceView {
+    lines: 1,
+    made: 0,
+    checks: &[
         Check {
             fault: NOT_ALIGNED,
             cond: Cond::RackIs(Quarter(0)),
         },
         HAS_ROOM,
-    ];
-    let face = FaceView {
-        lines: 1,
-        made: 0,
-        checks: &checks,
-        names: &[BACK_1, FRONT_1],
-        changes: &[
-            Change {
-                needle: FRONT_1,
-                part: NONE,
-            },
-            Change {
-                needle: BACK_1,
-                part: BOTH,
-            },
-        ],
-        segs: &[Seg::Entry(BACK_1), Seg::Entry(FRONT_1)],
-        ending: Ending::Through(STAYS),
-    };
+    ],
+    names: &[BACK_1, FRONT_1],
+    changes: &[
+        Change {
+            needle: FRONT_1,
+            part: NONE,
+        },
+        Change {
+            needle: BACK_1,
+            part: BOTH,
+        },
+    ],
+    segs: &[Seg::Entry(BACK_1), Seg::Entry(FRONT_1)],
+    ending: Ending::Through(STAYS),
+};
+
+// `xfer f2 b1`, which wants another rack
+const SECOND: FaceView = FaceView {
+    checks: &[
+        Check {
+            fault: NOT_ALIGNED,
+            cond: Cond::RackIs(Quarter(4)),
+        },
+        HAS_ROOM,
+    ],
+    names: &[BACK_1, FRONT_2],
+    changes: &[
+        Change {
+            needle: FRONT_2,
+            part: NONE,
+        },
+        Change {
+            needle: BACK_1,
+            part: BOTH,
+        },
+    ],
+    segs: &[Seg::Entry(BACK_1), Seg::Entry(FRONT_2)],
+    ..FIRST
+};
+
+// What both make, one after the other.
+fn both<L: Ledger, R: Threads>(
+    rt: &R,
+    alloc: Global,
+    blank: Blank,
+    first: &FaceView,
+    second: &FaceView,
+) -> Result<Face, Fail>
+    requires lines { first.now.lines + second.now.lines < 2 ^ 32 }
+    requires good { AreGood first.now second.now }
+    requires packed { IsPacked first.now }
+    requires second_packed { IsPacked second.now }
+    requires name { (blank.name ≡ L.name) × (blank.parts ≡ L.parts) × (0 < L.parts) }
+{
+    let mut steps = Steps::<L>::start(rt, blank);
+    Ok(compose(alloc, first, second, &mut steps)?)
+}
+
+#[test]
+fn a_transfer_on_empty_beds_is_sound(rt: HostRuntime) -> Result<(), Fail> {
     let sound = Brief::Sound {
         lines: 1,
         made: 0,
         held: 0,
         rack: Quarter(0),
     };
-    assert_eq!(rt; brief_of(&face, 3), sound);
-    match verdict_of(rt.alloc(), &face, 3)? {
+    assert_eq!(rt; brief_of(&FIRST, 3), sound);
+    match verdict_of(rt.alloc(), &FIRST, 3)? {
         Verdict::Sound(last) => assert!(rt; last.stacks.is_empty()),
         Verdict::Broken(_) => assert!(rt; false),
     }
     Ok(())
 }
 
-// `xfer f1 b1` and then `xfer f2 b1`: they want different racks, so the second is known to break.
+// The two want different racks, so the second is known to break.
 #[test]
 fn two_transfers_to_one_needle(rt: HostRuntime) -> Result<(), Fail> {
-    let first_checks = [
-        Check {
-            fault: NOT_ALIGNED,
-            cond: Cond::RackIs(Quarter(0)),
-        },
-        HAS_ROOM,
-    ];
-    let first = FaceView {
-        lines: 1,
-        made: 0,
-        checks: &first_checks,
-        names: &[BACK_1, FRONT_1],
-        changes: &[
-            Change {
-                needle: FRONT_1,
-                part: NONE,
-            },
-            Change {
-                needle: BACK_1,
-                part: BOTH,
-            },
-        ],
-        segs: &[Seg::Entry(BACK_1), Seg::Entry(FRONT_1)],
-        ending: Ending::Through(STAYS),
-    };
-    let second_checks = [
-        Check {
-            fault: NOT_ALIGNED,
-            cond: Cond::RackIs(Quarter(4)),
-        },
-        HAS_ROOM,
-    ];
-    let second = FaceView {
-        checks: &second_checks,
-        names: &[BACK_1, FRONT_2],
-        changes: &[
-            Change {
-                needle: FRONT_2,
-                part: NONE,
-            },
-            Change {
-                needle: BACK_1,
-                part: BOTH,
-            },
-        ],
-        segs: &[Seg::Entry(BACK_1), Seg::Entry(FRONT_2)],
-        ..first
-    };
-    let mut scratch = Scratch::new(rt.alloc());
-    compose::<Brand, _>(&rt, Blank::new(1), &first, &second, &mut scratch)?;
-    let face = scratch.view();
+    let face = both::<Brand, _>(&rt, rt.alloc(), Blank::new(1), &FIRST, &SECOND)?;
+    let face = face.view();
     assert_eq!(rt; face.lines, 2);
     assert_eq!(rt; face.made, 0);
-    assert!(rt; face.checks == first_checks.as_slice());
-    assert!(rt; face.names == [BACK_1, FRONT_1].as_slice());
+    assert!(rt; face.checks == FIRST.checks);
+    assert!(rt; face.names == FIRST.names);
     assert!(rt; face.changes.is_empty());
     let stop = Fault {
         line: 1,

@@ -4,8 +4,8 @@ use Rattle.face_data.specs.Spots.{IsNumbered}
 use Rattle.summary_examples.proofs.Transfers.{front, back, transfer_good}
 use Rattle.summary_examples.proofs.tests.two_transfers_to_one_needle.Goals as goal
 
-pub compose-requires-clause-good : goal.compose-requires-clause-good
-compose-requires-clause-good t c = record {
+pub both-requires-clause-good : goal.both-requires-clause-good
+both-requires-clause-good t c = record {
   carriers = 0;
   limit = 16;
   first_known = front 1 ∷ back 1 ∷ [];
