@@ -38,10 +38,41 @@ pub fn fold_lines<R: Threads + Sync>(
     ensures { IfOk result (IsFaceOf setting.now.profile setting.now.declared (slice_range lines.now start end)) }
 {
     let lots = lot_count(rt, (end - start) as usize);
-    match fold_lots(rt, alloc, lots, lines, start, end, size, setting) {
+    let folded = if lots < 2 {
+        fold_lot(rt, alloc, lines, start, end, size, setting)
+    } else {
+        fold_apart(rt, alloc, lots, lines, start, end, size, setting)
+    };
+    match folded {
         Ok(folded) => Ok(folded.face),
         Err(NoMemory) => Err(NoMemory),
     }
+}
+
+// In so many lots at most, all of them in threads of their own. A thread that folds a lot and then lets go what another made is handed that memory again, which lies
+// beside the other's, and both are the slower for it.
+fn fold_apart<R: Threads + Sync>(
+    rt: &R,
+    alloc: Global,
+    lots: usize,
+    lines: &Lines,
+    start: u32,
+    end: u32,
+    size: u32,
+    setting: &Setting,
+) -> Result<Folded, NoMemory>
+    requires { CanFold setting.now.profile lines.now start end size }
+    ensures { IfOk result (λ folded. IsFaceOf setting.now.profile setting.now.declared (slice_range lines.now start end) folded.face) }
+{
+    let (folded, _) = join(
+        rt,
+        move || -> Result<Folded, NoMemory>
+            requires { IsSync R.row × CanFold setting.now.profile lines.now start end size }
+            ensures { IfOk result (λ folded. IsFaceOf setting.entry.now.profile setting.entry.now.declared (slice_range lines.entry.now start end) folded.face) }
+        { fold_lots(rt, alloc, lots, lines, start, end, size, setting) },
+        move || -> usize { lots },
+    );
+    folded
 }
 
 // The face of a lot, or of several, and where it was made.
