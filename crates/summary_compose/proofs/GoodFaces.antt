@@ -146,6 +146,7 @@ composable a b g pa pb sum =
       fit = pa.changes_fit;
       order = g.first.fair.in_order;
       second_fit = pb.changes_fit;
+      second_packed = record { fit = pb.changes_fit; whole = pb.segs };
       offsets = offsets_fit g.carriers g.limit g.second_known b a.lines g.second sum;
       few_segs = λ effect more first second goes_on.
           subst (λ cs. segs_in cs < 2 ^ 32) (merged_changes a b effect more first second goes_on)

@@ -1,6 +1,6 @@
 -- Conditions of a second face that a condition of the first at the same place implies.
 use Rattle.std.proofs.Common.{◌≡◌, ◌⊎◌, inl, inr, ℕ, ◌≤◌, ◌+◌, ◌<◌, Bool, true, false, List, [], ◌∷◌, ◌++◌, length, refl, sym, ap, ◌∙◌, subst, arith}
-use Rattle.std.specs.Prelude.{nat_le, ◌&&◌, ◌||◌}
+use Rattle.std.specs.Prelude.{nat_le, nat_lt, ◌-◌, ◌&&◌, ◌||◌, if◌then◌else◌}
 use Rattle.std.specs.List.{Contains, list_any}
 use Rattle.std.proofs.Math.Path.{ap₂}
 use Rattle.std.proofs.lemmas.Bool.{false≢true}
@@ -29,8 +29,8 @@ use Rattle.face_data.specs.Segments.{Changed, entries_of, names_through, new_of,
 use Rattle.face_data.specs.Summaries.{Asked, raised}
 use Rattle.face_data.proofs.Members.{Contains-cons_cases, Contains-none}
 use Rattle.summary_compose.specs.Changes.{changes_in}
-use Rattle.summary_compose.specs.Known.{AreAlike, AreGood, Knows, StepIs, checks_in, noted_answer, notes_in, notes_of}
-use Rattle.summary_compose.specs.Tables.{suits}
+use Rattle.summary_compose.specs.Known.{AreAlike, AreGood, Knows, StepIs, checks_in, noted_answer, noted_left, notes_in, notes_of}
+use Rattle.summary_compose.specs.Tables.{Note, suits}
 use Rattle.summary_compose.proofs.Readings.{check_at, reads_begin, reads_on}
 use Rattle.summary_compose.proofs.Answers.{plain_known}
 use Rattle.summary_compose.proofs.Steps.{noted_own}
@@ -47,7 +47,7 @@ own_note n least most h =
     ap₂ (λ (a b : Bool). (a && b) || false) same low
 
 -- a kept condition on one needle is noted
-note_there : (n : Needle) (least most : ℕ) (kept : List Asked) (c : Asked) → Contains kept c → c.ask ≡ size_at_most (n ∷ []) least → least ≤ most → list_any (suits n 1 most) (notes_of kept) ≡ true
+pub note_there : (n : Needle) (least most : ℕ) (kept : List Asked) (c : Asked) → Contains kept c → c.ask ≡ size_at_most (n ∷ []) least → least ≤ most → list_any (suits n 1 most) (notes_of kept) ≡ true
 note_there n least most [] c there is h = absurd (Contains-none c there)
 note_there n least most (x ∷ xs) c there is h =
     list_any-append (suits n 1 most) (notes_in x.ask) (notes_of xs)
@@ -57,15 +57,22 @@ note_there n least most (x ∷ xs) c there is h =
     ])
 
 -- a condition on one needle that the first face leaves as it was, of which the first face asks as much
-pub size_alike : (changes : List Changed) (kept : List Asked) (c : Asked) (n : Needle) (needles : List Needle) (least most : ℕ) → Contains kept c → c.ask ≡ size_at_most (n ∷ []) least → least ≤ most →
+pub size_alike : (changes : List Changed) (kept : List Asked) (n : Needle) (needles : List Needle) (most : ℕ) → list_any (suits n 1 most) (notes_of kept) ≡ true →
     needles ≡ n ∷ [] → segments_on changes n ≡ Entry n ∷ [] → noted_answer (notes_of kept) (names_through changes needles) (new_through changes needles) most ≡ yes_it_does
-size_alike changes kept c n needles least most there is low one own =
+size_alike changes kept n needles most there one own =
     let names : names_through changes needles ≡ n ∷ [] = ap (names_through changes) one ∙ ap (λ segs. entries_of segs ++ []) own in
     let new_here : new_of (segments_on changes n) ≡ 0 = ap new_of own in
     let new_all = sum_by-cons (λ n. new_of (segments_on changes n)) n [] in
     let new : new_through changes needles ≡ 0 = ap (new_through changes) one ∙ new_all ∙ ap (λ k. k + 0) new_here in
     ap₂ (λ (ns : List Needle) (k : ℕ). noted_answer (notes_of kept) ns k most) names new ∙ noted_own (notes_of kept) n most
-    ∙ ap (λ b. from_bearing (if_so b Implied) (asks (size_at_most (n ∷ []) most))) (note_there n least most kept c there is low)
+    ∙ ap (λ b. from_bearing (if_so b Implied) (asks (size_at_most (n ∷ []) most))) there
+
+-- needles that hold new loops alone, and no more than are allowed
+pub new_holds : (notes : List Note) (names : List Needle) (new most : ℕ) → names ≡ [] → new ≤ most → noted_answer notes names new most ≡ yes_it_does
+unfolding noted_answer
+new_holds notes names new most none few =
+    let enough : nat_lt most new ≡ false = grind arith in
+    ap₂ (λ b (ns : List Needle). if b then no_it_does_not else noted_left notes ns (most - new)) enough none
 
 -- one more holds
 pub alike_next : (a b : FaceView) (e : Effect) (i : ℕ) (d : Check) (digest : Digest) → AreGood a b → a.ending ≡ Through e → AreAlike a b e i → i < length b.checks.now → digest ≡ digest_of (checks_in a) →
@@ -73,7 +80,7 @@ pub alike_next : (a b : FaceView) (e : Effect) (i : ℕ) (d : Check) (digest : D
 alike_next a b e i d digest good through alike within is holds =
     let knows : Knows digest (notes_of (checks_in a)) (checks_in a) = record { digest_is = is; notes_are = refl } in
     let so = reads_begin a b e i (checks_in a) digest (notes_of (checks_in a)) good alike refl knows in
-    let now = reads_on a b e i d (checks_in a) (checks_in a) digest digest (notes_of (checks_in a)) (notes_of (checks_in a)) true good through so within refl
+    let now = reads_on a b e i d (checks_in a) (checks_in a) digest digest (notes_of (checks_in a)) (notes_of (checks_in a)) (raised a.lines (check_at b i d).fault) true good through so within refl refl
     (subst (λ x. StepIs x (checks_in a) (raised a.lines (check_at b i d).fault) true (checks_in a)) (sym holds) (refl, refl)) knows in
     record { within = omega arith; others = now.read }
 

@@ -7,6 +7,7 @@ pub mod GoodFaces
 pub mod ImpliedChecks
 pub mod Parts
 pub mod PlainFaces
+pub mod RaisedChanges
 pub mod Readings
 pub mod Rooms
 pub mod SegmentPlaces

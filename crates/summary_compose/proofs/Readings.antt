@@ -116,24 +116,25 @@ next_there b i d within =
     let long : length (checks_in b) ≡ length b.checks.now = length-map b.checks.now (asked_of b.names.now) in
     subst (Contains (checks_in b)) (get_or-map (asked_of b.names.now) b.checks.now i d (asked_of b.names.now d) within) (contains_at (checks_in b) i (asked_of b.names.now d) (omega arith))
 
-step_against : (a b : FaceView) (e : Effect) (i : ℕ) (d : Check) (kept now : List Asked) (digest : Digest) (notes : List Note) (goes_on : Bool) → AreGood a b → a.ending ≡ Through e →
-    ReadsOn a b e i kept digest notes → i < length b.checks.now →
-    StepIs (answer_known digest (chain_at kept) (read_answer e (changes_in a) (check_at b i d).ask)) kept (raised a.lines (check_at b i d).fault) goes_on now →
+step_against : (a b : FaceView) (e : Effect) (i : ℕ) (d : Check) (kept now : List Asked) (digest : Digest) (notes : List Note) (fault : Fault) (goes_on : Bool) → AreGood a b → a.ending ≡ Through e →
+    ReadsOn a b e i kept digest notes → i < length b.checks.now → fault ≡ raised a.lines (check_at b i d).fault →
+    StepIs (answer_known digest (chain_at kept) (read_answer e (changes_in a) (check_at b i d).ask)) kept fault goes_on now →
     StepIs (against_kept kept (read_answer e (changes_in a) (check_at b i d).ask)) kept (raised a.lines (check_at b i d).fault) goes_on now
-step_against a b e i d kept now digest notes goes_on good through so within h =
+step_against a b e i d kept now digest notes fault goes_on good through so within is h =
     subst (λ answer. StepIs answer kept (raised a.lines (check_at b i d).fault) goes_on now)
     (ap (λ x. answer_known x (chain_at kept) (read_answer e (changes_in a) (check_at b i d).ask)) so.knows.digest_is
     ∙ sym (answer-known good.carriers good.limit good.first_known good.second_known e (summary_of a) (summary_of b) kept (check_at b i d) good.first good.second
-    (lies_of good.carriers (summary_of a) e through good.first.fair.ending) so.are_kept (next_there b i d within))) h
+    (lies_of good.carriers (summary_of a) e through good.first.fair.ending) so.are_kept (next_there b i d within)))
+    (subst (λ f. StepIs (answer_known digest (chain_at kept) (read_answer e (changes_in a) (check_at b i d).ask)) kept f goes_on now) is h)
 
 -- one condition more
-pub reads_on : (a b : FaceView) (e : Effect) (i : ℕ) (d : Check) (kept now : List Asked) (digest after_digest : Digest) (notes after_notes : List Note) (goes_on : Bool) → AreGood a b → a.ending ≡ Through e →
-    ReadsOn a b e i kept digest notes → i < length b.checks.now → goes_on ≡ true →
-    StepIs (answer_known digest (chain_at kept) (read_answer e (changes_in a) (check_at b i d).ask)) kept (raised a.lines (check_at b i d).fault) goes_on now →
+pub reads_on : (a b : FaceView) (e : Effect) (i : ℕ) (d : Check) (kept now : List Asked) (digest after_digest : Digest) (notes after_notes : List Note) (fault : Fault) (goes_on : Bool) → AreGood a b → a.ending ≡ Through e →
+    ReadsOn a b e i kept digest notes → i < length b.checks.now → goes_on ≡ true → fault ≡ raised a.lines (check_at b i d).fault →
+    StepIs (answer_known digest (chain_at kept) (read_answer e (changes_in a) (check_at b i d).ask)) kept fault goes_on now →
     Knows after_digest after_notes now → ReadsOn a b e (i + 1) now after_digest after_notes
-reads_on a b e i d kept now digest after_digest notes after_notes goes_on good through so within goes h knows =
+reads_on a b e i d kept now digest after_digest notes after_notes fault goes_on good through so within goes is h knows =
     let c = check_at b i d in
-    let step = step_against a b e i d kept now digest notes goes_on good through so within h in
+    let step = step_against a b e i d kept now digest notes fault goes_on good through so within is h in
     let answer = against_kept kept (read_answer e (changes_in a) c.ask) in
     let rest = drop (i + 1) (checks_in b) in
     let more = step_few kept now (raised a.lines c.fault) goes_on answer step in
@@ -153,17 +154,18 @@ reads_on a b e i d kept now digest after_digest notes after_notes goes_on good t
     }
 
 -- one that can't hold
-pub reads_stop : (a b : FaceView) (e : Effect) (i : ℕ) (d : Check) (kept now : List Asked) (digest : Digest) (notes : List Note) (goes_on : Bool) → AreGood a b → a.ending ≡ Through e →
-    ReadsOn a b e i kept digest notes → i < length b.checks.now → goes_on ≡ false →
-    StepIs (answer_known digest (chain_at kept) (read_answer e (changes_in a) (check_at b i d).ask)) kept (raised a.lines (check_at b i d).fault) goes_on now →
-    reads e (changes_in a) a.lines (checks_in a) (checks_in b) ≡ record { checks = now; stop = Some (raised a.lines (check_at b i d).fault) }
-reads_stop a b e i d kept now digest notes goes_on good through so within stops h =
+pub reads_stop : (a b : FaceView) (e : Effect) (i : ℕ) (d : Check) (kept now : List Asked) (digest : Digest) (notes : List Note) (fault : Fault) (goes_on : Bool) → AreGood a b → a.ending ≡ Through e →
+    ReadsOn a b e i kept digest notes → i < length b.checks.now → goes_on ≡ false → fault ≡ raised a.lines (check_at b i d).fault →
+    StepIs (answer_known digest (chain_at kept) (read_answer e (changes_in a) (check_at b i d).ask)) kept fault goes_on now →
+    reads e (changes_in a) a.lines (checks_in a) (checks_in b) ≡ record { checks = now; stop = Some fault }
+reads_stop a b e i d kept now digest notes fault goes_on good through so within stops is h =
     let c = check_at b i d in
-    let step = step_against a b e i d kept now digest notes goes_on good through so within h in
+    let step = step_against a b e i d kept now digest notes fault goes_on good through so within is h in
     let rest = drop (i + 1) (checks_in b) in
     sym so.read ∙ ap (reads e (changes_in a) a.lines kept) (next_check b i d within)
     ∙ reads_step e (changes_in a) a.lines kept now rest c goes_on step
     ∙ ap (λ on. if on then reads e (changes_in a) a.lines now rest else record { checks = now; stop = Some (raised a.lines c.fault) }) stops
+    ∙ (λ k. record { checks = now; stop = Some (sym is k) })
 
 reads_none : (e : Effect) (changes : List Changed) (lines : ℕ) (kept : List Asked) → reads e changes lines kept [] ≡ record { checks = kept; stop = None }
 unfolding reads

@@ -166,6 +166,22 @@ new_next a b i d offset first second same one =
     both_next a b i i d (New offset ∷ []) first second
     (ap (λ n. needle_cmp n (get_or b.changes.now i d).needle) same ∙ needle_cmp-refl (get_or b.changes.now i d).needle) (sym one)
 
+-- where both lists change the same needles from a place on, the second one counts: so from the place before, if these are the same
+pub same_before : (a b : FaceView) (i : ℕ) (d : Change) → i < length a.changes.now → i < length b.changes.now → (get_or a.changes.now i d).needle ≡ (get_or b.changes.now i d).needle →
+    merged (drop (i + 1) (changes_in a)) (drop (i + 1) (changes_through (changes_in a) a.lines (changes_in b))) ≡ drop (i + 1) (changes_through (changes_in a) a.lines (changes_in b)) →
+    merged (drop i (changes_in a)) (drop i (changes_through (changes_in a) a.lines (changes_in b))) ≡ drop i (changes_through (changes_in a) a.lines (changes_in b))
+same_before a b i d first second same later =
+    let xs = changes_in a in
+    let ys = changes_through xs a.lines (changes_in b) in
+    let e = first_default a d in
+    let long : length xs ≡ length a.changes.now = length-map a.changes.now (changed_of a.segs.now) in
+    let long_b : length ys ≡ length b.changes.now = length-map (changes_in b) (change_through xs a.lines) ∙ length-map b.changes.now (changed_of b.segs.now) in
+    turn_both xs ys i i e (omega arith) (omega arith)
+    (ap₂ needle_cmp (ap (λ (c : Changed). c.0) (get_or-map (changed_of a.segs.now) a.changes.now i d e first)) (second_needle a b i d e second)
+    ∙ ap (λ n. needle_cmp n (get_or b.changes.now i d).needle) same ∙ needle_cmp-refl (get_or b.changes.now i d).needle)
+    ∙ ap (λ (zs : List Changed). get_or ys i e ∷ zs) later
+    ∙ sym (drop_more ys i e (omega arith))
+
 -- the line of that loop can be raised
 pub new_rises : (a b : FaceView) (i : ℕ) (d : Change) (offset : ℕ) → HaveOffsets a.lines b.segs.now b.changes.now → i < length b.changes.now →
     part_of b.segs.now (get_or b.changes.now i d).part ≡ New offset ∷ [] → a.lines + offset < 2 ^ 32

@@ -1,10 +1,11 @@
 -- Changes whose segments stand in one list.
-use Rattle.std.specs.Prelude.{◌≡◌, ℕ, List, false, length, map, All}
+use Rattle.std.specs.Prelude.{◌≡◌, ℕ, ◌+◌, List, false, length, map, All}
 use Rattle.std.specs.List.{sum_by}
 use Rattle.knit_base.specs.declared.needle.Needle.{Needle}
 use Rattle.knit_base.specs.Needle.{is_slider}
 use Rattle.face_data.specs.declared.face.Change.{Change}
 use Rattle.face_data.specs.declared.face.Seg.{Seg}
+use Rattle.face_data.specs.declared.face.Seg.TheVariants.{Entry, New}
 use Rattle.face_data.specs.Conditions.{part_of}
 use Rattle.face_data.specs.declared.face.FaceView.{FaceView}
 use Rattle.face_data.specs.Composition.{merged}
@@ -23,6 +24,11 @@ segs_in changes = sum_by (λ (c : Changed). length c.1) changes
 -- the lines of the new loops in the segments of each change can be raised
 abbrev pub HaveOffsets : ℕ → List Seg → List Change → Type 0
 HaveOffsets lines segs changes = All (λ (c : Change). All (OffsetFits lines) (part_of segs c.part)) changes
+
+-- a segment of a second face, the line of a new loop counted from the first line of the first face
+abbrev pub raised_seg : ℕ → Seg → Seg
+raised_seg lines (Entry n) = Entry n
+raised_seg lines (New offset) = New (lines + offset)
 
 -- the changes of a face with their segments written out
 abbrev pub changes_in : FaceView → List Changed

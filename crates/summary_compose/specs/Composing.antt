@@ -9,7 +9,7 @@ use Rattle.face_data.specs.Composition.{reads}
 use Rattle.face_data.specs.Digests.{CarrierFits}
 use Rattle.face_data.specs.Goodness.{IsInOrder}
 use Rattle.face_data.specs.Summaries.{Summary}
-use Rattle.face_data.specs.View.{names_of, AreNamed, PartsFit}
+use Rattle.face_data.specs.View.{names_of, AreNamed, ArePacked, PartsFit}
 use Rattle.summary_compose.specs.Changes.{changes_in, merged_of, segs_in, HaveOffsets}
 use Rattle.summary_compose.specs.Known.{AreGood, IsReadable, checks_in, names_count, names_read_count}
 use Rattle.summary_compose.specs.declared.making.Making.{Making}
@@ -31,6 +31,7 @@ pub record Composes (a b : FaceView) : Type 0 where
   pub fit : PartsFit a.segs.now a.changes.now
   pub order : IsInOrder (changes_in a)
   pub second_fit : PartsFit b.segs.now b.changes.now
+  pub second_packed : ArePacked b.segs.now b.changes.now
   pub offsets : HaveOffsets a.lines b.segs.now b.changes.now
   pub few_segs : (effect more : Effect) → a.ending ≡ Through effect → b.ending ≡ Through more →
       (reads effect (changes_in a) a.lines (checks_in a) (checks_in b)).stop ≡ None → segs_in (merged_of a b) < 2 ^ 32

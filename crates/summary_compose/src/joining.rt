@@ -1,7 +1,6 @@
 //! Composition.
 ghost use Rattle.std.specs.Prelude.{◌≡◌, ◌<◌, ◌≤◌, ◌+◌, ◌^◌, true, [], length};
 ghost use Rattle.face_data.specs.Composition.{composed, composed_at, reads, closed};
-ghost use Rattle.face_data.specs.Digests.{digest_of};
 ghost use Rattle.face_data.specs.View.{summary_of};
 ghost use Rattle.summary_compose.specs.Changes.{changed_needles, changes_in, merged_of, segs_in};
 ghost use Rattle.summary_compose.specs.Composing.{Composes, FindsRoom, Holds, KeepsRooms, made_in};
@@ -9,12 +8,12 @@ ghost use Rattle.summary_compose.specs.Known.{AreAlike, checks_in, names_count, 
 ghost use Rattle.summary_compose.specs.Tables.{IsTableOf};
 ghost use Rattle.summary_compose.specs.declared.room.Room.{Room};
 
-use crate::alike::{count_alike, spare_sliders};
+use crate::alike::count_alike;
 use crate::index::Index;
 use crate::kept::Kept;
 use crate::making::Making;
 use crate::merging::merge;
-use crate::noting::{note_plain, note_sizes};
+use crate::noting::note_plain;
 use crate::places::Places;
 use crate::reading::read_checks;
 use face_data::{Digest, Effect, Ending, FaceView};
@@ -41,45 +40,41 @@ fn gather(
     ensures name_room { kept.new.name_room ≡ kept.old.name_room }
     ensures index_room { index.new.room ≡ index.old.room }
 {
-    let mut digest = Digest::blank();
-    let seen = count_alike(false, &digest, places, a, effect, b);
-    if seen >= b.checks.len() {
-        if spare_sliders(a.changes) {
-            return (None, false);
-        }
-    }
-    places.note(a.changes);
-    note_plain(a, &mut digest);
-    let alike = count_known(seen, &digest, places, a, effect, b);
+    let (alike, noted) = count_alike(places, a, effect, b);
     if alike >= b.checks.len() {
-        return (None, true);
+        return (None, noted);
     }
-    index.clear();
-    note_sizes(a, index);
-    let stop = read_checks(kept, index, &mut digest, places, a, effect, b, alike);
-    (stop, true)
+    places.note_once(a.changes, noted);
+    (read_rest(kept, index, places, a, effect, b, alike), true)
 }
 
-// How many of the second face's first conditions hold, as far as the first's at their places and what is noted tell. Where less than half
-// were alike at sight it isn't tried.
-fn count_known(
-    seen: usize,
-    digest: &Digest,
+// Reads the conditions of the second face from a place on, those before which hold.
+#[inline(never)]
+fn read_rest(
+    kept: &mut Kept,
+    index: &mut Index,
     places: &Places,
     a: &FaceView,
     effect: &Effect,
     b: &FaceView,
-) -> usize
+    alike: usize,
+) -> Option<Fault>
     requires composes { Composes a.now b.now }
     requires through { a.now.ending ≡ Ending.Through effect.now }
-    requires digest { digest.now ≡ digest_of (checks_in a.now) }
+    requires begun { kept.old.checks ≡ checks_in a.now }
+    requires alike { AreAlike a.now b.now effect.now alike }
     requires noted { IsTableOf places.now.table.entries.items (changed_needles a.now.changes.now) }
-    ensures { AreAlike a.now b.now effect.now result }
+    requires check_room { length a.now.checks.now + length b.now.checks.now ≤ kept.old.check_room }
+    requires name_room { names_count (checks_in a.now) + names_read_count (changes_in a.now) (checks_in b.now) ≤ kept.old.name_room }
+    requires index_room { names_count (checks_in a.now) + names_read_count (changes_in a.now) (checks_in b.now) ≤ index.old.room }
+    ensures read { reads effect.now (changes_in a.now) a.now.lines (checks_in a.now) (checks_in b.now) ≡ record { checks = kept.new.checks; stop = result } }
+    ensures check_room { kept.new.check_room ≡ kept.old.check_room }
+    ensures name_room { kept.new.name_room ≡ kept.old.name_room }
+    ensures index_room { index.new.room ≡ index.old.room }
 {
-    if seen < b.checks.len() / 2 {
-        return 0;
-    }
-    count_alike(true, digest, places, a, effect, b)
+    let mut digest = Digest::blank();
+    note_plain(a, &mut digest);
+    read_checks(kept, index, &mut digest, places, a, effect, b, alike)
 }
 
 /// Makes the face of the first face's text followed by the second's.

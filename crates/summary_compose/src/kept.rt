@@ -39,8 +39,8 @@ impl Model for Kept {
     ghost invariant = { λ k. AreNamed k.names.items k.checks.items };
 }
 
-// Appends items where there is room.
-fn append<T: Copy>(items: &[T], list: &mut Vec<T>)
+/// Appends items where there is room.
+pub fn append<T: Copy>(items: &[T], list: &mut Vec<T>)
     requires { vec_len list.old + length items.now ≤ vec_capacity list.old }
     ensures items { list.new.items ≡ list.old.items ++ items.now }
     ensures capacity { vec_capacity list.old ≤ vec_capacity list.new }

@@ -7,9 +7,10 @@ ghost use Rattle.face_data.specs.Segments.{OffsetFits, entries_of, new_of};
 ghost use Rattle.face_data.specs.Through.{piece, through, change_through, changes_through};
 ghost use Rattle.face_data.specs.Composition.{merged};
 ghost use Rattle.face_data.specs.View.{changed_of, ArePacked, PartsFit};
-ghost use Rattle.summary_compose.specs.Changes.{changed_needles, segs_in};
+ghost use Rattle.summary_compose.specs.Changes.{changed_needles, raised_seg, segs_in};
 ghost use Rattle.summary_compose.specs.Tables.{IsTableOf};
 
+use crate::kept::append;
 use crate::places::Places;
 use face_data::{Change, FaceView, Part, Seg};
 use knit_base::{Needle, NoMemory};
@@ -78,6 +79,22 @@ impl Laid {
         (&self.changes, &self.segs)
     }
 
+    /// Lays the changes of a second face, and no others, where they leave new loops alone.
+    #[inline(always)]
+    pub fn lay_raised(&mut self, changes: &[Change], segs: &[Seg], lines: u32)
+        requires packed { ArePacked segs.now changes.now }
+        requires room { length changes.now ≤ self.old.change_room }
+        requires seg_room { length segs.now ≤ self.old.seg_room }
+        requires offsets { All (OffsetFits lines) segs.now }
+        ensures changes { self.new.changes ≡ map (changed_of (map (raised_seg lines) segs.now)) changes.now }
+        ensures change_room { self.old.change_room ≤ self.new.change_room }
+        ensures seg_room { self.old.seg_room ≤ self.new.seg_room }
+    {
+        self.changes.clear();
+        append(changes, &mut self.changes);
+        put_raised(segs, lines, &mut self.segs);
+    }
+
     /// Appends a change as it is.
     #[inline(always)]
     pub fn lay_old(&mut self, needle: Needle, segs: &[Seg])
@@ -142,6 +159,22 @@ impl Laid {
     }
 }
 
+/// How many new loops these segments are, unless the loops of an entry are among them.
+#[inline(always)]
+pub fn count_new(segs: &[Seg]) -> Option<u64>
+    ensures entries { IfSome result (λ count. entries_of segs.now ≡ []) }
+    ensures count { IfSome result (λ count. count ≡ new_of segs.now) }
+{
+    let mut count = 0;
+    for seg in segs {
+        match *seg {
+            Seg::Entry(_) => return None,
+            Seg::New(_) => count += 1,
+        }
+    }
+    Some(count)
+}
+
 /// The offset of a new loop that is the only segment.
 #[inline(always)]
 pub fn new_alone(segs: &[Seg]) -> Option<u32>
@@ -165,6 +198,27 @@ pub fn new_in(segs: &[Seg], part: Part) -> Option<u32>
     match segs[part.start as usize] {
         Seg::New(offset) => Some(offset),
         Seg::Entry(_) => None,
+    }
+}
+
+// Puts segments of a second face, where there is room, in the place of what was there.
+#[inline(always)]
+fn put_raised(more: &[Seg], lines: u32, segs: &mut Vec<Seg>)
+    requires room { length more.now ≤ vec_capacity segs.old }
+    requires offsets { All (OffsetFits lines) more.now }
+    ensures items { segs.new.items ≡ map (raised_seg lines) more.now }
+    ensures capacity { vec_capacity segs.old ≤ vec_capacity segs.new }
+{
+    segs.clear();
+    append(more, segs);
+    let mut i = 0;
+    while i < more.len() {
+        let Seg::New(offset) = more[i] else {
+            i += 1;
+            continue;
+        };
+        segs[i] = Seg::New(lines + offset);
+        i += 1;
     }
 }
 

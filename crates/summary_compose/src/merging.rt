@@ -6,11 +6,12 @@ ghost use Rattle.knit_base.specs.Needle.{needle_cmp};
 ghost use Rattle.face_data.specs.declared.face.Change.{Change};
 ghost use Rattle.face_data.specs.Conditions.{part_of};
 ghost use Rattle.face_data.specs.Goodness.{IsInOrder};
-ghost use Rattle.face_data.specs.View.{changed_of, PartsFit};
+ghost use Rattle.face_data.specs.Segments.{entries_of};
+ghost use Rattle.face_data.specs.View.{changed_of, ArePacked, PartsFit};
 ghost use Rattle.summary_compose.specs.Changes.{changed_needles, HaveOffsets, segs_in, changes_in, merged_of};
 ghost use Rattle.summary_compose.specs.Tables.{IsTableOf};
 
-use crate::laid::{Laid, new_in};
+use crate::laid::{Laid, count_new, new_in};
 use crate::places::Places;
 use crate::spots::is_same;
 use face_data::{Change, FaceView, Seg};
@@ -99,6 +100,35 @@ fn lay_alike(laid: &mut Laid, a: &FaceView, b: &FaceView) -> usize
     i
 }
 
+// Whether both faces change the same needles. Faces that lie apart differ in the last ones.
+#[inline(always)]
+fn change_same(a: &FaceView, b: &FaceView) -> bool
+    ensures { result ≡ true → merged_of a.now b.now ≡ changes_through (changes_in a.now) a.now.lines (changes_in b.now) }
+{
+    if a.changes.len() != b.changes.len() {
+        return false;
+    }
+    let mut i = a.changes.len();
+    while i > 0 {
+        i -= 1;
+        if !is_same(a.changes[i].needle, b.changes[i].needle) {
+            return false;
+        }
+    }
+    true
+}
+
+// Whether all segments are new loops.
+#[inline(always)]
+fn are_new(segs: &[Seg]) -> bool
+    ensures { result ≡ true → entries_of segs.now ≡ [] }
+{
+    match count_new(segs) {
+        Some(_) => true,
+        None => false,
+    }
+}
+
 /// Lays the changes of both faces in the order of needles, those of the second read through the first. Notes the first face's changes
 /// only where that is needed.
 pub fn merge(laid: &mut Laid, a: &FaceView, b: &FaceView, places: &mut Places, noted: bool)
@@ -109,12 +139,18 @@ pub fn merge(laid: &mut Laid, a: &FaceView, b: &FaceView, places: &mut Places, n
     requires noted { noted ≡ true → IsTableOf places.old.table.entries.items (changed_needles a.now.changes.now) }
     requires fit { PartsFit a.now.segs.now a.now.changes.now }
     requires order { IsInOrder (map (changed_of a.now.segs.now) a.now.changes.now) }
-    requires second_fit { PartsFit b.now.segs.now b.now.changes.now }
+    requires second_packed { ArePacked b.now.segs.now b.now.changes.now }
     requires offsets { HaveOffsets a.now.lines b.now.segs.now b.now.changes.now }
     ensures changes { laid.new.changes ≡ merged_of a.now b.now }
-    ensures change_room { laid.new.change_room ≡ laid.old.change_room }
-    ensures seg_room { laid.new.seg_room ≡ laid.old.seg_room }
+    ensures change_room { laid.old.change_room ≤ laid.new.change_room }
+    ensures seg_room { laid.old.seg_room ≤ laid.new.seg_room }
 {
+    if change_same(a, b) {
+        if are_new(b.segs) {
+            laid.lay_raised(b.changes, b.segs, a.lines);
+            return;
+        }
+    }
     let alike = lay_alike(laid, a, b);
     if alike >= a.changes.len().max(b.changes.len()) {
         return;
@@ -124,6 +160,7 @@ pub fn merge(laid: &mut Laid, a: &FaceView, b: &FaceView, places: &mut Places, n
 }
 
 // Lays the changes from this place of both faces on.
+#[inline(never)]
 fn lay_others(laid: &mut Laid, a: &FaceView, b: &FaceView, places: &Places, alike: usize)
     requires begun { laid.old.changes ++ merged (drop alike (changes_in a.now)) (drop alike (changes_through (changes_in a.now) a.now.lines (changes_in b.now))) ≡ merged_of a.now b.now }
     requires room { length (merged_of a.now b.now) ≤ laid.old.change_room }

@@ -10,19 +10,19 @@ use Rattle.summary_compose.proofs.ImpliedChecks.{alike_next, implied_yes}
 use Rattle.summary_compose.proofs.Readings.{first_check}
 use Rattle.summary_compose.proofs.alike.implied.Goals as goal
 
-pub returns-in-SizeAtMost : goal.returns-in-SizeAtMost
-returns-in-SizeAtMost c = λ yes spared.
+pub returns-in-SizeAtMost-clause-alike : goal.returns-in-SizeAtMost-clause-alike
+returns-in-SizeAtMost-clause-alike c = λ yes.
     let a = c.args.a.now in
     let b = c.args.b.now in
     let known = digest_of (checks_in a) in
-    alike_next a b c.args.effect.now c.args.at first_check known c.requires.good c.requires.through (c.requires.alike spared) c.requires.second_there refl
+    alike_next a b c.args.effect.now c.args.at first_check known c.requires.good c.requires.through c.requires.alike c.requires.there refl
     (sized_known known (notes_of (checks_in a)) c.args.effect.now (changes_in a) b.names.now (part_of b.names.now c.in-SizeAtMost.part) _ c.in-SizeAtMost.part c.in-SizeAtMost.most (checks_in a)
-    (record { digest_is = refl; notes_are = refl }) c.in-SizeAtMost.is refl ∙ c.size_implied.ensures yes spared)
+    (record { digest_is = refl; notes_are = refl }) c.in-SizeAtMost.is refl ∙ c.size_holds.ensures.holds yes)
 
-pub returns : goal.returns
-returns c = λ yes spared.
+pub returns-clause-alike : goal.returns-clause-alike
+returns-clause-alike c = λ yes.
     let a = c.args.a.now in
     let b = c.args.b.now in
     let known = digest_of (checks_in a) in
-    alike_next a b c.args.effect.now c.args.at first_check known c.requires.good c.requires.through (c.requires.alike spared) c.requires.second_there refl
+    alike_next a b c.args.effect.now c.args.at first_check known c.requires.good c.requires.through c.requires.alike c.requires.there refl
     (implied_yes known (chain_at (checks_in a)) c.args.effect.now (changes_in a) b.names.now _ (c.plain_implied.ensures yes))

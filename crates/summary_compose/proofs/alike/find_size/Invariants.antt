@@ -1,0 +1,4 @@
+use Rattle.summary_compose.proofs.alike.find_size.Given as goal
+
+abbrev pub decreases-loop-walk : goal.decreases-loop-walk
+decreases-loop-walk l = l.walk.spare
