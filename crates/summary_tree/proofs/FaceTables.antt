@@ -8,6 +8,7 @@ use Rattle.std.proofs.lemmas.Bool.Decides.{eqb_tells}
 use Rattle.std.proofs.lemmas.List.{get_or_past, get_or_default, get_or-set_same, get_or-set_other}
 use Rattle.std.proofs.lemmas.List.Sums.{sum_by-append, sum_by-cons, sum_by-set}
 use Rattle.std.proofs.Math.ListN.{get_or-map}
+use Rattle.face_data.specs.Segments.{entries_of}
 use Rattle.face_data.specs.View.{AreNamed, ArePacked, IsPacked}
 use Rattle.face_data.specs.declared.face.FaceView.{FaceView}
 use Rattle.span_pool.specs.Pool.{OneFewer, OneMore, PoolView, out_of, spare_of}
@@ -25,10 +26,11 @@ pub seen_at : (entries : List (Option Entry)) (at : ℕ) → slice_index_or (map
 seen_at entries at = get_or-map (option_map summary_in) entries at None
 
 -- an entry with the lists of a face is packed as this is
-pub packed_as : (e : Entry) (face : FaceView) → e.checks.items ≡ face.checks.now → e.names.items ≡ face.names.now → e.changes.items ≡ face.changes.now → e.segs.items ≡ face.segs.now → IsPacked face → IsPackedEntry e
-packed_as e face checks names changes segs p = record {
+pub packed_as : (e : Entry) (face : FaceView) → e.checks.items ≡ face.checks.now → e.names.items ≡ face.names.now → e.changes.items ≡ face.changes.now → e.segs.items ≡ face.segs.now → e.head.entries ≡ length (entries_of face.segs.now) → IsPacked face → IsPackedEntry e
+packed_as e face checks names changes segs entries p = record {
   named = subst (λ ns. AreNamed ns e.checks.items) (sym names) (subst (AreNamed face.names.now) (sym checks) (record { fit = p.checks_fit; whole = p.names }));
   packed = subst (λ ss. ArePacked ss e.changes.items) (sym segs) (subst (ArePacked face.segs.now) (sym changes) (record { fit = p.changes_fit; whole = p.segs }));
+  counted = entries ∙ ap (λ ss. length (entries_of ss)) (sym segs);
 }
 
 -- the spare spans of a class

@@ -1,6 +1,7 @@
 pub mod SpanCounts
 pub mod FaceTables
 pub mod Meets
+pub mod RoomBounds
 pub mod Roots
 pub mod SoundLeaves
 pub mod Needs

@@ -1,7 +1,8 @@
 -- A table of faces, each list in a span of its pool.
-use Rattle.std.specs.Prelude.{◌≡◌, ◌≢◌, ℕ, ◌+◌, ◌≤◌, ◌==◌, cond, List, Option, Some, None, map, slice_index_or}
+use Rattle.std.specs.Prelude.{◌≡◌, ◌≢◌, ℕ, ◌+◌, ◌≤◌, ◌==◌, cond, List, Option, Some, None, length, map, slice_index_or}
 use Rattle.std.specs.List.{sum_by}
 use Rattle.std.specs.Option.{option_map}
+use Rattle.face_data.specs.Segments.{entries_of}
 use Rattle.face_data.specs.Summaries.{Summary}
 use Rattle.face_data.specs.View.{asked_of, changed_of, AreNamed, ArePacked}
 use Rattle.span_pool.specs.Class.{IsClassOf}
@@ -24,10 +25,11 @@ summary_in e = record {
   ending = e.head.ending;
 }
 
--- its names and segments are made up of the parts of its checks and changes
+-- its names and segments are made up of the parts of its checks and changes, and the entries among its segments are counted
 pub record IsPackedEntry (e : Entry) : Type 0 where
   pub named : AreNamed e.names.items e.checks.items
   pub packed : ArePacked e.segs.items e.changes.items
+  pub counted : e.head.entries ≡ length (entries_of e.segs.items)
 
 -- the class of the span of one of the lists
 abbrev pub class_in : FaceList → Entry → ℕ

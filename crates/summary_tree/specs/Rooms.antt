@@ -1,10 +1,10 @@
--- The room that a face takes in a tree.
-use Rattle.std.specs.Prelude.{length}
+-- The room that a face takes in a tree, and rooms for several.
+use Rattle.std.specs.Prelude.{◌≡◌, ℕ, ◌≤◌, max, List, [], ◌∷◌, length, take}
 use Rattle.face_data.proofs.Items.{all_entries}
 use Rattle.face_data.specs.Summaries.{Summary}
 use Rattle.summary_compose.specs.Changes.{segs_in}
 use Rattle.summary_compose.specs.Known.{names_count}
-use Rattle.summary_compose.specs.Rooms.{capped}
+use Rattle.summary_compose.specs.Rooms.{capped, no_room}
 use Rattle.summary_compose.specs.declared.room.Room.{Room}
 
 -- the items of its lists; a number for which there can't be room stands as one past all room
@@ -16,3 +16,24 @@ kept_room s = record {
   segs = capped (segs_in s.changes);
   entries = capped (length (all_entries s.changes));
 }
+
+-- the greater of both in each field
+abbrev pub greater : Room → Room → Room
+greater a b = record {
+  checks = max a.checks b.checks;
+  names = max a.names b.names;
+  changes = max a.changes b.changes;
+  segs = max a.segs b.segs;
+  entries = max a.entries b.entries;
+}
+
+-- the greatest of all in each field
+abbrev pub greatest_of : List Room → Room
+greatest_of [] = no_room
+greatest_of (room ∷ rooms) = greater room (greatest_of rooms)
+
+-- the first `len` of 73 places have rooms, and the greatest of these is kept
+pub record AreRooms (places : List Room) (len : ℕ) (most : Room) : Type 0 where
+  pub few : len ≤ 73
+  pub long : length places ≡ 73
+  pub greatest : most ≡ greatest_of (take len places)

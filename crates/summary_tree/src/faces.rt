@@ -1,12 +1,15 @@
 //! A table of faces whose lists lie in spans.
 ghost use Rattle.std.specs.Prelude.{◌≡◌, ◌≢◌, ℕ, ◌+◌, ◌<◌, ◌≤◌, ◌^◌, [], length, slice_index_or, slice_set, Some, None, IfSome, IsNone, OnOk};
 ghost use Rattle.std.specs.List.{sum_by};
+ghost use Rattle.face_data.specs.Segments.{entries_of};
+ghost use Rattle.face_data.specs.Summaries.{Summary};
 ghost use Rattle.face_data.specs.View.{IsPacked, summary_of};
 ghost use Rattle.span_pool.specs.Class.{IsClassOf};
 ghost use Rattle.span_pool.specs.Pool.{OneFewer, OneMore, out_of, spare_of};
-ghost use Rattle.summary_compose.specs.Rooms.{room_of};
+ghost use Rattle.summary_compose.specs.Rooms.{no_room, room_of};
 ghost use Rattle.summary_tree.specs.Lists.{Exchanged, TookSpan};
 ghost use Rattle.summary_tree.specs.Faces.{IsPackedEntry, summary_in, class_in, pool_in, spans_at, face_in, spare_in, length_in, TookSpans, KeepsSpares};
+ghost use Rattle.summary_tree.specs.Rooms.{kept_room};
 
 use crate::lists::{put_anew, refill};
 use face_data::{Change, Check, Ending, FaceView, Seg};
@@ -14,12 +17,14 @@ use knit_base::{Needle, NoMemory};
 use span_pool::{Pool, Span};
 use std::alloc::Global;
 use std::marker::Model;
+use summary_compose::Room;
 
-/// What a face has beside its lists.
+/// What a face has beside its lists, and how many of its segments are entries, so that its room is told without reading them.
 #[derive(Clone, Copy)]
 pub(crate) struct Head {
     pub lines: u32,
     pub made: u32,
+    pub entries: u64,
     pub ending: Ending,
 }
 
@@ -47,6 +52,7 @@ impl Entry {
         requires { IsPackedEntry self.now }
         ensures summary { summary_of result ≡ summary_in self.now }
         ensures packed { IsPacked result }
+        ensures segs { result.segs.now ≡ self.now.segs.items }
     {
         FaceView {
             lines: self.head.lines,
@@ -57,6 +63,13 @@ impl Entry {
             segs: self.segs.get(),
             ending: self.head.ending,
         }
+    }
+
+    fn room(&self) -> Room
+        requires { IsPackedEntry self.now }
+        ensures { result ≡ kept_room (summary_in self.now) }
+    {
+        room_with(&self.view(), self.head.entries)
     }
 }
 
@@ -160,12 +173,37 @@ impl Pools {
     }
 }
 
+// The room that a face with so many entries takes.
+fn room_with(face: &FaceView, entries: u64) -> Room
+    requires packed { IsPacked face.now }
+    requires entries { entries ≡ length (entries_of face.now.segs.now) }
+    ensures { result ≡ kept_room (summary_of face.now) }
+{
+    let room = Room {
+        checks: face.checks.len() as u64,
+        names: face.names.len() as u64,
+        changes: face.changes.len() as u64,
+        segs: face.segs.len() as u64,
+        entries,
+    };
+    room.after(&Room::NONE)
+}
+
+/// The room that a face takes.
+pub(crate) fn kept_room(face: &FaceView) -> Room
+    requires { IsPacked face.now }
+    ensures { result ≡ kept_room (summary_of face.now) }
+{
+    room_with(face, Room::of(face).entries)
+}
+
 fn head_of(face: &FaceView) -> Head
-    ensures { result ≡ record { lines = face.now.lines; made = face.now.made; ending = face.now.ending } }
+    ensures { result ≡ record { lines = face.now.lines; made = face.now.made; entries = length (entries_of face.now.segs.now); ending = face.now.ending } }
 {
     Head {
         lines: face.lines,
         made: face.made,
+        entries: Room::of(face).entries,
         ending: face.ending,
     }
 }
@@ -216,6 +254,20 @@ impl Faces {
                 None => None,
             },
             None => None,
+        }
+    }
+
+    /// The room that the face at a place takes, or no room where there is none.
+    pub fn room(&self, at: usize) -> Room
+        ensures some { (s : Summary) → face_in self.now at ≡ Some s → result ≡ kept_room s }
+        ensures none { face_in self.now at ≡ None → result ≡ no_room }
+    {
+        match self.entries.get(at) {
+            Some(slot) => match slot {
+                Some(entry) => entry.room(),
+                None => Room::NONE,
+            },
+            None => Room::NONE,
         }
     }
 

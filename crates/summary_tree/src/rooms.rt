@@ -4,27 +4,31 @@ ghost use Rattle.std.specs.List.{All, slice_get};
 ghost use Rattle.summary_compose.specs.Composing.{IsNoGreater};
 ghost use Rattle.summary_tree.specs.Faces.{length_in};
 ghost use Rattle.summary_tree.specs.Meeting.{reaches};
+ghost use Rattle.summary_tree.specs.Rooms.{greater};
 
 use crate::faces::FaceList;
 use std::marker::Model;
 use summary_compose::{Room, Scratch};
 
-/// The room that a change needs: that of each face that it makes, 73 at most, in the order in which they are made.
+/// The room that a change needs: that of each face that it makes, 73 at most, in the order in which they are made, and the greatest
+/// of them in each field, which tells what is to hold of all.
 #[derive(Drop)]
 pub(crate) struct Rooms {
     rooms: [Room; 73],
     len: usize,
+    most: Room,
 }
 
 impl Model for Rooms {
-    ghost use Rattle.std.specs.Prelude.{◌≡◌, List, ◌≤◌, take, length};
+    ghost use Rattle.std.specs.Prelude.{List, take};
     ghost use Rattle.summary_compose.specs.declared.room.Room.{Room};
+    ghost use Rattle.summary_tree.specs.Rooms.{AreRooms};
 
     ghost Value = { List Room };
 
     ghost view = { λ d. take d.len d.rooms };
 
-    ghost invariant = { λ d. (d.len ≤ 73) × (length d.rooms ≡ 73) };
+    ghost invariant = { λ d. AreRooms d.rooms d.len d.most };
 }
 
 // The greatest length of a list.
@@ -49,6 +53,19 @@ fn length_in(list: FaceList, room: &Room) -> u64
     }
 }
 
+// The greater of both in each field.
+fn greater(a: &Room, b: &Room) -> Room
+    ensures { result ≡ greater a.now b.now }
+{
+    Room {
+        checks: a.checks.max(b.checks),
+        names: a.names.max(b.names),
+        changes: a.changes.max(b.changes),
+        segs: a.segs.max(b.segs),
+        entries: a.entries.max(b.entries),
+    }
+}
+
 impl Rooms {
     pub(crate) fn new() -> Rooms
         ensures { result ≡ [] }
@@ -56,6 +73,7 @@ impl Rooms {
         Rooms {
             rooms: [Room::NONE; 73],
             len: 0,
+            most: Room::NONE,
         }
     }
 
@@ -63,6 +81,7 @@ impl Rooms {
         ensures { self.new ≡ [] }
     {
         self.len = 0;
+        self.most = Room::NONE;
     }
 
     pub(crate) fn push(&mut self, room: Room)
@@ -71,6 +90,7 @@ impl Rooms {
     {
         self.rooms[self.len] = room;
         self.len += 1;
+        self.most = greater(&self.most, &room);
     }
 
     pub(crate) fn nth(&self, i: u32) -> Room
@@ -92,10 +112,13 @@ impl Rooms {
         requires { class ≤ 62 }
         ensures { result ≡ count_by (λ r. reaches class (length_in list r)) self.now }
     {
-        self.list()
-            .iter()
-            .filter(|room| reaches(class, length_in(list, *room)))
-            .count() as u32
+        let mut many = 0;
+        for room in self.list() {
+            if reaches(class, length_in(list, room)) {
+                many += 1;
+            }
+        }
+        many
     }
 
     /// How many rooms there are.
@@ -109,37 +132,27 @@ impl Rooms {
     pub(crate) fn longest(&self, list: FaceList) -> u64
         ensures { All (λ r. length_in list r ≤ result) self.now }
     {
-        let mut most = 0;
-        for room in self.list() {
-            most = most.max(length_in(list, room));
-        }
-        most
+        length_in(list, &self.most)
     }
 
     /// Whether none of the lists is too long for a span.
     pub(crate) fn is_short(&self, list: FaceList) -> bool
         ensures { (result ≡ true) ↔ All (λ r. length_in list r ≤ 2 ^ 62) self.now }
     {
-        self.list()
-            .iter()
-            .all(|room| length_in(list, room) <= LONGEST)
+        length_in(list, &self.most) <= LONGEST
     }
 
     /// Whether the scratch has each of the rooms.
     pub(crate) fn is_within(&self, scratch: &Scratch) -> bool
         ensures { (result ≡ true) ↔ All (λ r. IsNoGreater r scratch.now.room) self.now }
     {
-        self.list().iter().all(|room| scratch.meets(room))
+        scratch.meets(&self.most)
     }
 
     /// A room no smaller than any of them.
     pub(crate) fn greatest(&self) -> Room
         ensures { All (λ r. IsNoGreater r result) self.now }
     {
-        let mut most = Room::NONE;
-        for room in self.list() {
-            most = most.max(room);
-        }
-        most
+        self.most
     }
 }

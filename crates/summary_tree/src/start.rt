@@ -4,8 +4,9 @@ ghost use Rattle.std.specs.List.{slice_get};
 ghost use Rattle.face_data.specs.View.{IsPacked, summary_of};
 ghost use Rattle.summary_tree.specs.Store.{leaf_in, places_in};
 
+use crate::faces::kept_room;
 use crate::rooms::Rooms;
-use crate::store::{FaceStore, kept_room};
+use crate::store::FaceStore;
 use face_data::{Face, FaceView};
 use knit_base::NoMemory;
 use loop_history::LoopTable;

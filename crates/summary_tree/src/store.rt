@@ -43,14 +43,6 @@ fn place_of(child: Child) -> usize
     }
 }
 
-/// The room that a face takes.
-pub(crate) fn kept_room(face: &FaceView) -> Room
-    requires { IsPacked face.now }
-    ensures { result ≡ kept_room (summary_of face.now) }
-{
-    Room::of(face).after(&Room::NONE)
-}
-
 // Whether there are as many spare spans of a class for one of the lists as rooms that need one of it or of a higher one.
 fn class_is_met(faces: &Faces, list: FaceList, class: u8, need: &Rooms) -> bool
     requires { class ≤ 62 }
@@ -212,10 +204,7 @@ impl Values for FaceStore {
     ghost rooms = { λ n. n };
 
     fn room_of(&self, child: Child) -> Room {
-        match self.faces.get(place_of(child)) {
-            Some(face) => kept_room(&face),
-            None => Room::NONE,
-        }
+        self.faces.room(place_of(child))
     }
 
     fn both(left: Room, right: Room) -> Room {

@@ -11,10 +11,11 @@ ghost use Rattle.summary_tree.specs.Leaves.{AreSound, AreGoodFor, IsRootOf, appl
 ghost use Rattle.summary_tree.specs.Trees.{TreeView, IsSameTree, Meets, CanReplace, CanInsert, CanRemove, change_steps};
 
 use crate::entry::loops_behind;
+use crate::faces::kept_room;
 use crate::need::Need;
 use crate::rooms::Rooms;
 use crate::start::put_leaves;
-use crate::store::{FaceStore, kept_room};
+use crate::store::FaceStore;
 use carriage_model::LoopLines;
 use face_data::{Face, FaceView};
 use knit_base::{Needle, NoMemory, Steps};

@@ -22,21 +22,21 @@ fn found<S: Values>(need: &S::Need, dirty: &Dirty, rows: u32, node: u32) -> Opti
     requires few { rows ≤ length dirty.now }
     ensures { result ≡ latest node dirty.now (S.rooms need.now) None }
 {
-    let mut room = None;
-    for i in 0..rows {
+    for behind in 0..rows {
+        let i = rows - 1 - behind;
         if let Some(row) = dirty.get(i) {
             if row.node == node {
-                room = Some(S::nth(need, i));
+                return Some(S::nth(need, i));
             }
         }
     }
-    room
+    None
 }
 
 /// The room of a child: that of the new leaf, or found among the rows, or that of what it has.
 fn room_at<S: Values>(
     store: &S,
-    new: Option<NewLeaf<S::Room>>,
+    new: &Option<NewLeaf<S::Room>>,
     need: &S::Need,
     dirty: &Dirty,
     rows: u32,
@@ -44,8 +44,8 @@ fn room_at<S: Values>(
 ) -> S::Room
     requires rows { rows ≡ length (S.rooms need.now) }
     requires few { rows ≤ length dirty.now }
-    requires there { (r : S.Room) × (found_at S.room (S.leaf_at store.now) (S.node_at store.now) new dirty.now (S.rooms need.now) child ≡ Some r) }
-    ensures { Some result ≡ found_at S.room (S.leaf_at store.now) (S.node_at store.now) new dirty.now (S.rooms need.now) child }
+    requires there { (r : S.Room) × (found_at S.room (S.leaf_at store.now) (S.node_at store.now) new.now dirty.now (S.rooms need.now) child ≡ Some r) }
+    ensures { Some result ≡ found_at S.room (S.leaf_at store.now) (S.node_at store.now) new.now dirty.now (S.rooms need.now) child }
 {
     match child {
         Child::Leaf(number) => {
@@ -76,8 +76,8 @@ pub(crate) fn fill_need<S: Values>(
     S::clear(need);
     for i in 0..dirty.len() {
         if let Some(row) = dirty.get(i) {
-            let left = room_at(store, new, need, dirty, i, row.left);
-            let right = room_at(store, new, need, dirty, i, row.right);
+            let left = room_at(store, &new, need, dirty, i, row.left);
+            let right = room_at(store, &new, need, dirty, i, row.right);
             S::push(need, S::both(left, right));
         }
     }

@@ -23,7 +23,7 @@ module _ {V R : Type 0} (room : V → R) (leaf_at node_at : ℕ → Option V) (n
       kept_room (node_at n) r result (sym here ∙ there) h ∙ sym here
 
 pub returns-in-Some-found : goal.returns-in-Some-found
-returns-in-Some-found g c = inner_found g.S.Values.room (g.S.Values.leaf_at c.args.store.now) (g.S.Values.node_at c.args.store.now) c.args.new c.args.dirty.now (g.S.Values.rooms c.args.need.now) c.args.child c.in-Inner.node c.in-Some-found.room c.in-Inner.is (sym c.found.ensures ∙ c.in-Some-found.is)
+returns-in-Some-found g c = inner_found g.S.Values.room (g.S.Values.leaf_at c.args.store.now) (g.S.Values.node_at c.args.store.now) c.args.new.now c.args.dirty.now (g.S.Values.rooms c.args.need.now) c.args.child c.in-Inner.node c.in-Some-found.room c.in-Inner.is (sym c.found.ensures ∙ c.in-Some-found.is)
 
 pub returns-in-None : goal.returns-in-None
-returns-in-None g c = none_found g.S.Values.room (g.S.Values.leaf_at c.args.store.now) (g.S.Values.node_at c.args.store.now) c.args.new c.args.dirty.now (g.S.Values.rooms c.args.need.now) c.args.child c.in-Inner.node c.requires.there.0 c.room_of-in-None.result c.in-Inner.is (sym c.found.ensures ∙ c.in-None.is) c.requires.there.1 c.room_of-in-None.ensures
+returns-in-None g c = none_found g.S.Values.room (g.S.Values.leaf_at c.args.store.now) (g.S.Values.node_at c.args.store.now) c.args.new.now c.args.dirty.now (g.S.Values.rooms c.args.need.now) c.args.child c.in-Inner.node c.requires.there.0 c.room_of-in-None.result c.in-Inner.is (sym c.found.ensures ∙ c.in-None.is) c.requires.there.1 c.room_of-in-None.ensures

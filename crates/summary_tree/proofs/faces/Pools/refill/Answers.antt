@@ -1,3 +1,5 @@
+use Rattle.std.proofs.Common.{ap}
+use Rattle.summary_tree.specs.declared.faces.Head.{Head}
 use Rattle.summary_tree.specs.declared.faces.FaceList.TheVariants.{Checks, Names, Changes, Segs}
 use Rattle.summary_tree.proofs.FaceTables.{packed_as}
 use Rattle.summary_tree.proofs.faces.Pools.refill.Goals as goal
@@ -27,4 +29,4 @@ pub refill-requires-4-clause-of_pool : goal.refill-requires-4-clause-of_pool
 refill-requires-4-clause-of_pool c = c.requires.of_pools Segs
 
 pub returns-clause-packed : goal.returns-clause-packed
-returns-clause-packed c = packed_as _ c.args.face.now c.refill.ensures.here c.refill-2.ensures.here c.refill-3.ensures.here c.refill-4.ensures.here c.requires.packed
+returns-clause-packed c = packed_as _ c.args.face.now c.refill.ensures.here c.refill-2.ensures.here c.refill-3.ensures.here c.refill-4.ensures.here (ap (λ (h : Head). h.entries) c.head_of-entry.ensures) c.requires.packed
