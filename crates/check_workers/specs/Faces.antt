@@ -1,5 +1,6 @@
 -- Faces of the lines of a text.
 use Rattle.std.specs.Prelude.{ℕ, ◌≤◌, ◌<◌, ◌^◌, List, All, length}
+use Rattle.std.specs.List.{slice_range}
 use Rattle.knit_base.specs.declared.instr.Read.{Read}
 use Rattle.knit_base.specs.declared.needle.Needle.{Needle}
 use Rattle.knit_base.specs.declared.profile.Profile.{Profile}
@@ -9,6 +10,7 @@ use Rattle.face_data.specs.Spots.{IsNumbered}
 use Rattle.face_data.specs.Stands.{StandsFor}
 use Rattle.face_data.specs.Summaries.{Summary}
 use Rattle.block_summary.specs.Prepared.{AreKnown, AreReadings}
+use Rattle.check_workers.specs.declared.stretch.Lot.{Lot}
 
 -- However the lines of the text are read with these names of carriers, the face stands for them, and it is good for the carriers, the limit on the loops of a
 -- needle and whatever needles are known that the lines name.
@@ -41,3 +43,7 @@ pub record CanFold (profile : Profile) (text : List (List ℕ)) (start end size 
   pub inside : end ≤ length text
   pub some : 1 ≤ size
   pub few : size ≤ 4096
+
+-- the lot's face is that of the lines from where it begins to where it ends
+abbrev pub IsLot : Profile → List (List ℕ) → List (List ℕ) → Lot → Type 0
+IsLot profile names text lot = IsFaceOf profile names (slice_range text lot.start lot.end) lot.face

@@ -1,13 +1,13 @@
 use Rattle.std.proofs.Common.{◌-◌, ◌≤◌}
 use Rattle.std.specs.List.{slice_range}
 use Rattle.check_workers.specs.Faces.{IsFaceOf}
-use Rattle.check_workers.proofs.stretch.fold_in_turn.Given as goal
+use Rattle.check_workers.proofs.stretch.join_lots.Given as goal
 
 abbrev pub invariant-loop-at : goal.invariant-loop-at
 invariant-loop-at g l = record {
   behind : l.start ≤ l.at;
   inside : l.at ≤ l.end;
-  folded : IsFaceOf l.setting.profile l.setting.declared (slice_range l.lines l.start l.at) l.face;
+  joined : IsFaceOf l.setting.profile l.setting.declared (slice_range l.lines l.start l.at) l.face;
 }
 
 abbrev pub decreases-loop-at : goal.decreases-loop-at
