@@ -1,5 +1,5 @@
 //! A whole input, up to a limit, and a whole report.
-ghost use Rattle.std.specs.Prelude.{◌+◌, ◌<◌, ◌^◌, vec_len, ◌≤◌, ◌≡◌, length, IfOk, OnOk, OnErr, IsErrOf};
+ghost use Rattle.std.specs.Prelude.{◌+◌, ◌<◌, ◌^◌, vec_len, ◌≤◌, ◌≡◌, [], length, IfOk, OnOk, OnErr, IsErrOf};
 ghost use Rattle.std.specs.Io.KnownBytes.{Appends, Consumes, IsAtEnd, Keeps};
 ghost use Rattle.knit_ports.specs.declared.whole.InputFault.TheVariants as fault;
 ghost use Rattle.knit_ports.specs.Faults.{Rose};
@@ -53,7 +53,7 @@ pub fn read_input<S: Source>(
     ensures gave { IsErrOf result InputFault.Failed → GaveAtMost limit (S.left source.old) (S.left source.new) }
     ensures lost { IsErrOf result InputFault.NoMemory → GaveAtMost (limit + 1) (S.left source.old) (S.left source.new) }
 {
-    let mut bytes = Vec::new(alloc);
+    let mut bytes = with_room(alloc, limit + 1);
     let mut piece = zeros(alloc, PIECE)?;
     'reading: while bytes.len() <= limit {
         let want = piece.len().min(limit + 1 - bytes.len());
@@ -63,6 +63,17 @@ pub fn read_input<S: Source>(
         }
     }
     Ok(bytes)
+}
+
+// No bytes yet, and room for so many, if there is memory for them, so that none of them is copied when more come. The system gives a page of room
+// only when it is written to.
+fn with_room(alloc: Global, room: usize) -> Vec<u8>
+    ensures { result.items ≡ [] }
+{
+    match Vec::with_capacity(alloc, room) {
+        Ok(bytes) => bytes,
+        Err(_) => Vec::new(alloc),
+    }
 }
 
 // So many zeros, to be read into.
