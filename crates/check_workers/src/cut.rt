@@ -13,8 +13,8 @@ use memchr::memchr;
 use std::alloc::Global;
 use std::thread::{Threads, join};
 
-// How many bytes make a lot worth a thread.
-const LOT_BYTES: usize = 524_288;
+// How many bytes make a lot worth a thread: the places of half of the lines are copied then, which takes a good part of the time that cutting them took.
+const LOT_BYTES: usize = 4_194_304;
 
 /// The lines of the bytes, as `cut_buffer` of `line_cutter` tells them. A long text is cut in lots of nearly equal numbers of bytes, each lot in a thread of its own
 /// where one can be made, and in no more lots than there are processors.

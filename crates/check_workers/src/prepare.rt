@@ -16,8 +16,12 @@ use std::marker::Brand;
 use std::sync::ledger::{Blank, Ledger};
 use std::thread::{Threads, join};
 
-/// Prepares the texts in lots of nearly equal numbers, each lot in a thread of its own where one can be made, and in no more lots than
-/// there are processors, so that each has some thousand lines. A text that is too long is told before any is prepared.
+// How many lines make a lot worth a thread. Memory that a thread asked for is likely to be kept for it by the C library, so that what an edit lets go of serves no later edit of
+// another thread: an opening that one thread prepares soon enough leaves less memory behind.
+const LOT_LINES: u32 = 131_072;
+
+/// Prepares the texts in lots of nearly equal numbers, each lot in a thread of its own where one can be made, in no more lots than there are processors, and in one where the
+/// texts have fewer than 131,072 lines. A text that is too long is told before any is prepared.
 pub fn prepare_all<R: Threads + Sync>(
     rt: &R,
     alloc: Global,
@@ -33,7 +37,7 @@ pub fn prepare_all<R: Threads + Sync>(
     if let Some(lines) = first_too_long(texts.as_slice()) {
         return Err(PrepareFault::BlockLong { lines });
     }
-    let lots = lot_count(rt, line_count(texts.as_slice()));
+    let lots = lot_count(rt, line_count(texts.as_slice()), LOT_LINES);
     match prepare_lots(rt, alloc, lots, texts, setting) {
         Ok(blocks) => Ok(blocks),
         Err(NoMemory) => Err(PrepareFault::NoMemory),
@@ -60,7 +64,7 @@ fn line_count(texts: &[BlockText]) -> usize {
 }
 
 // So many lots at most, a half of them beside the other.
-fn prepare_lots<R: Threads + Sync>(
+pub(crate) fn prepare_lots<R: Threads + Sync>(
     rt: &R,
     alloc: Global,
     lots: usize,

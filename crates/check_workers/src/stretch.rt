@@ -18,7 +18,7 @@ use std::sync::ledger::{Blank, Ledger};
 use std::thread::{Threads, join};
 use summary_compose::Scratch;
 
-// So many lines make a lot, or a few less.
+// So many lines make a lot, or a few less. A thread takes the time of some hundred lines.
 const LOT_LINES: u32 = 4_096;
 
 /// The face of the lines from `start` to `end`, which isn't counted. They are prepared in blocks of `size` lines. Of a long stretch each of several threads takes
@@ -41,7 +41,7 @@ pub fn fold_lines<R: Threads + Sync>(
     requires few { size ≤ 4096 }
     ensures { IfOk result (IsFaceOf setting.now.profile setting.now.declared (slice_range lines.now start end)) }
 {
-    let workers = lot_count(rt, (end - start) as usize);
+    let workers = lot_count(rt, (end - start) as usize, LOT_LINES);
     let lots = fold_apart(rt, alloc, workers, lines, start, end, size, setting)?;
     join_lots::<Brand, R>(
         rt,

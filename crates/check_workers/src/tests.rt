@@ -3,6 +3,7 @@ ghost use Rattle.std.specs.Prelude.{◌≡◌, ◌<◌, ◌≤◌, ◌^◌, leng
 ghost use Rattle.knit_base.specs.Limits.{IsLawfulProfile};
 ghost use Rattle.knit_base.specs.Lines.{HasNoLineEnd};
 
+use crate::prepare::prepare_lots;
 use crate::{prepare_all, prepare_wide};
 use block_summary::{PrepareFault, Prepared};
 use face_data::{FaceView, Seg};
@@ -72,11 +73,7 @@ fn is_knitted(block: &Prepared, knits: u16) -> bool {
         && block.text.len() == made + 1
 }
 
-// Whether texts of so many knits each are prepared, in their order.
-fn are_knitted<R: Threads + Sync>(rt: &R, alloc: Global, knits: &[u16]) -> bool {
-    let Ok(blocks) = prepared(rt, alloc, knits) else {
-        return false;
-    };
+fn have_knits(blocks: &[Prepared], knits: &[u16]) -> bool {
     if blocks.len() != knits.len() {
         return false;
     }
@@ -88,7 +85,25 @@ fn are_knitted<R: Threads + Sync>(rt: &R, alloc: Global, knits: &[u16]) -> bool 
     true
 }
 
-// The last of the lists has lines enough for several threads.
+// Whether texts of so many knits each are prepared, in their order.
+fn are_knitted<R: Threads + Sync>(rt: &R, alloc: Global, knits: &[u16]) -> bool {
+    match prepared(rt, alloc, knits) {
+        Ok(blocks) => have_knits(&blocks, knits),
+        Err(_) => false,
+    }
+}
+
+// The same in so many lots at most, each in a thread of its own.
+fn are_knitted_in<R: Threads + Sync>(rt: &R, alloc: Global, lots: usize, knits: &[u16]) -> bool {
+    let Ok(texts) = texts(alloc, knits) else {
+        return false;
+    };
+    match prepare_lots(rt, alloc, lots, texts, &setting(alloc)) {
+        Ok(blocks) => have_knits(&blocks, knits),
+        Err(_) => false,
+    }
+}
+
 #[test]
 fn the_blocks_stand_in_the_order_of_their_texts(rt: HostRuntime) {
     let twenty = [3, 1, 4, 1, 5, 9, 2, 6, 5, 3, 5, 8, 9, 7, 9, 3, 2, 3, 8, 4];
@@ -98,6 +113,19 @@ fn the_blocks_stand_in_the_order_of_their_texts(rt: HostRuntime) {
         are_knitted(&rt, rt.alloc(), &[2, 0]),
         are_knitted(&rt, rt.alloc(), &twenty),
         are_knitted(&rt, rt.alloc(), &[4095, 17, 4000, 3000, 1, 4090]),
+    ];
+    assert_eq!(rt; are, [true; 5]);
+}
+
+#[test]
+fn the_blocks_of_several_threads_stand_in_the_order_of_their_texts(rt: HostRuntime) {
+    let long = [4095, 17, 4000, 3000, 1, 4090];
+    let are = [
+        are_knitted_in(&rt, rt.alloc(), 4, &long),
+        are_knitted_in(&rt, rt.alloc(), 3, &[3, 1, 4, 1, 5, 9, 2]),
+        are_knitted_in(&rt, rt.alloc(), 16, &[3, 1, 4, 1, 5, 9, 2]),
+        are_knitted_in(&rt, rt.alloc(), 2, &[7]),
+        are_knitted_in(&rt, rt.alloc(), 2, &[]),
     ];
     assert_eq!(rt; are, [true; 5]);
 }

@@ -6,14 +6,12 @@ use std::thread::{Threads, available_parallelism};
 /// How many lots lines are given out in at most.
 pub const MOST_LOTS: usize = 16;
 
-// How many lines make a lot worth a thread.
-const LOT_LINES: usize = 4_096;
-
-/// One for each processor, where there are lines enough: a thread takes the time of some hundred lines.
-pub(crate) fn lot_count<R: Threads>(rt: &R, lines: usize) -> usize
+/// One for each processor, where there are lines enough: so many of them are worth a thread.
+pub(crate) fn lot_count<R: Threads>(rt: &R, lines: usize, worth: u32) -> usize
+    requires { 1 ≤ worth }
     ensures { result ≤ 16 }
 {
-    let most = MOST_LOTS.min((lines / LOT_LINES).saturating_add(1));
+    let most = MOST_LOTS.min((lines / worth as usize).saturating_add(1));
     if most < 2 {
         return 1;
     }
