@@ -53,11 +53,11 @@ fn the_number_of_lots_changes_nothing(rt: HostRuntime) {
     }
 }
 
-// Some lines, then 120,000 more, and then others.
+// Some lines, then 650,000 more, and then others.
 fn long_text(alloc: Global, first: &[u8], last: &[u8]) -> Result<Vec<u8>, AllocError> {
     let mut text = Vec::new(alloc);
     text.extend_from_slice(first)?;
-    for _ in 0..120_000 {
+    for _ in 0..650_000 {
         text.extend_from_slice(b"knit + f1 1\r\n")?;
     }
     text.extend_from_slice(last)?;
@@ -80,8 +80,8 @@ fn count_long<R: Threads + Sync>(
 #[test]
 fn a_long_text_is_cut(rt: HostRuntime) {
     for (first, last, want) in [
-        (b"".as_slice(), b"out 1".as_slice(), Ok(120_001)),
-        (b";\n".as_slice(), b"\xc3\xa9\n".as_slice(), Ok(120_002)),
+        (b"".as_slice(), b"out 1".as_slice(), Ok(650_001)),
+        (b";\n".as_slice(), b"\xc3\xa9\n".as_slice(), Ok(650_002)),
         (
             b";\n\xff\n".as_slice(),
             b"\xff".as_slice(),
@@ -90,7 +90,7 @@ fn a_long_text_is_cut(rt: HostRuntime) {
         (
             b";\n".as_slice(),
             b"\n\xff\n".as_slice(),
-            Err(CutFault::NotUtf8 { line: 120_003 }),
+            Err(CutFault::NotUtf8 { line: 650_003 }),
         ),
     ] {
         assert_eq!(rt; count_long(&rt, rt.alloc(), first, last), want);
@@ -110,7 +110,7 @@ fn a_line_that_is_too_long_is_named(rt: HostRuntime) -> Result<(), Fail> {
     let long = line_of(rt.alloc(), 4_097)?;
     assert_eq!(rt;
         count_long(&rt, rt.alloc(), &longest, &longest),
-        Ok(120_002)
+        Ok(650_002)
     );
     assert_eq!(rt;
         count_long(&rt, rt.alloc(), &long, &long),
@@ -118,7 +118,7 @@ fn a_line_that_is_too_long_is_named(rt: HostRuntime) -> Result<(), Fail> {
     );
     assert_eq!(rt;
         count_long(&rt, rt.alloc(), &longest, &long),
-        Err(CutFault::LineLong { line: 120_002 })
+        Err(CutFault::LineLong { line: 650_002 })
     );
     Ok(())
 }
