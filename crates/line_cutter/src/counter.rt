@@ -53,8 +53,22 @@ fn ascii_lines_at(text: &[u8], start: usize) -> Option<(u32, usize)>
     Some((line_feeds(lines) as u32 + 1, start + end + 1))
 }
 
+// Of so many bytes the lines are counted.
+const NEAR: usize = 65_536;
+
+/// How many lines a text is likely to have: of a long one as many for each byte as among its first bytes, and a sixteenth more. Nothing depends on it but room.
+pub(crate) fn expected_lines(text: &[u8]) -> usize {
+    let near = &text[..text.len().min(NEAR)];
+    let count = line_feeds(near);
+    if near.len() == text.len() {
+        return count + 1;
+    }
+    let expected = count.saturating_mul(text.len() / NEAR + 1);
+    expected.saturating_add(expected / 16)
+}
+
 // How many line feeds there are. They are counted in bytes, which takes many at a time: 32 of them, so that chunks are whole.
-pub(crate) fn line_feeds(text: &[u8]) -> usize
+fn line_feeds(text: &[u8]) -> usize
     ensures few { result ≤ length text.now }
     ensures counted { result ≡ count_by is_line_feed text.now }
 {

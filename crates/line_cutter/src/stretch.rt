@@ -5,7 +5,7 @@ ghost use Rattle.knit_base.specs.Lines.{lines_of};
 ghost use Rattle.line_cutter.specs.Cut.{IsFirstBad, IsGoodLine, IsStretch};
 
 use crate::CutFault;
-use crate::counter::line_feeds;
+use crate::counter::expected_lines;
 use crate::line::next_line;
 use knit_base::{Lines, Span};
 use std::alloc::{AllocError, Global};
@@ -37,7 +37,7 @@ pub fn cut_stretch(
     ensures reached { IfOk result (λ stretch. end ≤ stretch.next) }
     ensures err { IfErr result (IsFirstBad (lines_of (drop start text.now))) }
 {
-    let mut spans = Vec::with_capacity(alloc, line_feeds(&text[start..end]) + 1)?;
+    let mut spans = Vec::with_capacity(alloc, expected_lines(&text[start..end]))?;
     let mut next = start;
     'cutting: while next < end {
         let found = next_line(text, next, spans.len() as u32 + 1, is_ascii)?;
