@@ -1,4 +1,5 @@
 pub mod Entries
+mod RowLists
 pub mod Search
 pub mod TableLines
 pub mod TextTables

@@ -7,19 +7,17 @@ ghost use Rattle.loop_history.specs.declared.row.LoopRow.{LoopRow};
 
 use crate::LoopRow;
 use crate::joining::rows_through;
+use crate::row_list::RowList;
 use face_data::FaceView;
 use knit_base::{NoMemory, Steps};
 use std::alloc::Global;
 use std::marker::Model;
 use std::sync::ledger::Ledger;
 
-// So many rows are moved in less time than their memory is cut.
-const FEW_ROWS: usize = 128;
-
 /// The loops that a block makes, in the order of their lines. There are at most 4,096 of them.
 #[derive(Drop)]
 pub struct LoopTable {
-    rows: Vec<LoopRow>,
+    rows: RowList,
 }
 
 impl Model for LoopTable {
@@ -29,9 +27,9 @@ impl Model for LoopTable {
 
     ghost Value = { List LoopRow };
 
-    ghost view = { λ t. t.rows.items };
+    ghost view = { λ t. t.rows };
 
-    ghost invariant = { λ t. IsTable t.rows.items };
+    ghost invariant = { λ t. IsTable t.rows };
 }
 
 impl LoopTable {
@@ -40,7 +38,7 @@ impl LoopTable {
         ensures { result ≡ [] }
     {
         LoopTable {
-            rows: Vec::new(alloc),
+            rows: RowList::new(alloc),
         }
     }
 
@@ -49,7 +47,7 @@ impl LoopTable {
         ensures { IfOk result (λ table. table ≡ []) }
     {
         Ok(LoopTable {
-            rows: Vec::with_capacity(alloc, room as usize)?,
+            rows: RowList::with_capacity(alloc, room as usize)?,
         })
     }
 
@@ -61,9 +59,7 @@ impl LoopTable {
         ensures ok { OnOk result (self.new ≡ self.old ++ row ∷ []) }
         ensures err { OnErr result (self.new ≡ self.old) }
     {
-        self.rows.reserve(1)?;
-        self.rows.push_reserved(row);
-        Ok(())
+        self.rows.push(row)
     }
 
     /// Appends the rows of a second text's table, told from the entry of a first one, to which this table belongs and which has this face: the
@@ -78,7 +74,7 @@ impl LoopTable {
         ensures ok { OnOk result (self.new ≡ self.old ++ map (row_through (map (changed_of first.now.segs.now) first.now.changes.now) first.now.lines) later) }
         ensures err { OnErr result (self.new ≡ self.old) }
     {
-        let mut more = rows_through(*self.rows.allocator(), first, later.rows)?;
+        let mut more = rows_through(self.rows.allocator(), first, &later.rows)?;
         self.rows.append(&mut more)?;
         Ok(())
     }
@@ -87,27 +83,7 @@ impl LoopTable {
     pub fn shrink_to_fit(&mut self)
         ensures { self.new ≡ self.old }
     {
-        if self.rows.len() <= FEW_ROWS {
-            self.move_rows();
-        } else {
-            self.rows.shrink_to_fit();
-        }
-    }
-
-    // Moves the rows to memory of their size, where there is some. The room that they had is then given back whole, and the next table can
-    // have it: cutting off its end would leave a piece that no table fits in.
-    fn move_rows(&mut self)
-        ensures { self.new ≡ self.old }
-    {
-        if self.rows.len() == self.rows.capacity() {
-            return;
-        }
-        let Ok(mut fitting) = Vec::with_capacity(*self.rows.allocator(), self.rows.len()) else {
-            return;
-        };
-        if fitting.append(&mut self.rows).is_ok() {
-            self.rows = fitting;
-        }
+        self.rows.shrink_to_fit();
     }
 
     /// How many loops there are.
@@ -133,7 +109,7 @@ impl LoopTable {
         ensures steps { steps.new ≡ steps.old + 1 }
     {
         steps.tick();
-        &self.rows[i as usize]
+        self.rows.get(i as usize)
     }
 
     /// The place of the row of the line with this offset. It costs a step for each row that it looks at.
@@ -165,10 +141,7 @@ impl LoopTable {
     pub fn try_clone(&self) -> Result<Self, NoMemory>
         ensures { IfOk result (λ table. table ≡ self.now) }
     {
-        let mut rows = Vec::with_capacity(*self.rows.allocator(), self.rows.len())?;
-        for row in &self.rows {
-            rows.push(row.try_clone()?)?;
-        }
+        let rows = self.rows.try_clone()?;
         Ok(LoopTable { rows })
     }
 }

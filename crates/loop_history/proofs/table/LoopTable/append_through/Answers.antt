@@ -7,10 +7,10 @@ use Rattle.loop_history.proofs.table.LoopTable.append_through.Goals as goal
 
 pub invariant_of-self-2 : goal.invariant_of-self-2
 invariant_of-self-2 c =
-    let rows : List LoopRow = c.self.inside.rows.items in
-    let later : List LoopRow = c.later.inside.rows.items in
+    let rows : List LoopRow = c.self.inside.rows in
+    let later : List LoopRow = c.later.inside.rows in
     let lines = c.args.first.now.lines in
-    let appended = c.in_ok-append.ensures.items ∙ ap (λ (more : List LoopRow). rows ++ more) c.in_ok-more.ensures in
+    let appended = c.in_ok-append.ensures.ok ∙ ap (λ (more : List LoopRow). rows ++ more) c.in_ok-more.ensures in
     subst IsTable (sym appended)
     (is_table_both (map (changed_of c.args.first.now.segs.now) c.args.first.now.changes.now) lines rows later c.self.invariant c.later.invariant
     (subst (All (λ (row : LoopRow). row.offset < lines)) (sym c.self.view_is) c.requires.before)
