@@ -3,6 +3,7 @@ pub mod Adds
 pub mod Appended
 pub mod AskedLoops
 pub mod Blocks
+pub mod Boxes
 pub mod Counts
 pub mod Cuts
 pub mod Heights

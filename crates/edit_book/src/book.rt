@@ -28,7 +28,8 @@ pub struct Book {
     pub(crate) states: Vec<BlockState>,
     pub(crate) order: Order,
     pub(crate) lines: u32,
-    pub(crate) tree: Tree,
+    // in a box, since a book is moved at each turn, and the tree's fields are most of it
+    pub(crate) tree: Box<Tree>,
     pub(crate) alloc: Global,
 }
 
@@ -41,9 +42,9 @@ impl Model for Book {
 
     ghost coded = { Prim.hlevel (codes, tree_code) };
 
-    ghost view = { λ b. book_view b.opening b.journal b.tree };
+    ghost view = { λ b. book_view b.opening b.journal b.tree.value };
 
-    ghost invariant = { λ b. Stands b.opening b.journal.entries b.tree.leaves b.states.items b.order.ids b.lines };
+    ghost invariant = { λ b. Stands b.opening b.journal.entries b.tree.value.leaves b.states.items b.order.ids b.lines };
 }
 
 impl Book {

@@ -101,7 +101,7 @@ impl Book {
             states,
             order,
             lines,
-            tree: Tree::start(alloc, leaves, steps)?,
+            tree: Box::new(alloc, Tree::start(alloc, leaves, steps)?)?,
             alloc,
         })
     }
