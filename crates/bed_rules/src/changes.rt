@@ -30,9 +30,7 @@ fn emptied(alloc: Global, n: Needle) -> Result<SymbolList, NoMemory>
 fn moved(alloc: Global, n: Needle, n2: Needle, segments: &Symbols) -> Result<SymbolList, NoMemory>
     ensures { IfOk result (λ changed. changed ≡ moved segments.now n n2) }
 {
-    let mut both = Segs::new(alloc);
-    segments.append_segs(n2, &mut both)?;
-    segments.append_segs(n, &mut both)?;
+    let both = segments.segs_on_both(n2, n)?;
     let mut changed = emptied(alloc, n)?;
     changed.push((n2, both))?;
     Ok(changed)

@@ -47,6 +47,16 @@ impl<T: Drop> ShortList<T> {
         }
     }
 
+    /// The list of these two items, which takes no memory.
+    pub fn two(alloc: Global, first: T, second: T) -> Self
+        ensures { result ≡ first ∷ second ∷ [] }
+    {
+        ShortList {
+            alloc,
+            storage: Storage::Two([first, second]),
+        }
+    }
+
     /// Appends an item. The first four take no memory; after `NoMemory` the list is as before.
     pub fn push(&mut self, item: T) -> Result<(), NoMemory>
         requires { length self.old < 2 ^ 32 - 1 }

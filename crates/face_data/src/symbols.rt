@@ -3,6 +3,7 @@ ghost use Rattle.std.specs.Prelude.{◌≡◌, ◌+◌, ◌≤◌, ◌<◌, [], 
 ghost use Rattle.std.specs.Option.{option_copied};
 ghost use Rattle.knit_base.specs.declared.needle.Needle.{Needle};
 ghost use Rattle.knit_base.specs.Needle.{same_needle};
+ghost use Rattle.face_data.specs.declared.face.Seg.TheVariants.{Entry};
 ghost use Rattle.face_data.specs.Composition.{merged};
 ghost use Rattle.face_data.specs.Goodness.{IsInOrder};
 ghost use Rattle.face_data.specs.Places.{StandsAt, GoesAt};
@@ -69,9 +70,29 @@ impl Symbols {
         ensures ok { OnOk result (segs.new ≡ segs.old ++ segments_on self.now n) }
         ensures err { OnErr result (segs.new ≡ segs.old) }
     {
+        append(self.on(n, &[Seg::Entry(n)]), segs)
+    }
+
+    /// The segments that two needles hold, the second one's behind the first one's. A list that would pass what a `u32` counts is refused as
+    /// want of memory; one of each needs no memory.
+    pub fn segs_on_both(&self, first: Needle, second: Needle) -> Result<Segs, NoMemory>
+        ensures { IfOk result (λ segs. segs ≡ segments_on self.now first ++ segments_on self.now second) }
+    {
+        let own = [Seg::Entry(first)];
+        let own_second = [Seg::Entry(second)];
+        let front = self.on(first, &own);
+        let behind = self.on(second, &own_second);
+        joined(*self.held.allocator(), front, behind)
+    }
+
+    // The segments that the needle holds, of which this is the entry.
+    fn on<'a>(&'a self, n: Needle, entry: &'a [Seg; 1]) -> &'a [Seg]
+        requires { entry.now ≡ Entry n ∷ [] }
+        ensures { result.now ≡ segments_on self.now n }
+    {
         match self.of(n) {
-            Some(held) => append(held.as_slice(), segs),
-            None => append(&[Seg::Entry(n)], segs),
+            Some(held) => held.as_slice(),
+            None => entry,
         }
     }
 
@@ -161,6 +182,21 @@ fn search(held: &[(Needle, Segs)], n: Needle) -> Result<usize, usize>
         }
     }
     Err(low)
+}
+
+// The items of both, in most cases one of each.
+fn joined(alloc: Global, front: &[Seg], behind: &[Seg]) -> Result<Segs, NoMemory>
+    ensures { IfOk result (λ segs. segs ≡ front.now ++ behind.now) }
+{
+    if let [first] = front {
+        if let [second] = behind {
+            return Ok(Segs::two(alloc, *first, *second));
+        }
+    }
+    let mut both = Segs::new(alloc);
+    append(front, &mut both)?;
+    append(behind, &mut both)?;
+    Ok(both)
 }
 
 fn append(more: &[Seg], segs: &mut Segs) -> Result<(), NoMemory>
