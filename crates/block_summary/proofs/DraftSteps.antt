@@ -116,13 +116,16 @@ carrier_known : (digest : Digest) (c : CarrierNo) → contains_carrier digest.in
 unfolding digest_bearing
 carrier_known digest c ins = ap (λ b. if b then Implied else if_so (contains_carrier digest.outs c) Refuted) ins
 
--- carriers of a set of known ones are known to be in action
-pub carriers_held : (kept : List Asked) (e : Effect) (a : List Changed) (digest : Digest) (cs : List CarrierNo) → digest ≡ digest_of kept → IsIrredundant kept →
-    bit_and (mask_of cs) (bit_or e.came (without_set digest.ins e.went)) ≡ mask_of cs → (c : CarrierNo) → Contains cs c → against_kept kept (read_answer e a (carrier_in c)) ≡ yes_it_does
-carriers_held kept e a digest cs is each all c there =
+-- a carrier of a list, all of which are in a set
+pub in_set : (cs : List CarrierNo) (known : ℕ) (c : CarrierNo) → bit_and (mask_of cs) known ≡ mask_of cs → Contains cs c → contains_carrier known c ≡ true
+in_set cs known c all there = ap (λ b. nat_eq b 1) (in_known cs known c all there)
+
+-- a carrier that came, or was asked for and didn't go, is known to be in action
+pub carrier_held : (kept : List Asked) (e : Effect) (a : List Changed) (digest : Digest) (c : CarrierNo) → digest ≡ digest_of kept → IsIrredundant kept →
+    contains_carrier (bit_or e.came (without_set digest.ins e.went)) c ≡ true → against_kept kept (read_answer e a (carrier_in c)) ≡ yes_it_does
+carrier_held kept e a digest c is each known =
     elim (ways (contains_carrier e.came c) (contains_carrier e.went c) (contains_carrier digest.ins c)
-    (ap (λ b. contains_carrier e.came c || b) (sym (has-without digest.ins e.went c)) ∙ sym (has-bit_or e.came (without_set digest.ins e.went) c)
-    ∙ ap (λ b. nat_eq b 1) (in_known cs (bit_or e.came (without_set digest.ins e.went)) c all there))) [
+    (ap (λ b. contains_carrier e.came c || b) (sym (has-without digest.ins e.went c)) ∙ sym (has-bit_or e.came (without_set digest.ins e.went) c) ∙ known)) [
       | inl came ↦ came_answer kept e a c came
       | inr ask ↦ kept_answer kept e a c ask.0 ask.1 ∙ settled-plain kept (carrier_in c) tt each
           ∙ ap (λ r. from_bearing r (asks (carrier_in c))) (ap (λ (d : Digest). digest_bearing d (carrier_in c)) (sym is) ∙ carrier_known digest c ask.2)

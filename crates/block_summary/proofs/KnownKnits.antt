@@ -1,5 +1,6 @@
 -- A knit of which all is known, as a line more of a block.
-use Rattle.std.proofs.Common.{Option, Some, ◌≡◌, ℕ, ◌+◌, Bool, true, false, List, [], ◌∷◌, ◌++◌, None, refl, sym, ap, ◌∙◌, subst}
+use Rattle.std.proofs.Common.{Option, Some, ◌≡◌, ℕ, ◌+◌, Bool, true, false, List, [], ◌∷◌, ◌++◌, None, refl, sym, ap, ◌∙◌, subst, inl, inr}
+use Rattle.std.specs.List.{Contains}
 use Rattle.std.specs.Option.{option_map, option_to_list}
 use Rattle.knit_base.specs.declared.instr.Instr.{Instr}
 use Rattle.knit_base.specs.declared.instr.Instr.TheVariants.{Knit}
@@ -17,6 +18,7 @@ use Rattle.knit_base.specs.Usual.{usual_read}
 use Rattle.face_data.specs.declared.face.Seg.{Seg}
 use Rattle.face_data.specs.Segments.{segments_on}
 use Rattle.face_data.specs.Summaries.{Summary}
+use Rattle.face_data.proofs.Members.{Contains-cons_cases, Contains-none}
 use Rattle.loop_history.specs.declared.row.LoopRow.{LoopRow}
 use Rattle.face_data.specs.declared.face.Ending.TheVariants.{Through}
 use Rattle.block_summary.specs.DraftKnowledge.{HasAskedAll, effect_in, stopped_at}
@@ -27,6 +29,13 @@ use Rattle.block_summary.proofs.AskedHold.{asked_again}
 use Rattle.block_summary.proofs.Blocks.{one_more_line, rows_more}
 use Rattle.block_summary.proofs.KnitSteps.{through_before}
 use Rattle.block_summary.proofs.LineSteps.{line_stops}
+
+-- what holds of a carrier holds of each one of the list of it alone
+pub of_one : (P : CarrierNo → Type 0) (c x : CarrierNo) → P c → Contains (c ∷ []) x → P x
+of_one P c x holds there = elim (Contains-cons_cases c [] x there) [
+  | inl same ↦ subst P same holds
+  | inr later ↦ absurd (Contains-none x later)
+]
 
 -- the row of a knit of one carrier
 pub knit_row : (rows more : List LoopRow) (old : Summary) (offset : ℕ) (dir : Dir) (n : Needle) (c : CarrierNo) (yarns : List CarrierNo) (through : List Seg) →

@@ -14,8 +14,8 @@ ghost use Rattle.face_data.specs.Segments.{change_at};
 ghost use Rattle.block_summary.specs.Prepared.{AddsLine, AreRowsOf, IsKnitIfKnown, row_of};
 
 use crate::{Draft, FormedLoop, LineEnd};
-use knit_base::{CarrierNo, Dir, Fault, Instr, Needle, NoMemory, Read, Setting, Usual};
-use knitout_reader::{LastNamed, one_carrier, read_line, usual_reading, usual_whole_line};
+use knit_base::{CarrierNo, Dir, Fault, Instr, Needle, NoMemory, Read, Setting, Usual, Yarns};
+use knitout_reader::{LastNamed, read_line, usual_reading, usual_whole_line};
 use loop_history::{LoopRow, LoopTable};
 
 /// One line more. Answers with its fault where the lines are known to stop at it. `last` is what the lines before named.
@@ -137,7 +137,7 @@ fn add_reading(
     ensures rows { OnOk result (AreRowsOf draft.new.lines loops.new) }
 {
     let _carriers = setting.declared.len();
-    let read = usual_reading(draft.allocator(), usual)?;
+    let read = usual_reading(draft.allocator(), usual);
     add_read(&read, setting, draft, loops)
 }
 
@@ -184,10 +184,10 @@ fn add_knit(
     if !draft.is_bare(n) {
         return Ok(false);
     }
-    let yarns = one_carrier(draft.allocator(), c)?;
-    if !draft.knows_in(&yarns) {
+    if !draft.knows_carrier(c) {
         return Ok(false);
     }
+    let yarns = Yarns::one(draft.allocator(), c);
     let offset = draft.lines();
     let through = draft.knit(n)?;
     loops.push(LoopRow {

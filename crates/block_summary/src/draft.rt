@@ -1,5 +1,5 @@
 //! The summary of the lines read so far.
-ghost use Rattle.std.specs.Prelude.{◌≡◌, ℕ, pos, ◌+◌, ◌-◌, ◌<◌, ◌≤◌, ◌^◌, ◌<ℤ◌, List, [], ◌∷◌, ◌++◌, false, All, Option, IsTrue, IfOk, OnOk, MatchOption, length};
+ghost use Rattle.std.specs.Prelude.{◌≡◌, ℕ, pos, ◌+◌, ◌-◌, ◌<◌, ◌≤◌, ◌^◌, ◌<ℤ◌, List, [], ◌∷◌, ◌++◌, false, true, All, Option, IsTrue, IfOk, OnOk, MatchOption, length};
 ghost use Rattle.std.specs.List.{Contains};
 ghost use Rattle.knit_base.specs.declared.instr.Instr.TheVariants.{Knit};
 ghost use Rattle.knit_base.specs.declared.instr.Read.TheVariants as read;
@@ -7,6 +7,7 @@ ghost use Rattle.knit_base.specs.declared.needle.Dir.{Dir};
 ghost use Rattle.knit_base.specs.declared.yarns.CarrierNo.{CarrierNo};
 ghost use Rattle.knit_base.specs.declared.needle.Needle.{Needle};
 ghost use Rattle.knit_base.specs.Needle.{is_slider, own_slider};
+ghost use Rattle.knit_base.specs.Yarns.{contains_carrier};
 ghost use Rattle.face_data.specs.declared.face.Ending.TheVariants.{Through};
 ghost use Rattle.face_data.specs.Answers.{read_answer, size_left};
 ghost use Rattle.face_data.specs.Answers.Answer.{asks};
@@ -25,7 +26,7 @@ use crate::kept::Kept;
 use crate::laid::{Laid, face_of};
 use crate::room::new_loops_on;
 use face_data::{Bearing, Cond, Effect, Ending, Face, Seg, Segs, SizeAsk, Symbols, slot_of};
-use knit_base::{Fault, Needle, NoMemory, Reason, Yarns};
+use knit_base::{CarrierNo, Fault, Needle, NoMemory, Reason, Yarns, is_in_set};
 use std::alloc::Global;
 use std::marker::Model;
 
@@ -120,12 +121,29 @@ impl Draft {
     pub fn knows_in(&self, yarns: &Yarns) -> bool
         ensures { IsTrue result → (c : CarrierNo) → Contains yarns.now c → HoldsAfter self.now (carrier_in c) }
     {
+        let known = self.known_in();
+        let mask = yarns.mask();
+        (mask & known) == mask
+    }
+
+    /// Whether the carrier is known to be in action. False says nothing.
+    #[inline(always)]
+    pub fn knows_carrier(&self, c: CarrierNo) -> bool
+        requires { c.0 < 64 }
+        ensures { IsTrue result → HoldsAfter self.now (carrier_in c) }
+    {
+        is_in_set(self.known_in(), c)
+    }
+
+    // The carriers that are known to be in action, as a set.
+    #[inline(always)]
+    fn known_in(&self) -> u64
+        ensures { (c : CarrierNo) → contains_carrier result c ≡ true → HoldsAfter self.now (carrier_in c) }
+    {
         let came = self.effect.came;
         let went = self.effect.went;
         let asked = self.kept.digest().ins;
-        let known = came | (asked ^ (asked & went));
-        let mask = yarns.mask();
-        (mask & known) == mask
+        came | (asked ^ (asked & went))
     }
 
     /// Whether the own slider of the needle is known to hold nothing. False says nothing.

@@ -12,7 +12,7 @@ ghost use Rattle.face_data.specs.declared.face.Seg.TheVariants.{New};
 ghost use Rattle.face_data.specs.declared.face.Ending.TheVariants.{Through};
 ghost use Rattle.face_data.specs.Composition.{merged};
 ghost use Rattle.face_data.specs.Conditions.{unless};
-ghost use Rattle.face_data.specs.Conditions.Ask.{size_at_most};
+ghost use Rattle.face_data.specs.Conditions.Ask.{carrier_in, size_at_most};
 ghost use Rattle.face_data.specs.Goodness.{IsInOrder};
 ghost use Rattle.face_data.specs.Segments.{change_at, segments_on};
 ghost use Rattle.face_data.specs.Sizes.{SizeRule, size_ask, size_asks};
@@ -22,7 +22,7 @@ ghost use Rattle.carrier_rules.specs.declared.conds.OfEach.TheVariants.{InAction
 ghost use Rattle.carrier_rules.specs.Carriers.{conds_of, conds_of_each};
 ghost use Rattle.slider_rules.specs.Sliders.{bare_slider};
 ghost use Rattle.block_summary.specs.Asks.{instr_ask};
-ghost use Rattle.block_summary.specs.DraftKnowledge.{CanBeAsked, HasAskedAll, HoldsAfter, IsSmall, effect_in, written};
+ghost use Rattle.block_summary.specs.DraftKnowledge.{CanBeAsked, HasAsked, HasAskedAll, HoldsAfter, IsSmall, effect_in, written};
 ghost use Rattle.block_summary.specs.LineEnds.{EndsAs, carried};
 ghost use Rattle.block_summary.specs.LineSummaries.{asked_by, asked_of_rack, asked_of_sizes, plainly_asked};
 
@@ -182,10 +182,21 @@ impl Draft {
             rule: Rule::CarrierIsOut,
             at: 3,
         };
-        if !self.ask(is_out, Cond::CarrierIn(c))? {
+        if !self.ask_carrier(is_out, c)? {
             return Ok(Some(is_out));
         }
         self.ask_untouched(n)
+    }
+
+    // Asks that a carrier is in action. Answers whether it may be.
+    fn ask_carrier(&mut self, reason: Reason, c: CarrierNo) -> Result<bool, NoMemory>
+        requires { c.0 < 64 }
+        ensures { IfOk result (HasAsked self.old self.new (record { line = self.old.lines; reason = reason }) (carrier_in c)) }
+    {
+        if self.knows_carrier(c) {
+            return Ok(true);
+        }
+        self.ask(reason, Cond::CarrierIn(c))
     }
 
     // A knit that asks nothing new. `None` where it isn't known that it does, and then nothing was done.
@@ -273,9 +284,7 @@ impl Draft {
         ensures rising { IsInOrder self.old.changes }
         ensures through { self.old.ending ≡ Through (effect_in self.old.ending) }
     {
-        let mut both = Segs::new(self.allocator());
-        self.contents().append_segs(n2, &mut both)?;
-        self.contents().append_segs(n, &mut both)?;
+        let both = self.contents().segs_on_both(n2, n)?;
         self.put(n, Segs::new(self.allocator()))?;
         self.put(n2, both)
     }

@@ -23,6 +23,6 @@ pub fn execute_usual(alloc: Global, usual: Usual, carriage: &mut Carriage) -> Re
     if carriage.carry_with_loop(usual)? {
         return Ok(());
     }
-    let read = usual_reading(alloc, usual)?;
+    let read = usual_reading(alloc, usual);
     carriage.execute(&read)
 }

@@ -40,7 +40,7 @@ pub use body::{nth_line, read_body};
 pub use byte_names::ByteNames;
 pub use head::{Head, HeadFault, read_head};
 pub use read::read_line;
-pub use readings::{one_carrier, usual_reading};
+pub use readings::usual_reading;
 pub use shortest::is_shortest_spelling;
 pub use tokens::{code_of, comment_at, is_blank_text, next_token};
 pub use usual::usual_line;

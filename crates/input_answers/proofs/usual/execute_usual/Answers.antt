@@ -8,4 +8,4 @@ use Rattle.input_answers.proofs.usual.execute_usual.Goals as goal
 pub returns : goal.returns
 returns c =
     subst (λ (old : Carriage). OnOk c.execute.result (RanOn (usual_read c.args.usual) old c.execute.new.self)) (c.in_ok-carry_with_loop.ensures.same c.if-branch.false)
-    (subst (λ (r : Read). OnOk c.execute.result (RanOn r c.carry_with_loop.new.self c.execute.new.self)) c.in_ok-read.ensures c.execute.ensures.ok)
+    (subst (λ (r : Read). OnOk c.execute.result (RanOn r c.carry_with_loop.new.self c.execute.new.self)) c.usual_reading-read.ensures c.execute.ensures.ok)

@@ -9,18 +9,18 @@ use Rattle.block_summary.proofs.draft.Draft.ask_usual_knit.Goals as goal
 
 pub returns-then-not-branch : goal.returns-then-not-branch
 returns-then-not-branch c hold dir =
-    knit_stops hold (Knit dir c.args.n (c.args.c ∷ [])) c.args.self.now c.ask.new.self (record { rule = CarrierIsOut; at = 3 })
-    (carrier_asked c.args.self.now c.ask.new.self dir c.args.n c.args.c c.in_ok-ask.field-0 (Some (record { rule = CarrierIsOut; at = 3 })) c.in_ok-ask.ensures
+    knit_stops hold (Knit dir c.args.n (c.args.c ∷ [])) c.args.self.now c.ask_carrier.new.self (record { rule = CarrierIsOut; at = 3 })
+    (carrier_asked c.args.self.now c.ask_carrier.new.self dir c.args.n c.args.c c.in_ok-ask_carrier.field-0 (Some (record { rule = CarrierIsOut; at = 3 })) c.in_ok-ask_carrier.ensures
     (ap (λ b. unless b (record { rule = CarrierIsOut; at = 3 })) c.if-not-branch.true))
 
 pub ask_untouched-requires : goal.ask_untouched-requires
-ask_untouched-requires c = still_untouched c.args.self.now c.ask.new.self _ c.args.c (own_slider c.args.n) c.in_ok-ask.field-0 c.in_ok-ask.ensures c.requires.untouched
+ask_untouched-requires c = still_untouched c.args.self.now c.ask_carrier.new.self _ c.args.c (own_slider c.args.n) c.in_ok-ask_carrier.field-0 c.in_ok-ask_carrier.ensures c.requires.untouched
 
 pub returns : goal.returns
 returns c =
     IfOk-weaker c.ask_untouched.result _ _
     (λ stop asked hold dir.
-    knit_is_asked hold dir c.args.n (c.args.c ∷ []) c.args.self.now c.ask.new.self c.ask_untouched.new.self stop (omega arith)
-    (carrier_asked c.args.self.now c.ask.new.self dir c.args.n c.args.c c.in_ok-ask.field-0 None c.in_ok-ask.ensures
+    knit_is_asked hold dir c.args.n (c.args.c ∷ []) c.args.self.now c.ask_carrier.new.self c.ask_untouched.new.self stop (omega arith)
+    (carrier_asked c.args.self.now c.ask_carrier.new.self dir c.args.n c.args.c c.in_ok-ask_carrier.field-0 None c.in_ok-ask_carrier.ensures
     (ap (λ b. unless b (record { rule = CarrierIsOut; at = 3 })) c.if-not-branch.false)) asked)
     c.ask_untouched.ensures
