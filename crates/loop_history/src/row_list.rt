@@ -75,7 +75,9 @@ impl RowList {
     /// Appends the rows of the other list, which then has none. After `NoMemory` both are as before.
     pub(crate) fn append(&mut self, more: &mut RowList) -> Result<(), NoMemory>
         ensures ok { OnOk result (self.new ≡ self.old ++ more.old) }
+        ensures emptied { OnOk result (more.new ≡ []) }
         ensures err { OnErr result (self.new ≡ self.old) }
+        ensures kept { OnErr result (more.new ≡ more.old) }
     {
         self.rows.append(&mut more.rows)?;
         self.has_own = self.has_own || more.has_own;
