@@ -1,5 +1,5 @@
 -- Room for faces, and for one of two texts.
-use Rattle.std.specs.Prelude.{ℕ, ◌+◌, ◌*◌, ◌^◌, ◌≤◌, nat_lt, length, if◌then◌else◌}
+use Rattle.std.specs.Prelude.{ℕ, ◌+◌, ◌*◌, ◌^◌, ◌≤◌, max, nat_lt, length, if◌then◌else◌}
 use Rattle.face_data.specs.declared.face.FaceView.{FaceView}
 use Rattle.face_data.specs.Segments.{entries_of}
 use Rattle.summary_compose.specs.declared.room.Room.{Room}
@@ -11,6 +11,16 @@ capped n = if nat_lt (2 ^ 62) n then 2 ^ 62 + 1 else n
 -- no room
 abbrev pub no_room : Room
 no_room = record { checks = 0; names = 0; changes = 0; segs = 0; entries = 0 }
+
+-- the greater of both in each field
+abbrev pub greater : Room → Room → Room
+greater a b = record {
+  checks = max a.checks b.checks;
+  names = max a.names b.names;
+  changes = max a.changes b.changes;
+  segs = max a.segs b.segs;
+  entries = max a.entries b.entries;
+}
 
 -- the items of a face's lists
 abbrev pub room_of : FaceView → Room

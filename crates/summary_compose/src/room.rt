@@ -2,7 +2,7 @@
 ghost use Rattle.std.specs.Prelude.{◌≡◌, ◌↔◌, ◌+◌, ◌*◌, IsTrue, length, false};
 ghost use Rattle.face_data.specs.Segments.{entries_of};
 ghost use Rattle.summary_compose.specs.Composing.{IsNoGreater};
-ghost use Rattle.summary_compose.specs.Rooms.{CanBeMade, capped, room_after, room_of, room_of_both};
+ghost use Rattle.summary_compose.specs.Rooms.{CanBeMade, capped, greater, room_after, room_of, room_of_both};
 
 use face_data::{FaceView, Seg};
 
@@ -62,6 +62,7 @@ impl Room {
 
     /// The greater of both in each field.
     pub fn max(&self, other: &Room) -> Room
+        ensures exact { result ≡ greater self.now other.now }
         ensures first { IsNoGreater self.now result }
         ensures second { IsNoGreater other.now result }
     {

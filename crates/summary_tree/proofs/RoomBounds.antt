@@ -7,7 +7,8 @@ use Rattle.summary_compose.specs.declared.room.Room.{Room}
 use Rattle.summary_tree.specs.declared.faces.FaceList.{FaceList}
 use Rattle.summary_tree.specs.declared.faces.FaceList.TheVariants.{Checks, Names, Changes, Segs}
 use Rattle.summary_tree.specs.Faces.{length_in}
-use Rattle.summary_tree.specs.Rooms.{greater, greatest_of}
+use Rattle.summary_compose.specs.Rooms.{greater}
+use Rattle.summary_tree.specs.Rooms.{greatest_of}
 
 pub no_greater_same : (r : Room) → IsNoGreater r r
 no_greater_same r = record { checks = omega arith; names = omega arith; changes = omega arith; segs = omega arith; entries = omega arith }

@@ -1,10 +1,10 @@
 -- The room that a face takes in a tree, and rooms for several.
-use Rattle.std.specs.Prelude.{◌≡◌, ℕ, ◌≤◌, max, List, [], ◌∷◌, length, take}
+use Rattle.std.specs.Prelude.{◌≡◌, ℕ, ◌≤◌, List, [], ◌∷◌, length, take}
 use Rattle.face_data.proofs.Items.{all_entries}
 use Rattle.face_data.specs.Summaries.{Summary}
 use Rattle.summary_compose.specs.Changes.{segs_in}
 use Rattle.summary_compose.specs.Known.{names_count}
-use Rattle.summary_compose.specs.Rooms.{capped, no_room}
+use Rattle.summary_compose.specs.Rooms.{capped, greater, no_room}
 use Rattle.summary_compose.specs.declared.room.Room.{Room}
 
 -- the items of its lists; a number for which there can't be room stands as one past all room
@@ -15,16 +15,6 @@ kept_room s = record {
   changes = capped (length s.changes);
   segs = capped (segs_in s.changes);
   entries = capped (length (all_entries s.changes));
-}
-
--- the greater of both in each field
-abbrev pub greater : Room → Room → Room
-greater a b = record {
-  checks = max a.checks b.checks;
-  names = max a.names b.names;
-  changes = max a.changes b.changes;
-  segs = max a.segs b.segs;
-  entries = max a.entries b.entries;
 }
 
 -- the greatest of all in each field

@@ -4,7 +4,6 @@ ghost use Rattle.std.specs.List.{All, slice_get};
 ghost use Rattle.summary_compose.specs.Composing.{IsNoGreater};
 ghost use Rattle.summary_tree.specs.Faces.{length_in};
 ghost use Rattle.summary_tree.specs.Meeting.{reaches};
-ghost use Rattle.summary_tree.specs.Rooms.{greater};
 
 use crate::faces::FaceList;
 use std::marker::Model;
@@ -53,19 +52,6 @@ fn length_in(list: FaceList, room: &Room) -> u64
     }
 }
 
-// The greater of both in each field.
-fn greater(a: &Room, b: &Room) -> Room
-    ensures { result ≡ greater a.now b.now }
-{
-    Room {
-        checks: a.checks.max(b.checks),
-        names: a.names.max(b.names),
-        changes: a.changes.max(b.changes),
-        segs: a.segs.max(b.segs),
-        entries: a.entries.max(b.entries),
-    }
-}
-
 impl Rooms {
     pub(crate) fn new() -> Rooms
         ensures { result ≡ [] }
@@ -90,7 +76,7 @@ impl Rooms {
     {
         self.rooms[self.len] = room;
         self.len += 1;
-        self.most = greater(&self.most, &room);
+        self.most = self.most.max(&room);
     }
 
     pub(crate) fn nth(&self, i: u32) -> Room
