@@ -1,7 +1,7 @@
 -- Where the items of a short list lie.
 use Rattle.std.specs.Prelude.{◌≤◌, List, [], length}
 use Rattle.face_data.specs.declared.storage.Storage.{Storage}
-use Rattle.face_data.specs.declared.storage.Storage.TheVariants.{Nothing, One, Two, Three, Four, Many}
+use Rattle.face_data.specs.declared.storage.Storage.TheVariants.{Nothing, One, Two, Many}
 
 module _ {T : Type 0} where
   -- the items, wherever they lie
@@ -9,13 +9,11 @@ module _ {T : Type 0} where
   items_in Nothing = []
   items_in (One items) = items
   items_in (Two items) = items
-  items_in (Three items) = items
-  items_in (Four items) = items
-  items_in (Many items) = items.items
+  items_in (Many items) = items.value.items
 
-  -- only a list of four or more lies in a vector
+  -- only a list of two or more lies in a vector
   abbrev pub IsNear : Storage T → Type 0
-  IsNear (Many items) = 4 ≤ length items.items
+  IsNear (Many items) = 2 ≤ length items.value.items
   IsNear storage = Unit {0}
 
   -- the items don't lie in a vector

@@ -2,7 +2,7 @@
 //!
 //! Promises that `Symbols` keeps the segments of each needle that was touched, and that `ask_size` tells how many loops needles may
 //! hold at entry so that they hold few enough now. `ShortList` is the list of an instruction's few conditions and changes: it
-//! promises that its first four items take no memory but its own. A `Digest` tells what conditions that are kept say of another
+//! promises that its first two items take no memory but its own. A `Digest` tells what conditions that are kept say of another
 //! one that isn't on sizes, `Effect::bearing_on` what a block says of one that is asked after it, and `Effect::then` puts two
 //! effects together. A `Face` owns the lists of a summary. `segs_through` tells segments of later lines from the entry of earlier
 //! ones, and `loops_of` those of a block that was entered on empty beds. `verdict_of`, `brief_of` and `loops_on` tell what a program

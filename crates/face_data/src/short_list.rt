@@ -7,7 +7,7 @@ use knit_base::NoMemory;
 use std::alloc::Global;
 use std::marker::Model;
 
-/// A list that grows at its end, whose first four items lie in the value itself and take no other memory. It has fewer than
+/// A list that grows at its end, whose first two items lie in the value itself and take no other memory. It has fewer than
 /// 2 ^ 32 items, so that a `u32` counts them.
 #[derive(Drop)]
 pub struct ShortList<T> {
@@ -57,12 +57,12 @@ impl<T: Drop> ShortList<T> {
         }
     }
 
-    /// Appends an item. The first four take no memory; after `NoMemory` the list is as before.
+    /// Appends an item. The first two take no memory; after `NoMemory` the list is as before.
     pub fn push(&mut self, item: T) -> Result<(), NoMemory>
         requires { length self.old < 2 ^ 32 - 1 }
         ensures ok { OnOk result (self.new ≡ self.old ++ item ∷ []) }
         ensures err { OnErr result (self.new ≡ self.old) }
-        ensures in_place { length self.old < 4 → IsOk result }
+        ensures in_place { length self.old < 2 → IsOk result }
     {
         let alloc = self.alloc;
         self.storage.push(alloc, item)
@@ -99,21 +99,21 @@ impl<T: Drop> ShortList<T> {
 }
 
 impl<T: Copy + Drop> ShortList<T> {
-    /// Appends a copy of each item. Up to four in all take no memory; after `NoMemory` the list is as before.
+    /// Appends a copy of each item. Up to two in all take no memory; after `NoMemory` the list is as before.
     pub fn extend_from_slice(&mut self, more: &[T]) -> Result<(), NoMemory>
         requires { length self.old + length more.now < 2 ^ 32 }
         ensures ok { OnOk result (self.new ≡ self.old ++ more.now) }
         ensures err { OnErr result (self.new ≡ self.old) }
-        ensures in_place { length self.old + length more.now ≤ 4 → IsOk result }
+        ensures in_place { length self.old + length more.now ≤ 2 → IsOk result }
     {
         let alloc = self.alloc;
         self.storage.extend_from_slice(alloc, more)
     }
 
-    /// An equal list. Of up to four items it takes no memory, of more as much as they need.
+    /// An equal list. Of up to two items it takes no memory, of more as much as they need.
     pub fn try_clone(&self) -> Result<Self, NoMemory>
         ensures ok { IfOk result (λ list. list ≡ self.now) }
-        ensures in_place { length self.now ≤ 4 → IsOk result }
+        ensures in_place { length self.now ≤ 2 → IsOk result }
     {
         let mut list = ShortList::new(self.alloc);
         list.extend_from_slice(self.as_slice())?;

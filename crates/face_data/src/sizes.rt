@@ -8,7 +8,7 @@ use crate::{Seg, Segs, ShortList, Symbols};
 use knit_base::{Needle, NoMemory, Reason};
 use std::alloc::Global;
 
-/// Needles, the first four of them kept in place: an instruction asks of few.
+/// Needles, the first two of them kept in place: an instruction asks of few.
 pub type NeedleList = ShortList<Needle>;
 
 /// A condition on a block's entry: these needles hold together at most `max` loops then. A negative `max` can't be met. The

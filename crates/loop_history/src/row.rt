@@ -16,7 +16,7 @@ pub struct LoopRow {
 }
 
 impl LoopRow {
-    /// An equal row. Of up to four yarns and four segments it takes no memory.
+    /// An equal row. Of up to four yarns and two segments it takes no memory.
     pub fn try_clone(&self) -> Result<Self, NoMemory>
         ensures { IfOk result (λ row. row ≡ self.now) }
     {

@@ -150,8 +150,8 @@ impl RowList {
     }
 }
 
-// Whether a list of the row may lie outside of it: lists of up to four lie in place, and they only grow.
+// Whether a list of the row may lie outside of it: up to four yarns and up to two segments lie in place, and lists only grow.
 #[inline(always)]
 fn has_own_memory(row: &LoopRow) -> bool {
-    row.yarns.len() > 4 || row.through.len() > 4
+    row.yarns.len() > 4 || row.through.len() > 2
 }
