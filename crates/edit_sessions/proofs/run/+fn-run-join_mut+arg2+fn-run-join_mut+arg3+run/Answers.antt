@@ -1,4 +1,4 @@
-use Rattle.std.proofs.Common.{rules, ◌≡◌, ◌+◌, ◌/◌, ◌<◌, ◌∙◌, ap, sym, subst, length, arith, ℕ, List, map, ◌++◌, drop, take-append-drop}
+use Rattle.std.proofs.Common.{rules, ◌≡◌, ◌+◌, ◌<◌, ◌∙◌, ap, sym, subst, length, arith, ℕ, List, map, ◌++◌, drop, take-append-drop}
 use Rattle.std.proofs.lemmas.List.{map-append}
 use Rattle.script_reader.specs.declared.command.Command.{Command}
 use Rattle.edit_book.specs.declared.reply.Reply.{Reply}
@@ -12,10 +12,10 @@ use Rattle.edit_sessions.proofs.Talked.{halves_join, ready_split}
 use Rattle.edit_sessions.proofs.run.+fn-run-join_mut+arg2+fn-run-join_mut+arg3+run.Goals as goal
 
 pub join_mut-requires-after_bounds : goal.join_mut-requires-after_bounds
-join_mut-requires-after_bounds g t c κs within = let m = length c.args.scripts.now / 2 in
+join_mut-requires-after_bounds g t c κs within = let m : ℕ = 1 in
     let ready = ready_split (opening_of c.args.shared.now) m (view_of c.args.pass.now).first c.args.scripts.now c.args.talks.now c.requires.ready in
     let low = c.split-right.ensures.lower in let up = c.split-right.ensures.upper in let of_this = c.split-right.ensures.of_this in let s = c.split_at.ensures in let r = c.split_at_mut-front.ensures in
-    let some : 0 < m = search rules in
+    let some : 0 < m = omega arith in
     let less : m < length c.args.scripts.now = search rules in (
       (
         search rules,
@@ -29,11 +29,11 @@ join_mut-requires-after_bounds g t c κs within = let m = length c.args.scripts.
                 search rules,
                 c.requires.setting,
                 c.requires.profile,
-                of_this.0,
-                rw (low, s.front_len) (ap (λ k. k + m) (sym c.first.ensures)),
-                rw s.front_len some,
-                r.front_len ∙ sym s.front_len,
-                rw (s.front, r.front, low) ready.0,
+                of_this.1,
+                rw up (let x = s.back_len in let y = c.requires.range in let z = c.first-at.ensures in omega arith),
+                (let x = s.back_len in omega arith),
+                (let x = s.back_len in let y = r.back_len in let z = c.requires.same in omega arith),
+                rw (s.back, r.back, up) (subst (λ (k : ℕ). AreReady (opening_of c.args.shared.now) (k + m) (drop m c.args.scripts.now) (drop m c.args.talks.now)) (sym c.first-at.ensures) ready.1),
               ),
               search rules,
             ),
@@ -52,11 +52,11 @@ join_mut-requires-after_bounds g t c κs within = let m = length c.args.scripts.
                 search rules,
                 c.requires.setting,
                 c.requires.profile,
-                of_this.1,
-                rw up (let x = s.back_len in let y = c.requires.range in let z = c.first.ensures in omega arith),
-                (let x = s.back_len in omega arith),
-                (let x = s.back_len in let y = r.back_len in let z = c.requires.same in omega arith),
-                rw (s.back, r.back, up) (subst (λ (k : ℕ). AreReady (opening_of c.args.shared.now) (k + m) (drop m c.args.scripts.now) (drop m c.args.talks.now)) (sym c.first.ensures) ready.1),
+                of_this.0,
+                rw (low, s.front_len) (ap (λ k. k + m) (sym c.first-at.ensures)),
+                rw s.front_len some,
+                r.front_len ∙ sym s.front_len,
+                rw (s.front, r.front, low) ready.0,
               ),
               search rules,
             ),
@@ -66,7 +66,7 @@ join_mut-requires-after_bounds g t c κs within = let m = length c.args.scripts.
     )
 
 pub returns-clause-histories : goal.returns-clause-histories
-returns-clause-histories g t c = λ fresh. let m = length c.args.scripts.now / 2 in let v = view_of c.args.pass.now in let at = c.first.result + m in let o = opening_of c.args.shared.now in
+returns-clause-histories g t c = λ fresh. let m : ℕ = 1 in let v = view_of c.args.pass.now in let at = c.first-at.result + m in let o = opening_of c.args.shared.now in
     let a = c.split_at.result.0.now in let b = c.split_at.result.1.now in let l = view_of c.split-right.new.pass in let r = view_of c.split-right.result in
     let l' = view_of c.pass-1.given.0 in let r' = view_of c.right-2-1.given.0 in let p = c.front-1.given.0 in let q = c.back-1.given.0 in
     let s = c.split_at.ensures in
@@ -80,5 +80,5 @@ returns-clause-histories g t c = λ fresh. let m = length c.args.scripts.now / 2
     let whole : a ++ b ≡ c.args.scripts.now = rw (s.front, s.back) (take-append-drop m c.args.scripts.now) in
     let d : map replies_of p ++ map replies_of q ≡ map replies_of (p ++ q) = sym (map-append replies_of p q) in
     subst (λ (z : List (List Command) × List (List Reply)). AreHistories (core o) v.first all (first_memory o) z.0 z.1) (λ i. (whole i, d i))
-    (halves_join o m at v l r l' r' (view_of c.join.new.pass) all a b (map replies_of p) (map replies_of q) (ap (λ k. k + m) c.first.ensures) c.split-right.ensures.lower c.split-right.ensures.upper s.front_len
-    (let x = s.back_len in let y = c.requires.range in let z = c.first.ensures in omega arith) lf lp rf rp left right c.join.ensures.united c.newest.ensures.catches fresh)
+    (halves_join o m at v l r l' r' (view_of c.join.new.pass) all a b (map replies_of p) (map replies_of q) (ap (λ k. k + m) c.first-at.ensures) c.split-right.ensures.lower c.split-right.ensures.upper s.front_len
+    (let x = s.back_len in let y = c.requires.range in let z = c.first-at.ensures in omega arith) lf lp rf rp left right c.join.ensures.united c.newest.ensures.catches fresh)
