@@ -87,6 +87,7 @@ def example(name: str) -> bytes:
 RUNS = {
     "check": (["check", "--loops"], example("tube.k")),
     "blocks": (["check", "--block", "4", "--json", "--loops"], example("tube.k")),
+    "stretches": (["check", "--block", "4", "--json"], example("tube.k")),
     "text": (["text"], example("rib.k")),
     "passes": (["passes"], example("tube.k")),
     "make": (["make", "2", "0"], b""),

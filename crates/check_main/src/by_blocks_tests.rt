@@ -62,15 +62,16 @@ fn the_first_fault_of_two_blocks(rt: HostRuntime) -> Result<(), Fail> {
     Ok(())
 }
 
-// The first size of blocks with which a check of the file, loops and all, says otherwise than one without blocks.
+// The first size of blocks with which a check of the file with this flag says otherwise than one without blocks.
 fn first_other<R: Threads + Wait + Sync>(
     rt: &R,
     alloc: Global,
+    flag: &'static str,
     file: &[u8],
 ) -> Result<Option<&'static str>, Fail> {
-    let plain = said(rt, alloc, &["check", "--loops"], file)?;
+    let plain = said(rt, alloc, &["check", flag], file)?;
     for size in ["1", "2", "7", "64"] {
-        let words = ["check", "--loops", "--block", size];
+        let words = ["check", flag, "--block", size];
         let by_blocks = said(rt, alloc, &words, file)?;
         if by_blocks.status != plain.status || by_blocks.text.as_slice() != plain.text.as_slice() {
             return Ok(Some(size));
@@ -82,7 +83,8 @@ fn first_other<R: Threads + Wait + Sync>(
 #[test]
 fn sound_examples_by_blocks(rt: HostRuntime) -> Result<(), Fail> {
     for file in [SWATCH, RIB, TUBE] {
-        assert_eq!(rt; first_other(&rt, rt.alloc(), file)?, None);
+        assert_eq!(rt; first_other(&rt, rt.alloc(), "--loops", file)?, None);
+        assert_eq!(rt; first_other(&rt, rt.alloc(), "--json", file)?, None);
     }
     Ok(())
 }
@@ -90,7 +92,8 @@ fn sound_examples_by_blocks(rt: HostRuntime) -> Result<(), Fail> {
 #[test]
 fn broken_examples_by_blocks(rt: HostRuntime) -> Result<(), Fail> {
     for file in [FORGOTTEN_RACK, YARN_LEFT_OUT, PARKED_LOOP] {
-        assert_eq!(rt; first_other(&rt, rt.alloc(), file)?, None);
+        assert_eq!(rt; first_other(&rt, rt.alloc(), "--loops", file)?, None);
+        assert_eq!(rt; first_other(&rt, rt.alloc(), "--json", file)?, None);
     }
     Ok(())
 }

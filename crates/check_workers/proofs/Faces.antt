@@ -1,13 +1,14 @@
 -- The faces of texts, one behind the other.
-use Rattle.std.proofs.Common.{◌≡◌, ℕ, ◌+◌, ◌-◌, ◌≤◌, ◌<◌, ◌^◌, List, [], ◌∷◌, ◌++◌, length, take, drop, refl, sym, ap, subst, ◌∙◌, inl, inr, arith}
+use Rattle.std.proofs.Common.{◌≡◌, ℕ, ◌+◌, ◌-◌, ◌≤◌, ◌<◌, ◌^◌, List, [], ◌∷◌, ◌++◌, length, take, drop, All, refl, sym, ap, subst, ◌∙◌, inl, inr, arith, length-append}
 use Rattle.std.specs.List.{Contains, slice_range}
-use Rattle.std.proofs.lemmas.List.Elements.{All-drop, All-take, Contains-append_cases, Contains-append_left, Contains-append_right}
+use Rattle.std.proofs.lemmas.List.Elements.{All-drop, All-take, All-weaker, Contains-append_cases, Contains-append_left, Contains-append_right}
 use Rattle.std.proofs.lemmas.Slice.Zip.{AllZip-long}
 use Rattle.knit_base.specs.declared.instr.Read.{Read}
 use Rattle.knit_base.specs.declared.needle.Needle.{Needle}
 use Rattle.knit_base.specs.declared.profile.Profile.{Profile}
 use Rattle.knit_base.specs.Lawful.{IsLawfulRead}
 use Rattle.knit_base.specs.Limits.{IsLawfulProfile}
+use Rattle.line_cutter.specs.Cut.{IsGoodLine}
 use Rattle.knitout_reader.specs.Reading.{ReadsAs}
 use Rattle.knitout_reader.proofs.LawfulReadings.{each-lawful}
 use Rattle.knitout_reader.proofs.SomeReading.{each-reads}
@@ -26,9 +27,7 @@ use Rattle.block_summary.specs.Prepared.{AreKnown, AreReadings, IsPreparedFor}
 use Rattle.block_summary.proofs.Blocks.{named, named_known}
 use Rattle.block_summary.proofs.KnownNeedles.{KnownOf, known_of}
 use Rattle.block_summary.proofs.LineGoodness.{block_good, block_stands}
-use Rattle.block_summary.proofs.LinePlaces.{part_len}
 use Rattle.check_workers.specs.Faces.{AreOfOneMachine, AreShort, IsFaceOf}
-use Rattle.check_workers.proofs.LineRanges.{both_ranges}
 
 -- readings of two texts, one behind the other, and which of them are of the first
 pub record SplitReadings (profile : Profile) (names first second : List (List ℕ)) (lines : List Read) : Type 0 where
@@ -49,6 +48,13 @@ split_readings profile names (line ∷ first) second (r ∷ lines) read =
 -- needles of both lists among those of one
 within_one : (known : List Needle) → IsWithin (known ++ known) known
 within_one known n there = elim (Contains-append_cases known known n there) [ inl here ↦ here | inr here ↦ here ]
+
+short_line : (line : List ℕ) → IsGoodLine line → length line < 2 ^ 16
+short_line line good = omega (arith, good.short)
+
+-- good lines are short
+pub good_short : (text : List (List ℕ)) → All IsGoodLine text → AreShort text
+good_short text good = All-weaker IsGoodLine (λ (line : List ℕ). length line < 2 ^ 16) short_line text good
 
 -- the face of no line
 pub face_none : (profile : Profile) (names : List (List ℕ)) → 1 ≤ profile.hold → IsFaceOf profile names [] no_lines
@@ -134,41 +140,17 @@ of_one_machine profile names first second a b bounds few short short_too of_firs
       second_good = more.good;
     }
 
+-- the first lines are short where all are
+pub short_front : (text : List (List ℕ)) (to : ℕ) → AreShort text → AreShort (take to text)
+short_front text to short = All-take (λ (line : List ℕ). length line < 2 ^ 16) to text short
+
 -- the lines of a stretch are short where all are
 pub short_range : (text : List (List ℕ)) (from to : ℕ) → AreShort text → AreShort (slice_range text from to)
 short_range text from to short =
     All-take (λ (line : List ℕ). length line < 2 ^ 16) (to - from) (drop from text) (All-drop (λ (line : List ℕ). length line < 2 ^ 16) from text short)
 
--- faces of two stretches of a text, one behind the other, can be put together
-pub of_one_machine_in : (profile : Profile) (names text : List (List ℕ)) (from mid to : ℕ) (a b : Summary) → IsLawfulProfile profile → length names ≤ 64 → AreShort text
-    → IsFaceOf profile names (slice_range text from mid) a → IsFaceOf profile names (slice_range text mid to) b → AreOfOneMachine a b
-of_one_machine_in profile names text from mid to a b bounds few short of_first of_second =
-    of_one_machine profile names (slice_range text from mid) (slice_range text mid to) a b bounds few (short_range text from mid short) (short_range text mid to short) of_first of_second
-
--- how many lines they have together
-pub lines_in : (profile : Profile) (names text : List (List ℕ)) (from mid to : ℕ) (a b : Summary) → from ≤ mid → mid ≤ to → to ≤ length text
-    → IsFaceOf profile names (slice_range text from mid) a → IsFaceOf profile names (slice_range text mid to) b → a.lines + b.lines ≤ length text
-lines_in profile names text from mid to a b ordered later inside of_first of_second =
-    omega (
-      arith,
-      face_lines profile names (slice_range text from mid) a of_first,
-      face_lines profile names (slice_range text mid to) b of_second,
-      part_len text from mid (omega (arith, later, inside)),
-      part_len text mid to inside,
-      ordered,
-      later,
-      inside,
-    )
-
--- the face of both stretches
-pub face_of_both : (profile : Profile) (names text : List (List ℕ)) (from mid to : ℕ) (a b : Summary) → from ≤ mid → mid ≤ to
-    → IsFaceOf profile names (slice_range text from mid) a → IsFaceOf profile names (slice_range text mid to) b → IsFaceOf profile names (slice_range text from to) (composed a b)
-face_of_both profile names text from mid to a b ordered later of_first of_second =
-    subst (λ t. IsFaceOf profile names t (composed a b)) (both_ranges text from mid to ordered later)
-    (face_both profile names (slice_range text from mid) (slice_range text mid to) a b of_first of_second)
-
--- the face of an empty stretch
-pub face_at : (profile : Profile) (names text : List (List ℕ)) (from : ℕ) → IsLawfulProfile profile → IsFaceOf profile names (slice_range text from from) no_lines
-face_at profile names text from bounds =
-    subst (λ t. IsFaceOf profile names t no_lines) (sym (let nothing : slice_range text from from ≡ [] = ap (λ n. take n (drop from text)) (let none : from - from ≡ 0 = omega arith in none) in nothing))
-    (face_none profile names bounds.some)
+-- how many lines faces of two texts have together
+pub lines_of_both : (profile : Profile) (names first second : List (List ℕ)) (a b : Summary) → IsFaceOf profile names first a → IsFaceOf profile names second b
+    → a.lines + b.lines ≡ length (first ++ second)
+lines_of_both profile names first second a b of_first of_second =
+    omega (arith, face_lines profile names first a of_first, face_lines profile names second b of_second, length-append first second)

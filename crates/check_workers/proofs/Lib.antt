@@ -1,5 +1,6 @@
 mod Cuts
 pub mod Faces
+pub mod LinePlaces
 pub mod LineRanges
 pub mod Lots
 mod Pieces

@@ -5,6 +5,8 @@ use Rattle.knit_base.specs.declared.instr.Read.{Read}
 use Rattle.knit_base.specs.declared.needle.Needle.{Needle}
 use Rattle.knit_base.specs.declared.profile.Profile.{Profile}
 use Rattle.knit_base.specs.Limits.{IsLawfulProfile}
+use Rattle.knit_base.specs.Lines.{lines_of}
+use Rattle.line_cutter.specs.Cut.{IsGoodLine}
 use Rattle.face_data.specs.Goodness.{IsGood}
 use Rattle.face_data.specs.Spots.{IsNumbered}
 use Rattle.face_data.specs.Stands.{StandsFor}
@@ -35,15 +37,14 @@ pub record AreOfOneMachine (first second : Summary) : Type 0 where
   pub first_good : IsGood carriers limit first_known first
   pub second_good : IsGood carriers limit second_known second
 
--- the lines of a text from the one place to the other, which isn't counted, can be folded in blocks of so many
-pub record CanFold (profile : Profile) (text : List (List ℕ)) (start end size : ℕ) : Type 0 where
+-- the lines of a text are good, and can be folded in blocks of so many
+pub record CanFold (profile : Profile) (text : List ℕ) (size : ℕ) : Type 0 where
   pub lawful : IsLawfulProfile profile
-  pub short : AreShort text
-  pub ordered : start ≤ end
-  pub inside : end ≤ length text
+  pub fits : length text ≤ 16777216
+  pub good : All IsGoodLine (lines_of text)
   pub some : 1 ≤ size
   pub few : size ≤ 4096
 
 -- the lot's face is that of the lines from where it begins to where it ends
-abbrev pub IsLot : Profile → List (List ℕ) → List (List ℕ) → Lot → Type 0
-IsLot profile names text lot = IsFaceOf profile names (slice_range text lot.start lot.end) lot.face
+abbrev pub IsLot : Profile → List (List ℕ) → List ℕ → Lot → Type 0
+IsLot profile names text lot = IsFaceOf profile names (lines_of (slice_range text lot.start lot.end)) lot.face

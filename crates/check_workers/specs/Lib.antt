@@ -1,4 +1,5 @@
 pub mod Cuts
 pub mod Faces
+pub mod LinePlaces
 pub mod Pieces
 pub mod Texts

@@ -1,16 +1,20 @@
-//! The face of a long stretch of lines.
-ghost use Rattle.std.specs.Prelude.{◌≡◌, ℕ, ◌<◌, ◌≤◌, List, All, IfOk, IfSome, length, slice_range};
+//! The face of the lines of a text, which are cut where they are folded.
+ghost use Rattle.std.specs.Prelude.{◌≡◌, ℕ, ◌<◌, ◌≤◌, List, All, IfOk, IfSome, length, slice_range, take};
 ghost use Rattle.std.specs.Thread.{IsSync};
 ghost use Rattle.knit_base.specs.declared.profile.Profile.{Profile};
 ghost use Rattle.knit_base.specs.Limits.{IsLawfulProfile};
+ghost use Rattle.knit_base.specs.Lines.{lines_of};
+ghost use Rattle.line_cutter.specs.Cut.{IsGoodLine};
 ghost use Rattle.block_summary.specs.Prepared.{IsPreparedFor};
 ghost use Rattle.check_workers.specs.Faces.{AreShort, CanFold, IsFaceOf, IsLot};
+ghost use Rattle.check_workers.specs.LinePlaces.{IsLinePlace};
 
 use crate::pairs::{empty_face, join_faces};
-use crate::workers::lot_count;
 use block_summary::{Draft, PrepareFault, Prepared, prepare_with};
 use face_data::Face;
 use knit_base::{BlockText, Lines, NoMemory, Setting, Steps};
+use line_cutter::cut;
+use memchr::memchr;
 use std::alloc::Global;
 use std::marker::Brand;
 use std::sync::atomic::{AtomicUsize, Ordering};
@@ -18,58 +22,75 @@ use std::sync::ledger::{Blank, Ledger};
 use std::thread::{Threads, join};
 use summary_compose::Scratch;
 
-// So many lines make a lot, or a few less. A thread takes the time of some hundred lines.
-const LOT_LINES: u32 = 4_096;
+// So many bytes make a lot, and the rest of the line in which they end. A thread takes the time of some hundred lines.
+const LOT_BYTES: usize = 49_152;
 
-/// The face of the lines from `start` to `end`, which isn't counted. They are prepared in blocks of `size` lines. Of a long stretch each of several threads takes
-/// the next lot of lines whenever it has done one, so that all end at nearly the same time, though one may be slower than another. A thread folds its blocks one
-/// after the other, in memory that it uses again. Then the faces of the lots are put together.
-pub fn fold_lines<R: Threads + Sync>(
+/// The face of the lines of a text, all of which are good. They are prepared in blocks of at most `size` lines. Of a long text each of `workers` threads takes the next
+/// lot of lines whenever it has done one, so that all end at nearly the same time, though one may be slower than another. A thread cuts its lots itself, and folds
+/// the blocks of each one after the other, in memory that it uses again. Then the faces of the lots are put together.
+pub fn fold_text<R: Threads + Sync>(
     rt: &R,
     alloc: Global,
-    lines: &Lines,
-    start: u32,
-    end: u32,
+    workers: usize,
+    text: &[u8],
     size: u32,
     setting: &Setting,
 ) -> Result<Face, NoMemory>
-    requires profile { IsLawfulProfile setting.now.profile }
-    requires short { AreShort lines.now }
-    requires ordered { start ≤ end }
-    requires inside { end ≤ length lines.now }
-    requires some { 1 ≤ size }
-    requires few { size ≤ 4096 }
-    ensures { IfOk result (IsFaceOf setting.now.profile setting.now.declared (slice_range lines.now start end)) }
+    requires { CanFold setting.now.profile text.now size }
+    ensures { IfOk result (IsFaceOf setting.now.profile setting.now.declared (lines_of text.now)) }
 {
-    let workers = lot_count(rt, (end - start) as usize, LOT_LINES);
-    let lots = fold_apart(rt, alloc, workers, lines, start, end, size, setting)?;
-    join_lots::<Brand, R>(
-        rt,
-        Blank::new(1),
-        alloc,
-        lots,
-        lines,
-        start,
-        end,
-        size,
-        setting,
+    let worth = (text.len() / LOT_BYTES).saturating_add(1);
+    let lots = fold_apart(rt, alloc, workers.min(worth), text, size, setting)?;
+    join_lots::<Brand, R>(rt, Blank::new(1), alloc, lots, text, size, setting)
+}
+
+// Where the lot with this number begins: at the first line that begins so many bytes behind the text's beginning.
+fn lot_start(text: &[u8], number: usize) -> usize
+    ensures place { IsLinePlace text.now result }
+    ensures within { result ≤ length text.now }
+{
+    place_from(text, number.saturating_mul(LOT_BYTES))
+}
+
+// Where the lot ends that begins here.
+fn lot_end(text: &[u8], start: usize) -> usize
+    requires { start < length text.now }
+    ensures place { IsLinePlace text.now result }
+    ensures within { result ≤ length text.now }
+    ensures further { start < result }
+{
+    place_from(
+        text,
+        (start / LOT_BYTES)
+            .saturating_add(1)
+            .saturating_mul(LOT_BYTES),
     )
 }
 
-// How many lines make a lot: whole blocks.
-fn lot_len(size: u32) -> u32
-    requires some { 1 ≤ size }
-    requires few { size ≤ 4096 }
-    ensures { 1 ≤ result }
+/// Where the first line begins that doesn't begin before this place, or the end of the text.
+pub fn place_from(text: &[u8], from: usize) -> usize
+    ensures place { IsLinePlace text.now result }
+    ensures within { result ≤ length text.now }
+    ensures behind { from ≤ length text.now → from ≤ result }
+    ensures end { length text.now ≤ from → result ≡ length text.now }
 {
-    LOT_LINES - LOT_LINES % size
+    if from == 0 {
+        return 0;
+    }
+    if from > text.len() {
+        return text.len();
+    }
+    match memchr(b'\n', &text[from - 1..]) {
+        Some(len) => from + len,
+        None => text.len(),
+    }
 }
 
 // The face of the lines from `start` to `end`, which isn't counted.
 #[derive(Drop)]
 struct Lot {
-    start: u32,
-    end: u32,
+    start: usize,
+    end: usize,
     face: Face,
 }
 
@@ -78,20 +99,18 @@ fn fold_apart<R: Threads + Sync>(
     rt: &R,
     alloc: Global,
     workers: usize,
-    lines: &Lines,
-    start: u32,
-    end: u32,
+    text: &[u8],
     size: u32,
     setting: &Setting,
 ) -> Result<Vec<Lot>, NoMemory>
-    requires { CanFold setting.now.profile lines.now start end size }
-    ensures { IfOk result (λ lots. All (IsLot setting.now.profile setting.now.declared lines.now) lots.items) }
+    requires { CanFold setting.now.profile text.now size }
+    ensures { IfOk result (λ lots. All (IsLot setting.now.profile setting.now.declared text.now) lots.items) }
 {
     if workers < 2 {
         return Ok(Vec::new(alloc));
     }
     let next = AtomicUsize::new(0);
-    fold_by(rt, alloc, workers, &next, lines, start, end, size, setting)
+    fold_by(rt, alloc, workers, &next, text, size, setting)
 }
 
 // By so many threads, of which this is one.
@@ -100,30 +119,28 @@ fn fold_by<R: Threads + Sync>(
     alloc: Global,
     workers: usize,
     next: &AtomicUsize,
-    lines: &Lines,
-    start: u32,
-    end: u32,
+    text: &[u8],
     size: u32,
     setting: &Setting,
 ) -> Result<Vec<Lot>, NoMemory>
-    requires { CanFold setting.now.profile lines.now start end size }
-    ensures { IfOk result (λ lots. All (IsLot setting.now.profile setting.now.declared lines.now) lots.items) }
+    requires { CanFold setting.now.profile text.now size }
+    ensures { IfOk result (λ lots. All (IsLot setting.now.profile setting.now.declared text.now) lots.items) }
 {
     if workers < 2 {
-        return fold_own(rt, alloc, next, lines, start, end, size, setting);
+        return fold_own(rt, alloc, next, text, size, setting);
     }
     let half = workers / 2;
     let rest = workers - half;
     let (some, others) = join(
         rt,
         move || -> Result<Vec<Lot>, NoMemory>
-            requires { IsSync R.row × CanFold setting.now.profile lines.now start end size }
-            ensures { IfOk result (λ lots. All (IsLot setting.entry.now.profile setting.entry.now.declared lines.entry.now) lots.items) }
-        { fold_by(rt, alloc, half, next, lines, start, end, size, setting) },
+            requires { IsSync R.row × CanFold setting.now.profile text.now size }
+            ensures { IfOk result (λ lots. All (IsLot setting.entry.now.profile setting.entry.now.declared text.entry.now) lots.items) }
+        { fold_by(rt, alloc, half, next, text, size, setting) },
         move || -> Result<Vec<Lot>, NoMemory>
-            requires { IsSync R.row × CanFold setting.now.profile lines.now start end size }
-            ensures { IfOk result (λ lots. All (IsLot setting.entry.now.profile setting.entry.now.declared lines.entry.now) lots.items) }
-        { fold_by(rt, alloc, rest, next, lines, start, end, size, setting) },
+            requires { IsSync R.row × CanFold setting.now.profile text.now size }
+            ensures { IfOk result (λ lots. All (IsLot setting.entry.now.profile setting.entry.now.declared text.entry.now) lots.items) }
+        { fold_by(rt, alloc, rest, next, text, size, setting) },
     );
     let mut all = some?;
     let mut more = others?;
@@ -136,26 +153,14 @@ fn fold_own<R: Threads>(
     rt: &R,
     alloc: Global,
     next: &AtomicUsize,
-    lines: &Lines,
-    start: u32,
-    end: u32,
+    text: &[u8],
     size: u32,
     setting: &Setting,
 ) -> Result<Vec<Lot>, NoMemory>
-    requires { CanFold setting.now.profile lines.now start end size }
-    ensures { IfOk result (λ lots. All (IsLot setting.now.profile setting.now.declared lines.now) lots.items) }
+    requires { CanFold setting.now.profile text.now size }
+    ensures { IfOk result (λ lots. All (IsLot setting.now.profile setting.now.declared text.now) lots.items) }
 {
-    fold_next::<Brand, R>(
-        rt,
-        Blank::new(1),
-        alloc,
-        next,
-        lines,
-        start,
-        end,
-        size,
-        setting,
-    )
+    fold_next::<Brand, R>(rt, Blank::new(1), alloc, next, text, size, setting)
 }
 
 // Takes one lot after another, as long as there are any. `next` counts those that were taken by all; were it wrong, a lot would be folded twice or left, which
@@ -165,33 +170,25 @@ fn fold_next<L: Ledger, R: Threads>(
     blank: Blank,
     alloc: Global,
     next: &AtomicUsize,
-    lines: &Lines,
-    start: u32,
-    end: u32,
+    text: &[u8],
     size: u32,
     setting: &Setting,
 ) -> Result<Vec<Lot>, NoMemory>
-    requires can { CanFold setting.now.profile lines.now start end size }
+    requires can { CanFold setting.now.profile text.now size }
     requires blank { (blank.name ≡ L.name) × (blank.parts ≡ L.parts) × (0 < L.parts) }
-    ensures { IfOk result (λ lots. All (IsLot setting.now.profile setting.now.declared lines.now) lots.items) }
+    ensures { IfOk result (λ lots. All (IsLot setting.now.profile setting.now.declared text.now) lots.items) }
 {
     let mut steps = Steps::<L>::start(rt, blank);
     let mut bench = Bench::new(alloc);
     let mut lots = Vec::new(alloc);
-    let each = lot_len(size);
-    'taking: for _ in start..end {
-        let number = u32::try_from(next.fetch_add(1, Ordering::SeqCst)).unwrap_or(u32::MAX);
-        let at = start.saturating_add(number.saturating_mul(each));
-        if at >= end {
+    'taking: for _ in 0..text.len() {
+        let start = lot_start(text, next.fetch_add(1, Ordering::SeqCst));
+        if start >= text.len() {
             return Ok(lots);
         }
-        let to = at + each.min(end - at);
-        let face = bench.fold(alloc, lines, at, to, size, setting, &mut steps)?;
-        lots.push(Lot {
-            start: at,
-            end: to,
-            face,
-        })?;
+        let end = lot_end(text, start);
+        let face = bench.fold(alloc, &text[start..end], size, setting, &mut steps)?;
+        lots.push(Lot { start, end, face })?;
     }
     Ok(lots)
 }
@@ -202,35 +199,31 @@ fn join_lots<L: Ledger, R: Threads>(
     blank: Blank,
     alloc: Global,
     lots: Vec<Lot>,
-    lines: &Lines,
-    start: u32,
-    end: u32,
+    text: &[u8],
     size: u32,
     setting: &Setting,
 ) -> Result<Face, NoMemory>
-    requires can { CanFold setting.now.profile lines.now start end size }
-    requires lots { All (IsLot setting.now.profile setting.now.declared lines.now) lots.items }
+    requires can { CanFold setting.now.profile text.now size }
+    requires lots { All (IsLot setting.now.profile setting.now.declared text.now) lots.items }
     requires blank { (blank.name ≡ L.name) × (blank.parts ≡ L.parts) × (0 < L.parts) }
-    ensures { IfOk result (IsFaceOf setting.now.profile setting.now.declared (slice_range lines.now start end)) }
+    ensures { IfOk result (IsFaceOf setting.now.profile setting.now.declared (lines_of text.now)) }
 {
     let mut steps = Steps::<L>::start(rt, blank);
     let mut bench = Bench::new(alloc);
-    let each = lot_len(size);
     let mut face = empty_face(alloc)?;
-    let mut at = start;
-    while at < end {
-        let to = at + each.min(end - at);
-        face = bench.add_lot(
-            alloc, &lots, lines, start, at, to, size, setting, &face, &mut steps,
-        )?;
+    let mut at = 0;
+    while at < text.len() {
+        let to = lot_end(text, at);
+        face = bench.add_lot(alloc, &lots, text, at, to, size, setting, &face, &mut steps)?;
         at = to;
     }
     Ok(face)
 }
 
-// The face of these lines, if it is there.
-fn find_lot(lots: &[Lot], start: u32, end: u32) -> Option<&Face>
-    ensures { (profile : Profile) (names text : List (List ℕ)) → All (IsLot profile names text) lots.now → IfSome result (λ face. IsFaceOf profile names (slice_range text start end) face.now) }
+// The face of the lot from `start` to `end`, if it is there.
+fn find_lot(lots: &[Lot], start: usize, end: usize) -> Option<&Face>
+    ensures { (profile : Profile) (names : List (List ℕ)) (text : List ℕ) → All (IsLot profile names text) lots.now
+        → IfSome result (λ face. IsFaceOf profile names (lines_of (slice_range text start end)) face.now) }
 {
     let mut i = 0;
     while i < lots.len() {
@@ -242,45 +235,65 @@ fn find_lot(lots: &[Lot], start: u32, end: u32) -> Option<&Face>
     None
 }
 
-// What blocks are folded in, used again for each.
+/// What blocks are folded in, used again for each.
 #[derive(Drop)]
-struct Bench {
+pub struct Bench {
     draft: Draft,
     scratch: Scratch,
 }
 
 impl Bench {
-    fn new(alloc: Global) -> Bench {
+    pub fn new(alloc: Global) -> Bench {
         Bench {
             draft: Draft::new(alloc),
             scratch: Scratch::new(alloc),
         }
     }
 
-    // The face of these lines: one block after the other.
-    fn fold<L: Ledger>(
+    /// The face of the lines of a text, all of which are good: one block of at most `size` lines after the other.
+    pub fn fold<L: Ledger>(
         &mut self,
         alloc: Global,
-        lines: &Lines,
-        start: u32,
-        end: u32,
+        text: &[u8],
         size: u32,
         setting: &Setting,
         steps: &mut Steps<L>,
     ) -> Result<Face, NoMemory>
-        requires can { CanFold setting.now.profile lines.now start end size }
-        ensures { IfOk result (IsFaceOf setting.now.profile setting.now.declared (slice_range lines.now start end)) }
+        requires can { CanFold setting.now.profile text.now size }
+        ensures { IfOk result (IsFaceOf setting.now.profile setting.now.declared (lines_of text.now)) }
+    {
+        let Ok(lines) = cut(alloc, text) else {
+            return Err(NoMemory);
+        };
+        // Its blocks share the lines then.
+        let lines = lines.into_shared()?;
+        self.fold_lines(alloc, &lines, size, setting, steps)
+    }
+
+    // The face of these lines.
+    fn fold_lines<L: Ledger>(
+        &mut self,
+        alloc: Global,
+        lines: &Lines,
+        size: u32,
+        setting: &Setting,
+        steps: &mut Steps<L>,
+    ) -> Result<Face, NoMemory>
+        requires profile { IsLawfulProfile setting.now.profile }
+        requires short { AreShort lines.now }
+        requires some { 1 ≤ size }
+        requires few { size ≤ 4096 }
+        ensures { IfOk result (IsFaceOf setting.now.profile setting.now.declared lines.now) }
     {
         let mut face = empty_face(alloc)?;
-        let mut at = start;
-        while at < end {
-            let to = at + size.min(end - at);
+        let mut at = 0;
+        while at < lines.len() {
+            let to = at + size.min(lines.len() - at);
             let text = BlockText::of(alloc, lines, at, to)?;
             let block = prepared(&mut self.draft, text, setting, steps)?;
             face = with_block(
                 alloc,
                 lines,
-                start,
                 at,
                 to,
                 setting,
@@ -294,32 +307,31 @@ impl Bench {
         Ok(face)
     }
 
-    // The face of the lines before `middle`, and then that of the lot behind it, which is folded where it isn't among these.
+    // The face of the lines before `start`, and then that of the lot that begins there, which is folded where it isn't among these.
     fn add_lot<L: Ledger>(
         &mut self,
         alloc: Global,
         lots: &[Lot],
-        lines: &Lines,
-        start: u32,
-        middle: u32,
-        end: u32,
+        text: &[u8],
+        start: usize,
+        end: usize,
         size: u32,
         setting: &Setting,
         before: &Face,
         steps: &mut Steps<L>,
     ) -> Result<Face, NoMemory>
-        requires can { CanFold setting.now.profile lines.now middle end size }
-        requires ordered { start ≤ middle }
-        requires lots { All (IsLot setting.now.profile setting.now.declared lines.now) lots.now }
-        requires before { IsFaceOf setting.now.profile setting.now.declared (slice_range lines.now start middle) before.now }
-        ensures { IfOk result (IsFaceOf setting.now.profile setting.now.declared (slice_range lines.now start end)) }
+        requires can { CanFold setting.now.profile text.now size }
+        requires ordered { (start ≤ end) × (end ≤ length text.now) }
+        requires places { IsLinePlace text.now start × IsLinePlace text.now end }
+        requires lots { All (IsLot setting.now.profile setting.now.declared text.now) lots.now }
+        requires before { IsFaceOf setting.now.profile setting.now.declared (lines_of (take start text.now)) before.now }
+        ensures { IfOk result (IsFaceOf setting.now.profile setting.now.declared (lines_of (take end text.now))) }
     {
-        if let Some(lot) = find_lot(lots, middle, end) {
+        if let Some(lot) = find_lot(lots, start, end) {
             return with_lot(
                 alloc,
-                lines,
+                text,
                 start,
-                middle,
                 end,
                 setting,
                 before,
@@ -328,12 +340,11 @@ impl Bench {
                 steps,
             );
         }
-        let lot = self.fold(alloc, lines, middle, end, size, setting, steps)?;
+        let lot = self.fold(alloc, &text[start..end], size, setting, steps)?;
         with_lot(
             alloc,
-            lines,
+            text,
             start,
-            middle,
             end,
             setting,
             before,
@@ -344,13 +355,12 @@ impl Bench {
     }
 }
 
-// The face of the lines before `middle`, and then that of the lot behind it.
+// The face of the lines before `start`, and then that of the lot from there to `end`.
 fn with_lot<L: Ledger>(
     alloc: Global,
-    lines: &Lines,
-    start: u32,
-    middle: u32,
-    end: u32,
+    text: &[u8],
+    start: usize,
+    end: usize,
     setting: &Setting,
     before: &Face,
     lot: &Face,
@@ -358,22 +368,22 @@ fn with_lot<L: Ledger>(
     steps: &mut Steps<L>,
 ) -> Result<Face, NoMemory>
     requires profile { IsLawfulProfile setting.now.profile }
-    requires short { AreShort lines.now }
-    requires ordered { (start ≤ middle) × (middle ≤ end) × (end ≤ length lines.now) }
-    requires before { IsFaceOf setting.now.profile setting.now.declared (slice_range lines.now start middle) before.now }
-    requires lot { IsFaceOf setting.now.profile setting.now.declared (slice_range lines.now middle end) lot.now }
-    ensures { IfOk result (IsFaceOf setting.now.profile setting.now.declared (slice_range lines.now start end)) }
+    requires size { length text.now ≤ 16777216 }
+    requires good { All IsGoodLine (lines_of text.now) }
+    requires ordered { (start ≤ end) × (end ≤ length text.now) }
+    requires places { IsLinePlace text.now start × IsLinePlace text.now end }
+    requires before { IsFaceOf setting.now.profile setting.now.declared (lines_of (take start text.now)) before.now }
+    requires lot { IsFaceOf setting.now.profile setting.now.declared (lines_of (slice_range text.now start end)) lot.now }
+    ensures { IfOk result (IsFaceOf setting.now.profile setting.now.declared (lines_of (take end text.now))) }
 {
     let _carriers = setting.declared.len();
-    let _lines = lines.len();
     join_faces(alloc, before, lot, scratch, steps)
 }
 
-// The face of the lines before `middle`, and then that of the block behind it.
+// The face of the lines before `middle`, and then that of the block of lines from there to `end`.
 fn with_block<L: Ledger>(
     alloc: Global,
     lines: &Lines,
-    start: u32,
     middle: u32,
     end: u32,
     setting: &Setting,
@@ -384,24 +394,15 @@ fn with_block<L: Ledger>(
 ) -> Result<Face, NoMemory>
     requires profile { IsLawfulProfile setting.now.profile }
     requires short { AreShort lines.now }
-    requires ordered { (start ≤ middle) × (middle ≤ end) × (end ≤ length lines.now) }
-    requires before { IsFaceOf setting.now.profile setting.now.declared (slice_range lines.now start middle) before.now }
+    requires ordered { (middle ≤ end) × (end ≤ length lines.now) }
+    requires before { IsFaceOf setting.now.profile setting.now.declared (take middle lines.now) before.now }
     requires text { block.now.text ≡ slice_range lines.now middle end }
     requires prepared { IsPreparedFor setting.now.profile setting.now.declared block.now }
-    ensures { IfOk result (IsFaceOf setting.now.profile setting.now.declared (slice_range lines.now start end)) }
+    ensures { IfOk result (IsFaceOf setting.now.profile setting.now.declared (take end lines.now)) }
 {
-    with_lot(
-        alloc,
-        lines,
-        start,
-        middle,
-        end,
-        setting,
-        before,
-        &block.face,
-        scratch,
-        steps,
-    )
+    let _carriers = setting.declared.len();
+    let _lines = lines.len();
+    join_faces(alloc, before, &block.face, scratch, steps)
 }
 
 /// The block's text, prepared for this machine in a draft that may have been used before.

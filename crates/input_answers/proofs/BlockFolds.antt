@@ -1,7 +1,7 @@
 -- Blocks that are taken one after the other.
-use Rattle.std.proofs.Common.{◌≡◌, ℕ, ◌+◌, ◌-◌, ◌<◌, ◌≤◌, ◌^◌, Bool, true, false, List, [], ◌∷◌, ◌++◌, length, drop, take, All, Option, None, IfSome, is_some, Result, Ok, Err, IfOk, OnOk, refl, ap, sym, subst, ◌∙◌, arith}
+use Rattle.std.proofs.Common.{◌≡◌, ℕ, ◌+◌, ◌-◌, ◌≤◌, Bool, true, false, List, [], ◌∷◌, ◌++◌, length, drop, take, All, Option, None, IfSome, is_some, Result, Ok, Err, IfOk, OnOk, refl, ap, sym, subst, ◌∙◌, arith}
 use Rattle.std.specs.List.{AllZip, Contains, slice_range}
-use Rattle.std.proofs.lemmas.List.Elements.{All-append, All-drop, All-nil, All-take, All-weaker}
+use Rattle.std.proofs.lemmas.List.Elements.{All-append, All-nil}
 use Rattle.std.proofs.lemmas.Slice.Zip.{AllZip-long}
 use Rattle.knit_base.specs.declared.instr.Read.{Read}
 use Rattle.knit_base.specs.declared.profile.Profile.{Profile}
@@ -47,7 +47,7 @@ use Rattle.input_answers.specs.Folds.{HasFolded, Took, TookFace, fault_of, fault
 use Rattle.input_answers.proofs.BlockLoops.{loops_are_asked, loops_more, still_kept}
 use Rattle.input_answers.proofs.BodyRuns.{judged_readings}
 use Rattle.check_workers.specs.Faces.{AreOfOneMachine, AreShort, IsFaceOf}
-use Rattle.check_workers.proofs.Faces.{GoodOf, face_lines, good_of, short_range}
+use Rattle.check_workers.proofs.Faces.{GoodOf, face_lines, good_of, good_short, short_range}
 use Rattle.check_workers.proofs.LineRanges.{both_ranges, range_rest}
 use Rattle.input_answers.proofs.StoppedRuns.{loops_made-stays, run-stays, verdict-stays}
 
@@ -58,19 +58,13 @@ pub record ReadsOf (profile : Profile) (names : List (List ℕ)) (block : Prepar
   pub made : IsMadeOf profile (length names) block.face block.loops more
   pub named : KnownOf more
 
-short_line : (line : List ℕ) → IsGoodLine line → length line < 2 ^ 16
-short_line line good = omega (arith, good.short)
-
 -- those of some lines of a file without bad lines
 pub reads_of : (profile : Profile) (names declared lines : List (List ℕ)) (from to : ℕ) (block : Prepared) → IsLawfulProfile profile → All IsGoodLine lines → declared ≡ names
     → block.text ≡ slice_range lines from to → IsPreparedFor profile declared block → ReadsOf profile names block
 reads_of profile names declared lines from to block bounds good same text prepared =
     let rest = each-reads profile names block.text in
     let here : IsPreparedFor profile names block = subst (λ (ns : List (List ℕ)). IsPreparedFor profile ns block) same prepared in
-    let all : All (λ (line : List ℕ). length line < 2 ^ 16) (slice_range lines from to) =
-    All-weaker IsGoodLine (λ (line : List ℕ). length line < 2 ^ 16) short_line (slice_range lines from to)
-    (All-take IsGoodLine (to - from) (drop from lines) (All-drop IsGoodLine from lines good)) in
-    let short : All (λ (line : List ℕ). length line < 2 ^ 16) block.text = subst (All (λ (line : List ℕ). length line < 2 ^ 16)) (sym text) all in
+    let short : AreShort block.text = subst AreShort (sym text) (short_range lines from to (good_short lines good)) in
     record {
       more = rest.0;
       read = rest.1;
@@ -78,15 +72,11 @@ reads_of profile names declared lines from to block bounds good same text prepar
       named = known_of profile (length names) rest.0 bounds (each-lawful profile names block.text rest.0 short rest.1);
     }
 
--- the lines of a file without bad lines are short
-pub short_lines : (lines : List (List ℕ)) → All IsGoodLine lines → AreShort lines
-short_lines lines good = All-weaker IsGoodLine (λ (line : List ℕ). length line < 2 ^ 16) short_line lines good
-
 -- the face of some of them, and what they read as
 pub reads_in : (profile : Profile) (names declared lines : List (List ℕ)) (from to : ℕ) (face : Summary) → IsLawfulProfile profile → All IsGoodLine lines → declared ≡ names
     → IsFaceOf profile declared (slice_range lines from to) face → GoodOf profile names (slice_range lines from to) face
 reads_in profile names declared lines from to face bounds good same of_lines =
-    good_of profile names (slice_range lines from to) face bounds (short_range lines from to (short_lines lines good))
+    good_of profile names (slice_range lines from to) face bounds (short_range lines from to (good_short lines good))
     (subst (λ (ns : List (List ℕ)). IsFaceOf profile ns (slice_range lines from to) face) same of_lines)
 
 -- the same of a block

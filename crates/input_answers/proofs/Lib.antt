@@ -15,4 +15,5 @@ pub mod Openings
 pub mod PassesReports
 pub mod ScriptTexts
 pub mod StoppedRuns
+pub mod TextFolds
 pub mod TextRuns

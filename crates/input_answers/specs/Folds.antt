@@ -1,10 +1,11 @@
 -- What blocks of lines make of empty beds, one after the other. No public contract speaks of it.
-use Rattle.std.specs.Prelude.{◌≡◌, ℕ, ◌+◌, ◌≤◌, nat_lt, Bool, true, List, ◌++◌, length, filter, map, Option, None, Some, IfSome, All, slice_range}
+use Rattle.std.specs.Prelude.{◌≡◌, ℕ, ◌+◌, ◌≤◌, nat_lt, Bool, true, List, ◌++◌, length, drop, filter, map, Option, None, Some, IfSome, All, slice_range}
 use Rattle.std.specs.List.{AllZip}
 use Rattle.knit_base.specs.declared.instr.Read.{Read}
 use Rattle.knit_base.specs.declared.needle.Needle.{Needle}
 use Rattle.knit_base.specs.declared.profile.Profile.{Profile}
 use Rattle.knit_base.specs.declared.rule.Fault.{Fault}
+use Rattle.knit_base.specs.Lines.{lines_of}
 use Rattle.knitout_reader.specs.Reading.{ReadsAs}
 use Rattle.carriage_model.specs.declared.verdict.LoopFact.{LoopFact}
 use Rattle.carriage_model.specs.Loops.{loops_made}
@@ -77,3 +78,9 @@ pub record HasFolded (profile : Profile) (names lines : List (List ℕ)) (from t
   pub good : IsGood (length names) profile.hold known fold.face
   pub stop : fold.stop ≡ fault_of_run (run profile empty_state (from + 1) readings)
   pub loops : IfSome fold.loops (λ loops. loops ≡ loops_made profile empty_state (from + 1) readings)
+
+-- The lines of the text up to this place were taken, from the one behind so many on.
+pub record HasFoldedTo (profile : Profile) (names : List (List ℕ)) (text : List ℕ) (from place : ℕ) (fold : Fold) : Type 0 where
+  pub count : ℕ
+  pub rest : drop count (lines_of text) ≡ lines_of (drop place text)
+  pub folded : HasFolded profile names (lines_of text) from count fold

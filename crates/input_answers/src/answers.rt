@@ -6,6 +6,7 @@ ghost use Rattle.machine_profile.specs.Bounds.{IsBlockSize};
 ghost use Rattle.input_answers.specs.Asked.{reads_file};
 ghost use Rattle.input_answers.specs.Due.{Due, Fits, IsSizeRefusal, cut_refusal, head_refusal};
 
+use crate::block_pass::check_blocks_in_one_pass;
 use crate::body::Body;
 use crate::ending::Ending;
 use crate::judge::{Style, judge};
@@ -42,24 +43,30 @@ pub fn answer<R: Threads + Sync>(
     requires reads { reads_file plan.now.command ≡ true }
     ensures { IfOk result (λ ending. Due plan.now.command plan.now.chosen input.items ending.text.items ending.status) }
 {
-    match answer_in_one_pass(alloc, plan, &input)? {
+    match answer_in_one_pass(rt, alloc, plan, &input)? {
         Some(ending) => Ok(ending),
         None => answer_by_lines(rt, alloc, plan, input),
     }
 }
 
 // The same, in one pass over the bytes. `None` says that this doesn't settle the file.
-fn answer_in_one_pass(alloc: Global, plan: &Plan, input: &[u8]) -> Result<Option<Ending>, NoMemory>
+fn answer_in_one_pass<R: Threads + Sync>(
+    rt: &R,
+    alloc: Global,
+    plan: &Plan,
+    input: &[u8],
+) -> Result<Option<Ending>, NoMemory>
     requires { length input.now ≤ 16777216 }
     ensures { IfOk result (λ found. IfSome found (λ ending.
         Due plan.now.command plan.now.chosen input.now ending.text.items ending.status)) }
 {
     match plan.command {
         Command::Check { loops, json } => {
+            let style = Style { loops, json };
             if plan.by_blocks {
-                return Ok(None);
+                return check_blocks_in_one_pass(rt, alloc, style, plan, input);
             }
-            check_in_one_pass(alloc, Style { loops, json }, plan, input)
+            check_in_one_pass(alloc, style, plan, input)
         }
         Command::Text => text_in_one_pass(alloc, plan, input),
         Command::Passes => {

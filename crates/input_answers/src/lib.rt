@@ -8,6 +8,7 @@
 
 mod answers;
 mod block_loops;
+mod block_pass;
 mod body;
 mod by_blocks;
 mod ending;

@@ -59,8 +59,8 @@ pub fn check_in_one_pass(
     }
 }
 
-// The report on a text with this head, of which one carriage makes this.
-fn report_run(
+/// The report on a text with this head, of which one carriage makes this.
+pub(crate) fn report_run(
     alloc: Global,
     style: Style,
     plan: &Plan,

@@ -1,22 +1,22 @@
-use Rattle.std.proofs.Common.{◌≡◌, arith, subst, sym}
-use Rattle.std.specs.List.{slice_range}
+use Rattle.std.proofs.Common.{arith, inl, refl, subst, sym, take}
+use Rattle.std.proofs.lemmas.List.{take_all}
+use Rattle.knit_base.specs.Lines.{lines_of}
 use Rattle.check_workers.specs.Faces.{IsFaceOf}
-use Rattle.check_workers.proofs.Faces.{face_at}
+use Rattle.check_workers.proofs.Faces.{face_none}
 use Rattle.check_workers.proofs.stretch.join_lots.Goals as goal
 
 pub loop-at-init : goal.loop-at-init
 loop-at-init g c =
     let setting = c.args.setting.now in
     record {
-      behind = omega arith;
-      inside = c.requires.can.ordered;
-      joined = subst (IsFaceOf setting.profile setting.declared (slice_range c.args.lines.now c.args.start c.args.start)) (sym c.in_ok-face.ensures)
-          (face_at setting.profile setting.declared c.args.lines.now c.args.start c.requires.can.lawful);
+      inside = omega arith;
+      place = inl refl;
+      joined = subst (IsFaceOf setting.profile setting.declared (lines_of (take 0 c.args.text.now))) (sym c.in_ok-face.ensures)
+          (face_none setting.profile setting.declared c.requires.can.lawful.some);
     }
 
 pub returns : goal.returns
 returns g c =
     let setting = c.args.setting.now in
-    let here = c.loop-at.invariant in
-    let all : c.loop-at.at ≡ c.args.end = omega (arith, c.loop-at-test.false, here.inside) in
-    subst (λ n. IsFaceOf setting.profile setting.declared (slice_range c.args.lines.now c.args.start n) c.loop-at.face) all here.joined
+    subst (λ t. IsFaceOf setting.profile setting.declared (lines_of t) c.loop-at.face) (take_all c.loop-at.at c.args.text.now (omega (arith, c.loop-at-test.false)))
+    c.loop-at.invariant.joined

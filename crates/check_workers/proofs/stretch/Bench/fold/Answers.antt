@@ -1,22 +1,16 @@
-use Rattle.std.proofs.Common.{◌≡◌, arith, subst, sym}
-use Rattle.std.specs.List.{slice_range}
-use Rattle.check_workers.specs.Faces.{IsFaceOf}
-use Rattle.check_workers.proofs.Faces.{face_at}
+use Rattle.std.proofs.Common.{subst, sym, ◌∙◌}
+use Rattle.std.proofs.lemmas.Result.{IfOk-weaker}
+use Rattle.knit_base.specs.Lines.{lines_of}
+use Rattle.check_workers.specs.Faces.{AreShort, IsFaceOf}
+use Rattle.check_workers.proofs.Faces.{good_short}
 use Rattle.check_workers.proofs.stretch.Bench.fold.Goals as goal
 
-pub loop-at-init : goal.loop-at-init
-loop-at-init g c =
-    let setting = c.args.setting.now in
-    record {
-      behind = omega arith;
-      inside = c.requires.can.ordered;
-      folded = subst (IsFaceOf setting.profile setting.declared (slice_range c.args.lines.now c.args.start c.args.start)) (sym c.in_ok-face.ensures)
-          (face_at setting.profile setting.declared c.args.lines.now c.args.start c.requires.can.lawful);
-    }
+pub fold_lines-requires-clause-short : goal.fold_lines-requires-clause-short
+fold_lines-requires-clause-short g c = subst AreShort (sym (c.in_ok-lines.ensures ∙ c.in-Ok.ensures.lines)) (good_short (lines_of c.args.text.now) c.requires.can.good)
 
 pub returns : goal.returns
 returns g c =
     let setting = c.args.setting.now in
-    let here = c.loop-at.invariant in
-    let all : c.loop-at.at ≡ c.args.end = omega (arith, c.loop-at-test.false, here.inside) in
-    subst (λ n. IsFaceOf setting.profile setting.declared (slice_range c.args.lines.now c.args.start n) c.loop-at.face) all here.folded
+    IfOk-weaker c.fold_lines.result _ _
+    (λ face is. subst (λ t. IsFaceOf setting.profile setting.declared t face) (c.in_ok-lines.ensures ∙ c.in-Ok.ensures.lines) is)
+    c.fold_lines.ensures
