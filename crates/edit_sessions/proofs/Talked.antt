@@ -96,14 +96,14 @@ histories_seen opening low high seen all cs rs range g h =
     subst (λ (j : List Entry). AreHistories (core opening) low j (first_memory opening) cs rs) (sym g.1)
     (histories_longer (core opening) (is_core opening) low low high seen (first_memory opening) cs rs g.0 (omega arith) (omega arith) g.2 h)
 
--- two halves, after their join and a look at the journal
-pub halves_join : (opening : Opening) (m at : ℕ) (v l r l' r' u : View Opening Entry) (all : List Entry) (cs ds : List (List Command)) (ps qs : List (List Reply)) → at ≡ v.first + m → l ≡ lower at v → r ≡ upper at v → length cs ≡ m → at + length ds ≡ v.past
+-- two parts, after their join and a look at the journal
+pub parts_join : (opening : Opening) (m at : ℕ) (v l r l' r' u : View Opening Entry) (all : List Entry) (cs ds : List (List Command)) (ps qs : List (List Reply)) → at ≡ v.first + m → l ≡ lower at v → r ≡ upper at v → length cs ≡ m → at + length ds ≡ v.past
     → l'.first ≡ l.first → l'.past ≡ l.past → r'.first ≡ r.first → r'.past ≡ r.past
     → (Foreign session_of l.first l.past l.seen → AreHistories (core opening) l.first l'.seen (first_memory opening) cs ps)
     → (Foreign session_of r.first r.past r.seen → AreHistories (core opening) r.first r'.seen (first_memory opening) ds qs)
     → u ≡ united l' r' → Catches session_of u all → Foreign session_of v.first v.past v.seen
     → AreHistories (core opening) v.first all (first_memory opening) (cs ++ ds) (ps ++ qs)
-halves_join opening m at v l r l' r' u all cs ds ps qs at_is l_is r_is len fits lf lp rf rp left right u_is c fresh =
+parts_join opening m at v l r l' r' u all cs ds ps qs at_is l_is r_is len fits lf lp rf rp left right u_is c fresh =
     let K : Joined Entry → Type 0 = λ k. GoesOn session_of k.first k.past k.seen all in
     let j : u.joined ≡ (l'.joined ++ r'.joined) ++ own_journal l' ∷ own_journal r' ∷ [] = ap (λ (z : View Opening Entry). z.joined) u_is in
     let g = each_right K (l'.joined ++ r'.joined) (own_journal l' ∷ own_journal r' ∷ []) (subst (Each K) j c.joined) in

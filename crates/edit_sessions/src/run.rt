@@ -172,18 +172,18 @@ pub(crate) fn run<G: Gate + Sync, R: Threads + Wait + Sync>(
     }
     let at = pass.first() + 1;
     let mut right = shared.split(pass, at);
-    let (a, b) = scripts.split_at(1);
+    let (own, others) = scripts.split_at(1);
     let (front, back) = talks.split_at_mut(1);
     join_mut(
         rt,
         &mut ||
-            requires { IsSync R.row × IsSync G.row × ((opening_of shared.now).setting ≡ setting.now) × IsLawfulProfile setting.now.profile × IsPassOf shared.now right × ((view_of right).first + length b.now ≡ (view_of right).past) × (0 < length b.now) × (length back.now ≡ length b.now) × AreReady (opening_of shared.now) (view_of right).first b.now back.now }
-            ensures { IsPassOf shared.entry.now right.exit × ((view_of right.exit).first ≡ (view_of right.entry).first) × ((view_of right.exit).past ≡ (view_of right.entry).past) × (Foreign session_of (view_of right.entry).first (view_of right.entry).past (view_of right.entry).seen → AreHistories (core (opening_of shared.entry.now)) (view_of right.entry).first (view_of right.exit).seen (first_memory (opening_of shared.entry.now)) b.entry.now (map replies_of back.exit.now)) }
-        { run(rt, alloc, gate, shared, setting, b, &mut right, back) },
+            requires { IsSync R.row × IsSync G.row × ((opening_of shared.now).setting ≡ setting.now) × IsLawfulProfile setting.now.profile × IsPassOf shared.now right × ((view_of right).first + length others.now ≡ (view_of right).past) × (0 < length others.now) × (length back.now ≡ length others.now) × AreReady (opening_of shared.now) (view_of right).first others.now back.now }
+            ensures { IsPassOf shared.entry.now right.exit × ((view_of right.exit).first ≡ (view_of right.entry).first) × ((view_of right.exit).past ≡ (view_of right.entry).past) × (Foreign session_of (view_of right.entry).first (view_of right.entry).past (view_of right.entry).seen → AreHistories (core (opening_of shared.entry.now)) (view_of right.entry).first (view_of right.exit).seen (first_memory (opening_of shared.entry.now)) others.entry.now (map replies_of back.exit.now)) }
+        { run(rt, alloc, gate, shared, setting, others, &mut right, back) },
         &mut ||
-            requires { IsSync R.row × IsSync G.row × ((opening_of shared.now).setting ≡ setting.now) × IsLawfulProfile setting.now.profile × IsPassOf shared.now pass.now × ((view_of pass.now).first + length a.now ≡ (view_of pass.now).past) × (0 < length a.now) × (length front.now ≡ length a.now) × AreReady (opening_of shared.now) (view_of pass.now).first a.now front.now }
-            ensures { IsPassOf shared.entry.now pass.exit.now × ((view_of pass.exit.now).first ≡ (view_of pass.entry.now).first) × ((view_of pass.exit.now).past ≡ (view_of pass.entry.now).past) × (Foreign session_of (view_of pass.entry.now).first (view_of pass.entry.now).past (view_of pass.entry.now).seen → AreHistories (core (opening_of shared.entry.now)) (view_of pass.entry.now).first (view_of pass.exit.now).seen (first_memory (opening_of shared.entry.now)) a.entry.now (map replies_of front.exit.now)) }
-        { run(rt, alloc, gate, shared, setting, a, pass, front) },
+            requires { IsSync R.row × IsSync G.row × ((opening_of shared.now).setting ≡ setting.now) × IsLawfulProfile setting.now.profile × IsPassOf shared.now pass.now × ((view_of pass.now).first + length own.now ≡ (view_of pass.now).past) × (0 < length own.now) × (length front.now ≡ length own.now) × AreReady (opening_of shared.now) (view_of pass.now).first own.now front.now }
+            ensures { IsPassOf shared.entry.now pass.exit.now × ((view_of pass.exit.now).first ≡ (view_of pass.entry.now).first) × ((view_of pass.exit.now).past ≡ (view_of pass.entry.now).past) × (Foreign session_of (view_of pass.entry.now).first (view_of pass.entry.now).past (view_of pass.entry.now).seen → AreHistories (core (opening_of shared.entry.now)) (view_of pass.entry.now).first (view_of pass.exit.now).seen (first_memory (opening_of shared.entry.now)) own.entry.now (map replies_of front.exit.now)) }
+        { run(rt, alloc, gate, shared, setting, own, pass, front) },
     );
     shared.join(pass, right);
     shared.newest(pass);

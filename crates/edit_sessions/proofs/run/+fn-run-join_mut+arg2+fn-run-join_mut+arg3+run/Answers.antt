@@ -8,7 +8,7 @@ use Rattle.edit_sessions.specs.Shared.{opening_of, session_of}
 use Rattle.edit_sessions.specs.Talks.{AreReady, replies_of}
 use Rattle.turn_book.specs.Journal.{Foreign}
 use Rattle.turn_book.specs.Passes.{view_of}
-use Rattle.edit_sessions.proofs.Talked.{halves_join, ready_split}
+use Rattle.edit_sessions.proofs.Talked.{parts_join, ready_split}
 use Rattle.edit_sessions.proofs.run.+fn-run-join_mut+arg2+fn-run-join_mut+arg3+run.Goals as goal
 
 pub join_mut-requires-after_bounds : goal.join_mut-requires-after_bounds
@@ -80,5 +80,5 @@ returns-clause-histories g t c = λ fresh. let m : ℕ = 1 in let v = view_of c.
     let whole : a ++ b ≡ c.args.scripts.now = rw (s.front, s.back) (take-append-drop m c.args.scripts.now) in
     let d : map replies_of p ++ map replies_of q ≡ map replies_of (p ++ q) = sym (map-append replies_of p q) in
     subst (λ (z : List (List Command) × List (List Reply)). AreHistories (core o) v.first all (first_memory o) z.0 z.1) (λ i. (whole i, d i))
-    (halves_join o m at v l r l' r' (view_of c.join.new.pass) all a b (map replies_of p) (map replies_of q) (ap (λ k. k + m) c.first-at.ensures) c.split-right.ensures.lower c.split-right.ensures.upper s.front_len
+    (parts_join o m at v l r l' r' (view_of c.join.new.pass) all a b (map replies_of p) (map replies_of q) (ap (λ k. k + m) c.first-at.ensures) c.split-right.ensures.lower c.split-right.ensures.upper s.front_len
     (let x = s.back_len in let y = c.requires.range in let z = c.first-at.ensures in omega arith) lf lp rf rp left right c.join.ensures.united c.newest.ensures.catches fresh)

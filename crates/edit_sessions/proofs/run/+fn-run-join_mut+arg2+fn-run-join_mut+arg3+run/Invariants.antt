@@ -2,10 +2,10 @@ use Rattle.std.proofs.Common.{length}
 use Rattle.edit_sessions.proofs.run.+fn-run-join_mut+arg2+fn-run-join_mut+arg3+run.Given as goal
 
 abbrev pub decreases-join_mut+arg2 : goal.decreases-join_mut+arg2
-decreases-join_mut+arg2 g l = length l.b.now
+decreases-join_mut+arg2 g l = length l.others.now
 
 abbrev pub decreases-join_mut+arg3 : goal.decreases-join_mut+arg3
-decreases-join_mut+arg3 g l = length l.a.now
+decreases-join_mut+arg3 g l = length l.own.now
 
 abbrev pub decreases-run : goal.decreases-run
 decreases-run g l = length l.scripts.now
