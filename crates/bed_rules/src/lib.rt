@@ -8,8 +8,6 @@
 
 mod changes;
 mod limits;
-#[cfg(test)]
-mod tests;
 
 ghost use Rattle.std.specs.Prelude.{◌≡◌, ℕ, ◌+◌, IfOk};
 ghost use Rattle.knit_base.specs.Limits.{IsLawfulProfile};

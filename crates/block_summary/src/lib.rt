@@ -31,8 +31,6 @@ mod line;
 mod line_ask;
 mod prepared;
 mod room;
-#[cfg(test)]
-mod tests;
 
 pub use draft::Draft;
 pub use formed::FormedLoop;

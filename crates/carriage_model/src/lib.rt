@@ -19,8 +19,6 @@ mod machine;
 mod rules;
 mod run;
 mod steps;
-#[cfg(test)]
-mod tests;
 mod verdict;
 
 pub use carriage::Carriage;

@@ -8,8 +8,6 @@
 
 mod conds;
 mod effect;
-#[cfg(test)]
-mod tests;
 
 ghost use Rattle.std.specs.Prelude.{◌≡◌, IfOk};
 ghost use Rattle.carriage_model.specs.Machine.{HasPlaces};

@@ -36,8 +36,6 @@ mod short_list;
 mod sizes;
 mod storage;
 mod symbols;
-#[cfg(test)]
-mod tests;
 mod verdicts;
 
 pub use bearing::Bearing;

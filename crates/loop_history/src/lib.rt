@@ -15,8 +15,6 @@ mod resolving;
 mod row;
 mod row_list;
 mod table;
-#[cfg(test)]
-mod tests;
 
 pub use resolving::{Entries, resolve};
 pub use row::LoopRow;

@@ -29,8 +29,6 @@ mod room;
 mod scratch;
 mod sizes;
 mod spots;
-#[cfg(test)]
-mod tests;
 
 pub use room::{Room, room_for};
 pub use scratch::{Scratch, compose, compose_into};

@@ -27,5 +27,3 @@ mod tree;
 pub use need::Need;
 pub use tree::Tree;
 
-#[cfg(test)]
-mod tests;

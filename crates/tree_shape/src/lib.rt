@@ -23,8 +23,6 @@ mod numbers;
 mod parents;
 mod removal;
 mod shape;
-#[cfg(test)]
-mod tests;
 
 pub use dirty::{Dirty, DirtyRow};
 pub use node::Child;

@@ -1,4 +1,0 @@
-use Rattle.loop_history.proofs.tests.long_lists_are_copied_and_read_through.Given as goal
-
-abbrev pub ghosts-has_both_twice : goal.ghosts-has_both_twice
-ghosts-has_both_twice g a = record { name = a.blank.name; parts = a.blank.parts }

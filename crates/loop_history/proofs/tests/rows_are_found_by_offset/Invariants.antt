@@ -1,4 +1,0 @@
-use Rattle.loop_history.proofs.tests.rows_are_found_by_offset.Given as goal
-
-abbrev pub ghosts-places_of : goal.ghosts-places_of
-ghosts-places_of g a = record { name = a.blank.name; parts = a.blank.parts }

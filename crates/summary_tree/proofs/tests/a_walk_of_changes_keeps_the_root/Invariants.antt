@@ -1,4 +1,0 @@
-use Rattle.summary_tree.proofs.tests.a_walk_of_changes_keeps_the_root.Given as goal
-
-abbrev pub ghosts-walked : goal.ghosts-walked
-ghosts-walked g a = record { name = a.blank.name; parts = a.blank.parts }

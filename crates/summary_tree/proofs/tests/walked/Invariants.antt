@@ -1,6 +1,0 @@
-use Rattle.std.proofs.Common.{◌*◌, ◌≤◌}
-use Rattle.summary_tree.specs.Leaves.{lines_of}
-use Rattle.summary_tree.proofs.tests.walked.Given as goal
-
-abbrev pub invariant-loop-i : goal.invariant-loop-i
-invariant-loop-i g l = lines_of l.tree.leaves ≤ 5 * l._i

@@ -1,0 +1,11 @@
+//! Worked examples of trees, each a test: which shape a run of insertions and removals leaves, and that a tree of summaries has the
+//! root that all its leaves have together, whatever was put, added or cut.
+//!
+//! Each test names public calls alone, so that the crates below are proved without tests. Below it stand std, `knit_base`,
+//! `face_data`, `loop_history`, `tree_shape` and `summary_tree`.
+#![tactic(auto)]
+
+#[cfg(test)]
+mod shape_tests;
+#[cfg(test)]
+mod summary_tests;

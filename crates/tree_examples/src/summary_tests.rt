@@ -1,0 +1,240 @@
+//! Small faces that only set the rack: each call once, and a walk of changes against the leaves one after the other.
+ghost use Rattle.std.specs.Prelude.{◌≡◌, ◌+◌, ◌<◌, ◌≤◌, OnOk, IfOk};
+ghost use Rattle.face_data.specs.View.{IsPacked, summary_of};
+ghost use Rattle.summary_tree.specs.Leaves.{lines_of};
+ghost use Rattle.summary_tree.specs.Plain.{plain};
+
+use face_data::{Effect, Ending, Face, FaceView};
+use knit_base::{NoMemory, Quarter, Steps};
+use loop_history::LoopTable;
+use std::alloc::Global;
+use std::marker::Brand;
+use std::sync::ledger::{Blank, Ledger};
+use std::test::Fail;
+use std::thread::Threads;
+use summary_tree::Tree;
+
+// So many lines that set the rack.
+fn plain(lines: u32, rack: i32) -> FaceView<'static>
+    ensures summary { summary_of result ≡ plain lines rack }
+    ensures packed { IsPacked result }
+{
+    FaceView {
+        lines,
+        made: 0,
+        checks: &[],
+        names: &[],
+        changes: &[],
+        segs: &[],
+        ending: Ending::Through(Effect {
+            rack: Some(Quarter(rack)),
+            came: 0,
+            went: 0,
+            hook: None,
+        }),
+    }
+}
+
+// One more leaf at a position, unless it can't stand there.
+fn add<L: Ledger>(
+    alloc: Global,
+    tree: &mut Tree,
+    at: u32,
+    lines: u32,
+    rack: i32,
+    steps: &mut Steps<L>,
+) -> Result<(), NoMemory>
+    requires { lines_of tree.old.leaves + lines ≤ 1048576 }
+    ensures { lines_of tree.new.leaves ≤ lines_of tree.old.leaves + lines }
+{
+    let len = tree.len();
+    if at > len || len >= 65536 {
+        return Ok(());
+    }
+    let face = plain(lines, rack);
+    let need = tree.need_insert(at, &face);
+    tree.reserve(&need)?;
+    tree.insert(at, &face, LoopTable::new(alloc), steps);
+    Ok(())
+}
+
+// Another leaf at a position, if there is one.
+fn put<L: Ledger>(
+    alloc: Global,
+    tree: &mut Tree,
+    at: u32,
+    lines: u32,
+    rack: i32,
+    steps: &mut Steps<L>,
+) -> Result<(), NoMemory>
+    requires { lines_of tree.old.leaves + lines ≤ 1048576 }
+    ensures { lines_of tree.new.leaves ≤ lines_of tree.old.leaves + lines }
+{
+    if at >= tree.len() {
+        return Ok(());
+    }
+    let face = plain(lines, rack);
+    let need = tree.need_replace(at, &face);
+    tree.reserve(&need)?;
+    tree.replace(at, &face, LoopTable::new(alloc), steps);
+    Ok(())
+}
+
+// No leaf at a position, if its need is met.
+fn cut<L: Ledger>(tree: &mut Tree, at: u32, steps: &mut Steps<L>) -> Result<(), NoMemory>
+    ensures { lines_of tree.new.leaves ≤ lines_of tree.old.leaves }
+{
+    if at >= tree.len() {
+        return Ok(());
+    }
+    let need = tree.need_remove(at);
+    tree.reserve(&need)?;
+    if tree.meets(&need) {
+        tree.remove(at, steps);
+    }
+    Ok(())
+}
+
+fn rack_of(face: &FaceView) -> Option<Quarter> {
+    match face.ending {
+        Ending::Through(effect) => effect.rack,
+        Ending::Broken(_) => None,
+    }
+}
+
+// The lines of all leaves, and the rack that the last of them sets, leaf by leaf.
+fn one_by_one(tree: &Tree) -> (u32, Option<Quarter>) {
+    let mut lines: u32 = 0;
+    let mut rack = None;
+    for at in 0..tree.len() {
+        let (face, _loops) = tree.leaf(at);
+        lines = lines.wrapping_add(face.lines);
+        rack = rack_of(&face);
+    }
+    (lines, rack)
+}
+
+fn at_the_root(tree: &Tree) -> (u32, Option<Quarter>) {
+    let root = tree.root();
+    (root.lines, rack_of(&root))
+}
+
+// The leaves of 2, 3 and 0 lines, then 1 line in the place of the second, then without the first.
+fn changed<L: Ledger, R: Threads>(
+    rt: &R,
+    blank: Blank,
+    alloc: Global,
+) -> Result<[(u32, Option<Quarter>); 3], NoMemory>
+    requires name { (blank.name ≡ L.name) × (blank.parts ≡ L.parts) × (0 < L.parts) }
+{
+    let mut steps = Steps::<L>::start(rt, blank);
+    let mut tree = Tree::new(alloc);
+    add(alloc, &mut tree, 0, 0, 3, &mut steps)?;
+    add(alloc, &mut tree, 0, 2, 1, &mut steps)?;
+    add(alloc, &mut tree, 1, 3, 2, &mut steps)?;
+    let first = at_the_root(&tree);
+    put(alloc, &mut tree, 2, 1, 4, &mut steps)?;
+    let second = at_the_root(&tree);
+    cut(&mut tree, 0, &mut steps)?;
+    Ok([first, second, at_the_root(&tree)])
+}
+
+#[test]
+fn the_root_is_that_of_all_leaves(rt: HostRuntime) -> Result<(), Fail> {
+    let [first, second, third] = changed::<Brand, _>(&rt, Blank::new(1), rt.alloc())?;
+    assert_eq!(rt; first, (5, Some(Quarter(3))));
+    assert_eq!(rt; second, (6, Some(Quarter(4))));
+    assert_eq!(rt; third, (4, Some(Quarter(4))));
+    Ok(())
+}
+
+// The leaves of 2 and 3 lines at once.
+fn two_leaves<L: Ledger>(alloc: Global, steps: &mut Steps<L>) -> Result<Tree, NoMemory> {
+    let mut leaves = Vec::new(alloc);
+    leaves.push((Face::of(alloc, &plain(2, 1))?, LoopTable::new(alloc)))?;
+    leaves.push((Face::of(alloc, &plain(3, 2))?, LoopTable::new(alloc)))?;
+    Tree::start(alloc, leaves, steps)
+}
+
+// Where lines 0, 1, 2, 4 and 5 are, and the lines before each place.
+fn looked_up<L: Ledger, R: Threads>(
+    rt: &R,
+    blank: Blank,
+    alloc: Global,
+) -> Result<([Option<(u32, u32)>; 5], u32, (u32, Option<Quarter>)), NoMemory>
+    requires name { (blank.name ≡ L.name) × (blank.parts ≡ L.parts) × (0 < L.parts) }
+{
+    let mut steps = Steps::<L>::start(rt, blank);
+    let tree = two_leaves(alloc, &mut steps)?;
+    let found = [
+        tree.leaf_of_line(0),
+        tree.leaf_of_line(1),
+        tree.leaf_of_line(2),
+        tree.leaf_of_line(4),
+        tree.leaf_of_line(5),
+    ];
+    let before = if tree.len() < 2 {
+        0
+    } else {
+        tree.lines_before(1)
+    };
+    Ok((found, before, at_the_root(&tree)))
+}
+
+#[test]
+fn lines_are_found_in_their_leaves(rt: HostRuntime) -> Result<(), Fail> {
+    let (found, before, root) = looked_up::<Brand, _>(&rt, Blank::new(1), rt.alloc())?;
+    assert_eq!(rt; found[0], Some((0, 0)));
+    assert_eq!(rt; found[1], Some((0, 1)));
+    assert_eq!(rt; found[2], Some((1, 0)));
+    assert_eq!(rt; found[3], Some((1, 2)));
+    assert_eq!(rt; found[4], None);
+    assert_eq!(rt; before, 2);
+    assert_eq!(rt; root, (5, Some(Quarter(2))));
+    Ok(())
+}
+
+// One change, chosen by a number that was drawn.
+fn step<L: Ledger>(
+    alloc: Global,
+    tree: &mut Tree,
+    draw: u32,
+    steps: &mut Steps<L>,
+) -> Result<(), NoMemory>
+    requires { lines_of tree.old.leaves + 5 ≤ 1048576 }
+    ensures { lines_of tree.new.leaves ≤ lines_of tree.old.leaves + 5 }
+{
+    let at = draw % 16;
+    let lines = draw % 5;
+    let rack = (draw % 7) as i32;
+    match draw / 16 % 4 {
+        0 => cut(tree, at, steps),
+        1 => put(alloc, tree, at, lines, rack, steps),
+        _ => add(alloc, tree, at % 4, lines, rack, steps),
+    }
+}
+
+// After each of 60 changes: whether the root tells what the leaves tell one by one.
+fn walked<L: Ledger, R: Threads>(rt: &R, blank: Blank, alloc: Global) -> Result<bool, NoMemory>
+    requires name { (blank.name ≡ L.name) × (blank.parts ≡ L.parts) × (0 < L.parts) }
+{
+    let mut steps = Steps::<L>::start(rt, blank);
+    let mut tree = Tree::new(alloc);
+    let mut draw: u32 = 7;
+    let mut same = true;
+    for _i in 0..60u32 {
+        draw = draw.wrapping_mul(1_103_515_245).wrapping_add(12_345);
+        step(alloc, &mut tree, draw >> 16, &mut steps)?;
+        if at_the_root(&tree) != one_by_one(&tree) {
+            same = false;
+        }
+    }
+    Ok(same)
+}
+
+#[test]
+fn a_walk_of_changes_keeps_the_root(rt: HostRuntime) -> Result<(), Fail> {
+    let same = walked::<Brand, _>(&rt, Blank::new(1), rt.alloc())?;
+    assert!(rt; same);
+    Ok(())
+}
