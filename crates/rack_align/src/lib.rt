@@ -15,7 +15,6 @@ ghost use Rattle.rack_align.specs.Moves.{facing, rack_ask};
 
 use knit_base::{Instr, Needle, Quarter, Reason, Rule};
 
-
 /// The rack that a transfer or a split needs, in quarters of a needle, and the reason that is given where the rack is
 /// another. `None` exactly where the instruction is neither.
 pub fn ask(instr: &Instr) -> Option<(Reason, Quarter)>

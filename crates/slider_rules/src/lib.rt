@@ -19,7 +19,6 @@ use face_data::{SizeAsk, Symbols, ask_size};
 use knit_base::{Instr, NoMemory, Reason, Rule};
 use std::alloc::Global;
 
-
 /// The slider with the number and the side of a hook on which a loop is formed holds nothing: that, as a condition on the
 /// entry of a block after which the needles hold these segments. `None` exactly where the instruction forms no loop.
 pub fn ask(alloc: Global, instr: &Instr, segments: &Symbols) -> Result<Option<SizeAsk>, NoMemory>

@@ -26,4 +26,3 @@ mod tree;
 
 pub use need::Need;
 pub use tree::Tree;
-
