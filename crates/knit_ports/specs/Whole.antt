@@ -7,6 +7,10 @@ use Rattle.std.specs.Io.KnownBytes.{Appends, Consumes, IsAtEnd}
 abbrev pub GaveAtMost : ℕ → Option (List ℕ) → Option (List ℕ) → Type 0
 GaveAtMost limit old new = (bytes : List ℕ) × (length bytes ≤ limit) × Consumes old new bytes
 
+-- what was read stands behind what there was
+abbrev pub HasMore : Option (List ℕ) → Option (List ℕ) → List ℕ → List ℕ → Type 0
+HasMore old new before after = (bytes : List ℕ) × Consumes old new bytes × (after ≡ before ++ bytes)
+
 -- a front of the text was taken
 abbrev pub TookFront : Option (List ℕ) → Option (List ℕ) → List ℕ → Type 0
 TookFront old new text = (n : ℕ) × (n ≤ length text) × Appends old new (take n text)

@@ -1,9 +1,9 @@
 //! A whole input, up to a limit, and a whole report.
-ghost use Rattle.std.specs.Prelude.{◌+◌, ◌<◌, ◌^◌, vec_len, ◌≤◌, ◌≡◌, [], length, IfOk, OnOk, OnErr, IsErrOf};
+ghost use Rattle.std.specs.Prelude.{◌+◌, ◌-◌, ◌<◌, ◌^◌, vec_len, ◌≤◌, ◌≡◌, [], length, IfOk, OnOk, OnErr, IsErrOf};
 ghost use Rattle.std.specs.Io.KnownBytes.{Appends, Consumes, IsAtEnd, Keeps};
 ghost use Rattle.knit_ports.specs.declared.whole.InputFault.TheVariants as fault;
 ghost use Rattle.knit_ports.specs.Faults.{Rose};
-ghost use Rattle.knit_ports.specs.Whole.{GaveAtMost, GavePiece, TookFront};
+ghost use Rattle.knit_ports.specs.Whole.{GaveAtMost, GavePiece, HasMore, TookFront};
 
 use crate::{Failed, Sink, Source};
 use std::alloc::{AllocError, Global};
@@ -54,20 +54,42 @@ pub fn read_input<S: Source>(
     ensures lost { IsErrOf result InputFault.NoMemory → GaveAtMost (limit + 1) (S.left source.old) (S.left source.new) }
 {
     let mut bytes = with_room(alloc, limit + 1);
+    read_on(alloc, source, limit, &mut bytes)?;
+    Ok(bytes)
+}
+
+/// Reads on behind the bytes that were read, until the source is at its end or there is a byte more than the limit. The same is promised of what is read here as of
+/// a whole input.
+pub fn read_on<S: Source>(
+    alloc: Global,
+    source: &mut S,
+    limit: usize,
+    bytes: &mut Vec<u8>,
+) -> Result<(), InputFault>
+    requires limit { limit < 2 ^ 60 }
+    requires few { length bytes.old.items ≤ limit + 1 }
+    ensures more { OnOk result (HasMore (S.left source.old) (S.left source.new) bytes.old.items bytes.new.items) }
+    ensures within { OnOk result (length bytes.new.items ≤ limit + 1) }
+    ensures whole { OnOk result (length bytes.new.items ≤ limit → IsAtEnd (S.left source.new)) }
+    ensures failed { IsErrOf result InputFault.Failed → Rose (S.faults source.old) (S.faults source.new) }
+    ensures gave { IsErrOf result InputFault.Failed → GaveAtMost (limit - length bytes.old.items) (S.left source.old) (S.left source.new) }
+    ensures lost { IsErrOf result InputFault.NoMemory → GaveAtMost (limit + 1 - length bytes.old.items) (S.left source.old) (S.left source.new) }
+    ensures later { S.faults source.old ≤ S.faults source.new }
+{
     let mut piece = zeros(alloc, PIECE)?;
     'reading: while bytes.len() <= limit {
         let want = piece.len().min(limit + 1 - bytes.len());
-        let given = read_piece(source, &mut piece[..want], &mut bytes)?;
+        let given = read_piece(source, &mut piece[..want], bytes)?;
         if given == 0 {
             break;
         }
     }
-    Ok(bytes)
+    Ok(())
 }
 
-// No bytes yet, and room for so many, if there is memory for them, so that none of them is copied when more come. The system gives a page of room
-// only when it is written to.
-fn with_room(alloc: Global, room: usize) -> Vec<u8>
+/// No bytes yet, and room for so many, if there is memory for them, so that none of them is copied when more come. The system gives a page of room
+/// only when it is written to.
+pub fn with_room(alloc: Global, room: usize) -> Vec<u8>
     ensures { result.items ≡ [] }
 {
     match Vec::with_capacity(alloc, room) {
