@@ -1,5 +1,6 @@
 mod Cuts
 pub mod Faces
+pub mod Counts
 pub mod LinePlaces
 pub mod LineRanges
 pub mod Lots

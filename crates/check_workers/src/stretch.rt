@@ -17,7 +17,7 @@ use line_cutter::cut;
 use memchr::memchr;
 use std::alloc::Global;
 use std::marker::Brand;
-use std::sync::atomic::{AtomicUsize, Ordering};
+use std::sync::atomic::{AtomicBool, AtomicUsize, Ordering};
 use std::sync::ledger::{Blank, Ledger};
 use std::thread::{Threads, join};
 use summary_compose::Scratch;
@@ -218,6 +218,53 @@ fn join_lots<L: Ledger, R: Threads>(
         at = to;
     }
     Ok(face)
+}
+
+/// The face of the first lines of a text, all of which are good, and where these end. They are folded lot after lot, until all are or another thread says to stop,
+/// and prepared in blocks of at most `size` lines.
+pub fn fold_front<R: Threads>(
+    rt: &R,
+    alloc: Global,
+    text: &[u8],
+    size: u32,
+    setting: &Setting,
+    stop: &AtomicBool,
+) -> Result<(Face, usize), NoMemory>
+    requires { CanFold setting.now.profile text.now size }
+    ensures within { IfOk result (λ front. front.1 ≤ length text.now) }
+    ensures face { IfOk result (λ front. IsFaceOf setting.now.profile setting.now.declared (lines_of (take front.1 text.now)) front.0) }
+{
+    fold_until::<Brand, R>(rt, Blank::new(1), alloc, text, size, setting, stop)
+}
+
+// The same. The steps are counted by nobody.
+fn fold_until<L: Ledger, R: Threads>(
+    rt: &R,
+    blank: Blank,
+    alloc: Global,
+    text: &[u8],
+    size: u32,
+    setting: &Setting,
+    stop: &AtomicBool,
+) -> Result<(Face, usize), NoMemory>
+    requires can { CanFold setting.now.profile text.now size }
+    requires blank { (blank.name ≡ L.name) × (blank.parts ≡ L.parts) × (0 < L.parts) }
+    ensures within { IfOk result (λ front. front.1 ≤ length text.now) }
+    ensures face { IfOk result (λ front. IsFaceOf setting.now.profile setting.now.declared (lines_of (take front.1 text.now)) front.0) }
+{
+    let mut steps = Steps::<L>::start(rt, blank);
+    let mut bench = Bench::new(alloc);
+    let mut face = empty_face(alloc)?;
+    let mut at = 0;
+    while at < text.len() {
+        if stop.load(Ordering::SeqCst) {
+            return Ok((face, at));
+        }
+        let to = lot_end(text, at);
+        face = bench.add_lot(alloc, &[], text, at, to, size, setting, &face, &mut steps)?;
+        at = to;
+    }
+    Ok((face, at))
 }
 
 // The face of the lot from `start` to `end`, if it is there.

@@ -27,3 +27,14 @@ pub fn worker_count<R: Threads>(rt: &R) -> usize
         Err(_) => MOST_LOTS,
     }
 }
+
+/// How many threads share the lots of a long text: two for each processor, where there are several. The system may let a thread wait for the processor of the one
+/// that started it, though another has nothing to do; of two for each, each processor nearly always has one.
+pub fn thread_count<R: Threads>(rt: &R) -> usize
+    ensures { result ≤ 32 }
+{
+    match worker_count(rt) {
+        0 | 1 => 1,
+        processors => 2 * processors,
+    }
+}
