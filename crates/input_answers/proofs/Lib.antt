@@ -1,3 +1,4 @@
+pub mod FoldedFronts
 pub mod Asks
 pub mod BlockCounts
 pub mod BlockFolds

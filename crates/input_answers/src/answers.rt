@@ -3,9 +3,11 @@ ghost use Rattle.std.specs.Prelude.{◌≡◌, ◌≤◌, true, All, List, ℕ, 
 ghost use Rattle.knit_base.specs.Lines.{lines_of};
 ghost use Rattle.line_cutter.specs.Cut.{IsGoodLine};
 ghost use Rattle.machine_profile.specs.Bounds.{IsBlockSize};
+ghost use Rattle.input_answers.specs.Ahead.{IsFront};
 ghost use Rattle.input_answers.specs.Asked.{reads_file};
 ghost use Rattle.input_answers.specs.Due.{Due, Fits, IsSizeRefusal, cut_refusal, head_refusal};
 
+use crate::ahead::Front;
 use crate::block_pass::check_blocks_in_one_pass;
 use crate::body::Body;
 use crate::ending::Ending;
@@ -38,12 +40,14 @@ pub fn answer<R: Threads + Sync>(
     alloc: Global,
     plan: &Plan,
     input: Vec<u8>,
+    front: Option<&Front>,
 ) -> Result<Ending, NoMemory>
     requires size { length input.items ≤ 16777216 }
     requires reads { reads_file plan.now.command ≡ true }
+    requires front { IfSome front (λ front. IsFront front.now) }
     ensures { IfOk result (λ ending. Due plan.now.command plan.now.chosen input.items ending.text.items ending.status) }
 {
-    match answer_in_one_pass(rt, alloc, plan, &input)? {
+    match answer_in_one_pass(rt, alloc, plan, &input, front)? {
         Some(ending) => Ok(ending),
         None => answer_by_lines(rt, alloc, plan, input),
     }
@@ -55,8 +59,10 @@ fn answer_in_one_pass<R: Threads + Sync>(
     alloc: Global,
     plan: &Plan,
     input: &[u8],
+    front: Option<&Front>,
 ) -> Result<Option<Ending>, NoMemory>
-    requires { length input.now ≤ 16777216 }
+    requires size { length input.now ≤ 16777216 }
+    requires front { IfSome front (λ front. IsFront front.now) }
     ensures { IfOk result (λ found. IfSome found (λ ending.
         Due plan.now.command plan.now.chosen input.now ending.text.items ending.status)) }
 {
@@ -64,7 +70,7 @@ fn answer_in_one_pass<R: Threads + Sync>(
         Command::Check { loops, json } => {
             let style = Style { loops, json };
             if plan.by_blocks {
-                return check_blocks_in_one_pass(rt, alloc, style, plan, input);
+                return check_blocks_in_one_pass(rt, alloc, style, plan, input, front);
             }
             check_in_one_pass(alloc, style, plan, input)
         }

@@ -1,5 +1,5 @@
 //! A check by blocks in one pass over the bytes of a file: a stretch of lines is cut and folded where it stands, and nothing is kept of it but its face. Of a
-//! long file several threads fold a part of each stretch.
+//! long file several threads fold a part of each stretch, and its first lines were folded while the rest was read.
 //!
 //! Behind a fault at most 1,024 bytes are folded, or as many as stand before it, and twice as many for each of several threads. As in `one_pass`, nothing is
 //! refused here but a body that is too large: `None` says that this way doesn't settle the file.
@@ -11,10 +11,12 @@ ghost use Rattle.knitout_reader.specs.Head.{IsHead};
 ghost use Rattle.command_words.specs.declared.command.Command.{Command};
 ghost use Rattle.check_workers.specs.Faces.{CanFold, IsFaceOf};
 ghost use Rattle.check_workers.specs.LinePlaces.{IsLinePlace};
+ghost use Rattle.input_answers.specs.Ahead.{IsFront};
 ghost use Rattle.input_answers.specs.BodyRun.{IsJudgement};
 ghost use Rattle.input_answers.specs.Due.{Due};
 ghost use Rattle.input_answers.specs.Folds.{HasFoldedTo};
 
+use crate::ahead::Front;
 use crate::answers::refusal_of_size;
 use crate::ending::Ending;
 use crate::fold::Fold;
@@ -23,11 +25,11 @@ use crate::judge::{Judgement, Style};
 use crate::one_pass::{Run, report_run};
 use crate::outcome::Status;
 use crate::plan::Plan;
-use check_workers::{Bench, fold_text, place_from, worker_count};
+use check_workers::{Bench, count_by, fold_text, place_from, thread_count};
 use face_data::Face;
 use knit_base::{NoMemory, Setting, Steps};
 use knitout_reader::Head;
-use line_cutter::{count_lines, place_behind};
+use line_cutter::place_behind;
 use std::alloc::Global;
 use std::marker::Brand;
 use std::sync::ledger::{Blank, Ledger};
@@ -46,8 +48,10 @@ pub fn check_blocks_in_one_pass<R: Threads + Sync>(
     style: Style,
     plan: &Plan,
     text: &[u8],
+    front: Option<&Front>,
 ) -> Result<Option<Ending>, NoMemory>
-    requires { length text.now ≤ 16777216 }
+    requires size { length text.now ≤ 16777216 }
+    requires front { IfSome front (λ front. IsFront front.now) }
     ensures { IfOk result (λ found. IfSome found (λ ending.
         Due (Command.Check style.loops style.json) plan.now.chosen text.now ending.text.items ending.status)) }
 {
@@ -57,7 +61,7 @@ pub fn check_blocks_in_one_pass<R: Threads + Sync>(
     let Some(head) = head_in_front(alloc, text)? else {
         return Ok(None);
     };
-    let Some(lines) = count_lines(text) else {
+    let Some(lines) = count_by(rt, thread_count(rt), text) else {
         return Ok(None);
     };
     if let Some(refusal) = refusal_of_size(lines - head.lines, plan.chosen.block) {
@@ -66,7 +70,7 @@ pub fn check_blocks_in_one_pass<R: Threads + Sync>(
     let Some(start) = place_behind(text, head.lines) else {
         return Ok(None);
     };
-    let judgement = judge_text(rt, alloc, plan, text, &head, start)?;
+    let judgement = judge_text(rt, alloc, plan, text, &head, start, front)?;
     report_run(alloc, style, plan, text, &head, &Run { judgement, lines })
 }
 
@@ -78,14 +82,16 @@ fn judge_text<R: Threads + Sync>(
     text: &[u8],
     head: &Head,
     start: usize,
+    front: Option<&Front>,
 ) -> Result<Judgement, NoMemory>
     requires size { length text.now ≤ 16777216 }
     requires good { All IsGoodLine (lines_of text.now) }
     requires head { IsHead (lines_of text.now) head.now }
     requires start { IsBehind text.now head.now.lines start }
+    requires front { IfSome front (λ front. IsFront front.now) }
     ensures { IfOk result (IsJudgement false plan.now.chosen.profile head.now.declared (lines_of text.now)) }
 {
-    fold_from::<Brand, R>(rt, Blank::new(1), alloc, plan, text, head, start)
+    fold_from::<Brand, R>(rt, Blank::new(1), alloc, plan, text, head, start, front)
 }
 
 // The same, stretch after stretch.
@@ -97,12 +103,14 @@ fn fold_from<L: Ledger, R: Threads + Sync>(
     text: &[u8],
     head: &Head,
     start: usize,
+    front: Option<&Front>,
 ) -> Result<Judgement, NoMemory>
     requires blank { (blank.name ≡ L.name) × (blank.parts ≡ L.parts) × (0 < L.parts) }
     requires size { length text.now ≤ 16777216 }
     requires good { All IsGoodLine (lines_of text.now) }
     requires head { IsHead (lines_of text.now) head.now }
     requires start { IsBehind text.now head.now.lines start }
+    requires front { IfSome front (λ front. IsFront front.now) }
     ensures { IfOk result (IsJudgement false plan.now.chosen.profile head.now.declared (lines_of text.now)) }
 {
     let mut steps = Steps::<L>::start(rt, blank);
@@ -111,10 +119,12 @@ fn fold_from<L: Ledger, R: Threads + Sync>(
         declared: head.declared.try_clone()?,
         first: head.lines + 1,
     };
-    let most = worker_count(rt);
+    let most = thread_count(rt);
     let mut bench = Bench::new(alloc);
     let mut fold = Fold::new(alloc, setting.first, false)?;
-    let mut at = start;
+    let mut at = take_front(
+        alloc, text, head, start, &setting, front, &mut fold, &mut steps,
+    )?;
     while at < text.len() {
         if fold.stop.is_some() {
             return fold.finish(alloc);
@@ -130,6 +140,48 @@ fn fold_from<L: Ledger, R: Threads + Sync>(
         at = to;
     }
     fold.finish(alloc)
+}
+
+// Takes the face of the lines that were folded while the file was read, if they are of use. Where they end.
+fn take_front<L: Ledger>(
+    alloc: Global,
+    text: &[u8],
+    head: &Head,
+    start: usize,
+    setting: &Setting,
+    front: Option<&Front>,
+    fold: &mut Fold,
+    steps: &mut Steps<L>,
+) -> Result<usize, NoMemory>
+    requires size { length text.now ≤ 16777216 }
+    requires good { All IsGoodLine (lines_of text.now) }
+    requires profile { IsLawfulProfile setting.now.profile }
+    requires names { setting.now.declared ≡ head.now.declared }
+    requires folded { HasFoldedTo setting.now.profile head.now.declared text.now head.now.lines start fold.old }
+    requires loops { fold.old.loops ≡ None }
+    requires front { IfSome front (λ front. IsFront front.now) }
+    ensures behind { IfOk result (λ end. start ≤ end) }
+    ensures folded { IfOk result (λ end. HasFoldedTo setting.now.profile head.now.declared text.now head.now.lines end fold.new) }
+    ensures loops { OnOk result (fold.new.loops ≡ None) }
+{
+    let Some(front) = front else {
+        return Ok(start);
+    };
+    let Some(end) = front.end_in(text, start, setting) else {
+        return Ok(start);
+    };
+    add_face(
+        alloc,
+        text,
+        head,
+        start,
+        end,
+        setting,
+        front.face(),
+        fold,
+        steps,
+    )?;
+    Ok(end)
 }
 
 // How many threads fold the next stretch, behind so many bytes.

@@ -45,7 +45,7 @@ fn head_within(alloc: Global, text: &[u8], most: usize) -> Result<Option<Head>, 
 }
 
 // How many bytes the whole lines take that stand in the first bytes, of which there are so many.
-fn front_len(text: &[u8], most: usize) -> usize
+pub fn front_len(text: &[u8], most: usize) -> usize
     ensures within { result ≤ length text.now }
     ensures whole { (result ≡ 0) ⊎ (slice_index text.now (result - 1) ≡ 10) }
 {
