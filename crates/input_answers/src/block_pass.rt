@@ -119,12 +119,41 @@ fn fold_from<L: Ledger, R: Threads + Sync>(
         declared: head.declared.try_clone()?,
         first: head.lines + 1,
     };
-    let most = thread_count(rt);
-    let mut bench = Bench::new(alloc);
     let mut fold = Fold::new(alloc, setting.first, false)?;
-    let mut at = take_front(
+    let from = take_front(
         alloc, text, head, start, &setting, front, &mut fold, &mut steps,
     )?;
+    fold_rest(
+        rt, alloc, plan, text, head, start, from, &setting, fold, &mut steps,
+    )
+}
+
+// The same of a text that was folded up to a place.
+fn fold_rest<L: Ledger, R: Threads + Sync>(
+    rt: &R,
+    alloc: Global,
+    plan: &Plan,
+    text: &[u8],
+    head: &Head,
+    start: usize,
+    from: usize,
+    setting: &Setting,
+    mut fold: Fold,
+    steps: &mut Steps<L>,
+) -> Result<Judgement, NoMemory>
+    requires size { length text.now ≤ 16777216 }
+    requires good { All IsGoodLine (lines_of text.now) }
+    requires head { IsHead (lines_of text.now) head.now }
+    requires profile { IsLawfulProfile setting.now.profile }
+    requires names { setting.now.declared ≡ head.now.declared }
+    requires behind { start ≤ from }
+    requires folded { HasFoldedTo setting.now.profile head.now.declared text.now head.now.lines from fold }
+    requires loops { fold.loops ≡ None }
+    ensures { IfOk result (IsJudgement false setting.now.profile head.now.declared (lines_of text.now)) }
+{
+    let most = thread_count(rt);
+    let mut bench = Bench::new(alloc);
+    let mut at = from;
     while at < text.len() {
         if fold.stop.is_some() {
             return fold.finish(alloc);
@@ -132,11 +161,9 @@ fn fold_from<L: Ledger, R: Threads + Sync>(
         let workers = workers_behind(most, at - start);
         let to = next_place(text, at, bytes_at_once(workers, at - start));
         let face = fold_stretch(
-            rt, alloc, workers, text, at, to, plan, &setting, &mut bench, &mut steps,
+            rt, alloc, workers, text, at, to, plan, setting, &mut bench, steps,
         )?;
-        add_face(
-            alloc, text, head, at, to, &setting, &face, &mut fold, &mut steps,
-        )?;
+        add_face(alloc, text, head, at, to, setting, &face, &mut fold, steps)?;
         at = to;
     }
     fold.finish(alloc)
