@@ -7,7 +7,7 @@ use crate::stretch::place_from;
 use line_cutter::count_lines;
 use std::thread::{Threads, join};
 
-// So many bytes are worth a thread.
+// So many bytes are shared with another thread.
 const LEAST_BYTES: usize = 1_048_576;
 
 /// How many lines the text has, which several threads count where it is long. `None` says that one of them isn't UTF-8 or has over 4,096 bytes.
