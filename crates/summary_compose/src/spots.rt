@@ -5,8 +5,8 @@ ghost use Rattle.face_data.specs.Spots.{spot_of};
 use knit_base::{Needle, NoMemory};
 use std::alloc::Global;
 
-/// How many entries a table has: those of the needles from -4096 to 4096 on all beds.
-const SPOTS: usize = 32772;
+/// How many entries a table has at least, once it is made: those of the needles from -256 to 255 on all beds.
+const LEAST_SPOTS: usize = 2_048;
 
 /// The place of a needle in a row of all needles.
 #[inline(always)]
@@ -27,10 +27,13 @@ pub fn is_same(n: Needle, m: Needle) -> bool
     n == m
 }
 
-/// Numbers by needle. Needles far from 0 have none, and before the first reserve none has.
+/// Numbers by needle. Before the first reserve none has one, and needles far from 0 have none before the next.
+///
+/// `wanted` is the furthest place that was to get a number. A table for all needles that a machine can have would take longer to make than a small text takes.
 #[derive(Drop)]
 pub struct Table {
     pub entries: Vec<usize>,
+    wanted: usize,
 }
 
 impl Table {
@@ -40,13 +43,15 @@ impl Table {
     {
         Table {
             entries: Vec::new(alloc),
+            wanted: 0,
         }
     }
 
-    /// Makes the entries.
+    /// Makes the entries, as far as numbers were given.
     pub fn reserve(&mut self) -> Result<(), NoMemory> {
-        if self.entries.len() < SPOTS {
-            self.entries.resize(SPOTS, 0)?;
+        let spots = self.wanted.saturating_add(1).max(LEAST_SPOTS);
+        if self.entries.len() < spots {
+            self.entries.resize(spots, 0)?;
         }
         Ok(())
     }
@@ -59,7 +64,7 @@ impl Table {
         self.entries.get(spot_of(n)).copied()
     }
 
-    /// Gives the needle this number, if it may have one.
+    /// Gives the needle this number, if it has a place.
     #[inline(always)]
     pub fn set(&mut self, n: Needle, number: usize)
         ensures { self.new.entries.items ≡ slice_set self.old.entries.items (spot_of n) number }
@@ -67,6 +72,8 @@ impl Table {
         let spot = spot_of(n);
         if spot < self.entries.len() {
             self.entries[spot] = number;
+        } else {
+            self.wanted = self.wanted.max(spot);
         }
     }
 }
