@@ -40,8 +40,67 @@ pub fn fold_text<R: Threads + Sync>(
     ensures { IfOk result (IsFaceOf setting.now.profile setting.now.declared (lines_of text.now)) }
 {
     let worth = (text.len() / LOT_BYTES).saturating_add(1);
-    let lots = fold_apart(rt, alloc, workers.min(worth), text, size, setting)?;
-    join_lots::<Brand, R>(rt, Blank::new(1), alloc, lots, text, size, setting)
+    let stop = AtomicBool::new(false);
+    let (front, end) = fold_front(rt, alloc, workers.min(worth), text, size, setting, &stop)?;
+    if end == text.len() {
+        return Ok(front);
+    }
+    fold_rest::<Brand, R>(rt, Blank::new(1), alloc, front, text, end, size, setting)
+}
+
+/// The face of the first lines of a text, all of which are good, and where these end. They are folded as those of `fold_text` are, until all are or another thread says
+/// to stop.
+pub fn fold_front<R: Threads + Sync>(
+    rt: &R,
+    alloc: Global,
+    workers: usize,
+    text: &[u8],
+    size: u32,
+    setting: &Setting,
+    stop: &AtomicBool,
+) -> Result<(Face, usize), NoMemory>
+    requires { CanFold setting.now.profile text.now size }
+    ensures within { IfOk result (λ front. front.1 ≤ length text.now) }
+    ensures place { IfOk result (λ front. IsLinePlace text.now front.1) }
+    ensures face { IfOk result (λ front. IsFaceOf setting.now.profile setting.now.declared (lines_of (take front.1 text.now)) front.0) }
+{
+    let next = AtomicUsize::new(0);
+    let lots = fold_by(rt, alloc, workers, &next, stop, text, size, setting)?;
+    join_lots::<Brand, R>(rt, Blank::new(1), alloc, &lots, text, size, setting)
+}
+
+// The face of a text whose first lines have this one, which end here. The steps are counted by nobody.
+fn fold_rest<L: Ledger, R: Threads>(
+    rt: &R,
+    blank: Blank,
+    alloc: Global,
+    front: Face,
+    text: &[u8],
+    end: usize,
+    size: u32,
+    setting: &Setting,
+) -> Result<Face, NoMemory>
+    requires can { CanFold setting.now.profile text.now size }
+    requires blank { (blank.name ≡ L.name) × (blank.parts ≡ L.parts) × (0 < L.parts) }
+    requires within { end ≤ length text.now }
+    requires place { IsLinePlace text.now end }
+    requires front { IsFaceOf setting.now.profile setting.now.declared (lines_of (take end text.now)) front }
+    ensures { IfOk result (IsFaceOf setting.now.profile setting.now.declared (lines_of text.now)) }
+{
+    let mut steps = Steps::<L>::start(rt, blank);
+    let mut bench = Bench::new(alloc);
+    let rest = bench.fold(alloc, &text[end..], size, setting, &mut steps)?;
+    with_lot(
+        alloc,
+        text,
+        end,
+        text.len(),
+        setting,
+        &front,
+        &rest,
+        &mut bench.scratch,
+        &mut steps,
+    )
 }
 
 // Where the lot with this number begins: at the first line that begins so many bytes behind the text's beginning.
@@ -94,31 +153,13 @@ struct Lot {
     face: Face,
 }
 
-// Lots that several threads fold. Where this thread is the only one it folds none yet.
-fn fold_apart<R: Threads + Sync>(
-    rt: &R,
-    alloc: Global,
-    workers: usize,
-    text: &[u8],
-    size: u32,
-    setting: &Setting,
-) -> Result<Vec<Lot>, NoMemory>
-    requires { CanFold setting.now.profile text.now size }
-    ensures { IfOk result (λ lots. All (IsLot setting.now.profile setting.now.declared text.now) lots.items) }
-{
-    if workers < 2 {
-        return Ok(Vec::new(alloc));
-    }
-    let next = AtomicUsize::new(0);
-    fold_by(rt, alloc, workers, &next, text, size, setting)
-}
-
-// By so many threads, of which this is one.
+// Lots that are folded by so many threads, of which this is one, until all are or another thread says to stop.
 fn fold_by<R: Threads + Sync>(
     rt: &R,
     alloc: Global,
     workers: usize,
     next: &AtomicUsize,
+    stop: &AtomicBool,
     text: &[u8],
     size: u32,
     setting: &Setting,
@@ -127,7 +168,7 @@ fn fold_by<R: Threads + Sync>(
     ensures { IfOk result (λ lots. All (IsLot setting.now.profile setting.now.declared text.now) lots.items) }
 {
     if workers < 2 {
-        return fold_own(rt, alloc, next, text, size, setting);
+        return fold_own(rt, alloc, next, stop, text, size, setting);
     }
     let half = workers / 2;
     let rest = workers - half;
@@ -136,11 +177,11 @@ fn fold_by<R: Threads + Sync>(
         move || -> Result<Vec<Lot>, NoMemory>
             requires { IsSync R.row × CanFold setting.now.profile text.now size }
             ensures { IfOk result (λ lots. All (IsLot setting.entry.now.profile setting.entry.now.declared text.entry.now) lots.items) }
-        { fold_by(rt, alloc, half, next, text, size, setting) },
+        { fold_by(rt, alloc, half, next, stop, text, size, setting) },
         move || -> Result<Vec<Lot>, NoMemory>
             requires { IsSync R.row × CanFold setting.now.profile text.now size }
             ensures { IfOk result (λ lots. All (IsLot setting.entry.now.profile setting.entry.now.declared text.entry.now) lots.items) }
-        { fold_by(rt, alloc, rest, next, text, size, setting) },
+        { fold_by(rt, alloc, rest, next, stop, text, size, setting) },
     );
     let mut all = some?;
     let mut more = others?;
@@ -153,6 +194,7 @@ fn fold_own<R: Threads>(
     rt: &R,
     alloc: Global,
     next: &AtomicUsize,
+    stop: &AtomicBool,
     text: &[u8],
     size: u32,
     setting: &Setting,
@@ -160,16 +202,17 @@ fn fold_own<R: Threads>(
     requires { CanFold setting.now.profile text.now size }
     ensures { IfOk result (λ lots. All (IsLot setting.now.profile setting.now.declared text.now) lots.items) }
 {
-    fold_next::<Brand, R>(rt, Blank::new(1), alloc, next, text, size, setting)
+    fold_next::<Brand, R>(rt, Blank::new(1), alloc, next, stop, text, size, setting)
 }
 
 // Takes one lot after another, as long as there are any. `next` counts those that were taken by all; were it wrong, a lot would be folded twice or left, which
-// then is folded at the end.
+// then is folded at the end. Whoever says to stop loses the lots behind the first one that wasn't taken.
 fn fold_next<L: Ledger, R: Threads>(
     rt: &R,
     blank: Blank,
     alloc: Global,
     next: &AtomicUsize,
+    stop: &AtomicBool,
     text: &[u8],
     size: u32,
     setting: &Setting,
@@ -182,6 +225,9 @@ fn fold_next<L: Ledger, R: Threads>(
     let mut bench = Bench::new(alloc);
     let mut lots = Vec::new(alloc);
     'taking: for _ in 0..text.len() {
+        if stop.load(Ordering::SeqCst) {
+            return Ok(lots);
+        }
         let start = lot_start(text, next.fetch_add(1, Ordering::SeqCst));
         if start >= text.len() {
             return Ok(lots);
@@ -193,75 +239,43 @@ fn fold_next<L: Ledger, R: Threads>(
     Ok(lots)
 }
 
-// The face of all lots, one behind the other. One that isn't there is folded. The steps are counted by nobody.
+// The face of the first lots of a text, one behind the other, up to the first that isn't there, and where they end. The steps are counted by nobody.
 fn join_lots<L: Ledger, R: Threads>(
     rt: &R,
     blank: Blank,
     alloc: Global,
-    lots: Vec<Lot>,
+    lots: &[Lot],
     text: &[u8],
     size: u32,
     setting: &Setting,
-) -> Result<Face, NoMemory>
+) -> Result<(Face, usize), NoMemory>
     requires can { CanFold setting.now.profile text.now size }
-    requires lots { All (IsLot setting.now.profile setting.now.declared text.now) lots.items }
+    requires lots { All (IsLot setting.now.profile setting.now.declared text.now) lots.now }
     requires blank { (blank.name ≡ L.name) × (blank.parts ≡ L.parts) × (0 < L.parts) }
-    ensures { IfOk result (IsFaceOf setting.now.profile setting.now.declared (lines_of text.now)) }
+    ensures within { IfOk result (λ front. front.1 ≤ length text.now) }
+    ensures place { IfOk result (λ front. IsLinePlace text.now front.1) }
+    ensures face { IfOk result (λ front. IsFaceOf setting.now.profile setting.now.declared (lines_of (take front.1 text.now)) front.0) }
 {
     let mut steps = Steps::<L>::start(rt, blank);
-    let mut bench = Bench::new(alloc);
+    let mut scratch = Scratch::new(alloc);
     let mut face = empty_face(alloc)?;
     let mut at = 0;
     while at < text.len() {
         let to = lot_end(text, at);
-        face = bench.add_lot(alloc, &lots, text, at, to, size, setting, &face, &mut steps)?;
-        at = to;
-    }
-    Ok(face)
-}
-
-/// The face of the first lines of a text, all of which are good, and where these end. They are folded lot after lot, until all are or another thread says to stop,
-/// and prepared in blocks of at most `size` lines.
-pub fn fold_front<R: Threads>(
-    rt: &R,
-    alloc: Global,
-    text: &[u8],
-    size: u32,
-    setting: &Setting,
-    stop: &AtomicBool,
-) -> Result<(Face, usize), NoMemory>
-    requires { CanFold setting.now.profile text.now size }
-    ensures within { IfOk result (λ front. front.1 ≤ length text.now) }
-    ensures face { IfOk result (λ front. IsFaceOf setting.now.profile setting.now.declared (lines_of (take front.1 text.now)) front.0) }
-{
-    fold_until::<Brand, R>(rt, Blank::new(1), alloc, text, size, setting, stop)
-}
-
-// The same. The steps are counted by nobody.
-fn fold_until<L: Ledger, R: Threads>(
-    rt: &R,
-    blank: Blank,
-    alloc: Global,
-    text: &[u8],
-    size: u32,
-    setting: &Setting,
-    stop: &AtomicBool,
-) -> Result<(Face, usize), NoMemory>
-    requires can { CanFold setting.now.profile text.now size }
-    requires blank { (blank.name ≡ L.name) × (blank.parts ≡ L.parts) × (0 < L.parts) }
-    ensures within { IfOk result (λ front. front.1 ≤ length text.now) }
-    ensures face { IfOk result (λ front. IsFaceOf setting.now.profile setting.now.declared (lines_of (take front.1 text.now)) front.0) }
-{
-    let mut steps = Steps::<L>::start(rt, blank);
-    let mut bench = Bench::new(alloc);
-    let mut face = empty_face(alloc)?;
-    let mut at = 0;
-    while at < text.len() {
-        if stop.load(Ordering::SeqCst) {
+        let Some(lot) = find_lot(lots, at, to) else {
             return Ok((face, at));
-        }
-        let to = lot_end(text, at);
-        face = bench.add_lot(alloc, &[], text, at, to, size, setting, &face, &mut steps)?;
+        };
+        face = with_lot(
+            alloc,
+            text,
+            at,
+            to,
+            setting,
+            &face,
+            lot,
+            &mut scratch,
+            &mut steps,
+        )?;
         at = to;
     }
     Ok((face, at))
@@ -352,53 +366,6 @@ impl Bench {
             at = to;
         }
         Ok(face)
-    }
-
-    // The face of the lines before `start`, and then that of the lot that begins there, which is folded where it isn't among these.
-    fn add_lot<L: Ledger>(
-        &mut self,
-        alloc: Global,
-        lots: &[Lot],
-        text: &[u8],
-        start: usize,
-        end: usize,
-        size: u32,
-        setting: &Setting,
-        before: &Face,
-        steps: &mut Steps<L>,
-    ) -> Result<Face, NoMemory>
-        requires can { CanFold setting.now.profile text.now size }
-        requires ordered { (start ≤ end) × (end ≤ length text.now) }
-        requires places { IsLinePlace text.now start × IsLinePlace text.now end }
-        requires lots { All (IsLot setting.now.profile setting.now.declared text.now) lots.now }
-        requires before { IsFaceOf setting.now.profile setting.now.declared (lines_of (take start text.now)) before.now }
-        ensures { IfOk result (IsFaceOf setting.now.profile setting.now.declared (lines_of (take end text.now))) }
-    {
-        if let Some(lot) = find_lot(lots, start, end) {
-            return with_lot(
-                alloc,
-                text,
-                start,
-                end,
-                setting,
-                before,
-                lot,
-                &mut self.scratch,
-                steps,
-            );
-        }
-        let lot = self.fold(alloc, &text[start..end], size, setting, steps)?;
-        with_lot(
-            alloc,
-            text,
-            start,
-            end,
-            setting,
-            before,
-            &lot,
-            &mut self.scratch,
-            steps,
-        )
     }
 }
 

@@ -1,4 +1,4 @@
-//! A file that is read while another thread folds its first lines.
+//! A file that is read while other threads fold its first lines.
 //!
 //! What was folded is taken where it proves to be of use: where its lines stand behind the head of the whole file, and are read as they were. So nothing is known of it
 //! but that its face is that of its lines.
@@ -24,8 +24,11 @@ use std::alloc::Global;
 use std::sync::atomic::{AtomicBool, Ordering};
 use std::thread::{Threads, join_mut};
 
-// So many bytes are read before another thread gets the lines among them. To fold them takes about as long as to read the rest of the longest file.
-const FRONT_BYTES: usize = 1_048_576;
+// So many bytes are read before other threads get the lines among them. To fold them takes no less than to read the rest of a file.
+const FRONT_BYTES: usize = 1_572_864;
+
+// So many threads fold them. The first new thread often stays on the processor of the one that made it, though another has nothing to do; the second goes there.
+const FRONT_THREADS: usize = 2;
 
 /// A file that was read whole, or up to a byte more than the limit, and what was folded of it meanwhile.
 #[derive(Drop)]
@@ -50,7 +53,7 @@ pub(crate) struct Folded {
     face: Face,
 }
 
-/// Reads a file as `read_input` does. Where it is to be checked by blocks on several processors, and is long, another thread folds its first lines meanwhile.
+/// Reads a file as `read_input` does. Where it is to be checked by blocks on several processors, and is long, other threads fold its first lines meanwhile.
 pub fn read_ahead<R: Threads + Sync, S: Source>(
     rt: &R,
     alloc: Global,
@@ -85,7 +88,7 @@ fn is_worth_it<R: Threads>(rt: &R, plan: &Plan) -> bool {
     }
 }
 
-// Reads on, while another thread folds the lines that there are. Where that fails, or finds no head or a bad line, nothing was folded.
+// Reads on, while other threads fold the lines that there are. Where that fails, or finds no head or a bad line, nothing was folded.
 fn read_rest<R: Threads + Sync, S: Source>(
     rt: &R,
     alloc: Global,
@@ -158,7 +161,7 @@ fn read_and_tell<S: Source>(
 }
 
 // The face of lines behind the head of this text, until the rest is read.
-fn fold_ahead<R: Threads>(
+fn fold_ahead<R: Threads + Sync>(
     rt: &R,
     alloc: Global,
     plan: &Plan,
@@ -185,7 +188,15 @@ fn fold_ahead<R: Threads>(
         first: head.lines.saturating_add(1),
         declared: head.declared,
     };
-    let (face, len) = fold_front(rt, alloc, lines, plan.chosen.block, &setting, is_read)?;
+    let (face, len) = fold_front(
+        rt,
+        alloc,
+        FRONT_THREADS,
+        lines,
+        plan.chosen.block,
+        &setting,
+        is_read,
+    )?;
     Ok(Some(Folded {
         start,
         end: start + len,

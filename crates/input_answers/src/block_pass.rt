@@ -1,7 +1,7 @@
 //! A check by blocks in one pass over the bytes of a file: a stretch of lines is cut and folded where it stands, and nothing is kept of it but its face. Of a
 //! long file several threads fold a part of each stretch, and its first lines were folded while the rest was read.
 //!
-//! Behind a fault at most 1,024 bytes are folded, or as many as stand before it, and twice as many for each of several threads, besides what was folded while the file was read. As in `one_pass`, nothing is
+//! Behind a fault at most 1,024 bytes are folded, or as many as stand before it, and four times as many for each of several threads, besides what was folded while the file was read. As in `one_pass`, nothing is
 //! refused here but a body that is too large: `None` says that this way doesn't settle the file.
 ghost use Rattle.std.specs.Prelude.{◌≡◌, ◌<◌, ◌≤◌, false, All, IfOk, IfSome, None, OnOk, length, slice_range};
 ghost use Rattle.knit_base.specs.Limits.{IsLawfulProfile};
@@ -224,7 +224,7 @@ fn bytes_at_once(workers: usize, taken: usize) -> usize
         return taken.max(LEAST_BYTES).min(FIRST_BYTES);
     }
     taken
-        .saturating_mul(2)
+        .saturating_mul(4)
         .saturating_mul(workers)
         .max(LEAST_BYTES)
 }

@@ -2,7 +2,7 @@
 //!
 //! Promises that the text and the status of an answer are those that are due: for a file whose verdict, canonical text or passes are
 //! asked for (`specs/Due`), for a made program (`specs/DueMade`), and for a script, whose sessions edit one document, each in a thread of
-//! its own (`specs/DueLive`). What the words ask for is in `specs/Asked`. `read_ahead` reads an input as `read_input` of `knit_ports` does, while another thread folds its
+//! its own (`specs/DueLive`). What the words ask for is in `specs/Asked`. `read_ahead` reads an input as `read_input` of `knit_ports` does, while other threads fold its
 //! first lines (`specs/Ahead`); else no source is touched here, and no sink. Below it stand all crates of the project but `check_main`.
 #![tactic(auto)]
 

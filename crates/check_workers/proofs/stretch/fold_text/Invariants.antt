@@ -1,4 +1,4 @@
 use Rattle.check_workers.proofs.stretch.fold_text.Given as goal
 
-abbrev pub ghosts-join_lots : goal.ghosts-join_lots
-ghosts-join_lots g a = record { name = a.blank.name; parts = a.blank.parts }
+abbrev pub ghosts-fold_rest : goal.ghosts-fold_rest
+ghosts-fold_rest g a = record { name = a.blank.name; parts = a.blank.parts }

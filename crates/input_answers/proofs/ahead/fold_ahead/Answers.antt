@@ -1,4 +1,4 @@
-use Rattle.std.proofs.Common.{◌≡◌, drop, arith}
+use Rattle.std.proofs.Common.{◌≡◌, drop, arith, rules}
 use Rattle.std.proofs.lemmas.Grind.{common_steps}
 use Rattle.input_answers.proofs.FoldedFronts.{can_fold_rest, folded_rest}
 use Rattle.input_answers.proofs.ahead.fold_ahead.Goals as goal
@@ -6,7 +6,7 @@ use Rattle.input_answers.proofs.ahead.fold_ahead.Goals as goal
 pub fold_front-requires : goal.fold_front-requires
 fold_front-requires g c =
     let rest : c.in-Some-get.lines.now ≡ drop c.in-Some-place_behind.start c.args.text.now = grind (arith, common_steps) in
-    can_fold_rest c.args.plan.now.chosen c.args.text.now c.in-Some-get.lines.now _ _ c.in-Some-place_behind.start c.args.plan.now.lawful c.requires rest c.in-Some.ensures c.in-Some-place_behind.ensures
+    (search rules, can_fold_rest c.args.plan.now.chosen c.args.text.now c.in-Some-get.lines.now _ _ c.in-Some-place_behind.start c.args.plan.now.lawful c.requires rest c.in-Some.ensures c.in-Some-place_behind.ensures)
 
 pub returns : goal.returns
 returns g c =
