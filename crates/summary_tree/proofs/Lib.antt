@@ -6,6 +6,5 @@ pub mod Roots
 pub mod SoundLeaves
 pub mod Needs
 pub mod Layouts
-pub mod PlainLeaves
 pub mod Starts
 pub mod NeedleEntries

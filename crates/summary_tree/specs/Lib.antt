@@ -7,4 +7,3 @@ pub mod Laws
 pub mod Store
 pub mod Trees
 pub mod Entries
-pub mod Plain

@@ -10,7 +10,7 @@
 //! Definitions: `specs/Leaves` (the leaves, which of them may stand in one tree, and the face of all of them), `specs/Trees` (what
 //! contracts see of a tree, and when a change can be made), `specs/Rooms` and `specs/Meeting` (rooms, and spans for them),
 //! `specs/Faces`, `specs/Lists` and `specs/Store` (where faces lie, and what they take), `specs/Entries` (a needle's loops, read
-//! back over the faces before). `specs/Laws` shows that faces obey what `value_tree` asks of values. `specs/Plain` is of the tests.
+//! back over the faces before). `specs/Laws` shows that faces obey what `value_tree` asks of values.
 //! Below it stand `value_tree`, `tree_shape`, `span_pool`, `summary_compose`, `loop_history`, `face_data`, `carriage_model` and
 //! `knit_base`.
 #![tactic(auto)]

@@ -2,7 +2,7 @@
 ghost use Rattle.std.specs.Prelude.{◌≡◌, ◌+◌, ◌<◌, ◌≤◌, OnOk, IfOk};
 ghost use Rattle.face_data.specs.View.{IsPacked, summary_of};
 ghost use Rattle.summary_tree.specs.Leaves.{lines_of};
-ghost use Rattle.summary_tree.specs.Plain.{plain};
+ghost use Rattle.tree_examples.specs.Plain.{plain};
 
 use face_data::{Effect, Ending, Face, FaceView};
 use knit_base::{NoMemory, Quarter, Steps};

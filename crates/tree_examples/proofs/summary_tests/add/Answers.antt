@@ -3,7 +3,7 @@ use Rattle.face_data.specs.Summaries.{Summary}
 use Rattle.face_data.specs.View.{summary_of}
 use Rattle.tree_shape.specs.Fewest.{inserted}
 use Rattle.summary_tree.specs.Leaves.{Leaf, AreSound, lines_of}
-use Rattle.summary_tree.proofs.PlainLeaves.{lines_inserted, sound_with_face}
+use Rattle.tree_examples.proofs.PlainLeaves.{lines_inserted, sound_with_face}
 use Rattle.tree_examples.proofs.summary_tests.add.Goals as goal
 
 pub insert-requires-clause-sound : goal.insert-requires-clause-sound

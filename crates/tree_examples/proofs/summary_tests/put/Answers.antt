@@ -3,7 +3,7 @@ use Rattle.face_data.specs.Summaries.{Summary}
 use Rattle.face_data.specs.View.{summary_of}
 use Rattle.std.specs.Prelude.{slice_set}
 use Rattle.summary_tree.specs.Leaves.{Leaf, AreSound, lines_of}
-use Rattle.summary_tree.proofs.PlainLeaves.{lines_set, sound_instead_face}
+use Rattle.tree_examples.proofs.PlainLeaves.{lines_set, sound_instead_face}
 use Rattle.tree_examples.proofs.summary_tests.put.Goals as goal
 
 pub replace-requires-clause-sound : goal.replace-requires-clause-sound

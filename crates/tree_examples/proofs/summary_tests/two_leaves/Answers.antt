@@ -3,8 +3,8 @@ use Rattle.face_data.specs.Summaries.{Summary}
 use Rattle.face_data.specs.View.{summary_of}
 use Rattle.loop_history.specs.declared.row.LoopRow.{LoopRow}
 use Rattle.summary_tree.specs.Leaves.{Leaf, AreSound}
-use Rattle.summary_tree.specs.Plain.{plain}
-use Rattle.summary_tree.proofs.PlainLeaves.{sound_with}
+use Rattle.tree_examples.specs.Plain.{plain}
+use Rattle.tree_examples.proofs.PlainLeaves.{sound_with}
 use Rattle.summary_tree.proofs.Roots.{none_sound}
 use Rattle.summary_tree.proofs.SoundLeaves.{sound_of}
 use Rattle.tree_examples.proofs.summary_tests.two_leaves.Goals as goal

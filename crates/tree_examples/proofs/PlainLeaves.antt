@@ -13,7 +13,7 @@ use Rattle.summary_tree.proofs.Layouts.{length_inserted}
 use Rattle.summary_tree.proofs.SoundLeaves.{good_both, good_dropped, good_taken, sound_of, together}
 use Rattle.summary_tree.specs.Laws.{lines_append}
 use Rattle.summary_tree.specs.Leaves.{Leaf, AreGoodFor, AreSound, lines_of}
-use Rattle.summary_tree.specs.Plain.{plain}
+use Rattle.tree_examples.specs.Plain.{plain}
 
 pub plain_good : (carriers limit : ℕ) (known : List Needle) (lines : ℕ) (rack : ℤ) → IsGood carriers limit known (plain lines rack)
 plain_good carriers limit known lines rack =
