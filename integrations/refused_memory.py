@@ -88,8 +88,8 @@ RUNS = {
     "check": (["check", "--loops"], example("tube.k")),
     "blocks": (["check", "--block", "4", "--json", "--loops"], example("tube.k")),
     "stretches": (["check", "--block", "4", "--json"], example("tube.k")),
-    # More than a mebibyte, so that another thread folds the first lines.
-    "ahead": (["check", "--block", "4096"], example("tube.k") + (b";" * 999 + b"\n") * 1_100),
+    # So long that other threads fold the first lines.
+    "ahead": (["check", "--block", "4096"], example("tube.k") + (b";" * 999 + b"\n") * 1_600),
     "text": (["text"], example("rib.k")),
     "passes": (["passes"], example("tube.k")),
     "make": (["make", "2", "0"], b""),

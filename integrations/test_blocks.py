@@ -1,4 +1,4 @@
-"""Tests of `check --block` on long files, whose first lines another thread folds while the rest is read, on the program check_main.
+"""Tests of `check --block` on long files, whose first lines other threads fold while the rest is read, on the program check_main.
 
 What `check` says line by line is what `check --block` has to say, with the same status. `python3 -m unittest discover integrations` runs them, on the
 check_main that TEKHVUMO_PROGRAM names or that is found.
@@ -13,10 +13,21 @@ from typing import NamedTuple
 
 HEAD = b";!knitout-2\n;;Carriers: 1 2 3\n"
 ROW = b"knit - f3 1\nknit - f2 1\nknit - f1 1\nknit + b1 1\nknit + b2 1\nknit + b3 1\nxfer f2 b2\n"
-# So many rows have more than two mebibytes, of which the first is folded ahead.
-ROWS = 30_000
+# So many bytes are folded ahead.
+FRONT = 1_572_864
+# So many rows have more than twice as many.
+ROWS = 45_000
 SOUND = HEAD + b"in 1\n" + ROW * ROWS + b"out 1\n"
-MIDDLE = len(HEAD) + 5 + len(ROW) * (ROWS // 2)
+
+
+def row_at(place: int) -> int:
+    """Where the row begins in which this place of the sound file is."""
+    before = len(HEAD) + len(b"in 1\n")
+    return before + (place - before) // len(ROW) * len(ROW)
+
+
+MIDDLE = row_at(len(SOUND) // 2)
+EDGE = row_at(FRONT - 1_500)
 BROKEN = b"knit + f1 2\n"
 PROCESSORS = sorted(os.sched_getaffinity(0))
 
@@ -49,13 +60,14 @@ FILES = {
     "a fault in the last line": SOUND + BROKEN,
     "no text among the first lines": SOUND[:500_000] + b"\xff" + SOUND[500_000:],
     "no text in the last line": SOUND + b"\xff\n",
-    "other characters at the edge of what is folded ahead": SOUND[:MIDDLE] + b";" + "é".encode() * 1_500 + b"\n" + SOUND[MIDDLE:],
+    "other characters at the edge of what is folded ahead": SOUND[:EDGE] + b";" + "é".encode() * 1_500 + b"\n" + SOUND[EDGE:],
+    "a fault at the edge of what is folded ahead": SOUND[:EDGE] + BROKEN + SOUND[EDGE:],
     "a long line": SOUND[:MIDDLE] + b";" * 5_000 + b"\n" + SOUND[MIDDLE:],
     "no carriers": SOUND.replace(b";;Carriers: 1 2 3\n", b""),
-    "a head of more than a mebibyte": HEAD + b";;Width: 2\n" * 120_000 + SOUND[len(HEAD) :],
-    "a head alone": HEAD + b"; nothing\n" * 120_000,
+    "a head of more than what is folded ahead": HEAD + b";;Width: 2\n" * 150_000 + SOUND[len(HEAD) :],
+    "a head alone": HEAD + b"; nothing\n" * 160_000,
     "a carrier twice in the head": SOUND.replace(b"1 2 3", b"1 2 1"),
-    "blank lines": HEAD + b"in 1\n" + b"\n" * 1_200_000,
+    "blank lines": HEAD + b"in 1\n" + b"\n" * 1_700_000,
     "as many bytes as there may be": HEAD + b"in 1\n" + (b";" * 999 + b"\n") * 16_777 + b"\n" * (16_777_216 - len(HEAD) - 5 - 16_777_000),
     "a byte more": HEAD + b"in 1\n" + (b";" * 999 + b"\n") * 16_777 + b"\n" * (16_777_217 - len(HEAD) - 5 - 16_777_000),
 }
@@ -69,7 +81,7 @@ class LongFiles(unittest.TestCase):
                     self.assertEqual(check(text, "--block", size), check(text))
 
     def test_one_processor_says_the_same(self) -> None:
-        for name in ("sound", "a fault in the middle", "a head of more than a mebibyte"):
+        for name in ("sound", "a fault in the middle", "a head of more than what is folded ahead"):
             with self.subTest(name):
                 self.assertEqual(check(FILES[name], "--block", "64", processors=PROCESSORS[:1]), check(FILES[name]))
 
@@ -90,7 +102,7 @@ class LongFiles(unittest.TestCase):
         self.assertEqual(Answer(ran.returncode, report), check(SOUND))
 
     def test_a_pipe_that_ends_early(self) -> None:
-        for length in (1_048_575, 1_048_576, 1_048_577, 1_300_003):
+        for length in (FRONT - 1, FRONT, FRONT + 1, 2_000_003):
             with self.subTest(length=length):
                 self.assertEqual(check(SOUND[:length], "--block", "64"), check(SOUND[:length]))
 
