@@ -49,6 +49,17 @@ def check(text: bytes, *words: str, processors: list[int] = PROCESSORS) -> Answe
     return Answer(ran.returncode, ran.stdout)
 
 
+def rows_over(needles: range) -> bytes:
+    """Three rows over these needles, there and back, each fifth loop over to the back bed and, but for the last, back."""
+    lines = ["in 1"]
+    for row in range(3):
+        way = reversed(needles) if row % 2 else needles
+        lines += [f"knit {'-' if row % 2 else '+'} f{needle} 1" for needle in way]
+        fifths = needles[::5]
+        lines += [f"xfer f{needle} b{needle}" for needle in fifths] + [f"xfer b{needle} f{needle}" for needle in fifths[:-1]]
+    return HEAD + "\n".join(lines).encode() + b"\n"
+
+
 # Files that the first thousand bytes don't tell apart, and others.
 FILES = {
     "sound": SOUND,
@@ -86,9 +97,20 @@ class LongFiles(unittest.TestCase):
                 self.assertEqual(check(FILES[name], "--block", "64", processors=PROCESSORS[:1]), check(FILES[name]))
 
     def test_limits_by_options(self) -> None:
-        for words in (["--hold", "1"], ["--needles", "0..2"], ["--json"]):
+        for words in (["--hold", "1"], ["--low=0", "--high=2"], ["--low=-4096", "--high=4096"], ["--json"]):
             with self.subTest(words=words):
-                self.assertEqual(check(SOUND, "--block", "64", *words), check(SOUND, *words))
+                answer = check(SOUND, *words)
+                self.assertIn(answer.status, (0, 1))
+                self.assertEqual(check(SOUND, "--block", "64", *words), answer)
+
+    def test_needles_far_from_zero(self) -> None:
+        """What is found by needle is found near 0 and far from it."""
+        for needles in (range(-300, 300), range(200, 1300, 7), range(-4096, 4097, 37), range(4000, 4097), range(-4096, -4000)):
+            text = rows_over(needles)
+            answer = check(text, "--low=-4096", "--high=4096")
+            for size in ("1", "7", "64", "4096"):
+                with self.subTest(needles=needles, size=size):
+                    self.assertEqual(check(text, "--block", size, "--low=-4096", "--high=4096"), answer)
 
     def test_a_slow_pipe(self) -> None:
         """The first lines are folded before more comes."""
