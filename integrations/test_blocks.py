@@ -108,6 +108,7 @@ class LongFiles(unittest.TestCase):
         for needles in (range(-300, 300), range(200, 1300, 7), range(-4096, 4097, 37), range(4000, 4097), range(-4096, -4000)):
             text = rows_over(needles)
             answer = check(text, "--low=-4096", "--high=4096")
+            self.assertEqual(answer.status, 0)
             for size in ("1", "7", "64", "4096"):
                 with self.subTest(needles=needles, size=size):
                     self.assertEqual(check(text, "--block", size, "--low=-4096", "--high=4096"), answer)
