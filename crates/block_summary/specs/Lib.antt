@@ -4,3 +4,4 @@ pub mod LineEnds
 pub mod LineSummaries
 pub mod NeedleChains
 pub mod Prepared
+pub mod Verdicts

@@ -18,13 +18,9 @@
 
 mod count;
 mod cut;
-#[cfg(test)]
-mod cut_tests;
 mod pairs;
 mod prepare;
 mod stretch;
-#[cfg(test)]
-mod tests;
 mod wide;
 mod workers;
 

@@ -136,6 +136,3 @@ pub fn request(alloc: Global, words: &[String]) -> Result<Request, WordFault>
         None => Err(WordFault::Usage),
     }
 }
-
-#[cfg(test)]
-mod tests;

@@ -17,21 +17,15 @@ mod add;
 mod block_state;
 mod book;
 mod cut;
-#[cfg(test)]
-mod limits_tests;
 mod look;
 mod loops;
 mod now;
 mod order;
-#[cfg(test)]
-mod order_tests;
 mod put;
 mod replies;
 mod reply;
 mod room;
 mod start;
-#[cfg(test)]
-mod tests;
 mod turns;
 
 pub use book::Book;

@@ -12,6 +12,3 @@ mod opening;
 pub use edit::{Anchor, BlockName, Edit, Entry};
 pub use journal::Journal;
 pub use opening::Opening;
-
-#[cfg(test)]
-mod tests;

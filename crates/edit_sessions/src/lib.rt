@@ -19,6 +19,3 @@ mod talk;
 pub use run::run_all;
 pub use session::Session;
 pub use take::do_command;
-
-#[cfg(test)]
-mod tests;

@@ -25,8 +25,6 @@ mod rule;
 mod setting;
 mod spelling;
 mod steps;
-#[cfg(test)]
-mod tests;
 mod text;
 mod usual;
 mod yarns;

@@ -7,8 +7,6 @@
 mod course;
 mod program;
 mod stitch;
-#[cfg(test)]
-mod tests;
 mod text;
 
 pub use program::make;

@@ -29,6 +29,3 @@ pub use port::{Failed, Sink, Source};
 pub use reader::ReaderSource;
 pub use whole::{InputFault, read_input, read_on, with_room, write_report};
 pub use writer::WriterSink;
-
-#[cfg(test)]
-mod tests;

@@ -193,6 +193,3 @@ fn has_name(text: &[u8], name: &[u8]) -> bool
     }
     false
 }
-
-#[cfg(test)]
-mod tests;

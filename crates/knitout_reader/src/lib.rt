@@ -16,8 +16,6 @@ mod carrier_line;
 mod carriers;
 mod front;
 mod head;
-#[cfg(test)]
-mod line_tests;
 mod loop_line;
 mod needle_line;
 mod number;
@@ -27,12 +25,8 @@ mod rack_line;
 mod read;
 mod readings;
 mod shortest;
-#[cfg(test)]
-mod token_tests;
 mod tokens;
 mod usual;
-#[cfg(test)]
-mod usual_tests;
 mod whole_line;
 mod words;
 

@@ -13,6 +13,3 @@ mod text;
 pub use line::write_line;
 pub use one_pass::canonical_text_in_one_pass;
 pub use text::{canonical_text, write_text};
-
-#[cfg(test)]
-mod tests;

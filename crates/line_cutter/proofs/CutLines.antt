@@ -3,19 +3,19 @@ use Rattle.std.proofs.Common.{◌≡◌, ◌≢◌, ℕ, ◌+◌, ◌-◌, ◌<�
 use Rattle.std.specs.List.{position_or_len, before_first, after_first}
 use Rattle.std.proofs.lemmas.List.{take_all, drop_all, drop-drop, map-append, length-map, length-take, get_or-take, take-take}
 use Rattle.std.proofs.lemmas.List.Sums.{fails_before_first}
-use Rattle.std.proofs.lemmas.List.Elements.{All-append, All-push}
+use Rattle.std.proofs.lemmas.List.Elements.{All-push}
 use Rattle.knit_base.specs.declared.lines.Span.{Span}
 use Rattle.knit_base.specs.Lines.{HasNoLineEnd, IsLine, IsWithin, is_line_feed, lines_of, piece, without_return}
 use Rattle.line_cutter.specs.declared.line.Found.{Found}
 use Rattle.line_cutter.specs.declared.fault.CutFault.{CutFault}
 use Rattle.line_cutter.specs.declared.fault.CutFault.TheVariants.{NotUtf8, LineLong, NoMemory}
-use Rattle.line_cutter.specs.Cut.{IsFirstBad, IsFirstBadLine, IsGoodLine, IsNextLine, IsNextRefused, IsRefused, IsStretch}
+use Rattle.line_cutter.specs.Cut.{AreCut, AreCutTo, IsFirstBad, IsGoodLine, IsNextLine, IsNextRefused, IsRefused}
 use Rattle.line_cutter.proofs.Pieces.{lines_of-next}
 
 -- one more line
-pub cut_more : (text : List ℕ) (spans more : List Span) (start next : ℕ) (found : Found) → IsStretch text start spans next → next < length text
-    → IsNextLine text next found → more ≡ spans ++ found.line ∷ [] → IsStretch text start more found.next
-cut_more text spans more start next found so_far some here pushed =
+pub cut_more : (text : List ℕ) (spans more : List Span) (next : ℕ) (found : Found) → AreCutTo text spans next → next < length text
+    → IsNextLine text next found → more ≡ spans ++ found.line ∷ [] → AreCutTo text more found.next
+cut_more text spans more next found so_far some here pushed =
     let grown : map (piece text) more ≡ map (piece text) spans ++ piece text found.line ∷ [] = ap (map (piece text)) pushed ∙ map-append (piece text) spans (found.line ∷ []) in
     let line : IsLine (piece text found.line) = record { utf8 = here.good.utf8; one = here.one; short = omega (arith, here.good.short) } in
     let count : length more ≡ length spans + 1 = ap length pushed ∙ length-append spans (found.line ∷ []) in
@@ -31,8 +31,8 @@ cut_more text spans more start next found so_far some here pushed =
     }
 
 -- nothing is cut yet
-pub cut_none : (text : List ℕ) (start : ℕ) → start ≤ length text → IsStretch text start [] start
-cut_none text start inside = record {
+pub cut_none : (text : List ℕ) → AreCutTo text [] 0
+cut_none text = record {
   lines_are = refl;
   good = λ k d below. absurd (omega arith);
   within = λ k d below. absurd (omega arith);
@@ -42,31 +42,19 @@ cut_none text start inside = record {
 }
 
 -- nothing is left
-pub cut_all : (text : List ℕ) (spans : List Span) (start next : ℕ) → IsStretch text start spans next → length text ≤ next → map (piece text) spans ≡ lines_of (drop start text)
-cut_all text spans start next all past =
-    sym (append-nil (map (piece text) spans)) ∙ ap (λ rest. map (piece text) spans ++ lines_of rest) (sym (drop_all next text past)) ∙ all.lines_are
-
--- the lines of a stretch, and those of the one behind it
-pub cut_both : (text : List ℕ) (first second : List Span) (start middle next : ℕ) → IsStretch text start first middle → IsStretch text middle second next
-    → IsStretch text start (first ++ second) next
-cut_both text first second start middle next front back =
-    let both : map (piece text) (first ++ second) ≡ map (piece text) first ++ map (piece text) second = map-append (piece text) first second in
-    let count : length (first ++ second) ≡ length first + length second = length-append first second in
-    record {
-      lines_are = ap (λ l. l ++ lines_of (drop next text)) both
-          ∙ append_assoc (map (piece text) first) (map (piece text) second) (lines_of (drop next text))
-          ∙ ap (λ l. map (piece text) first ++ l) back.lines_are ∙ front.lines_are;
-      good = subst (All IsGoodLine) (sym both) (All-append IsGoodLine (map (piece text) first) (map (piece text) second) front.good back.good);
-      within = All-append (IsWithin text) first second front.within back.within;
-      lines = subst (All IsLine) (sym both) (All-append IsLine (map (piece text) first) (map (piece text) second) front.lines back.lines);
-      few = omega (arith, front.few, back.few, count);
-      fit = omega (arith, front.few, back.fit, count);
-    }
+pub cut_all : (text : List ℕ) (spans : List Span) (next : ℕ) → AreCutTo text spans next → length text ≤ next → AreCut text spans
+cut_all text spans next all past = record {
+  lines_are = sym (append-nil (map (piece text) spans)) ∙ ap (λ rest. map (piece text) spans ++ lines_of rest) (sym (drop_all next text past)) ∙ all.lines_are;
+  good = all.good;
+  within = all.within;
+  lines = all.lines;
+  fit = all.fit;
+}
 
 -- the next line is refused, so it is the first bad one
-pub bad_found : (text : List ℕ) (spans : List Span) (start next number : ℕ) (fault : CutFault) → IsStretch text start spans next → number ≡ length spans + 1
-    → IsNextRefused text next number fault → IsFirstBad (lines_of (drop start text)) fault
-bad_found text spans start next number (NotUtf8 named) so_far count here = record {
+pub bad_found : (text : List ℕ) (spans : List Span) (next number : ℕ) (fault : CutFault) → AreCutTo text spans next → number ≡ length spans + 1
+    → IsNextRefused text next number fault → IsFirstBad (lines_of text) fault
+bad_found text spans next number (NotUtf8 named) so_far count here = record {
   before = map (piece text) spans;
   bad = here.line;
   after = here.later;
@@ -75,7 +63,7 @@ bad_found text spans start next number (NotUtf8 named) so_far count here = recor
   good_before = so_far.good;
   is_bad = here.refused.1;
 }
-bad_found text spans start next number (LineLong named) so_far count here = record {
+bad_found text spans next number (LineLong named) so_far count here = record {
   before = map (piece text) spans;
   bad = here.line;
   after = here.later;
@@ -84,24 +72,7 @@ bad_found text spans start next number (LineLong named) so_far count here = reco
   good_before = so_far.good;
   is_bad = here.refused.1;
 }
-bad_found text spans start next number NoMemory so_far count here = absurd here.refused
-
--- the first bad line, with good lines before those that were counted
-pub bad_behind : (IsBad : List ℕ → Type 0) (front lines : List (List ℕ)) (number named : ℕ) → All IsGoodLine front → named ≡ number + length front
-    → IsFirstBadLine IsBad lines number → IsFirstBadLine IsBad (front ++ lines) named
-bad_behind IsBad front lines number named good is here = record {
-  before = front ++ here.before;
-  bad = here.bad;
-  after = here.after;
-  lines_are = ap (λ l. front ++ l) here.lines_are ∙ sym (append_assoc front here.before (here.bad ∷ here.after));
-  counted = omega (arith, is, here.counted, length-append front here.before);
-  good_before = All-append IsGoodLine front here.before good here.good_before;
-  is_bad = here.is_bad;
-}
-
--- its number is one of a line
-pub bad_within : (IsBad : List ℕ → Type 0) (lines : List (List ℕ)) (number : ℕ) → IsFirstBadLine IsBad lines number → number ≤ length lines
-bad_within IsBad lines number here = omega (arith, here.counted, ap length here.lines_are, length-append here.before (here.bad ∷ here.after))
+bad_found text spans next number NoMemory so_far count here = absurd here.refused
 
 is_no_feed : (byte : ℕ) → is_line_feed byte ≡ false → byte ≢ 10
 is_no_feed byte fails same =

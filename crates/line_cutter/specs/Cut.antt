@@ -38,14 +38,22 @@ IsFirstBad lines (NotUtf8 number) = IsFirstBadLine IsNotUtf8 lines number
 IsFirstBad lines (LineLong number) = IsFirstBadLine IsLong lines number
 IsFirstBad lines NoMemory = Unit {0}
 
--- good lines that follow one another: they, and behind them the lines of the text from the next place on, are its lines from this place on
-pub record IsStretch (text : List ℕ) (start : ℕ) (spans : List Span) (next : ℕ) : Type 0 where
-  pub lines_are : map (piece text) spans ++ lines_of (drop next text) ≡ lines_of (drop start text)
+-- the text's first lines lie here and are good: they, and behind them the lines from the next place on, are its lines
+pub record AreCutTo (text : List ℕ) (spans : List Span) (next : ℕ) : Type 0 where
+  pub lines_are : map (piece text) spans ++ lines_of (drop next text) ≡ lines_of text
   pub good : All IsGoodLine (map (piece text) spans)
   pub within : All (IsWithin text) spans
   pub lines : All IsLine (map (piece text) spans)
-  pub few : start + length spans ≤ next
-  pub fit : start + length spans ≤ length text
+  pub few : length spans ≤ next
+  pub fit : length spans ≤ length text
+
+-- all lines of the text lie here, and they are good
+pub record AreCut (text : List ℕ) (spans : List Span) : Type 0 where
+  pub lines_are : map (piece text) spans ≡ lines_of text
+  pub good : All IsGoodLine (map (piece text) spans)
+  pub within : All (IsWithin text) spans
+  pub lines : All IsLine (map (piece text) spans)
+  pub fit : length spans ≤ length text
 
 -- the refusal names this line and what is wrong with it
 abbrev pub IsRefused : List ℕ → ℕ → CutFault → Type 0

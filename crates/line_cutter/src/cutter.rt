@@ -1,11 +1,12 @@
 //! All lines of a text.
 ghost use Rattle.std.specs.Prelude.{◌≡◌, ◌≤◌, length, All, IfOk, IfErr};
 ghost use Rattle.knit_base.specs.Lines.{lines_of};
-ghost use Rattle.line_cutter.specs.Cut.{IsFirstBad, IsGoodLine};
+ghost use Rattle.line_cutter.specs.Cut.{AreCut, IsFirstBad, IsGoodLine};
 
 use crate::CutFault;
-use crate::stretch::cut_stretch;
-use knit_base::Lines;
+use crate::counter::expected_lines;
+use crate::line::next_line;
+use knit_base::{Lines, Span};
 use std::alloc::Global;
 
 /// The lines of the bytes, which stay where they are, 16 MiB at most.
@@ -19,8 +20,25 @@ pub fn cut_buffer(alloc: Global, bytes: Vec<u8>) -> Result<Lines, CutFault>
     ensures good { IfOk result (All IsGoodLine) }
     ensures fault { IfErr result (IsFirstBad (lines_of bytes.items)) }
 {
-    let stretch = cut_stretch(alloc, &bytes, 0, bytes.len(), bytes.is_ascii())?;
-    Ok(stretch.lines_in(bytes))
+    let spans = cut_spans(alloc, &bytes)?;
+    Ok(Lines::in_buffer(bytes, spans))
+}
+
+// Where the lines of the text lie. Where all of it is ASCII, the bytes of the lines aren't looked at once more.
+fn cut_spans(alloc: Global, text: &[u8]) -> Result<Vec<Span>, CutFault>
+    requires { length text.now ≤ 16777216 }
+    ensures ok { IfOk result (λ spans. AreCut text.now spans.items) }
+    ensures err { IfErr result (IsFirstBad (lines_of text.now)) }
+{
+    let is_ascii = text.is_ascii();
+    let mut spans = Vec::with_capacity(alloc, expected_lines(text))?;
+    let mut next = 0;
+    'cutting: while next < text.len() {
+        let found = next_line(text, next, spans.len() as u32 + 1, is_ascii)?;
+        spans.push(found.line)?;
+        next = found.next;
+    }
+    Ok(spans)
 }
 
 /// The lines of a copy of the bytes, for callers that keep their own. Limits and refusals are those of `cut_buffer`; memory is

@@ -1,6 +1,5 @@
 //! Why bytes aren't cut into lines.
-ghost use Rattle.std.specs.Prelude.{◌≡◌, ◌+◌, ◌<◌, ◌^◌, ◌++◌, ℕ, List, All, length};
-ghost use Rattle.line_cutter.specs.Cut.{IsFirstBad, IsGoodLine};
+ghost use Rattle.std.specs.Prelude.{◌≡◌};
 ghost use Rattle.line_cutter.specs.declared.fault.CutFault.TheVariants as refused;
 
 use std::alloc::{AllocError, AllocFailed};
@@ -20,24 +19,6 @@ pub enum CutFault {
     /// Memory ran out.
     #[error("out of memory")]
     NoMemory,
-}
-
-impl CutFault {
-    /// The same fault, where so many good lines stand before those that were counted.
-    pub fn behind(self, lines: u32) -> CutFault
-        ensures { (before after : List (List ℕ)) → length before ≡ lines → length before + length after < 2 ^ 32 → All IsGoodLine before
-            → IsFirstBad after self → IsFirstBad (before ++ after) result }
-    {
-        match self {
-            CutFault::NotUtf8 { line } => CutFault::NotUtf8 {
-                line: line.saturating_add(lines),
-            },
-            CutFault::LineLong { line } => CutFault::LineLong {
-                line: line.saturating_add(lines),
-            },
-            CutFault::NoMemory => CutFault::NoMemory,
-        }
-    }
 }
 
 impl From<AllocError> for CutFault {

@@ -136,35 +136,3 @@ pub fn profile_of(options: &Options) -> Result<Chosen, BadOption>
     let block = within(Which::Block, MIN_BLOCK, MAX_BLOCK, block)?;
     Ok(chosen_with(low, high, rack, hold, block))
 }
-
-#[cfg(test)]
-mod tests {
-    use super::*;
-
-    const NONE: Options = Options {
-        low: None,
-        high: None,
-        rack: None,
-        hold: None,
-        block: None,
-    };
-
-    #[test]
-    fn the_defaults_are_chosen(rt: HostRuntime) {
-        let usual = Chosen {
-            profile: Profile::USUAL,
-            block: 64,
-        };
-        assert!(rt; profile_of(&NONE) == Ok(usual));
-    }
-
-    #[test]
-    fn the_first_option_outside_is_refused(rt: HostRuntime) {
-        let options = Options {
-            hold: Some(65),
-            block: Some(0),
-            ..NONE
-        };
-        assert!(rt; profile_of(&options) == Err(BadOption { which: Which::Hold }));
-    }
-}

@@ -9,15 +9,11 @@
 #![tactic(auto)]
 
 mod certificate;
-#[cfg(test)]
-mod every_sequence_tests;
 mod grouping;
 mod listing;
 mod operation;
 mod pass;
 mod tally;
-#[cfg(test)]
-mod tests;
 
 pub use certificate::{Grouping, Starts, Window, Windows, check_certificate, pass_at};
 pub use grouping::group;

@@ -17,6 +17,3 @@ mod words;
 pub use command::{Command, CommandList, Place, Script, SessionScripts};
 pub use fault::{Cause, ScriptFault};
 pub use reader::read_script;
-
-#[cfg(test)]
-mod tests;

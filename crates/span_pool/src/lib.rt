@@ -10,8 +10,6 @@ mod class;
 mod pool;
 mod shelf;
 mod span;
-#[cfg(test)]
-mod tests;
 
 pub use class::class_of;
 pub use pool::{NoSpare, Pool};

@@ -1,1 +1,2 @@
 pub mod PlainLeaves
+pub mod Sums

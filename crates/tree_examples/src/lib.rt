@@ -9,4 +9,8 @@
 #[cfg(test)]
 mod shape_tests;
 #[cfg(test)]
+mod span_tests;
+#[cfg(test)]
 mod summary_tests;
+#[cfg(test)]
+mod value_tests;

@@ -5,4 +5,3 @@ pub mod Offsets
 pub mod Descents
 pub mod Starts
 pub mod Needs
-pub mod Sums

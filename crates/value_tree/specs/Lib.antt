@@ -2,5 +2,4 @@ pub mod Found
 pub mod Kept
 pub mod Need
 pub mod Parts
-pub mod Sums
 pub mod Walk

@@ -9,8 +9,8 @@
 //! Definitions: `specs/Kept` (what always holds of a tree with its values, and the rooms that a change needs), `specs/Need`
 //! (how the rooms are found), `specs/Found` (the place of an offset), `specs/Walk` (the ways down to it and to a position) and
 //! `specs/Parts` (the children that lie whole before one).
-//! What a value, a composition and a room are to obey is in `tree_shape`, `specs/Values` and `specs/Composing`. `specs/Sums` is of
-//! the tests' store. Below it stand `tree_shape`, whose rows say what a change has to compose, and `knit_base`.
+//! What a value, a composition and a room are to obey is in `tree_shape`, `specs/Values` and `specs/Composing`. Below it
+//! stand `tree_shape`, whose rows say what a change has to compose, and `knit_base`.
 #![tactic(auto)]
 
 mod before;
@@ -25,6 +25,3 @@ mod values;
 pub use find::Counts;
 pub use tree::ValueTree;
 pub use values::{Takes, Values};
-
-#[cfg(test)]
-mod tests;

@@ -1,4 +1,0 @@
-use Rattle.edit_sessions.proofs.tests.run.Given as goal
-
-abbrev pub ghosts-played : goal.ghosts-played
-ghosts-played g a = record { name = a.blank.name; parts = a.blank.parts }

@@ -1,4 +1,0 @@
-use Rattle.edit_sessions.proofs.tests.threads.eight_agree.Given as goal
-
-abbrev pub ghosts-agrees : goal.ghosts-agrees
-ghosts-agrees g a = record { name = a.blank.name; parts = a.blank.parts }

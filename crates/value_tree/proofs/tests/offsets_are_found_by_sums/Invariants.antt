@@ -1,4 +1,0 @@
-use Rattle.value_tree.proofs.tests.offsets_are_found_by_sums.Given as goal
-
-abbrev pub ghosts-counted : goal.ghosts-counted
-ghosts-counted g a = record { name = a.blank.name; parts = a.blank.parts }
