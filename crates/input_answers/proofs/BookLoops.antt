@@ -105,11 +105,15 @@ all_from profile s line (r ∷ reads) =
     (later_lines profile (step line r s) (line + 1) line reads (omega arith)) (all_from profile (step line r s) (line + 1) reads)
 
 -- no line was asked yet
-pub asked_none : (setting : Setting) (lines : List (List ℕ)) (count : ℕ) (made : List LoopFact) → count ≡ length lines → AreLoopsOn setting lines made
-    → facts_from made setting.first count ≡ made
-asked_none setting lines count made is are =
+pub asked_none : (setting : Setting) (lines : List (List ℕ)) (first count : ℕ) (loops made : List LoopFact) → loops ≡ [] → first ≡ setting.first → count ≡ length lines
+    → AreLoopsOn setting lines made → loops ++ facts_from made (first + 0) (count - 0) ≡ made
+asked_none setting lines first count loops made none begins is are =
     let many : length lines ≡ length are.readings = sym (AllZip-long (ReadsAs setting.profile setting.declared) lines are.readings are.read) in
-    ap (facts_from made setting.first) (is ∙ many)
+    let from : first + 0 ≡ setting.first = omega (arith, begins) in
+    let all : count - 0 ≡ length are.readings = omega (arith, is, many) in
+    ap (λ (facts : List LoopFact). facts ++ facts_from made (first + 0) (count - 0)) none
+    ∙ ap (λ n. facts_from made n (count - 0)) from
+    ∙ ap (facts_from made setting.first) all
     ∙ subst (λ (facts : List LoopFact). facts_from facts setting.first (length are.readings) ≡ facts) (sym are.made) (all_from setting.profile empty_state setting.first are.readings)
 
 -- one line more was asked

@@ -1,5 +1,5 @@
-//! The verdict on a file by blocks: the lines behind its head are the opening of a document, as those of a script are, and the verdict is that of the
-//! book. The loops are asked for line by line.
+//! The verdict on a file by blocks: the lines behind its head are the opening of a document, as those of a script are, and the
+//! verdict is that of the book. The loops are asked for line by line.
 ghost use Rattle.std.specs.Prelude.{◌≡◌, ◌+◌, ◌<◌, ◌^◌, ◌∷◌, [], ◌++◌, ℕ, List, IfOk, OnOk, length};
 ghost use Rattle.std.specs.Option.{option_to_list};
 ghost use Rattle.carriage_model.specs.declared.verdict.LoopFact.{LoopFact};
@@ -12,7 +12,7 @@ ghost use Rattle.input_answers.specs.Due.{Fits};
 
 use crate::body::Body;
 use crate::judge::Judgement;
-use crate::opening::{Opened, open};
+use crate::opening::open;
 use crate::plan::Plan;
 use carriage_model::{Facts, LoopFact};
 use edit_book::Book;
@@ -52,8 +52,9 @@ fn judge_counted<L: Ledger, R: Threads + Sync>(
     ensures { IfOk result (IsJudgement with_loops plan.now.chosen.profile body.now.head.declared body.now.lines) }
 {
     let mut steps = Steps::<L>::start(rt, blank);
-    let Opened { book, .. } = open(rt, alloc, plan, &body.lines, &body.head, &mut steps)?;
-    judge_document(alloc, with_loops, &book, body.len(), &mut steps)
+    let _lines = body.lines.len();
+    let opened = open(rt, alloc, plan, &body.lines, &body.head, &mut steps)?;
+    judge_document(alloc, with_loops, &opened.book, body.len(), &mut steps)
 }
 
 // What the lines of the book's document make, of which there are so many.
