@@ -4,7 +4,6 @@ ghost use Rattle.knit_base.specs.Limits.{IsLawfulProfile};
 ghost use Rattle.knit_base.specs.Lines.{HasNoLineEnd};
 
 use block_summary::{PrepareFault, Prepared};
-use check_workers::prepare::prepare_lots;
 use check_workers::{prepare_all, prepare_wide};
 use face_data::{FaceView, Seg};
 use knit_base::{Bed, BlockText, Declared, Lines, Needle, NoMemory, Profile, Setting, Steps};
@@ -93,13 +92,18 @@ fn are_knitted<R: Threads + Sync>(rt: &R, alloc: Global, knits: &[u16]) -> bool 
     }
 }
 
-// The same in so many lots at most, each in a thread of its own.
-fn are_knitted_in<R: Threads + Sync>(rt: &R, alloc: Global, lots: usize, knits: &[u16]) -> bool {
-    let Ok(texts) = texts(alloc, knits) else {
-        return false;
-    };
-    match prepare_lots(rt, alloc, lots, texts, &setting(alloc)) {
-        Ok(blocks) => have_knits(&blocks, knits),
+// From the most knits that a text may have on, one fewer in each text. From 131,072 lines on, there are several lots.
+fn falling(alloc: Global, texts: u16) -> Result<Vec<u16>, NoMemory> {
+    let mut knits = Vec::new(alloc);
+    for i in 0..texts {
+        knits.push(4095u16.saturating_sub(i))?;
+    }
+    Ok(knits)
+}
+
+fn are_falling<R: Threads + Sync>(rt: &R, alloc: Global, texts: u16) -> bool {
+    match falling(alloc, texts) {
+        Ok(knits) => are_knitted(rt, alloc, &knits),
         Err(_) => false,
     }
 }
@@ -119,15 +123,11 @@ fn the_blocks_stand_in_the_order_of_their_texts(rt: HostRuntime) {
 
 #[test]
 fn the_blocks_of_several_threads_stand_in_the_order_of_their_texts(rt: HostRuntime) {
-    let long = [4095, 17, 4000, 3000, 1, 4090];
     let are = [
-        are_knitted_in(&rt, rt.alloc(), 4, &long),
-        are_knitted_in(&rt, rt.alloc(), 3, &[3, 1, 4, 1, 5, 9, 2]),
-        are_knitted_in(&rt, rt.alloc(), 16, &[3, 1, 4, 1, 5, 9, 2]),
-        are_knitted_in(&rt, rt.alloc(), 2, &[7]),
-        are_knitted_in(&rt, rt.alloc(), 2, &[]),
+        are_falling(&rt, rt.alloc(), 41),
+        are_falling(&rt, rt.alloc(), 99),
     ];
-    assert_eq!(rt; are, [true; 5]);
+    assert_eq!(rt; are, [true; 2]);
 }
 
 fn is_long<R: Threads + Sync>(rt: &R, alloc: Global, knits: &[u16], wanted: u32) -> bool {
