@@ -1,5 +1,5 @@
 -- The lines of a verdict as text.
-use Rattle.std.specs.Prelude.{ℕ, ℤ, Option, None, Some, List, ◌++◌, flat_map, codes, decimal}
+use Rattle.std.specs.Prelude.{ℕ, ℤ, Option, None, Some, List, ◌++◌, length, flat_map, codes, decimal}
 use Rattle.knit_base.specs.Spelling.{dir_word, needle_text, rack_text, rule_name}
 use Rattle.knit_base.specs.declared.rule.Fault.{Fault}
 use Rattle.knit_base.specs.declared.rule.Rule.{Rule}

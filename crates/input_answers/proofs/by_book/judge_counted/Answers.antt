@@ -15,7 +15,7 @@ judge_document-requires-clause-count g c =
 pub judge_document-requires-clause-few : goal.judge_document-requires-clause-few
 judge_document-requires-clause-few g c =
     let lines = c.args.body.now.lines in
-    omega (arith, c.in_ok-opened.ensures.opening.first, head_len-le lines, c.len.ensures, length-drop (head_len lines) lines, c.len-_lines.ensures.len, c.len-_lines.ensures.few)
+    omega (arith, c.in_ok-opened.ensures.opening.first, head_len-le lines, c.len.ensures, length-drop (head_len lines) lines, c.len-lines.ensures.len, c.len-lines.ensures.few)
 
 pub returns : goal.returns
 returns g c =
