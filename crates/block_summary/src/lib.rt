@@ -11,8 +11,8 @@
 //!
 //! Definitions: `specs/Asks` (what a line asks and changes), `specs/LineSummaries` (the summary of a line and of a block),
 //! `specs/DraftKnowledge` (what is known of lines, and of conditions that were asked), `specs/LineEnds` (how a line ends that is read
-//! after others), `specs/Prepared` (what is made of a text), and `specs/Segments`, `specs/Conditions`, `specs/Summaries`,
-//! `specs/Stands` and `specs/Goodness` of `face_data` and `specs/Tables` of `loop_history`.
+//! after others), `specs/Prepared` (what is made of a text), `specs/Verdicts` (the verdict on lines), and `specs/Segments`,
+//! `specs/Conditions`, `specs/Summaries`, `specs/Stands` and `specs/Goodness` of `face_data` and `specs/Tables` of `loop_history`.
 //! Lemmas that the crates above cite: `proofs/LineStands`, `proofs/LineGoodness` (the summary of a line and of a block stands for its
 //! lines and is good), `proofs/LineFront` (a line that asks nothing new), `proofs/KnownNeedles` and `proofs/BedNeedles` (lines name
 //! needles whose numbers have 16 bits). Below it stand std, `thiserror`, `knit_base`, `carriage_model`, `knitout_reader`, `face_data`,

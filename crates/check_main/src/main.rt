@@ -23,8 +23,6 @@ mod one_pass_tests;
 #[cfg(test)]
 mod passes_tests;
 #[cfg(test)]
-mod round_tests;
-#[cfg(test)]
 mod rule_tests;
 #[cfg(test)]
 mod tests;

@@ -1,22 +1,20 @@
 //! The whole program, over any source and sink.
-ghost use Rattle.std.specs.Prelude.{◌≡◌, ◌≤◌, List, ℕ, length, true, map, string_bytes, IfOk, IfSome};
+ghost use Rattle.std.specs.Prelude.{◌≡◌, ◌≤◌, List, ℕ, length, true, map, string_bytes, IfOk};
 ghost use Rattle.std.specs.Io.KnownBytes.{Consumes, IsAtEnd};
 ghost use Rattle.machine_profile.specs.declared.Chosen.{Chosen};
 ghost use Rattle.command_words.specs.declared.command.Command.{Command};
 ghost use Rattle.check_main.specs.Calls.{IsCalled};
 ghost use Rattle.check_main.specs.Complete.{EndsWell, IsUnhindered};
-ghost use Rattle.input_answers.specs.Ahead.{IsFront};
 ghost use Rattle.input_answers.specs.Asked.{Ask, reads_input};
 ghost use Rattle.input_answers.specs.Played.{played_by};
 ghost use Rattle.check_main.specs.Top.{Ran, SourceUse, sink_use, source_use};
 
 use command_words::Command;
 use input_answers::{
-    Answer, Input, Outcome, Plan, PlanFault, Status, answer, answer_live, answer_made, plan_of,
-    read_ahead,
+    Answer, Outcome, Plan, PlanFault, Status, answer, answer_live, answer_made, plan_of,
 };
 use knit_base::NoMemory;
-use knit_ports::{Gate, INPUT_LIMIT, InputFault, Sink, Source, write_report};
+use knit_ports::{Gate, INPUT_LIMIT, InputFault, Sink, Source, read_input, write_report};
 use std::alloc::Global;
 use std::sync::Wait;
 use std::thread::Threads;
@@ -132,14 +130,14 @@ fn answer_source<R: Threads + Wait + Sync, S: Source, G: Gate + Sync>(
     ensures { IfOk result (λ answer. (words : List (List ℕ)) → Ask words plan.now.command plan.now.chosen
         → IsCalled words (source_use S.left S.faults source.old source.new) answer) }
 {
-    let input = match read_ahead(rt, alloc, plan, source) {
+    let input = match read_input(alloc, source, INPUT_LIMIT) {
         Ok(input) => input,
         Err(InputFault::Failed) => {
             return Answer::refusal(alloc, Refusal::ReadFault, Status::ReadFault);
         }
         Err(InputFault::NoMemory) => return Err(NoMemory),
     };
-    if input.bytes.len() > INPUT_LIMIT {
+    if input.len() > INPUT_LIMIT {
         return Answer::refusal(alloc, Refusal::TooManyBytes, Status::TooLarge);
     }
     answer_input(rt, alloc, plan, input, gate)
@@ -150,20 +148,18 @@ fn answer_input<R: Threads + Wait + Sync, G: Gate + Sync>(
     rt: &R,
     alloc: Global,
     plan: &Plan,
-    input: Input,
+    input: Vec<u8>,
     gate: &G,
 ) -> Result<Answer, NoMemory>
-    requires size { length input.bytes.items ≤ INPUT_LIMIT }
+    requires size { length input.items ≤ INPUT_LIMIT }
     requires reads { reads_input plan.now.command ≡ true }
-    requires front { IfSome input.front IsFront }
     ensures { IfOk result (λ answer. (words : List (List ℕ)) (source : SourceUse) → Ask words plan.now.command plan.now.chosen
-        → Consumes source.left_before source.left_after input.bytes.items → IsAtEnd source.left_after → IsCalled words source answer) }
+        → Consumes source.left_before source.left_after input.items → IsAtEnd source.left_after → IsCalled words source answer) }
 {
-    let Input { bytes, front } = input;
     match plan.command {
-        Command::Live => answer_live(rt, alloc, plan, bytes, gate),
+        Command::Live => answer_live(rt, alloc, plan, input, gate),
         Command::Check { .. } | Command::Text | Command::Passes => {
-            let ending = answer(rt, alloc, plan, bytes, front.as_ref())?;
+            let ending = answer(rt, alloc, plan, input)?;
             Ok(Answer::without_sessions(alloc, ending))
         }
         Command::Make { .. } => unreachable!(),

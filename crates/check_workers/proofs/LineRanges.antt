@@ -15,7 +15,3 @@ both_ranges xs from mid to before behind =
 -- up to the last one
 pub range_rest : {X : Type 0} (xs : List X) (from to : ℕ) → to ≡ length xs → slice_range xs from to ≡ drop from xs
 range_rest xs from to all = ap (λ n. take (n - from) (drop from xs)) all ∙ take_rest xs from
-
--- what stands before one place, and from there up to a later one
-pub front_range : {X : Type 0} (xs : List X) (mid to : ℕ) → mid ≤ to → take mid xs ++ slice_range xs mid to ≡ take to xs
-front_range xs mid to behind = sym (take-add mid (to - mid) xs) ∙ ap (λ n. take n xs) (omega arith)

@@ -1,5 +1,3 @@
-pub mod Cuts
 pub mod Faces
-pub mod LinePlaces
 pub mod Pieces
 pub mod Texts

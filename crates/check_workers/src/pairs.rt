@@ -1,24 +1,16 @@
 //! Faces of lines that follow one another.
 ghost use Rattle.std.specs.Prelude.{◌≡◌, ◌+◌, ◌<◌, ◌^◌, IfOk};
 ghost use Rattle.face_data.specs.Composition.{composed};
-ghost use Rattle.face_data.specs.Drafts.{no_lines};
 ghost use Rattle.check_workers.specs.Faces.{AreOfOneMachine};
 
-use face_data::{Face, FaceView};
+use face_data::Face;
 use knit_base::{NoMemory, Steps};
 use std::alloc::Global;
 use std::sync::ledger::Ledger;
 use summary_compose::{Scratch, compose_into, room_for};
 
-/// The face of no line.
-pub fn empty_face(alloc: Global) -> Result<Face, NoMemory>
-    ensures { IfOk result (λ face. face ≡ no_lines) }
-{
-    Face::of(alloc, &FaceView::of_no_line())
-}
-
 /// The face of the lines of both, made in a scratch that may have been used before.
-pub fn join_faces<L: Ledger>(
+pub(crate) fn join_faces<L: Ledger>(
     alloc: Global,
     first: &Face,
     second: &Face,

@@ -64,7 +64,7 @@ fn line_count(texts: &[BlockText]) -> usize {
 }
 
 // So many lots at most, a half of them beside the other.
-pub(crate) fn prepare_lots<R: Threads + Sync>(
+fn prepare_lots<R: Threads + Sync>(
     rt: &R,
     alloc: Global,
     lots: usize,

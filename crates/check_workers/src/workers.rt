@@ -3,8 +3,8 @@ ghost use Rattle.std.specs.Prelude.{◌≤◌};
 
 use std::thread::{Threads, available_parallelism};
 
-/// How many lots lines are given out in at most.
-pub const MOST_LOTS: usize = 16;
+// How many lots lines are given out in at most.
+const MOST_LOTS: usize = 16;
 
 /// One for each processor, where there are lines enough: so many of them are worth a thread.
 pub(crate) fn lot_count<R: Threads>(rt: &R, lines: usize, worth: u32) -> usize
@@ -18,23 +18,12 @@ pub(crate) fn lot_count<R: Threads>(rt: &R, lines: usize, worth: u32) -> usize
     most.min(worker_count(rt))
 }
 
-/// How many threads lines are given out to at most: one for each processor.
-pub fn worker_count<R: Threads>(rt: &R) -> usize
+// How many threads lines are given out to at most: one for each processor.
+fn worker_count<R: Threads>(rt: &R) -> usize
     ensures { result ≤ 16 }
 {
     match available_parallelism(rt) {
         Ok(processors) => MOST_LOTS.min(processors.get()),
         Err(_) => MOST_LOTS,
-    }
-}
-
-/// How many threads share the lots of a long text: two for each processor, where there are several. The system may let a thread wait for the processor of the one
-/// that started it, though another has nothing to do; of two for each, each processor nearly always has one.
-pub fn thread_count<R: Threads>(rt: &R) -> usize
-    ensures { result ≤ 32 }
-{
-    match worker_count(rt) {
-        0 | 1 => 1,
-        processors => 2 * processors,
     }
 }

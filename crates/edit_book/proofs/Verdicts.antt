@@ -3,6 +3,7 @@ use Rattle.std.proofs.Common.{◌≡◌, ℕ, List, length, refl, sym, subst}
 use Rattle.knit_base.specs.declared.instr.Read.{Read}
 use Rattle.knitout_reader.specs.Reading.{ReadsAs}
 use Rattle.carriage_model.specs.declared.verdict.Brief.{Brief}
+use Rattle.carriage_model.specs.declared.verdict.LoopFact.{LoopFact}
 use Rattle.carriage_model.specs.declared.verdict.Verdict.{Verdict}
 use Rattle.carriage_model.specs.Loops.{loops_made}
 use Rattle.carriage_model.specs.Run.{run}
@@ -16,22 +17,26 @@ use Rattle.face_data.specs.Verdicts.{verdict_of}
 use Rattle.face_data.specs.View.{summary_of}
 use Rattle.face_data.proofs.EmptyBeds.{judged}
 use Rattle.edit_book.specs.Books.{IsLawful}
-use Rattle.edit_book.specs.Verdicts.{IsBriefOn, IsVerdictOn}
+use Rattle.edit_book.specs.Verdicts.{HasVerdict, IsBriefOn}
 use Rattle.edit_book.proofs.Trees.{all_read, root_good, zip_count}
 use Rattle.summary_tree.specs.Leaves.{Leaf, IsRootOf, all_lines}
 
 pub root_verdict : (o : Opening) (es : List Entry) (leaves : List Leaf) (view : FaceView) (told : Verdict) → IsLawful o es leaves → IsRootOf leaves view → told ≡ verdict_of (summary_of view) o.setting.first
-    → IsVerdictOn o.setting (body (document_of o es)) told
+    → HasVerdict o.setting (body (document_of o es)) told
 root_verdict o es leaves view told s root is =
     let all = all_read o.setting leaves (document_of o es).blocks s.leaves_are in
     let reads : List Read = all_lines all.blocks in
     let many : length (body (document_of o es)) ≡ length reads = zip_count (ReadsAs o.setting.profile o.setting.declared) (body (document_of o es)) reads all.read in
-    record {
-      readings = reads;
-      read = all.read;
-      judged = subst (λ (n : ℕ). IsVerdict n told (run o.setting.profile empty_state o.setting.first reads) (loops_made o.setting.profile empty_state o.setting.first reads)) (sym many)
-          (judged o.setting.profile (summary_of view) reads o.setting.first told (root_good o es leaves view s root).good.fair.in_order is (root.whole.stands o.setting.profile all.blocks all.stand));
-    }
+    let made : List LoopFact = loops_made o.setting.profile empty_state o.setting.first reads in (
+      made,
+      record {
+        readings = reads;
+        read = all.read;
+        made = refl;
+        judged = subst (λ (n : ℕ). IsVerdict n told (run o.setting.profile empty_state o.setting.first reads) made) (sym many)
+            (judged o.setting.profile (summary_of view) reads o.setting.first told (root_good o es leaves view s root).good.fair.in_order is (root.whole.stands o.setting.profile all.blocks all.stand));
+      },
+    )
 
 pub root_brief : (o : Opening) (es : List Entry) (leaves : List Leaf) (view : FaceView) (brief : Brief) → IsLawful o es leaves → IsRootOf leaves view
     → brief ≡ brief_of (verdict_of (summary_of view) o.setting.first) → IsBriefOn o.setting (body (document_of o es)) brief

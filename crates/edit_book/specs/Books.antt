@@ -15,7 +15,8 @@ use Rattle.summary_tree.specs.Trees.{TreeView, CanReplace}
 use Rattle.edit_book.specs.declared.block_state.BlockState.{BlockState}
 use Rattle.edit_book.specs.declared.block_state.BlockState.TheVariants.{There, CutBy}
 use Rattle.edit_book.specs.Orders.{is_id}
-use Rattle.edit_book.specs.Replies.{block_limit, line_limit, entry_limit, cut_number}
+use Rattle.edit_journal.specs.Entries.{entry_limit}
+use Rattle.edit_book.specs.Replies.{block_limit, line_limit, cut_number}
 use Rattle.edit_book.specs.Verdicts.{setting_of}
 
 -- what the book began with and the entries since, and beside them the room that it has

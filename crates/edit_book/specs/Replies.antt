@@ -4,6 +4,7 @@ use Rattle.std.specs.Option.{option_map_or, option_to_list}
 use Rattle.carriage_model.specs.declared.verdict.Brief.{Brief}
 use Rattle.carriage_model.specs.declared.verdict.LoopFact.{LoopFact}
 use Rattle.carriage_model.specs.declared.verdict.Verdict.{Verdict}
+use Rattle.block_summary.specs.Verdicts.{broken_line}
 use Rattle.edit_journal.specs.declared.edit.Anchor.{Anchor}
 use Rattle.edit_journal.specs.declared.edit.Anchor.TheVariants.{Start, After}
 use Rattle.edit_journal.specs.declared.edit.Edit.{Edit}
@@ -11,13 +12,14 @@ use Rattle.edit_journal.specs.declared.edit.Edit.TheVariants as edit
 use Rattle.edit_journal.specs.declared.edit.Entry.{Entry}
 use Rattle.edit_journal.specs.declared.opening.Opening.{Opening}
 use Rattle.edit_journal.specs.Documents.{Block, Document, block_of, after, document_of, body}
+use Rattle.edit_journal.specs.Entries.{entry_limit}
 use Rattle.edit_book.specs.declared.reply.BookCommand.{BookCommand}
 use Rattle.edit_book.specs.declared.reply.BookCommand.TheVariants as command
 use Rattle.edit_book.specs.declared.reply.Which.{Which}
 use Rattle.edit_book.specs.declared.reply.Which.TheVariants as which
 use Rattle.edit_book.specs.declared.reply.Reply.{Reply}
 use Rattle.edit_book.specs.declared.reply.Reply.TheVariants as reply
-use Rattle.edit_book.specs.Verdicts.{IsBriefOn, IsLoopOn, IsVerdictOn, broken_line, setting_of}
+use Rattle.edit_book.specs.Verdicts.{HasVerdict, IsBriefOn, IsLoopOn, setting_of}
 
 -- what is asked of a book; a text is its lines alone
 pub data Request : Type 0 where
@@ -42,9 +44,6 @@ block_limit = 65536
 
 abbrev pub line_limit : ℕ
 line_limit = 1048576
-
-abbrev pub entry_limit : ℕ
-entry_limit = 1048576
 
 abbrev pub or_else : {A : Type 0} → Option A → Option A → Option A
 or_else None b = b
@@ -124,7 +123,7 @@ IsGranted opening d version (Cut id seen) r = IsAccepted opening d version id (e
 IsGranted opening d version (LoopAt line) r =
     (fact : Option LoopFact) × (r ≡ reply.Loop version fact) × IsLoopOn (setting_of opening d) (body d) line fact
 IsGranted opening d version VerdictNow r =
-    (v : Verdict) × (r ≡ reply.Now version v (broken_line (setting_of opening d) (body d) v)) × IsVerdictOn (setting_of opening d) (body d) v
+    (v : Verdict) × (r ≡ reply.Now version v (broken_line (setting_of opening d).first (body d) v)) × HasVerdict (setting_of opening d) (body d) v
 
 -- the refusal that is due, or else what is granted
 abbrev pub IsDue : Option Reply → Type 0 → Reply → Type 0

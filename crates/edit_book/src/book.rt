@@ -4,7 +4,8 @@ ghost use Rattle.std.specs.Option.{option_copied};
 ghost use Rattle.edit_journal.specs.Documents.{block_of, stamp_at, after, body, text_at as text_given};
 ghost use Rattle.edit_journal.specs.declared.edit.Edit.TheVariants as edit;
 ghost use Rattle.edit_book.specs.Books.{document, state_of, IsLawfulBook};
-ghost use Rattle.edit_book.specs.Replies.{entry_limit, refused_name as name_refusal, refused_anchor as anchor_refusal, refused_stamp as stamp_refusal, refused_entries as entries_refusal, refused_blocks as blocks_refusal, refused_lines as lines_refusal, refused_over as over, line_limit};
+ghost use Rattle.edit_journal.specs.Entries.{entry_limit};
+ghost use Rattle.edit_book.specs.Replies.{refused_name as name_refusal, refused_anchor as anchor_refusal, refused_stamp as stamp_refusal, refused_entries as entries_refusal, refused_blocks as blocks_refusal, refused_lines as lines_refusal, refused_over as over, line_limit};
 ghost use Rattle.edit_book.specs.Verdicts.{IsBriefOn};
 ghost use Rattle.edit_book.specs.declared.reply.Which.TheVariants as which;
 

@@ -33,7 +33,8 @@ impl Book {
         }
     }
 
-    fn fact_at<L: Ledger>(
+    /// The same without the version, or want of memory.
+    pub fn fact_at<L: Ledger>(
         &self,
         line: u32,
         steps: &mut Steps<L>,

@@ -4,7 +4,8 @@ ghost use Rattle.edit_journal.specs.Documents.{body};
 ghost use Rattle.edit_book.specs.Books.{document};
 ghost use Rattle.edit_book.specs.Replies as request;
 ghost use Rattle.edit_book.specs.Replies.{IsAnswer, IsGranted};
-ghost use Rattle.edit_book.specs.Verdicts.{IsVerdictOn, broken_line};
+ghost use Rattle.block_summary.specs.Verdicts.{broken_line};
+ghost use Rattle.edit_book.specs.Verdicts.{HasVerdict};
 
 use crate::{Book, Reply};
 use carriage_model::Verdict;
@@ -37,8 +38,9 @@ impl Book {
         })
     }
 
-    fn whole_verdict(&self) -> Result<Verdict, NoMemory>
-        ensures { IfOk result (IsVerdictOn self.now.opening.setting (body (document self.now))) }
+    /// The verdict on the document, whole. The only error is want of memory.
+    pub fn whole_verdict(&self) -> Result<Verdict, NoMemory>
+        ensures { IfOk result (HasVerdict self.now.opening.setting (body (document self.now))) }
     {
         verdict_of(self.alloc, &self.tree.root(), self.opening.setting.first)
     }
@@ -49,7 +51,7 @@ impl Book {
         verdict: &Verdict,
         steps: &mut Steps<L>,
     ) -> Result<Text, NoMemory>
-        ensures text { IfOk result (λ text. text ≡ broken_line self.now.opening.setting (body (document self.now)) verdict.now) }
+        ensures text { IfOk result (λ text. text ≡ broken_line self.now.opening.setting.first (body (document self.now)) verdict.now) }
         ensures steps { steps.new ≤ steps.old + 1 }
     {
         match verdict {

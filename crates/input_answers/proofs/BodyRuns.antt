@@ -22,7 +22,8 @@ use Rattle.carriage_model.specs.Verdict.{IsVerdict}
 use Rattle.input_answers.specs.declared.judge.Judgement.{Judgement}
 use Rattle.input_answers.specs.declared.outcome.Status.{Status}
 use Rattle.input_answers.specs.BodyRun.{ExecutesLine, IsJudgement}
-use Rattle.input_answers.specs.CheckReport.{IsCheckReport, body_of, broken_line, first_of, report_of, status_of}
+use Rattle.block_summary.specs.Verdicts.{broken_line}
+use Rattle.input_answers.specs.CheckReport.{IsCheckReport, body_of, first_of, report_of, status_of}
 
 -- a head isn't longer than its file
 pub head_len-le : (lines : List (List ℕ)) → head_len lines ≤ length lines
@@ -117,7 +118,7 @@ body_run-all profile with_loops lines head i carriage judgement is past here tel
 
 -- a report of what is made of the file is that of `check`
 pub check-report : (profile : Profile) (loops json : Bool) (names lines : List (List ℕ)) (text broken : List ℕ) (judgement : Judgement) (made : Status)
-    → IsJudgement loops profile names lines judgement → broken ≡ broken_line lines judgement.verdict
+    → IsJudgement loops profile names lines judgement → broken ≡ broken_line 1 lines judgement.verdict
     → text ≡ report_of json names broken judgement.verdict judgement.loops → made ≡ status_of judgement.verdict
     → IsCheckReport profile loops json names lines text made
 check-report profile loops json names lines text broken judgement made is is_broken is_text ended = record {
@@ -127,6 +128,6 @@ check-report profile loops json names lines text broken judgement made is is_bro
   reported =
       is_text
       ∙ ap (λ b. report_of json names b judgement.verdict judgement.loops) is_broken
-      ∙ ap (λ t. report_of json names (broken_line lines judgement.verdict) judgement.verdict t) is.loops;
+      ∙ ap (λ t. report_of json names (broken_line 1 lines judgement.verdict) judgement.verdict t) is.loops;
   ended = ended;
 }

@@ -1,8 +1,6 @@
-pub mod FoldedFronts
 pub mod Asks
 pub mod BlockCounts
-pub mod BlockFolds
-pub mod BlockLoops
+pub mod BookLoops
 pub mod BodyListings
 pub mod BodyRuns
 pub mod Dues
@@ -16,5 +14,4 @@ pub mod Openings
 pub mod PassesReports
 pub mod ScriptTexts
 pub mod StoppedRuns
-pub mod TextFolds
 pub mod TextRuns

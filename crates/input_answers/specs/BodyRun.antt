@@ -2,16 +2,20 @@
 use Rattle.std.specs.Prelude.{◌≡◌, ℕ, Bool, List, [], ◌∷◌, ◌++◌, length, drop, All}
 use Rattle.knit_base.specs.declared.instr.Read.{Read}
 use Rattle.knit_base.specs.declared.profile.Profile.{Profile}
+use Rattle.knit_base.specs.declared.setting.Setting.{Setting}
 use Rattle.knit_base.specs.Lines.{lines_of}
 use Rattle.line_cutter.specs.Cut.{HasGoodLines, IsGoodLine, StandsAt}
 use Rattle.knitout_reader.specs.Reading.{ReadsAs}
 use Rattle.carriage_model.specs.declared.carriage.Carriage.{Carriage}
 use Rattle.carriage_model.specs.declared.verdict.LoopFact.{LoopFact}
 use Rattle.carriage_model.specs.Carriage.{HasRun}
-use Rattle.carriage_model.specs.Loops.{loops_asked}
+use Rattle.carriage_model.specs.Loops.{loops_asked, loops_made}
+use Rattle.carriage_model.specs.State.{empty_state}
+use Rattle.block_summary.specs.Prepared.{AreReadings}
+use Rattle.block_summary.specs.Verdicts.{IsVerdictOn}
 use Rattle.input_answers.specs.declared.judge.Judgement.{Judgement}
 use Rattle.input_answers.specs.declared.one_pass.Run.{Run}
-use Rattle.input_answers.specs.CheckReport.{IsJudged}
+use Rattle.input_answers.specs.CheckReport.{body_of, setting_for}
 
 -- the carriage executed this line as one more of those that it had executed
 pub record ExecutesLine (profile : Profile) (names : List (List ℕ)) (line : List ℕ) (old new : Carriage) : Type 0 where
@@ -31,11 +35,21 @@ pub record PassesOver (text : List ℕ) (start count : ℕ) (old new : Carriage)
   pub ran : (p : Profile) (with_loops : Bool) (first : ℕ) (before more : List Read) → length more ≡ count
       → HasRun p with_loops first before old → HasRun p with_loops first (before ++ more) new
 
--- what one carriage makes of the file's lines, with the loops made where these are asked for
-pub record IsJudgement (with_loops : Bool) (profile : Profile) (names lines : List (List ℕ)) (judgement : Judgement) : Type 0 where
+-- the verdict on these lines, with the loops made where these are asked for
+pub record IsJudgementOn (with_loops : Bool) (setting : Setting) (lines : List (List ℕ)) (judgement : Judgement) : Type 0 where
   pub made : List LoopFact
-  pub judged : IsJudged profile names lines judgement.verdict made
+  pub judged : IsVerdictOn setting lines judgement.verdict made
   pub loops : judgement.loops ≡ loops_asked with_loops made
+
+-- what one carriage makes of the file's lines, with the loops made where these are asked for
+abbrev pub IsJudgement : Bool → Profile → List (List ℕ) → List (List ℕ) → Judgement → Type 0
+IsJudgement with_loops profile names lines judgement = IsJudgementOn with_loops (setting_for profile names lines) (body_of lines) judgement
+
+-- the loops that these lines make
+pub record AreLoopsOn (setting : Setting) (lines : List (List ℕ)) (loops : List LoopFact) : Type 0 where
+  pub readings : List Read
+  pub read : AreReadings setting.profile setting.declared lines readings
+  pub made : loops ≡ loops_made setting.profile empty_state setting.first readings
 
 -- the lines of the text are good and so many, and this is what one carriage makes of them
 pub record IsRun (with_loops : Bool) (profile : Profile) (names : List (List ℕ)) (text : List ℕ) (run : Run) : Type 0 where

@@ -1,17 +1,13 @@
 -- What `check` reports of a file.
-use Rattle.std.specs.Prelude.{◌≡◌, ℕ, ◌+◌, ◌-◌, Bool, true, false, List, [], length, drop, Option, unwrap_or, slice_get}
-use Rattle.std.specs.List.{AllZip}
-use Rattle.knit_base.specs.declared.instr.Read.{Read}
+use Rattle.std.specs.Prelude.{◌≡◌, ℕ, ◌+◌, Bool, true, false, List, drop, Option}
 use Rattle.knit_base.specs.declared.profile.Profile.{Profile}
+use Rattle.knit_base.specs.declared.setting.Setting.{Setting}
 use Rattle.knitout_reader.specs.Head.{head_len}
-use Rattle.knitout_reader.specs.Reading.{ReadsAs}
 use Rattle.carriage_model.specs.declared.verdict.Verdict.{Verdict}
 use Rattle.carriage_model.specs.declared.verdict.Verdict.TheVariants as verdict
 use Rattle.carriage_model.specs.declared.verdict.LoopFact.{LoopFact}
-use Rattle.carriage_model.specs.State.{empty_state}
-use Rattle.carriage_model.specs.Run.{run}
-use Rattle.carriage_model.specs.Loops.{loops_made, loops_asked}
-use Rattle.carriage_model.specs.Verdict.{IsVerdict}
+use Rattle.carriage_model.specs.Loops.{loops_asked}
+use Rattle.block_summary.specs.Verdicts.{IsVerdictOn, broken_line}
 use Rattle.verdict_report.specs.VerdictText.{verdict_text}
 use Rattle.verdict_report.specs.VerdictJson.{verdict_json}
 use Rattle.input_answers.specs.declared.outcome.Status.{Status}
@@ -24,22 +20,13 @@ body_of lines = drop (head_len lines) lines
 abbrev pub first_of : List (List ℕ) → ℕ
 first_of lines = head_len lines + 1
 
--- What one carriage makes of the file's lines, run one by one from empty beds: each line of the body has the reading that the
--- grammar gives it, and this is the verdict on the run of these readings, and the loops that it makes.
-pub record IsJudged (profile : Profile) (names lines : List (List ℕ)) (result : Verdict) (loops : List LoopFact) : Type 0 where
-  pub readings : List Read
-  pub read : AllZip (ReadsAs profile names) (body_of lines) readings
-  pub made : loops ≡ loops_made profile empty_state (first_of lines) readings
-  pub judged : IsVerdict (length (body_of lines)) result (run profile empty_state (first_of lines) readings) loops
+-- what the body is read by: the machine, the carriers, and the number of the body's first line
+abbrev pub setting_for : Profile → List (List ℕ) → List (List ℕ) → Setting
+setting_for profile names lines = record { profile = profile; declared = names; first = first_of lines }
 
--- the line with this number
-abbrev pub numbered_line : List (List ℕ) → ℕ → List ℕ
-numbered_line lines number = unwrap_or (slice_get lines (number - 1)) []
-
--- the line at which a verdict is broken
-abbrev pub broken_line : List (List ℕ) → Verdict → List ℕ
-broken_line lines (verdict.Sound final) = []
-broken_line lines (verdict.Broken fault) = numbered_line lines fault.line
+-- the verdict on the file's body, and the loops that it makes: what one carriage makes of its lines, run one by one from empty beds
+abbrev pub IsJudged : Profile → List (List ℕ) → List (List ℕ) → Verdict → List LoopFact → Type 0
+IsJudged profile names lines result loops = IsVerdictOn (setting_for profile names lines) (body_of lines) result loops
 
 -- the report of a verdict, as text or as JSON
 abbrev pub report_of : Bool → List (List ℕ) → List ℕ → Verdict → Option (List LoopFact) → List ℕ
@@ -57,5 +44,5 @@ pub record IsCheckReport (profile : Profile) (loops json : Bool) (names lines : 
   pub verdict_given : Verdict
   pub made : List LoopFact
   pub judged : IsJudged profile names lines verdict_given made
-  pub reported : text ≡ report_of json names (broken_line lines verdict_given) verdict_given (loops_asked loops made)
+  pub reported : text ≡ report_of json names (broken_line 1 lines verdict_given) verdict_given (loops_asked loops made)
   pub ended : result ≡ status_of verdict_given

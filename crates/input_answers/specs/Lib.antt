@@ -1,4 +1,3 @@
-pub mod Ahead
 pub mod Answers
 pub mod Asked
 pub mod BodyRun
@@ -7,7 +6,6 @@ pub mod Codes
 pub mod Due
 pub mod DueLive
 pub mod DueMade
-pub mod Folds
 pub mod ListingRun
 pub mod Openings
 pub mod PassesReport

@@ -3,12 +3,9 @@ ghost use Rattle.std.specs.Prelude.{◌≡◌, ◌≤◌, true, All, List, ℕ, 
 ghost use Rattle.knit_base.specs.Lines.{lines_of};
 ghost use Rattle.line_cutter.specs.Cut.{IsGoodLine};
 ghost use Rattle.machine_profile.specs.Bounds.{IsBlockSize};
-ghost use Rattle.input_answers.specs.Ahead.{IsFront};
 ghost use Rattle.input_answers.specs.Asked.{reads_file};
 ghost use Rattle.input_answers.specs.Due.{Due, Fits, IsSizeRefusal, cut_refusal, head_refusal};
 
-use crate::ahead::Front;
-use crate::block_pass::check_blocks_in_one_pass;
 use crate::body::Body;
 use crate::ending::Ending;
 use crate::judge::{Style, judge};
@@ -17,12 +14,11 @@ use crate::outcome::Status;
 use crate::passes::{passes_by_lines, passes_in_one_pass};
 use crate::plan::Plan;
 use crate::text_pass::text_in_one_pass;
-use check_workers::cut_lines;
 use command_words::Command;
 use knit_base::{Lines, NoMemory};
 use knitout_reader::HeadFault;
 use knitout_writer::canonical_text;
-use line_cutter::CutFault;
+use line_cutter::{CutFault, cut_buffer};
 use std::alloc::Global;
 use std::thread::Threads;
 use verdict_report::Refusal;
@@ -32,47 +28,37 @@ const BODY_LIMIT: u32 = 1_048_576;
 
 const BLOCK_LIMIT: u32 = 65_536;
 
-/// What is due for a file that was read whole. One pass over the bytes is tried first, which settles nearly every file in less
-/// time and memory; what that doesn't settle goes the general way: the lines are cut, the head is read, and then the body is
-/// judged or written.
+/// What is due for a file that was read whole. One pass over the bytes is tried first where the words ask for no blocks, which settles
+/// nearly every file in less time and memory; what that doesn't settle goes the general way: the lines are cut, the head is read, and
+/// then the body is judged or written.
 pub fn answer<R: Threads + Sync>(
     rt: &R,
     alloc: Global,
     plan: &Plan,
     input: Vec<u8>,
-    front: Option<&Front>,
 ) -> Result<Ending, NoMemory>
     requires size { length input.items ≤ 16777216 }
     requires reads { reads_file plan.now.command ≡ true }
-    requires front { IfSome front (λ front. IsFront front.now) }
     ensures { IfOk result (λ ending. Due plan.now.command plan.now.chosen input.items ending.text.items ending.status) }
 {
-    match answer_in_one_pass(rt, alloc, plan, &input, front)? {
+    match answer_in_one_pass(alloc, plan, &input)? {
         Some(ending) => Ok(ending),
         None => answer_by_lines(rt, alloc, plan, input),
     }
 }
 
 // The same, in one pass over the bytes. `None` says that this doesn't settle the file.
-fn answer_in_one_pass<R: Threads + Sync>(
-    rt: &R,
-    alloc: Global,
-    plan: &Plan,
-    input: &[u8],
-    front: Option<&Front>,
-) -> Result<Option<Ending>, NoMemory>
-    requires size { length input.now ≤ 16777216 }
-    requires front { IfSome front (λ front. IsFront front.now) }
+fn answer_in_one_pass(alloc: Global, plan: &Plan, input: &[u8]) -> Result<Option<Ending>, NoMemory>
+    requires { length input.now ≤ 16777216 }
     ensures { IfOk result (λ found. IfSome found (λ ending.
         Due plan.now.command plan.now.chosen input.now ending.text.items ending.status)) }
 {
     match plan.command {
         Command::Check { loops, json } => {
-            let style = Style { loops, json };
             if plan.by_blocks {
-                return check_blocks_in_one_pass(rt, alloc, style, plan, input, front);
+                return Ok(None);
             }
-            check_in_one_pass(alloc, style, plan, input)
+            check_in_one_pass(alloc, Style { loops, json }, plan, input)
         }
         Command::Text => text_in_one_pass(alloc, plan, input),
         Command::Passes => {
@@ -96,7 +82,7 @@ pub fn answer_by_lines<R: Threads + Sync>(
     requires reads { reads_file plan.now.command ≡ true }
     ensures { IfOk result (λ ending. Due plan.now.command plan.now.chosen input.items ending.text.items ending.status) }
 {
-    match cut_lines(rt, alloc, input) {
+    match cut_buffer(alloc, input) {
         Ok(lines) => answer_lines(rt, alloc, plan, lines),
         Err(fault) => Ending::refusal(alloc, refusal_of_lines(fault)?, Status::BadInput),
     }
@@ -114,6 +100,7 @@ fn answer_lines<R: Threads + Sync>(
     ensures { IfOk result (λ ending. (input : List ℕ) → lines ≡ lines_of input
         → Due plan.now.command plan.now.chosen input ending.text.items ending.status) }
 {
+    let lines = lines.into_shared()?;
     match Body::of(alloc, lines) {
         Ok(body) => answer_body(rt, alloc, plan, &body),
         Err(fault) => Ending::refusal(alloc, refusal_of_head(fault)?, Status::BadInput),

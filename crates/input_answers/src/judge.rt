@@ -1,11 +1,13 @@
 //! The verdict on a file, and its report.
 ghost use Rattle.std.specs.Prelude.{◌≡◌, ◌<◌, ◌+◌, ◌^◌, length, IfOk, OnOk};
 ghost use Rattle.carriage_model.specs.Carriage.{IsRunning, next_line, profile_of};
+ghost use Rattle.block_summary.specs.Verdicts.{broken_line, numbered_line};
 ghost use Rattle.input_answers.specs.BodyRun.{ExecutesLine, IsJudgement};
-ghost use Rattle.input_answers.specs.CheckReport.{IsCheckReport, broken_line, numbered_line, report_of, status_of};
+ghost use Rattle.input_answers.specs.CheckReport.{IsCheckReport, body_of, report_of, status_of};
+ghost use Rattle.input_answers.specs.Due.{Fits};
 
 use crate::body::Body;
-use crate::by_blocks::judge_by_blocks;
+use crate::by_book::judge_by_book;
 use crate::ending::Ending;
 use crate::outcome::Status;
 use crate::plan::Plan;
@@ -38,6 +40,7 @@ pub fn judge<R: Threads + Sync>(
     plan: &Plan,
     body: &Body,
 ) -> Result<Ending, NoMemory>
+    requires { Fits plan.now.chosen.block (length (body_of body.now.lines)) }
     ensures { IfOk result (λ ending. IsCheckReport plan.now.chosen.profile style.loops style.json body.now.head.declared body.now.lines
         ending.text.items ending.status) }
 {
@@ -46,7 +49,7 @@ pub fn judge<R: Threads + Sync>(
     report(alloc, style.json, &judgement, &body.head.declared, broken)
 }
 
-/// What the lines behind the head make: by blocks, where the words say how many lines these have, and else by one carriage.
+/// What the lines behind the head make: by the book, where the words say how many lines its blocks have, and else by one carriage.
 pub(crate) fn judge_body<R: Threads + Sync>(
     rt: &R,
     alloc: Global,
@@ -54,10 +57,11 @@ pub(crate) fn judge_body<R: Threads + Sync>(
     plan: &Plan,
     body: &Body,
 ) -> Result<Judgement, NoMemory>
+    requires { Fits plan.now.chosen.block (length (body_of body.now.lines)) }
     ensures { IfOk result (λ judgement. IsJudgement with_loops plan.now.chosen.profile body.now.head.declared body.now.lines judgement) }
 {
     if plan.by_blocks {
-        return judge_by_blocks(rt, alloc, with_loops, plan, body);
+        return judge_by_book(rt, alloc, with_loops, plan, body);
     }
     run_body(alloc, with_loops, plan, body)
 }
@@ -103,7 +107,7 @@ pub(crate) fn execute_line(
 
 /// The line at which the verdict is broken, or no text.
 pub(crate) fn line_of<'a>(lines: &'a Lines, verdict: &Verdict) -> &'a str
-    ensures { result.now ≡ broken_line lines.now verdict.now }
+    ensures { result.now ≡ broken_line 1 lines.now verdict.now }
 {
     match verdict {
         Verdict::Sound(_) => "",
@@ -113,7 +117,7 @@ pub(crate) fn line_of<'a>(lines: &'a Lines, verdict: &Verdict) -> &'a str
 
 // The line with this number, from 1, or no text where there is none.
 fn numbered_line(lines: &Lines, number: u32) -> &str
-    ensures { result.now ≡ numbered_line lines.now number }
+    ensures { result.now ≡ numbered_line 1 lines.now number }
 {
     match lines.get(number.saturating_sub(1)) {
         Some(line) => line,

@@ -2,18 +2,14 @@
 //!
 //! Promises that the text and the status of an answer are those that are due: for a file whose verdict, canonical text or passes are
 //! asked for (`specs/Due`), for a made program (`specs/DueMade`), and for a script, whose sessions edit one document, each in a thread of
-//! its own (`specs/DueLive`). What the words ask for is in `specs/Asked`. `read_ahead` reads an input as `read_input` of `knit_ports` does, while other threads fold its
-//! first lines (`specs/Ahead`); else no source is touched here, and no sink. Below it stand all crates of the project but `check_main`.
+//! its own (`specs/DueLive`). What the words ask for is in `specs/Asked`. No source is touched here, and no sink. Below it stand all
+//! crates of the project but `check_main`.
 #![tactic(auto)]
 
-mod ahead;
 mod answers;
-mod block_loops;
-mod block_pass;
 mod body;
-mod by_blocks;
+mod by_book;
 mod ending;
-mod fold;
 mod front;
 mod judge;
 mod listed_run;
@@ -31,7 +27,6 @@ mod tallied_run;
 mod text_pass;
 mod usual;
 
-pub use ahead::{Front, Input, read_ahead};
 pub use answers::{answer, answer_by_lines};
 pub use ending::{Answer, Ending};
 pub use judge::Style;

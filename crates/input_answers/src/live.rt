@@ -17,12 +17,12 @@ use crate::ending::Answer;
 use crate::opening::{Opened, open};
 use crate::outcome::{Outcome, Status};
 use crate::plan::Plan;
-use check_workers::cut_lines;
 use edit_book::{Book, Replies};
 use edit_sessions::run_all;
 use knit_base::{Lines, NoMemory, Steps};
 use knit_ports::Gate;
 use knitout_reader::{Head, read_head};
+use line_cutter::cut_buffer;
 use script_reader::{Script, ScriptFault, SessionScripts, read_script};
 use std::alloc::Global;
 use std::marker::Brand;
@@ -43,7 +43,7 @@ pub fn answer_live<R: Threads + Wait + Sync, G: Gate + Sync>(
     requires { length input.items ≤ 16777216 }
     ensures { IfOk result (IsDueLive plan.now.chosen input.items) }
 {
-    match cut_lines(rt, alloc, input) {
+    match cut_buffer(alloc, input) {
         Ok(lines) => answer_lines(rt, alloc, plan, lines, gate),
         Err(fault) => Answer::refusal(alloc, refusal_of_lines(fault)?, Status::BadInput),
     }

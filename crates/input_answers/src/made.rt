@@ -135,6 +135,7 @@ fn made_of_body<R: Threads + Sync>(
     plan: &Plan,
     body: &Body,
 ) -> Result<Ending, NoMemory>
+    requires { Fits plan.now.chosen.block (length (body_of body.now.lines)) }
     ensures report { IfOk result (λ ending. IsMadeReport plan.now.chosen.profile plan.now.chosen.block body.now.head.declared body.now.lines ending.text.items) }
     ensures status { IfOk result (λ ending. ending.status ≡ Done) }
 {

@@ -12,7 +12,8 @@ ghost use Rattle.knitout_reader.specs.Usual.{AreByteNames};
 ghost use Rattle.carriage_model.specs.Carriage.{IsRunning, is_stopped, next_line, profile_of};
 ghost use Rattle.command_words.specs.declared.command.Command.{Command};
 ghost use Rattle.input_answers.specs.BodyRun.{ExecutesAt, IsRun, PassesOver};
-ghost use Rattle.input_answers.specs.CheckReport.{body_of, broken_line, numbered_line};
+ghost use Rattle.block_summary.specs.Verdicts.{broken_line, numbered_line};
+ghost use Rattle.input_answers.specs.CheckReport.{body_of};
 ghost use Rattle.input_answers.specs.Due.{Due, Fits};
 
 use crate::answers::refusal_of_size;
@@ -200,7 +201,7 @@ fn execute_any_at(
 /// The line at which the verdict is broken, or no text. `None` where it isn't found.
 pub(crate) fn line_of<'a>(text: &'a [u8], verdict: &Verdict) -> Option<&'a str>
     requires { length text.now ≤ 16777216 }
-    ensures { IfSome result (λ line. line.now ≡ broken_line (lines_of text.now) verdict.now) }
+    ensures { IfSome result (λ line. line.now ≡ broken_line 1 (lines_of text.now) verdict.now) }
 {
     match verdict {
         Verdict::Sound(_) => Some(""),
@@ -211,7 +212,7 @@ pub(crate) fn line_of<'a>(text: &'a [u8], verdict: &Verdict) -> Option<&'a str>
 // The line with this number, from 1. `None` where it isn't found.
 fn numbered_line<'a>(text: &'a [u8], number: u32) -> Option<&'a str>
     requires { length text.now ≤ 16777216 }
-    ensures { IfSome result (λ line. line.now ≡ numbered_line (lines_of text.now) number) }
+    ensures { IfSome result (λ line. line.now ≡ numbered_line 1 (lines_of text.now) number) }
 {
     let start = place_behind(text, number.saturating_sub(1))?;
     if start >= text.len() {

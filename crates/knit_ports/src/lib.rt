@@ -2,7 +2,7 @@
 //!
 //! Promises that a `Source` gives the bytes that are left to it and a `Sink` takes the bytes that it is handed, where they
 //! tell their bytes, and that a call fails only where the object's count of faults rose. `read_input` reads a whole input,
-//! `read_on` what is left of one, and `write_report` writes a whole report over them.
+//! and `write_report` writes a whole report over them.
 //! Definitions: `specs/Faults` (counts of faults), `specs/Whole` (a whole input and a whole report), `specs/Memory` (what
 //! the sources and sinks in memory hold) and `specs/Edge` (the adapters of std's readers and writers). Below it stand std
 //! and `knit_base`.
@@ -27,5 +27,5 @@ pub use memory_sink::MemorySink;
 pub use memory_source::MemorySource;
 pub use port::{Failed, Sink, Source};
 pub use reader::ReaderSource;
-pub use whole::{InputFault, read_input, read_on, with_room, write_report};
+pub use whole::{InputFault, read_input, write_report};
 pub use writer::WriterSink;

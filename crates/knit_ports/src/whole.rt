@@ -58,9 +58,8 @@ pub fn read_input<S: Source>(
     Ok(bytes)
 }
 
-/// Reads on behind the bytes that were read, until the source is at its end or there is a byte more than the limit. The same is promised of what is read here as of
-/// a whole input.
-pub fn read_on<S: Source>(
+// Reads on behind the bytes that were read, until the source is at its end or there is a byte more than the limit.
+fn read_on<S: Source>(
     alloc: Global,
     source: &mut S,
     limit: usize,
@@ -87,9 +86,9 @@ pub fn read_on<S: Source>(
     Ok(())
 }
 
-/// No bytes yet, and room for so many, if there is memory for them, so that none of them is copied when more come. The system gives a page of room
-/// only when it is written to.
-pub fn with_room(alloc: Global, room: usize) -> Vec<u8>
+// No bytes yet, and room for so many, if there is memory for them, so that none of them is copied when more come. The system gives a
+// page of room only when it is written to.
+fn with_room(alloc: Global, room: usize) -> Vec<u8>
     ensures { result.items ≡ [] }
 {
     match Vec::with_capacity(alloc, room) {

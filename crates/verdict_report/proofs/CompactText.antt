@@ -16,8 +16,9 @@ use Rattle.carriage_model.specs.declared.verdict.LoopFact.{LoopFact}
 use Rattle.carriage_model.specs.declared.verdict.Stack.{Stack}
 use Rattle.carriage_model.specs.declared.verdict.Verdict.{Verdict}
 use Rattle.carriage_model.specs.declared.verdict.Verdict.TheVariants.{Sound, Broken}
+use Rattle.carriage_model.specs.Verdict.{held_on}
 use Rattle.verdict_report.specs.Carriers.{carriers_in}
-use Rattle.verdict_report.specs.VerdictText.{Text, held_of}
+use Rattle.verdict_report.specs.VerdictText.{Text}
 use Rattle.verdict_report.specs.VerdictJson.{broken_value, count_value, list_value, loop_value, name_value, set_value, sound_value, stack_value, verdict_json, with_loops}
 use Rattle.verdict_report.specs.JsonText.{broken_back, broken_front, json_line, list_text, loop_json, loop_place, loops_member, more_text, sound_back, sound_front, stack_json, string_of}
 use Rattle.verdict_report.proofs.PlainText.{dir_plain, needle_plain, quoted-plain, rack_plain, rule_plain}
@@ -136,8 +137,8 @@ sound_is : (names : List Text) (final : Final) (facts : Option (List LoopFact))
 sound_is names final facts =
     ap (λ t. sound_front (map quoted names) final ++ (loops_member (map quoted names) facts ++ t)) (back_is final)
     ∙ ap (λ t. sound_front (map quoted names) final ++ t) (made_is names facts (sound_rest final))
-    ∙ front_shape (decimal (held_of final.stacks)) (set_list names final.hook) (set_list names final.ins) (decimal final.lines) (decimal final.made) (members_text true (with_loops names facts (sound_rest final)))
-    ∙ ap₂ (λ (hook ins : Text). 123 ∷ (quoted (codes "held") ++ 58 ∷ (decimal (held_of final.stacks) ++ 44 ∷ (quoted (codes "hook") ++ 58 ∷ (hook ++ 44 ∷ (quoted (codes "in") ++ 58 ∷ (ins
+    ∙ front_shape (decimal (held_on final.stacks)) (set_list names final.hook) (set_list names final.ins) (decimal final.lines) (decimal final.made) (members_text true (with_loops names facts (sound_rest final)))
+    ∙ ap₂ (λ (hook ins : Text). 123 ∷ (quoted (codes "held") ++ 58 ∷ (decimal (held_on final.stacks) ++ 44 ∷ (quoted (codes "hook") ++ 58 ∷ (hook ++ 44 ∷ (quoted (codes "in") ++ 58 ∷ (ins
     ++ 44 ∷ (quoted (codes "lines") ++ 58 ∷ (decimal final.lines ++ 44 ∷ (quoted (codes "made") ++ 58 ∷ (decimal final.made ++ members_text true (with_loops names facts (sound_rest final)))))))))))))
     (set_is names final.hook) (set_is names final.ins)
 

@@ -12,8 +12,9 @@ use Rattle.carriage_model.specs.declared.verdict.LoopFact.{LoopFact}
 use Rattle.carriage_model.specs.declared.verdict.Stack.{Stack}
 use Rattle.carriage_model.specs.declared.verdict.Verdict.{Verdict}
 use Rattle.carriage_model.specs.declared.verdict.Verdict.TheVariants.{Sound, Broken}
+use Rattle.carriage_model.specs.Verdict.{held_on}
 use Rattle.verdict_report.specs.Carriers.{carriers_in}
-use Rattle.verdict_report.specs.VerdictText.{Text, held_of, labelled}
+use Rattle.verdict_report.specs.VerdictText.{Text, labelled}
 
 -- a comma and the text of the item
 abbrev pub next_text : {A : Type 0} → (A → Text) → A → Text
@@ -68,7 +69,7 @@ loops_member strings (Some facts) = list_member (codes ",\"made_loops\":") (loop
 
 -- the members of a sound verdict before the loops made
 abbrev pub sound_front : List Text → Final → Text
-sound_front strings final = labelled (codes "{\"held\":") (held_of final.stacks) ++ (set_member (codes ",\"hook\":") strings final.hook
+sound_front strings final = labelled (codes "{\"held\":") (held_on final.stacks) ++ (set_member (codes ",\"hook\":") strings final.hook
     ++ (set_member (codes ",\"in\":") strings final.ins ++ (labelled (codes ",\"lines\":") final.lines ++ labelled (codes ",\"made\":") final.made)))
 
 -- the members of a sound verdict behind the loops made

@@ -1,7 +1,6 @@
 -- The lines of a document that sessions edit: what each session was answered, the journal, and the verdict at its end.
 use Rattle.std.specs.Prelude.{◌≡◌, ℕ, ◌+◌, Option, None, Some, List, [], ◌∷◌, ◌++◌, length, flat_map, codes, decimal}
 use Rattle.carriage_model.specs.declared.verdict.Brief.{Brief}
-use Rattle.carriage_model.specs.declared.verdict.Brief.TheVariants as brief
 use Rattle.carriage_model.specs.declared.verdict.LoopFact.{LoopFact}
 use Rattle.carriage_model.specs.declared.verdict.Verdict.{Verdict}
 use Rattle.edit_journal.specs.declared.edit.Anchor.{Anchor}
@@ -17,13 +16,9 @@ use Rattle.edit_book.specs.declared.reply.Reply.{Reply}
 use Rattle.edit_book.specs.declared.reply.Reply.TheVariants as reply
 use Rattle.edit_book.specs.declared.reply.Which.{Which}
 use Rattle.edit_book.specs.declared.reply.Which.TheVariants as which
-use Rattle.edit_book.specs.Verdicts.{IsVerdictOn, broken_line, setting_of}
-use Rattle.verdict_report.specs.VerdictText.{Text, broken_brief, end_text, labelled, loop_text, sound_brief}
-
--- a verdict in short
-abbrev pub told_text : Brief → Text
-told_text (brief.Sound lines made held rack) = sound_brief lines made held rack.0
-told_text (brief.Broken fault) = broken_brief fault
+use Rattle.block_summary.specs.Verdicts.{broken_line}
+use Rattle.edit_book.specs.Verdicts.{HasVerdict, setting_of}
+use Rattle.verdict_report.specs.VerdictText.{Text, brief_text, end_text, labelled, loop_text}
 
 -- a block as a session names it
 abbrev pub block_name_text : BlockName → Text
@@ -45,7 +40,7 @@ abbrev pub at_block : Text → ℕ → ℕ → Text
 at_block word version block = labelled word version ++ labelled (codes " block ") block
 
 abbrev pub accepted_text : ℕ → ℕ → Brief → Text
-accepted_text version block told = at_block (codes "accepted version ") version block ++ (codes " " ++ (told_text told ++ codes "\n"))
+accepted_text version block told = at_block (codes "accepted version ") version block ++ (codes " " ++ (brief_text told ++ codes "\n"))
 
 abbrev pub shown_text : ℕ → ℕ → ℕ → ℕ → List Text → Text
 shown_text version block stamp first lines =
@@ -139,5 +134,5 @@ live_text names replies entries line verdict = sessions_text names 0 replies ++ 
 -- the text tells these replies, this journal, and the verdict on the document that it gives: what one carriage makes of its lines
 pub record IsLiveReport (opening : Opening) (entries : List Entry) (replies : List (List Reply)) (text : Text) : Type 0 where
   pub verdict_given : Verdict
-  pub judged : let d = document_of opening entries in IsVerdictOn (setting_of opening d) (body d) verdict_given
-  pub reported : text ≡ live_text opening.setting.declared replies entries (let d = document_of opening entries in broken_line (setting_of opening d) (body d) verdict_given) verdict_given
+  pub judged : let d = document_of opening entries in HasVerdict (setting_of opening d) (body d) verdict_given
+  pub reported : text ≡ live_text opening.setting.declared replies entries (let d = document_of opening entries in broken_line (setting_of opening d).first (body d) verdict_given) verdict_given

@@ -1,14 +1,9 @@
 -- The lines of what is made of a made program.
 use Rattle.std.specs.Prelude.{ℕ, ◌++◌, codes}
 use Rattle.carriage_model.specs.declared.verdict.Verdict.{Verdict}
-use Rattle.carriage_model.specs.declared.verdict.Verdict.TheVariants.{Sound, Broken}
+use Rattle.carriage_model.specs.Verdict.{brief_of}
 use Rattle.verdict_report.specs.PassesText.{counts_text}
-use Rattle.verdict_report.specs.VerdictText.{Text, broken_brief, held_of, labelled, sound_brief}
-
--- a verdict in short
-abbrev pub brief_text : Verdict → Text
-brief_text (Sound final) = sound_brief final.lines final.made (held_of final.stacks) final.rack.0
-brief_text (Broken fault) = broken_brief fault
+use Rattle.verdict_report.specs.VerdictText.{Text, brief_text, labelled}
 
 -- how many lines and blocks were made
 abbrev pub sizes_text : ℕ → ℕ → Text
@@ -17,4 +12,4 @@ sizes_text lines blocks = labelled (codes "maker lines ") lines ++ (labelled (co
 -- the sizes, the verdict in short, and how many passes, operations and windows there are
 abbrev pub made_text : ℕ → ℕ → Verdict → ℕ → ℕ → ℕ → Text
 made_text lines blocks verdict passes operations windows =
-    sizes_text lines blocks ++ (brief_text verdict ++ (codes "\n" ++ counts_text passes operations windows))
+    sizes_text lines blocks ++ (brief_text (brief_of verdict) ++ (codes "\n" ++ counts_text passes operations windows))

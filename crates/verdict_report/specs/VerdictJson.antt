@@ -11,8 +11,9 @@ use Rattle.carriage_model.specs.declared.verdict.LoopFact.{LoopFact}
 use Rattle.carriage_model.specs.declared.verdict.Stack.{Stack}
 use Rattle.carriage_model.specs.declared.verdict.Verdict.{Verdict}
 use Rattle.carriage_model.specs.declared.verdict.Verdict.TheVariants.{Sound, Broken}
+use Rattle.carriage_model.specs.Verdict.{held_on}
 use Rattle.verdict_report.specs.Carriers.{carriers_in, name_of}
-use Rattle.verdict_report.specs.VerdictText.{Text, held_of}
+use Rattle.verdict_report.specs.VerdictText.{Text}
 
 -- a list, item by item
 abbrev pub list_value : {A : Type 0} → (A → Data) → List A → Data
@@ -50,7 +51,7 @@ with_loops names (Some facts) rest = member (codes "made_loops") (list_value (lo
 
 -- what a sound program leaves
 abbrev pub sound_value : List Text → Final → Option (List LoopFact) → Data
-sound_value names final facts = object (member (codes "held") (count_value (held_of final.stacks))
+sound_value names final facts = object (member (codes "held") (count_value (held_on final.stacks))
     (member (codes "hook") (set_value names final.hook)
     (member (codes "in") (set_value names final.ins)
     (member (codes "lines") (count_value final.lines)

@@ -1,14 +1,17 @@
 -- The lines of a verdict as text.
-use Rattle.std.specs.Prelude.{ℕ, ℤ, Option, None, Some, List, ◌++◌, length, flat_map, sum_by, codes, decimal}
+use Rattle.std.specs.Prelude.{ℕ, ℤ, Option, None, Some, List, ◌++◌, flat_map, codes, decimal}
 use Rattle.knit_base.specs.Spelling.{dir_word, needle_text, rack_text, rule_name}
 use Rattle.knit_base.specs.declared.rule.Fault.{Fault}
 use Rattle.knit_base.specs.declared.rule.Rule.{Rule}
 use Rattle.knit_base.specs.declared.yarns.CarrierNo.{CarrierNo}
+use Rattle.carriage_model.specs.declared.verdict.Brief.{Brief}
+use Rattle.carriage_model.specs.declared.verdict.Brief.TheVariants as brief
 use Rattle.carriage_model.specs.declared.verdict.Final.{Final}
 use Rattle.carriage_model.specs.declared.verdict.LoopFact.{LoopFact}
 use Rattle.carriage_model.specs.declared.verdict.Stack.{Stack}
 use Rattle.carriage_model.specs.declared.verdict.Verdict.{Verdict}
 use Rattle.carriage_model.specs.declared.verdict.Verdict.TheVariants.{Sound, Broken}
+use Rattle.carriage_model.specs.Verdict.{held_on}
 use Rattle.verdict_report.specs.Carriers.{carriers_in, name_of}
 
 -- a text, as its bytes
@@ -31,10 +34,6 @@ line_word line = codes " " ++ decimal line
 abbrev pub lines_text : List ℕ → Text
 lines_text lines = flat_map line_word lines
 
--- how many loops the needles hold
-abbrev pub held_of : List Stack → ℕ
-held_of stacks = sum_by (λ stack. length stack.loops) stacks
-
 -- a label and a number
 abbrev pub labelled : Text → ℕ → Text
 labelled label number = label ++ decimal number
@@ -51,6 +50,11 @@ rule_word rule = codes " rule " ++ rule_name rule
 -- the line that is at fault, the rule that it breaks, and the token at which it does
 abbrev pub broken_brief : Fault → Text
 broken_brief fault = labelled (codes "broken line ") fault.line ++ (rule_word fault.reason.rule ++ labelled (codes " at ") fault.reason.at)
+
+-- a verdict in short
+abbrev pub brief_text : Brief → Text
+brief_text (brief.Sound lines made held rack) = sound_brief lines made held rack.0
+brief_text (brief.Broken fault) = broken_brief fault
 
 -- the line of a set of carriers, which begins with this label
 abbrev pub set_text : Text → List Text → ℕ → Text
@@ -76,7 +80,7 @@ loops_text names (Some facts) = flat_map (loop_text names) facts
 -- what the program leaves, with the carriers and the loops in place
 abbrev pub sound_text : List Text → Final → Text
 sound_text names final =
-    sound_brief final.lines final.made (held_of final.stacks) final.rack.0 ++ (codes "\n" ++ (set_text (codes "in:") names final.ins
+    sound_brief final.lines final.made (held_on final.stacks) final.rack.0 ++ (codes "\n" ++ (set_text (codes "in:") names final.ins
     ++ (set_text (codes "hook:") names final.hook ++ flat_map stack_text final.stacks)))
 
 -- the broken rule, and the line as it is

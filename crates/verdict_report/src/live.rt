@@ -1,7 +1,8 @@
 //! The report on a document that sessions edited.
 ghost use Rattle.std.specs.Prelude.{◌≡◌, ◌++◌, ◌+◌, ◌≤◌, length, IfOk, OnOk, OnErr, List, ℕ};
 ghost use Rattle.edit_journal.specs.Documents.{body, document_of};
-ghost use Rattle.edit_book.specs.Verdicts.{IsVerdictOn, broken_line};
+ghost use Rattle.block_summary.specs.Verdicts.{broken_line};
+ghost use Rattle.edit_book.specs.Verdicts.{HasVerdict};
 ghost use Rattle.verdict_report.specs.LiveText.{IsLiveReport, final_text};
 
 use crate::entries::append_journal;
@@ -42,7 +43,7 @@ struct Ending {
 
 // What the document comes to at its version.
 fn ending_of<L: Ledger>(book: &Book, steps: &mut Steps<L>) -> Result<Ending, NoMemory>
-    ensures ending { IfOk result (λ ending. let d = document_of book.now.opening book.now.entries in IsVerdictOn book.now.opening.setting (body d) ending.verdict × (ending.broken ≡ broken_line book.now.opening.setting (body d) ending.verdict)) }
+    ensures ending { IfOk result (λ ending. let d = document_of book.now.opening book.now.entries in HasVerdict book.now.opening.setting (body d) ending.verdict × (ending.broken ≡ broken_line book.now.opening.setting.first (body d) ending.verdict)) }
     ensures steps { steps.new ≤ steps.old + 1 }
 {
     match book.now(steps) {

@@ -1,6 +1,8 @@
 //! What is made of a made program, in three lines.
 ghost use Rattle.std.specs.Prelude.{◌≡◌, ◌++◌, IfOk, OnOk};
-ghost use Rattle.verdict_report.specs.MadeText.{brief_text, made_text, sizes_text};
+ghost use Rattle.carriage_model.specs.Verdict.{brief_of};
+ghost use Rattle.verdict_report.specs.MadeText.{made_text, sizes_text};
+ghost use Rattle.verdict_report.specs.VerdictText.{brief_text};
 
 use crate::passes::append_counts;
 use crate::text::{append_broken_brief, append_labelled, append_sound_brief, held};
@@ -21,7 +23,7 @@ fn append_sizes(lines: u32, blocks: u32, out: &mut Vec<u8>) -> Result<(), NoMemo
 
 // Appends a verdict in short.
 fn append_brief(verdict: &Verdict, out: &mut Vec<u8>) -> Result<(), NoMemory>
-    ensures { OnOk result (out.new.items ≡ out.old.items ++ brief_text verdict.now) }
+    ensures { OnOk result (out.new.items ≡ out.old.items ++ brief_text (brief_of verdict.now)) }
 {
     match verdict {
         Verdict::Sound(sound) => append_sound_brief(

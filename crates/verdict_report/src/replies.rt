@@ -2,8 +2,8 @@
 ghost use Rattle.std.specs.Prelude.{◌≡◌, ◌+◌, ◌++◌, codes, drop, flat_map, length, map, OnOk};
 ghost use Rattle.carriage_model.specs.FactList.{lent_fact};
 ghost use Rattle.edit_book.specs.declared.reply.Reply.TheVariants as reply;
-ghost use Rattle.verdict_report.specs.VerdictText.{end_text, labelled};
-ghost use Rattle.verdict_report.specs.LiveText.{accepted_text, at_block, barred, block_name_text, fact_text, full_text, numbered_reply, replies_text, reply_text, session_text, sessions_text, shown_text, stale_text, told_text, which_word};
+ghost use Rattle.verdict_report.specs.VerdictText.{brief_text, end_text, labelled};
+ghost use Rattle.verdict_report.specs.LiveText.{accepted_text, at_block, barred, block_name_text, fact_text, full_text, numbered_reply, replies_text, reply_text, session_text, sessions_text, shown_text, stale_text, which_word};
 
 use crate::text::{
     append_broken_brief, append_end, append_labelled, append_loop, append_sound_brief,
@@ -15,10 +15,10 @@ use knit_base::{Declared, Lines, NoMemory, append_number};
 use std::alloc::Global;
 
 // Appends a verdict in short.
-fn append_told(told: Brief, out: &mut Vec<u8>) -> Result<(), NoMemory>
-    ensures { OnOk result (out.new.items ≡ out.old.items ++ told_text told) }
+fn append_brief(brief: Brief, out: &mut Vec<u8>) -> Result<(), NoMemory>
+    ensures { OnOk result (out.new.items ≡ out.old.items ++ brief_text brief) }
 {
-    match told {
+    match brief {
         Brief::Sound {
             lines,
             made,
@@ -64,7 +64,7 @@ fn append_accepted(version: u32, block: u32, told: Brief, out: &mut Vec<u8>) -> 
 {
     append_at_block("accepted version ", version, block, out)?;
     out.extend_from_slice(b" ")?;
-    append_told(told, out)?;
+    append_brief(told, out)?;
     out.extend_from_slice(b"\n")?;
     Ok(())
 }

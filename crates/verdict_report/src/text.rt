@@ -2,7 +2,8 @@
 ghost use Rattle.std.specs.Prelude.{◌≡◌, ◌+◌, ◌++◌, ◌<◌, ◌^◌, [], length, drop, codes, decimal, flat_map, IfOk, OnOk, OnErr};
 ghost use Rattle.std.specs.Option.{option_copied};
 ghost use Rattle.carriage_model.specs.FactList.{lent_fact};
-ghost use Rattle.verdict_report.specs.VerdictText.{broken_brief, broken_text, end_text, held_of, labelled, line_word, lines_text, loop_text, loops_text, name_word, names_text, place_text, rule_word, set_text, sound_brief, sound_text, stack_text, verdict_text};
+ghost use Rattle.carriage_model.specs.Verdict.{held_on};
+ghost use Rattle.verdict_report.specs.VerdictText.{broken_brief, broken_text, end_text, labelled, line_word, lines_text, loop_text, loops_text, name_word, names_text, place_text, rule_word, set_text, sound_brief, sound_text, stack_text, verdict_text};
 
 use crate::carriers::carriers_of;
 use carriage_model::{FactRef, Facts, Final, Stack, Verdict};
@@ -56,7 +57,7 @@ fn append_lines(lines: &[u32], out: &mut Vec<u8>) -> Result<(), NoMemory>
 /// How many loops the needles hold.
 pub(crate) fn held(stacks: &[Stack]) -> u64
     requires { length stacks.now < 2 ^ 32 }
-    ensures { result ≡ held_of stacks.now }
+    ensures { result ≡ held_on stacks.now }
 {
     let mut held = 0;
     'stacks: for stack in stacks {

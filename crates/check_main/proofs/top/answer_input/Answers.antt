@@ -11,7 +11,7 @@ pub returns-in-Live : goal.returns-in-Live
 returns-in-Live g c =
     IfOk-weaker c.answer_live.result _ _
     (λ answer due words source ask bytes end.
-    live c.args.plan.now.chosen c.args.input.bytes.items (played_by answer.outcome) answer.text.items answer.outcome.status
+    live c.args.plan.now.chosen c.args.input.items (played_by answer.outcome) answer.text.items answer.outcome.status
     (subst (λ (x : Command). Ask words x c.args.plan.now.chosen) c.in-Live.is ask) bytes end c.requires.size due)
     c.answer_live.ensures
 
@@ -20,5 +20,5 @@ returns-in-Check g c = λ words source ask bytes end.
     let reads : reads_file c.args.plan.now.command ≡ true = search rules in
     let ending = c.in_ok-ending-in-Check.ending in
     called-as words source c.without_sessions.result ending.text.items ending.status nothing_played
-    (whole c.args.plan.now.command c.args.plan.now.chosen c.args.input.bytes.items ending.text.items ending.status ask reads bytes end c.requires.size c.in_ok-ending-in-Check.ensures)
+    (whole c.args.plan.now.command c.args.plan.now.chosen c.args.input.items ending.text.items ending.status ask reads bytes end c.requires.size c.in_ok-ending-in-Check.ensures)
     c.without_sessions.ensures.text c.without_sessions.ensures.status c.without_sessions.ensures.played

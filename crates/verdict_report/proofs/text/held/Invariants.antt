@@ -1,9 +1,9 @@
 use Rattle.std.proofs.Common.{◌≡◌, ◌≤◌, ◌*◌, take}
-use Rattle.verdict_report.specs.VerdictText.{held_of}
+use Rattle.carriage_model.specs.Verdict.{held_on}
 use Rattle.verdict_report.proofs.text.held.Given as goal
 
 abbrev pub invariant-stacks : goal.invariant-stacks
 invariant-stacks l = record {
-  sum : l.held ≡ held_of (take l.stack-index l.stacks);
+  sum : l.held ≡ held_on (take l.stack-index l.stacks);
   small : l.held ≤ l.stack-index * 4294967295;
 }

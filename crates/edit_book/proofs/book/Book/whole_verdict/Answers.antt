@@ -2,7 +2,7 @@ use Rattle.std.proofs.Common.{subst}
 use Rattle.std.proofs.lemmas.Result.{IfOk-weaker}
 use Rattle.edit_journal.specs.Documents.{body}
 use Rattle.edit_book.specs.Books.{BookView, document}
-use Rattle.edit_book.specs.Verdicts.{IsVerdictOn}
+use Rattle.edit_book.specs.Verdicts.{HasVerdict}
 use Rattle.edit_book.proofs.Trees.{root_good, root_fits}
 use Rattle.edit_book.proofs.Verdicts.{root_verdict}
 use Rattle.edit_book.proofs.Boxes.{root_of}
@@ -18,5 +18,5 @@ pub returns : goal.returns
 returns c =
     IfOk-weaker c.verdict_of.result _ _
     (λ told is.
-    subst (λ (w : BookView). IsVerdictOn w.opening.setting (body (document w)) told) c.self.view_is (root_verdict _ _ _ _ told c.self.invariant.lawful (root_of _ _ c.deref.ensures _ c.root.ensures) is))
+    subst (λ (w : BookView). HasVerdict w.opening.setting (body (document w)) told) c.self.view_is (root_verdict _ _ _ _ told c.self.invariant.lawful (root_of _ _ c.deref.ensures _ c.root.ensures) is))
     c.verdict_of.ensures.verdict
