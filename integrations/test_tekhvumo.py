@@ -511,7 +511,7 @@ class Pictures(Case):
 
     def test_the_picture_in_the_documents_is_what_is_drawn(self) -> None:
         shutil.copytree(TOP / "examples", self.room / "examples")
-        self.assertEqual(self.tekhvumo("draw", "examples/rib.k"), (0, (TOP / "docs" / "rib.svg").read_text()))
+        self.assertEqual(self.tekhvumo("draw", "examples/rib.k"), (0, (TOP / "docs" / "pictures" / "rib.svg").read_text()))
 
     def test_a_broken_program_is_drawn_up_to_its_line(self) -> None:
         # 12 loops above the line, one of them gone over by two transfers, and the two needles of the line

@@ -4,7 +4,6 @@ ghost use Rattle.knit_base.specs.Limits.{IsLawfulProfile};
 ghost use Rattle.knit_base.specs.Lines.{HasNoLineEnd};
 
 use block_summary::{PrepareFault, Prepared};
-use check_workers::prepare::prepare_lots;
 use check_workers::{prepare_all, prepare_wide};
 use face_data::{FaceView, Seg};
 use knit_base::{Bed, BlockText, Declared, Lines, Needle, NoMemory, Profile, Setting, Steps};
@@ -93,13 +92,60 @@ fn are_knitted<R: Threads + Sync>(rt: &R, alloc: Global, knits: &[u16]) -> bool 
     }
 }
 
-// The same in so many lots at most, each in a thread of its own.
-fn are_knitted_in<R: Threads + Sync>(rt: &R, alloc: Global, lots: usize, knits: &[u16]) -> bool {
-    let Ok(texts) = texts(alloc, knits) else {
+fn push(line: &str, lines: &mut Lines) -> Result<(), NoMemory>
+    requires line { HasNoLineEnd line.now }
+    requires short { length line.now < 2 ^ 16 }
+{
+    if lines.len() > 5000 {
+        return Ok(());
+    }
+    lines.push(line)
+}
+
+// So many knits, and 4,000 lines behind them that say nothing.
+fn many_lines(alloc: Global, knits: u16) -> Result<Lines, NoMemory> {
+    let mut lines = Lines::new(alloc);
+    for _ in 0..knits {
+        push("knit + f1 1", &mut lines)?;
+    }
+    for _ in 0..4000 {
+        push("", &mut lines)?;
+    }
+    lines.into_shared()
+}
+
+// So many texts of 4,000 lines, each of which begins a line behind the one before it, and so has a knit less.
+fn many_texts(alloc: Global, count: u16) -> Result<Vec<BlockText>, NoMemory> {
+    let lines = many_lines(alloc, count)?;
+    let mut texts = Vec::new(alloc);
+    for i in 0..u32::from(count) {
+        if i + 4000 <= lines.len() {
+            texts.push(BlockText::of(alloc, &lines, i, i + 4000)?)?;
+        }
+    }
+    Ok(texts)
+}
+
+// Whether each block has 4,000 lines, the first of them so many knits, and each behind it one less.
+fn have_fewer_and_fewer(blocks: &[Prepared], count: u16) -> bool {
+    let mut knits = u32::from(count);
+    for block in blocks {
+        let face = block.face.view();
+        if face.lines != 4000 || face.made != knits || block.loops.len() != knits {
+            return false;
+        }
+        knits = knits.saturating_sub(1);
+    }
+    blocks.len() == count as usize
+}
+
+// Whether so many texts are prepared, in their order. There are several lots from 131,072 lines on, that is from 33 texts on.
+fn are_many<R: Threads + Sync>(rt: &R, alloc: Global, count: u16) -> bool {
+    let Ok(texts) = many_texts(alloc, count) else {
         return false;
     };
-    match prepare_lots(rt, alloc, lots, texts, &setting(alloc)) {
-        Ok(blocks) => have_knits(&blocks, knits),
+    match prepare_all(rt, alloc, texts, &setting(alloc)) {
+        Ok(blocks) => have_fewer_and_fewer(&blocks, count),
         Err(_) => false,
     }
 }
@@ -119,15 +165,7 @@ fn the_blocks_stand_in_the_order_of_their_texts(rt: HostRuntime) {
 
 #[test]
 fn the_blocks_of_several_threads_stand_in_the_order_of_their_texts(rt: HostRuntime) {
-    let long = [4095, 17, 4000, 3000, 1, 4090];
-    let are = [
-        are_knitted_in(&rt, rt.alloc(), 4, &long),
-        are_knitted_in(&rt, rt.alloc(), 3, &[3, 1, 4, 1, 5, 9, 2]),
-        are_knitted_in(&rt, rt.alloc(), 16, &[3, 1, 4, 1, 5, 9, 2]),
-        are_knitted_in(&rt, rt.alloc(), 2, &[7]),
-        are_knitted_in(&rt, rt.alloc(), 2, &[]),
-    ];
-    assert_eq!(rt; are, [true; 5]);
+    assert!(rt; are_many(&rt, rt.alloc(), 35));
 }
 
 fn is_long<R: Threads + Sync>(rt: &R, alloc: Global, knits: &[u16], wanted: u32) -> bool {
@@ -157,16 +195,6 @@ const SCARF: [&str; 6] = [
     "knit + f2 1",
     "out 1",
 ];
-
-fn push(line: &str, lines: &mut Lines) -> Result<(), NoMemory>
-    requires line { HasNoLineEnd line.now }
-    requires short { length line.now < 2 ^ 16 }
-{
-    if lines.len() > 5000 {
-        return Ok(());
-    }
-    lines.push(line)
-}
 
 // The scarf, with so many lines that say nothing behind each of its lines.
 fn scarf(alloc: Global, gap: u16) -> Result<BlockText, NoMemory> {

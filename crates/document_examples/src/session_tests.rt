@@ -6,13 +6,12 @@ ghost use Rattle.knit_base.specs.Lines.{IsLine};
 mod rows;
 mod threads;
 
-use block_summary::Draft;
+use block_summary::prepare;
 use carriage_model::{Brief, Verdict};
 use edit_book::{Book, Replies, Reply};
 use edit_journal::BlockName;
-use edit_sessions::ask::prepared;
 use edit_sessions::run_all;
-use knit_base::{Declared, Lines, NoMemory, Profile, Quarter, Setting, Steps};
+use knit_base::{BlockText, Declared, Lines, NoMemory, Profile, Quarter, Setting, Steps};
 use knit_ports::Gate;
 use script_reader::{Script, read_script};
 use std::alloc::Global;
@@ -57,8 +56,8 @@ fn opened<L: Ledger>(alloc: Global, text: &Lines, steps: &mut Steps<L>) -> Resul
         declared,
         first: 3,
     };
-    let mut draft = Draft::new(alloc);
-    let Ok(block) = prepared(alloc, &setting, &mut draft, text, steps) else {
+    let block = BlockText::of(alloc, text, 0, text.len())?;
+    let Ok(block) = prepare(alloc, block, &setting, steps) else {
         return Err(NoMemory);
     };
     let mut blocks = Vec::new(alloc);

@@ -60,8 +60,8 @@ impl Register {
 }
 
 impl Booked for Register {
-    ghost use Rattle.turn_book.specs.declared.tests.Command.TheVariants.{Count, Append};
-    ghost use Rattle.turn_book.specs.declared.tests.Reply.TheVariants.{Length, Appended, NoMemory};
+    ghost use Rattle.document_examples.specs.declared.turn_tests.Command.TheVariants.{Count, Append};
+    ghost use Rattle.document_examples.specs.declared.turn_tests.Reply.TheVariants.{Length, Appended, NoMemory};
 
     type Command = Command;
 

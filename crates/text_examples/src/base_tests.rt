@@ -1,8 +1,7 @@
 //! Each kind of value once, with ample memory.
-use knit_base::copies::copy_pieces;
 use knit_base::{
     AddName, Bed, BlockText, CarrierNo, Declared, Dir, Instr, Lines, ListOf, Needle, Profile,
-    Quarter, Setting, Span, Text, Yarns, append_needle, append_rack, is_in_set, needle_order,
+    Quarter, Setting, Text, Yarns, append_needle, append_rack, is_in_set, needle_order,
 };
 use std::cmp::Ordering;
 use std::test::Fail;
@@ -110,21 +109,6 @@ fn some_lines_are_copied(rt: HostRuntime) -> Result<(), Fail> {
     let middle = Lines::range(rt.alloc(), &lines, 1, 2)?;
     assert_eq!(rt; middle.get(0), Some("|\u{e9}"));
     assert_eq!(rt; middle.get(1), None);
-    Ok(())
-}
-
-#[test]
-fn a_piece_that_lies_elsewhere_is_put_behind(rt: HostRuntime) -> Result<(), Fail> {
-    let spans = [
-        Span { start: 3, end: 5 },
-        Span { start: 0, end: 2 },
-        Span { start: 6, end: 8 },
-    ];
-    let (copy, places) = copy_pieces(rt.alloc(), b"ab|cd|ef", &spans, 1)?;
-    assert_eq!(rt; copy.as_slice(), b"cd|efb".as_slice());
-    assert_eq!(rt; places.get(0).copied(), Some(Span { start: 1, end: 2 }));
-    assert_eq!(rt; places.get(1).copied(), Some(Span { start: 5, end: 6 }));
-    assert_eq!(rt; places.get(2).copied(), Some(Span { start: 4, end: 5 }));
     Ok(())
 }
 

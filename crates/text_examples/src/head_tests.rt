@@ -2,8 +2,9 @@
 ghost use Rattle.std.specs.Prelude.{◌<◌, length, All, IfOk, IsTrue};
 ghost use Rattle.knit_base.specs.Lines.{IsLine};
 
-use super::*;
-use knit_base::NoMemory;
+use knit_base::{Lines, NoMemory};
+use knitout_reader::{HeadFault, read_head};
+use std::alloc::Global;
 
 const NAMES_65: &str =
     ";;Carriers: 1 2 3 4 5 6 7 8 9 10 11 12 13 14 15 16 17 18 19 20 21 22 23 24 25 26 27 28 29 30 31 32 33 34 35 36 37 38 39 40 41 42 43 44 45 46 47 48 49 50 51 52 53 54 55 56 57 58 59 60 61 62 63 64 65";

@@ -1,4 +1,5 @@
 //! The defaults of the limits, and the first option that is out of bounds.
+use knit_base::Profile;
 use machine_profile::{BadOption, Chosen, Options, Which, profile_of};
 
 const NONE: Options = Options {

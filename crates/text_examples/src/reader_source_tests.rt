@@ -1,6 +1,5 @@
 //! Readers that fail.
-use super::ReaderSource;
-use knit_ports::{Failed, Source};
+use knit_ports::{Failed, ReaderSource, Source};
 use std::io::{self, Error, ErrorKind, Read};
 
 // Fails so many times, always alike, and then gives a byte at each call.
@@ -25,41 +24,40 @@ impl Read for FailingReader {
     }
 }
 
-fn source_that_fails(kind: ErrorKind, failures: u32) -> ReaderSource<FailingReader> {
-    ReaderSource::of(FailingReader {
+fn reader_that_fails(kind: ErrorKind, failures: u32) -> FailingReader {
+    FailingReader {
         kind,
         failures,
         calls: 0,
-    })
+    }
 }
 
 #[test]
 fn an_interrupted_read_is_made_again(rt: HostRuntime) {
-    let mut source = source_that_fails(ErrorKind::Interrupted, 1);
+    let mut reader = reader_that_fails(ErrorKind::Interrupted, 1);
+    let mut source = ReaderSource::of(&mut reader);
     let mut piece = [0; 2];
     assert_eq!(rt; source.read(&mut piece), Ok(1));
     assert_eq!(rt; piece, [7, 0]);
-    assert_eq!(rt; source.reader.calls, 2);
-    assert_eq!(rt; source.faults, 0);
+    assert_eq!(rt; reader.calls, 2);
 }
 
 #[test]
 fn a_thousand_interrupted_reads_are_a_fault(rt: HostRuntime) {
-    let mut source = source_that_fails(ErrorKind::Interrupted, 1_000);
+    let mut reader = reader_that_fails(ErrorKind::Interrupted, 1_000);
+    let mut source = ReaderSource::of(&mut reader);
     let mut piece = [0; 2];
     assert_eq!(rt; source.read(&mut piece), Err(Failed));
-    assert_eq!(rt; source.reader.calls, 1_000);
-    assert_eq!(rt; source.faults, 1);
+    assert_eq!(rt; reader.calls, 1_000);
 }
 
 #[test]
 fn a_failed_read_is_made_once(rt: HostRuntime) {
-    let mut source = source_that_fails(ErrorKind::BrokenPipe, 1);
+    let mut reader = reader_that_fails(ErrorKind::BrokenPipe, 1);
+    let mut source = ReaderSource::of(&mut reader);
     let mut piece = [0; 2];
     assert_eq!(rt; source.read(&mut piece), Err(Failed));
     assert_eq!(rt; piece, [0, 0]);
-    assert_eq!(rt; source.reader.calls, 1);
-    assert_eq!(rt; source.faults, 1);
     assert_eq!(rt; source.read(&mut piece), Ok(1));
-    assert_eq!(rt; source.faults, 1);
+    assert_eq!(rt; reader.calls, 2);
 }

@@ -1,8 +1,8 @@
-use knit_base::{AddName, Bed, Declared, Reason, Rule};
-use knitout_reader::carriers::read_carriers;
-use knitout_reader::number::needle;
-use knitout_reader::rack::rack;
-use knitout_reader::tokens::{code_of, next_token};
+//! Tokens, needles, racks and lists of carriers in their less usual spellings.
+ghost use Rattle.std.specs.Prelude.{◌<◌, ◌^◌, length};
+
+use knit_base::{Bed, Declared, Instr, Profile, Quarter, Read, Reason, Rule};
+use knitout_reader::{code_of, next_token, read_line};
 use std::alloc::Global;
 
 #[test]
@@ -14,60 +14,108 @@ fn pulls_tokens_up_to_the_comment(rt: HostRuntime) {
     assert_eq!(rt; next_token(b"\t "), None);
 }
 
+// What the line says where the carriers `1` and `2` are declared, if there is memory.
+fn reading(alloc: Global, line: &str) -> Option<Read>
+    requires { length line.now < 2 ^ 16 }
+{
+    let mut declared = Declared::new(alloc);
+    declared.add("1").ok()?;
+    declared.add("2").ok()?;
+    read_line(alloc, line, &Profile::USUAL, &declared).ok()
+}
+
+// The needle that a line drops the loops of.
+fn dropped(read: &Read) -> Option<(Bed, i16)> {
+    match read {
+        Read::Instr(Instr::Drop(n)) => Some((n.bed, n.at)),
+        _ => None,
+    }
+}
+
+fn racked(read: &Read) -> Option<Quarter> {
+    match read {
+        Read::Instr(Instr::Rack(quarter)) => Some(*quarter),
+        _ => None,
+    }
+}
+
+// The rule that a line breaks, and the place of the token that breaks it.
+fn broken(read: &Read) -> Option<(Rule, u16)> {
+    match read {
+        Read::Broken(Reason { rule, at }) => Some((*rule, *at)),
+        _ => None,
+    }
+}
+
 #[test]
 fn reads_needles(rt: HostRuntime) {
-    for (token, want) in [
-        ("f+01", Some((Bed::Front, 1))),
-        ("bs-7", Some((Bed::BackSlider, -7))),
-        ("b-0", Some((Bed::Back, 0))),
-        ("fs65537", Some((Bed::FrontSlider, 65_537))),
-        ("f99999999999999999999", Some((Bed::Front, 100_000))),
-        ("f", None),
-        ("fs-", None),
-        ("b1x", None),
+    for (line, want) in [
+        ("drop f+01", (Bed::Front, 1)),
+        ("drop bs-7", (Bed::BackSlider, -7)),
+        ("drop b-0", (Bed::Back, 0)),
     ] {
-        let found = needle(token.as_bytes()).map(|n| (n.bed, n.at));
-        assert_eq!(rt; found, want, "at {token}");
+        assert!(rt; line.len() < 100);
+        let read = reading(rt.alloc(), line).expect(&rt, "memory");
+        assert_eq!(rt; dropped(&read), Some(want), "at {line}");
+    }
+}
+
+// 65,537 would be 1 in two bytes.
+#[test]
+fn refuses_needles(rt: HostRuntime) {
+    for (line, want) in [
+        ("drop fs65537", (Rule::OffBed, 1)),
+        ("drop f99999999999999999999", (Rule::OffBed, 1)),
+        ("drop f", (Rule::Unreadable, 0)),
+        ("drop fs-", (Rule::Unreadable, 0)),
+        ("drop b1x", (Rule::Unreadable, 0)),
+    ] {
+        assert!(rt; line.len() < 100);
+        let read = reading(rt.alloc(), line).expect(&rt, "memory");
+        assert_eq!(rt; broken(&read), Some(want), "at {line}");
     }
 }
 
 #[test]
 fn reads_racks(rt: HostRuntime) {
-    for (token, want) in [
-        ("-0", Some((true, 0, Some(0)))),
-        (".25", Some((false, 0, Some(1)))),
-        ("-0.50", Some((true, 0, Some(2)))),
-        ("+1.", Some((false, 1, Some(0)))),
-        ("99999999999999999999.3", Some((false, 100_000, None))),
-        (".7500000000000000000000", Some((false, 0, Some(3)))),
-        (".7500000000000000000001", Some((false, 0, None))),
-        (".", None),
-        ("+.", None),
-        ("1.2.3", None),
-        ("+-1", None),
+    for (line, want) in [
+        ("rack -0", 0),
+        ("rack .25", 1),
+        ("rack -0.50", -2),
+        ("rack +1.", 4),
+        ("rack .7500000000000000000000", 3),
     ] {
-        let found = rack(token.as_bytes()).map(|r| (r.negative, r.whole, r.quarter));
-        assert_eq!(rt; found, want, "at {token}");
+        assert!(rt; line.len() < 100);
+        let read = reading(rt.alloc(), line).expect(&rt, "memory");
+        assert_eq!(rt; racked(&read), Some(Quarter(want)), "at {line}");
     }
 }
 
-fn two_names(alloc: Global) -> Result<Declared, AddName> {
-    let mut declared = Declared::new(alloc);
-    declared.add("1")?;
-    declared.add("2")?;
-    Ok(declared)
+#[test]
+fn refuses_racks(rt: HostRuntime) {
+    for (line, want) in [
+        ("rack 99999999999999999999.3", (Rule::RackStep, 1)),
+        ("rack .7500000000000000000001", (Rule::RackStep, 1)),
+        ("rack .", (Rule::Unreadable, 0)),
+        ("rack +.", (Rule::Unreadable, 0)),
+        ("rack 1.2.3", (Rule::Unreadable, 0)),
+        ("rack +-1", (Rule::Unreadable, 0)),
+    ] {
+        assert!(rt; line.len() < 100);
+        let read = reading(rt.alloc(), line).expect(&rt, "memory");
+        assert_eq!(rt; broken(&read), Some(want), "at {line}");
+    }
 }
 
 #[test]
 fn tries_names_before_repeats(rt: HostRuntime) {
-    let declared = two_names(rt.alloc()).expect(&rt, "memory");
-    for (code, want) in [
-        ("2 1", None),
-        ("1 1 Z", Some((Rule::NoCarrier, 5))),
-        ("2 1 2", Some((Rule::CarrierTwice, 5))),
+    for (line, want) in [
+        ("knit + f1 2 1", None),
+        ("knit + f1 1 1 Z", Some((Rule::NoCarrier, 5))),
+        ("knit + f1 2 1 2", Some((Rule::CarrierTwice, 5))),
     ] {
-        let found = read_carriers(rt.alloc(), &declared, code.as_bytes(), 3).expect(&rt, "memory");
-        let reason = found.err().map(|reason: Reason| (reason.rule, reason.at));
-        assert_eq!(rt; reason, want, "at {code}");
+        assert!(rt; line.len() < 100);
+        let read = reading(rt.alloc(), line).expect(&rt, "memory");
+        assert_eq!(rt; broken(&read), want, "at {line}");
     }
 }

@@ -1,5 +1,7 @@
-use super::*;
-use std::alloc::AllocError;
+//! What the words of a command line ask for, and those that ask for nothing.
+use command_words::{Command, Request, WordFault, request};
+use machine_profile::Options;
+use std::alloc::{AllocError, Global};
 
 const NONE: Options = Options {
     low: None,

@@ -1,7 +1,7 @@
 """Tests of the command `live` on the program check_main: the scripts of examples/, sessions whose order nobody directs, scripts as large as they
 may be, and an output that is closed.
 
-`python3 -m unittest discover integrations` runs them, on the check_main that TEKHVUMO_PROGRAM names or that is found.
+`python3 -m unittest discover tests` runs them, on the check_main that TEKHVUMO_PROGRAM names or that is found.
 """
 from __future__ import annotations
 
@@ -9,11 +9,8 @@ import os
 import re
 import subprocess
 import unittest
-from pathlib import Path
 
-import tekhvumo
-
-EXAMPLES = Path(__file__).resolve().parent.parent / "examples"
+from program import EXAMPLES, answer_of, find_program
 
 MENDED = """session 0
 1 accepted version 1 block 0 broken line 14 rule NotAligned at 2
@@ -71,8 +68,8 @@ b4: 65
 
 def answered(script: str, *options: str) -> tuple[int, str]:
     """The status with which the program ends on a script, and what it writes."""
-    run = subprocess.run([tekhvumo.find_program(None), "live", *options], input=script.encode(), capture_output=True)
-    return run.returncode, run.stdout.decode()
+    status, report = answer_of("live", *options, given=script.encode())
+    return status, report.decode()
 
 
 def live(script: str, *options: str) -> str:
@@ -242,7 +239,7 @@ class Output(unittest.TestCase):
         taker, giver = os.pipe()
         os.close(taker)
         try:
-            run = subprocess.run([tekhvumo.find_program(None), "live"], input=script.encode(), stdout=giver, check=False)
+            run = subprocess.run([find_program(), "live"], input=script.encode(), stdout=giver, check=False)
         finally:
             os.close(giver)
         self.assertEqual(run.returncode, 5)

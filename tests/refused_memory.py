@@ -1,8 +1,8 @@
 #!/usr/bin/env python3
 """Refuses each request for memory of the program check_main in turn, and looks at what it answers.
 
-`python3 integrations/refused_memory.py [RUN ..]` tries all five commands, or the runs named, on files of examples/ and on a short script, with the check_main
-that TEKHVUMO_PROGRAM names or that is found; then the put of a text for which room was made, by the tests of `edit_book` that the gate built, if they are
+`python3 tests/refused_memory.py [RUN ..]` tries all five commands, or the runs named, on files of examples/ and on a short script, with the check_main
+that TEKHVUMO_PROGRAM names or that is found; then the put of a text for which room was made, by the tests of `document_examples` that the gate built, if they are
 there. It wants a C compiler (`cc`), for the few lines that stand before the system's `malloc`
 and `realloc`.
 
@@ -19,10 +19,9 @@ import sys
 import tempfile
 from pathlib import Path
 
-import tekhvumo
+from program import EXAMPLES, TOP, find_program
 
-EXAMPLES = Path(__file__).resolve().parent.parent / "examples"
-BOOK_TESTS = EXAMPLES.parent / "crates" / "edit_book" / "out" / "edit_book_tests"
+BOOK_TESTS = TOP / "crates" / "document_examples" / "out" / "document_examples_tests"
 NO_MEMORY = 6
 
 # Stands before the system's malloc and realloc. The request with this number, from 1, is refused, and a byte on descriptor 9 says that there was one.
@@ -87,9 +86,6 @@ def example(name: str) -> bytes:
 RUNS = {
     "check": (["check", "--loops"], example("tube.k")),
     "blocks": (["check", "--block", "4", "--json", "--loops"], example("tube.k")),
-    "stretches": (["check", "--block", "4", "--json"], example("tube.k")),
-    # So long that other threads fold the first lines.
-    "ahead": (["check", "--block", "4096"], example("tube.k") + (b";" * 999 + b"\n") * 1_600),
     "text": (["text"], example("rib.k")),
     "passes": (["passes"], example("tube.k")),
     "make": (["make", "2", "0"], b""),
@@ -202,9 +198,9 @@ def try_run(name: str, program: str, library: str) -> bool:
 
 
 def requests_of(test: str, library: str) -> int:
-    """How many requests a test of `edit_book` makes."""
+    """How many requests a test of books makes."""
     request = 1
-    while run([str(BOOK_TESTS), f"tests::{test}"], b"", library, request)[2]:
+    while run([str(BOOK_TESTS), f"book_tests::{test}"], b"", library, request)[2]:
         request += 1
     return request - 1
 
@@ -217,7 +213,7 @@ def try_ready_put(library: str) -> bool:
 
 
 def main(names: list[str]) -> int:
-    program = tekhvumo.find_program(None)
+    program = find_program()
     with tempfile.TemporaryDirectory(prefix="refused-") as folder:
         library = build_refuser(folder)
         well = [try_run(name, program, library) for name in names or RUNS]
