@@ -200,7 +200,7 @@ def try_run(name: str, program: str, library: str) -> bool:
 def requests_of(test: str, library: str) -> int:
     """How many requests a test of books makes."""
     request = 1
-    while run([str(BOOK_TESTS), f"book_tests::{test}"], b"", library, request)[2]:
+    while run([str(BOOK_TESTS), f"tests::book::{test}"], b"", library, request)[2]:
         request += 1
     return request - 1
 

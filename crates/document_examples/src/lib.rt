@@ -5,16 +5,4 @@
 #![tactic(auto)]
 
 #[cfg(test)]
-mod book_tests;
-#[cfg(test)]
-mod journal_tests;
-#[cfg(test)]
-mod limit_tests;
-#[cfg(test)]
-mod opening_tests;
-#[cfg(test)]
-mod script_tests;
-#[cfg(test)]
-mod session_tests;
-#[cfg(test)]
-mod turn_tests;
+mod tests;

@@ -6,32 +6,4 @@
 #![tactic(auto)]
 
 #[cfg(test)]
-mod base_tests;
-#[cfg(test)]
-mod canonical_tests;
-#[cfg(test)]
-mod every_sequence_tests;
-#[cfg(test)]
-mod head_tests;
-#[cfg(test)]
-mod line_tests;
-#[cfg(test)]
-mod maker_tests;
-#[cfg(test)]
-mod pass_tests;
-#[cfg(test)]
-mod port_tests;
-#[cfg(test)]
-mod profile_tests;
-#[cfg(test)]
-mod reader_source_tests;
-#[cfg(test)]
-mod reading_tests;
-#[cfg(test)]
-mod token_tests;
-#[cfg(test)]
-mod usual_tests;
-#[cfg(test)]
-mod word_tests;
-#[cfg(test)]
-mod writer_sink_tests;
+mod tests;

@@ -1,0 +1,537 @@
+//! A book from its opening on, by worked examples.
+ghost use Rattle.std.specs.Prelude.{◌≡◌, ◌+◌, ◌<◌, ◌≤◌, IfOk, length};
+ghost use Rattle.knit_base.specs.Limits.{IsLawfulProfile};
+ghost use Rattle.block_summary.specs.Prepared.{IsPreparedFor};
+
+use block_summary::{PrepareFault, Prepared, prepare};
+use carriage_model::{Brief, LoopFact, Verdict};
+use edit_book::{Book, Reply};
+use edit_journal::Anchor;
+use knit_base::{
+    Bed, BlockText, CarrierNo, Declared, Dir, Fault, Lines, Needle, NoMemory, Profile, Quarter,
+    Reason, Rule, Setting, Steps,
+};
+use std::alloc::Global;
+use std::marker::Brand;
+use std::sync::ledger::{Blank, Ledger};
+use std::test::Fail;
+use std::thread::Threads;
+
+// The lines of which the examples are made.
+fn lines(alloc: Global) -> Result<Lines, NoMemory>
+    ensures { IfOk result (λ lines. length lines ≡ 6) }
+{
+    let mut lines = Lines::new(alloc);
+    lines.push("in 1")?;
+    lines.push("knit + f1 1")?;
+    lines.push("knit + f2 1")?;
+    lines.push("in 1")?;
+    lines.push("knit + f")?;
+    lines.push("tuck + f1 1")?;
+    Ok(lines)
+}
+
+// Some of these lines, prepared for the setting.
+fn prepared<L: Ledger>(
+    alloc: Global,
+    from: u32,
+    to: u32,
+    setting: &Setting,
+    steps: &mut Steps<L>,
+) -> Result<Prepared, NoMemory>
+    requires profile { IsLawfulProfile setting.now.profile }
+    requires range { (from ≤ to) × (to ≤ 6) }
+    ensures prepared { IfOk result (IsPreparedFor setting.now.profile setting.now.declared) }
+{
+    let text = BlockText::of(alloc, &lines(alloc)?, from, to)?;
+    match prepare(alloc, text, setting, steps) {
+        Ok(block) => Ok(block),
+        Err(PrepareFault::BlockLong { .. } | PrepareFault::NoMemory) => Err(NoMemory),
+    }
+}
+
+// Of a file whose head has two lines.
+fn setting(alloc: Global) -> Setting
+    ensures profile { IsLawfulProfile result.profile }
+    ensures first { result.first ≡ 3 }
+{
+    let mut declared = Declared::new(alloc);
+    let _ = declared.add("1");
+    Setting {
+        profile: Profile::USUAL,
+        declared,
+        first: 3,
+    }
+}
+
+// A book that begins with the first of these lines as its one block.
+fn opened<L: Ledger>(alloc: Global, to: u32, steps: &mut Steps<L>) -> Result<Book, NoMemory>
+    requires { to ≤ 6 }
+    ensures { IfOk result (λ book. IsLawfulProfile book.opening.setting.profile) }
+{
+    let setting = setting(alloc);
+    let block = prepared(alloc, 0, to, &setting, steps)?;
+    let mut blocks = Vec::new(alloc);
+    blocks.push(block)?;
+    Book::start(alloc, setting, blocks, steps)
+}
+
+fn sound(lines: u32, made: u32, held: u32) -> Brief {
+    Brief::Sound {
+        lines,
+        made,
+        held,
+        rack: Quarter(0),
+    }
+}
+
+// Each reply is handed over, so that it is dropped where it is looked at.
+fn is_accepted(reply: Reply, at: u32, id: u32, verdict: Brief) -> bool {
+    match reply {
+        Reply::Accepted {
+            version,
+            block,
+            brief,
+        } => version == at && block == id && brief == verdict,
+        _ => false,
+    }
+}
+
+// Whether some of these lines are accepted as block 0, which makes this version, with this verdict.
+fn puts<L: Ledger>(
+    alloc: Global,
+    book: &mut Book,
+    from: u32,
+    to: u32,
+    at: u32,
+    verdict: Brief,
+    steps: &mut Steps<L>,
+) -> bool
+    requires profile { IsLawfulProfile book.old.opening.setting.profile }
+    requires range { (from ≤ to) × (to ≤ 6) }
+    ensures { book.new.opening ≡ book.old.opening }
+{
+    match prepared(alloc, from, to, book.setting(), steps) {
+        Ok(block) => {
+            let seen = at.saturating_sub(1);
+            is_accepted(book.put(0, 0, seen, block, steps), at, 0, verdict)
+        }
+        Err(NoMemory) => false,
+    }
+}
+
+fn is_stale(reply: Reply) -> bool {
+    matches!(
+        reply,
+        Reply::Stale {
+            version: 1,
+            block: 0,
+            seen: 0,
+            now: 1
+        }
+    )
+}
+
+// Whether a put that has seen the opening alone is told that block 0 has another stamp.
+fn is_late<L: Ledger>(alloc: Global, book: &mut Book, steps: &mut Steps<L>) -> bool
+    requires { IsLawfulProfile book.old.opening.setting.profile }
+    ensures { book.new.opening ≡ book.old.opening }
+{
+    match prepared(alloc, 0, 1, book.setting(), steps) {
+        Ok(block) => is_stale(book.put(0, 0, 0, block, steps)),
+        Err(NoMemory) => false,
+    }
+}
+
+// Two puts, each with the verdict after it, and between them one that has seen too little.
+fn two_puts<L: Ledger, R: Threads>(
+    rt: &R,
+    blank: Blank,
+    alloc: Global,
+) -> Result<[bool; 3], NoMemory>
+    requires name { (blank.name ≡ L.name) × (blank.parts ≡ L.parts) × (0 < L.parts) }
+{
+    let mut steps = Steps::<L>::start(rt, blank);
+    let mut book = opened(alloc, 2, &mut steps)?;
+    let first = puts(alloc, &mut book, 0, 3, 1, sound(3, 2, 2), &mut steps);
+    let late = is_late(alloc, &mut book, &mut steps);
+    let second = puts(alloc, &mut book, 0, 1, 2, sound(1, 0, 0), &mut steps);
+    Ok([first, late, second])
+}
+
+#[test]
+fn a_put_is_answered_with_the_verdict_after_it(rt: HostRuntime) -> Result<(), Fail> {
+    let told = two_puts::<Brand, _>(&rt, Blank::new(1), rt.alloc())?;
+    assert_eq!(rt; told, [true; 3]);
+    Ok(())
+}
+
+fn length(book: &Book, stamp: u32) -> Option<u32> {
+    match book.text_at(0, stamp) {
+        Some(text) => Some(text.len()),
+        None => None,
+    }
+}
+
+// How many lines the texts of block 0 have: that of the opening, that of a put, and one that it never got.
+fn lengths<L: Ledger, R: Threads>(
+    rt: &R,
+    blank: Blank,
+    alloc: Global,
+) -> Result<[Option<u32>; 3], NoMemory>
+    requires name { (blank.name ≡ L.name) × (blank.parts ≡ L.parts) × (0 < L.parts) }
+{
+    let mut steps = Steps::<L>::start(rt, blank);
+    let mut book = opened(alloc, 2, &mut steps)?;
+    let _ = puts(alloc, &mut book, 0, 3, 1, sound(3, 2, 2), &mut steps);
+    Ok([length(&book, 0), length(&book, 1), length(&book, 2)])
+}
+
+#[test]
+fn each_text_of_a_block_is_kept(rt: HostRuntime) -> Result<(), Fail> {
+    let told = lengths::<Brand, _>(&rt, Blank::new(1), rt.alloc())?;
+    assert_eq!(rt; told, [Some(2), Some(3), None]);
+    Ok(())
+}
+
+// Whether block 0 is cut, which makes version 1 and leaves no line.
+fn cuts<L: Ledger>(book: &mut Book, steps: &mut Steps<L>) -> bool
+    ensures { book.new.opening ≡ book.old.opening }
+{
+    is_accepted(book.cut(0, 0, 0, steps), 1, 0, sound(0, 0, 0))
+}
+
+fn is_gone(reply: Reply) -> bool {
+    matches!(
+        reply,
+        Reply::Gone {
+            version: 1,
+            block: 0,
+            at: 1
+        }
+    )
+}
+
+// Whether a look at block 0 is told which entry cut it.
+fn looks_gone<L: Ledger>(book: &Book, steps: &mut Steps<L>) -> bool {
+    is_gone(book.look(0, steps))
+}
+
+fn was_never(reply: Reply) -> bool {
+    matches!(
+        reply,
+        Reply::NoBlock {
+            version: 1,
+            block: 99,
+            ids: 1
+        }
+    )
+}
+
+// Whether a look at a block that never was is told how many there were.
+fn looks_unknown<L: Ledger>(book: &Book, steps: &mut Steps<L>) -> bool {
+    was_never(book.look(99, steps))
+}
+
+// Whether an add behind block 0 is told which entry cut it.
+fn misses_anchor<L: Ledger>(alloc: Global, book: &mut Book, steps: &mut Steps<L>) -> bool
+    requires { IsLawfulProfile book.old.opening.setting.profile }
+    ensures { book.new.opening ≡ book.old.opening }
+{
+    match prepared(alloc, 0, 1, book.setting(), steps) {
+        Ok(block) => is_gone(book.add(0, Anchor::After(0), block, steps)),
+        Err(NoMemory) => false,
+    }
+}
+
+// Whether one of these lines is accepted as a new block, with this version and id.
+fn adds<L: Ledger>(
+    alloc: Global,
+    book: &mut Book,
+    anchor: Anchor,
+    line: u32,
+    named: (u32, u32),
+    verdict: Brief,
+    steps: &mut Steps<L>,
+) -> bool
+    requires profile { IsLawfulProfile book.old.opening.setting.profile }
+    requires line { line < 6 }
+    ensures { book.new.opening ≡ book.old.opening }
+{
+    let (at, id) = named;
+    match prepared(alloc, line, line + 1, book.setting(), steps) {
+        Ok(block) => is_accepted(book.add(0, anchor, block, steps), at, id, verdict),
+        Err(NoMemory) => false,
+    }
+}
+
+// The block is cut; what names it then is refused, and so is what names one that never was.
+fn a_cut<L: Ledger, R: Threads>(rt: &R, blank: Blank, alloc: Global) -> Result<[bool; 5], NoMemory>
+    requires name { (blank.name ≡ L.name) × (blank.parts ≡ L.parts) × (0 < L.parts) }
+{
+    let mut steps = Steps::<L>::start(rt, blank);
+    let mut book = opened(alloc, 1, &mut steps)?;
+    let cut = cuts(&mut book, &mut steps);
+    let look = looks_gone(&book, &mut steps);
+    let unknown = looks_unknown(&book, &mut steps);
+    let behind = misses_anchor(alloc, &mut book, &mut steps);
+    let verdict = sound(1, 0, 0);
+    let new = adds(
+        alloc,
+        &mut book,
+        Anchor::Start,
+        0,
+        (2, 1),
+        verdict,
+        &mut steps,
+    );
+    Ok([cut, look, unknown, behind, new])
+}
+
+#[test]
+fn a_cut_block_is_gone(rt: HostRuntime) -> Result<(), Fail> {
+    let told = a_cut::<Brand, _>(&rt, Blank::new(1), rt.alloc())?;
+    assert_eq!(rt; told, [true; 5]);
+    Ok(())
+}
+
+const UNREADABLE: Fault = Fault {
+    line: 4,
+    reason: Reason {
+        rule: Rule::Unreadable,
+        at: 0,
+    },
+};
+
+fn is_broken(reply: Reply) -> bool {
+    match reply {
+        Reply::Now {
+            version: 1,
+            verdict: Verdict::Broken(fault),
+            text,
+        } => fault == UNREADABLE && text.as_str() == "knit + f",
+        _ => false,
+    }
+}
+
+// Whether the verdict names the bad line, with its text.
+fn tells_fault<L: Ledger>(book: &Book, steps: &mut Steps<L>) -> bool {
+    is_broken(book.now(steps))
+}
+
+fn is_mended(reply: Reply) -> bool {
+    match reply {
+        Reply::Shown {
+            version: 2,
+            block: 0,
+            stamp: 2,
+            first: 3,
+            text,
+        } => text.len() == 2 && text.get(1) == Some("knit + f1 1"),
+        _ => false,
+    }
+}
+
+// Whether block 0 is shown with the lines of the second put.
+fn shows_mended<L: Ledger>(book: &Book, steps: &mut Steps<L>) -> bool {
+    is_mended(book.look(0, steps))
+}
+
+// A text with a bad line is accepted, and the verdict names the line until a put mends it.
+fn a_bad_line<L: Ledger, R: Threads>(
+    rt: &R,
+    blank: Blank,
+    alloc: Global,
+) -> Result<[bool; 4], NoMemory>
+    requires name { (blank.name ≡ L.name) × (blank.parts ≡ L.parts) × (0 < L.parts) }
+{
+    let mut steps = Steps::<L>::start(rt, blank);
+    let mut book = opened(alloc, 2, &mut steps)?;
+    let broken = Brief::Broken(UNREADABLE);
+    let bad = puts(alloc, &mut book, 3, 5, 1, broken, &mut steps);
+    let told = tells_fault(&book, &mut steps);
+    let good = puts(alloc, &mut book, 0, 2, 2, sound(2, 1, 1), &mut steps);
+    Ok([bad, told, good, shows_mended(&book, &mut steps)])
+}
+
+#[test]
+fn a_bad_line_is_named_and_a_block_shown(rt: HostRuntime) -> Result<(), Fail> {
+    let told = a_bad_line::<Brand, _>(&rt, Blank::new(1), rt.alloc())?;
+    assert_eq!(rt; told, [true; 4]);
+    Ok(())
+}
+
+// Whether a text for which room is made is ready.
+fn warms<L: Ledger>(alloc: Global, book: &mut Book, steps: &mut Steps<L>) -> bool
+    requires { IsLawfulProfile book.old.opening.setting.profile }
+{
+    match prepared(alloc, 0, 3, book.setting(), steps) {
+        Ok(block) => book.warm(0, &block).is_ok() && book.ready(0, &block),
+        Err(NoMemory) => false,
+    }
+}
+
+fn a_warmed_book<L: Ledger, R: Threads>(
+    rt: &R,
+    blank: Blank,
+    alloc: Global,
+) -> Result<bool, NoMemory>
+    requires name { (blank.name ≡ L.name) × (blank.parts ≡ L.parts) × (0 < L.parts) }
+{
+    let mut steps = Steps::<L>::start(rt, blank);
+    let mut book = opened(alloc, 2, &mut steps)?;
+    Ok(warms(alloc, &mut book, &mut steps))
+}
+
+// It asks for memory as often as the test below, which puts the text, too: so a put of a ready text asks for none (`tests/refused_memory.py` counts).
+#[test]
+fn a_block_is_made_ready(rt: HostRuntime) -> Result<(), Fail> {
+    let told = a_warmed_book::<Brand, _>(&rt, Blank::new(1), rt.alloc())?;
+    assert!(rt; told);
+    Ok(())
+}
+
+// Whether a text whose room is made before is ready, and then accepted.
+fn puts_warm<L: Ledger>(alloc: Global, book: &mut Book, steps: &mut Steps<L>) -> [bool; 2]
+    requires { IsLawfulProfile book.old.opening.setting.profile }
+{
+    match prepared(alloc, 0, 3, book.setting(), steps) {
+        Ok(block) => {
+            let warm = book.warm(0, &block).is_ok();
+            let ready = book.ready(0, &block);
+            let put = is_accepted(book.put(0, 0, 0, block, steps), 1, 0, sound(3, 2, 2));
+            [warm && ready, put]
+        }
+        Err(NoMemory) => [false; 2],
+    }
+}
+
+fn a_warm_put<L: Ledger, R: Threads>(
+    rt: &R,
+    blank: Blank,
+    alloc: Global,
+) -> Result<[bool; 2], NoMemory>
+    requires name { (blank.name ≡ L.name) × (blank.parts ≡ L.parts) × (0 < L.parts) }
+{
+    let mut steps = Steps::<L>::start(rt, blank);
+    let mut book = opened(alloc, 2, &mut steps)?;
+    Ok(puts_warm(alloc, &mut book, &mut steps))
+}
+
+#[test]
+fn a_warm_block_is_ready(rt: HostRuntime) -> Result<(), Fail> {
+    let told = a_warm_put::<Brand, _>(&rt, Blank::new(1), rt.alloc())?;
+    assert_eq!(rt; told, [true; 2]);
+    Ok(())
+}
+
+const FRONT: Needle = Needle {
+    bed: Bed::Front,
+    at: 1,
+};
+
+// The fact is of a loop of the first carrier on the needle.
+fn is_loop(fact: &LoopFact, line: u32, through: &[u32]) -> bool {
+    fact.line == line
+        && fact.needle == FRONT
+        && fact.dir == Dir::Right
+        && fact.yarns.as_slice() == [CarrierNo(0)].as_slice()
+        && fact.through.as_slice() == through
+}
+
+fn is_made(reply: Reply, at: u32, line: u32, through: &[u32]) -> bool {
+    match reply {
+        Reply::Loop {
+            version,
+            fact: Some(fact),
+        } => version == at && is_loop(&fact, line, through),
+        _ => false,
+    }
+}
+
+// Whether the line makes a loop of the first carrier on the needle, at this version, drawn through those of these lines.
+fn tells_loop<L: Ledger>(
+    book: &Book,
+    at: u32,
+    line: u32,
+    through: &[u32],
+    steps: &mut Steps<L>,
+) -> bool {
+    is_made(book.loop_at(line, steps), at, line, through)
+}
+
+fn is_none(reply: Reply) -> bool {
+    matches!(
+        reply,
+        Reply::Loop {
+            version: 0,
+            fact: None
+        }
+    )
+}
+
+// Whether the line makes no loop, at the opening.
+fn tells_none<L: Ledger>(book: &Book, line: u32, steps: &mut Steps<L>) -> bool {
+    is_none(book.loop_at(line, steps))
+}
+
+// A line that makes a loop, and one that makes none.
+fn one_loop<L: Ledger, R: Threads>(
+    rt: &R,
+    blank: Blank,
+    alloc: Global,
+) -> Result<[bool; 2], NoMemory>
+    requires name { (blank.name ≡ L.name) × (blank.parts ≡ L.parts) × (0 < L.parts) }
+{
+    let mut steps = Steps::<L>::start(rt, blank);
+    let book = opened(alloc, 2, &mut steps)?;
+    let none = tells_none(&book, 3, &mut steps);
+    Ok([none, tells_loop(&book, 0, 4, &[], &mut steps)])
+}
+
+#[test]
+fn a_loop_is_told_by_its_line(rt: HostRuntime) -> Result<(), Fail> {
+    let told = one_loop::<Brand, _>(&rt, Blank::new(1), rt.alloc())?;
+    assert_eq!(rt; told, [true; 2]);
+    Ok(())
+}
+
+// A loop that is drawn through one of an earlier block, each of which is added behind the block before it.
+fn a_parent<L: Ledger, R: Threads>(
+    rt: &R,
+    blank: Blank,
+    alloc: Global,
+) -> Result<[bool; 3], NoMemory>
+    requires name { (blank.name ≡ L.name) × (blank.parts ≡ L.parts) × (0 < L.parts) }
+{
+    let mut steps = Steps::<L>::start(rt, blank);
+    let mut book = opened(alloc, 1, &mut steps)?;
+    let verdict = sound(2, 1, 1);
+    let tuck = adds(
+        alloc,
+        &mut book,
+        Anchor::After(0),
+        5,
+        (1, 1),
+        verdict,
+        &mut steps,
+    );
+    let verdict = sound(3, 2, 1);
+    let knit = adds(
+        alloc,
+        &mut book,
+        Anchor::After(1),
+        1,
+        (2, 2),
+        verdict,
+        &mut steps,
+    );
+    Ok([tuck, knit, tells_loop(&book, 2, 5, &[4], &mut steps)])
+}
+
+#[test]
+fn a_loop_is_drawn_through_one_of_an_earlier_block(rt: HostRuntime) -> Result<(), Fail> {
+    let told = a_parent::<Brand, _>(&rt, Blank::new(1), rt.alloc())?;
+    assert_eq!(rt; told, [true; 3]);
+    Ok(())
+}

@@ -1,0 +1,157 @@
+//! Scripts and their refusals.
+use super::script_lines;
+use edit_journal::BlockName;
+use script_reader::{Cause, Command, Place, ScriptFault, read_script};
+use std::alloc::Global;
+use std::test::Fail;
+
+// Why the lines are no script.
+fn refusal(alloc: Global, texts: &[&str]) -> Option<ScriptFault> {
+    let lines = script_lines(alloc, texts).ok()?;
+    read_script(alloc, &lines).err()
+}
+
+fn at(line: u32, cause: Cause) -> Option<ScriptFault> {
+    Some(ScriptFault::At { line, cause })
+}
+
+#[test]
+fn the_first_line_outside_is_named(rt: HostRuntime) {
+    let alloc = rt.alloc();
+    assert_eq!(rt; refusal(alloc, &[]), at(1, Cause::NoLive));
+    assert_eq!(rt; refusal(alloc, &["live 2"]), at(1, Cause::NoLive));
+    assert_eq!(rt; refusal(alloc, &["# x", "live 1"]), at(1, Cause::NoLive));
+    assert_eq!(rt;
+        refusal(alloc, &["live 1", "session", "look x"]),
+        at(3, Cause::BadLine)
+    );
+    assert_eq!(rt;
+        refusal(alloc, &["live 1", "cut @1"]),
+        at(2, Cause::BadLine)
+    );
+    assert_eq!(rt;
+        refusal(alloc, &["live 1", "session", "look 1", "|x"]),
+        at(4, Cause::BadLine)
+    );
+}
+
+#[test]
+fn own_blocks_stand_before_their_names(rt: HostRuntime) {
+    let alloc = rt.alloc();
+    assert_eq!(rt;
+        refusal(alloc, &["live 1", "session", "cut @1"]),
+        at(3, Cause::NoOwn)
+    );
+    assert_eq!(rt;
+        refusal(alloc, &["live 1", "session", "add start", "cut @0"]),
+        at(4, Cause::NoOwn)
+    );
+    assert_eq!(rt;
+        refusal(
+            alloc,
+            &["live 1", "session", "add start", "add @1", "cut @02"]
+        ),
+        None
+    );
+    assert_eq!(rt;
+        refusal(alloc, &["live 1", "session", "add 0", "session", "cut @1"]),
+        at(5, Cause::NoOwn)
+    );
+}
+
+#[test]
+fn numbers_fit_32_bits(rt: HostRuntime) {
+    let alloc = rt.alloc();
+    assert_eq!(rt;
+        refusal(alloc, &["live 1", "session", "look 4294967295"]),
+        None
+    );
+    assert_eq!(rt;
+        refusal(alloc, &["live 1", "session", "loop 4294967296"]),
+        at(3, Cause::BadLine)
+    );
+    assert_eq!(rt;
+        refusal(alloc, &["live 1", "session", "look 00000000001"]),
+        at(3, Cause::BadLine)
+    );
+}
+
+#[test]
+fn a_blank_in_front_makes_a_bad_line(rt: HostRuntime) {
+    let alloc = rt.alloc();
+    assert_eq!(rt; refusal(alloc, &["live 1", " # x"]), at(2, Cause::BadLine));
+    assert_eq!(rt; refusal(alloc, &["live 1", " |x"]), at(2, Cause::BadLine));
+}
+
+#[test]
+fn skipped_lines_are_counted(rt: HostRuntime) {
+    let alloc = rt.alloc();
+    assert_eq!(rt;
+        refusal(
+            alloc,
+            &["live 1", "# x", "session", "put 0", "", "|in 1", "add @1"]
+        ),
+        at(7, Cause::NoOwn)
+    );
+}
+
+#[test]
+fn a_text_goes_on_behind_a_skipped_line(rt: HostRuntime) -> Result<(), Fail> {
+    let alloc = rt.alloc();
+    let lines = script_lines(alloc, &["live 1", "|a", "|\u{e9}", "# x", "|", "session"])?;
+    let Ok(script) = read_script(alloc, &lines) else {
+        panic!(rt; "refused")
+    };
+    assert_eq!(rt; script.text.len(), 3);
+    assert_eq!(rt; script.text.get(0), Some("a"));
+    assert_eq!(rt; script.text.get(1), Some("\u{e9}"));
+    assert_eq!(rt; script.text.get(2), Some(""));
+    Ok(())
+}
+
+#[test]
+fn a_script_is_read(rt: HostRuntime) -> Result<(), Fail> {
+    let alloc = rt.alloc();
+    let lines = script_lines(
+        alloc,
+        &[
+            " live\t1 ",
+            "|;!knitout-2",
+            "# skipped",
+            "|",
+            " session ",
+            "put 0",
+            "",
+            "|in 1",
+            "add 5",
+            "session",
+            "verdict",
+        ],
+    )?;
+    let Ok(script) = read_script(alloc, &lines) else {
+        panic!(rt; "refused")
+    };
+    assert_eq!(rt; (script.text.len(), script.sessions.len()), (2, 2));
+    let Some(session) = script.sessions.get(0) else {
+        panic!(rt; "no session")
+    };
+    match session.get(0) {
+        Some(Command::Put(BlockName::Id(0), text)) => assert_eq!(rt; text.get(0), Some("in 1")),
+        _ => assert!(rt; false),
+    }
+    match session.get(1) {
+        Some(Command::Add(Place::After(BlockName::Id(5)), text)) => assert_eq!(rt; text.len(), 0),
+        _ => assert!(rt; false),
+    }
+    Ok(())
+}
+
+#[test]
+fn sixty_four_sessions_may_begin(rt: HostRuntime) -> Result<(), Fail> {
+    let alloc = rt.alloc();
+    let mut texts = vec![in alloc; "session"; 66]?;
+    texts[0] = "live 1";
+    assert_eq!(rt; refusal(alloc, &texts), at(66, Cause::ManySessions));
+    assert_eq!(rt; refusal(alloc, &texts[..65]), None);
+    Ok(())
+}

@@ -1,0 +1,27 @@
+//! The tests, and what several of them use.
+mod base;
+mod canonical;
+mod every_sequence;
+mod head;
+mod line;
+mod maker;
+mod pass;
+mod port;
+mod profile;
+mod reader_source;
+mod reading;
+mod token;
+mod usual;
+mod word;
+mod writer_sink;
+
+use machine_profile::Options;
+
+// No option is given.
+const NO_OPTIONS: Options = Options {
+    low: None,
+    high: None,
+    rack: None,
+    hold: None,
+    block: None,
+};
