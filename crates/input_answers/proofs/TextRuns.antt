@@ -16,7 +16,7 @@ use Rattle.carriage_model.specs.declared.carriage.Carriage.{Carriage}
 use Rattle.carriage_model.specs.Carriage.{HasRun, IsRunning, TellsRun, next_line}
 use Rattle.input_answers.specs.declared.one_pass.Run.{Run}
 use Rattle.input_answers.specs.BodyRun.{ExecutesAt, IsRun, PassesOver}
-use Rattle.input_answers.specs.CheckReport.{numbered_line}
+use Rattle.block_summary.specs.Verdicts.{numbered_line}
 use Rattle.input_answers.proofs.BodyRuns.{HasBodyRun, body_run-all, body_run-more, body_run-next, body_run-none, body_run-rest, body_run-running}
 
 -- a carriage has executed the lines behind the head up to this place of the text, before which so many lines stand
@@ -112,7 +112,7 @@ pub executed-from : (profile : Profile) (names : List (List ℕ)) (text : List �
 executed-from profile names text start next old mid new same executes = subst (λ (c : Carriage). ExecutesAt profile names text start next c new) same executes
 
 -- the line with a number, found behind those before it
-pub line-numbered : (text line : List ℕ) (number count start next : ℕ) → IsBehind text count start → StandsAt text start line next → count ≡ number - 1 → line ≡ numbered_line (lines_of text) number
+pub line-numbered : (text line : List ℕ) (number count start next : ℕ) → IsBehind text count start → StandsAt text start line next → count ≡ number - 1 → line ≡ numbered_line 1 (lines_of text) number
 line-numbered text line number count start next here stands is =
     sym (line_here text line count start next here stands).1
     ∙ ap (λ i. get_or (lines_of text) i []) is

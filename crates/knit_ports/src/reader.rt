@@ -66,3 +66,6 @@ fn read_once<R: Read>(reader: &mut R, piece: &mut [u8]) -> Result<usize, Failed>
     }
     Err(Failed)
 }
+
+#[cfg(test)]
+mod tests;

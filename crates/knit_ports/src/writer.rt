@@ -72,3 +72,6 @@ fn write_once<W: Write>(writer: &mut W, piece: &[u8]) -> Result<usize, Failed>
     }
     Err(Failed)
 }
+
+#[cfg(test)]
+mod tests;

@@ -8,12 +8,10 @@ mod maker;
 mod pass;
 mod port;
 mod profile;
-mod reader_source;
 mod reading;
 mod token;
 mod usual;
 mod word;
-mod writer_sink;
 
 use machine_profile::Options;
 

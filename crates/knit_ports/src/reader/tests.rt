@@ -1,5 +1,6 @@
 //! Readers that fail.
-use knit_ports::{Failed, ReaderSource, Source};
+use super::ReaderSource;
+use crate::{Failed, Source};
 use std::io::{self, Error, ErrorKind, Read};
 
 // Fails so many times, always alike, and then gives a byte at each call.
@@ -24,40 +25,41 @@ impl Read for FailingReader {
     }
 }
 
-fn reader_that_fails(kind: ErrorKind, failures: u32) -> FailingReader {
-    FailingReader {
+fn source_that_fails(kind: ErrorKind, failures: u32) -> ReaderSource<FailingReader> {
+    ReaderSource::of(FailingReader {
         kind,
         failures,
         calls: 0,
-    }
+    })
 }
 
 #[test]
 fn an_interrupted_read_is_made_again(rt: HostRuntime) {
-    let mut reader = reader_that_fails(ErrorKind::Interrupted, 1);
-    let mut source = ReaderSource::of(&mut reader);
+    let mut source = source_that_fails(ErrorKind::Interrupted, 1);
     let mut piece = [0; 2];
     assert_eq!(rt; source.read(&mut piece), Ok(1));
     assert_eq!(rt; piece, [7, 0]);
-    assert_eq!(rt; reader.calls, 2);
+    assert_eq!(rt; source.reader.calls, 2);
+    assert_eq!(rt; source.faults, 0);
 }
 
 #[test]
 fn a_thousand_interrupted_reads_are_a_fault(rt: HostRuntime) {
-    let mut reader = reader_that_fails(ErrorKind::Interrupted, 1_000);
-    let mut source = ReaderSource::of(&mut reader);
+    let mut source = source_that_fails(ErrorKind::Interrupted, 1_000);
     let mut piece = [0; 2];
     assert_eq!(rt; source.read(&mut piece), Err(Failed));
-    assert_eq!(rt; reader.calls, 1_000);
+    assert_eq!(rt; source.reader.calls, 1_000);
+    assert_eq!(rt; source.faults, 1);
 }
 
 #[test]
 fn a_failed_read_is_made_once(rt: HostRuntime) {
-    let mut reader = reader_that_fails(ErrorKind::BrokenPipe, 1);
-    let mut source = ReaderSource::of(&mut reader);
+    let mut source = source_that_fails(ErrorKind::BrokenPipe, 1);
     let mut piece = [0; 2];
     assert_eq!(rt; source.read(&mut piece), Err(Failed));
     assert_eq!(rt; piece, [0, 0]);
+    assert_eq!(rt; source.reader.calls, 1);
+    assert_eq!(rt; source.faults, 1);
     assert_eq!(rt; source.read(&mut piece), Ok(1));
-    assert_eq!(rt; reader.calls, 2);
+    assert_eq!(rt; source.faults, 1);
 }

@@ -1,5 +1,6 @@
 //! Writers that fail, and one that takes nothing.
-use knit_ports::{Failed, Sink, WriterSink};
+use super::WriterSink;
+use crate::{Failed, Sink};
 use std::io::{self, Error, ErrorKind, Write};
 
 // Fails so many times, always alike, and then takes so many bytes at each call.
@@ -25,44 +26,46 @@ impl Write for FailingWriter {
     }
 }
 
-fn writer_that_fails(kind: ErrorKind, failures: u32, takes: usize) -> FailingWriter {
-    FailingWriter {
+fn sink_that_fails(kind: ErrorKind, failures: u32, takes: usize) -> WriterSink<FailingWriter> {
+    WriterSink::of(FailingWriter {
         kind,
         failures,
         takes,
         calls: 0,
-    }
+    })
 }
 
 #[test]
 fn an_interrupted_write_is_made_again(rt: HostRuntime) {
-    let mut writer = writer_that_fails(ErrorKind::Interrupted, 1, 2);
-    let mut sink = WriterSink::of(&mut writer);
+    let mut sink = sink_that_fails(ErrorKind::Interrupted, 1, 2);
     assert_eq!(rt; sink.write(&[1, 2, 3]), Ok(2));
-    assert_eq!(rt; writer.calls, 2);
+    assert_eq!(rt; sink.writer.calls, 2);
+    assert_eq!(rt; sink.faults, 0);
 }
 
 #[test]
 fn a_thousand_interrupted_writes_are_a_fault(rt: HostRuntime) {
-    let mut writer = writer_that_fails(ErrorKind::Interrupted, 1_000, 2);
-    let mut sink = WriterSink::of(&mut writer);
+    let mut sink = sink_that_fails(ErrorKind::Interrupted, 1_000, 2);
     assert_eq!(rt; sink.write(&[1, 2, 3]), Err(Failed));
-    assert_eq!(rt; writer.calls, 1_000);
+    assert_eq!(rt; sink.writer.calls, 1_000);
+    assert_eq!(rt; sink.faults, 1);
 }
 
 #[test]
 fn a_failed_write_is_made_once(rt: HostRuntime) {
-    let mut writer = writer_that_fails(ErrorKind::BrokenPipe, 1, 2);
-    let mut sink = WriterSink::of(&mut writer);
+    let mut sink = sink_that_fails(ErrorKind::BrokenPipe, 1, 2);
     assert_eq!(rt; sink.write(&[1, 2, 3]), Err(Failed));
+    assert_eq!(rt; sink.writer.calls, 1);
+    assert_eq!(rt; sink.faults, 1);
     assert_eq!(rt; sink.write(&[1, 2, 3]), Ok(2));
-    assert_eq!(rt; writer.calls, 2);
+    assert_eq!(rt; sink.faults, 1);
 }
 
 #[test]
 fn a_writer_that_takes_nothing_fails(rt: HostRuntime) {
-    let mut writer = writer_that_fails(ErrorKind::BrokenPipe, 0, 0);
-    let mut sink = WriterSink::of(&mut writer);
+    let mut sink = sink_that_fails(ErrorKind::BrokenPipe, 0, 0);
     assert_eq!(rt; sink.write(&[1]), Err(Failed));
+    assert_eq!(rt; sink.faults, 1);
     assert_eq!(rt; sink.write(&[]), Ok(0));
+    assert_eq!(rt; sink.faults, 1);
 }
