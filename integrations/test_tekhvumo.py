@@ -1,4 +1,4 @@
-"""Tests of tekhvumo.py, and of the files for editors and hooks beside it, on the program check_main.
+"""Tests of the command tekhvumo, and of the files for editors and hooks beside it, on the program check_main.
 
 `python3 -m unittest discover integrations` runs them, on the check_main that TEKHVUMO_PROGRAM names or that is found.
 """
@@ -18,7 +18,13 @@ from pathlib import Path
 from typing import NamedTuple
 from xml.etree import ElementTree
 
-import tekhvumo
+from tekhvumo.findings import SUMMARIES
+from tekhvumo.fmt import write_over
+from tekhvumo.hints import HINTS
+from tekhvumo.lines import MOST_BYTES
+from tekhvumo.program import find_program
+from tekhvumo.refusals import OF_FILES
+from tekhvumo.warnings import WARNINGS
 
 HERE = Path(__file__).resolve().parent
 TOP = HERE.parent
@@ -43,7 +49,7 @@ class Case(unittest.TestCase):
         commands = Path(room.name) / "bin"
         self.room.mkdir()
         commands.mkdir()
-        self.program = tekhvumo.find_program(None)
+        self.program = find_program(None)
         (commands / "check_main").symlink_to(os.path.abspath(self.program))
         # (without the packages that the machine has: none is needed, and they take long to find)
         (commands / "tekhvumo").write_text(f'#!/bin/sh\nexec "{sys.executable}" -S "{HERE}/tekhvumo.py" "$@"\n')
@@ -169,7 +175,7 @@ class Rules(Case):
                 self.assertEqual((finding["level"], finding["rule"]), ("error", row.rule))
                 self.assertEqual((finding["line"], finding["column"]), (body(row.lines).count("\n"), row.column))
                 self.assertIn(row.says, finding["message"])
-        self.assertEqual({row.rule for row in RULES}, set(tekhvumo.HINTS))
+        self.assertEqual({row.rule for row in RULES}, set(HINTS))
 
     def test_a_finding_is_a_line_of_text(self) -> None:
         status, output = self.tekhvumo("-", given=body("in 2; knit + f1 1"))
@@ -245,7 +251,7 @@ REFUSALS = [
     ),
     Refusal("NotUtf8", HEAD.encode() + b"; \xc3\xa9\xff\n", 3, 4, "0xff"),
     Refusal("LineLong", HEAD.encode() + b"; " + "\u00e9".encode() * 2048 + b"\n", 3, 2050, "4096 bytes"),
-    Refusal("TooLarge", HEAD.encode() + b"\n" * tekhvumo.MOST_BYTES, 1, 1, "16777216 bytes", 7),
+    Refusal("TooLarge", HEAD.encode() + b"\n" * MOST_BYTES, 1, 1, "16777216 bytes", 7),
 ]
 
 
@@ -316,7 +322,7 @@ class Warnings(Case):
         self.assertEqual(self.places("--warn", lines=self.LINES), self.FOUND)
 
     def test_each_warning_can_be_ignored(self) -> None:
-        for name in tekhvumo.WARNINGS:
+        for name in WARNINGS:
             rest = [place for place in self.FOUND if place[2] != name]
             self.assertLess(len(rest), len(self.FOUND))
             self.assertEqual(self.places("--warn", "--ignore", name, lines=self.LINES), rest)
@@ -379,8 +385,8 @@ class Formats(Case):
     def test_each_rule_and_warning_is_explained(self) -> None:
         rules = re.findall(r"^#### (\w+)$", (TOP / "docs" / "MODEL.md").read_text(), re.M)
         self.assertEqual(len(rules), 17)
-        self.assertEqual(set(rules), set(tekhvumo.HINTS))
-        self.assertLessEqual({*rules, *tekhvumo.WARNINGS, *tekhvumo.OF_FILES}, set(tekhvumo.SUMMARIES))
+        self.assertEqual(set(rules), set(HINTS))
+        self.assertLessEqual({*rules, *WARNINGS, *OF_FILES}, set(SUMMARIES))
 
     def test_options_before_and_behind_files(self) -> None:
         self.write("--warn", SOUND)
@@ -474,7 +480,7 @@ class CanonicalText(Case):
     def test_a_file_that_changes_meanwhile_stays(self) -> None:
         path = self.write("a.k", self.LOUD)
         with self.assertRaises(OSError):
-            tekhvumo.write_over(str(path), b"what was read", b"what is written")
+            write_over(str(path), b"what was read", b"what is written")
         self.assertEqual((path.read_text(), os.listdir(self.room)), (self.LOUD, ["a.k"]))
 
     @unittest.skipIf(os.geteuid() == 0, "root may write everything")
@@ -578,10 +584,11 @@ class Hooks(Case):
 
     def test_the_workflow(self) -> None:
         self.make_repository()
-        for name, made in (("tekhvumo.py", HERE / "tekhvumo.py"), ("check_main", Path(self.program))):
-            (self.room / "tools").mkdir(exist_ok=True)
-            shutil.copy(made, self.room / "tools" / name)
-        command = re.search(r"run: (.*)", (HERE / "knitout.yml").read_text())[1]
+        shutil.copytree(HERE / "tekhvumo", self.room / "tools" / "tekhvumo")
+        shutil.copy(self.program, self.room / "tools" / "check_main")
+        workflow = (HERE / "knitout.yml").read_text()
+        command = re.search(r"run: (.*)", workflow)[1]
+        self.environment["PYTHONPATH"] = re.search(r"PYTHONPATH: (\w+)", workflow)[1]
         self.assertEqual(self.run_command("bash", "-eo", "pipefail", "-c", command).returncode, 0)
         self.write("a b.k", BROKEN)
         self.git("add", ".")
