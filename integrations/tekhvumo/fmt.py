@@ -6,7 +6,6 @@ import os
 import shutil
 import tempfile
 
-from .files import read_file
 from .findings import Finding, Report, fault
 from .lines import Source, shown
 from .program import Program, Status
@@ -39,7 +38,7 @@ def canonical_text(program: Program, source: Source) -> tuple[Source, Report]:
     """The canonical text; or the text as it is, with the reason why it stays."""
     status, output = program.canonical(source.data)
     if status:
-        return source, Report([refusal(source, status, output.decode(errors="replace").strip())], status)
+        return source, Report([refusal(program, source, status, output.decode(errors="replace").strip())], status)
     new = Source(source.name, output)
     otherwise = reads_otherwise(program, source, new)
     return (source, Report([otherwise], Status.BROKEN)) if otherwise else (new, Report([], Status.SOUND))
@@ -69,17 +68,25 @@ def write_over(path: str, old: bytes, new: bytes) -> None:
         raise
 
 
-def formatted(program: Program, path: str, name: str, only_check: bool) -> Report:
+def not_canonical(old: Source, new: Source) -> Finding:
+    """Where a text first differs from its canonical one."""
+    number = first_difference(old, new)
+    said = f"the canonical text has `{shown(new.line(number))}` here; `tekhvumo fmt` writes it"
+    if old.line(number) == new.line(number):
+        # (the lines look alike)
+        has_return = old.raw(number) != old.pieces[number - 1]
+        said = "the line ends with a carriage return" if has_return else "the last line has no line feed"
+        said += "; `tekhvumo fmt` mends it in all lines" if has_return else "; `tekhvumo fmt` writes it"
+    return Finding(old.name, number, 1, len(old.line(number)) + 1, "error", "NotCanonical", said)
+
+
+def formatted(program: Program, path: str, source: Source, only_check: bool) -> Report:
     """Writes the canonical text of a file over it, or only says where it differs."""
-    source = read_file(path, name)
     new, report = canonical_text(program, source)
     if report.findings or new.data == source.data:
         return report
     if only_check:
-        number = first_difference(source, new)
-        message = f"the canonical text has `{shown(new.line(number))}` here; `tekhvumo fmt` writes it"
-        end = len(source.line(number)) + 1
-        return Report([Finding(name, number, 1, end, "error", "NotCanonical", message)], Status.BROKEN)
+        return Report([not_canonical(source, new)], Status.BROKEN)
     try:
         write_over(path, source.data, new.data)
     except OSError as trouble:

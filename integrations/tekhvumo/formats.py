@@ -10,6 +10,7 @@ from urllib.parse import quote
 
 from .findings import SUMMARIES, Finding
 from .lines import shown
+from .version import VERSION
 
 
 def as_text(findings: Sequence[Finding]) -> str:
@@ -53,7 +54,7 @@ def as_sarif(findings: Sequence[Finding]) -> str:
             "locations": [place],
         }
 
-    driver = {"name": "tekhvumo", "rules": rules}
+    driver = {"name": "tekhvumo", "version": VERSION, "rules": rules}
     run = {"tool": {"driver": driver}, "columnKind": "unicodeCodePoints", "results": [result(it) for it in findings]}
     schema = "https://json.schemastore.org/sarif-2.1.0.json"
     return json.dumps({"$schema": schema, "version": "2.1.0", "runs": [run]}, indent=1) + "\n"

@@ -2,19 +2,24 @@
 from __future__ import annotations
 
 from .findings import Report
-from .hints import broken_rule
 from .lines import Source
-from .program import Program, Status
+from .mistakes import Mistakes
+from .program import Broken, Program, Status
 from .refusals import refusal
+from .settings import Settings
 from .warnings import warnings
 
 
-def judged(program: Program, source: Source, warned: bool, ignored: frozenset[str]) -> Report:
-    """The verdict on a text as findings, warnings first where they stand above."""
-    answer = program.check(source.data, loops=warned and "EmptyNeedle" not in ignored)
-    if not answer.verdict:
-        return Report([refusal(source, answer.status, answer.refusal)], answer.status)
-    findings = warnings(program, source, answer, ignored) if warned else []
-    if answer.status == Status.BROKEN:
-        findings.append(broken_rule(program, source, answer.verdict))
+def judged(program: Program, source: Source, settings: Settings, is_warned: bool) -> Report:
+    """The verdict on a text as findings, by lines; warnings are of the lines that run."""
+    answer = program.check(source.data)
+    verdict = answer.verdict
+    if not verdict:
+        return Report([refusal(program, source, answer.status, answer.refusal)], answer.status)
+    is_sound = answer.status == Status.SOUND
+    end = len(source.pieces) + 1 if is_sound else verdict["line"]
+    findings = warnings(source, end, is_sound, settings) if is_warned else []
+    if not is_sound:
+        first = Broken(verdict["line"], verdict["rule"], verdict["at"])
+        findings += Mistakes(program, source, settings).all(first)
     return Report(findings, answer.status)

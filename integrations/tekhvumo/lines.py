@@ -1,15 +1,18 @@
-"""Sources of knitout: lines, tokens, needles, and the shapes of instructions."""
+"""Sources of knitout: their lines, and the tokens and needles in these."""
 from __future__ import annotations
 
 import re
-from dataclasses import dataclass
 from functools import cached_property
-from typing import Iterable, Iterator, NamedTuple, Sequence
+from typing import Iterable, NamedTuple, Sequence
 
 # check_main refuses longer files, so no more than a byte beyond is read.
 MOST_BYTES = 16 * 1024 * 1024
 MOST_LINE_BYTES = 4096
 MOST_CARRIERS = 64
+CARRIERS_HEADER = ";;Carriers:"
+MACHINE_HEADER = ";;Machine:"
+# The line feed above the first line that is neither blank nor begins with a semicolon.
+BODY_BEGINS = re.compile(rb"\n(?!;)[ \t]*(?:[^ \t\r\n]|\r(?!\n|\Z))")
 
 
 class Token(NamedTuple):
@@ -28,11 +31,11 @@ class Needle(NamedTuple):
 
     @property
     def is_front(self) -> bool:
-        return self.bed.startswith("f")
+        return self.bed[0] == "f"
 
     @property
     def is_slider(self) -> bool:
-        return self.bed.endswith("s")
+        return self.bed[-1] == "s"
 
     @property
     def hook(self) -> Needle:
@@ -46,44 +49,10 @@ class Needle(NamedTuple):
         return f"{self.bed}{self.number}"
 
 
-class Shape(NamedTuple):
-    """How an instruction is written, and the places of its needles and of its first carrier among the tokens."""
-
-    form: str
-    needles: tuple[int, ...] = ()
-    carriers: int | None = None
-
-
-SHAPES = {
-    "in": Shape("in CARRIER..", carriers=1),
-    "out": Shape("out CARRIER..", carriers=1),
-    "inhook": Shape("inhook CARRIER..", carriers=1),
-    "outhook": Shape("outhook CARRIER..", carriers=1),
-    "releasehook": Shape("releasehook CARRIER..", carriers=1),
-    "rack": Shape("rack NUMBER"),
-    "knit": Shape("knit +|- NEEDLE CARRIER..", (2,), 3),
-    "tuck": Shape("tuck +|- NEEDLE CARRIER..", (2,), 3),
-    "miss": Shape("miss +|- NEEDLE CARRIER..", (2,), 3),
-    "split": Shape("split +|- NEEDLE NEEDLE CARRIER..", (2, 3), 4),
-    "xfer": Shape("xfer NEEDLE NEEDLE", (1, 2)),
-    "drop": Shape("drop NEEDLE", (1,)),
-    "amiss": Shape("amiss NEEDLE", (1,)),
-    "stitch": Shape("stitch ANYTHING.."),
-    "pause": Shape("pause ANYTHING.."),
-}
-NO_SHAPE = Shape("")
-
-
 def needle_of(text: str) -> Needle | None:
     """The needle that a token spells."""
     found = re.fullmatch(r"(fs|bs|f|b)([+-]?[0-9]+)", text)
     return Needle(found[1], int(found[2])) if found else None
-
-
-def needles_of(tokens: Sequence[Token]) -> list[Needle]:
-    """The needles of a readable instruction, in its order."""
-    places = SHAPES.get(tokens[0].text, NO_SHAPE).needles
-    return [needle for place in places if (needle := needle_of(tokens[place].text))]
 
 
 def runs(text: str, column: int = 1) -> list[Token]:
@@ -98,6 +67,7 @@ def shown(text: str, most: int = 60) -> str:
 
 
 def listed(names: Iterable[str]) -> str:
+    """Names with a space between them, as they may stand in a message."""
     return " ".join(shown(name) for name in names)
 
 
@@ -114,57 +84,70 @@ class Source:
         pieces = self.data.split(b"\n")
         return pieces if pieces[-1] else pieces[:-1]
 
-    @cached_property
-    def starts(self) -> list[int]:
-        """The place among the bytes at which each line begins."""
-        starts = [0]
-        for piece in self.pieces:
-            starts.append(starts[-1] + len(piece) + 1)
-        return starts
-
     def raw(self, number: int) -> bytes:
         """The bytes of a line, none for a line that isn't there."""
         piece = self.pieces[number - 1] if number <= len(self.pieces) else b""
         return piece[:-1] if piece.endswith(b"\r") else piece
 
     def line(self, number: int) -> str:
+        """The text of a line."""
         return self.raw(number).decode(errors="replace")
 
     def tokens(self, number: int) -> list[Token]:
         """The tokens of a line before its comment."""
         return runs(self.line(number).partition(";")[0])
 
+    def offset(self, number: int) -> int:
+        """The place among the bytes at which a line begins, also one behind the last."""
+        return sum(map(len, self.pieces[: number - 1])) + number - 1
+
     def above(self, number: int) -> bytes:
         """The text of the lines above one."""
-        return self.data[: self.starts[number - 1]]
+        return self.data[: self.offset(number)]
 
-    def instructions(self, end: int) -> Iterator[tuple[int, list[Token]]]:
-        """The lines of the body above line `end` that have tokens, each with its number."""
-        for number in range(self.head_length + 1, min(end, len(self.pieces) + 1)):
-            tokens = self.tokens(number)
-            if tokens:
-                yield number, tokens
+    def with_lines(self, first: int, last: int, lines: Sequence[str]) -> Source:
+        """This source with other lines in the place of the lines `first` to `last`."""
+        new = "".join(f"{line}{self.line_end}" for line in lines).encode()
+        before, behind = self.data[: self.offset(first)], self.data[self.offset(last + 1) :]
+        # (the last line may lack its line feed)
+        return Source(self.name, before + (b"\n" if before and before[-1:] != b"\n" else b"") + new + behind)
+
+    @cached_property
+    def head(self) -> bytes:
+        """The lines of the head: the first, and those below it that are blank or begin with a semicolon."""
+        found = BODY_BEGINS.search(self.data)
+        return self.data[: found.start() + 1] if found else self.data
 
     @cached_property
     def head_length(self) -> int:
-        """The number of lines of the head: the first, and those below it that are blank or begin with a semicolon."""
-        for number in range(2, len(self.pieces) + 1):
-            raw = self.raw(number)
-            if raw.strip(b" \t") and not raw.startswith(b";"):
-                return number - 1
-        return len(self.pieces)
+        """The number of lines of the head."""
+        return self.head.count(b"\n") + (not self.head.endswith(b"\n") and self.head != b"")
+
+    def header(self, key: str) -> str:
+        """What stands behind the key of a header line; the first of its lines counts."""
+        found = re.search(rb"^" + re.escape(key.encode()) + rb"(.*)$", self.head, re.M)
+        return found[1].decode(errors="replace").strip() if found else ""
 
     def carriers_lines(self) -> list[int]:
         """The lines that begin with `;;Carriers:`, wherever they stand."""
-        return [number for number in range(1, len(self.pieces) + 1) if self.raw(number).startswith(b";;Carriers:")]
+        key = CARRIERS_HEADER.encode()
+        return [number for number, piece in enumerate(self.pieces, 1) if piece.startswith(key)]
 
     def names(self, number: int) -> list[Token]:
         """The names that a line `;;Carriers:` declares."""
-        text = self.line(number)
-        begin = len(";;Carriers:")
-        return runs(text[begin:], begin + 1)
+        return runs(self.line(number)[len(CARRIERS_HEADER) :], len(CARRIERS_HEADER) + 1)
 
     @cached_property
     def declared(self) -> list[str]:
         """The names of the carriers, in the order of the header."""
-        return [token.text for number in self.carriers_lines()[:1] for token in self.names(number)]
+        return re.findall(r"[^ \t]+", self.header(CARRIERS_HEADER))
+
+    @property
+    def machine(self) -> str:
+        """The machine that the head names, or nothing."""
+        return self.header(MACHINE_HEADER)
+
+    @property
+    def line_end(self) -> str:
+        """What stands at the end of a line: with a carriage return, if the first line has one."""
+        return "\r\n" if self.data.partition(b"\n")[0].endswith(b"\r") else "\n"

@@ -6,9 +6,10 @@ from html import escape
 from typing import Any, Iterable, Sequence
 
 from ..findings import Report
-from ..hints import broken_rule
 from ..lines import Needle, Source, listed, needle_of, shown
-from ..program import Loop, Program, State, Status
+from ..mistakes import Mistakes
+from ..program import Broken, Loop, Program, State, Status, spelled_rack
+from ..settings import Settings
 from ..refusals import refusal
 
 
@@ -173,7 +174,7 @@ class Picture:
     def beds(self, top: int, when: str) -> int:
         """The beds, the front one's numbers, and what is in the carriers and the hook; where they end."""
         state = self.state
-        self.text(6, top, f"the beds at rack {state.spelled_rack}, {when}", "small")
+        self.text(6, top, f"the beds at rack {spelled_rack(state.rack)}, {when}", "small")
         seen = {needle.bed for needle in (*state.needles, *self.wrong)}
         y = top
         for bed in BEDS:
@@ -204,16 +205,22 @@ class Picture:
         return element("svg", inner=f"\n{parts}\n", xmlns="http://www.w3.org/2000/svg", **size) + "\n"
 
 
-def drawn(program: Program, source: Source) -> tuple[str, Report]:
+class Range:
+    of = str
+
+
+def drawn(program: Program, source: Source, settings: Settings, lines: Any) -> tuple[str, Report]:
     """The picture of a program, of a broken one up to the broken line; none of a text that is refused."""
     answer = program.check(source.data, loops=True)
     if not answer.verdict:
-        return "", Report([refusal(source, answer.status, answer.refusal)], answer.status)
+        return "", Report([refusal(program, source, answer.status, answer.refusal)], answer.status)
     if answer.status == Status.SOUND:
         state, verdict = State(answer.verdict), answer.verdict
         words = f"sound: {verdict['lines']} lines, {verdict['made']} loops made, {verdict['held']} held"
         return Picture(source, answer.loops, state, []).svg([source.name, words], False), Report([], Status.SOUND)
-    finding = broken_rule(program, source, answer.verdict)
+    verdict = answer.verdict
+    first = Broken(verdict["line"], verdict["rule"], verdict["at"])
+    finding = Mistakes(program, source, settings).all(first)[0]
     tokens = source.tokens(finding.line)
     # (a line that is no instruction has needles all the same)
     needles = [needle for token in tokens[1:] if (needle := needle_of(token.text))]
