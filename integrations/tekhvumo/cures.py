@@ -2,6 +2,7 @@
 from __future__ import annotations
 
 import re
+from collections import Counter
 from fractions import Fraction
 from typing import Callable, Iterable, Iterator
 
@@ -73,12 +74,9 @@ def near_carriers(place: Place) -> list[str]:
 
 def lines_above(place: Place, *words: str) -> Iterator[tuple[int, list[str]]]:
     """The lines above that have one of the words first, with their words, the nearest first."""
-    starts = tuple(word.encode() for word in words)
-    for number in range(place.number - 1, place.source.head_length, -1):
-        if place.source.raw(number).lstrip(b" \t").startswith(starts):
-            texts = [token.text for token in place.source.tokens(number)]
-            if texts and texts[0] in words:
-                yield number, texts
+    for number in reversed(place.source.lines_of(words)):
+        if number < place.number:
+            yield number, [token.text for token in place.source.tokens(number)]
 
 
 def needle_at(place: Place, number: int, at: int) -> Needle | None:
@@ -308,16 +306,12 @@ def release_above(place: Place) -> Candidates:
 
 def hold_distances(place: Place) -> list[int]:
     """How many lines the hook holds its yarn elsewhere in the file, the most usual first."""
-    counts: dict[int, int] = {}
-    since = 0
-    for number in range(place.source.head_length + 1, len(place.source.pieces) + 1):
-        raw = place.source.raw(number).lstrip(b" \t")
-        if raw.startswith(b"inhook"):
-            since = number
-        elif raw.startswith(b"releasehook") and since:
-            counts[number - since] = counts.get(number - since, 0) + 1
-            since = 0
-    return sorted(counts, key=lambda distance: -counts[distance])[:2]
+    takings = place.source.lines_of(["inhook"])
+    distances: Counter[int] = Counter()
+    for number in place.source.lines_of(["releasehook"]):
+        before = [taking for taking in takings if taking < number]
+        distances.update(number - taking for taking in before[-1:])
+    return [distance for distance, _ in distances.most_common(2)]
 
 
 def of_hook_other(place: Place) -> Candidates:

@@ -3,7 +3,6 @@ from __future__ import annotations
 
 import os
 import sys
-from concurrent.futures import ProcessPoolExecutor
 from pathlib import Path
 from typing import Callable, Iterable, Iterator, Sequence
 
@@ -88,6 +87,9 @@ def reports(paths: Sequence[str], jobs: int, work: Safely) -> Iterator[Report]:
     if jobs == 1 or not is_worth_processes(paths):
         yield from map(work, paths)
         return
+    # (read only where it is needed: it takes as long as a small file's whole check)
+    from concurrent.futures import ProcessPoolExecutor
+
     share = max(1, min(16, len(paths) // (4 * jobs)))
     with ProcessPoolExecutor(min(jobs, len(paths))) as pool:
         yield from pool.map(work, paths, chunksize=share)

@@ -87,10 +87,7 @@ class Place:
     @cached_property
     def hooked_at(self) -> int:
         """The line that gave the hook its yarn, or 0."""
-        for number in range(self.number - 1, self.source.head_length, -1):
-            if self.source.raw(number).lstrip(b" \t").startswith(b"inhook"):
-                return number
-        return 0
+        return max((number for number in self.source.lines_of(["inhook"]) if number < self.number), default=0)
 
     @property
     def is_large(self) -> bool:

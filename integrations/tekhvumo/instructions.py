@@ -3,7 +3,7 @@ from __future__ import annotations
 
 import re
 from dataclasses import dataclass
-from enum import Enum
+from enum import Enum, IntEnum
 from typing import Iterator, NamedTuple, Sequence
 
 from .lines import Needle, Source, Token, needle_of
@@ -76,7 +76,7 @@ def fits(part: Part, text: str) -> bool:
     return True
 
 
-class Action(Enum):
+class Action(IntEnum):
     """What an instruction does; without a carrier `knit` drops, `split` moves, and `tuck` does nothing."""
 
     BRING_IN = 1

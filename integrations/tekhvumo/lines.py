@@ -77,6 +77,7 @@ class Source:
     def __init__(self, name: str, data: bytes) -> None:
         self.name = name
         self.data = data
+        self.offsets = {1: 0}
 
     @cached_property
     def pieces(self) -> list[bytes]:
@@ -99,7 +100,24 @@ class Source:
 
     def offset(self, number: int) -> int:
         """The place among the bytes at which a line begins, also one behind the last."""
-        return sum(map(len, self.pieces[: number - 1])) + number - 1
+        if number not in self.offsets:
+            # (asked for again and again near one line)
+            known = max(it for it in self.offsets if it < number)
+            self.offsets[number] = self.offsets[known] + sum(map(len, self.pieces[known - 1 : number - 1])) + number - known
+        return self.offsets[number]
+
+    def lines_of(self, words: Iterable[str]) -> list[int]:
+        """The lines of the body that have one of the words first."""
+        known = [word.encode() for word in words if word.encode() in self.data]
+        if not known:
+            return []
+        form = rb"(?m)^[ \t]*(?:" + b"|".join(known) + rb")(?=[ \t\r;]|$)"
+        numbers, number, seen = [], 1, 0
+        for found in re.finditer(form, self.data):
+            number += self.data.count(b"\n", seen, found.start())
+            seen = found.start()
+            numbers.append(number)
+        return [it for it in numbers if it > self.head_length]
 
     def above(self, number: int) -> bytes:
         """The text of the lines above one."""

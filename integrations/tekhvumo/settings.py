@@ -1,7 +1,6 @@
 """What holds for a file: its machine's limits and what is warned of, from `.tekhvumo.toml` and the command line."""
 from __future__ import annotations
 
-import tomllib
 from dataclasses import dataclass, field, replace
 from functools import lru_cache
 from pathlib import Path
@@ -82,6 +81,9 @@ def settings_above(path: Path) -> SettingsFile:
 @lru_cache
 def read_settings(path: Path) -> SettingsFile:
     """The settings of a file; SetupFault where it is wrong."""
+    # (read only where there is such a file)
+    import tomllib
+
     try:
         tables = tomllib.loads(path.read_text(encoding="utf-8"))
     except (OSError, ValueError) as trouble:

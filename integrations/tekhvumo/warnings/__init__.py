@@ -29,10 +29,11 @@ def spots(source: Source, end: int, is_sound: bool, settings: Settings) -> list[
     machine = Machine()
     all_watchers = watchers(machine, settings)
     for_action = {action: [it.see for it in all_watchers if action in it.actions] for action in Action}
+    carry_out = machine.carry_out
     for number, instruction in instructions(source, end):
         for see in for_action[instruction.action]:
             see(number, instruction)
-        machine.carry_out(number, instruction)
+        carry_out(number, instruction)
     for watcher in all_watchers:
         watcher.stop()
         if is_sound:

@@ -33,13 +33,16 @@ class EmptyNeedles(Watcher):
 
     def see(self, number: int, instruction: Instruction) -> None:
         needle = instruction.needles[0]
+        is_empty = not self.machine.loops.get(needle)
         if instruction.action is Action.MOVE:
-            if not self.machine.loops.get(needle):
+            if is_empty:
                 at = SHAPES[instruction.word].needles[0]
                 self.warn(number, at, "EmptyNeedle", f"{needle} holds no loop to transfer")
             return
+        if not is_empty and not self.row:
+            return
+        is_empty = is_empty and instruction.action is not Action.TUCK
         key = instruction.step, instruction.carriers
-        is_empty = instruction.action is not Action.TUCK and not self.machine.loops.get(needle)
         if self.row and (not is_empty or key != self.row_key):
             self.finish_row()
         if is_empty and needle not in self.machine.given_away:

@@ -8,6 +8,9 @@ from ..instructions import FORMS, Action, Instruction
 from ..lines import Needle
 
 
+CHANGE_LOOPS = FORMS | {Action.MOVE, Action.DROP}
+
+
 class Machine:
     """What stands before a line: the rack, the loops on needles, the carriers that are in and those that the hook holds.
 
@@ -30,7 +33,7 @@ class Machine:
     def carry_out(self, number: int, instruction: Instruction) -> None:
         """Does what a line says."""
         action = instruction.action
-        if action in FORMS or action is Action.MOVE or action is Action.DROP:
+        if action in CHANGE_LOOPS:
             self.move_loops(instruction)
         elif action is Action.RACK:
             self.rack = instruction.rack
@@ -60,7 +63,7 @@ class Machine:
                 self.loops[needle] = 1
         if action is Action.MOVE:
             self.given_away.add(needle)
-        else:
+        elif self.given_away:
             self.given_away.discard(needle)
 
 

@@ -49,16 +49,18 @@ class Yarns(Watcher):
     def moved(self, number: int, instruction: Instruction) -> None:
         """Carriers that go along the bed, and form a loop or none."""
         x, step = self.machine.x(instruction.needles[0]), instruction.step
-        begin = SHAPES[instruction.word].carriers or 0
-        for at, name in enumerate(instruction.carriers, begin):
+        for place, name in enumerate(instruction.carriers):
             carrier = self.carriers[name]
             if instruction.action is not Action.MISS:
-                self.stitched(number, at, name, carrier, x, step)
+                # (most loops lie beside the one before)
+                if carrier.x is not None and abs(x - carrier.x) + abs(x - (carrier.x if carrier.stitch is None else carrier.stitch)) > USUAL_DISTANCE:
+                    at = (SHAPES[instruction.word].carriers or 0) + place
+                    self.far_away(number, at, name, carrier, x, step)
                 carrier.stitch, carrier.stitch_line = x, number
             carrier.x, carrier.step = x, step
 
-    def stitched(self, number: int, at: int, name: str, carrier: Carrier, x: float, step: int) -> None:
-        """A loop at a place, behind the carrier or far from its last loop."""
+    def far_away(self, number: int, at: int, name: str, carrier: Carrier, x: float, step: int) -> None:
+        """A loop that may be behind its carrier, or far from the loop before."""
         if carrier.x is None:
             return
         if carrier.step == step and (carrier.x - x) * step > USUAL_DISTANCE:
