@@ -192,7 +192,8 @@ def nearest_rack(text: str) -> str:
 def rack_limit(place: Place) -> Hint:
     what = f"{place.name} is beyond the limit, which is {place.limits.rack} needles to either side"
     needed = -(-abs(Fraction(place.culprit.text)) // 1)
-    return Hint(what, "a rack within it", f", or `--rack {needed}` where the machine racks so far" if needed <= 64 else "")
+    option = f", or `--rack {needed}` where the machine racks so far" if needed <= 64 else ""
+    return Hint(what, "a rack within it", option)
 
 
 @hints("CarrierIsOut", "A carrier that isn't in is named.")

@@ -3,7 +3,7 @@ from __future__ import annotations
 
 import re
 from functools import cached_property
-from typing import Iterable, NamedTuple, Sequence
+from typing import Iterable, Mapping, NamedTuple, Sequence
 
 # check_main refuses longer files, so no more than a byte beyond is read.
 MOST_BYTES = 16 * 1024 * 1024
@@ -103,7 +103,8 @@ class Source:
         if number not in self.offsets:
             # (asked for again and again near one line)
             known = max(it for it in self.offsets if it < number)
-            self.offsets[number] = self.offsets[known] + sum(map(len, self.pieces[known - 1 : number - 1])) + number - known
+            between = sum(map(len, self.pieces[known - 1 : number - 1])) + number - known
+            self.offsets[number] = self.offsets[known] + between
         return self.offsets[number]
 
     def lines_of(self, words: Iterable[str]) -> list[int]:
@@ -122,6 +123,11 @@ class Source:
     def above(self, number: int) -> bytes:
         """The text of the lines above one."""
         return self.data[: self.offset(number)]
+
+    def with_texts(self, texts: Mapping[int, bytes]) -> Source:
+        """This source with other texts for some of its lines."""
+        lines = [texts.get(number, piece) for number, piece in enumerate(self.pieces, 1)]
+        return Source(self.name, b"".join(line + b"\n" for line in lines))
 
     def with_lines(self, first: int, last: int, lines: Sequence[str]) -> Source:
         """This source with other lines in the place of the lines `first` to `last`."""

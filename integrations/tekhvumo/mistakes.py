@@ -46,10 +46,6 @@ class Draft:
         if grows:
             self.inserted.append((cure.first, grows))
 
-    def set_line(self, number: int, text: str) -> None:
-        """Puts another text in the place of a line."""
-        self.source = self.source.with_lines(number, number, (text,))
-
     def original(self, number: int) -> int:
         """The number that a line has in the file."""
         for first, grows in reversed(self.inserted):
@@ -90,8 +86,7 @@ class Mistakes:
 
     def all(self, first: Broken) -> list[Finding]:
         """The findings of a file whose first fault is known."""
-        for group in self.alone:
-            self.blank(group)
+        self.blank(self.alone)
         fault = self.program.fault(self.draft.source.data) if self.alone else first
         of_state = 0
         while True:
@@ -114,38 +109,50 @@ class Mistakes:
         """Whether a fault isn't what a mistake above it led to."""
         return Doubt.ALL not in self.doubts and not (Doubt.LOOPS in self.doubts and fault.rule in OF_LOOPS)
 
-    def blank(self, group: list[Broken]) -> None:
+    def blank(self, groups: list[list[Broken]]) -> None:
         """Leaves lines out of the draft."""
-        for broken in group:
-            self.draft.set_line(self.draft.here(broken.line), "")
+        numbers = [self.draft.here(broken.line) for group in groups for broken in group]
+        self.draft.source = self.draft.source.with_texts(dict.fromkeys(numbers, b""))
 
-    def restore(self, group: list[Broken]) -> None:
+    def restore(self, groups: list[list[Broken]]) -> None:
         """Puts lines into the draft again."""
-        for broken in group:
-            self.draft.set_line(self.draft.here(broken.line), self.file.line(broken.line))
+        lines = [broken.line for group in groups for broken in group]
+        texts = {self.draft.here(line): self.file.pieces[line - 1] for line in lines}
+        self.draft.source = self.draft.source.with_texts(texts)
 
     def line_alone(self, group: list[Broken]) -> bool:
         """Tells a mistake of lines that break a rule by themselves, and whether it was cured in the draft."""
-        head = self.draft.source.head_length
-        self.restore(group)
-        here = self.draft.here(group[0].line)
-        last = self.draft.here(group[-1].line)
         others = [broken.line for broken in group[1:]]
-        if not self.told(group[0]._replace(line=here), last, others):
-            self.blank(group)
+        if not self.can_try:
+            place = Place(self.program, self.file, group[0])
+            self.findings.append(finding_of(place, group[0].line, (), others))
+            return False
+        head = self.draft.source.head_length
+        self.restore([group])
+        first, last = (self.draft.here(broken.line) for broken in (group[0], group[-1]))
+        if not self.told(group[0]._replace(line=first), last, others):
+            self.blank([group])
             return False
         if self.draft.edited_at <= head:
             self.forget_cured()
         return True
 
+    @property
+    def can_try(self) -> bool:
+        """Whether cures are tried from here on."""
+        return Doubt.ALL not in self.doubts and self.budget.left > 0
+
     def forget_cured(self) -> None:
         """Takes the lines that another header has cured off the list."""
         declared, limits = frozenset(self.draft.source.declared), self.program.limits
-        for group in list(self.alone):
+
+        def is_cured(group: list[Broken]) -> bool:
             words = [token.text for token in self.file.tokens(group[0].line)]
-            if broken_rule(words, declared, limits) is None:
-                self.alone.remove(group)
-                self.restore(group)
+            return broken_rule(words, declared, limits) is None
+
+        cured = [group for group in self.alone if is_cured(group)]
+        self.alone = [group for group in self.alone if group not in cured]
+        self.restore(cured)
 
     def told(self, broken: Broken, last: int, others: Sequence[int] = ()) -> bool:
         """Tells a mistake, which other lines may have, too; whether it was cured in the draft.
@@ -153,7 +160,7 @@ class Mistakes:
         A cure has to bring the file beyond line `last`.
         """
         place = Place(self.program, self.draft.source, broken)
-        trials = tried(place, last, self.settings, self.budget) if Doubt.ALL not in self.doubts else []
+        trials = tried(place, last, self.settings, self.budget) if self.can_try else []
         cures = tuple(self.in_file(trial.cure) for trial in trials)
         self.findings.append(finding_of(place, self.draft.original(broken.line), cures, others))
         if not trials or not explains(place, trials[0].cure):

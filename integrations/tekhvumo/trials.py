@@ -65,8 +65,9 @@ def is_last_resort(place: Place, cure: Cure) -> bool:
     """Whether a cure leaves out a line that wasn't written twice: this ends a fault, and is seldom what was meant."""
     if cure.lines or cure.first != place.number:
         return False
-    is_twice = place.rule in ("CarrierIsIn", "HookOther") or (place.rule == "CarrierIsOut" and place.word.startswith("out"))
-    return not is_twice or (place.rule == "HookOther" and bool(place.state.hook))
+    if place.rule == "HookOther":
+        return bool(place.state.hook)
+    return place.rule != "CarrierIsIn" and not (place.rule == "CarrierIsOut" and place.word.startswith("out"))
 
 
 def reach(broken: Broken | None, cure: Cure) -> int:

@@ -6,7 +6,6 @@ import os
 import re
 import shutil
 import unittest
-from pathlib import Path
 from xml.etree import ElementTree
 
 from .case import BROKEN, HERE, SOUND, TOP, Case, body

@@ -55,4 +55,5 @@ class Ends(Watcher):
             said = f"loops stay on {shown(' '.join(map(str, left)))} to the end, though others are dropped here"
             self.warn(self.dropped_at, 0, "LoopsLeft", said)
         if machine.rack:
-            self.warn(self.racked_at, 1, "RackLeft", f"the rack stays at {machine.rack:g} to the end; `rack 0` takes it back")
+            said = f"the rack stays at {machine.rack:g} to the end; `rack 0` takes it back"
+            self.warn(self.racked_at, 1, "RackLeft", said)

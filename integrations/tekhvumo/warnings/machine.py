@@ -12,7 +12,7 @@ CHANGE_LOOPS = FORMS | {Action.MOVE, Action.DROP}
 
 
 class Machine:
-    """What stands before a line: the rack, the loops on needles, the carriers that are in and those that the hook holds.
+    """What stands before a line: the rack, the loops on needles, the carriers that are in, and what the hook holds.
 
     It moves as check_main says that a sound program does, and is moved over lines that run alone.
     """

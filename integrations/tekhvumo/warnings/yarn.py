@@ -19,8 +19,17 @@ class Carrier:
     at: int
     x: float | None = None
     step: int = 0
+    line_here: int = 0
     stitch: float | None = None
     stitch_line: int = 0
+
+    def is_far(self, x: float) -> bool:
+        """Whether a place isn't beside the carrier, or not beside its last loop."""
+        if self.x is None:
+            return False
+        if abs(x - self.x) > USUAL_DISTANCE:
+            return True
+        return self.stitch is not None and abs(x - self.stitch) > USUAL_DISTANCE
 
 
 class Yarns(Watcher):
@@ -53,11 +62,11 @@ class Yarns(Watcher):
             carrier = self.carriers[name]
             if instruction.action is not Action.MISS:
                 # (most loops lie beside the one before)
-                if carrier.x is not None and abs(x - carrier.x) + abs(x - (carrier.x if carrier.stitch is None else carrier.stitch)) > USUAL_DISTANCE:
+                if carrier.is_far(x):
                     at = (SHAPES[instruction.word].carriers or 0) + place
                     self.far_away(number, at, name, carrier, x, step)
                 carrier.stitch, carrier.stitch_line = x, number
-            carrier.x, carrier.step = x, step
+            carrier.x, carrier.step, carrier.line_here = x, step, number
 
     def far_away(self, number: int, at: int, name: str, carrier: Carrier, x: float, step: int) -> None:
         """A loop that may be behind its carrier, or far from the loop before."""
@@ -65,8 +74,8 @@ class Yarns(Watcher):
             return
         if carrier.step == step and (carrier.x - x) * step > USUAL_DISTANCE:
             side = "right" if step > 0 else "left"
-            said = f"carrier {shown(name)} stands {carrier.x - x:+g} needles away, where line {carrier.stitch_line} left it"
-            said = said.replace("+", "").replace("-", "")
+            away = abs(carrier.x - x)
+            said = f"carrier {shown(name)} stands {away:g} needles away, where line {carrier.line_here} left it"
             self.warn(number, at, "CarrierBehind", f"{said}, and a row to the {side} would begin behind it")
         elif carrier.stitch is not None and abs(x - carrier.stitch) > self.longest:
             away = abs(x - carrier.stitch)
