@@ -16,7 +16,8 @@ def load_tests(loader: unittest.TestLoader, tests: unittest.TestSuite, pattern: 
     """The examples in the package, and those in the page of use."""
     for module in (tekhvumo, tekhvumo.api):
         tests.addTests(doctest.DocTestSuite(module))
-    page = (TOP / "docs" / "USING.md").read_text()
+    # (which opens files as from the top of the repository)
+    page = (TOP / "docs" / "USING.md").read_text().replace('Path("examples/', f'Path("{TOP}/examples/')
     for number, block in enumerate(re.findall(r"^```python\n(.*?)^```$", page, re.M | re.S)):
         name = f"USING.md, example {number}"
         tests.addTest(doctest.DocTestCase(doctest.DocTestParser().get_doctest(block, {}, name, name, 0)))

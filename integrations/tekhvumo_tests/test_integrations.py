@@ -33,6 +33,10 @@ class Hooks(Case):
         self.git("add", ".")
         path.write_text(BROKEN)
         self.assertEqual(self.commit(), 0)
+        self.write("a folder/.tekhvumo.toml", "high = 0")
+        path.write_text(SOUND + "; changed\n")
+        self.git("add", ".")
+        self.assertIn(b"error: OffBed: ", self.git("commit", "-q", "-m", "a change").stderr)
 
     def test_differences_of_the_canonical_text(self) -> None:
         self.make_repository()

@@ -215,7 +215,7 @@ def drawn(program: Program, source: Source, settings: Settings, lines: Any) -> t
     if not answer.verdict:
         return "", Report([refusal(program, source, answer.status, answer.refusal)], answer.status)
     if answer.status == Status.SOUND:
-        state, verdict = State(answer.verdict), answer.verdict
+        state, verdict = State.of(answer.verdict), answer.verdict
         words = f"sound: {verdict['lines']} lines, {verdict['made']} loops made, {verdict['held']} held"
         return Picture(source, answer.loops, state, []).svg([source.name, words], False), Report([], Status.SOUND)
     verdict = answer.verdict
