@@ -74,9 +74,8 @@ def near_carriers(place: Place) -> list[str]:
 
 def lines_above(place: Place, *words: str) -> Iterator[tuple[int, list[str]]]:
     """The lines above that have one of the words first, with their words, the nearest first."""
-    for number in reversed(place.source.lines_of(words)):
-        if number < place.number:
-            yield number, [token.text for token in place.source.tokens(number)]
+    for number in place.source.lines_above(place.number, words):
+        yield number, [token.text for token in place.source.tokens(number)]
 
 
 def needle_at(place: Place, number: int, at: int) -> Needle | None:

@@ -87,7 +87,7 @@ class Place:
     @cached_property
     def hooked_at(self) -> int:
         """The line that gave the hook its yarn, or 0."""
-        return max((number for number in self.source.lines_of(["inhook"]) if number < self.number), default=0)
+        return next(self.source.lines_above(self.number, ["inhook"]), 0)
 
     @property
     def is_large(self) -> bool:

@@ -3,7 +3,7 @@ from __future__ import annotations
 
 import re
 from functools import cached_property
-from typing import Iterable, Mapping, NamedTuple, Sequence
+from typing import Iterable, Iterator, Mapping, NamedTuple, Sequence
 
 # check_main refuses longer files, so no more than a byte beyond is read.
 MOST_BYTES = 16 * 1024 * 1024
@@ -120,6 +120,17 @@ class Source:
             numbers.append(number)
         return [it for it in numbers if it > self.head_length]
 
+    def lines_above(self, number: int, words: Sequence[str]) -> Iterator[int]:
+        """The lines of the body above one that have one of the words first, the nearest first."""
+        names = [word.encode() for word in words]
+        end = self.offset(number)
+        while (found := max(self.data.rfind(name, 0, end) for name in names)) >= len(self.head):
+            begin = self.data.rfind(b"\n", 0, found) + 1
+            number -= self.data.count(b"\n", begin, end)
+            end = begin
+            if self.raw(number).split(b";")[0].split()[:1] in [[name] for name in names]:
+                yield number
+
     def above(self, number: int) -> bytes:
         """The text of the lines above one."""
         return self.data[: self.offset(number)]
@@ -174,4 +185,4 @@ class Source:
     @property
     def line_end(self) -> str:
         """What stands at the end of a line: with a carriage return, if the first line has one."""
-        return "\r\n" if self.data.partition(b"\n")[0].endswith(b"\r") else "\n"
+        return "\r\n" if self.data[: self.data.find(b"\n")].endswith(b"\r") else "\n"

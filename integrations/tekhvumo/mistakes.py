@@ -16,7 +16,7 @@ from .line_rules import broken_lines, broken_rule
 from .lines import Source
 from .program import Broken, Program
 from .settings import Settings
-from .trials import Budget, tried
+from .trials import Budget, Trial, tried
 
 # So many mistakes are told of those that need a state: behind them little is certain.
 MOST_OF_STATE = 5
@@ -39,7 +39,7 @@ class Draft:
 
     def apply(self, cure: Cure) -> None:
         """Carries out a cure; a line that goes leaves a blank one, so that the others keep their numbers."""
-        lines = cure.lines or ("",)
+        lines = cure.lines or ("",) * (cure.last - cure.first + 1)
         self.edited_at = cure.first
         self.source = self.source.with_lines(cure.first, cure.last, lines)
         grows = len(lines) - (cure.last - cure.first + 1)
@@ -81,6 +81,8 @@ class Mistakes:
         self.draft = Draft(source)
         self.findings: list[Finding] = []
         self.doubts: set[Doubt] = set()
+        # What the draft breaks since its last cure.
+        self.fault_behind: Broken | None = None
         # Lines that break a rule by themselves, by mistakes, in the order of the file.
         self.alone = grouped(source, broken_lines(source, program.limits))
 
@@ -100,7 +102,7 @@ class Mistakes:
             else:
                 is_cured = self.line_alone(self.alone.pop(0))
             if is_cured:
-                fault = self.program.fault(self.draft.source.data)
+                fault = self.fault_behind
             elif fault and fault.line <= self.draft.here(self.findings[-1].line):
                 fault = None
         return sorted(self.findings, key=lambda finding: (finding.line, finding.column))
@@ -153,6 +155,7 @@ class Mistakes:
         cured = [group for group in self.alone if is_cured(group)]
         self.alone = [group for group in self.alone if group not in cured]
         self.restore(cured)
+        self.fault_behind = self.program.fault(self.draft.source.data)
 
     def told(self, broken: Broken, last: int, others: Sequence[int] = ()) -> bool:
         """Tells a mistake, which other lines may have, too; whether it was cured in the draft.
@@ -167,6 +170,7 @@ class Mistakes:
             self.doubts.add(Doubt.LOOPS if place.word in LOOPS_ALONE else Doubt.ALL)
         if trials:
             self.draft.apply(trials[0].cure)
+            self.fault_behind = fault_in_draft(trials[0])
         return bool(trials)
 
     def in_file(self, cure: Cure) -> Cure:
@@ -185,6 +189,13 @@ def grouped(source: Source, alone: list[Broken]) -> list[list[Broken]]:
     groups = [group for group in by_name.values() if len(group) >= MANY_LINES]
     told = {broken for group in groups for broken in group}
     return sorted([*groups, *([broken] for broken in alone if broken not in told)])
+
+
+def fault_in_draft(trial: Trial) -> Broken | None:
+    """The fault behind a cure, where a line that is left out has become a blank one."""
+    if trial.fault and not trial.cure.lines and trial.fault.line >= trial.cure.first:
+        return trial.fault._replace(line=trial.fault.line + trial.cure.last - trial.cure.first + 1)
+    return trial.fault
 
 
 def explains(place: Place, cure: Cure) -> bool:

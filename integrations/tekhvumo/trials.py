@@ -37,6 +37,7 @@ class Trial:
     """A cure, how far the file runs with it, and the fault that is next."""
 
     cure: Cure
+    fault: Broken | None
     reaches: int
     order: int
 
@@ -47,9 +48,13 @@ def tried(place: Place, last: int, settings: Settings, budget: Budget) -> list[T
     for order, cure in enumerate(candidates(place)):
         if order >= MOST_TRIED or not budget.spend():
             break
-        reaches = reach(place.program.fault(cure.of(place.source).data), cure)
+        fault = place.program.fault(cure.of(place.source).data)
+        reaches = reach(fault, cure)
         if reaches > last:
-            found.append(Trial(cure, reaches, order))
+            found.append(Trial(cure, fault, reaches, order))
+        if place.is_large and reaches == BEYOND_ALL:
+            # The candidates come by likelihood, and the next would cost a run of a long file.
+            break
     is_warned = len(found) > 1 and not place.is_large
     furthest = max((trial.reaches for trial in found), default=0)
 

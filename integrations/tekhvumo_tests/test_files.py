@@ -4,10 +4,11 @@ from __future__ import annotations
 import os
 import pty
 import subprocess
+import time
 
 from tekhvumo import __version__
 
-from .case import BROKEN, SOUND, Case, body
+from .case import BROKEN, HEAD, SOUND, Case, body
 
 
 class ManyFiles(Case):
@@ -41,6 +42,14 @@ class ManyFiles(Case):
         ):
             self.tekhvumo(*words)
             self.assertEqual(self.told, said)
+
+    def test_a_long_file_is_warned_of_at_once(self) -> None:
+        row = "".join(f"knit + f{place} 1\nknit - f{place} 1\n" for place in range(1, 101))
+        self.write("long.k", f"{HEAD}in 1\ntuck + f1 1\n{row * 250}out 1\n")
+        begin = time.process_time()
+        self.findings("--warn", "--also", "KnitCastOn", "long.k")
+        # (about half a second; on a busy machine more)
+        self.assertLess(time.process_time() - begin, 5)
 
     def test_the_version(self) -> None:
         for words in (["--version"], ["fmt", "--version"]):
