@@ -4,16 +4,28 @@ from __future__ import annotations
 import re
 from collections import Counter
 from fractions import Fraction
-from typing import Callable, Iterable, Iterator
+from typing import Callable, Iterator
 
+from .edits import (
+    Candidates,
+    above,
+    carriers_instead,
+    expected_needles,
+    leave_out,
+    leave_out_line,
+    lines_above,
+    near_carriers,
+    needles_instead,
+    rewritten,
+    swapped,
+    written,
+)
 from .findings import Cure
-from .hints import Place, carriers_of, nearest_rack, needed_rack
-from .instructions import SHAPES, instruction_of
+from .hints import Place, nearest_rack, needed_rack
+from .instructions import ACTIONS, SHAPES, instruction_of
 from .lines import CARRIERS_HEADER, Needle, needle_of, shown
 from .program import spelled_rack
 from .unreadable import with_words
-
-Candidates = Iterator[Cure]
 
 
 def candidates(place: Place) -> Candidates:
@@ -26,123 +38,42 @@ def candidates(place: Place) -> Candidates:
             yield cure
 
 
-# ---------------------------------------------------------------- edits
-
-
-def leave_out(place: Place) -> Cure:
-    """The broken line left out."""
-    return Cure("leave this line out", place.number, place.number, ())
-
-
-def leave_out_line(place: Place, number: int) -> Cure:
-    """A line above left out."""
-    return Cure(f"leave out `{shown(place.source.line(number))}` of line {number}", number, number, ())
-
-
-def above(place: Place, line: str, number: int = 0) -> Cure:
-    """A line above the broken one, or above another."""
-    at = number or place.number
-    where = f"line {at}" if number else "this line"
-    return Cure(f"`{shown(line)}` above {where}", at, at - 1, (line,))
-
-
-def written(place: Place, line: str) -> Cure:
-    """Another text for the broken line."""
-    return Cure(f"write `{shown(line.strip())}`", place.number, place.number, (line,))
-
-
-def rewritten(place: Place, number: int, line: str) -> Cure:
-    """Another text for a line above."""
-    return Cure(f"write `{shown(line.strip())}` in line {number}", number, number, (line,))
-
-
-def swapped(place: Place, at: int, text: str) -> Cure:
-    """The broken line with another word at a place."""
-    token = place.tokens[at]
-    line = with_words(place.text, token, text) if text else with_words(place.text, token)
-    title = f"write `{shown(text)}` for `{shown(token.text)}`" if text else f"leave `{shown(token.text)}` out"
-    return Cure(title, place.number, place.number, (line,))
-
-
-# ---------------------------------------------------------------- what the lines beside say
-
-
-def near_carriers(place: Place) -> list[str]:
-    """The carriers that the lines beside name, the nearest first."""
-    return list(dict.fromkeys(name for tokens in place.near for name in carriers_of(tokens)))
-
-
-def lines_above(place: Place, *words: str) -> Iterator[tuple[int, list[str]]]:
-    """The lines above that have one of the words first, with their words, the nearest first."""
-    for number in place.source.lines_above(place.number, words):
-        yield number, [token.text for token in place.source.tokens(number)]
-
-
-def needle_at(place: Place, number: int, at: int) -> Needle | None:
-    """The needle at a place of a line, if the line has the word of the broken one."""
-    if not place.source.head_length < number <= len(place.source.pieces):
-        return None
-    tokens = place.source.tokens(number)
-    return needle_of(tokens[at].text) if len(tokens) > at and tokens[0].text == place.word else None
-
-
-def expected_needles(place: Place, at: int) -> Iterator[Needle]:
-    """The needles that would go on the row of the two lines above, or below, or stand between its neighbours."""
-    before, behind = needle_at(place, place.number - 1, at), needle_at(place, place.number + 1, at)
-    if before and behind and (before.number + behind.number) % 2 == 0:
-        yield Needle(before.bed, (before.number + behind.number) // 2)
-    for side, needle in ((-1, before), (1, behind)):
-        further = needle_at(place, place.number + 2 * side, at)
-        if needle and further:
-            yield Needle(further.bed, 2 * needle.number - further.number)
-        token = place.tokens[1].text if len(place.tokens) > 1 else ""
-        if needle and token in ("+", "-"):
-            yield Needle(needle.bed, needle.number - side * (1 if token == "+" else -1))
-
-
-def needles_instead(place: Place, at: int) -> Candidates:
-    """Other needles at a place: what the row expects, the other bed, a digit fewer."""
-    for needle in expected_needles(place, at):
-        yield swapped(place, at, str(needle))
-    text = place.tokens[at].text
-    found = re.fullmatch(r"([fbs]+)(-?)([0-9]+)", text)
-    if found and len(found[3]) > 1:
-        for drop in range(len(found[3])):
-            yield swapped(place, at, f"{found[1]}{found[2]}{found[3][:drop]}{found[3][drop + 1:]}")
-
-
-def carriers_instead(place: Place, names: Iterable[str]) -> Candidates:
-    """Other carriers in the place of the wrong one."""
-    named = place.carriers()
-    for name in dict.fromkeys(names):
-        if name not in named:
-            yield swapped(place, place.at, name)
-
-
-# ---------------------------------------------------------------- by rules
-
-
 def of_unreadable(place: Place) -> Candidates:
     assert place.misfit
     for line in place.misfit.instead:
         yield written(place, line)
     texts = [token.text for token in place.tokens]
-    for word in dict.fromkeys(tokens[0].text for tokens in place.near[:2]):
-        if instruction_of([word, *texts[1:]]):
-            yield written(place, with_words(place.text, place.tokens[0], word))
-    last, shape = len(place.tokens), SHAPES.get(place.word)
-    if shape is None:
-        return
-    for at in shape.needles:
-        if at < last and needle_of(place.tokens[at].text) is None:
-            for needle in expected_needles(place, at):
-                yield swapped(place, at, str(needle))
-    first = needle_of(place.tokens[-1].text)
+    words = dict.fromkeys(tokens[0].text for tokens in place.near[:2] if tokens[0].text in ACTIONS)
+    meant = [[word, *texts[1:]] for word in words]
+    meant += [[word, *texts] for word in words]
+    for at in range(len(texts) - 1):
+        meant.append([*texts[:at], texts[at + 1], texts[at], *texts[at + 2 :]])
+    for line in [*meant, *with_needle(place, texts)]:
+        if instruction_of(line):
+            yield reworded(place, line)
+    shape, last = SHAPES.get(place.word), len(texts)
+    first = needle_of(texts[-1])
     if place.word == "xfer" and last == 2 and first and (facing := place.facing(first)):
-        yield written(place, f"{place.text.partition(';')[0].rstrip()} {facing}")
-    if shape.carriers == last:
+        yield reworded(place, [*texts, str(facing)])
+    if shape and shape.carriers == last:
         for name in near_carriers(place):
-            yield written(place, f"{place.text.partition(';')[0].rstrip()} {name}")
+            yield reworded(place, [*texts, name])
+
+
+def reworded(place: Place, words: list[str]) -> Cure:
+    """The broken line with other words, and its comment."""
+    begin, end = place.tokens[0].column - 1, place.tokens[-1].end - 1
+    return written(place, place.text[:begin] + " ".join(words) + place.text[end:])
+
+
+def with_needle(place: Place, texts: list[str]) -> Iterator[list[str]]:
+    """The words with the needle that the row expects, in the place of one that is none, and put in where one lacks."""
+    shape = SHAPES.get(place.word)
+    for at in shape.needles if shape else []:
+        if at <= len(texts) and (at == len(texts) or needle_of(texts[at]) is None):
+            for needle in expected_needles(place, at):
+                yield [*texts[:at], str(needle), *texts[at + 1 :]]
+                yield [*texts[:at], str(needle), *texts[at:]]
 
 
 def of_off_bed(place: Place) -> Candidates:
@@ -300,7 +231,25 @@ def release_above(place: Place) -> Candidates:
         at = place.hooked_at + distance
         if place.hooked_at and at < place.number:
             yield above(place, line, at)
+    fifth = fifth_course(place)
+    if fifth:
+        yield above(place, line, fifth)
     yield above(place, line)
+
+
+def fifth_course(place: Place) -> int:
+    """The line at which the fifth course since the hook took its yarn begins, if many follow; or 0.
+
+    Two courses that cast on and two that are knitted hold the yarn, and the hook is in the way from then on.
+    """
+    begins: list[int] = []
+    step = ""
+    for number in range(place.hooked_at + 1, min(place.number, place.hooked_at + 10_000)):
+        tokens = place.source.tokens(number)
+        if len(tokens) > 2 and tokens[0].text in ("knit", "tuck", "split") and tokens[1].text != step:
+            step = tokens[1].text
+            begins.append(number)
+    return begins[4] if place.hooked_at and len(begins) > 6 else 0
 
 
 def hold_distances(place: Place) -> list[int]:

@@ -8,7 +8,7 @@ from __future__ import annotations
 from enum import Enum
 from typing import Sequence
 
-from .cures import leave_out
+from .edits import leave_out
 from .findings import Cure, Finding
 from .hints import HINTS, Hint, Place
 from .instructions import Action, instruction_of

@@ -1,7 +1,7 @@
 """All mistakes of a file, and the cures that were tried.
 
-A file of `mistakes` is one of `good`, with one mistake that a knitter makes: its name is that of the good one, two dashes,
-and what is wrong.
+A file of `mistakes` is one of `good`, with one mistake that a knitter makes: its name is that of the good one, two
+dashes, and what is wrong.
 """
 from __future__ import annotations
 
@@ -14,6 +14,7 @@ from tekhvumo import Cure, Finding, findings
 from tekhvumo.line_rules import broken_rule
 from tekhvumo.lines import Source
 from tekhvumo.program import Limits, Program, find_program
+from tekhvumo.refusals import MAGIC
 
 from .case import HEAD, PROGRAMS, Case, body
 
@@ -77,7 +78,8 @@ class AllMistakes(Case):
     def test_a_name_that_the_header_lacks_is_one_mistake(self) -> None:
         [finding] = self.findings("-", given=body("; ".join(["in 4", *["tuck + f1 4"] * 6, "out 4"])))
         self.assertEqual((finding["rule"], finding["line"], finding["column"]), ("NoCarrier", 3, 4))
-        self.assertIn("here and in lines 4, 5, 6, 7, 8, 9, 10; write `;;Carriers: 1 2 3 4` in line 2", finding["message"])
+        said = "here and in lines 4, 5, 6, 7, 8, 9, 10; write `;;Carriers: 1 2 3 4` in line 2"
+        self.assertIn(said, finding["message"])
 
     def test_the_line_that_gave_the_hook_its_yarn(self) -> None:
         lines = "inhook 1; tuck + f1 1; knit - f1 1; inhook 2"
@@ -97,9 +99,10 @@ class AllMistakes(Case):
         self.assertEqual([(cure["first"], cure["last"]) for cure in found[1]["cures"][:2]], [(8, 8), (8, 8)])
 
     def test_refused_heads_have_cures(self) -> None:
-        for head in (";!knitout 2\n;;Carriers: 1\n", "\ufeff;!knitout-2\n;;Carriers: 1\n", ";!knitout-2\n;; Carriers: 1\n"):
-            with self.subTest(head):
-                text = head + "in 1\nout 1\n"
+        heads = (";!knitout 2", ";;Carriers: 1"), (f"\ufeff{MAGIC}", ";;Carriers: 1"), (MAGIC, ";; Carriers: 1")
+        for first, second in heads:
+            with self.subTest(first, second=second):
+                text = f"{first}\n{second}\nin 1\nout 1\n"
                 [finding] = self.findings("-", given=text)
                 lines = text.splitlines()
                 cure = finding["cures"][0]
@@ -111,8 +114,8 @@ class LineRules(unittest.TestCase):
     """The rules that are read here say what check_main says."""
 
     WORDS = (
-        "in out inhook outhook releasehook rack knit tuck miss split xfer drop amiss stitch pause x-a kntt + - f1 f2 b1 fs1 "
-        "bs2 f b-3 f+04 f1023 f1024 b-1024 b-1025 1 2 3 4 0 0.25 .5 1. -8 8.25 -9 0.3 1e3 ;"
+        "in out inhook outhook releasehook rack knit tuck miss split xfer drop amiss stitch pause x-a kntt + - f1 f2 b1 "
+        "fs1 bs2 f b-3 f+04 f1023 f1024 b-1024 b-1025 1 2 3 4 0 0.25 .5 1. -8 8.25 -9 0.3 1e3 ;"
     ).split(" ")
 
     def test_lines_made_by_chance(self) -> None:

@@ -27,9 +27,11 @@ class ManyFiles(Case):
         (self.room / "empty").mkdir()
         status, output = self.tekhvumo("a", "h.k")
         names = [line.partition(":")[0] for line in output.splitlines()]
-        self.assertEqual((status, names, self.told), (1, ["a/b.k", "a/c.knitout", "a/f/g.k", "h.k"], "4 files, 4 broken\n"))
+        self.assertEqual((status, names), (1, ["a/b.k", "a/c.knitout", "a/f/g.k", "h.k"]))
+        self.assertEqual(self.told, "4 files, 4 broken\n")
         status, output = self.tekhvumo("empty")
-        self.assertEqual((status, output), (4, "empty:1:1: error: ReadFault: no file *.k or *.knitout is in this folder\n"))
+        said = "empty:1:1: error: ReadFault: no file *.k or *.knitout is in this folder\n"
+        self.assertEqual((status, output), (4, said))
 
     def test_the_last_line_counts(self) -> None:
         for name, text in (("a.k", SOUND), ("b.k", BROKEN), ("c.k", "no program"), ("d.k", body("in 1; tuck + f1 1"))):
