@@ -1,0 +1,253 @@
+"""The command tekhvumo.
+
+    tekhvumo [check] [options] FILE..         findings, as FILE:LINE:COLUMN: error: RULE: what is wrong; its cure
+    tekhvumo fmt [--check] [options] FILE..   the canonical text, in place
+    tekhvumo draw [options] FILE > FILE.svg   a picture of the loops
+
+FILE is - for standard input, or a folder, which stands for the knitout files in it. Lines count from 1, and so do
+columns, which count characters.
+"""
+from __future__ import annotations
+
+import argparse
+import io
+import os
+import signal
+import sys
+from dataclasses import dataclass
+from pathlib import Path
+from typing import Callable, Sequence
+
+from .files import each_file, expanded, read_file, unreadable_file
+from .findings import Finding, Report
+from .fmt import canonical_text, formatted
+from .formats import FORMATS, as_text
+from .judge import judged
+from .lines import Source
+from .pictures import Range, drawn
+from .program import BOUNDS, Program, SetupFault, Status, find_program
+from .settings import FILE, Settings, Wishes, settings_of
+from .version import VERSION
+from .warning_names import WARNINGS
+
+HELP = {
+    "low": "the lowest needle (-1024)",
+    "high": "the highest needle (1023)",
+    "rack": "how far the beds rack, in needles (8)",
+    "hold": "loops that a needle may hold (16)",
+}
+
+
+@dataclass(frozen=True)
+class Check:
+    """The judging of a file, as other processes can have it, too."""
+
+    program: str
+    wishes: Wishes
+    name: str
+    is_warned: bool = False
+
+    def settings(self, source: Source, path: str) -> Settings:
+        """What holds for a file; for standard input, as if it lay where its name says."""
+        return settings_of(source, Path(self.name if path == "-" else path), self.wishes)
+
+    def source(self, path: str) -> Source:
+        """The file, under the name that findings give it."""
+        return read_file(path, self.name if path == "-" else path)
+
+    def __call__(self, path: str) -> Report:
+        source = self.source(path)
+        settings = self.settings(source, path)
+        return judged(Program(self.program, settings.limits), source, settings, self.is_warned)
+
+
+@dataclass(frozen=True)
+class Format(Check):
+    """The writing of a file's canonical text over it."""
+
+    only_check: bool = False
+
+    def __call__(self, path: str) -> Report:
+        source = self.source(path)
+        program = Program(self.program, self.settings(source, path).limits)
+        return formatted(program, path, source, self.only_check)
+
+
+# ---------------------------------------------------------------- options
+
+
+def number(name: str, least: int, most: int) -> Callable[[str], int]:
+    """Reads a number between bounds."""
+
+    def read(word: str) -> int:
+        try:
+            value = int(word)
+        except ValueError:
+            value = most + 1
+        if not least <= value <= most:
+            raise argparse.ArgumentTypeError(f"{name} is {least} to {most}, not {word}")
+        return value
+
+    return read
+
+
+def common_parser(command: str, does: str) -> argparse.ArgumentParser:
+    """The options of all commands."""
+    parser = argparse.ArgumentParser(prog=f"tekhvumo {command}".rstrip(), description=does, allow_abbrev=False)
+    parser.add_argument("--version", action="version", version=f"tekhvumo {VERSION}")
+    limits = parser.add_argument_group("limits of the machine", f"else those of the nearest {FILE}, or as in brackets")
+    for name, (least, most) in BOUNDS.items():
+        bounds = f"; {least} to {most}"
+        limits.add_argument(f"--{name}", type=number(name, least, most), metavar="N", help=HELP[name] + bounds)
+    parser.add_argument(
+        "--program", metavar="PATH", help="check_main, if not TEKHVUMO_PROGRAM, with this command, or on the PATH"
+    )
+    parser.add_argument("--name", metavar="NAME", default="-", help="what findings call standard input")
+    return parser
+
+
+def many_parser(command: str, does: str) -> argparse.ArgumentParser:
+    """The options of the commands that take many files."""
+    parser = common_parser(command, does)
+    parser.add_argument("files", nargs="+", metavar="FILE", help="a knitout file, a folder, or - for standard input")
+    parser.add_argument("--format", choices=FORMATS, default="text", help="how findings are written (text)")
+    parser.add_argument(
+        "--jobs",
+        type=number("jobs", 1, 1024),
+        default=os.cpu_count() or 1,
+        metavar="N",
+        help="files at a time (one for each processor)",
+    )
+    return parser
+
+
+def check_parser() -> argparse.ArgumentParser:
+    """The options of check."""
+    parser = many_parser(
+        "check",
+        "Says which rules a program breaks, where, and what cures it. Status: 0 sound, 1 a rule broken, else refused.",
+    )
+    parser.epilog = "Other commands: tekhvumo fmt --help, tekhvumo draw --help."
+    parser.add_argument(
+        "--warn", action="store_true", help="also say what a knitter calls a mistake: " + ", ".join(WARNINGS)
+    )
+    for option, does in (("--ignore", "leave a warning out"), ("--also", "ask for a warning that is left out")):
+        parser.add_argument(
+            option, action="append", choices=WARNINGS, default=[], metavar="NAME", help=f"{does}; as often as needed"
+        )
+    parser.add_argument(
+        "--float", type=number("float", 1, 8192), metavar="N", help="needles that a yarn may float over (10)"
+    )
+    parser.add_argument("--strict", action="store_true", help="warn, and end with status 1 where a warning is written")
+    return parser
+
+
+def wishes_of(options: argparse.Namespace) -> Wishes:
+    """What the command line asks for."""
+    numbers = {name: getattr(options, name) for name in BOUNDS if getattr(options, name) is not None}
+    if getattr(options, "float", None) is not None:
+        numbers["longest_float"] = options.float
+    return Wishes(numbers, frozenset(getattr(options, "ignore", [])), frozenset(getattr(options, "also", [])))
+
+
+# ---------------------------------------------------------------- commands
+
+
+def write_findings(options: argparse.Namespace, findings: Sequence[Finding]) -> None:
+    """Writes findings in the format that is asked for."""
+    print(FORMATS[options.format](findings), end="")
+
+
+def write_count(options: argparse.Namespace, reports: Sequence[Report]) -> None:
+    """Says how many files are broken: of several files, and of one on a terminal."""
+    if options.format != "text" or (len(reports) == 1 and not sys.stderr.isatty()):
+        return
+    broken = sum(report.status == Status.BROKEN for report in reports)
+    refused = sum(report.status > Status.BROKEN for report in reports)
+    warned = sum(finding.level == "warning" for report in reports for finding in report.findings)
+    said = f"{len(reports)} file{'s' if len(reports) > 1 else ''}, {broken or 'none'} broken"
+    said += f", {refused} refused" if refused else ""
+    said += f", {warned} warning{'s' if warned > 1 else ''}" if warned else ""
+    sys.stdout.flush()
+    print(said, file=sys.stderr)
+
+
+def check_command(words: Sequence[str]) -> int:
+    """Judges files."""
+    options = check_parser().parse_intermixed_args(words)
+    wishes = wishes_of(options)
+    work = Check(find_program(options.program), wishes, options.name, options.warn or options.strict)
+    reports = list(each_file(expanded(options.files), options.jobs, work))
+    findings = [finding for report in reports for finding in report.findings]
+    write_findings(options, findings)
+    write_count(options, reports)
+    return max([report.status for report in reports] + [int(options.strict and bool(findings))])
+
+
+def fmt_command(words: Sequence[str]) -> int:
+    """Writes canonical texts."""
+    parser = many_parser(
+        "fmt", "Writes the canonical text of a knitout file over it; of standard input, to standard output."
+    )
+    parser.add_argument(
+        "--check", action="store_true", help="write nothing, and end with status 1 where a file isn't canonical"
+    )
+    options = parser.parse_intermixed_args(words)
+    work = Format(find_program(options.program), wishes_of(options), options.name, only_check=options.check)
+    if "-" in options.files and len(options.files) > 1:
+        parser.error("standard input is formatted alone")
+    if options.files == ["-"] and not options.check:
+        source = work.source("-")
+        new, report = canonical_text(Program(work.program, work.settings(source, "-").limits), source)
+        sys.stdout.buffer.write(new.data)
+        print(FORMATS[options.format](report.findings), end="", file=sys.stderr)
+        return report.status
+    reports = list(each_file(expanded(options.files), options.jobs, work))
+    write_findings(options, [finding for report in reports for finding in report.findings])
+    return max(report.status for report in reports)
+
+
+def draw_command(words: Sequence[str]) -> int:
+    """Draws a program."""
+    parser = common_parser(
+        "draw", "Writes a picture of the loops that a knitout program makes, as SVG, to standard output."
+    )
+    parser.add_argument("file", metavar="FILE", help="a knitout file, or - for standard input")
+    parser.add_argument("--lines", metavar="A-B", type=Range.of, help="draw the loops of these lines alone")
+    options = parser.parse_intermixed_args(words)
+    work = Check(find_program(options.program), wishes_of(options), options.name)
+    try:
+        source = work.source(options.file)
+    except OSError as trouble:
+        picture, report = "", unreadable_file(options.file, trouble)
+    else:
+        settings = work.settings(source, options.file)
+        picture, report = drawn(Program(work.program, settings.limits), source, settings, options.lines)
+    print(as_text(report.findings), end="", file=sys.stderr)
+    print(picture, end="")
+    return report.status
+
+
+COMMANDS = {"check": check_command, "fmt": fmt_command, "draw": draw_command}
+
+
+def main(words: Sequence[str] | None = None) -> int:
+    """Runs a command with words, those of the command line if none are given, and gives its status."""
+    words = sys.argv[1:] if words is None else words
+    for stream in (sys.stdout, sys.stderr):
+        assert isinstance(stream, io.TextIOWrapper)
+        stream.reconfigure(encoding="utf-8", errors="backslashreplace")
+    command = COMMANDS.get(words[0]) if words else None
+    try:
+        status = command(words[1:]) if command else check_command(words)
+        sys.stdout.flush()
+        return status
+    except SetupFault as trouble:
+        print(f"tekhvumo: {trouble}", file=sys.stderr)
+        return Status.USAGE
+    except BrokenPipeError:
+        # Whoever read the output has enough of it; nothing is left to flush at the end.
+        os.dup2(os.open(os.devnull, os.O_WRONLY), sys.stdout.fileno())
+        return Status.WRITE_FAULT
+    except KeyboardInterrupt:
+        return Status.SIGNAL + signal.SIGINT

@@ -1,0 +1,75 @@
+"""The rules that need the line alone, as MODEL.md has them, so that all lines that break one can be told at once."""
+from __future__ import annotations
+
+import re
+from fractions import Fraction
+from typing import Sequence
+
+from .instructions import FORMS, SHAPES, Action, Instruction, instruction_of
+from .lines import Source
+from .program import Broken, Limits
+
+
+def broken_lines(source: Source, limits: Limits) -> list[Broken]:
+    """All lines that break one of the rules that need no state."""
+    declared = frozenset(source.declared)
+    first = source.head_length + 1
+    body = source.pieces[first - 1 :]
+    found: dict[bytes, tuple[str, int]] = {}
+    for piece in set(body):
+        words = re.findall(r"[^ \t]+", piece.removesuffix(b"\r").decode(errors="replace").partition(";")[0])
+        broken = broken_rule(words, declared, limits) if words else None
+        if broken:
+            found[piece] = broken
+    if not found:
+        return []
+    return [Broken(number, *found[piece]) for number, piece in enumerate(body, first) if piece in found]
+
+
+def broken_rule(words: Sequence[str], declared: frozenset[str], limits: Limits) -> tuple[str, int] | None:
+    """The first rule that a line breaks by itself, and the place of the token; None where it breaks none."""
+    instruction = instruction_of(words)
+    if instruction is None:
+        return "Unreadable", 0
+    shape = SHAPES.get(instruction.word)
+    if shape is None:
+        return None
+    for at, needle in zip(shape.needles, instruction.needles):
+        if not limits.low <= needle.number <= limits.high:
+            return "OffBed", at
+    return needle_rule(instruction, shape.needles) or carrier_rule(words, shape.carriers, declared) or (
+        rack_rule(words[1], limits) if instruction.action is Action.RACK else None
+    )
+
+
+def needle_rule(instruction: Instruction, places: Sequence[int]) -> tuple[str, int] | None:
+    """The rule of sliders and beds that an instruction breaks."""
+    needles = instruction.needles
+    if instruction.action in FORMS and needles[0].is_slider:
+        return "SliderForm", places[0]
+    if len(needles) == 2:
+        if needles[0].is_front == needles[1].is_front:
+            return "SameBed", places[1]
+        if needles[0].is_slider and needles[1].is_slider:
+            return "TwoSliders", places[1]
+    return None
+
+
+def carrier_rule(words: Sequence[str], begin: int | None, declared: frozenset[str]) -> tuple[str, int] | None:
+    """The rule of names that an instruction breaks."""
+    names = words[begin:] if begin is not None else []
+    for at, name in enumerate(names, begin or 0):
+        if name not in declared:
+            return "NoCarrier", at
+    for at, name in enumerate(names):
+        if name in names[:at]:
+            return "CarrierTwice", at + (begin or 0)
+    return None
+
+
+def rack_rule(number: str, limits: Limits) -> tuple[str, int] | None:
+    """The rule of racks that a number breaks."""
+    rack = Fraction(number)
+    if (4 * rack).denominator != 1:
+        return "RackStep", 1
+    return ("RackLimit", 1) if abs(rack) > limits.rack else None

@@ -1,0 +1,3 @@
+"""The version of tekhvumo."""
+
+VERSION = "0.1.0"
