@@ -58,7 +58,7 @@ def lie_apart(courses: Sequence[Course], lines: dict[int, Stitch]) -> bool:
         both += count if len(course.beds) == 2 or crosses else 0
         front += count if course.beds == {True} else 0
         back += count if course.beds == {False} else 0
-    return min(front, back) * 4 >= front + back and both * 4 < front + back
+    return min(front, back) * 4 >= front + back and both * 3 < front + back
 
 
 def set_rows(courses: Sequence[Course], are_apart: bool) -> int:

@@ -151,9 +151,9 @@ class Picture:
             back = [y for bed, y in self.lines_of_beds.items() if bed == "b" and "b" in panel.beds]
             front = [y for bed, y in self.lines_of_beds.items() if bed == "f" and "f" in panel.beds]
             for y in back:
-                self.numbers("b", y - 11)
+                self.numbers("b", y - 13)
             for y in front:
-                self.numbers("f", y - 11 if self.is_apart else y + 18)
+                self.numbers("f", y - 13 if self.is_apart else y + 18)
         # (below the numbers)
         self.below_beds = max(self.lines_of_beds.values()) + (10 if self.is_apart else 22)
         return self.below_beds
