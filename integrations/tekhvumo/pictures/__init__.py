@@ -11,7 +11,8 @@ from ..lines import Source, needle_of, shown
 from ..program import Answer, Program, Status
 from ..refusals import refusal
 from ..settings import Settings
-from .picture import Picture
+from .layout import Layout
+from .picture import picture_of
 from .story import Story
 
 # A picture of more can't be looked at.
@@ -78,14 +79,14 @@ def of_lines(
     words = [source.name, f"{what}: {made} loops made, {sum(map(len, state.needles.values()))} held"]
     when = f"behind line {lines.last}" if is_part else "at the end"
     if not findings:
-        return Picture(story, state, [], apart).svg(words, when, False), Report([], Status.SOUND)
+        return picture_of(Layout(story, state, [], apart), words, when, False), Report([], Status.SOUND)
     finding = next((it for it in findings if it.line == lines.last + 1), findings[0])
     # (a line that is no instruction has needles all the same)
     tokens = source.tokens(finding.line)[1:]
     wrong = [needle for token in tokens if (needle := needle_of(token.text))]
     what = f"broken at line {finding.line}: {shown(source.line(finding.line))}"
     words = [source.name, what, f"{finding.rule}: {finding.message}"]
-    picture = Picture(story, state, wrong, apart).svg(words, f"above line {finding.line}", True)
+    picture = picture_of(Layout(story, state, wrong, apart), words, f"above line {finding.line}", True)
     return picture, Report(findings, Status.SOUND)
 
 
