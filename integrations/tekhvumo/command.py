@@ -142,6 +142,14 @@ def check_parser() -> argparse.ArgumentParser:
     return parser
 
 
+def line_range(word: str) -> Range:
+    """A range of lines, or what argparse says of a word that is none."""
+    try:
+        return Range.of(word)
+    except ValueError as trouble:
+        raise argparse.ArgumentTypeError(str(trouble)) from trouble
+
+
 def wishes_of(options: argparse.Namespace) -> Wishes:
     """What the command line asks for."""
     numbers = {name: getattr(options, name) for name in BOUNDS if getattr(options, name) is not None}
@@ -213,7 +221,12 @@ def draw_command(words: Sequence[str]) -> int:
         "draw", "Writes a picture of the loops that a knitout program makes, as SVG, to standard output."
     )
     parser.add_argument("file", metavar="FILE", help="a knitout file, or - for standard input")
-    parser.add_argument("--lines", metavar="A-B", type=Range.of, help="draw the loops of these lines alone")
+    parser.add_argument("--lines", metavar="A-B", type=line_range, help="draw the loops of these lines alone")
+    parser.add_argument(
+        "--beds",
+        choices=["apart", "together"],
+        help="draw front and back as two panels, as of a tube, or as one (what the program looks like)",
+    )
     options = parser.parse_intermixed_args(words)
     work = Check(find_program(options.program), wishes_of(options), options.name)
     try:
@@ -222,7 +235,8 @@ def draw_command(words: Sequence[str]) -> int:
         picture, report = "", unreadable_file(options.file, trouble)
     else:
         settings = work.settings(source, options.file)
-        picture, report = drawn(Program(work.program, settings.limits), source, settings, options.lines)
+        apart = options.beds == "apart" if options.beds else None
+        picture, report = drawn(Program(work.program, settings.limits), source, settings, options.lines, apart)
     print(as_text(report.findings), end="", file=sys.stderr)
     print(picture, end="")
     return report.status
