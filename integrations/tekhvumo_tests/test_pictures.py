@@ -288,7 +288,7 @@ class Ranges(PictureCase):
 class Texts(PictureCase):
     def test_the_picture_in_the_documents_is_what_is_drawn(self) -> None:
         picture, _ = self.made("examples/rib.k", (TOP / "examples" / "rib.k").read_text())
-        self.assertEqual(picture, (TOP / "docs" / "rib.svg").read_text())
+        self.assertEqual(picture, (TOP / "docs" / "pictures" / "rib.svg").read_text())
 
     def test_names_that_are_no_xml(self) -> None:
         text = ";!knitout-2\n;;Carriers: <\x02&'\nin <\x02&'\ntuck + f1 <\x02&'\n"
