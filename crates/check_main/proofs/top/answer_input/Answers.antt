@@ -15,8 +15,8 @@ returns-in-Live g c =
     (subst (λ (x : Command). Ask words x c.args.plan.now.chosen) c.in-Live.is ask) bytes end c.requires.size due)
     c.answer_live.ensures
 
-pub returns-in-Check : goal.returns-in-Check
-returns-in-Check g c = λ words source ask bytes end.
+pub returns-in_ok-ending-in-Check : goal.returns-in_ok-ending-in-Check
+returns-in_ok-ending-in-Check g c = λ words source ask bytes end.
     let reads : reads_file c.args.plan.now.command ≡ true = search rules in
     let ending = c.in_ok-ending-in-Check.ending in
     called-as words source c.without_sessions.result ending.text.items ending.status nothing_played
