@@ -129,4 +129,6 @@ class Documents(Case):
             for command, wanted in re.findall(r"^\$ (.*)\n((?:(?!\$ ).*\n)*)", block, re.M):
                 with self.subTest(command):
                     ran = self.run_command("sh", "-c", f"{command}\n")
-                    self.assertEqual((ran.stdout + ran.stderr).decode(), wanted)
+                    # (a terminal mixes the two streams as they come, which a test can't see)
+                    lines = (ran.stdout + ran.stderr).decode().splitlines()
+                    self.assertEqual(sorted(lines), sorted(wanted.splitlines()))
