@@ -171,12 +171,13 @@ fn a_bad_line_is_mended_and_its_loop_is_told(rt: HostRuntime) -> Result<(), Fail
 #[test]
 fn a_block_of_the_session(rt: HostRuntime) -> Result<(), Fail> {
     let script =
-        "live 1\n|;!knitout-2\n|;;Carriers: 1\n|in 1\nsession\ncut 0\nadd start\n|in 1\n|tuck + f1 1\n|knit + f1 1\nloop 5\nput @1\n|in 1\n";
+        "live 1\n|;!knitout-2\n|;;Carriers: 1\n|in 1\nsession\ncut 0\nadd start\n|in 1\n|tuck + f1 1\n|knit + f1 1\nloop 5\nput @1\n|in 1\nsession\n";
     let text = "session 0\n\
         1 accepted version 1 block 0 sound lines 0 made 0 held 0 rack 0\n\
         2 accepted version 2 block 1 sound lines 3 made 2 held 1 rack 0\n\
         3 loop version 2 loop 5 on f1 + with 1 through 4\n\
         4 accepted version 3 block 1 sound lines 1 made 0 held 0 rack 0\n\
+        session 1\n\
         journal 3\n\
         1 session 0 cut 0 seen 0\n\
         2 session 0 add start block 1 lines 3\n\

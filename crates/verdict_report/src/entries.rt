@@ -1,10 +1,11 @@
 //! The lines of a journal.
-ghost use Rattle.std.specs.Prelude.{◌≡◌, ◌+◌, ◌++◌, ◌<◌, length, drop, OnOk};
+ghost use Rattle.std.specs.Prelude.{◌≡◌, ◌+◌, ◌++◌, ◌<◌, length, drop, OnOk, OnErr};
 ghost use Rattle.verdict_report.specs.LiveText.{add_text, anchor_text, cut_text, edit_text, entries_text, entry_text, journal_text, put_text};
 
 use crate::text::append_labelled;
 use edit_journal::{Anchor, Edit, Entry, Journal};
 use knit_base::{NoMemory, append_number};
+use std::alloc::Global;
 
 // Appends where a new block stands.
 fn append_anchor(anchor: Anchor, out: &mut Vec<u8>) -> Result<(), NoMemory>
@@ -101,4 +102,15 @@ pub(crate) fn append_journal(journal: &Journal, out: &mut Vec<u8>) -> Result<(),
     append_labelled("journal ", u64::from(journal.len()), out)?;
     out.extend_from_slice(b"\n")?;
     append_entries(journal, out)
+}
+
+/// Appends how many entries the journal has, and a line for each, numbered from 1. After `NoMemory` the buffer is as before.
+pub fn report_journal(alloc: Global, journal: &Journal, out: &mut Vec<u8>) -> Result<(), NoMemory>
+    ensures ok { OnOk result (out.new.items ≡ out.old.items ++ journal_text journal.now.entries) }
+    ensures err { OnErr result (out.new.items ≡ out.old.items) }
+{
+    let mut text = Vec::new(alloc);
+    append_journal(journal, &mut text)?;
+    out.extend_from_slice(&text)?;
+    Ok(())
 }

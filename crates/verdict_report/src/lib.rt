@@ -12,27 +12,21 @@
 mod as_json;
 mod carriers;
 mod entries;
-#[cfg(test)]
-mod entries_tests;
 mod json_items;
 mod json_list;
 mod json_loops;
 mod live;
 mod made;
 mod passes;
-#[cfg(test)]
-mod passes_tests;
 mod refusal;
 mod replies;
-#[cfg(test)]
-mod replies_tests;
-#[cfg(test)]
-mod tests;
 mod text;
 
 pub use as_json::{json_of, report_json};
+pub use entries::report_journal;
 pub use live::{live_of, report_live};
 pub use made::made_of;
 pub use passes::{passes_of, report_passes};
 pub use refusal::{Refusal, report_refusal};
+pub use replies::report_reply;
 pub use text::{report_text, text_of};

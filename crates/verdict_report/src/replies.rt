@@ -1,5 +1,5 @@
 //! The lines of what sessions were answered.
-ghost use Rattle.std.specs.Prelude.{◌≡◌, ◌+◌, ◌++◌, codes, drop, flat_map, length, map, OnOk};
+ghost use Rattle.std.specs.Prelude.{◌≡◌, ◌+◌, ◌++◌, codes, drop, flat_map, length, map, OnOk, OnErr};
 ghost use Rattle.carriage_model.specs.FactList.{lent_fact};
 ghost use Rattle.edit_book.specs.declared.reply.Reply.TheVariants as reply;
 ghost use Rattle.verdict_report.specs.VerdictText.{brief_text, end_text, labelled};
@@ -273,8 +273,8 @@ fn append_no_memory(out: &mut Vec<u8>) -> Result<(), NoMemory>
     Ok(())
 }
 
-/// Appends a reply.
-pub(crate) fn append_reply(
+// Appends a reply.
+fn append_reply(
     alloc: Global,
     reply: &Reply,
     declared: &Declared,
@@ -332,6 +332,24 @@ pub(crate) fn append_reply(
         Reply::BlockLong { lines } => append_block_long(*lines, out),
         Reply::NoMemory => append_no_memory(out),
     }
+}
+
+/// Appends a reply, with the lines that belong to it and without its number. After `NoMemory` the buffer is as before.
+///
+/// A carrier that isn't declared has an empty name.
+pub fn report_reply(
+    alloc: Global,
+    reply: &Reply,
+    declared: &Declared,
+    out: &mut Vec<u8>,
+) -> Result<(), NoMemory>
+    ensures ok { OnOk result (out.new.items ≡ out.old.items ++ reply_text declared.now reply.now) }
+    ensures err { OnErr result (out.new.items ≡ out.old.items) }
+{
+    let mut text = Vec::new(alloc);
+    append_reply(alloc, reply, declared, &mut text)?;
+    out.extend_from_slice(&text)?;
+    Ok(())
 }
 
 // Appends a reply with its number.

@@ -2,11 +2,11 @@
 ghost use Rattle.std.specs.Prelude.{◌≡◌, ◌+◌, ◌<◌, ◌≤◌, length, OnOk};
 ghost use Rattle.edit_journal.specs.Entries.{entry_limit};
 
-use crate::entries::append_journal;
 use edit_journal::{Anchor, Edit, Entry, Journal};
 use knit_base::{BlockText, Lines, NoMemory};
 use std::alloc::Global;
 use std::test::Fail;
+use verdict_report::report_journal;
 
 // A text of so many of three lines.
 fn text(alloc: Global, len: u32) -> Result<BlockText, NoMemory>
@@ -32,7 +32,7 @@ fn append(journal: &mut Journal, edit: Edit) -> Result<(), NoMemory>
 // Whether the journal is told by this text.
 fn says(alloc: Global, journal: &Journal, text: &[u8]) -> Result<bool, NoMemory> {
     let mut out = Vec::new(alloc);
-    append_journal(journal, &mut out)?;
+    report_journal(alloc, journal, &mut out)?;
     Ok(out.as_slice() == text)
 }
 

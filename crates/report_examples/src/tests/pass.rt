@@ -1,10 +1,10 @@
 //! The reports on passes and on made programs, with ample memory.
-use crate::{made_of, passes_of, report_passes};
 use carriage_model::Verdict;
 use knit_base::{CarrierNo, Declared, Dir, Fault, NoMemory, Reason, Rule, Yarns};
 use pass_grouping::{Class, Counts, PassOp, PassOps, group};
 use std::alloc::Global;
 use std::test::Fail;
+use verdict_report::{made_of, passes_of, report_passes};
 
 // An operation of the only carrier.
 fn stitch(alloc: Global, line: u32, place: i32) -> Result<PassOp, NoMemory> {

@@ -1,6 +1,5 @@
 //! Replies of each kind against lines that were written by hand.
-use crate::replies::{append_reply, append_sessions, append_verdict};
-use carriage_model::{Brief, Final, LoopFact, LoopLines, Stacks, Verdict};
+use carriage_model::{Brief, LoopFact, LoopLines, Verdict};
 use edit_book::{Reply, Which};
 use edit_journal::BlockName;
 use knit_base::{
@@ -8,6 +7,7 @@ use knit_base::{
 };
 use std::alloc::Global;
 use std::test::Fail;
+use verdict_report::report_reply;
 
 fn carriers(alloc: Global) -> Result<Declared, Fail> {
     let mut declared = Declared::new(alloc);
@@ -19,7 +19,7 @@ fn carriers(alloc: Global) -> Result<Declared, Fail> {
 fn says(alloc: Global, reply: &Reply, text: &str) -> Result<bool, Fail> {
     let declared = carriers(alloc)?;
     let mut out = Vec::new(alloc);
-    append_reply(alloc, reply, &declared, &mut out)?;
+    report_reply(alloc, reply, &declared, &mut out)?;
     Ok(out.as_slice() == text.as_bytes())
 }
 
@@ -218,47 +218,5 @@ fn what_is_not_asked_of_a_book(rt: HostRuntime) -> Result<(), Fail> {
         )?
     );
     assert!(rt; says(alloc, &Reply::NoMemory, "nomemory\n")?);
-    Ok(())
-}
-
-const SESSIONS: &[u8] = b"session 0\n1 nomemory\n2 unseen 1\nsession 1\n";
-
-#[test]
-fn sessions_are_numbered_from_zero_and_replies_from_one(rt: HostRuntime) -> Result<(), Fail> {
-    let alloc = rt.alloc();
-    let declared = carriers(alloc)?;
-    let first = vec![in alloc; Reply::NoMemory, unseen(BlockName::Id(1))]?;
-    let sessions = vec![in alloc; first, Vec::new(alloc)]?;
-    let mut out = Vec::new(alloc);
-    append_sessions(alloc, &sessions, &declared, &mut out)?;
-    assert!(rt; out.as_slice() == SESSIONS);
-    Ok(())
-}
-
-const FINAL: &[u8] = b"final version 2\nsound lines 3 made 2 held 0 rack 0\nin: 1\nhook:\n";
-
-#[test]
-fn the_verdict_at_the_end(rt: HostRuntime) -> Result<(), Fail> {
-    let alloc = rt.alloc();
-    let declared = carriers(alloc)?;
-    let verdict = Verdict::Sound(Final {
-        lines: 3,
-        made: 2,
-        rack: Quarter(0),
-        ins: 1,
-        hook: 0,
-        stacks: Stacks::new(alloc),
-    });
-    let mut out = Vec::new(alloc);
-    append_verdict(
-        alloc,
-        "final version ",
-        2,
-        &verdict,
-        &declared,
-        "",
-        &mut out,
-    )?;
-    assert!(rt; out.as_slice() == FINAL);
     Ok(())
 }

@@ -1,12 +1,12 @@
 //! Reports against texts that were written by hand.
 ghost use Rattle.std.specs.Prelude.{◌<◌, length};
 
-use crate::{Refusal, report_json, report_refusal, report_text};
 use carriage_model::{Facts, Final, LoopLines, Stack, Stacks, Verdict};
 use knit_base::{Bed, CarrierNo, Declared, Dir, Fault, Needle, Quarter, Reason, Rule, append_rack};
 use script_reader::Cause;
 use std::alloc::Global;
 use std::test::Fail;
+use verdict_report::{Refusal, report_json, report_refusal, report_text};
 
 fn carriers(alloc: Global) -> Result<Declared, Fail> {
     let mut declared = Declared::new(alloc);

@@ -1,0 +1,5 @@
+//! The tests, by what is told.
+mod journal;
+mod pass;
+mod reply;
+mod verdict;
