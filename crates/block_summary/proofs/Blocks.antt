@@ -133,8 +133,8 @@ read_none profile carriers lines draft rows is none = record {
   table = subst (λ (xs : List LoopRow). TableStandsFor profile xs []) (sym none) (table_none profile);
 }
 
-one_line_more : (hold : ℕ) (xs : List Read) (r : Read) → block_summary_of hold (xs ++ r ∷ []) ≡ composed (block_summary_of hold xs) (line_summary hold r)
-one_line_more hold xs r = fold_push (λ draft q. composed draft (line_summary hold q)) no_lines xs r
+one_line_more : (profile : Profile) (xs : List Read) (r : Read) → block_summary_of profile (xs ++ r ∷ []) ≡ composed (block_summary_of profile xs) (line_summary profile r)
+one_line_more profile xs r = fold_push (λ draft q. composed draft (line_summary profile q)) no_lines xs r
 
 lawful_more : (profile : Profile) (carriers : ℕ) (xs : List Read) (r : Read) → ((q : Read) → Contains xs q → IsLawfulRead profile carriers q) → IsLawfulRead profile carriers r →
     (q : Read) → Contains (xs ++ r ∷ []) q → IsLawfulRead profile carriers q
@@ -144,18 +144,18 @@ lawful_more profile carriers xs r before here q there = elim (Contains-push_case
 ]
 
 -- the summary of lawful lines stands for them
-stands_for : (profile : Profile) (carriers : ℕ) (xs : List Read) → 1 ≤ profile.hold → ((q : Read) → Contains xs q → IsLawfulRead profile carriers q) → StandsFor profile (block_summary_of profile.hold xs) xs
+stands_for : (profile : Profile) (carriers : ℕ) (xs : List Read) → 1 ≤ profile.hold → ((q : Read) → Contains xs q → IsLawfulRead profile carriers q) → StandsFor profile (block_summary_of profile xs) xs
 stands_for profile carriers xs some lawful = block_stands profile carriers (named xs) xs some lawful (named_known xs)
 
 good_for : (profile : Profile) (carriers : ℕ) (xs : List Read) → 1 ≤ profile.hold → ((q : Read) → Contains xs q → IsLawfulRead profile carriers q) →
-    IsGood carriers profile.hold (named xs) (block_summary_of profile.hold xs)
+    IsGood carriers profile.hold (named xs) (block_summary_of profile xs)
 good_for profile carriers xs some lawful = block_good profile carriers (named xs) xs some lawful (named_known xs)
 
 more_read : (profile : Profile) (carriers : ℕ) (xs : List Read) (r : Read) (rows : List LoopRow) → 1 ≤ profile.hold → ((q : Read) → Contains xs q → IsLawfulRead profile carriers q) →
     TableStandsFor profile rows xs →
-    TableStandsFor profile (rows ++ option_to_list (option_map (row_of (block_summary_of profile.hold xs).lines) (loop_of_line r (block_summary_of profile.hold xs).changes))) (xs ++ r ∷ [])
+    TableStandsFor profile (rows ++ option_to_list (option_map (row_of (block_summary_of profile xs).lines) (loop_of_line r (block_summary_of profile xs).changes))) (xs ++ r ∷ [])
 more_read profile carriers xs r rows some lawful table =
-    let s : Summary = block_summary_of profile.hold xs in
+    let s : Summary = block_summary_of profile xs in
     let stands : StandsFor profile s xs = stands_for profile carriers xs some lawful in
     table_read profile s rows xs r (option_map (row_of s.lines) (loop_of_line r s.changes)) stands table
     (row_at s (loop_of_line r s.changes) (length xs) stands.lines_are (formed_earlier carriers profile.hold (named xs) s r (good_for profile carriers xs some lawful)))
@@ -173,7 +173,7 @@ read_more profile carriers lines i d old new rows more None some within adds goe
     let r : Read = get_or lines i d in
     let taken : take (i + 1) lines ≡ xs ++ r ∷ [] = take_more lines i d within in
     record {
-      is = adds.added.0 ∙ ap (λ s. composed s (line_summary profile.hold r)) has.is ∙ sym (one_line_more profile.hold xs r) ∙ ap (block_summary_of profile.hold) (sym taken);
+      is = adds.added.0 ∙ ap (λ s. composed s (line_summary profile r)) has.is ∙ sym (one_line_more profile xs r) ∙ ap (block_summary_of profile) (sym taken);
       lawful = subst (λ (qs : List Read). (q : Read) → Contains qs q → IsLawfulRead profile carriers q) (sym taken) (lawful_more profile carriers xs r has.lawful adds.lawful);
       table = subst (TableStandsFor profile more) (sym taken)
           (subst (λ (table : List LoopRow). TableStandsFor profile table (xs ++ r ∷ []))
@@ -186,13 +186,13 @@ pub all_read : (profile : Profile) (carriers : ℕ) (lines : List Read) (i : ℕ
     HasRead profile carriers lines i draft rows → IsMadeOf profile carriers draft rows lines
 all_read profile carriers lines i draft rows some past has =
     let all : take i lines ≡ lines = take_all i lines past in
-    let is : draft ≡ block_summary_of profile.hold lines = has.is ∙ ap (block_summary_of profile.hold) all in
+    let is : draft ≡ block_summary_of profile lines = has.is ∙ ap (block_summary_of profile) all in
     let lawful : (q : Read) → Contains lines q → IsLawfulRead profile carriers q = subst (λ (qs : List Read). (q : Read) → Contains qs q → IsLawfulRead profile carriers q) all has.lawful in
     subst (λ (s : Summary). IsMadeOf profile carriers s rows lines) (sym is) (record {
       stands = stands_for profile carriers lines some lawful;
       table = subst (TableStandsFor profile rows) all has.table;
       good = λ known knows. block_good profile carriers known lines some lawful knows;
-      bound = λ known knows. items_bound carriers profile.hold known (block_summary_of profile.hold lines) (block_good profile carriers known lines some lawful knows);
+      bound = λ known knows. items_bound carriers profile.hold known (block_summary_of profile lines) (block_good profile carriers known lines some lawful knows);
     })
 
 stays_stopped : (profile : Profile) (k : ℕ) (r : Read) (ended : Ended) → HasStopped ended → one_more profile k r ended ≡ ended
@@ -232,14 +232,18 @@ good_longer carriers limit known fault s lines longer good =
         within = λ c there. let before = fair.within c there in omega (arith, before, longer);
         in_turn = fair.in_turn;
         nested = fair.nested;
+        agree = fair.agree;
         in_order = fair.in_order;
         changes_fit = λ c there. absurd (Contains-none c there);
         owns = fair.owns;
+        lasts_in_order = fair.lasts_in_order;
+        lasts_fit = fair.lasts_fit;
         sizes = fair.sizes;
         ending = record {
           within = let before = fair.ending.within in omega (arith, before, longer);
           last = fair.ending.last;
           unchanged = refl;
+          no_lasts = refl;
           made = refl;
         };
       };
@@ -249,7 +253,7 @@ good_longer carriers limit known fault s lines longer good =
 sound_ends : (profile : Profile) (s t : State) (first : ℕ) (xs : List Read) (r : Read) → run profile s first xs ≡ Ends t → broken profile r t ≡ None → HasStopped (run profile s first (xs ++ r ∷ [])) → ⊥
 sound_ends profile s t first xs r ends sound stopped =
     subst HasStopped
-    (run-more profile s first xs r ∙ ap (one_more profile (first + length xs) r) ends ∙ ap (λ b. run_on (first + length xs) b t (Ends (step (first + length xs) r t))) sound) stopped
+    (run-more profile s first xs r ∙ ap (one_more profile (first + length xs) r) ends ∙ ap (λ b. run_on (first + length xs) b t (Ends (step profile (first + length xs) r t))) sound) stopped
 
 -- A line at which the lines are known to stop, and whatever comes behind it.
 pub read_stopped : (profile : Profile) (carriers : ℕ) (lines : List Read) (i : ℕ) (d : Read) (old new : Summary) (rows more : List LoopRow) (stop : Option Fault) (fault : Fault) → 1 ≤ profile.hold → i < length lines →
@@ -264,8 +268,8 @@ read_stopped profile carriers lines i d old new rows more (Some found) fault som
     let whole : ys ++ rest ≡ lines =
     append_assoc xs (r ∷ []) rest ∙ ap (λ (qs : List Read). xs ++ qs) (sym (drop_more lines i d within)) ∙ take-append-drop i lines in
     let same : found ≡ fault = cc in
-    let is : block_summary_of profile.hold ys ≡ stopped_at fault new =
-    one_line_more profile.hold xs r ∙ ap (λ s. composed s (line_summary profile.hold r)) (sym has.is) ∙ adds.added.0 ∙ ap (λ f. stopped_at f new) same in
+    let is : block_summary_of profile ys ≡ stopped_at fault new =
+    one_line_more profile xs r ∙ ap (λ s. composed s (line_summary profile r)) (sym has.is) ∙ adds.added.0 ∙ ap (λ f. stopped_at f new) same in
     let lawful : (q : Read) → Contains ys q → IsLawfulRead profile carriers q = lawful_more profile carriers xs r has.lawful adds.lawful in
     let stands : StandsFor profile (stopped_at fault new) ys = subst (λ (s : Summary). StandsFor profile s ys) is (stands_for profile carriers ys some lawful) in
     let stopped : (u : State) (first : ℕ) → HasStopped (run profile u first ys) = broken_stops profile (stopped_at fault new) ys fault stands refl in
@@ -288,26 +292,26 @@ read_stopped profile carriers lines i d old new rows more (Some found) fault som
       bound = λ known knows. items_bound carriers profile.hold known (stopped_at fault (record new { lines = length lines })) (good known knows);
     }
 
-line_is_one : (hold : ℕ) (r : Read) → (line_summary hold r).lines ≡ 1
-line_is_one hold read.Blank = refl
-line_is_one hold read.Comment = refl
-line_is_one hold (read.Broken reason) = refl
-line_is_one hold (read.Instr i) = refl
+line_is_one : (profile : Profile) (r : Read) → (line_summary profile r).lines ≡ 1
+line_is_one profile read.Blank = refl
+line_is_one profile read.Comment = refl
+line_is_one profile (read.Broken reason) = refl
+line_is_one profile (read.Instr i) = refl
 
-pub one_more_line : (hold : ℕ) (r : Read) (old : Summary) → (composed old (line_summary hold r)).lines ≡ old.lines + 1
-one_more_line hold r old = lines-composed old (line_summary hold r) ∙ ap (λ n. old.lines + n) (line_is_one hold r)
+pub one_more_line : (profile : Profile) (r : Read) (old : Summary) → (composed old (line_summary profile r)).lines ≡ old.lines + 1
+one_more_line profile r old = lines-composed old (line_summary profile r) ∙ ap (λ n. old.lines + n) (line_is_one profile r)
 
 -- a line that goes on
-pub goes_lines : (hold : ℕ) (r : Read) (old new : Summary) (formed : Option FormedLoop) → EndsAs hold r old new (GoesOn formed) → new.lines ≡ old.lines + 1
-goes_lines hold r old new formed ends = ap (λ (s : Summary). s.lines) ends.0 ∙ one_more_line hold r old
+pub goes_lines : (profile : Profile) (r : Read) (old new : Summary) (formed : Option FormedLoop) → EndsAs profile r old new (GoesOn formed) → new.lines ≡ old.lines + 1
+goes_lines profile r old new formed ends = ap (λ (s : Summary). s.lines) ends.0 ∙ one_more_line profile r old
 
 -- a line at which the lines stop
-pub stops_lines : (hold : ℕ) (r : Read) (old new : Summary) (fault : Fault) → EndsAs hold r old new (StopsAt fault) → new.lines ≡ old.lines + 1
-stops_lines hold r old new fault ends = sym (ap (λ (s : Summary). s.lines) ends) ∙ one_more_line hold r old
+pub stops_lines : (profile : Profile) (r : Read) (old new : Summary) (fault : Fault) → EndsAs profile r old new (StopsAt fault) → new.lines ≡ old.lines + 1
+stops_lines profile r old new fault ends = sym (ap (λ (s : Summary). s.lines) ends) ∙ one_more_line profile r old
 
 -- what is known of the line's reading is known of any
 pub goes_added : (profile : Profile) (carriers : ℕ) (r q : Read) (old new : Summary) (rows more : List LoopRow) (formed : Option FormedLoop) (offset : ℕ) → r ≡ q → offset ≡ old.lines →
-    IsLawfulRead profile carriers q → EndsAs profile.hold q old new (GoesOn formed) → more ≡ rows ++ option_to_list (option_map (row_of offset) formed) →
+    IsLawfulRead profile carriers q → EndsAs profile q old new (GoesOn formed) → more ≡ rows ++ option_to_list (option_map (row_of offset) formed) →
     AddsLine profile carriers r old new rows more None
 goes_added profile carriers r q old new rows more formed offset same at lawful ends is =
     subst (λ x. AddsLine profile carriers x old new rows more None) (sym same) (record {
@@ -317,7 +321,7 @@ goes_added profile carriers r q old new rows more formed offset same at lawful e
 
 -- the same where it stops
 pub stops_added : (profile : Profile) (carriers : ℕ) (r q : Read) (old new : Summary) (rows : List LoopRow) (fault : Fault) → r ≡ q →
-    IsLawfulRead profile carriers q → EndsAs profile.hold q old new (StopsAt fault) → AddsLine profile carriers r old new rows rows (Some fault)
+    IsLawfulRead profile carriers q → EndsAs profile q old new (StopsAt fault) → AddsLine profile carriers r old new rows rows (Some fault)
 stops_added profile carriers r q old new rows fault same lawful ends =
     subst (λ x. AddsLine profile carriers x old new rows rows (Some fault)) (sym same) (record { lawful = lawful; added = (ends, refl) })
 

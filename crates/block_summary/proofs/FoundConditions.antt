@@ -9,12 +9,12 @@ use Rattle.face_data.specs.declared.bearing.Bearing.{Bearing}
 use Rattle.face_data.specs.declared.bearing.Bearing.TheVariants.{Implied, Refuted, Silent}
 use Rattle.face_data.specs.declared.face.Check.{Check}
 use Rattle.face_data.specs.declared.face.Cond.{Cond}
-use Rattle.face_data.specs.declared.face.Cond.TheVariants.{RackIs, CarrierIn, CarrierOut, HookFree, HookIs, HookLacks, SizeAtMost}
+use Rattle.face_data.specs.declared.face.Cond.TheVariants.{RackIs, CarrierIn, CarrierOut, HookFree, HookIs, HookLacks, SizeAtMost, LastNear}
 use Rattle.face_data.specs.Answers.Answer.{yes_it_does, asks}
 use Rattle.face_data.specs.Bearings.{all_in, bearing, if_so}
 use Rattle.face_data.specs.Composition.{from_bearing, settled}
 use Rattle.face_data.specs.Conditions.{Ask, ask_of, part_of}
-use Rattle.face_data.specs.Conditions.Ask.{rack_is, carrier_in, carrier_out, hook_free, hook_is, hook_lacks, size_at_most}
+use Rattle.face_data.specs.Conditions.Ask.{rack_is, carrier_in, carrier_out, hook_free, hook_is, hook_lacks, size_at_most, last_near}
 use Rattle.face_data.specs.Summaries.{Asked}
 use Rattle.face_data.specs.View.{ChecksFit, CondFits, asked_of, names_of}
 use Rattle.face_data.proofs.Bearings.{all_in_within}
@@ -58,7 +58,7 @@ size_found names more all checks now old new check whole is last fit a h =
       ];
     }))
 
-not_refuted : (b : Bool) → if_so b Implied ≡ Refuted → ⊥
+pub not_refuted : (b : Bool) → if_so b Implied ≡ Refuted → ⊥
 not_refuted true e = absurd (cc)
 not_refuted false e = absurd (cc)
 
@@ -72,28 +72,29 @@ never_refuted (carrier_out x) needles most e = absurd (cc)
 never_refuted hook_free needles most e = absurd (cc)
 never_refuted (hook_is x) needles most e = absurd (cc)
 never_refuted (hook_lacks x) needles most e = absurd (cc)
+never_refuted (last_near c at float) needles most e = absurd (cc)
 
--- a condition on sizes that a kept one implies
-implied_by : (names : List Needle) (checks : List Check) (c : Check) (needles : List Needle) (most : ℕ) → Contains checks c → bearing (ask_of names c.cond) (size_at_most needles most) ≡ Implied →
-    settled (map (asked_of names) checks) (size_at_most needles most) ≡ yes_it_does
+-- a condition that a kept one implies, where none refutes it
+pub implied_by : (names : List Needle) (checks : List Check) (c : Check) (q : Ask) → ((p : Ask) → bearing p q ≡ Refuted → ⊥) → Contains checks c → bearing (ask_of names c.cond) q ≡ Implied →
+    settled (map (asked_of names) checks) q ≡ yes_it_does
 unfolding settled
-implied_by names [] c needles most there says = absurd (Contains-none c there)
-implied_by names (k ∷ ks) c needles most there says =
-    go (bearing (ask_of names k.cond) (size_at_most needles most)) refl (λ later. implied_by names ks c needles most later says)
+implied_by names [] c q never there says = absurd (Contains-none c there)
+implied_by names (k ∷ ks) c q never there says =
+    go (bearing (ask_of names k.cond) q) refl (λ later. implied_by names ks c q never later says)
   where
-    go : (r : Bearing) → bearing (ask_of names k.cond) (size_at_most needles most) ≡ r → (Contains ks c → settled (map (asked_of names) ks) (size_at_most needles most) ≡ yes_it_does) →
-        from_bearing (bearing (ask_of names k.cond) (size_at_most needles most)) (settled (map (asked_of names) ks) (size_at_most needles most)) ≡ yes_it_does
-    go Implied e rest = ap (λ r. from_bearing r (settled (map (asked_of names) ks) (size_at_most needles most))) e
-    go Refuted e rest = absurd (never_refuted (ask_of names k.cond) needles most e)
+    go : (r : Bearing) → bearing (ask_of names k.cond) q ≡ r → (Contains ks c → settled (map (asked_of names) ks) q ≡ yes_it_does) →
+        from_bearing (bearing (ask_of names k.cond) q) (settled (map (asked_of names) ks) q) ≡ yes_it_does
+    go Implied e rest = ap (λ r. from_bearing r (settled (map (asked_of names) ks) q)) e
+    go Refuted e rest = absurd (never (ask_of names k.cond) e)
     go Silent e rest =
-        ap (λ r. from_bearing r (settled (map (asked_of names) ks) (size_at_most needles most))) e
+        ap (λ r. from_bearing r (settled (map (asked_of names) ks) q)) e
         ∙ elim (Contains-cons_cases k ks c there) [
-          | inl same ↦ (let both : Silent ≡ Implied = sym e ∙ ap (λ (d : Check). bearing (ask_of names d.cond) (size_at_most needles most)) same ∙ says in absurd (cc))
+          | inl same ↦ (let both : Silent ≡ Implied = sym e ∙ ap (λ (d : Check). bearing (ask_of names d.cond) q) same ∙ says in absurd (cc))
           | inr later ↦ rest later
         ]
 
 -- and one of which none says anything
-left_by_all : (names : List Needle) (checks : List Check) (q : Ask) → ((c : Check) → Contains checks c → bearing (ask_of names c.cond) q ≡ Silent) → settled (map (asked_of names) checks) q ≡ asks q
+pub left_by_all : (names : List Needle) (checks : List Check) (q : Ask) → ((c : Check) → Contains checks c → bearing (ask_of names c.cond) q ≡ Silent) → settled (map (asked_of names) checks) q ≡ asks q
 unfolding settled
 left_by_all names [] q none = refl
 left_by_all names (k ∷ ks) q none =
@@ -109,6 +110,7 @@ silent_cond names links first rest most (CarrierOut x) linked silent = refl
 silent_cond names links first rest most HookFree linked silent = refl
 silent_cond names links first rest most (HookIs x) linked silent = refl
 silent_cond names links first rest most (HookLacks x) linked silent = refl
+silent_cond names links first rest most (LastNear c at float) linked silent = refl
 silent_cond names links first rest most (SizeAtMost p least) linked silent = go (all_in (first ∷ rest) (part_of names p) && nat_le least most) refl
   where
     go : (b : Bool) → (all_in (first ∷ rest) (part_of names p) && nat_le least most) ≡ b → if_so (all_in (first ∷ rest) (part_of names p) && nat_le least most) Implied ≡ Silent
@@ -126,7 +128,7 @@ chain_says : (names : List Needle) (checks : List Check) (links : List Link) (ne
 chain_says names checks links needles d most chain true some is so not_so h =
     let w = so refl in
     let k = h.conds w.0 w.1 in
-    implied_by names checks k.0 needles most k.1 (ap (λ (c : Cond). bearing (ask_of names c) (size_at_most needles most)) k.2 ∙ w.2)
+    implied_by names checks k.0 (size_at_most needles most) (λ p. never_refuted p needles most) k.1 (ap (λ (c : Cond). bearing (ask_of names c) (size_at_most needles most)) k.2 ∙ w.2)
 chain_says names checks links [] d most chain false some is so not_so h = absurd (omega arith)
 chain_says names checks links (first ∷ rest) d most chain false some is so not_so h =
     left_by_all names checks (size_at_most (first ∷ rest) most)

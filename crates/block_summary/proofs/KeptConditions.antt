@@ -11,14 +11,14 @@ use Rattle.face_data.specs.declared.bearing.Bearing.TheVariants.{Implied, Silent
 use Rattle.face_data.specs.declared.digest.Digest.{Digest}
 use Rattle.face_data.specs.declared.face.Check.{Check}
 use Rattle.face_data.specs.declared.face.Cond.{Cond}
-use Rattle.face_data.specs.declared.face.Cond.TheVariants.{RackIs, CarrierIn, CarrierOut, HookFree, HookIs, HookLacks, SizeAtMost}
+use Rattle.face_data.specs.declared.face.Cond.TheVariants.{RackIs, CarrierIn, CarrierOut, HookFree, HookIs, HookLacks, SizeAtMost, LastNear}
 use Rattle.face_data.specs.Answers.{Answer}
 use Rattle.face_data.specs.Answers.Answer.{yes_it_does, asks}
 use Rattle.face_data.specs.Bearings.{bearing, if_so}
 use Rattle.face_data.specs.Composition.{from_bearing, settled}
 use Rattle.face_data.specs.Conditions.{Ask, ask_of}
-use Rattle.face_data.specs.Conditions.Ask.{size_at_most}
-use Rattle.face_data.specs.Digests.{blank, noted, digest_of, IsPlainCondition}
+use Rattle.face_data.specs.Conditions.Ask.{rack_is, carrier_in, carrier_out, hook_free, hook_is, hook_lacks, size_at_most, last_near}
+use Rattle.face_data.specs.Digests.{blank, noted, digest_of, IsPlainCondition, IsUnsized}
 use Rattle.face_data.specs.Goodness.{IsIrredundant}
 use Rattle.face_data.specs.Summaries.{Asked}
 use Rattle.face_data.specs.View.{CondFits, asked_of, names_of}
@@ -33,32 +33,46 @@ nothing_kept names checks digest no_names no_checks is =
     subst (λ (ns : List Needle). AreKept ns checks digest) (sym no_names)
     (subst (λ (cs : List Check). AreKept [] cs digest) (sym no_checks) (record { fit = All-nil (λ (c : Check). CondFits [] c.cond); whole = refl; digest_is = is; irredundant = tt }))
 
+-- a condition that a digest answers isn't on sizes
+pub plain_unsized : (q : Ask) → IsPlainCondition q → IsUnsized q
+plain_unsized (rack_is q) plain = tt
+plain_unsized (carrier_in c) plain = tt
+plain_unsized (carrier_out c) plain = tt
+plain_unsized hook_free plain = tt
+plain_unsized (hook_is set) plain = tt
+plain_unsized (hook_lacks c) plain = tt
+plain_unsized (size_at_most names most) plain = absurd plain
+plain_unsized (last_near c at float) plain = absurd plain
+
 -- conditions that aren't on sizes name no needles
-pub plain_names : (names : List Needle) (cond : Cond) → IsPlainCondition (ask_of [] cond) → ask_of names cond ≡ ask_of [] cond
+pub plain_names : (names : List Needle) (cond : Cond) → IsUnsized (ask_of [] cond) → ask_of names cond ≡ ask_of [] cond
 plain_names names (RackIs q) plain = refl
 plain_names names (CarrierIn c) plain = refl
 plain_names names (CarrierOut c) plain = refl
 plain_names names HookFree plain = refl
 plain_names names (HookIs set) plain = refl
 plain_names names (HookLacks c) plain = refl
+plain_names names (LastNear c at float) plain = refl
 plain_names names (SizeAtMost p most) plain = absurd plain
 
-plain_fits : (names : List Needle) (cond : Cond) → IsPlainCondition (ask_of [] cond) → CondFits names cond
+plain_fits : (names : List Needle) (cond : Cond) → IsUnsized (ask_of [] cond) → CondFits names cond
 plain_fits names (RackIs q) plain = tt
 plain_fits names (CarrierIn c) plain = tt
 plain_fits names (CarrierOut c) plain = tt
 plain_fits names HookFree plain = tt
 plain_fits names (HookIs set) plain = tt
 plain_fits names (HookLacks c) plain = tt
+plain_fits names (LastNear c at float) plain = tt
 plain_fits names (SizeAtMost p most) plain = absurd plain
 
-pub plain_unnamed : (names : List Needle) (cond : Cond) → IsPlainCondition (ask_of [] cond) → names_of names cond ≡ []
+pub plain_unnamed : (names : List Needle) (cond : Cond) → IsUnsized (ask_of [] cond) → names_of names cond ≡ []
 plain_unnamed names (RackIs q) plain = refl
 plain_unnamed names (CarrierIn c) plain = refl
 plain_unnamed names (CarrierOut c) plain = refl
 plain_unnamed names HookFree plain = refl
 plain_unnamed names (HookIs set) plain = refl
 plain_unnamed names (HookLacks c) plain = refl
+plain_unnamed names (LastNear c at float) plain = refl
 plain_unnamed names (SizeAtMost p most) plain = absurd plain
 
 -- one more condition, with its needles written out
@@ -67,14 +81,14 @@ pushed_all names [] check = refl
 pushed_all names (c ∷ cs) check = ap (λ ks. asked_of names c ∷ ks) (pushed_all names cs check)
 
 -- a condition more that isn't on sizes
-pub plain_asked : (names : List Needle) (checks now : List Check) (fault : Fault) (cond : Cond) → IsPlainCondition (ask_of [] cond) → now ≡ checks ++ record { fault = fault; cond = cond } ∷ [] →
+pub plain_asked : (names : List Needle) (checks now : List Check) (fault : Fault) (cond : Cond) → IsUnsized (ask_of [] cond) → now ≡ checks ++ record { fault = fault; cond = cond } ∷ [] →
     map (asked_of names) now ≡ map (asked_of names) checks ++ record { fault = fault; ask = ask_of [] cond } ∷ []
 plain_asked names checks now fault cond plain is =
     ap (map (asked_of names)) is ∙ pushed_all names checks (record { fault = fault; cond = cond })
     ∙ ap (λ q. map (asked_of names) checks ++ record { fault = fault; ask = q } ∷ []) (plain_names names cond plain)
 
 -- the conditions are kept as before
-pub plain_kept : (names : List Needle) (checks now : List Check) (digest new : Digest) (fault : Fault) (cond : Cond) → IsPlainCondition (ask_of [] cond) →
+pub plain_kept : (names : List Needle) (checks now : List Check) (digest new : Digest) (fault : Fault) (cond : Cond) → IsUnsized (ask_of [] cond) →
     now ≡ checks ++ record { fault = fault; cond = cond } ∷ [] → new ≡ noted digest (ask_of names cond) →
     settled (map (asked_of names) checks) (ask_of [] cond) ≡ asks (ask_of [] cond) → AreKept names checks digest → AreKept names now new
 plain_kept names checks now digest new fault cond plain is says silent are =

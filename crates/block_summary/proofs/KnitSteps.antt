@@ -5,6 +5,7 @@ use Rattle.knit_base.specs.declared.instr.Instr.{Instr}
 use Rattle.knit_base.specs.declared.instr.Instr.TheVariants.{Knit}
 use Rattle.knit_base.specs.declared.needle.Dir.{Dir}
 use Rattle.knit_base.specs.declared.needle.Needle.{Needle}
+use Rattle.knit_base.specs.declared.profile.Profile.{Profile}
 use Rattle.knit_base.specs.declared.rule.Fault.{Fault}
 use Rattle.knit_base.specs.declared.rule.Reason.{Reason}
 use Rattle.knit_base.specs.declared.rule.Rule.TheVariants.{CarrierIsOut, SliderHolds}
@@ -13,6 +14,7 @@ use Rattle.knit_base.specs.Instr.{forming_needle}
 use Rattle.knit_base.specs.Needle.{own_slider}
 use Rattle.face_data.specs.declared.face.Cond.{Cond}
 use Rattle.face_data.specs.declared.face.Effect.{Effect}
+use Rattle.face_data.specs.declared.face.Last.{Last}
 use Rattle.face_data.specs.declared.face.Ending.TheVariants.{Through}
 use Rattle.face_data.specs.declared.face.Seg.{Seg}
 use Rattle.face_data.specs.declared.face.Seg.TheVariants.{Entry}
@@ -25,35 +27,44 @@ use Rattle.face_data.specs.Summaries.{Asked, Summary, raised}
 use Rattle.face_data.proofs.Front.{AllHold}
 use Rattle.face_data.proofs.Members.{Contains-head, Contains-tail}
 use Rattle.carrier_rules.specs.declared.conds.OfEach.TheVariants.{InAction}
-use Rattle.carrier_rules.specs.Carriers.{conds_of, conds_of_each}
+use Rattle.carrier_rules.specs.Carriers.{conds_of_each, early_of}
 use Rattle.slider_rules.specs.Sliders.{bare_slider}
-use Rattle.block_summary.specs.DraftKnowledge.{HasAsked, HasAskedAll, HoldsAfter, Took, effect_in}
-use Rattle.block_summary.specs.LineSummaries.{asked_by, asked_of_sizes, plainly_asked, rack_asked, sizes_asked, slider_asked}
-use Rattle.block_summary.proofs.DraftSteps.{carriers_asked, took_rest}
+use Rattle.block_summary.specs.DraftKnowledge.{AreNearIn, HasAsked, HasAskedAll, HoldsAfter, Took, effect_in}
+use Rattle.block_summary.specs.LineSummaries.{asked_by, asked_of_sizes, near_asked, plainly_asked}
+use Rattle.block_summary.proofs.AskedHold.{near_after}
+use Rattle.block_summary.proofs.DraftSteps.{carriers_asked, near_asked_knit, took_rest}
 use Rattle.block_summary.proofs.LineSteps.{both_asked, first_stops, one_asked}
 
 -- conditions that are known to hold are passed over
-reads_past : (e : Effect) (changes : List Changed) (lines : ℕ) (kept rest more : List Asked) → AllHold e changes kept rest →
-    reads e changes lines kept (rest ++ more) ≡ reads e changes lines kept more
+reads_past : (e : Effect) (la : List Last) (changes : List Changed) (lines : ℕ) (kept rest more : List Asked) → AllHold e la changes kept rest →
+    reads e la changes lines kept (rest ++ more) ≡ reads e la changes lines kept more
 unfolding reads
-reads_past e changes lines kept [] more hold = refl
-reads_past e changes lines kept (c ∷ cs) more hold =
-    ap (λ r. next r kept (raised lines c.fault) (λ ks. reads e changes lines ks (cs ++ more))) (hold c (Contains-head c cs))
-    ∙ reads_past e changes lines kept cs more (λ d there. hold d (Contains-tail c cs d there))
+reads_past e la changes lines kept [] more hold = refl
+reads_past e la changes lines kept (c ∷ cs) more hold =
+    ap (λ r. next r kept (raised lines c.fault) (λ ks. reads e la changes lines ks (cs ++ more))) (hold c (Contains-head c cs))
+    ∙ reads_past e la changes lines kept cs more (λ d there. hold d (Contains-tail c cs d there))
 
 -- the carriers of a knit are known to be in action
 pub carriers_known : (old : Summary) (cs : List CarrierNo) (conds : List (Reason × Cond)) → conds ≡ conds_of_each InAction 3 cs →
     ((c : CarrierNo) → Contains cs c → HoldsAfter old (carrier_in c)) → HasAskedAll old old (map plainly_asked conds) None
 carriers_known old cs conds are known = subst (λ (xs : List (Reason × Cond)). HasAskedAll old old (map plainly_asked xs) None) (sym are) (record {
   rest_stays = refl;
-  asked_are = λ more. reads_past (effect_in old.ending) old.changes old.lines old.checks (map plainly_asked (conds_of_each InAction 3 cs)) more
-      (carriers_asked old.checks (effect_in old.ending) old.changes 3 cs known);
+  asked_are = λ more. reads_past (effect_in old.ending) old.lasts old.changes old.lines old.checks (map plainly_asked (conds_of_each InAction 3 cs)) more
+      (carriers_asked old.checks (effect_in old.ending) old.lasts old.changes 3 cs known);
 })
 
+-- the floats of a knit are known to be short enough
+floats_known : (old : Summary) (limit : Option ℕ) (dir : Dir) (n : Needle) (cs : List CarrierNo) → AreNearIn old limit n cs → HasAskedAll old old (near_asked limit (Knit dir n cs)) None
+floats_known old limit dir n cs near = record {
+  rest_stays = refl;
+  asked_are = λ more. reads_past (effect_in old.ending) old.lasts old.changes old.lines old.checks (near_asked limit (Knit dir n cs)) more
+      (near_asked_knit old.checks (effect_in old.ending) old.lasts old.changes limit dir n cs near);
+}
+
 -- what is asked of a needle that no line has changed
-untouched_answer : (e : Effect) (a : List Changed) (n : Needle) → change_at a n ≡ None → read_answer e a (size_at_most (n ∷ []) 0) ≡ size_left (n ∷ []) 0
+untouched_answer : (e : Effect) (la : List Last) (a : List Changed) (n : Needle) → change_at a n ≡ None → read_answer e la a (size_at_most (n ∷ []) 0) ≡ size_left (n ∷ []) 0
 unfolding read_answer size_answer
-untouched_answer e a n none =
+untouched_answer e la a n none =
     ap (λ (segs : List Seg). size_answer (flat_map (λ (m : Needle). entries_of segs) (n ∷ [])) (sum_by (λ (m : Needle). new_of segs) (n ∷ [])) 0)
     (ap (λ o. unwrap_or o (Entry n ∷ [])) none)
 
@@ -65,34 +76,40 @@ bare_asked old new n slider goes stop own none took is =
     let reason : Reason = record { rule = SliderHolds; at = 2 } in
     subst (λ s. HasAskedAll old new (asked_of_sizes (bare_slider n) ∷ []) s) (sym is)
     (one_asked old new reason (size_at_most (own_slider n ∷ []) 0) goes
-    (subst (λ s. Took (against_kept old.checks (read_answer (effect_in old.ending) old.changes (size_at_most (s ∷ []) 0))) old new (record { line = old.lines; reason = reason }) goes) own
-    (subst (λ r. Took (against_kept old.checks r) old new (record { line = old.lines; reason = reason }) goes) (sym (untouched_answer (effect_in old.ending) old.changes slider none)) took)))
+    (subst (λ s. Took (against_kept old.checks (read_answer (effect_in old.ending) old.lasts old.changes (size_at_most (s ∷ []) 0))) old new (record { line = old.lines; reason = reason }) goes) own
+    (subst (λ r. Took (against_kept old.checks r) old new (record { line = old.lines; reason = reason }) goes) (sym (untouched_answer (effect_in old.ending) old.lasts old.changes slider none)) took)))
 
 -- a knit of carriers forms a loop on its needle
 pub knit_forms : (instr : Instr) (dir : Dir) (n : Needle) (cs : List CarrierNo) → instr ≡ Knit dir n cs → 1 ≤ length cs → forming_needle instr ≡ Some n
 knit_forms instr dir n [] is some = absurd (omega (arith, some))
 knit_forms instr dir n (c ∷ cs) is some = ap forming_needle is
 
--- one of its carriers can't be in action
-pub knit_stops : (hold : ℕ) (instr : Instr) (old new : Summary) (reason : Reason) → HasAskedAll old new (map plainly_asked (conds_of instr)) (Some reason) →
-    HasAskedAll old new (asked_by hold instr) (Some reason)
-knit_stops hold instr old new reason first =
-    first_stops old new (map plainly_asked (conds_of instr)) (rack_asked instr ++ (slider_asked (forming_needle instr) ++ sizes_asked hold instr)) reason first
+-- its slider was asked about, and its floats are known to be short enough
+slider_and_floats : (old mid new : Summary) (all : List Asked) (limit : Option ℕ) (dir : Dir) (n : Needle) (cs : List CarrierNo) (stop : Option Reason) → HasAskedAll old mid all None →
+    HasAskedAll mid new (asked_of_sizes (bare_slider n) ∷ []) stop → AreNearIn old limit n cs → HasAskedAll mid new (asked_of_sizes (bare_slider n) ∷ near_asked limit (Knit dir n cs)) stop
+slider_and_floats old mid new all limit dir n cs None first second near =
+    let near_mid : AreNearIn mid limit n cs = near_after old mid all limit n cs first near in
+    both_asked mid new new (asked_of_sizes (bare_slider n) ∷ []) (near_asked limit (Knit dir n cs)) None second
+    (floats_known new limit dir n cs (near_after mid new (asked_of_sizes (bare_slider n) ∷ []) limit n cs second near_mid))
+slider_and_floats old mid new all limit dir n cs (Some reason) first second near =
+    first_stops mid new (asked_of_sizes (bare_slider n) ∷ []) (near_asked limit (Knit dir n cs)) reason second
 
--- the carriers of a knit were asked about, and then its slider
-pub knit_is_asked : (hold : ℕ) (dir : Dir) (n : Needle) (cs : List CarrierNo) (old mid new : Summary) (stop : Option Reason) → 1 ≤ length cs →
+-- the carriers of a knit were asked about, and then its slider, and its floats are known to be short enough
+pub knit_is_asked : (profile : Profile) (dir : Dir) (n : Needle) (cs : List CarrierNo) (old mid new : Summary) (stop : Option Reason) → 1 ≤ length cs →
     HasAskedAll old mid (map plainly_asked (conds_of_each InAction 3 cs)) None → HasAskedAll mid new (asked_of_sizes (bare_slider n) ∷ []) stop →
-    HasAskedAll old new (asked_by hold (Knit dir n cs)) stop
-knit_is_asked hold dir n [] old mid new stop some first second = absurd (omega (arith, some))
-knit_is_asked hold dir n (c ∷ cs) old mid new stop some first second =
-    both_asked old mid new (map plainly_asked (conds_of_each InAction 3 (c ∷ cs))) (asked_of_sizes (bare_slider n) ∷ []) stop first second
+    AreNearIn old profile.float n cs → HasAskedAll old new (asked_by profile (Knit dir n cs)) stop
+knit_is_asked profile dir n [] old mid new stop some first second near = absurd (omega (arith, some))
+knit_is_asked profile dir n (c ∷ cs) old mid new stop some first second near =
+    both_asked old mid new (map plainly_asked (conds_of_each InAction 3 (c ∷ cs))) (asked_of_sizes (bare_slider n) ∷ near_asked profile.float (Knit dir n (c ∷ cs))) stop first
+    (slider_and_floats old mid new (map plainly_asked (conds_of_each InAction 3 (c ∷ cs))) profile.float dir n (c ∷ cs) stop first second near)
 
 -- the same of an instruction that is one
-pub knit_is_all_asked : (hold : ℕ) (instr : Instr) (dir : Dir) (n : Needle) (cs : List CarrierNo) (old mid new : Summary) (stop : Option Reason) → instr ≡ Knit dir n cs → 1 ≤ length cs →
-    HasAskedAll old mid (map plainly_asked (conds_of instr)) None → HasAskedAll mid new (asked_of_sizes (bare_slider n) ∷ []) stop → HasAskedAll old new (asked_by hold instr) stop
-knit_is_all_asked hold instr dir n cs old mid new stop is some first second =
-    subst (λ (i : Instr). HasAskedAll old new (asked_by hold i) stop) (sym is)
-    (knit_is_asked hold dir n cs old mid new stop some (subst (λ (i : Instr). HasAskedAll old mid (map plainly_asked (conds_of i)) None) is first) second)
+pub knit_is_all_asked : (profile : Profile) (instr : Instr) (dir : Dir) (n : Needle) (cs : List CarrierNo) (old mid new : Summary) (stop : Option Reason) → instr ≡ Knit dir n cs → 1 ≤ length cs →
+    HasAskedAll old mid (map plainly_asked (early_of instr)) None → HasAskedAll mid new (asked_of_sizes (bare_slider n) ∷ []) stop → AreNearIn old profile.float n cs →
+    HasAskedAll old new (asked_by profile instr) stop
+knit_is_all_asked profile instr dir n cs old mid new stop is some first second near =
+    subst (λ (i : Instr). HasAskedAll old new (asked_by profile i) stop) (sym is)
+    (knit_is_asked profile dir n cs old mid new stop some (subst (λ (i : Instr). HasAskedAll old mid (map plainly_asked (early_of i)) None) is first) second near)
 
 -- the lines before go through, where those with the conditions do
 pub through_before : (old mid : Summary) → mid ≡ record old { checks = mid.checks } → mid.ending ≡ Through (effect_in mid.ending) → old.ending ≡ Through (effect_in old.ending)
@@ -105,11 +122,11 @@ lines_before old mid rest few = subst (λ (s : Summary). s.lines < 2 ^ 32 - 1) (
 -- the one carrier of a knit was asked about
 pub carrier_asked : (old mid : Summary) (dir : Dir) (n : Needle) (c : CarrierNo) (goes : Bool) (stop : Option Reason) →
     HasAsked old mid (record { line = old.lines; reason = record { rule = CarrierIsOut; at = 3 } }) (carrier_in c) goes → unless goes (record { rule = CarrierIsOut; at = 3 }) ≡ stop →
-    HasAskedAll old mid (map plainly_asked (conds_of (Knit dir n (c ∷ [])))) stop
+    HasAskedAll old mid (map plainly_asked (early_of (Knit dir n (c ∷ [])))) stop
 carrier_asked old mid dir n c goes stop took is =
-    subst (λ s. HasAskedAll old mid (map plainly_asked (conds_of (Knit dir n (c ∷ [])))) s) is (one_asked old mid (record { rule = CarrierIsOut; at = 3 }) (carrier_in c) goes took)
+    subst (λ s. HasAskedAll old mid (map plainly_asked (early_of (Knit dir n (c ∷ [])))) s) is (one_asked old mid (record { rule = CarrierIsOut; at = 3 }) (carrier_in c) goes took)
 
 -- a needle that no line changed stays so
 pub still_untouched : (old mid : Summary) (fault : Fault) (c : CarrierNo) (n : Needle) (goes : Bool) → HasAsked old mid fault (carrier_in c) goes → change_at old.changes n ≡ None → change_at mid.changes n ≡ None
 still_untouched old mid fault c n goes took none =
-    ap (λ (s : Summary). change_at s.changes n) (took_rest (against_kept old.checks (read_answer (effect_in old.ending) old.changes (carrier_in c))) old mid fault goes took) ∙ none
+    ap (λ (s : Summary). change_at s.changes n) (took_rest (against_kept old.checks (read_answer (effect_in old.ending) old.lasts old.changes (carrier_in c))) old mid fault goes took) ∙ none

@@ -45,24 +45,24 @@ knit_row rows more old offset dir n c yarns through is at same drawn =
     is ∙ (λ i. rows ++ record { offset = at i; needle = n; dir = dir; yarns = same i; through = drawn i } ∷ [])
 
 -- a knit of which all is known is a line more
-pub known_adds : (profile : Profile) (carriers : ℕ) (u : Usual) (dir : Dir) (n : Needle) (c : CarrierNo) (known : Bool) (old new : Summary) (rows more : List LoopRow) → u ≡ usual.Knit dir n c →
+pub known_adds : (profile : Profile) (carriers : ℕ) (u : Usual) (dir : Dir) (n : Needle) (c : CarrierNo) (known : Bool) (old new : Summary) (rows more : List LoopRow) → u ≡ usual.Knit dir n c → profile.float ≡ None →
     IsLawfulRead profile carriers (usual_read u) → known ≡ true → IsKnitIfKnown known dir n c old new rows more → AddsLine profile carriers (usual_read u) old new rows more None
-known_adds profile carriers u dir n c true old new rows more is lawful sure added = record {
+known_adds profile carriers u dir n c true old new rows more is free lawful sure added = record {
   lawful = lawful;
-  added = subst (λ (x : Usual). IsAdded profile.hold (usual_read x) old new rows more None) (sym is) (added profile.hold);
+  added = subst (λ (x : Usual). IsAdded profile (usual_read x) old new rows more None) (sym is) (added profile free);
 }
-known_adds profile carriers u dir n c false old new rows more is lawful sure added = absurd (cc)
+known_adds profile carriers u dir n c false old new rows more is free lawful sure added = absurd (cc)
 
-pub known_lines : (dir : Dir) (n : Needle) (c : CarrierNo) (known : Bool) (old new : Summary) (rows more : List LoopRow) → known ≡ true → IsKnitIfKnown known dir n c old new rows more →
+pub known_lines : (profile : Profile) (dir : Dir) (n : Needle) (c : CarrierNo) (known : Bool) (old new : Summary) (rows more : List LoopRow) → profile.float ≡ None → known ≡ true → IsKnitIfKnown known dir n c old new rows more →
     new.lines ≡ old.lines + 1
-known_lines dir n c true old new rows more sure added = ap (λ (s : Summary). s.lines) (added 0).0 ∙ one_more_line 0 (read.Instr (Knit dir n (c ∷ []))) old
-known_lines dir n c false old new rows more sure added = absurd (cc)
+known_lines profile dir n c true old new rows more free sure added = ap (λ (s : Summary). s.lines) (added profile free).0 ∙ one_more_line profile (read.Instr (Knit dir n (c ∷ []))) old
+known_lines profile dir n c false old new rows more free sure added = absurd (cc)
 
-pub known_rows : (dir : Dir) (n : Needle) (c : CarrierNo) (known : Bool) (old new : Summary) (rows more : List LoopRow) → known ≡ true → IsKnitIfKnown known dir n c old new rows more →
+pub known_rows : (profile : Profile) (dir : Dir) (n : Needle) (c : CarrierNo) (known : Bool) (old new : Summary) (rows more : List LoopRow) → profile.float ≡ None → known ≡ true → IsKnitIfKnown known dir n c old new rows more →
     AreRowsOf old.lines rows → AreRowsOf new.lines more
-known_rows dir n c true old new rows more sure added are =
-    rows_more old.lines new.lines rows more old.lines (loop_of_line (read.Instr (Knit dir n (c ∷ []))) old.changes) (known_lines dir n c true old new rows more sure added) refl (added 0).1 are
-known_rows dir n c false old new rows more sure added are = absurd (cc)
+known_rows profile dir n c true old new rows more free sure added are =
+    rows_more old.lines new.lines rows more old.lines (loop_of_line (read.Instr (Knit dir n (c ∷ []))) old.changes) (known_lines profile dir n c true old new rows more free sure added) refl (added profile free).1 are
+known_rows profile dir n c false old new rows more free sure added are = absurd (cc)
 
 -- and else nothing was done
 pub not_known : (dir : Dir) (n : Needle) (c : CarrierNo) (known : Bool) (old new : Summary) (rows more : List LoopRow) → known ≡ false → IsKnitIfKnown known dir n c old new rows more →
@@ -71,16 +71,16 @@ not_known dir n c true old new rows more sure added = absurd (cc)
 not_known dir n c false old new rows more sure added = added
 
 -- A line more whose conditions were asked before.
-added_after : (hold : ℕ) (instr : Instr) (old mid new : Summary) (rows more : List LoopRow) (stop : Option Fault) → old.ending ≡ Through (effect_in old.ending) →
-    HasAskedAll old mid (asked_by hold instr) None → IsAdded hold (read.Instr instr) mid new rows more stop → IsAdded hold (read.Instr instr) old new rows more stop
-added_after hold instr old mid new rows more None through asked h = (
-  h.0 ∙ asked_again hold instr old mid through asked,
+added_after : (profile : Profile) (instr : Instr) (old mid new : Summary) (rows more : List LoopRow) (stop : Option Fault) → old.ending ≡ Through (effect_in old.ending) →
+    HasAskedAll old mid (asked_by profile instr) None → IsAdded profile (read.Instr instr) mid new rows more stop → IsAdded profile (read.Instr instr) old new rows more stop
+added_after profile instr old mid new rows more None through asked h = (
+  h.0 ∙ asked_again profile instr old mid through asked,
   h.1 ∙ ap (λ (s : Summary). rows ++ option_to_list (option_map (row_of s.lines) (loop_of_line (read.Instr instr) s.changes))) asked.rest_stays,
 )
-added_after hold instr old mid new rows more (Some fault) through asked h = (sym (asked_again hold instr old mid through asked) ∙ h.0, h.1)
+added_after profile instr old mid new rows more (Some fault) through asked h = (sym (asked_again profile instr old mid through asked) ∙ h.0, h.1)
 
 pub adds_after : (profile : Profile) (carriers : ℕ) (instr : Instr) (old mid now new : Summary) (rows some more : List LoopRow) (stop : Option Fault) → now ≡ mid → some ≡ rows →
-    mid.ending ≡ Through (effect_in mid.ending) → HasAskedAll old mid (asked_by profile.hold instr) None → AddsLine profile carriers (read.Instr instr) now new some more stop →
+    mid.ending ≡ Through (effect_in mid.ending) → HasAskedAll old mid (asked_by profile instr) None → AddsLine profile carriers (read.Instr instr) now new some more stop →
     AddsLine profile carriers (read.Instr instr) old new rows more stop
 adds_after profile carriers instr old mid now new rows some more stop same rows_are through asked h =
     let here : AddsLine profile carriers (read.Instr instr) mid new rows more stop =
@@ -88,21 +88,21 @@ adds_after profile carriers instr old mid now new rows some more stop same rows_
     (subst (λ (xs : List LoopRow). AddsLine profile carriers (read.Instr instr) now new xs more stop) rows_are h) in
     record {
       lawful = here.lawful;
-      added = added_after profile.hold instr old mid new rows more stop (through_before old mid asked.rest_stays through) asked here.added;
+      added = added_after profile instr old mid new rows more stop (through_before old mid asked.rest_stays through) asked here.added;
     }
 
 -- The line is known to stop.
 pub stops_first : (profile : Profile) (carriers : ℕ) (instr : Instr) (old mid new : Summary) (rows : List LoopRow) (reason : Reason) (fault : Fault) → mid.ending ≡ Through (effect_in mid.ending) →
-    IsLawfulRead profile carriers (read.Instr instr) → HasAskedAll old mid (asked_by profile.hold instr) (Some reason) → fault ≡ record { line = mid.lines; reason = reason } →
+    IsLawfulRead profile carriers (read.Instr instr) → HasAskedAll old mid (asked_by profile instr) (Some reason) → fault ≡ record { line = mid.lines; reason = reason } →
     new ≡ record mid { lines = mid.lines + 1 } → AddsLine profile carriers (read.Instr instr) old new rows rows (Some fault)
 stops_first profile carriers instr old mid new rows reason fault through lawful asked at is = record {
   lawful = lawful;
-  added = (line_stops profile.hold instr old mid reason (through_before old mid asked.rest_stays through) asked ∙ (λ i. stopped_at (sym at i) (sym is i)), refl);
+  added = (line_stops profile instr old mid reason (through_before old mid asked.rest_stays through) asked ∙ (λ i. stopped_at (sym at i) (sym is i)), refl);
 }
 
 -- the lines are no more after asking
-pub lines_after : (old mid : Summary) (hold : ℕ) (instr : Instr) (stop : Option Reason) → HasAskedAll old mid (asked_by hold instr) stop → mid.lines ≡ old.lines
-lines_after old mid hold instr stop asked = ap (λ (s : Summary). s.lines) asked.rest_stays
+pub lines_after : (old mid : Summary) (profile : Profile) (instr : Instr) (stop : Option Reason) → HasAskedAll old mid (asked_by profile instr) stop → mid.lines ≡ old.lines
+lines_after old mid profile instr stop asked = ap (λ (s : Summary). s.lines) asked.rest_stays
 
 -- the rows of as many lines
 pub rows_along : (old now : ℕ) (rows some : List LoopRow) → now ≡ old → some ≡ rows → AreRowsOf old rows → AreRowsOf now some

@@ -13,9 +13,12 @@ pub mod LineChanges
 pub mod LineChecks
 pub mod LineGoodness
 pub mod LineFront
+pub mod LineLasts
 pub mod LinePlaces
 pub mod LineStands
 pub mod LineSteps
+pub mod NearConditions
+pub mod NearSteps
 pub mod NewLoops
 pub mod TransferSteps
 mod FormedLoops

@@ -1,5 +1,7 @@
 -- What a line asks fits, and lies where its changes leave it.
-use Rattle.std.proofs.Common.{◌≡◌, ℕ, ◌+◌, ◌<◌, ◌^◌, true, false, List, [], ◌∷◌, ◌++◌, map, All, IfSome, refl, sym, ap, ◌∙◌, subst, arith, inl, inr, ◌⊎◌}
+use Rattle.std.proofs.Common.{◌≡◌, ℕ, ◌+◌, ◌<◌, ◌^◌, true, false, List, [], ◌∷◌, ◌++◌, map, All, Option, None, Some, IfSome, refl, sym, ap, ◌∙◌, subst, arith, inl, inr, ◌⊎◌}
+use Rattle.std.specs.Prelude.{ℤ, is_some, pos, unwrap_or}
+use Rattle.std.specs.Option.{option_map, option_to_list}
 use Rattle.std.specs.List.{Contains}
 use Rattle.std.proofs.lemmas.List.{map-append}
 use Rattle.std.proofs.lemmas.List.Elements.{All-head, All-tail, Contains-append_cases}
@@ -7,11 +9,12 @@ use Rattle.std.proofs.lemmas.Bool.{true≢false}
 use Rattle.std.proofs.lemmas.Nat.{pow_pos}
 use Rattle.knit_base.specs.declared.instr.Instr.{Instr}
 use Rattle.knit_base.specs.declared.instr.Instr.TheVariants.{CarryIn, CarryOut, HookIn, HookOut, ReleaseHook, Knit, Tuck, Miss, Split, Xfer}
+use Rattle.knit_base.specs.declared.instr.Quarter.{Quarter}
 use Rattle.knit_base.specs.declared.needle.Needle.{Needle}
 use Rattle.knit_base.specs.declared.profile.Profile.{Profile}
 use Rattle.knit_base.specs.declared.rule.Reason.{Reason}
 use Rattle.knit_base.specs.declared.rule.Rule.{Rule}
-use Rattle.knit_base.specs.declared.rule.Rule.TheVariants.{NotAligned, HookBusy, HookOther}
+use Rattle.knit_base.specs.declared.rule.Rule.TheVariants.{NotAligned, HookBusy, HookOther, FloatTooLong}
 use Rattle.knit_base.specs.declared.yarns.CarrierNo.{CarrierNo}
 use Rattle.knit_base.specs.Lawful.{IsLawful, AreOpposite}
 use Rattle.knit_base.specs.Needle.{own_slider, is_front, is_slider, rack_facing}
@@ -20,17 +23,24 @@ use Rattle.face_data.specs.declared.face.Cond.{Cond}
 use Rattle.face_data.specs.declared.face.Cond.TheVariants.{HookFree}
 use Rattle.face_data.specs.declared.face.Effect.{Effect}
 use Rattle.face_data.specs.Conditions.{Ask, ask_of}
-use Rattle.face_data.specs.Conditions.Ask.{rack_is, hook_free, hook_is}
-use Rattle.face_data.specs.Goodness.{AskFits, LiesIn, NeverFalls, names_in}
+use Rattle.face_data.specs.Conditions.Ask.{rack_is, hook_free, hook_is, last_near}
+use Rattle.face_data.specs.declared.face.Last.{Last}
+use Rattle.face_data.specs.Goodness.{AgreeOnLast, AskFits, IsSet, LiesIn, NeverFalls, names_in}
+use Rattle.face_data.specs.Lasts.{last_at, lasts_of_both}
 use Rattle.knit_base.specs.Instr.{forming_needle}
 use Rattle.face_data.specs.Segments.{Changed}
 use Rattle.face_data.specs.Sets.{IsWithin, NestedOrApart}
+use Rattle.face_data.specs.Sizes.{SizeRule}
 use Rattle.face_data.specs.Summaries.{Asked}
 use Rattle.face_data.proofs.Members.{Contains-none, Contains-head, Contains-tail, Contains-cons_cases}
 use Rattle.carrier_rules.specs.declared.conds.OfEach.{OfEach}
 use Rattle.carrier_rules.specs.declared.conds.OfEach.TheVariants.{InAction, NotInAction, NotInHook}
-use Rattle.carrier_rules.specs.Carriers.{cond_of, rule_of, conds_of_each, conds_of, effect_of, hook_reason}
-use Rattle.block_summary.specs.LineSummaries.{asked_for, plainly_asked, rack_asked, slider_asked, sizes_asked, asked_by}
+use Rattle.bed_rules.specs.Beds.{size_rules}
+use Rattle.carrier_rules.specs.Carriers.{cond_of, rule_of, conds_of_each, early_of, effect_of, floats_of_each, hook_reason, last_of, lasts_of}
+use Rattle.rack_align.specs.Moves.{rack_ask}
+use Rattle.slider_rules.specs.Sliders.{bare_slider}
+use Rattle.block_summary.specs.LineSummaries.{asked_for, plainly_asked, asked_of_rack, asked_of_sizes, rack_asked, slider_asked, sizes_asked, near_asked, asked_by}
+use Rattle.block_summary.proofs.LineLasts.{set_put}
 use Rattle.face_data.proofs.Goodness.{NestedOrApart-comm}
 use Rattle.knit_base.proofs.Masks.{mask_of-below, contains_carrier-none}
 use Rattle.knit_base.proofs.Needles.{slider_bed-is_slider, slider_bed-is_front}
@@ -180,7 +190,7 @@ module _ (carriers hold : ℕ) (known first second : List Needle) (changes : Lis
   free_hook = each_one Is _ (plain_is carriers hold known first second changes (hook_reason HookBusy) hook_free tt refl)
 
   -- the conditions on carriers and the hook
-  pub conds_fit : (profile : Profile) (instr : Instr) → IsLawful profile carriers instr → Each Is (map plainly_asked (conds_of instr))
+  pub conds_fit : (profile : Profile) (instr : Instr) → IsLawful profile carriers instr → Each Is (map plainly_asked (early_of instr))
   conds_fit profile (CarryIn cs) lawful = each_carrier NotInAction 1 cs lawful.carriers.each
   conds_fit profile (CarryOut cs) lawful =
       two_lists (conds_of_each InAction 1 cs) (conds_of_each NotInHook 1 cs) (each_carrier InAction 1 cs lawful.carriers.each) (each_carrier NotInHook 1 cs lawful.carriers.each)
@@ -199,13 +209,120 @@ module _ (carriers hold : ℕ) (known first second : List Needle) (changes : Lis
   rack_fits (Xfer n n2) = each_one Is _ (plain_is carriers hold known first second changes (record { rule = NotAligned; at = 2 }) (rack_is (rack_facing n n2)) tt refl)
   rack_fits instr = each_none Is
 
-  -- all conditions of the line, where those on sizes are so
-  pub checks_fit : (profile : Profile) (instr : Instr) → IsLawful profile carriers instr → Each Is (slider_asked (forming_needle instr)) → Each Is (sizes_asked hold instr) →
-      Each Is (asked_by hold instr)
-  checks_fit profile instr lawful slider sizes =
-      each_both Is (map plainly_asked (conds_of instr)) (rack_asked instr ++ (slider_asked (forming_needle instr) ++ sizes_asked hold instr)) (conds_fit profile instr lawful)
-      (each_both Is (rack_asked instr) (slider_asked (forming_needle instr) ++ sizes_asked hold instr) (rack_fits instr)
-      (each_both Is (slider_asked (forming_needle instr)) (sizes_asked hold instr) slider sizes))
+  each_float : (float : ℕ) (number : ℤ) (at : ℕ) (cs : List CarrierNo) → All (λ c. c.0 < carriers) cs → Each Is (map plainly_asked (floats_of_each float number at cs))
+  each_float float number at [] all = each_none Is
+  each_float float number at (c ∷ cs) all =
+      each_more Is _ (map plainly_asked (floats_of_each float number (at + 1) cs))
+      (plain_is carriers hold known first second changes (record { rule = FloatTooLong; at = at }) (last_near c number float) (All-head (λ d. d.0 < carriers) c cs all) refl)
+      (each_float float number (at + 1) cs (All-tail (λ d. d.0 < carriers) c cs all))
+
+  -- those on floats
+  floats_fit : (profile : Profile) (limit : Option ℕ) (instr : Instr) → IsLawful profile carriers instr → Each Is (near_asked limit instr)
+  floats_fit profile None instr lawful = each_none Is
+  floats_fit profile (Some float) (Knit dir n cs) lawful = each_float float n.at 3 cs lawful.carriers.each
+  floats_fit profile (Some float) (Tuck dir n cs) lawful = each_float float n.at 3 cs lawful.carriers.each
+  floats_fit profile (Some float) (Split dir n n2 cs) lawful = each_float float n.at 4 cs lawful.carriers.each
+  floats_fit profile (Some float) instr lawful = each_none Is
+
+-- a part of the line's conditions, and those before and behind it
+pub each_asked : (P : Asked → Type 0) (profile : Profile) (instr : Instr) → Each P (map plainly_asked (early_of instr)) → Each P (rack_asked instr) → Each P (slider_asked (forming_needle instr)) →
+    Each P (sizes_asked profile.hold instr) → Each P (near_asked profile.float instr) → Each P (asked_by profile instr)
+each_asked P profile instr early rack slider sizes near =
+    let on = slider_asked (forming_needle instr) in
+    let last = sizes_asked profile.hold instr ++ near_asked profile.float instr in
+    each_both P (map plainly_asked (early_of instr)) (rack_asked instr ++ (on ++ last)) early
+    (each_both P (rack_asked instr) (on ++ last) rack
+    (each_both P on last slider (each_both P (sizes_asked profile.hold instr) (near_asked profile.float instr) sizes near)))
+
+-- all conditions of the line, where those on sizes are so
+pub checks_fit : (profile : Profile) (carriers : ℕ) (known first second : List Needle) (changes : List Changed) (instr : Instr) → IsLawful profile carriers instr →
+    Each (CheckIs carriers profile.hold known first second changes) (slider_asked (forming_needle instr)) →
+    Each (CheckIs carriers profile.hold known first second changes) (sizes_asked profile.hold instr) →
+    Each (CheckIs carriers profile.hold known first second changes) (asked_by profile instr)
+checks_fit profile carriers known first second changes instr lawful slider sizes =
+    each_asked (CheckIs carriers profile.hold known first second changes) profile instr (conds_fit carriers profile.hold known first second changes profile instr lawful)
+    (rack_fits carriers profile.hold known first second changes instr) slider sizes (floats_fit carriers profile.hold known first second changes profile profile.float instr lawful)
+
+-- The condition, if it is on a last needle, is on the float to this number, with this limit, and its carrier's last needle is set.
+abbrev pub FloatIs : ℤ → ℕ → List Last → Ask → Type 0
+FloatIs number float lasts (last_near c at limit) = ((at ≡ number) × (limit ≡ float)) × (is_some (last_at lasts c) ≡ true)
+FloatIs number float lasts q = Unit {0}
+
+-- which number that is
+abbrev pub float_number : Instr → ℤ
+float_number (Knit dir n cs) = n.at
+float_number (Tuck dir n cs) = n.at
+float_number (Split dir n n2 cs) = n.at
+float_number instr = pos 0
+
+module _ (number : ℤ) (float : ℕ) (lasts : List Last) where
+  abbrev IsFloat : Asked → Type 0
+  IsFloat c = FloatIs number float lasts c.ask
+
+  pub float_set : (q : Ask) → FloatIs number float lasts q → IsSet lasts q
+  float_set (last_near c at limit) is = is.1
+  float_set q is = tt
+
+  pub floats_agree : (p q : Ask) → FloatIs number float lasts p → FloatIs number float lasts q → AgreeOnLast p q
+  floats_agree (last_near c at limit) (last_near d other most) is also = λ same. (is.0.0 ∙ sym also.0.0, is.0.1 ∙ sym also.0.1)
+  floats_agree p q is also = tt
+
+  no_float : (of_each : OfEach) (c : CarrierNo) → FloatIs number float lasts (ask_of [] (cond_of of_each c))
+  no_float InAction c = tt
+  no_float NotInAction c = tt
+  no_float NotInHook c = tt
+
+  carriers_float : (of_each : OfEach) (at : ℕ) (cs : List CarrierNo) → Each IsFloat (map plainly_asked (conds_of_each of_each at cs))
+  carriers_float of_each at [] = each_none IsFloat
+  carriers_float of_each at (c ∷ cs) =
+      each_more IsFloat (plainly_asked (record { rule = rule_of of_each; at = at }, cond_of of_each c)) (map plainly_asked (conds_of_each of_each (at + 1) cs)) (no_float of_each c)
+      (carriers_float of_each (at + 1) cs)
+
+  both_float : (xs ys : List (Reason × Cond)) → Each IsFloat (map plainly_asked xs) → Each IsFloat (map plainly_asked ys) → Each IsFloat (map plainly_asked (xs ++ ys))
+  both_float xs ys one two = subst (Each IsFloat) (sym (map-append plainly_asked xs ys)) (each_both IsFloat (map plainly_asked xs) (map plainly_asked ys) one two)
+
+  early_float : (instr : Instr) → Each IsFloat (map plainly_asked (early_of instr))
+  early_float (CarryIn cs) = carriers_float NotInAction 1 cs
+  early_float (CarryOut cs) = both_float (conds_of_each InAction 1 cs) (conds_of_each NotInHook 1 cs) (carriers_float InAction 1 cs) (carriers_float NotInHook 1 cs)
+  early_float (HookIn cs) = both_float (conds_of_each NotInAction 1 cs) ((hook_reason HookBusy, HookFree) ∷ []) (carriers_float NotInAction 1 cs) (each_one IsFloat _ tt)
+  early_float (HookOut cs) = both_float (conds_of_each InAction 1 cs) ((hook_reason HookBusy, HookFree) ∷ []) (carriers_float InAction 1 cs) (each_one IsFloat _ tt)
+  early_float (ReleaseHook cs) = each_one IsFloat _ tt
+  early_float (Knit dir n cs) = carriers_float InAction 3 cs
+  early_float (Tuck dir n cs) = carriers_float InAction 3 cs
+  early_float (Miss dir n cs) = carriers_float InAction 3 cs
+  early_float (Split dir n n2 cs) = carriers_float InAction 4 cs
+  early_float instr = each_none IsFloat
+
+  rack_float : (rack : List (Reason × Quarter)) → Each IsFloat (map asked_of_rack rack)
+  rack_float [] = each_none IsFloat
+  rack_float (r ∷ rs) = each_more IsFloat (asked_of_rack r) (map asked_of_rack rs) tt (rack_float rs)
+
+  sizes_float : (rules : List SizeRule) → Each IsFloat (map asked_of_sizes rules)
+  sizes_float [] = each_none IsFloat
+  sizes_float (r ∷ rs) = each_more IsFloat (asked_of_sizes r) (map asked_of_sizes rs) tt (sizes_float rs)
+
+  each_near : (at : ℕ) (cs : List CarrierNo) → ((c : CarrierNo) → Contains cs c → is_some (last_at lasts c) ≡ true) → Each IsFloat (map plainly_asked (floats_of_each float number at cs))
+  each_near at [] set = each_none IsFloat
+  each_near at (c ∷ cs) set =
+      each_more IsFloat (asked_for (record { rule = FloatTooLong; at = at }) (last_near c number float)) (map plainly_asked (floats_of_each float number (at + 1) cs)) ((refl, refl), set c (Contains-head c cs))
+      (each_near (at + 1) cs (λ d there. set d (Contains-tail c cs d there)))
+
+near_float : (limit : Option ℕ) (instr : Instr) → Each (IsFloat (float_number instr) (unwrap_or limit 0) (lasts_of_both [] (lasts_of limit instr))) (near_asked limit instr)
+near_float None instr = each_none (IsFloat (float_number instr) 0 [])
+near_float (Some float) (Knit dir n cs) = each_near n.at float (lasts_of_both [] (map (last_of (Some n.at)) cs)) 3 cs (set_put (Some n.at) cs)
+near_float (Some float) (Tuck dir n cs) = each_near n.at float (lasts_of_both [] (map (last_of (Some n.at)) cs)) 3 cs (set_put (Some n.at) cs)
+near_float (Some float) (Split dir n n2 cs) = each_near n.at float (lasts_of_both [] (map (last_of (Some n.at)) cs)) 4 cs (set_put (Some n.at) cs)
+near_float (Some float) instr = each_none (IsFloat (float_number instr) float (lasts_of_both [] (lasts_of (Some float) instr)))
+
+-- All conditions of the line on last needles are on its own floats.
+pub line_floats : (profile : Profile) (instr : Instr) →
+    Each (λ (c : Asked). FloatIs (float_number instr) (unwrap_or profile.float 0) (lasts_of_both [] (lasts_of profile.float instr)) c.ask) (asked_by profile instr)
+line_floats profile instr =
+    let number = float_number instr in
+    let float = unwrap_or profile.float 0 in
+    let lasts = lasts_of_both [] (lasts_of profile.float instr) in
+    each_asked (IsFloat number float lasts) profile instr (early_float number float lasts instr) (rack_float number float lasts (option_to_list (rack_ask instr)))
+    (sizes_float number float lasts (option_to_list (option_map bare_slider (forming_needle instr)))) (sizes_float number float lasts (size_rules profile.hold instr)) (near_float profile.float instr)
 
 -- a hook isn't its own slider
 pub slider_other : (n : Needle) → is_slider n.bed ≡ false → own_slider n ≡ n → ⊥

@@ -3,7 +3,7 @@ use Rattle.std.proofs.Common.{◌≡◌, ℕ, ◌+◌, ◌-◌, ◌≤◌, ◌<�
 use Rattle.std.specs.List.{Contains, sum_by}
 use Rattle.std.specs.List.Sorted.{IsStrictlySortedBy}
 use Rattle.std.proofs.lemmas.Bool.{true≢false}
-use Rattle.std.proofs.lemmas.List.Elements.{Contains-append_right}
+use Rattle.std.proofs.lemmas.List.Elements.{Contains-append_left, Contains-append_right}
 use Rattle.std.proofs.lemmas.List.Sums.{sum_by-cons}
 use Rattle.knit_base.specs.declared.instr.Instr.{Instr}
 use Rattle.knit_base.specs.declared.instr.Instr.TheVariants.{Knit, Tuck, Split, Xfer, Drop}
@@ -22,7 +22,9 @@ use Rattle.face_data.specs.declared.face.Seg.TheVariants.{Entry, New}
 use Rattle.face_data.specs.Conditions.Ask.{size_at_most}
 use Rattle.face_data.specs.declared.face.Ending.{Ending}
 use Rattle.face_data.specs.declared.face.Ending.TheVariants.{Through, Broken}
+use Rattle.face_data.specs.declared.face.Last.{Last}
 use Rattle.face_data.specs.Drafts.{no_effect}
+use Rattle.face_data.specs.Lasts.{lasts_of_both}
 use Rattle.face_data.specs.Goodness.{EndingFits, IsInOrder, entries_on, OwnsOnce, MeetsSizes, size_after, SizeFits, names_in, ChangeFits, IsFair, IsGood}
 use Rattle.knit_base.specs.Instr.{forming_needle, formed_on}
 use Rattle.face_data.specs.Segments.{Changed, segments_on, entries_of, new_of}
@@ -34,10 +36,12 @@ use Rattle.face_data.proofs.Effects.{set_at_most}
 use Rattle.face_data.proofs.Goodness.{owns_nothing, sizes_nothing, members_merged}
 use Rattle.face_data.proofs.Members.{Contains-none, Contains-head, Contains-cons_cases}
 use Rattle.face_data.proofs.ChangeLists.{order_merged}
+use Rattle.face_data.proofs.LastLists.{order_both}
 use Rattle.face_data.proofs.Owners.{only_itself}
-use Rattle.carrier_rules.specs.Carriers.{conds_of, effect_of}
-use Rattle.block_summary.specs.LineSummaries.{asked_for, plainly_asked, rack_asked, slider_asked, sizes_asked, asked_by, gone_over, new_loop, line_changes, line_summary, unasked, block_summary_of, NeedlesKnown, NeedlesKnownInLine, SliderKnown}
-use Rattle.block_summary.proofs.LineChecks.{rule_asked, NamesAre, nested_among, Each, each_none, each_one, never_falls, CheckIs, EffectFits, effect_fits, checks_fit, slider_other, slider_across, needles_across}
+use Rattle.carrier_rules.specs.Carriers.{early_of, effect_of, lasts_of}
+use Rattle.block_summary.specs.LineSummaries.{asked_for, plainly_asked, rack_asked, slider_asked, sizes_asked, near_asked, asked_by, gone_over, new_loop, line_changes, line_summary, unasked, block_summary_of, NeedlesKnown, NeedlesKnownInLine, SliderKnown}
+use Rattle.block_summary.proofs.LineChecks.{rule_asked, NamesAre, nested_among, Each, each_none, each_one, never_falls, CheckIs, EffectFits, effect_fits, checks_fit, float_number, float_set, floats_agree, line_floats, slider_other, slider_across, needles_across}
+use Rattle.block_summary.proofs.LineLasts.{lasts_declared}
 use Rattle.block_summary.proofs.LineStands.{gone_over-segments, line_stands}
 use Rattle.knit_base.proofs.Needles.{same_needle-same, same_needle-false}
 
@@ -238,28 +242,39 @@ formed_sizes [] limit size some = omega arith
 formed_sizes (c ∷ cs) limit size some = some
 
 -- the line's parts make up a fair summary
-assembled : (carriers hold : ℕ) (known first second : List Needle) (instr : Instr) → Each (CheckIs carriers hold known first second (line_changes instr)) (asked_by hold instr) →
-    NestedOrApart first second → ChangesAre known (line_changes instr) → EffectFits carriers (effect_of instr) →
-    ((size : Needle → ℕ) → ((n : Needle) → size n ≤ hold) → MeetsSizes (asked_by hold instr) size → (m : Needle) → size_after (line_changes instr) size m ≤ hold) →
-    IsFair carriers hold known (line_summary hold (read.Instr instr))
-assembled carriers hold known first second instr checks nested changes effect sizes = record {
-  made = set_at_most (forming_needle instr);
-  asks_fit = λ c there. (checks c there).fits;
-  within = λ c there. (let line = (checks c there).line in omega arith);
-  in_turn = never_falls (asked_by hold instr) (λ c there. (checks c there).line);
-  nested = λ c d here there. nested_among first second (names_in c.ask) (names_in d.ask) nested (checks c here).names (checks d there).names;
-  in_order = changes.order;
-  changes_fit = changes.fit;
-  owns = changes.owns;
-  sizes = sizes;
-  ending = record {
-    lies = λ c there. (checks c there).lies;
-    apart = effect.apart;
-    came = effect.came;
-    went = effect.went;
-    hook = effect.hook;
-  };
-}
+assembled : (profile : Profile) (carriers : ℕ) (known first second : List Needle) (instr : Instr) → IsLawful profile carriers instr →
+    Each (CheckIs carriers profile.hold known first second (line_changes instr)) (asked_by profile instr) →
+    NestedOrApart first second → ChangesAre known (line_changes instr) →
+    ((size : Needle → ℕ) → ((n : Needle) → size n ≤ profile.hold) → MeetsSizes (asked_by profile instr) size → (m : Needle) → size_after (line_changes instr) size m ≤ profile.hold) →
+    IsFair carriers profile.hold known (line_summary profile (read.Instr instr))
+assembled profile carriers known first second instr lawful checks nested changes sizes =
+    let effect : EffectFits carriers (effect_of instr) = effect_fits profile carriers instr lawful in
+    let number = float_number instr in
+    let float = unwrap_or profile.float 0 in
+    let lasts : List Last = lasts_of_both [] (lasts_of profile.float instr) in
+    let floats = line_floats profile instr in
+    record {
+      made = set_at_most (forming_needle instr);
+      asks_fit = λ c there. (checks c there).fits;
+      within = λ c there. (let line = (checks c there).line in omega arith);
+      in_turn = never_falls (asked_by profile instr) (λ c there. (checks c there).line);
+      nested = λ c d here there. nested_among first second (names_in c.ask) (names_in d.ask) nested (checks c here).names (checks d there).names;
+      agree = λ c d here there. floats_agree number float lasts c.ask d.ask (floats c here) (floats d there);
+      in_order = changes.order;
+      changes_fit = changes.fit;
+      owns = changes.owns;
+      lasts_in_order = order_both [] (lasts_of profile.float instr) tt;
+      lasts_fit = lasts_declared profile carriers profile.float instr lawful;
+      sizes = sizes;
+      ending = record {
+        lies = λ c there. (checks c there).lies;
+        apart = effect.apart;
+        came = effect.came;
+        went = effect.went;
+        hook = effect.hook;
+        nears = λ c there. float_set number float lasts c.ask (floats c there);
+      };
+    }
 
 -- a condition on sizes
 sized_is : (carriers hold : ℕ) (known first second : List Needle) (changes : List Changed) (reason : Reason) (names : List Needle) (most : ℕ) → SizeFits hold known names most →
@@ -297,24 +312,26 @@ apart_from_two x n n2 one two y here there = elim (one_of_two n n2 y there) [
 ]
 
 -- a condition on sizes is one of the line's
-last_asked : (hold : ℕ) (instr : Instr) (c : Asked) → Contains (sizes_asked hold instr) c → Contains (asked_by hold instr) c
-last_asked hold instr c there =
-    Contains-append_right (map plainly_asked (conds_of instr)) (rack_asked instr ++ (slider_asked (forming_needle instr) ++ sizes_asked hold instr)) c
-    (Contains-append_right (rack_asked instr) (slider_asked (forming_needle instr) ++ sizes_asked hold instr) c
-    (Contains-append_right (slider_asked (forming_needle instr)) (sizes_asked hold instr) c there))
+size_asked : (profile : Profile) (instr : Instr) (c : Asked) → Contains (sizes_asked profile.hold instr) c → Contains (asked_by profile instr) c
+size_asked profile instr c there =
+    let on : List Asked = slider_asked (forming_needle instr) in
+    let last : List Asked = sizes_asked profile.hold instr ++ near_asked profile.float instr in
+    Contains-append_right (map plainly_asked (early_of instr)) (rack_asked instr ++ (on ++ last)) c
+    (Contains-append_right (rack_asked instr) (on ++ last) c
+    (Contains-append_right on last c (Contains-append_left (sizes_asked profile.hold instr) (near_asked profile.float instr) c there)))
 
 nothing_in : (xs : List Needle) → IsWithin [] xs
 nothing_in xs n there = absurd (Contains-none n there)
 
 -- an instruction that changes no needle
 idle : (profile : Profile) (carriers : ℕ) (known : List Needle) (instr : Instr) → IsLawful profile carriers instr → forming_needle instr ≡ None → sizes_asked profile.hold instr ≡ [] →
-    line_changes instr ≡ [] → IsFair carriers profile.hold known (line_summary profile.hold (read.Instr instr))
+    line_changes instr ≡ [] → IsFair carriers profile.hold known (line_summary profile (read.Instr instr))
 idle profile carriers known instr lawful none sizes same =
     let P = CheckIs carriers profile.hold known [] [] (line_changes instr) in
-    assembled carriers profile.hold known [] [] instr
-    (checks_fit carriers profile.hold known [] [] (line_changes instr) profile instr lawful
+    assembled profile carriers known [] [] instr lawful
+    (checks_fit profile carriers known [] [] (line_changes instr) instr lawful
     (subst (λ on. Each P (slider_asked on)) (sym none) (each_none P)) (subst (Each P) (sym sizes) (each_none P)))
-    (inl (nothing_in [])) (subst (ChangesAre known) (sym same) (no_changes known)) (effect_fits profile carriers instr lawful)
+    (inl (nothing_in [])) (subst (ChangesAre known) (sym same) (no_changes known))
     (λ size small meets m. subst (λ changes. size_after changes size m ≤ profile.hold) (sym same) (sizes_nothing profile.hold size small m))
 
 no_new : (offset : ℕ) → Contains [] (New offset) → offset < 1
@@ -328,13 +345,13 @@ tuck_offsets n offset there = elim (Contains-cons_cases (Entry n) (New 0 ∷ [])
 
 tuck_fair : (profile : Profile) (carriers : ℕ) (known : List Needle) (dir : Dir) (n : Needle) (c : CarrierNo) (cs : List CarrierNo) → 1 ≤ profile.hold →
     IsLawful profile carriers (Tuck dir n (c ∷ cs)) → Contains known n → Contains known (own_slider n) →
-    IsFair carriers profile.hold known (line_summary profile.hold (read.Instr (Tuck dir n (c ∷ cs))))
+    IsFair carriers profile.hold known (line_summary profile (read.Instr (Tuck dir n (c ∷ cs))))
 tuck_fair profile carriers known dir n c cs some lawful there slider =
     let hook : is_slider n.bed ≡ false = lawful.formed in
     let changes : List Changed = (n, Entry n ∷ New 0 ∷ []) ∷ [] in
     let room : Asked = rule_asked TooManyLoops 2 (size_at_most (n ∷ []) (profile.hold - 1)) in
-    assembled carriers profile.hold known (own_slider n ∷ []) (n ∷ []) (Tuck dir n (c ∷ cs))
-    (checks_fit carriers profile.hold known (own_slider n ∷ []) (n ∷ []) changes profile (Tuck dir n (c ∷ cs)) lawful
+    assembled profile carriers known (own_slider n ∷ []) (n ∷ []) (Tuck dir n (c ∷ cs)) lawful
+    (checks_fit profile carriers known (own_slider n ∷ []) (n ∷ []) changes (Tuck dir n (c ∷ cs)) lawful
     (slider_each carriers profile.hold known (n ∷ []) changes n (c ∷ cs) slider
     (λ is. ap entries_of (one_other n (own_slider n) (Entry n ∷ New 0 ∷ []) (slider_other n is))) hook)
     (each_one (CheckIs carriers profile.hold known (own_slider n ∷ []) (n ∷ []) changes) room
@@ -348,9 +365,8 @@ tuck_fair profile carriers known dir n c cs some lawful there slider =
     (inr (inr refl)) n (ap entries_of (one_here n (Entry n ∷ New 0 ∷ []))))))
     (inr (inr (apart_from_one (own_slider n) n (slider_other n hook))))
     (one_change known n (Entry n ∷ New 0 ∷ []) there (alone n) (λ x is. only_itself n x is) (tuck_offsets n))
-    (effect_fits profile carriers (Tuck dir n (c ∷ cs)) lawful)
     (λ size small meets m. one_sizes profile.hold n (Entry n ∷ New 0 ∷ []) size small
-    (let before : sum_by size (n ∷ []) ≤ profile.hold - 1 = meets room (last_asked profile.hold (Tuck dir n (c ∷ cs)) room (Contains-head room [])) in
+    (let before : sum_by size (n ∷ []) ≤ profile.hold - 1 = meets room (size_asked profile (Tuck dir n (c ∷ cs)) room (Contains-head room [])) in
     let new : new_of (Entry n ∷ New 0 ∷ []) ≡ 1 = refl in
     let entries : sum_by size (entries_of (Entry n ∷ New 0 ∷ [])) ≡ sum_by size (n ∷ []) = refl in
     omega (arith, before, new, entries, some)) m)
@@ -368,13 +384,13 @@ both_fit hold known n n2 one two other = record {
 over_fair : (profile : Profile) (carriers : ℕ) (known : List Needle) (instr : Instr) (n n2 : Needle) (at : ℕ) → IsLawful profile carriers instr → AreOpposite n n2 →
     Contains known n → Contains known n2 → forming_needle instr ≡ None →
     sizes_asked profile.hold instr ≡ rule_asked TooManyLoops at (size_at_most (n2 ∷ n ∷ []) profile.hold) ∷ [] → line_changes instr ≡ gone_over n n2 [] →
-    IsFair carriers profile.hold known (line_summary profile.hold (read.Instr instr))
+    IsFair carriers profile.hold known (line_summary profile (read.Instr instr))
 over_fair profile carriers known instr n n2 at lawful opposite one two none sizes same =
     let P = CheckIs carriers profile.hold known [] (n2 ∷ n ∷ []) (line_changes instr) in
     let room : Asked = rule_asked TooManyLoops at (size_at_most (n2 ∷ n ∷ []) profile.hold) in
     let other : n ≡ n2 → ⊥ = needles_across n n2 opposite in
-    assembled carriers profile.hold known [] (n2 ∷ n ∷ []) instr
-    (checks_fit carriers profile.hold known [] (n2 ∷ n ∷ []) (line_changes instr) profile instr lawful
+    assembled profile carriers known [] (n2 ∷ n ∷ []) instr lawful
+    (checks_fit profile carriers known [] (n2 ∷ n ∷ []) (line_changes instr) instr lawful
     (subst (λ on. Each P (slider_asked on)) (sym none) (each_none P))
     (subst (Each P) (sym sizes) (each_one P room
     (sized_is carriers profile.hold known [] (n2 ∷ n ∷ []) (line_changes instr) (record { rule = TooManyLoops; at = at }) (n2 ∷ n ∷ []) profile.hold
@@ -382,22 +398,21 @@ over_fair profile carriers known instr n n2 at lawful opposite one two none size
     (ap (λ changes. entries_on changes n2) same ∙ ap entries_of (over_there n n2 [] other))))))
     (inl (nothing_in (n2 ∷ n ∷ [])))
     (subst (ChangesAre known) (sym same) (over_change known n n2 [] one two other refl no_new))
-    (effect_fits profile carriers instr lawful)
     (λ size small meets m. subst (λ changes. size_after changes size m ≤ profile.hold) (sym same)
     (over_sizes profile.hold n n2 [] size small (omega arith)
-    (meets room (last_asked profile.hold instr room (subst (λ checks. Contains checks room) (sym sizes) (Contains-head room [])))) m))
+    (meets room (size_asked profile instr room (subst (λ checks. Contains checks room) (sym sizes) (Contains-head room [])))) m))
 
 split_fair : (profile : Profile) (carriers : ℕ) (known : List Needle) (dir : Dir) (n n2 : Needle) (c : CarrierNo) (cs : List CarrierNo) → 1 ≤ profile.hold →
     IsLawful profile carriers (Split dir n n2 (c ∷ cs)) → Contains known n → Contains known (own_slider n) → Contains known n2 →
-    IsFair carriers profile.hold known (line_summary profile.hold (read.Instr (Split dir n n2 (c ∷ cs))))
+    IsFair carriers profile.hold known (line_summary profile (read.Instr (Split dir n n2 (c ∷ cs))))
 split_fair profile carriers known dir n n2 c cs some lawful one slider two =
     let opposite : AreOpposite n n2 = lawful.moved in
     let hook : is_slider n.bed ≡ false = lawful.formed in
     let other : n ≡ n2 → ⊥ = needles_across n n2 opposite in
     let left : List Seg = New 0 ∷ [] in
     let room : Asked = rule_asked TooManyLoops 3 (size_at_most (n2 ∷ n ∷ []) profile.hold) in
-    assembled carriers profile.hold known (own_slider n ∷ []) (n2 ∷ n ∷ []) (Split dir n n2 (c ∷ cs))
-    (checks_fit carriers profile.hold known (own_slider n ∷ []) (n2 ∷ n ∷ []) (gone_over n n2 left) profile (Split dir n n2 (c ∷ cs)) lawful
+    assembled profile carriers known (own_slider n ∷ []) (n2 ∷ n ∷ []) (Split dir n n2 (c ∷ cs)) lawful
+    (checks_fit profile carriers known (own_slider n ∷ []) (n2 ∷ n ∷ []) (gone_over n n2 left) (Split dir n n2 (c ∷ cs)) lawful
     (slider_each carriers profile.hold known (n2 ∷ n ∷ []) (gone_over n n2 left) n (c ∷ cs) slider
     (λ is. ap entries_of (over_other n n2 (own_slider n) left (slider_other n is) (slider_across n n2 opposite))) hook)
     (each_one (CheckIs carriers profile.hold known (own_slider n ∷ []) (n2 ∷ n ∷ []) (gone_over n n2 left)) room
@@ -405,22 +420,20 @@ split_fair profile carriers known dir n n2 c cs some lawful one slider two =
     (both_fit profile.hold known n n2 one two other) (inr (inr refl)) n2 (ap entries_of (over_there n n2 left other)))))
     (inr (inr (apart_from_two (own_slider n) n n2 (slider_other n hook) (slider_across n n2 opposite))))
     (over_change known n n2 left one two other refl (formed_offsets (c ∷ cs)))
-    (effect_fits profile carriers (Split dir n n2 (c ∷ cs)) lawful)
     (λ size small meets m. over_sizes profile.hold n n2 left size small (formed_sizes (c ∷ cs) profile.hold size some)
-    (meets room (last_asked profile.hold (Split dir n n2 (c ∷ cs)) room (Contains-head room []))) m)
+    (meets room (size_asked profile (Split dir n n2 (c ∷ cs)) room (Contains-head room []))) m)
 
 -- one needle is left with a new loop or with none
 left_fair : (profile : Profile) (carriers : ℕ) (known first : List Needle) (instr : Instr) (n : Needle) (cs : List CarrierNo) → 1 ≤ profile.hold → IsLawful profile carriers instr →
     Contains known n → Each (CheckIs carriers profile.hold known first [] (line_changes instr)) (slider_asked (forming_needle instr)) → sizes_asked profile.hold instr ≡ [] →
-    line_changes instr ≡ (n, new_loop cs) ∷ [] → IsFair carriers profile.hold known (line_summary profile.hold (read.Instr instr))
+    line_changes instr ≡ (n, new_loop cs) ∷ [] → IsFair carriers profile.hold known (line_summary profile (read.Instr instr))
 left_fair profile carriers known first instr n cs some lawful there slider sizes same =
     let P = CheckIs carriers profile.hold known first [] (line_changes instr) in
-    assembled carriers profile.hold known first [] instr
-    (checks_fit carriers profile.hold known first [] (line_changes instr) profile instr lawful slider (subst (Each P) (sym sizes) (each_none P)))
+    assembled profile carriers known first [] instr lawful
+    (checks_fit profile carriers known first [] (line_changes instr) instr lawful slider (subst (Each P) (sym sizes) (each_none P)))
     (inr (inl (nothing_in first)))
     (subst (ChangesAre known) (sym same) (one_change known n (new_loop cs) there (subst IsDistinct (sym (formed_none cs)) tt)
     (λ x is. absurd (no_entry (new_loop cs) x (formed_none cs) is)) (formed_offsets cs)))
-    (effect_fits profile carriers instr lawful)
     (λ size small meets m. subst (λ changes. size_after changes size m ≤ profile.hold) (sym same)
     (one_sizes profile.hold n (new_loop cs) size small (formed_sizes cs profile.hold size some) m))
 
@@ -432,7 +445,7 @@ second_known known n n2 within = within n2 (Contains-append_right (n ∷ []) (n2
 
 -- the summary of an instruction's line is fair
 pub instr_fair : (profile : Profile) (carriers : ℕ) (known : List Needle) (instr : Instr) → 1 ≤ profile.hold → IsLawful profile carriers instr → NeedlesKnown known instr →
-    IsFair carriers profile.hold known (line_summary profile.hold (read.Instr instr))
+    IsFair carriers profile.hold known (line_summary profile (read.Instr instr))
 instr_fair profile carriers known (Knit dir n cs) some lawful knows =
     left_fair profile carriers known (own_slider n ∷ []) (Knit dir n cs) n cs some lawful (knows.needles n (Contains-head n []))
     (slider_each carriers profile.hold known [] ((n, new_loop cs) ∷ []) n cs knows.slider
@@ -460,14 +473,17 @@ unasked_fair carriers hold known ending fits =
       within = λ c there. absurd (Contains-none c there);
       in_turn = tt;
       nested = none.nested;
+      agree = none.agree;
       in_order = none.in_order;
       changes_fit = λ c there. absurd (Contains-none c there);
       owns = none.owns;
+      lasts_in_order = tt;
+      lasts_fit = none.lasts_fit;
       sizes = none.sizes;
       ending = fits;
     }
 
-nothing_fair : (carriers hold : ℕ) (known : List Needle) → IsFair carriers hold known (line_summary hold read.Blank)
+nothing_fair : (carriers hold : ℕ) (known : List Needle) → IsFair carriers hold known (unasked (Through no_effect))
 nothing_fair carriers hold known =
     let ending = (no_lines_good carriers hold known).fair.ending in
     unasked_fair carriers hold known (Through no_effect) (record {
@@ -476,20 +492,22 @@ nothing_fair carriers hold known =
       came = ending.came;
       went = ending.went;
       hook = ending.hook;
+      nears = λ c there. absurd (Contains-none c there);
     })
 
-broken_fair : (carriers hold : ℕ) (known : List Needle) (reason : Reason) → IsFair carriers hold known (line_summary hold (read.Broken reason))
+broken_fair : (carriers hold : ℕ) (known : List Needle) (reason : Reason) → IsFair carriers hold known (unasked (Broken (record { line = 0; reason = reason })))
 broken_fair carriers hold known reason =
     unasked_fair carriers hold known (Broken (record { line = 0; reason = reason })) (record {
       within = omega arith;
       last = λ c there. absurd (Contains-none c there);
       unchanged = refl;
+      no_lasts = refl;
       made = refl;
     })
 
 -- The summary of a line is fair.
 pub line_fair : (profile : Profile) (carriers : ℕ) (known : List Needle) (r : Read) → 1 ≤ profile.hold → IsLawfulRead profile carriers r → NeedlesKnownInLine known r →
-    IsFair carriers profile.hold known (line_summary profile.hold r)
+    IsFair carriers profile.hold known (line_summary profile r)
 line_fair profile carriers known read.Blank some lawful knows = nothing_fair carriers profile.hold known
 line_fair profile carriers known read.Comment some lawful knows = nothing_fair carriers profile.hold known
 line_fair profile carriers known (read.Broken reason) some lawful knows = broken_fair carriers profile.hold known reason
@@ -498,14 +516,14 @@ line_fair profile carriers known (read.Instr instr) some lawful knows = instr_fa
 -- The summary of a block is good.
 pub block_good : (profile : Profile) (carriers : ℕ) (known : List Needle) (rs : List Read) → 1 ≤ profile.hold →
     ((r : Read) → Contains rs r → IsLawfulRead profile carriers r) → ((r : Read) → Contains rs r → NeedlesKnownInLine known r) →
-    IsGood carriers profile.hold known (block_summary_of profile.hold rs)
+    IsGood carriers profile.hold known (block_summary_of profile rs)
 block_good profile carriers known rs some lawful knows =
-    drafted_good (line_summary profile.hold) carriers profile.hold known rs (λ r there. line_fair profile carriers known r some (lawful r there) (knows r there))
+    drafted_good (line_summary profile) carriers profile.hold known rs (λ r there. line_fair profile carriers known r some (lawful r there) (knows r there))
 
 -- It stands for the lines.
 pub block_stands : (profile : Profile) (carriers : ℕ) (known : List Needle) (rs : List Read) → 1 ≤ profile.hold →
     ((r : Read) → Contains rs r → IsLawfulRead profile carriers r) → ((r : Read) → Contains rs r → NeedlesKnownInLine known r) →
-    StandsFor profile (block_summary_of profile.hold rs) rs
+    StandsFor profile (block_summary_of profile rs) rs
 block_stands profile carriers known rs some lawful knows =
-    drafted_stands profile (line_summary profile.hold) carriers profile.hold known rs
+    drafted_stands profile (line_summary profile) carriers profile.hold known rs
     (λ r there. line_fair profile carriers known r some (lawful r there) (knows r there)) (λ r there. line_stands profile r some)

@@ -19,11 +19,11 @@ use Rattle.knit_base.specs.Reasons.{or_else}
 use Rattle.std.specs.Ordering.{int_eq}
 use Rattle.carriage_model.specs.declared.verdict.LoopFact.{LoopFact}
 use Rattle.carriage_model.specs.Loops.{formed, loop_of_instr, made_on}
-use Rattle.carriage_model.specs.Rules.{broken_instr, carrier_broken, rack_broken, slider_broken, slider_broken_on, size_broken, tuck_too_many}
+use Rattle.carriage_model.specs.Rules.{broken_instr, carrier_broken, float_broken, rack_broken, slider_broken, slider_broken_on, size_broken, tuck_too_many}
 use Rattle.carriage_model.specs.Run.{Ended, run_on}
 use Rattle.carriage_model.specs.Run.Ended.{Ends}
 use Rattle.carriage_model.specs.State.{State}
-use Rattle.carriage_model.specs.Steps.{step_instr}
+use Rattle.carriage_model.specs.Steps.{kept_lasts, step, step_instr}
 use Rattle.face_data.specs.declared.face.Cond.{Cond}
 use Rattle.face_data.specs.declared.face.Ending.TheVariants.{Through}
 use Rattle.face_data.specs.declared.face.Seg.{Seg}
@@ -31,6 +31,7 @@ use Rattle.face_data.specs.declared.face.Seg.TheVariants.{Entry, New}
 use Rattle.face_data.specs.Conditions.{Ask, ask_of, holds, unless, first_unmet}
 use Rattle.face_data.specs.Conditions.Ask.{rack_is, size_at_most}
 use Rattle.face_data.specs.Items.{set_items}
+use Rattle.face_data.specs.Lasts.{lasts_after, lasts_of_both}
 use Rattle.knit_base.specs.Instr.{forming_needle, formed_on}
 use Rattle.face_data.specs.Segments.{segments_on, read_segs, AreRead}
 use Rattle.face_data.specs.Stands.{StandsFor, outcome_of_run}
@@ -40,14 +41,15 @@ use Rattle.face_data.proofs.Drafts.{no_lines-applied}
 use Rattle.face_data.proofs.Gathering.{or_else as fault_or_else, first_fault-append}
 use Rattle.face_data.proofs.ChangeLists.{or_change, change_at-merged}
 use Rattle.face_data.proofs.Conditions.{broken-unless}
-use Rattle.carrier_rules.specs.Carriers.{conds_of, effect_of}
-use Rattle.carrier_rules.proofs.EachCarrier.{conds-broken}
+use Rattle.carrier_rules.specs.Carriers.{early_of, effect_of, floats_asked, lasts_of}
+use Rattle.carrier_rules.proofs.EachCarrier.{conds-broken, floats-broken}
 use Rattle.carrier_rules.proofs.Effects.{effect-is}
 use Rattle.slider_rules.proofs.Sliders.{slider-unmet}
 use Rattle.bed_rules.specs.Beds.{changes_of, segments_after, tuck_rules}
 use Rattle.bed_rules.proofs.Stacks.{changed-read}
 use Rattle.bed_rules.proofs.SizeRules.{both-unmet, one-unmet}
-use Rattle.block_summary.specs.LineSummaries.{asked_for, plainly_asked, rack_asked, asked_of_sizes, slider_asked, sizes_asked, asked_by, gone_over, line_changes, line_summary}
+use Rattle.block_summary.specs.LineSummaries.{asked_for, plainly_asked, rack_asked, asked_of_sizes, slider_asked, sizes_asked, near_asked, asked_by, gone_over, line_changes, line_summary}
+use Rattle.block_summary.proofs.LineLasts.{lasts_put}
 
 -- the fault of a line that is broken for this reason
 abbrev at_line : Option Reason → Option Fault
@@ -102,17 +104,24 @@ size_faults profile (Split dir n n2 cs) s some = alone_at_line (size_at_most (n2
 size_faults profile (Xfer n n2) s some = alone_at_line (size_at_most (n2 ∷ n ∷ []) profile.hold) (record { rule = TooManyLoops; at = 2 }) s ∙ ap at_line (sym (both-unmet profile n n2 2 s))
 size_faults profile instr s some = refl
 
+near_faults : (profile : Profile) (instr : Instr) (s : State) → first_fault (near_asked profile.float instr) s ≡ at_line (float_broken profile instr s)
+near_faults profile instr s = plain_faults (floats_asked profile.float instr) s ∙ ap at_line (sym (floats-broken profile instr s))
+
 -- The first condition of the line that doesn't hold is the first rule that the line breaks.
-pub line_faults : (profile : Profile) (instr : Instr) (s : State) → 1 ≤ profile.hold → first_fault (asked_by profile.hold instr) s ≡ at_line (broken_instr profile instr s)
+pub line_faults : (profile : Profile) (instr : Instr) (s : State) → 1 ≤ profile.hold → first_fault (asked_by profile instr) s ≡ at_line (broken_instr profile instr s)
 line_faults profile instr s some =
-    both_at_line (map plainly_asked (conds_of instr)) (rack_asked instr ++ (slider_asked (forming_needle instr) ++ sizes_asked profile.hold instr))
-    (carrier_broken instr s) (or_else (rack_broken instr s) (or_else (slider_broken instr s) (size_broken profile instr s))) s
-    (plain_faults (conds_of instr) s ∙ ap at_line (sym (conds-broken instr s)))
-    (both_at_line (rack_asked instr) (slider_asked (forming_needle instr) ++ sizes_asked profile.hold instr)
-    (rack_broken instr s) (or_else (slider_broken instr s) (size_broken profile instr s)) s
+    let on : List Asked = slider_asked (forming_needle instr) in
+    let sizes : List Asked = sizes_asked profile.hold instr in
+    let near : List Asked = near_asked profile.float instr in
+    let last : Option Reason = or_else (size_broken profile instr s) (float_broken profile instr s) in
+    both_at_line (map plainly_asked (early_of instr)) (rack_asked instr ++ (on ++ (sizes ++ near)))
+    (carrier_broken instr s) (or_else (rack_broken instr s) (or_else (slider_broken instr s) last)) s
+    (plain_faults (early_of instr) s ∙ ap at_line (sym (conds-broken instr s)))
+    (both_at_line (rack_asked instr) (on ++ (sizes ++ near)) (rack_broken instr s) (or_else (slider_broken instr s) last) s
     (rack_faults instr s)
-    (both_at_line (slider_asked (forming_needle instr)) (sizes_asked profile.hold instr) (slider_broken instr s) (size_broken profile instr s) s
-    (slider_faults (forming_needle instr) s) (size_faults profile instr s some)))
+    (both_at_line on (sizes ++ near) (slider_broken instr s) last s
+    (slider_faults (forming_needle instr) s)
+    (both_at_line sizes near (size_broken profile instr s) (float_broken profile instr s) s (size_faults profile instr s some) (near_faults profile instr s))))
 
 -- what a needle holds after the line, as the rules on needles have it
 knit_held : (here : Bool) (own : List Seg) → unwrap_or (cond here (Some (New 0 ∷ [])) None) own ≡ cond here (unwrap_or (cond here (Some []) None) own ++ New 0 ∷ []) (unwrap_or (cond here (Some []) None) own)
@@ -156,9 +165,12 @@ own_read : (s : State) (first : ℕ) → AreRead [] s first s.stacks
 own_read s first n = sym (append-nil (s.stacks n))
 
 -- the state that the line makes
-pub line_after : (instr : Instr) (s : State) (first : ℕ) → after (effect_of instr) (line_changes instr) s first ≡ step_instr first instr s
-line_after instr s first =
+pub line_after : (profile : Profile) (instr : Instr) (s : State) (first : ℕ) →
+    after (effect_of instr) (lasts_of_both [] (lasts_of profile.float instr)) (line_changes instr) s first ≡ step profile first (read.Instr instr) s
+line_after profile instr s first =
     let effect = effect-is instr in
+    let lasts : (c : CarrierNo) → lasts_after (lasts_of_both [] (lasts_of profile.float instr)) s.lasts c ≡ kept_lasts profile.float instr s.lasts c
+    = λ c. lasts_put profile.float instr s.lasts c in
     let stacks : (m : Needle) → read_segs s first (segments_on (line_changes instr) m) ≡ (step_instr first instr s).stacks m
     = λ m. ap (read_segs s first) (line_held instr m) ∙ sym (changed-read [] instr s s first 0 (own_read s first) m)
     ∙ ap (λ k. (step_instr k instr s).stacks m) (let e : first + 0 ≡ first = omega arith in e) in
@@ -166,16 +178,18 @@ line_after instr s first =
       rack = effect.rack first s i;
       ins = effect.ins first s i;
       hook = effect.hook first s i;
+      lasts = λ c. lasts c i;
       stacks = λ m. stacks m i;
     }
 
 fault_here : (first : ℕ) (reason : Reason) → raised first (record { line = 0; reason = reason }) ≡ record { line = first; reason = reason }
 fault_here first reason = let same : first + 0 ≡ first = omega arith in λ i. record { line = same i; reason = reason }
 
-instr_outcome : (o : Option Reason) (instr : Instr) (s : State) (first : ℕ) →
-    outcome_of (at_line o) (Through (effect_of instr)) (line_changes instr) s first ≡ outcome_of_run (run_on first o s (Ends (step_instr first instr s)))
-instr_outcome None instr s first = ap went_on (line_after instr s first)
-instr_outcome (Some reason) instr s first = ap faulted (fault_here first reason)
+instr_outcome : (profile : Profile) (o : Option Reason) (instr : Instr) (s : State) (first : ℕ) →
+    outcome_of (at_line o) (Through (effect_of instr)) (lasts_of_both [] (lasts_of profile.float instr)) (line_changes instr) s first
+    ≡ outcome_of_run (run_on first o s (Ends (step profile first (read.Instr instr) s)))
+instr_outcome profile None instr s first = ap went_on (line_after profile instr s first)
+instr_outcome profile (Some reason) instr s first = ap faulted (fault_here first reason)
 
 made_if_none : (o : Option Reason) (fact : Option LoopFact) (count first : ℕ) (s t : State) (rest : Ended) → run_on first o s rest ≡ Ends t →
     length (option_to_list fact) ≡ count → length (made_on o fact []) ≡ count
@@ -193,7 +207,7 @@ loop_items (Split dir n n2 cs) k s = formed_items k dir n cs (s.stacks n)
 loop_items instr k s = refl
 
 -- The summary of a line stands for it.
-pub line_stands : (profile : Profile) (r : Read) → 1 ≤ profile.hold → StandsFor profile (line_summary profile.hold r) (r ∷ [])
+pub line_stands : (profile : Profile) (r : Read) → 1 ≤ profile.hold → StandsFor profile (line_summary profile r) (r ∷ [])
 line_stands profile read.Blank some = record { lines_are = refl; outcome = λ s first. no_lines-applied s first; made_are = λ s t first ends. refl }
 line_stands profile read.Comment some = record { lines_are = refl; outcome = λ s first. no_lines-applied s first; made_are = λ s t first ends. refl }
 line_stands profile (read.Broken reason) some = record {
@@ -204,9 +218,9 @@ line_stands profile (read.Broken reason) some = record {
 line_stands profile (read.Instr instr) some = record {
   lines_are = refl;
   outcome = λ s first.
-      ap (λ o. outcome_of o (Through (effect_of instr)) (line_changes instr) s first) (line_faults profile instr s some)
-      ∙ instr_outcome (broken_instr profile instr s) instr s first;
+      ap (λ o. outcome_of o (Through (effect_of instr)) (lasts_of_both [] (lasts_of profile.float instr)) (line_changes instr) s first) (line_faults profile instr s some)
+      ∙ instr_outcome profile (broken_instr profile instr s) instr s first;
   made_are = λ s t first ends.
-      made_if_none (broken_instr profile instr s) (loop_of_instr first instr s) (set_items (forming_needle instr)) first s t (Ends (step_instr first instr s)) ends
+      made_if_none (broken_instr profile instr s) (loop_of_instr first instr s) (set_items (forming_needle instr)) first s t (Ends (step profile first (read.Instr instr) s)) ends
       (loop_items instr first s);
 }

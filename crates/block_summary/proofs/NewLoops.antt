@@ -5,6 +5,7 @@ use Rattle.std.proofs.Math.Path.{ap₂}
 use Rattle.std.proofs.lemmas.List.Sums.{sum_by-cons}
 use Rattle.knit_base.specs.declared.needle.Needle.{Needle}
 use Rattle.face_data.specs.declared.face.Effect.{Effect}
+use Rattle.face_data.specs.declared.face.Last.{Last}
 use Rattle.face_data.specs.Answers.{read_answer, size_answer, size_left}
 use Rattle.face_data.specs.Answers.Answer.{yes_it_does, no_it_does_not}
 use Rattle.face_data.specs.Composition.{against_kept}
@@ -20,10 +21,10 @@ none_left kept names new most none few =
     ap (λ b. against_kept kept (if b then no_it_does_not else size_left names (most - new))) low ∙ ap (λ ns. against_kept kept (size_left ns (most - new))) none
 
 -- two needles that hold so few new loops and no others have room
-pub new_loops_hold : (kept : List Asked) (effect : Effect) (changes : List Changed) (n n2 : Needle) (first second most : ℕ) → entries_of (segments_on changes n) ≡ [] → new_of (segments_on changes n) ≡ first →
-    entries_of (segments_on changes n2) ≡ [] → new_of (segments_on changes n2) ≡ second → first + second ≤ most → Holds kept effect changes (size_at_most (n ∷ n2 ∷ []) most)
+pub new_loops_hold : (kept : List Asked) (effect : Effect) (lasts : List Last) (changes : List Changed) (n n2 : Needle) (first second most : ℕ) → entries_of (segments_on changes n) ≡ [] → new_of (segments_on changes n) ≡ first →
+    entries_of (segments_on changes n2) ≡ [] → new_of (segments_on changes n2) ≡ second → first + second ≤ most → Holds kept effect lasts changes (size_at_most (n ∷ n2 ∷ []) most)
 unfolding read_answer
-new_loops_hold kept effect changes n n2 first second most none one none2 two few =
+new_loops_hold kept effect lasts changes n n2 first second most none one none2 two few =
     let size : Needle → ℕ = λ m. new_of (segments_on changes m) in
     let both = sum_by-cons size n (n2 ∷ []) in
     let last = sum_by-cons size n2 [] in

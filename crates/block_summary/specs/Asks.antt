@@ -7,6 +7,7 @@ use Rattle.knit_base.specs.declared.instr.Read.{Read}
 use Rattle.knit_base.specs.declared.instr.Read.TheVariants as read
 use Rattle.knit_base.specs.declared.needle.Dir.{Dir}
 use Rattle.knit_base.specs.declared.needle.Needle.{Needle}
+use Rattle.knit_base.specs.declared.profile.Profile.{Profile}
 use Rattle.knit_base.specs.declared.rule.Reason.{Reason}
 use Rattle.knit_base.specs.declared.yarns.CarrierNo.{CarrierNo}
 use Rattle.knit_base.specs.Reasons.{or_else}
@@ -14,11 +15,12 @@ use Rattle.carriage_model.specs.declared.verdict.LoopFact.{LoopFact}
 use Rattle.carriage_model.specs.State.{State}
 use Rattle.face_data.specs.declared.face.Seg.{Seg}
 use Rattle.face_data.specs.Conditions.{first_unmet, unmet_rack, unmet_size_if_any, first_unmet_size}
+use Rattle.face_data.specs.Lasts.{lasts_after}
 use Rattle.face_data.specs.Segments.{Changed, segments_on, read_segs}
 use Rattle.face_data.specs.Sizes.{size_ask, size_asks}
 use Rattle.face_data.specs.Summaries.{rack_after, ins_after, hook_after}
 use Rattle.bed_rules.specs.Beds.{changes_of, segments_after, size_rules}
-use Rattle.carrier_rules.specs.Carriers.{conds_of, effect_of}
+use Rattle.carrier_rules.specs.Carriers.{conds_of, early_in, effect_of, floats_in, lasts_of}
 use Rattle.rack_align.specs.Moves.{rack_ask}
 use Rattle.slider_rules.specs.Sliders.{slider_rule}
 use Rattle.block_summary.specs.declared.formed.FormedLoop.{FormedLoop}
@@ -39,45 +41,49 @@ formed_loop (Tuck dir n cs) segments = formed_of dir n cs []
 formed_loop (Split dir n n2 cs) segments = formed_of dir n cs (segments_on segments n)
 formed_loop instr segments = None
 
--- all that the instruction asks and changes where a needle may hold so many loops and the needles hold these segments
-abbrev pub instr_ask : ℕ → Instr → List Changed → InstrAsk
-instr_ask hold instr segments = record {
-  carriers = conds_of instr;
+-- all that the instruction asks and changes on a machine with these limits where the needles hold these segments
+abbrev pub instr_ask : Profile → Instr → List Changed → InstrAsk
+instr_ask profile instr segments = record {
+  carriers = conds_of profile.float instr;
   rack = rack_ask instr;
   slider = option_map (size_ask segments) (slider_rule instr);
-  sizes = size_asks segments (size_rules hold instr);
+  sizes = size_asks segments (size_rules profile.hold instr);
   effect = effect_of instr;
+  lasts = lasts_of profile.float instr;
   changed = changes_of instr segments;
   formed = formed_loop instr segments;
 }
 
 -- the same of a line
-abbrev pub line_ask : ℕ → Read → List Changed → LineAsk
-line_ask hold (read.Instr instr) segments = Asks (instr_ask hold instr segments)
-line_ask hold (read.Broken reason) segments = Ends reason
-line_ask hold read.Blank segments = Nothing
-line_ask hold read.Comment segments = Nothing
+abbrev pub line_ask : Profile → Read → List Changed → LineAsk
+line_ask profile (read.Instr instr) segments = Asks (instr_ask profile instr segments)
+line_ask profile (read.Broken reason) segments = Ends reason
+line_ask profile read.Blank segments = Nothing
+line_ask profile read.Comment segments = Nothing
 
 -- The reason of the first condition that isn't met, in the order of the rules: first those on carriers and the hook, then the
--- rack, both in state t in which the instruction comes, then the slider and then the sizes, both in state s at the block's entry.
+-- rack, both in state t in which the instruction comes, then the slider and then the sizes, both in state s at the block's entry, and
+-- then the floats, in state t.
 abbrev pub first_unmet_of : InstrAsk → State → State → Option Reason
 first_unmet_of ask s t =
-    or_else (first_unmet ask.carriers t)
+    or_else (first_unmet (early_in ask.carriers) t)
     (or_else (unmet_rack ask.rack t)
-    (or_else (unmet_size_if_any ask.slider s) (first_unmet_size ask.sizes s)))
+    (or_else (unmet_size_if_any ask.slider s)
+    (or_else (first_unmet_size ask.sizes s) (first_unmet (floats_in ask.carriers) t))))
 
 -- the needle of a loop
 abbrev pub needle_of_formed : Option FormedLoop → Option Needle
 needle_of_formed formed = option_map (λ (l : FormedLoop). l.needle) formed
 
 -- The state t as the changes leave it, in a block that was entered in state s at line `first` and in which the needles held
--- these segments so far: rack, carriers and hook as the effect says, and on each needle what its segments stand for, the loop of
--- the line with this offset among them.
+-- these segments so far: rack, carriers and hook as the effect says, the last needles that are given, and on each needle what its
+-- segments stand for, the loop of the line with this offset among them.
 abbrev pub state_after : InstrAsk → List Changed → State → State → ℕ → ℕ → State
 state_after ask segments s t first offset = record {
   rack = rack_after ask.effect.rack t.rack;
   ins = ins_after ask.effect t.ins;
   hook = hook_after ask.effect t.hook;
+  lasts = lasts_after ask.lasts t.lasts;
   stacks = λ n. read_segs s first (segments_after segments ask.changed (needle_of_formed ask.formed) offset n);
 }
 

@@ -1,10 +1,12 @@
 -- How a line ends that is read after others.
-use Rattle.std.specs.Prelude.{◌≡◌, ◌+◌, ℕ, List, Option, None}
+use Rattle.std.specs.Prelude.{◌≡◌, ◌+◌, List, Option, None}
 use Rattle.knit_base.specs.declared.instr.Read.{Read}
 use Rattle.knit_base.specs.declared.instr.Read.TheVariants as read
+use Rattle.knit_base.specs.declared.profile.Profile.{Profile}
 use Rattle.face_data.specs.declared.face.Ending.TheVariants.{Through}
 use Rattle.face_data.specs.Composition.{composed, effect_of_both}
 use Rattle.face_data.specs.Items.{set_items}
+use Rattle.face_data.specs.Lasts.{lasts_of_both}
 use Rattle.face_data.specs.Segments.{Changed}
 use Rattle.face_data.specs.Summaries.{Summary}
 use Rattle.block_summary.specs.declared.formed.FormedLoop.{FormedLoop}
@@ -27,11 +29,12 @@ carried s ask = record {
   made = s.made + set_items ask.formed;
   checks = s.checks;
   changes = with_loop_on (needle_of_formed ask.formed) s.lines (written s.changes ask.changed);
+  lasts = lasts_of_both s.lasts ask.lasts;
   ending = Through (effect_of_both (effect_in s.ending) ask.effect);
 }
 
 -- Where the line goes on, what was drafted is the composition with the line's summary, and the loop is the line's. Where it is known
 -- to stop, so does the composition, at this fault.
-abbrev pub EndsAs : ℕ → Read → Summary → Summary → LineEnd → Type 0
-EndsAs hold r old new (GoesOn formed) = (new ≡ composed old (line_summary hold r)) × (formed ≡ loop_of_line r old.changes)
-EndsAs hold r old new (Stops fault) = composed old (line_summary hold r) ≡ stopped_at fault new
+abbrev pub EndsAs : Profile → Read → Summary → Summary → LineEnd → Type 0
+EndsAs profile r old new (GoesOn formed) = (new ≡ composed old (line_summary profile r)) × (formed ≡ loop_of_line r old.changes)
+EndsAs profile r old new (Stops fault) = composed old (line_summary profile r) ≡ stopped_at fault new

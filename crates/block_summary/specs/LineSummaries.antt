@@ -7,6 +7,7 @@ use Rattle.knit_base.specs.declared.instr.Instr.TheVariants.{Knit, Tuck, Split, 
 use Rattle.knit_base.specs.declared.instr.Read.{Read}
 use Rattle.knit_base.specs.declared.instr.Read.TheVariants as read
 use Rattle.knit_base.specs.declared.needle.Needle.{Needle}
+use Rattle.knit_base.specs.declared.profile.Profile.{Profile}
 use Rattle.knit_base.specs.declared.rule.Reason.{Reason}
 use Rattle.knit_base.specs.declared.yarns.CarrierNo.{CarrierNo}
 use Rattle.face_data.specs.declared.face.Cond.{Cond}
@@ -22,12 +23,13 @@ use Rattle.face_data.specs.Items.{set_items}
 use Rattle.knit_base.specs.Instr.{forming_needle, needles_of}
 use Rattle.knit_base.specs.Needle.{own_slider}
 use Rattle.knit_base.specs.declared.instr.Quarter.{Quarter}
+use Rattle.face_data.specs.Lasts.{lasts_of_both}
 use Rattle.face_data.specs.Segments.{Changed}
 use Rattle.face_data.specs.Sets.{IsWithin}
 use Rattle.face_data.specs.Sizes.{SizeRule}
 use Rattle.face_data.specs.Summaries.{Asked, Summary}
 use Rattle.bed_rules.specs.Beds.{size_rules}
-use Rattle.carrier_rules.specs.Carriers.{conds_of, effect_of}
+use Rattle.carrier_rules.specs.Carriers.{early_of, effect_of, floats_asked, lasts_of}
 use Rattle.rack_align.specs.Moves.{rack_ask}
 use Rattle.slider_rules.specs.Sliders.{bare_slider}
 
@@ -59,9 +61,15 @@ slider_asked on = map asked_of_sizes (option_to_list (option_map bare_slider on)
 abbrev pub sizes_asked : ℕ → Instr → List Asked
 sizes_asked hold instr = map asked_of_sizes (size_rules hold instr)
 
+-- no float is too long
+abbrev pub near_asked : Option ℕ → Instr → List Asked
+near_asked limit instr = map plainly_asked (floats_asked limit instr)
+
 -- all conditions of the instruction, in the order of the rules
-abbrev pub asked_by : ℕ → Instr → List Asked
-asked_by hold instr = map plainly_asked (conds_of instr) ++ (rack_asked instr ++ (slider_asked (forming_needle instr) ++ sizes_asked hold instr))
+abbrev pub asked_by : Profile → Instr → List Asked
+asked_by profile instr =
+    map plainly_asked (early_of instr)
+    ++ (rack_asked instr ++ (slider_asked (forming_needle instr) ++ (sizes_asked profile.hold instr ++ near_asked profile.float instr)))
 
 -- all loops of the first needle go over behind those of the second, and the first is left with these segments
 abbrev pub gone_over : Needle → Needle → List Seg → List Changed
@@ -88,24 +96,25 @@ line_changes instr = []
 
 -- a line that asks and changes nothing, whichever way it ends
 abbrev pub unasked : Ending → Summary
-unasked ending = record { lines = 1; made = 0; checks = []; changes = []; ending = ending }
+unasked ending = record { lines = 1; made = 0; checks = []; changes = []; lasts = []; ending = ending }
 
 -- the summary of a line. It may ask for a thing twice, as where a carrier is named twice
-abbrev pub line_summary : ℕ → Read → Summary
-line_summary hold read.Blank = unasked (Through no_effect)
-line_summary hold read.Comment = unasked (Through no_effect)
-line_summary hold (read.Broken reason) = unasked (Broken (record { line = 0; reason = reason }))
-line_summary hold (read.Instr i) = record {
+abbrev pub line_summary : Profile → Read → Summary
+line_summary profile read.Blank = unasked (Through no_effect)
+line_summary profile read.Comment = unasked (Through no_effect)
+line_summary profile (read.Broken reason) = unasked (Broken (record { line = 0; reason = reason }))
+line_summary profile (read.Instr i) = record {
   lines = 1;
   made = set_items (forming_needle i);
-  checks = asked_by hold i;
+  checks = asked_by profile i;
   changes = line_changes i;
+  lasts = lasts_of_both [] (lasts_of profile.float i);
   ending = Through (effect_of i);
 }
 
 -- the summary of a block of lines: each line's, read through those before it and held against what they ask
-abbrev pub block_summary_of : ℕ → List Read → Summary
-block_summary_of hold lines = drafted (line_summary hold) lines
+abbrev pub block_summary_of : Profile → List Read → Summary
+block_summary_of profile lines = drafted (line_summary profile) lines
 
 -- the own slider of a needle on which a loop is formed is known
 abbrev pub SliderKnown : List Needle → Option Needle → Type 0

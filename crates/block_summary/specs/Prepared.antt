@@ -51,20 +51,20 @@ abbrev pub row_of : ℕ → FormedLoop → LoopRow
 row_of offset formed = record { offset = offset; needle = formed.needle; dir = formed.dir; yarns = formed.yarns; through = formed.through }
 
 -- what one line more makes of a draft and of the rows: it goes on, with the row of its loop, or it is known to stop
-abbrev pub IsAdded : ℕ → Read → Summary → Summary → List LoopRow → List LoopRow → Option Fault → Type 0
-IsAdded hold r old new rows more None =
-    (new ≡ composed old (line_summary hold r)) × (more ≡ rows ++ option_to_list (option_map (row_of old.lines) (loop_of_line r old.changes)))
-IsAdded hold r old new rows more (Some fault) = (composed old (line_summary hold r) ≡ stopped_at fault new) × (more ≡ rows)
+abbrev pub IsAdded : Profile → Read → Summary → Summary → List LoopRow → List LoopRow → Option Fault → Type 0
+IsAdded profile r old new rows more None =
+    (new ≡ composed old (line_summary profile r)) × (more ≡ rows ++ option_to_list (option_map (row_of old.lines) (loop_of_line r old.changes)))
+IsAdded profile r old new rows more (Some fault) = (composed old (line_summary profile r) ≡ stopped_at fault new) × (more ≡ rows)
 
 -- a lawful line more
 pub record AddsLine (profile : Profile) (carriers : ℕ) (r : Read) (old new : Summary) (rows more : List LoopRow) (stop : Option Fault) : Type 0 where
   pub lawful : IsLawfulRead profile carriers r
-  pub added : IsAdded profile.hold r old new rows more stop
+  pub added : IsAdded profile r old new rows more stop
 
 -- A knit was added, with its row, where all was known of it, and else nothing was done.
 abbrev pub IsKnitIfKnown : Bool → Dir → Needle → CarrierNo → Summary → Summary → List LoopRow → List LoopRow → Type 0
 IsKnitIfKnown false dir n c old new rows more = (new ≡ old) × (more ≡ rows)
-IsKnitIfKnown true dir n c old new rows more = (hold : ℕ) → IsAdded hold (read.Instr (Knit dir n (c ∷ []))) old new rows more None
+IsKnitIfKnown true dir n c old new rows more = (profile : Profile) → profile.float ≡ None → IsAdded profile (read.Instr (Knit dir n (c ∷ []))) old new rows more None
 
 -- the rows are of so many lines, at most one of each
 pub record AreRowsOf (lines : ℕ) (rows : List LoopRow) : Type 0 where
@@ -73,6 +73,6 @@ pub record AreRowsOf (lines : ℕ) (rows : List LoopRow) : Type 0 where
 
 -- So many of the lines were read, none of which is known to stop: the draft is their summary, and the rows are a table that stands for them.
 pub record HasRead (profile : Profile) (carriers : ℕ) (lines : List Read) (i : ℕ) (draft : Summary) (rows : List LoopRow) : Type 0 where
-  pub is : draft ≡ block_summary_of profile.hold (take i lines)
+  pub is : draft ≡ block_summary_of profile (take i lines)
   pub lawful : (r : Read) → Contains (take i lines) r → IsLawfulRead profile carriers r
   pub table : TableStandsFor profile rows (take i lines)

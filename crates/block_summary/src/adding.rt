@@ -107,6 +107,9 @@ fn add_usual(
     let _carriers = setting.declared.len();
     match usual {
         Usual::Knit(dir, n, c) => {
+            if setting.profile.float.is_some() {
+                return add_reading(usual, setting, draft, loops);
+            }
             if add_knit(dir, n, c, draft, loops)? {
                 return Ok(None);
             }
@@ -166,7 +169,7 @@ fn add_transfer(
     }
 }
 
-// A knit more of which all is known, with its row. Answers whether it is one; where it isn't, nothing was done.
+// A knit more of which all is known, with its row, where floats have no limit. Answers whether it is one; where it isn't, nothing was done.
 #[inline(always)]
 fn add_knit(
     dir: Dir,
@@ -213,6 +216,7 @@ fn add_first_knit(
     requires profile { IsLawfulProfile setting.now.profile }
     requires lawful { IsLawfulRead setting.now.profile (length setting.now.declared) (read.Instr (Knit dir n (c ∷ []))) }
     requires untouched { change_at draft.old.changes (own_slider n) ≡ None }
+    requires floats { setting.now.profile.float ≡ None }
     requires few { draft.old.lines < 4096 }
     requires rows { AreRowsOf draft.old.lines loops.old }
     ensures added { IfOk result (AddsLine setting.now.profile (length setting.now.declared) (read.Instr (Knit dir n (c ∷ []))) draft.old draft.new loops.old loops.new) }

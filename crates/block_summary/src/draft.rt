@@ -1,5 +1,5 @@
 //! The summary of the lines read so far.
-ghost use Rattle.std.specs.Prelude.{◌≡◌, ℕ, pos, ◌+◌, ◌-◌, ◌<◌, ◌≤◌, ◌^◌, ◌<ℤ◌, List, [], ◌∷◌, ◌++◌, false, true, All, Option, IsTrue, IfOk, OnOk, MatchOption, length};
+ghost use Rattle.std.specs.Prelude.{◌≡◌, ℕ, pos, ◌+◌, ◌-◌, ◌<◌, ◌≤◌, ◌^◌, ◌<ℤ◌, List, [], ◌∷◌, ◌++◌, false, true, All, Option, IsTrue, IfOk, OnOk, MatchOption, None, Some, fold, length, map};
 ghost use Rattle.std.specs.List.{Contains};
 ghost use Rattle.knit_base.specs.declared.instr.Instr.TheVariants.{Knit};
 ghost use Rattle.knit_base.specs.declared.instr.Read.TheVariants as read;
@@ -13,19 +13,27 @@ ghost use Rattle.face_data.specs.Answers.{read_answer, size_left};
 ghost use Rattle.face_data.specs.Answers.Answer.{asks};
 ghost use Rattle.face_data.specs.Composition.{composed, against_kept, effect_of_both, from_bearing, merged};
 ghost use Rattle.face_data.specs.Conditions.{ask_of};
-ghost use Rattle.face_data.specs.Digests.{CarrierFits, IsPlainCondition};
+ghost use Rattle.face_data.specs.Digests.{CarrierFits, IsPlainCondition, IsUnsized};
 ghost use Rattle.face_data.specs.Goodness.{IsInOrder};
-ghost use Rattle.face_data.specs.Conditions.Ask.{carrier_in, size_at_most};
+ghost use Rattle.face_data.specs.Conditions.Ask.{carrier_in, last_near, size_at_most};
 ghost use Rattle.face_data.specs.Segments.{change_at, segments_on};
 ghost use Rattle.face_data.specs.Sizes.{SizeRule, size_ask};
 ghost use Rattle.face_data.specs.Drafts.{no_effect, no_lines};
-ghost use Rattle.block_summary.specs.DraftKnowledge.{HoldsAfter, HasAsked, IsSmall, Took, effect_in, stopped_at};
+ghost use Rattle.face_data.specs.Lasts.{put_last};
+ghost use Rattle.knit_base.specs.declared.profile.Profile.{Profile};
+ghost use Rattle.carrier_rules.specs.Carriers.{last_of};
+ghost use Rattle.block_summary.specs.DraftKnowledge.{AreNearIn, HoldsAfter, HasAsked, IsSmall, Took, effect_in, stopped_at};
 ghost use Rattle.block_summary.specs.LineSummaries.{line_summary};
+
+mod near;
 
 use crate::kept::Kept;
 use crate::laid::{Laid, face_of};
 use crate::room::new_loops_on;
-use face_data::{Bearing, Cond, Effect, Ending, Face, Seg, Segs, SizeAsk, Symbols, slot_of};
+use face_data::{
+    Bearing, Cond, Effect, Ending, Face, Last, Lasts, Seg, Segs, SizeAsk, Symbols, last_bearing,
+    slot_of,
+};
 use knit_base::{CarrierNo, Fault, Needle, NoMemory, Reason, Yarns, is_in_set};
 use std::alloc::Global;
 use std::marker::Model;
@@ -42,6 +50,7 @@ pub struct Draft {
     kept: Kept,
     symbols: Symbols,
     effect: Effect,
+    lasts: Lasts,
     bare: [Option<Needle>; 64],
     laid: Laid,
 }
@@ -53,9 +62,9 @@ impl Model for Draft {
 
     ghost Value = { Summary };
 
-    ghost view = { λ d. record { lines = d.lines; made = d.made; checks = d.kept; changes = d.symbols; ending = Through d.effect } };
+    ghost view = { λ d. record { lines = d.lines; made = d.made; checks = d.kept; changes = d.symbols; lasts = d.lasts.lasts; ending = Through d.effect } };
 
-    ghost invariant = { λ d. IsDraft d.lines d.made d.kept d.effect d.symbols d.bare };
+    ghost invariant = { λ d. IsDraft d.lines d.made d.kept d.effect d.lasts.lasts d.symbols d.bare };
 }
 
 impl Draft {
@@ -70,6 +79,7 @@ impl Draft {
             kept: Kept::new(alloc),
             symbols: Symbols::new(alloc),
             effect: no_effect(),
+            lasts: Lasts::new(alloc),
             bare: none_bare(),
             laid: Laid::new(alloc),
         }
@@ -84,6 +94,7 @@ impl Draft {
         self.kept.clear();
         self.symbols.clear();
         self.effect = no_effect();
+        self.lasts.clear();
         self.bare = none_bare();
     }
 
@@ -164,7 +175,24 @@ impl Draft {
         requires plain { IsPlainCondition (ask_of [] cond) }
         ensures { IfOk result (HasAsked self.old self.new (record { line = self.old.lines; reason = reason }) (ask_of [] cond)) }
     {
-        match self.bearing_on(cond) {
+        let bearing = self.bearing_on(cond);
+        self.keep_if_silent(bearing, reason, cond)
+    }
+
+    // A condition of which so much is known: it is kept where that is nothing.
+    #[inline(always)]
+    fn keep_if_silent(
+        &mut self,
+        bearing: Bearing,
+        reason: Reason,
+        cond: Cond,
+    ) -> Result<bool, NoMemory>
+        requires fits { CarrierFits cond }
+        requires nameless { IsUnsized (ask_of [] cond) }
+        requires known { against_kept self.old.checks (read_answer (effect_in self.old.ending) self.old.lasts self.old.changes (ask_of [] cond)) ≡ from_bearing bearing (asks (ask_of [] cond)) }
+        ensures { IfOk result (HasAsked self.old self.new (record { line = self.old.lines; reason = reason }) (ask_of [] cond)) }
+    {
+        match bearing {
             Bearing::Implied => Ok(true),
             Bearing::Refuted => Ok(false),
             Bearing::Silent => {
@@ -182,7 +210,7 @@ impl Draft {
     fn bearing_on(&self, cond: Cond) -> Bearing
         requires fits { CarrierFits cond }
         requires plain { IsPlainCondition (ask_of [] cond) }
-        ensures { against_kept self.now.checks (read_answer (effect_in self.now.ending) self.now.changes (ask_of [] cond)) ≡ from_bearing result (asks (ask_of [] cond)) }
+        ensures { against_kept self.now.checks (read_answer (effect_in self.now.ending) self.now.lasts self.now.changes (ask_of [] cond)) ≡ from_bearing result (asks (ask_of [] cond)) }
     {
         match self.effect.bearing_on(cond) {
             Bearing::Implied => Bearing::Implied,
@@ -310,7 +338,13 @@ impl Draft {
         self.laid.lay(&self.symbols)?;
         let ending = Ending::Through(self.effect);
         face_of(
-            self.alloc, self.lines, self.made, &self.kept, &self.laid, ending,
+            self.alloc,
+            self.lines,
+            self.made,
+            &self.kept,
+            &self.laid,
+            self.lasts.as_slice(),
+            ending,
         )
     }
 
@@ -325,18 +359,19 @@ impl Draft {
             0,
             &self.kept,
             &Laid::new(self.alloc),
+            &[],
             ending,
         )
     }
 
-    /// One line more: a knit with carriers that are known to be in action, on a hook whose own slider is known to hold nothing.
-    /// Answers what the loop is drawn through.
+    /// One line more, where floats have no limit: a knit with carriers that are known to be in action, on a hook whose own slider is known
+    /// to hold nothing. Answers what the loop is drawn through.
     #[inline(always)]
     pub fn knit(&mut self, n: Needle) -> Result<Segs, NoMemory>
         requires hook { is_slider n.bed ≡ false }
         requires few { self.old.lines < 2 ^ 32 - 1 }
         requires slider { HoldsAfter self.old (size_at_most (own_slider n ∷ []) 0) }
-        ensures summary { OnOk result ((hold : ℕ) (dir : Dir) (c : CarrierNo) (cs : List CarrierNo) → ((x : CarrierNo) → Contains (c ∷ cs) x → HoldsAfter self.old (carrier_in x)) → self.new ≡ composed self.old (line_summary hold (read.Instr (Knit dir n (c ∷ cs))))) }
+        ensures summary { OnOk result ((profile : Profile) (dir : Dir) (c : CarrierNo) (cs : List CarrierNo) → profile.float ≡ None → ((x : CarrierNo) → Contains (c ∷ cs) x → HoldsAfter self.old (carrier_in x)) → self.new ≡ composed self.old (line_summary profile (read.Instr (Knit dir n (c ∷ cs))))) }
         ensures through { IfOk result (λ through. through ≡ segments_on self.old.changes n) }
     {
         let segs = Segs::one(self.alloc, Seg::New(self.lines));

@@ -1,6 +1,6 @@
 //! Conditions that are kept, with the needles that they name.
-ghost use Rattle.std.specs.Prelude.{◌≡◌, ◌<◌, ◌^◌, [], ◌∷◌, ◌++◌, length, map, OnOk, OnErr};
-ghost use Rattle.std.specs.List.{flat_map};
+ghost use Rattle.std.specs.Prelude.{◌≡◌, ◌≢◌, ◌<◌, ◌^◌, [], ◌∷◌, ◌++◌, false, length, map, IsTrue, OnOk, OnErr};
+ghost use Rattle.std.specs.List.{Contains, flat_map};
 ghost use Rattle.face_data.specs.declared.bearing.Bearing.TheVariants.{Implied};
 ghost use Rattle.face_data.specs.declared.face.Check.{Check};
 ghost use Rattle.face_data.specs.Answers.Answer.{asks};
@@ -8,13 +8,13 @@ ghost use Rattle.face_data.specs.Bearings.{if_so};
 ghost use Rattle.face_data.specs.Composition.{from_bearing, settled};
 ghost use Rattle.face_data.specs.Conditions.{ask_of};
 ghost use Rattle.face_data.specs.Conditions.Ask.{size_at_most};
-ghost use Rattle.face_data.specs.Digests.{CarrierFits, IsPlainCondition, digest_of};
+ghost use Rattle.face_data.specs.Digests.{CarrierFits, IsNearCond, IsUnsized, digest_of};
 ghost use Rattle.face_data.specs.Goodness.{IsIrredundant};
 ghost use Rattle.face_data.specs.View.{asked_of, names_of, ChecksFit};
 
 use crate::chains::{Chains, chain_of};
 use crate::implied::implies_size;
-use face_data::{Check, Cond, Digest, Part};
+use face_data::{Bearing, Check, Cond, Digest, Part};
 use knit_base::{Fault, Needle, NoMemory};
 use std::alloc::Global;
 use std::marker::Model;
@@ -83,10 +83,10 @@ impl Kept {
         (&self.checks, &self.names)
     }
 
-    /// Keeps a condition on the rack, on a carrier or on the hook.
+    /// Keeps a condition that isn't on sizes.
     pub fn keep(&mut self, fault: Fault, cond: Cond) -> Result<(), NoMemory>
         requires fits { CarrierFits cond }
-        requires plain { IsPlainCondition (ask_of [] cond) }
+        requires nameless { IsUnsized (ask_of [] cond) }
         requires silent { settled self.old (ask_of [] cond) ≡ asks (ask_of [] cond) }
         ensures ok { OnOk result (self.new ≡ self.old ++ record { fault = fault; ask = ask_of [] cond } ∷ []) }
         ensures err { OnErr result (self.new ≡ self.old) }
@@ -94,6 +94,18 @@ impl Kept {
         self.checks.push(Check { fault, cond })?;
         self.digest.note(cond);
         Ok(())
+    }
+
+    /// What the conditions say of one that a carrier's last needle is near: only the same one says that it holds.
+    pub fn bearing_on_near(&self, cond: Cond) -> Bearing
+        requires { IsNearCond cond }
+        ensures { settled self.now (ask_of [] cond) ≡ from_bearing result (asks (ask_of [] cond)) }
+    {
+        if is_among(cond, &self.checks) {
+            Bearing::Implied
+        } else {
+            Bearing::Silent
+        }
     }
 
     /// Whether a kept condition says that these needles hold at most so many loops together.
@@ -139,4 +151,12 @@ impl Kept {
         self.chains.add(needles, cond);
         Ok(())
     }
+}
+
+// Whether it is one of the conditions.
+fn is_among(cond: Cond, checks: &[Check]) -> bool
+    ensures yes { IsTrue result → (c : Check) × Contains checks.now c × (c.cond ≡ cond) }
+    ensures none { result ≡ false → (c : Check) → Contains checks.now c → c.cond ≢ cond }
+{
+    checks.iter().any(|check| check.cond == cond)
 }

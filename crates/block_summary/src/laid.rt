@@ -3,7 +3,7 @@ ghost use Rattle.std.specs.Prelude.{◌≡◌, ◌<◌, ◌^◌, [], ◌∷◌, 
 ghost use Rattle.face_data.specs.View.{ArePacked, changed_of};
 
 use crate::kept::Kept;
-use face_data::{Change, Ending, Face, FaceView, Part, Seg, Symbols};
+use face_data::{Change, Ending, Face, FaceView, Last, Part, Seg, Symbols};
 use knit_base::{Needle, NoMemory};
 use std::alloc::Global;
 use std::marker::Model;
@@ -81,16 +81,17 @@ impl Laid {
     }
 }
 
-/// The face of these conditions and changes.
+/// The face of these conditions, changes and last needles.
 pub fn face_of(
     alloc: Global,
     lines: u32,
     made: u32,
     kept: &Kept,
     laid: &Laid,
+    lasts: &[Last],
     ending: Ending,
 ) -> Result<Face, NoMemory>
-    ensures { IfOk result (λ face. face ≡ record { lines = lines; made = made; checks = kept.now; changes = laid.now; ending = ending }) }
+    ensures { IfOk result (λ face. face ≡ record { lines = lines; made = made; checks = kept.now; changes = laid.now; lasts = lasts.now; ending = ending }) }
 {
     let (checks, names) = kept.lists();
     let (changes, segs) = laid.lists();
@@ -103,6 +104,7 @@ pub fn face_of(
             names,
             changes,
             segs,
+            lasts,
             ending,
         },
     )

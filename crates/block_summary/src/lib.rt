@@ -20,6 +20,7 @@
 #![tactic(auto)]
 
 mod adding;
+mod asking;
 mod chains;
 mod draft;
 mod formed;

@@ -1,5 +1,5 @@
 //! One line more of a block that is drafted.
-ghost use Rattle.std.specs.Prelude.{◌≡◌, ℕ, ◌+◌, ◌-◌, ◌<◌, ◌≤◌, ◌^◌, ◌++◌, List, [], ◌∷◌, All, Option, MatchOption, false, length, IfOk, IfSome, OnOk, map};
+ghost use Rattle.std.specs.Prelude.{◌≡◌, ℕ, ◌+◌, ◌-◌, ◌<◌, ◌≤◌, ◌^◌, ◌++◌, List, [], ◌∷◌, All, Option, MatchOption, not, false, length, IfOk, IfSome, OnOk, map};
 ghost use Rattle.std.specs.Option.{option_copied, option_map, option_to_list};
 ghost use Rattle.knit_base.specs.Lawful.{IsLawful, IsLawfulRead};
 ghost use Rattle.knit_base.specs.Limits.{IsLawfulProfile};
@@ -11,7 +11,7 @@ ghost use Rattle.knit_base.specs.Needle.{is_slider, own_slider};
 ghost use Rattle.face_data.specs.declared.face.Seg.TheVariants.{New};
 ghost use Rattle.face_data.specs.declared.face.Ending.TheVariants.{Through};
 ghost use Rattle.face_data.specs.Composition.{merged};
-ghost use Rattle.face_data.specs.Conditions.{unless};
+ghost use Rattle.face_data.specs.Conditions.{ask_of, unless};
 ghost use Rattle.face_data.specs.Conditions.Ask.{carrier_in, size_at_most};
 ghost use Rattle.face_data.specs.Goodness.{IsInOrder};
 ghost use Rattle.face_data.specs.Segments.{change_at, segments_on};
@@ -19,10 +19,11 @@ ghost use Rattle.face_data.specs.Sizes.{SizeRule, size_ask, size_asks};
 ghost use Rattle.carriage_model.specs.Machine.{HasPlaces};
 ghost use Rattle.bed_rules.specs.Beds.{moved};
 ghost use Rattle.carrier_rules.specs.declared.conds.OfEach.TheVariants.{InAction};
-ghost use Rattle.carrier_rules.specs.Carriers.{conds_of, conds_of_each};
+ghost use Rattle.knit_base.specs.declared.profile.Profile.{Profile};
+ghost use Rattle.carrier_rules.specs.Carriers.{conds_of_each, early_in, early_of, floats_in, is_on_last};
 ghost use Rattle.slider_rules.specs.Sliders.{bare_slider};
 ghost use Rattle.block_summary.specs.Asks.{instr_ask};
-ghost use Rattle.block_summary.specs.DraftKnowledge.{CanBeAsked, HasAsked, HasAskedAll, HoldsAfter, IsSmall, effect_in, written};
+ghost use Rattle.block_summary.specs.DraftKnowledge.{AreNearIn, CanBeAsked, HasAsked, HasAskedAll, HasAskedIf, HoldsAfter, IsSmall, effect_in, written};
 ghost use Rattle.block_summary.specs.LineEnds.{EndsAs, carried};
 ghost use Rattle.block_summary.specs.LineSummaries.{asked_by, asked_of_rack, asked_of_sizes, plainly_asked};
 
@@ -48,7 +49,7 @@ impl Draft {
         requires profile { IsLawfulProfile profile.now }
         requires lawful { (carriers : ℕ) × (carriers ≤ 64) × IsLawfulRead profile.now carriers read.now }
         requires few { self.old.lines < 2 ^ 32 - 1 }
-        ensures { IfOk result (EndsAs profile.now.hold read.now self.old self.new) }
+        ensures { IfOk result (EndsAs profile.now read.now self.old self.new) }
     {
         match read {
             Read::Instr(instr) => self.instr(instr, profile),
@@ -65,19 +66,40 @@ impl Draft {
         requires profile { IsLawfulProfile profile.now }
         requires lawful { (carriers : ℕ) × (carriers ≤ 64) × IsLawful profile.now carriers instr.now }
         requires few { self.old.lines < 2 ^ 32 - 1 }
-        ensures { IfOk result (EndsAs profile.now.hold (read.Instr instr.now) self.old self.new) }
+        ensures { IfOk result (EndsAs profile.now (read.Instr instr.now) self.old self.new) }
     {
         match instr {
-            Instr::Knit(dir, n, yarns) => match self.usual_knit(*dir, *n, yarns)? {
-                Some(formed) => Ok(LineEnd::GoesOn(Some(formed))),
-                None => self.first_knit(instr, *dir, *n, yarns, profile),
-            },
+            Instr::Knit(dir, n, yarns) => self.any_knit(instr, *dir, *n, yarns, profile),
             Instr::Xfer(n, n2) => self.transfer(instr, *n, *n2, profile),
             Instr::Pause => {
                 self.pass();
                 Ok(LineEnd::GoesOn(None))
             }
             _ => self.any_instr(instr, profile),
+        }
+    }
+
+    // A knit whose floats aren't known to be short goes the way of all instructions.
+    fn any_knit(
+        &mut self,
+        instr: &Instr,
+        dir: Dir,
+        n: Needle,
+        yarns: &Yarns,
+        profile: &Profile,
+    ) -> Result<LineEnd, NoMemory>
+        requires profile { IsLawfulProfile profile.now }
+        requires lawful { (carriers : ℕ) × (carriers ≤ 64) × IsLawful profile.now carriers instr.now }
+        requires knit { instr.now ≡ Knit dir n yarns.now }
+        requires few { self.old.lines < 2 ^ 32 - 1 }
+        ensures { IfOk result (EndsAs profile.now (read.Instr instr.now) self.old self.new) }
+    {
+        if !self.knows_each_near(yarns, n.at, profile.float) {
+            return self.any_instr(instr, profile);
+        }
+        match self.usual_knit(dir, n, yarns, profile.float)? {
+            Some(formed) => Ok(LineEnd::GoesOn(Some(formed))),
+            None => self.first_knit(instr, dir, n, yarns, profile),
         }
     }
 
@@ -93,17 +115,18 @@ impl Draft {
         requires profile { IsLawfulProfile profile.now }
         requires lawful { (carriers : ℕ) × (carriers ≤ 64) × IsLawful profile.now carriers instr.now }
         requires knit { instr.now ≡ Knit dir n yarns.now }
+        requires near { AreNearIn self.old profile.now.float n yarns.now }
         requires few { self.old.lines < 2 ^ 32 - 1 }
-        ensures { IfOk result (EndsAs profile.now.hold (read.Instr instr.now) self.old self.new) }
+        ensures { IfOk result (EndsAs profile.now (read.Instr instr.now) self.old self.new) }
     {
         if yarns.len() == 0 {
             return self.any_instr(instr, profile);
         }
-        if let Some(reason) = self.ask_knit(instr, n, yarns)? {
+        if let Some(reason) = self.ask_knit(instr, n, yarns, profile)? {
             return Ok(LineEnd::Stops(self.stop(reason)));
         }
         self.note_bare(n);
-        match self.usual_knit(dir, n, yarns)? {
+        match self.usual_knit(dir, n, yarns, profile.float)? {
             Some(formed) => Ok(LineEnd::GoesOn(Some(formed))),
             None => self.any_instr(instr, profile),
         }
@@ -115,31 +138,38 @@ impl Draft {
         instr: &Instr,
         n: Needle,
         yarns: &Yarns,
+        profile: &Profile,
     ) -> Result<Option<Reason>, NoMemory>
         requires places { HasPlaces instr.now }
         requires knit { (dir : Dir) × (instr.now ≡ Knit dir n yarns.now) }
         requires some { 1 ≤ length yarns.now }
-        requires can { All CanBeAsked (conds_of instr.now) }
-        ensures { IfOk result (λ stop. (hold : ℕ) → HasAskedAll self.old self.new (asked_by hold instr.now) stop) }
+        requires can { All CanBeAsked (early_of instr.now) }
+        requires near { AreNearIn self.old profile.now.float n yarns.now }
+        ensures { IfOk result (HasAskedAll self.old self.new (asked_by profile.now instr.now)) }
     {
-        if let Some(reason) = self.ask_carriers(instr, yarns)? {
+        if let Some(reason) = self.ask_carriers(instr, yarns, profile)? {
             return Ok(Some(reason));
         }
         self.ask_bare(instr, n)
     }
 
     // Asks that the carriers of a knit are in action.
-    fn ask_carriers(&mut self, instr: &Instr, yarns: &Yarns) -> Result<Option<Reason>, NoMemory>
+    fn ask_carriers(
+        &mut self,
+        instr: &Instr,
+        yarns: &Yarns,
+        profile: &Profile,
+    ) -> Result<Option<Reason>, NoMemory>
         requires places { HasPlaces instr.now }
-        requires conds { conds_of instr.now ≡ conds_of_each InAction 3 yarns.now }
-        requires can { All CanBeAsked (conds_of instr.now) }
-        ensures { IfOk result (HasAskedAll self.old self.new (map plainly_asked (conds_of instr.now))) }
+        requires conds { early_of instr.now ≡ conds_of_each InAction 3 yarns.now }
+        requires can { All CanBeAsked (early_of instr.now) }
+        ensures { IfOk result (HasAskedAll self.old self.new (map plainly_asked (early_of instr.now))) }
     {
         if self.knows_in(yarns) {
             return Ok(None);
         }
-        let carriers = carrier_rules::ask(self.allocator(), instr)?;
-        self.ask_conds(carriers.conds.as_slice())
+        let carriers = carrier_rules::ask(self.allocator(), instr, profile)?;
+        self.ask_early(carriers.conds.as_slice())
     }
 
     // Asks that the own slider of the needle on which an instruction forms a loop holds nothing.
@@ -176,7 +206,7 @@ impl Draft {
     ) -> Result<Option<Reason>, NoMemory>
         requires carrier { c.0 < 64 }
         requires untouched { change_at self.old.changes (own_slider n) ≡ None }
-        ensures { IfOk result (λ stop. (hold : ℕ) (dir : Dir) → HasAskedAll self.old self.new (asked_by hold (Knit dir n (c ∷ []))) stop) }
+        ensures { IfOk result (λ stop. (profile : Profile) (dir : Dir) → profile.float ≡ None → HasAskedAll self.old self.new (asked_by profile (Knit dir n (c ∷ []))) stop) }
     {
         let is_out = Reason {
             rule: Rule::CarrierIsOut,
@@ -205,10 +235,11 @@ impl Draft {
         dir: Dir,
         n: Needle,
         yarns: &Yarns,
+        limit: Option<u16>,
     ) -> Result<Option<FormedLoop>, NoMemory>
         requires hook { 1 ≤ length yarns.now → is_slider n.bed ≡ false }
         requires few { self.old.lines < 2 ^ 32 - 1 }
-        ensures { IfOk result (λ formed. MatchOption formed (self.new ≡ self.old) (λ l. (hold : ℕ) → EndsAs hold (read.Instr (Knit dir n yarns.now)) self.old self.new (LineEnd.GoesOn (Some l)))) }
+        ensures { IfOk result (λ formed. MatchOption formed (self.new ≡ self.old) (λ l. (profile : Profile) → profile.float ≡ limit → AreNearIn self.old limit n yarns.now → EndsAs profile (read.Instr (Knit dir n yarns.now)) self.old self.new (LineEnd.GoesOn (Some l)))) }
     {
         if yarns.len() == 0 {
             return Ok(None);
@@ -220,7 +251,10 @@ impl Draft {
             return Ok(None);
         }
         let yarns = yarns.try_clone()?;
-        let through = self.knit(n)?;
+        let through = match limit {
+            None => self.knit(n)?,
+            Some(_) => self.knit_near(n, yarns.as_slice())?,
+        };
         Ok(Some(FormedLoop {
             needle: n,
             dir,
@@ -241,7 +275,7 @@ impl Draft {
         requires lawful { (carriers : ℕ) × (carriers ≤ 64) × IsLawful profile.now carriers instr.now }
         requires transfer { instr.now ≡ Xfer n n2 }
         requires few { self.old.lines < 2 ^ 32 - 1 }
-        ensures { IfOk result (EndsAs profile.now.hold (read.Instr instr.now) self.old self.new) }
+        ensures { IfOk result (EndsAs profile.now (read.Instr instr.now) self.old self.new) }
     {
         if let Some(reason) = self.ask_transfer(instr, n, n2, profile.hold)? {
             return Ok(LineEnd::Stops(self.stop(reason)));
@@ -261,7 +295,7 @@ impl Draft {
     ) -> Result<Option<Reason>, NoMemory>
         requires transfer { instr.now ≡ Xfer n n2 }
         requires hold { hold ≤ 64 }
-        ensures { IfOk result (HasAskedAll self.old self.new (asked_by hold instr.now)) }
+        ensures { IfOk result (λ stop. (profile : Profile) → profile.hold ≡ hold → HasAskedAll self.old self.new (asked_by profile instr.now) stop) }
     {
         if let Some(reason) = self.ask_rack(rack_align::ask(instr))? {
             return Ok(Some(reason));
@@ -293,7 +327,7 @@ impl Draft {
         requires profile { IsLawfulProfile profile.now }
         requires lawful { (carriers : ℕ) × (carriers ≤ 64) × IsLawful profile.now carriers instr.now }
         requires few { self.old.lines < 2 ^ 32 - 1 }
-        ensures { IfOk result (EndsAs profile.now.hold (read.Instr instr.now) self.old self.new) }
+        ensures { IfOk result (EndsAs profile.now (read.Instr instr.now) self.old self.new) }
     {
         let ask = ask_instr(self.allocator(), instr, profile, self.contents())?;
         match self.ask_all(&ask)? {
@@ -316,82 +350,13 @@ impl Draft {
         }
     }
 
-    // Asks all conditions of an instruction, in the order of the rules. Answers with the reason of one that can't hold.
-    fn ask_all(&mut self, ask: &InstrAsk) -> Result<Option<Reason>, NoMemory>
-        requires carriers { All CanBeAsked ask.now.carriers }
-        requires slider { IfSome ask.now.slider IsSmall }
-        requires sizes { All IsSmall ask.now.sizes }
-        ensures { IfOk result (λ stop. (hold : ℕ) (instr : Instr) → ask.now ≡ instr_ask hold instr self.old.changes → HasAskedAll self.old self.new (asked_by hold instr) stop) }
-    {
-        if let Some(reason) = self.ask_conds(ask.carriers.as_slice())? {
-            return Ok(Some(reason));
-        }
-        if let Some(reason) = self.ask_rack(ask.rack)? {
-            return Ok(Some(reason));
-        }
-        if let Some(reason) = self.ask_slider(ask.slider.as_ref())? {
-            return Ok(Some(reason));
-        }
-        self.ask_sizes(ask.sizes.as_slice())
-    }
-
-    // The same of conditions on carriers and the hook.
-    fn ask_conds(&mut self, conds: &[(Reason, Cond)]) -> Result<Option<Reason>, NoMemory>
-        requires { All CanBeAsked conds.now }
-        ensures { IfOk result (HasAskedAll self.old self.new (map plainly_asked conds.now)) }
-    {
-        for cond in conds {
-            if !self.ask(cond.0, cond.1)? {
-                return Ok(Some(cond.0));
-            }
-        }
-        Ok(None)
-    }
-
-    fn ask_rack(&mut self, rack: Option<(Reason, Quarter)>) -> Result<Option<Reason>, NoMemory>
-        ensures { IfOk result (HasAskedAll self.old self.new (map asked_of_rack (option_to_list rack))) }
-    {
-        match rack {
-            None => Ok(None),
-            Some((reason, quarter)) => {
-                let goes = self.ask(reason, Cond::RackIs(quarter))?;
-                Ok(reason_unless(goes, reason))
-            }
-        }
-    }
-
-    fn ask_slider(&mut self, slider: Option<&SizeAsk>) -> Result<Option<Reason>, NoMemory>
-        requires { IfSome (option_copied slider) IsSmall }
-        ensures rest_stays { OnOk result (self.new ≡ record self.old { checks = self.new.checks }) }
-        ensures asked { IfOk result (λ stop. (rule : Option SizeRule) → option_copied slider.entry ≡ option_map (size_ask self.old.changes) rule → HasAskedAll self.old self.new (map asked_of_sizes (option_to_list rule)) stop) }
-    {
-        match slider {
-            None => Ok(None),
-            Some(ask) => {
-                let goes = self.ask_size(ask)?;
-                Ok(reason_unless(goes, ask.reason))
-            }
-        }
-    }
-
-    fn ask_sizes(&mut self, asks: &[SizeAsk]) -> Result<Option<Reason>, NoMemory>
-        requires { All IsSmall asks.now }
-        ensures { IfOk result (λ stop. (rules : List SizeRule) → asks.now ≡ size_asks self.old.changes rules → HasAskedAll self.old self.new (map asked_of_sizes rules) stop) }
-    {
-        for ask in asks {
-            if !self.ask_size(ask)? {
-                return Ok(Some(ask.reason));
-            }
-        }
-        Ok(None)
-    }
-
     // What the instruction does, where all its conditions may hold.
     fn carry_out(&mut self, ask: &InstrAsk) -> Result<(), NoMemory>
         requires { self.old.lines < 2 ^ 32 - 1 }
         ensures { OnOk result (self.new ≡ carried self.old ask.now) }
     {
         self.write(ask.changed.as_slice())?;
+        self.put_lasts(ask.lasts.as_slice())?;
         match &ask.formed {
             None => {
                 self.move_on(&ask.effect, 0);
@@ -432,7 +397,7 @@ impl Draft {
 }
 
 // The reason, where a condition can't hold.
-fn reason_unless(goes: bool, reason: Reason) -> Option<Reason>
+pub(crate) fn reason_unless(goes: bool, reason: Reason) -> Option<Reason>
     ensures { result ≡ unless goes reason }
 {
     if goes { None } else { Some(reason) }

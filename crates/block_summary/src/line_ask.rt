@@ -35,9 +35,9 @@ pub fn ask_line(
     requires profile { IsLawfulProfile profile.now }
     requires places { HasPlacesInLine read.now }
     ensures broken { IfOk result (λ ask. (s t : State) (first : ℕ) → AreRead segments.now s first t.stacks → broken profile.now read.now t ≡ first_unmet_in_line ask s t) }
-    ensures step { IfOk result (λ ask. (s t : State) (first offset : ℕ) → AreRead segments.now s first t.stacks → step (first + offset) read.now t ≡ state_after_line ask segments.now s t first offset) }
+    ensures step { IfOk result (λ ask. (s t : State) (first offset : ℕ) → AreRead segments.now s first t.stacks → step profile.now (first + offset) read.now t ≡ state_after_line ask segments.now s t first offset) }
     ensures formed { IfOk result (λ ask. (s t : State) (first offset : ℕ) → AreRead segments.now s first t.stacks → fact_made (first + offset) read.now t ≡ fact_of_line ask s first (first + offset)) }
-    ensures is { IfOk result (λ ask. ask ≡ line_ask profile.now.hold read.now segments.now) }
+    ensures is { IfOk result (λ ask. ask ≡ line_ask profile.now read.now segments.now) }
 {
     match read {
         Read::Instr(instr) => Ok(LineAsk::Asks(ask_instr(alloc, instr, profile, segments)?)),

@@ -1,8 +1,11 @@
 -- One line more of a run.
 use Rattle.std.proofs.Common.{◌≡◌, ℕ, ◌+◌, ◌≤◌, List, [], ◌∷◌, ◌++◌, length, Bool, true, false, Option, None, Some, IfSome, is_some, Result, Ok, Err, OnErr, refl, ap, sym, subst, ◌∙◌, ◌<◌, arith, append_assoc, append-nil, length-append}
-use Rattle.std.proofs.lemmas.Bool.{true≢false}
+use Rattle.std.proofs.lemmas.Bool.{false≢true, true≢false}
+use Rattle.std.specs.Prelude.{not, ◌&&◌}
 use Rattle.std.proofs.lemmas.Option.{none-some}
-use Rattle.std.specs.Option.{option_to_list}
+use Rattle.std.specs.Option.{is_none, option_to_list}
+use Rattle.knit_base.specs.declared.usual.Usual.{Usual}
+use Rattle.knit_base.specs.declared.usual.Usual.TheVariants as usual
 use Rattle.knit_base.specs.declared.profile.Profile.{Profile}
 use Rattle.knit_base.specs.declared.instr.Read.{Read}
 use Rattle.knit_base.specs.declared.rule.Reason.{Reason}
@@ -16,7 +19,7 @@ use Rattle.carriage_model.specs.Machine.{HasNeedlesOf, Represents}
 use Rattle.carriage_model.proofs.LoopCounts.{holds-few}
 use Rattle.carriage_model.proofs.LawfulLines.{needles-kept}
 use Rattle.carriage_model.specs.State.{State, empty_state}
-use Rattle.carriage_model.specs.Rules.{broken}
+use Rattle.carriage_model.specs.Rules.{broken, floats_asked, floats_far}
 use Rattle.carriage_model.specs.Steps.{step}
 use Rattle.carriage_model.specs.Run.{run, run_on, Ended, Ends, Stops}
 use Rattle.carriage_model.specs.Loops.{loops_made, loops_asked, made_on, fact_made}
@@ -28,7 +31,7 @@ on_err-anyhow (Err e) p = p
 
 -- how the run ends with line k more, where it ended so before
 abbrev pub one_more : Profile → ℕ → Read → Ended → Ended
-one_more profile k r (Ends s) = run_on k (broken profile r s) s (Ends (step k r s))
+one_more profile k r (Ends s) = run_on k (broken profile r s) s (Ends (step profile k r s))
 one_more profile k r (Stops s fault) = Stops s fault
 
 -- the loops that line k adds
@@ -48,8 +51,8 @@ run-more profile s k [] r =
     ap (λ j. one_more profile j r (Ends s)) here
 run-more profile s k (q ∷ rs) r =
     let there : k + 1 + length rs ≡ k + length (q ∷ rs) = omega arith in
-    ap (run_on k (broken profile q s) s) (run-more profile (step k q s) (k + 1) rs r)
-    ∙ more_on profile (k + 1 + length rs) k r (broken profile q s) s (run profile (step k q s) (k + 1) rs)
+    ap (run_on k (broken profile q s) s) (run-more profile (step profile k q s) (k + 1) rs r)
+    ∙ more_on profile (k + 1 + length rs) k r (broken profile q s) s (run profile (step profile k q s) (k + 1) rs)
     ∙ ap (λ j. one_more profile j r (run profile s k (q ∷ rs))) there
 
 loops_on : (profile : Profile) (j k : ℕ) (r : Read) (b : Option Reason) (s : State) (rest : Ended) (fact : Option LoopFact) (later : List LoopFact)
@@ -64,8 +67,8 @@ loops-more profile s k [] r =
     ap (λ j. loops_more profile j r (Ends s)) here
 loops-more profile s k (q ∷ rs) r =
     let there : k + 1 + length rs ≡ k + length (q ∷ rs) = omega arith in
-    ap (made_on (broken profile q s) (fact_made k q s)) (loops-more profile (step k q s) (k + 1) rs r)
-    ∙ loops_on profile (k + 1 + length rs) k r (broken profile q s) s (run profile (step k q s) (k + 1) rs) (fact_made k q s) (loops_made profile (step k q s) (k + 1) rs)
+    ap (made_on (broken profile q s) (fact_made k q s)) (loops-more profile (step profile k q s) (k + 1) rs r)
+    ∙ loops_on profile (k + 1 + length rs) k r (broken profile q s) s (run profile (step profile k q s) (k + 1) rs) (fact_made k q s) (loops_made profile (step profile k q s) (k + 1) rs)
     ∙ ap (λ j. loops_made profile s k (q ∷ rs) ++ loops_more profile j r (run profile s k (q ∷ rs))) there
 
 few_on : (b : Option Reason) (fact : Option LoopFact) (later : List LoopFact) → length (made_on b fact later) ≤ 1 + length later
@@ -77,7 +80,7 @@ few_on (Some reason) fact later = omega arith
 pub loops-few : (profile : Profile) (s : State) (k : ℕ) (rs : List Read) → length (loops_made profile s k rs) ≤ length rs
 loops-few profile s k [] = omega arith
 loops-few profile s k (r ∷ rs) =
-    omega (arith, few_on (broken profile r s) (fact_made k r s) (loops_made profile (step k r s) (k + 1) rs), loops-few profile (step k r s) (k + 1) rs)
+    omega (arith, few_on (broken profile r s) (fact_made k r s) (loops_made profile (step profile k r s) (k + 1) rs), loops-few profile (step profile k r s) (k + 1) rs)
 
 still-stands : (old new : Carriage) (ended : Ended) → StandsStill old new → StandsAfter old ended → StandsAfter new ended
 still-stands old new (Ends s) still stands = (still.fault ∙ stands.0, still.machine.states s stands.1)
@@ -119,12 +122,13 @@ pub run-still : (profile : Profile) (with_loops : Bool) (first : ℕ) (reads : L
 run-still profile with_loops first reads old new here still = record {
   lawful = here.lawful;
   same_profile = still.same_profile ∙ here.same_profile;
-  needles = needles-kept profile old.machine new.machine here.needles still.machine.beds;
+  needles = needles-kept profile old.machine new.machine here.needles still.machine.kind;
   first_line = still.first_line ∙ here.first_line;
   lines = still.lines ∙ here.lines;
   stands = still-stands old new (run profile empty_state first reads) still here.stands;
   made = still.made ∙ here.made;
   loops = still.loops ∙ here.loops;
+  plain = still.same_way ∙ here.plain;
 }
 
 next-is : (profile : Profile) (with_loops : Bool) (first : ℕ) (reads : List Read) (carriage : Carriage) → HasRun profile with_loops first reads carriage
@@ -144,15 +148,15 @@ run-sound profile with_loops first reads r old new here none sound over =
     let fits : broken profile r s ≡ None = ap (λ p. broken p r s) (sym here.same_profile) ∙ sym (sound s at.represented) in
     let loops : loops_made profile empty_state first (reads ++ r ∷ []) ≡ loops_made profile empty_state first reads ++ option_to_list (fact_made k r s) =
     sound-loops profile first reads r s at.ends fits in
-    let ends : run profile empty_state first (reads ++ r ∷ []) ≡ Ends (step k r s) =
-    run-more profile empty_state first reads r ∙ ap (one_more profile k r) at.ends ∙ ap (λ b. run_on k b s (Ends (step k r s))) fits in
+    let ends : run profile empty_state first (reads ++ r ∷ []) ≡ Ends (step profile k r s) =
+    run-more profile empty_state first reads r ∙ ap (one_more profile k r) at.ends ∙ ap (λ b. run_on k b s (Ends (step profile k r s))) fits in
     record {
       lawful = here.lawful;
       same_profile = over.same_profile ∙ here.same_profile;
-      needles = needles-kept profile old.machine new.machine here.needles over.beds;
+      needles = needles-kept profile old.machine new.machine here.needles over.kind;
       first_line = over.first_line ∙ here.first_line;
       lines = omega (arith, over.lines, here.lines, length-append reads (r ∷ []));
-      stands = subst (StandsAfter new) (sym ends) (over.fault ∙ none, subst (λ j. Represents new.machine (step j r s)) next (over.machine s at.represented));
+      stands = subst (StandsAfter new) (sym ends) (over.fault ∙ none, subst (λ j. Represents new.machine (step profile j r s)) next (subst (λ p. Represents new.machine (step p (next_line old) r s)) here.same_profile (over.machine s (here.needles.floats ∙ ap (λ (p : Profile). is_some p.float) (sym here.same_profile)) at.represented)));
       made =
           over.made s
           ∙ ap (λ made. made + length (option_to_list (fact_made (next_line old) r s))) here.made
@@ -165,6 +169,7 @@ run-sound profile with_loops first reads r old new here none sound over =
           ∙ ap (λ j. loops_with (loops_asked with_loops (loops_made profile empty_state first reads)) (fact_made j r s)) next
           ∙ loops_with-asked with_loops (loops_made profile empty_state first reads) (fact_made k r s)
           ∙ sym (ap (loops_asked with_loops) loops);
+      plain = over.same_way ∙ here.plain;
     }
 
 -- a line that breaks a rule stops the carriage
@@ -183,7 +188,7 @@ run-broken profile with_loops first reads r old new reason here is none broke =
     ∙ ap (λ b. loops_made profile empty_state first reads ++ made_on b (fact_made k r s) []) fails
     ∙ append-nil (loops_made profile empty_state first reads) in
     let stops : run profile empty_state first (reads ++ r ∷ []) ≡ Stops s (record { line = k; reason = reason }) =
-    run-more profile empty_state first reads r ∙ ap (one_more profile k r) at.ends ∙ ap (λ b. run_on k b s (Ends (step k r s))) fails in
+    run-more profile empty_state first reads r ∙ ap (one_more profile k r) at.ends ∙ ap (λ b. run_on k b s (Ends (step profile k r s))) fails in
     record {
       lawful = here.lawful;
       same_profile = ap (λ (c : Carriage). c.profile) is ∙ here.same_profile;
@@ -195,6 +200,7 @@ run-broken profile with_loops first reads r old new reason here is none broke =
           (ap (λ (c : Carriage). c.fault) is ∙ ap (λ line. Some (record { line = line; reason = reason })) (next-is profile with_loops first reads old here));
       made = ap (λ (c : Carriage). c.made) is ∙ here.made ∙ sym (ap length loops);
       loops = ap (λ (c : Carriage). c.loops) is ∙ here.loops ∙ sym (ap (loops_asked with_loops) loops);
+      plain = ap (λ (c : Carriage). c.is_plain) is ∙ here.plain;
     }
 
 stopped-after : (profile : Profile) (k : ℕ) (r : Read) (old new : Carriage) (ended : Ended) → StandsAfter old ended → is_some old.fault ≡ true → new.fault ≡ old.fault
@@ -227,6 +233,7 @@ run-stopped profile with_loops first reads r old new here is some =
           (stopped-after profile k r old new (run profile empty_state first reads) here.stands some (ap (λ (c : Carriage). c.fault) is));
       made = ap (λ (c : Carriage). c.made) is ∙ here.made ∙ sym (ap length loops);
       loops = ap (λ (c : Carriage). c.loops) is ∙ here.loops ∙ sym (ap (loops_asked with_loops) loops);
+      plain = ap (λ (c : Carriage). c.is_plain) is ∙ here.plain;
     }
 
 -- all lines behind the one that broke a rule are passed over
@@ -277,3 +284,30 @@ tells-sound profile with_loops first reads carriage final here none is short =
       loops_are = here.loops;
       few = holds-few profile first (length reads) reads (Sound final) here.lawful judged short;
     }
+
+plain_parts : (with_loops : Bool) (limit : Option ℕ) → (not with_loops && is_none limit) ≡ true → (with_loops ≡ false) × (limit ≡ None)
+plain_parts true limit plain = absurd (false≢true plain)
+plain_parts false None plain = (refl, refl)
+plain_parts false (Some float) plain = absurd (false≢true plain)
+
+-- a carriage that goes the plain way has no limit on floats
+pub plain-floats : (profile : Profile) (with_loops : Bool) (first : ℕ) (reads : List Read) (carriage : Carriage) → HasRun profile with_loops first reads carriage → carriage.is_plain ≡ true
+    → profile.float ≡ None
+plain-floats profile with_loops first reads carriage here plain = (plain_parts with_loops profile.float (sym here.plain ∙ plain)).1
+
+-- its machine keeps no last needles
+pub plain-keeps : (profile : Profile) (with_loops : Bool) (first : ℕ) (reads : List Read) (carriage : Carriage) → HasRun profile with_loops first reads carriage → carriage.is_plain ≡ true
+    → carriage.machine.keeps_lasts ≡ false
+plain-keeps profile with_loops first reads carriage here plain = here.needles.floats ∙ ap is_some (plain-floats profile with_loops first reads carriage here plain)
+
+-- and it keeps no loops
+pub plain-loops : (profile : Profile) (with_loops : Bool) (first : ℕ) (reads : List Read) (carriage : Carriage) → HasRun profile with_loops first reads carriage → carriage.is_plain ≡ true
+    → carriage.loops ≡ None
+plain-loops profile with_loops first reads carriage here plain =
+    here.loops ∙ ap (λ (b : Bool). loops_asked b (loops_made profile empty_state first reads)) (plain_parts with_loops profile.float (sym here.plain ∙ plain)).0
+
+-- where floats have no limit nothing is asked of them
+pub unasked : (profile : Profile) (u : Usual) (s : State) → profile.float ≡ None → floats_asked profile u s ≡ None
+unasked profile (usual.Knit dir n c) s none = ap (λ (limit : Option ℕ). floats_far limit s n.at 3 (c ∷ [])) none
+unasked profile (usual.Tuck dir n c) s none = ap (λ (limit : Option ℕ). floats_far limit s n.at 3 (c ∷ [])) none
+unasked profile (usual.Xfer n n2) s none = refl

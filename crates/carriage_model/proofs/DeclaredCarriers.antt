@@ -56,8 +56,8 @@ step_instr-below profile d k (Xfer n n2) s lawful below = record { ins = below.i
 step_instr-below profile d k (Drop n) s lawful below = record { ins = below.ins; hook = below.hook }
 step_instr-below profile d k i s lawful below = below
 
-step-below : (profile : Profile) (d k : ℕ) (r : Read) (s : State) → IsLawfulRead profile d r → Below d s → Below d (step k r s)
-step-below profile d k (read.Instr i) s lawful below = step_instr-below profile d k i s lawful below
+step-below : (profile : Profile) (d k : ℕ) (r : Read) (s : State) → IsLawfulRead profile d r → Below d s → Below d (step profile k r s)
+step-below profile d k (read.Instr i) s lawful below = let after = step_instr-below profile d k i s lawful below in record { ins = after.ins; hook = after.hook }
 step-below profile d k r s lawful below = below
 
 abbrev EndsBelow : ℕ → Ended → Type 0
@@ -71,8 +71,8 @@ run_on-below d k (Some reason) s rest below = tt
 run-below : (profile : Profile) (d : ℕ) (s : State) (k : ℕ) (rs : List Read) → All (IsLawfulRead profile d) rs → Below d s → EndsBelow d (run profile s k rs)
 run-below profile d s k [] lawful below = below
 run-below profile d s k (r ∷ rs) lawful below =
-    run_on-below d k (broken profile r s) s (run profile (step k r s) (k + 1) rs)
-    (run-below profile d (step k r s) (k + 1) rs (All-tail (IsLawfulRead profile d) r rs lawful) (step-below profile d k r s (All-head (IsLawfulRead profile d) r rs lawful) below))
+    run_on-below d k (broken profile r s) s (run profile (step profile k r s) (k + 1) rs)
+    (run-below profile d (step profile k r s) (k + 1) rs (All-tail (IsLawfulRead profile d) r rs lawful) (step-below profile d k r s (All-head (IsLawfulRead profile d) r rs lawful) below))
 
 declared_from-below : (d set : ℕ) → set < 2 ^ d → HasDeclared d set
 declared_from-below d set below c has =
@@ -114,8 +114,8 @@ made_on-declared d (Some reason) fact later here there = All-nil (IsOfDeclared d
 pub loops_made-declared : (profile : Profile) (d : ℕ) (s : State) (k : ℕ) (rs : List Read) → All (IsLawfulRead profile d) rs → AreOfDeclared d (loops_made profile s k rs)
 loops_made-declared profile d s k [] lawful = All-nil (IsOfDeclared d)
 loops_made-declared profile d s k (r ∷ rs) lawful =
-    made_on-declared d (broken profile r s) (fact_made k r s) (loops_made profile (step k r s) (k + 1) rs)
-    (fact_made-declared profile d k r s (All-head (IsLawfulRead profile d) r rs lawful)) (loops_made-declared profile d (step k r s) (k + 1) rs (All-tail (IsLawfulRead profile d) r rs lawful))
+    made_on-declared d (broken profile r s) (fact_made k r s) (loops_made profile (step profile k r s) (k + 1) rs)
+    (fact_made-declared profile d k r s (All-head (IsLawfulRead profile d) r rs lawful)) (loops_made-declared profile d (step profile k r s) (k + 1) rs (All-tail (IsLawfulRead profile d) r rs lawful))
 
 chosen-declared : (d : ℕ) (b : Bool) (fact : LoopFact) (rest : Option LoopFact) → IsOfDeclared d fact → IfSome rest (IsOfDeclared d) → IfSome (cond b (Some fact) rest) (IsOfDeclared d)
 chosen-declared d true fact rest here there = here

@@ -22,9 +22,9 @@ use Rattle.knit_base.specs.declared.yarns.CarrierNo.{CarrierNo}
 use Rattle.carriage_model.specs.declared.beds.Beds.{Beds}
 use Rattle.carriage_model.specs.declared.machine.Machine.{Machine}
 use Rattle.carriage_model.specs.State.{State}
-use Rattle.carriage_model.specs.Rules.{broken, broken_instr, carrier_broken, rack_broken, slider_broken, size_broken, too_many}
-use Rattle.carriage_model.specs.Beds.{IsOn, AreOn, SameBeds}
-use Rattle.carriage_model.specs.Machine.{Represents, HasNeedlesOf, HasNeedlesInLine, HasPlacesInLine, HasRoom, HasRoomInLine, HasCarrierInSet}
+use Rattle.carriage_model.specs.Rules.{broken, broken_instr, carrier_broken, rack_broken, slider_broken, size_broken, float_broken, too_many}
+use Rattle.carriage_model.specs.Beds.{IsOn, AreOn}
+use Rattle.carriage_model.specs.Machine.{Represents, HasNeedlesOf, IsSameKind, HasNeedlesInLine, HasPlacesInLine, HasRoom, HasRoomInLine, HasCarrierInSet}
 
 -- the places of a lawful line's carriers fit in 16 bits
 pub line_has-places : (profile : Profile) (d : ℕ) (r : Read) → IsLawfulRead profile d r → HasPlacesInLine r
@@ -64,10 +64,11 @@ forming_needle-is_on beds (Split dir n n2 cs) on = formed_on-is_on beds n cs on.
 forming_needle-is_on beds instr on = tt
 
 -- a step leaves the machine its needles
-pub needles-kept : (profile : Profile) (old new : Machine) → HasNeedlesOf profile old → SameBeds old.beds new.beds → HasNeedlesOf profile new
+pub needles-kept : (profile : Profile) (old new : Machine) → HasNeedlesOf profile old → IsSameKind old new → HasNeedlesOf profile new
 needles-kept profile old new has same = record {
-  low = same.low ∙ has.low;
-  width = ap (λ w. profile.low +ℤ pos w) same.width ∙ has.width;
+  low = same.beds.low ∙ has.low;
+  width = ap (λ w. profile.low +ℤ pos w) same.beds.width ∙ has.width;
+  floats = same.floats ∙ has.floats;
 }
 
 -- a reading of the list is lawful
@@ -86,6 +87,11 @@ pub second-none : (first second : Option Reason) → or_else first second ≡ No
 second-none None second e = e
 second-none (Some reason) second e = absurd (true≢false (ap is_some e))
 
+-- nor is the first
+first-none : (first second : Option Reason) → or_else first second ≡ None → first ≡ None
+first-none None second e = refl
+first-none (Some reason) second e = e
+
 -- a rule that isn't broken fails its test
 test-none : (test : Bool) (rule : Rule) (at : ℕ) → broken_if test rule at ≡ None → test ≡ false
 test-none true rule at e = absurd (true≢false (ap is_some e))
@@ -97,7 +103,8 @@ few profile loops at limits sound = omega (arith, limits.hold, ltb-false profile
 
 -- an instruction that breaks no rule puts too many loops on no needle
 pub size_unbroken : (profile : Profile) (i : Instr) (s : State) → broken_instr profile i s ≡ None → size_broken profile i s ≡ None
-size_unbroken profile i s sound = second-none (slider_broken i s) _ (second-none (rack_broken i s) _ (second-none (carrier_broken i s) _ sound))
+size_unbroken profile i s sound =
+    first-none (size_broken profile i s) (float_broken profile i s) (second-none (slider_broken i s) _ (second-none (rack_broken i s) _ (second-none (carrier_broken i s) _ sound)))
 
 instr_has-room : (profile : Profile) (d : ℕ) (i : Instr) (machine : Machine) (s : State) → IsLawfulProfile profile → IsLawful profile d i → Represents machine s → broken_instr profile i s ≡ None
     → HasRoom machine i

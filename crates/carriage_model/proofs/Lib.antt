@@ -2,6 +2,7 @@ pub mod BedChanges
 pub mod CarriageRuns
 pub mod DeclaredCarriers
 pub mod FactLists
+pub mod LastNeedles
 pub mod LawfulLines
 pub mod LoopCounts
 pub mod LoopOfLine
@@ -9,3 +10,4 @@ pub mod LoopsMade
 pub mod MachineSteps
 pub mod Places
 pub mod StackLists
+mod UnseenLasts

@@ -61,7 +61,7 @@ step_instr-few profile k (Xfer n n2) s limits sound all =
 step_instr-few profile k (Drop n) s limits sound all = with_stack-few s.stacks n [] (omega arith) all
 step_instr-few profile k i s limits sound all = all
 
-step-few : (profile : Profile) (k : ℕ) (r : Read) (s : State) → IsLawfulProfile profile → broken profile r s ≡ None → HoldFew s.stacks → HoldFew (step k r s).stacks
+step-few : (profile : Profile) (k : ℕ) (r : Read) (s : State) → IsLawfulProfile profile → broken profile r s ≡ None → HoldFew s.stacks → HoldFew (step profile k r s).stacks
 step-few profile k (read.Instr i) s limits sound all = step_instr-few profile k i s limits sound all
 step-few profile k r s limits sound all = all
 
@@ -76,7 +76,7 @@ run_on-few k (Some reason) s rest there = tt
 run-few : (profile : Profile) (s : State) (k : ℕ) (rs : List Read) → IsLawfulProfile profile → HoldFew s.stacks → EndsFew (run profile s k rs)
 run-few profile s k [] limits all = all
 run-few profile s k (r ∷ rs) limits all =
-    run_on-few k (broken profile r s) s (run profile (step k r s) (k + 1) rs) (λ sound. run-few profile (step k r s) (k + 1) rs limits (step-few profile k r s limits sound all))
+    run_on-few k (broken profile r s) s (run profile (step profile k r s) (k + 1) rs) (λ sound. run-few profile (step profile k r s) (k + 1) rs limits (step-few profile k r s limits sound all))
 
 abbrev needle_of : Stack → Needle
 needle_of stack = stack.needle

@@ -13,8 +13,7 @@ use Rattle.carriage_model.specs.State.{State, empty_state}
 use Rattle.carriage_model.specs.Rules.{broken}
 use Rattle.carriage_model.specs.Steps.{step}
 use Rattle.carriage_model.specs.Loops.{loops_made, made_on, fact_made, fact_of}
-use Rattle.carriage_model.specs.Beds.{SameBeds}
-use Rattle.carriage_model.specs.Machine.{Represents, HasNeedlesOf}
+use Rattle.carriage_model.specs.Machine.{Represents, HasNeedlesOf, IsSameKind}
 use Rattle.carriage_model.proofs.LawfulLines.{needles-kept}
 use Rattle.carriage_model.proofs.LoopsMade.{loops-next, loops-stop, loops-end}
 
@@ -46,7 +45,7 @@ pub later_lines : (profile : Profile) (s : State) (k line : ℕ) (rs : List Read
 later_lines profile s k line [] later = refl
 later_lines profile s k line (r ∷ rs) later =
     let further : line < k + 1 = omega arith in
-    made_on-other k line (broken profile r s) (fact_made k r s) (loops_made profile (step k r s) (k + 1) rs) (fact_made-line k r s) (λ e. omega arith) (later_lines profile (step k r s) (k + 1) line rs further)
+    made_on-other k line (broken profile r s) (fact_made k r s) (loops_made profile (step profile k r s) (k + 1) rs) (fact_made-line k r s) (λ e. omega arith) (later_lines profile (step profile k r s) (k + 1) line rs further)
 
 -- the machine stands for a state from which the other lines make the loop of this line, if any does
 pub record Seeks (profile : Profile) (reads : List Read) (first i : ℕ) (machine : Machine) (line : ℕ) : Type 0 where
@@ -63,15 +62,15 @@ seeks-start profile reads first machine line new has =
 unfoldable pub seeks-next : (profile : Profile) (reads : List Read) (first i : ℕ) (r : Read) (old new : Machine) (line : ℕ) → i < length reads → r ≡ get_or reads i r → first + i ≢ line
     → (here : Seeks profile reads first i old line)
     → broken profile r here.state ≡ None
-    → Represents new (step (first + i) r here.state)
-    → SameBeds old.beds new.beds
+    → Represents new (step profile (first + i) r here.state)
+    → IsSameKind old new
     → Seeks profile reads first (i + 1) new line
 seeks-next profile reads first i r old new line within is apart here sound after same = record {
-  state = step (first + i) r here.state;
+  state = step profile (first + i) r here.state;
   represented = after;
   needles = needles-kept profile old new here.needles same;
   found = here.found ∙ ap (fact_of line) (loops-next profile reads first i r here.state within is sound)
-      ∙ other_line (first + i) line (fact_made (first + i) r here.state) (loops_made profile (step (first + i) r here.state) (first + (i + 1)) (drop (i + 1) reads)) (fact_made-line (first + i) r here.state) apart;
+      ∙ other_line (first + i) line (fact_made (first + i) r here.state) (loops_made profile (step profile (first + i) r here.state) (first + (i + 1)) (drop (i + 1) reads)) (fact_made-line (first + i) r here.state) apart;
 }
 
 pub seeks-here : (profile : Profile) (reads : List Read) (first i : ℕ) (r : Read) (machine : Machine) (line : ℕ) (fact : Option LoopFact) → i < length reads → r ≡ get_or reads i r → first + i ≡ line
@@ -81,11 +80,11 @@ pub seeks-here : (profile : Profile) (reads : List Read) (first i : ℕ) (r : Re
     → fact ≡ fact_of line (loops_made profile empty_state first reads)
 seeks-here profile reads first i r machine line fact within is own here sound made =
     let past : line < first + (i + 1) = omega arith in
-    let later : List LoopFact = loops_made profile (step (first + i) r here.state) (first + (i + 1)) (drop (i + 1) reads) in
+    let later : List LoopFact = loops_made profile (step profile (first + i) r here.state) (first + (i + 1)) (drop (i + 1) reads) in
     made
     ∙ sym (here.found ∙ ap (fact_of line) (loops-next profile reads first i r here.state within is sound)
     ∙ own_line line (fact_made (first + i) r here.state) later (subst (λ k. IfSome (fact_made (first + i) r here.state) (IsOfLine k)) own (fact_made-line (first + i) r here.state))
-    (later_lines profile (step (first + i) r here.state) (first + (i + 1)) line (drop (i + 1) reads) past))
+    (later_lines profile (step profile (first + i) r here.state) (first + (i + 1)) line (drop (i + 1) reads) past))
 
 pub seeks-stop : (profile : Profile) (reads : List Read) (first i : ℕ) (r : Read) (machine : Machine) (line : ℕ) → i < length reads → r ≡ get_or reads i r
     → (here : Seeks profile reads first i machine line)

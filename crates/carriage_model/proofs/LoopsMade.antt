@@ -18,18 +18,18 @@ unfold_reads reads i r within is = drop_more reads i r within ∙ ap (λ x. x �
 -- the loops from here on, by the next line
 pub loops-line : (profile : Profile) (reads : List Read) (first i : ℕ) (r : Read) (s : State) → i < length reads → r ≡ get_or reads i r
     → loops_made profile s (first + i) (drop i reads)
-    ≡ made_on (broken profile r s) (fact_made (first + i) r s) (loops_made profile (step (first + i) r s) (first + (i + 1)) (drop (i + 1) reads))
+    ≡ made_on (broken profile r s) (fact_made (first + i) r s) (loops_made profile (step profile (first + i) r s) (first + (i + 1)) (drop (i + 1) reads))
 loops-line profile reads first i r s within is =
     ap (loops_made profile s (first + i)) (unfold_reads reads i r within is)
-    ∙ ap (λ k. made_on (broken profile r s) (fact_made (first + i) r s) (loops_made profile (step (first + i) r s) k (drop (i + 1) reads))) (add_assoc first i 1)
+    ∙ ap (λ k. made_on (broken profile r s) (fact_made (first + i) r s) (loops_made profile (step profile (first + i) r s) k (drop (i + 1) reads))) (add_assoc first i 1)
 
 -- the loops from here on, where the next line breaks no rule
 pub loops-next : (profile : Profile) (reads : List Read) (first i : ℕ) (r : Read) (s : State) → i < length reads → r ≡ get_or reads i r → broken profile r s ≡ None
     → loops_made profile s (first + i) (drop i reads)
-    ≡ option_to_list (fact_made (first + i) r s) ++ loops_made profile (step (first + i) r s) (first + (i + 1)) (drop (i + 1) reads)
+    ≡ option_to_list (fact_made (first + i) r s) ++ loops_made profile (step profile (first + i) r s) (first + (i + 1)) (drop (i + 1) reads)
 loops-next profile reads first i r s within is sound =
     loops-line profile reads first i r s within is
-    ∙ ap (λ b. made_on b (fact_made (first + i) r s) (loops_made profile (step (first + i) r s) (first + (i + 1)) (drop (i + 1) reads))) sound
+    ∙ ap (λ b. made_on b (fact_made (first + i) r s) (loops_made profile (step profile (first + i) r s) (first + (i + 1)) (drop (i + 1) reads))) sound
 
 made_on-stop : (b : Option Reason) (fact : Option LoopFact) (later : List LoopFact) → is_some b ≡ true → made_on b fact later ≡ []
 made_on-stop None fact later e = absurd (true≢false (sym e))
@@ -40,7 +40,7 @@ pub loops-stop : (profile : Profile) (reads : List Read) (first i : ℕ) (r : Re
     → loops_made profile s (first + i) (drop i reads) ≡ []
 loops-stop profile reads first i r s within is broke =
     loops-line profile reads first i r s within is
-    ∙ made_on-stop (broken profile r s) (fact_made (first + i) r s) (loops_made profile (step (first + i) r s) (first + (i + 1)) (drop (i + 1) reads)) broke
+    ∙ made_on-stop (broken profile r s) (fact_made (first + i) r s) (loops_made profile (step profile (first + i) r s) (first + (i + 1)) (drop (i + 1) reads)) broke
 
 -- no loops behind the last line
 pub loops-end : (profile : Profile) (reads : List Read) (first i : ℕ) (s : State) → length reads ≤ i → loops_made profile s (first + i) (drop i reads) ≡ []

@@ -1,16 +1,15 @@
 -- Which run a carriage stands for that carried out some lines.
-use Rattle.std.specs.Prelude.{◌≡◌, ℕ, ◌+◌, Bool, List, [], ◌∷◌, ◌++◌, length, Option, None, Some, is_some}
-use Rattle.std.specs.Option.{option_to_list}
+use Rattle.std.specs.Prelude.{◌≡◌, ℕ, ◌+◌, Bool, not, ◌&&◌, List, [], ◌∷◌, ◌++◌, length, Option, None, Some, is_some}
+use Rattle.std.specs.Option.{is_none, option_to_list}
 use Rattle.knit_base.specs.Limits.{IsLawfulProfile}
 use Rattle.knit_base.specs.declared.instr.Read.{Read}
 use Rattle.knit_base.specs.declared.profile.Profile.{Profile}
 use Rattle.carriage_model.specs.declared.carriage.Carriage.{Carriage}
 use Rattle.carriage_model.specs.declared.verdict.LoopFact.{LoopFact}
 use Rattle.carriage_model.specs.declared.verdict.Verdict.{Verdict}
-use Rattle.carriage_model.specs.Beds.{SameBeds}
 use Rattle.carriage_model.specs.State.{State, empty_state}
 use Rattle.carriage_model.specs.Loops.{loops_made, loops_asked, fact_made}
-use Rattle.carriage_model.specs.Machine.{HasNeedlesOf, Represents, StandsAsBefore}
+use Rattle.carriage_model.specs.Machine.{HasNeedlesOf, IsSameKind, Represents, StandsAsBefore}
 use Rattle.carriage_model.specs.Run.{run, Ended, Ends, Stops}
 use Rattle.carriage_model.specs.Steps.{step}
 use Rattle.carriage_model.specs.Verdict.{HoldsFew, IsVerdict}
@@ -47,6 +46,7 @@ pub record HasRun (profile : Profile) (with_loops : Bool) (first : ℕ) (reads :
   pub stands : StandsAfter carriage (run profile empty_state first reads)
   pub made : carriage.made ≡ length (loops_made profile empty_state first reads)
   pub loops : carriage.loops ≡ loops_asked with_loops (loops_made profile empty_state first reads)
+  pub plain : carriage.is_plain ≡ (not with_loops && is_none profile.float)
 
 -- the carriage has carried out some lines
 abbrev pub IsRunning : Carriage → Type 0
@@ -74,17 +74,19 @@ loops_with (Some loops) fact = Some (loops ++ option_to_list fact)
 -- line k was carried out, which breaks no rule
 pub record WentOver (k : ℕ) (r : Read) (old new : Carriage) : Type 0 where
   pub same_profile : new.profile ≡ old.profile
+  pub same_way : new.is_plain ≡ old.is_plain
   pub first_line : new.first ≡ old.first
   pub lines : new.lines ≡ old.lines + 1
   pub fault : new.fault ≡ old.fault
-  pub beds : SameBeds old.machine.beds new.machine.beds
-  pub machine : (s : State) → Represents old.machine s → Represents new.machine (step k r s)
+  pub kind : IsSameKind old.machine new.machine
+  pub machine : (s : State) → old.machine.keeps_lasts ≡ is_some old.profile.float → Represents old.machine s → Represents new.machine (step old.profile k r s)
   pub made : (s : State) → new.made ≡ old.made + length (option_to_list (fact_made k r s))
   pub loops : (s : State) → Represents old.machine s → new.loops ≡ loops_with old.loops (fact_made k r s)
 
 -- no line was carried out
 pub record StandsStill (old new : Carriage) : Type 0 where
   pub same_profile : new.profile ≡ old.profile
+  pub same_way : new.is_plain ≡ old.is_plain
   pub first_line : new.first ≡ old.first
   pub lines : new.lines ≡ old.lines
   pub fault : new.fault ≡ old.fault

@@ -8,4 +8,5 @@ pub mod Rules
 pub mod Run
 pub mod State
 pub mod Steps
+pub mod Unseen
 pub mod Verdict

@@ -41,7 +41,7 @@ made_on (Some reason) fact later = []
 -- the loops that the lines make, of which the first is line k, from this state up to the end or to the first fault
 abbrev pub loops_made : Profile → State → ℕ → List Read → List LoopFact
 loops_made profile s k [] = []
-loops_made profile s k (r ∷ rs) = made_on (broken profile r s) (fact_made k r s) (loops_made profile (step k r s) (k + 1) rs)
+loops_made profile s k (r ∷ rs) = made_on (broken profile r s) (fact_made k r s) (loops_made profile (step profile k r s) (k + 1) rs)
 
 -- the loop of this line among these
 abbrev pub fact_of : ℕ → List LoopFact → Option LoopFact

@@ -1,5 +1,5 @@
 -- What the program keeps, and the state that it stands for.
-use Rattle.std.specs.Prelude.{◌≡◌, ◌≢◌, ℕ, ◌+◌, ◌<◌, ◌^◌, pos, ◌+ℤ◌, List, length, Option, None, Some}
+use Rattle.std.specs.Prelude.{◌≡◌, ◌≢◌, ℕ, ℤ, ◌+◌, ◌<◌, ◌^◌, pos, ◌+ℤ◌, true, List, length, Option, None, Some, is_some, slice_index_or}
 use Rattle.knit_base.specs.declared.instr.Instr.{Instr}
 use Rattle.knit_base.specs.declared.instr.Instr.TheVariants.{Tuck}
 use Rattle.knit_base.specs.declared.instr.Read.{Read}
@@ -14,27 +14,39 @@ use Rattle.knit_base.specs.Needle.{is_front}
 use Rattle.knit_base.specs.Yarns.{IsCarrier}
 use Rattle.carriage_model.specs.declared.machine.Machine.{Machine}
 use Rattle.carriage_model.specs.State.{State}
+use Rattle.carriage_model.specs.Steps.{given_lasts}
 use Rattle.carriage_model.specs.Beds.{AreOn, SameBeds, loops_at}
 
 -- the loops that the machine keeps for a needle
 abbrev pub stack_of : Machine → Needle → List ℕ
 stack_of machine = loops_at machine.beds
 
--- the machine has the needles of the profile
+-- the last needle that the machine keeps of a carrier
+abbrev pub last_in : Machine → CarrierNo → Option ℤ
+last_in machine c = slice_index_or machine.lasts c.0 None
+
+-- the machine has the needles of the profile, and keeps the last needles exactly where there is a limit on floats
 pub record HasNeedlesOf (profile : Profile) (machine : Machine) : Type 0 where
   pub low : machine.beds.low ≡ profile.low
   pub width : (profile.low +ℤ pos machine.beds.width) ≡ (profile.high +ℤ pos 1)
+  pub floats : machine.keeps_lasts ≡ is_some profile.float
 
--- the machine stands so
+-- the machine stands so; of the last needles it tells only where it keeps them
 pub record Represents (machine : Machine) (s : State) : Type 0 where
   pub rack : machine.rack.0 ≡ s.rack
   pub ins : machine.ins ≡ s.ins
   pub hook : machine.hook ≡ s.hook
+  pub lasts : machine.keeps_lasts ≡ true → (c : CarrierNo) → IsCarrier c → last_in machine c ≡ s.lasts c
   pub stacks : (n : Needle) → stack_of machine n ≡ s.stacks n
+
+-- both machines have the same needles, and keep the last needles or don't
+pub record IsSameKind (old new : Machine) : Type 0 where
+  pub beds : SameBeds old.beds new.beds
+  pub floats : new.keeps_lasts ≡ old.keeps_lasts
 
 -- the machine can only have gone from one to the other by what no state shows
 pub record StandsAsBefore (old new : Machine) : Type 0 where
-  pub beds : SameBeds old.beds new.beds
+  pub kind : IsSameKind old new
   pub states : (s : State) → Represents old s → Represents new s
 
 -- the places of these carriers' tokens, of which the first is at this place, fit in 16 bits
@@ -89,3 +101,8 @@ abbrev pub HasCarrierInSet : Usual → Type 0
 HasCarrierInSet (usual.Knit dir n c) = IsCarrier c
 HasCarrierInSet (usual.Tuck dir n c) = IsCarrier c
 HasCarrierInSet (usual.Xfer n n2) = Unit {0}
+
+-- the last needles that the instruction gives carriers were put into the machine, where it keeps them, and nothing else
+pub record HasNoted (instr : Instr) (old new : Machine) : Type 0 where
+  pub lasts : old.keeps_lasts ≡ true → (c : CarrierNo) → IsCarrier c → last_in new c ≡ given_lasts instr (last_in old) c
+  pub rest : new ≡ record old { lasts = new.lasts }

@@ -1,20 +1,22 @@
 -- Which rule a line breaks, where the machine stands so. Of several broken rules the first in the order of `Rule` counts.
-use Rattle.std.specs.Prelude.{ℕ, ◌+◌, not, nat_lt, nat_eq, List, [], ◌∷◌, length, Option, None, Some}
+use Rattle.std.specs.Prelude.{ℕ, ℤ, ◌+◌, not, nat_lt, nat_eq, List, [], ◌∷◌, length, Option, None, Some}
 use Rattle.std.specs.Ordering.{int_eq}
 use Rattle.knit_base.specs.declared.instr.Instr.{Instr}
 use Rattle.knit_base.specs.declared.instr.Instr.TheVariants.{CarryIn, CarryOut, HookIn, HookOut, ReleaseHook, Stitch, Pause, Extension, Rack, Knit, Tuck, Miss, Split, Xfer, Drop, Amiss}
 use Rattle.knit_base.specs.declared.instr.Read.{Read}
 use Rattle.knit_base.specs.declared.instr.Read.TheVariants as read
-use Rattle.knit_base.specs.declared.rule.Rule.TheVariants.{CarrierIsOut, CarrierIsIn, HookBusy, HookOther, CarrierHooked, NotAligned, SliderHolds, TooManyLoops}
+use Rattle.knit_base.specs.declared.rule.Rule.TheVariants.{CarrierIsOut, CarrierIsIn, HookBusy, HookOther, CarrierHooked, NotAligned, SliderHolds, TooManyLoops, FloatTooLong}
 use Rattle.knit_base.specs.declared.rule.Reason.{Reason}
 use Rattle.knit_base.specs.declared.profile.Profile.{Profile}
 use Rattle.knit_base.specs.declared.needle.Needle.{Needle}
+use Rattle.knit_base.specs.declared.usual.Usual.{Usual}
+use Rattle.knit_base.specs.declared.usual.Usual.TheVariants as usual
 use Rattle.knit_base.specs.declared.yarns.CarrierNo.{CarrierNo}
 use Rattle.knit_base.specs.Instr.{forming_needle}
 use Rattle.knit_base.specs.Needle.{own_slider, rack_facing}
 use Rattle.knit_base.specs.Reasons.{broken_if, first_broken, or_else}
 use Rattle.knit_base.specs.Yarns.{mask_of, contains_carrier, lacks_carrier}
-use Rattle.carriage_model.specs.State.{State}
+use Rattle.carriage_model.specs.State.{State, is_near}
 
 -- A carrier that is to knit, to miss or to go out is in action. From the knitout specification.
 abbrev pub carriers_out : State → ℕ → List CarrierNo → Option Reason
@@ -95,14 +97,34 @@ size_broken profile (Split dir n n2 cs) s = too_many profile (length (s.stacks n
 size_broken profile (Xfer n n2) s = too_many profile (length (s.stacks n2) + length (s.stacks n)) 2
 size_broken profile instr s = None
 
--- The first rule that the instruction breaks: first those on carriers and the hook, then on the rack, on the slider, and on
--- sizes.
+-- Two loops that a carrier forms one after the other lie at most so many needle numbers apart, where there is a limit. This
+-- project's own rule.
+abbrev pub floats_far : Option ℕ → State → ℤ → ℕ → List CarrierNo → Option Reason
+floats_far None s number at cs = None
+floats_far (Some float) s number at cs = first_broken (λ c. not (is_near float (s.lasts c) number)) FloatTooLong at cs
+
+-- the carrier whose float to the loop that the instruction forms is too long
+abbrev pub float_broken : Profile → Instr → State → Option Reason
+float_broken profile (Knit dir n cs) s = floats_far profile.float s n.at 3 cs
+float_broken profile (Tuck dir n cs) s = floats_far profile.float s n.at 3 cs
+float_broken profile (Split dir n n2 cs) s = floats_far profile.float s n.at 4 cs
+float_broken profile instr s = None
+
+-- The first rule that the instruction breaks: first those on carriers and the hook, then on the rack, on the slider, on sizes,
+-- and on floats.
 abbrev pub broken_instr : Profile → Instr → State → Option Reason
 broken_instr profile instr s =
-    or_else (carrier_broken instr s) (or_else (rack_broken instr s) (or_else (slider_broken instr s) (size_broken profile instr s)))
+    or_else (carrier_broken instr s) (or_else (rack_broken instr s)
+    (or_else (slider_broken instr s) (or_else (size_broken profile instr s) (float_broken profile instr s))))
 
 -- the rule that the line breaks: the one that it breaks by itself, or else the one that its instruction breaks here
 abbrev pub broken : Profile → Read → State → Option Reason
 broken profile (read.Broken reason) s = Some reason
 broken profile (read.Instr instr) s = broken_instr profile instr s
 broken profile r s = None
+
+-- the rule on floats, asked of a line that most lines are like
+abbrev pub floats_asked : Profile → Usual → State → Option Reason
+floats_asked profile (usual.Knit dir n c) s = floats_far profile.float s n.at 3 (c ∷ [])
+floats_asked profile (usual.Tuck dir n c) s = floats_far profile.float s n.at 3 (c ∷ [])
+floats_asked profile (usual.Xfer n n2) s = None

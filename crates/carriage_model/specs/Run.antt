@@ -21,4 +21,4 @@ run_on k (Some reason) s rest = Stops s (record { line = k; reason = reason })
 -- the lines, of which the first is line k, are carried out from this state
 abbrev pub run : Profile → State → ℕ → List Read → Ended
 run profile s k [] = Ends s
-run profile s k (r ∷ rs) = run_on k (broken profile r s) s (run profile (step k r s) (k + 1) rs)
+run profile s k (r ∷ rs) = run_on k (broken profile r s) s (run profile (step profile k r s) (k + 1) rs)

@@ -5,7 +5,7 @@ ghost use Rattle.knit_base.specs.Lawful.{IsLawfulRead};
 ghost use Rattle.knit_base.specs.Limits.{IsLawfulProfile};
 ghost use Rattle.knit_base.specs.Usual.{usual_read};
 ghost use Rattle.carriage_model.specs.Carriage.{HasRun, IsRunning, RanOn, RunsAsBefore, TellsRun, WentOver, StandsStill, profile_of, line_count, next_line, is_stopped};
-ghost use Rattle.carriage_model.specs.Machine.{HasNeedlesInLine, HasRoomInLine};
+ghost use Rattle.carriage_model.specs.Machine.{HasCarrierInSet, HasNeedlesInLine, HasRoomInLine};
 
 use crate::facts::{loops_of, loops_of_usual};
 use crate::machine::Machine;
@@ -19,6 +19,7 @@ use std::alloc::Global;
 #[derive(Drop)]
 pub struct Carriage {
     profile: Profile,
+    is_plain: bool,
     machine: Machine,
     first: u32,
     lines: u32,
@@ -45,6 +46,7 @@ impl Carriage {
         };
         Ok(Carriage {
             profile: *profile,
+            is_plain: !with_loops && profile.float.is_none(),
             machine: Machine::new(alloc, profile)?,
             first,
             lines: 0,
@@ -80,8 +82,8 @@ impl Carriage {
         }
     }
 
-    /// Carries out the next line, if no loops are kept and it breaks no rule, or passes it over behind a line that broke one.
-    /// `false` says that the line is to be carried out by another call, and that nothing was done.
+    /// Carries out the next line, if no loops are kept, floats have no limit and it breaks no rule, or passes it over behind a line
+    /// that broke one. `false` says that the line is to be carried out by another call, and that nothing was done.
     #[inline(always)]
     pub fn carry_usual(&mut self, usual: Usual) -> Result<bool, NoMemory>
         requires running { IsRunning self.old }
@@ -97,15 +99,15 @@ impl Carriage {
             self.lines += 1;
             return Ok(true);
         }
-        if self.loops.is_some() {
+        if !self.is_plain {
             return Ok(false);
         }
         self.carry_allowed(usual)
     }
 
-    /// The same, whether loops are kept or not. It stays out of the caller's loop, where lines whose loops aren't kept are carried
-    /// out faster without it.
-    #[inline(never)]
+    /// The same, whether or not loops are kept or floats have a limit. It belongs out of the caller's loop, where lines whose loops
+    /// aren't kept are carried out faster without it.
+    #[inline(always)]
     pub fn carry_with_loop(&mut self, usual: Usual) -> Result<bool, NoMemory>
         requires running { IsRunning self.old }
         requires lawful { (carriers : ℕ) × (carriers ≤ 64) × IsLawfulRead (profile_of self.old) carriers (usual_read usual) }
@@ -118,7 +120,15 @@ impl Carriage {
             self.lines += 1;
             return Ok(true);
         }
-        self.carry_allowed(usual)
+        if !self.machine.allows(&self.profile, usual) {
+            return Ok(false);
+        }
+        if !self.machine.allows_float(&self.profile, usual) {
+            return Ok(false);
+        }
+        let line = self.first + self.lines;
+        self.go_over_usual(line, usual)?;
+        Ok(true)
     }
 
     /// Whether a line broke a rule. Every later line is then passed over, whatever it says.
@@ -180,13 +190,14 @@ impl Carriage {
         Ok(())
     }
 
-    // Carries out the next line, if it breaks no rule.
+    // Carries out the next line, if it breaks no rule, where no loops are kept and floats have no limit.
     #[inline(always)]
     fn carry_allowed(&mut self, usual: Usual) -> Result<bool, NoMemory>
         requires running { IsRunning self.old }
         requires lawful { (carriers : ℕ) × (carriers ≤ 64) × IsLawfulRead (profile_of self.old) carriers (usual_read usual) }
         requires lines { next_line self.old + 1 < 2 ^ 32 }
         requires going { is_stopped self.old ≡ false }
+        requires plain { self.old.is_plain ≡ true }
         ensures over { IfOk result (λ over. over ≡ true → RanOn (usual_read usual) self.old self.new) }
         ensures same { IfOk result (λ over. over ≡ false → self.new ≡ self.old) }
         ensures err { OnErr result (RunsAsBefore self.old self.new) }
@@ -195,14 +206,33 @@ impl Carriage {
             return Ok(false);
         }
         let line = self.first + self.lines;
-        self.go_over_usual(line, usual)?;
+        self.go_over_plain(line, usual)?;
         Ok(true)
+    }
+
+    // Carries out a line that breaks no rule, if most lines say the like, no loops are kept and floats have no limit.
+    #[inline(always)]
+    fn go_over_plain(&mut self, line: u32, usual: Usual) -> Result<(), NoMemory>
+        requires floats { self.old.machine.keeps_lasts ≡ false }
+        requires no_loops { self.old.loops ≡ None }
+        requires needles { HasNeedlesInLine self.old.machine (usual_read usual) }
+        requires room { HasRoomInLine self.old.machine (usual_read usual) }
+        requires lines { self.old.lines + 1 < 2 ^ 32 }
+        requires made { self.old.made + 1 < 2 ^ 32 }
+        ensures ok { OnOk result (WentOver line (usual_read usual) self.old self.new) }
+        ensures err { OnErr result (StandsStill self.old self.new) }
+    {
+        self.machine.step_usual(line, usual)?;
+        self.made += loops_of_usual(usual);
+        self.lines += 1;
+        Ok(())
     }
 
     // Carries out a line that breaks no rule, if most lines say the like.
     #[inline(always)]
     fn go_over_usual(&mut self, line: u32, usual: Usual) -> Result<(), NoMemory>
         requires needles { HasNeedlesInLine self.old.machine (usual_read usual) }
+        requires carrier { HasCarrierInSet usual }
         requires room { HasRoomInLine self.old.machine (usual_read usual) }
         requires lines { self.old.lines + 1 < 2 ^ 32 }
         requires made { self.old.made + 1 < 2 ^ 32 }
@@ -211,7 +241,7 @@ impl Carriage {
         ensures err { OnErr result (StandsStill self.old self.new) }
     {
         match &mut self.loops {
-            None => self.machine.step_usual(line, usual)?,
+            None => self.machine.step_noting(line, usual)?,
             Some(loops) => self.machine.step_usual_with_loop(line, usual, loops)?,
         }
         self.made += loops_of_usual(usual);

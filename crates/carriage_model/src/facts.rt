@@ -1,5 +1,6 @@
 //! The loops that a program makes.
-ghost use Rattle.std.specs.Prelude.{◌≡◌, ℕ, ◌+◌, ◌<◌, ◌≤◌, ◌^◌, ◌-◌, [], ◌∷◌, ◌++◌, length, All, IfOk, IfSome, OnOk, OnErr};
+ghost use Rattle.std.specs.Prelude.{◌≡◌, ℕ, ◌+◌, ◌<◌, ◌≤◌, ◌^◌, ◌-◌, [], ◌∷◌, ◌++◌, is_some, length, All, IfOk, IfSome, OnOk, OnErr};
+ghost use Rattle.knit_base.specs.declared.profile.Profile.{Profile};
 ghost use Rattle.std.specs.Option.{option_to_list};
 ghost use Rattle.knit_base.specs.Lawful.{IsLawfulRead};
 ghost use Rattle.knit_base.specs.Limits.{IsLawfulProfile};
@@ -49,8 +50,7 @@ pub fn fact_plain(
 
 impl Machine {
     ghost use Rattle.carriage_model.specs.Steps.{step};
-    ghost use Rattle.carriage_model.specs.Beds.{SameBeds};
-    ghost use Rattle.carriage_model.specs.Machine.{Represents, StandsAsBefore, HasNeedles, HasNeedlesInLine, HasRoomInLine};
+    ghost use Rattle.carriage_model.specs.Machine.{Represents, StandsAsBefore, IsSameKind, HasNeedles, HasNeedlesInLine, HasCarrierInSet, HasRoomInLine};
 
     /// Carries out this line, which breaks no rule, and appends the loop that it makes. After `NoMemory` both stand as before.
     pub fn step_with_loop(
@@ -63,8 +63,8 @@ impl Machine {
         requires room { HasRoomInLine self.old read.now }
         requires loops { length loops.old < 2 ^ 32 - 1 }
         ensures loops { OnOk result ((s : State) → Represents self.old s → loops.new ≡ loops.old ++ option_to_list (fact_made line read.now s)) }
-        ensures ok { OnOk result ((s : State) → Represents self.old s → Represents self.new (step line read.now s)) }
-        ensures kept { OnOk result (SameBeds self.old.beds self.new.beds) }
+        ensures ok { OnOk result ((profile : Profile) (s : State) → self.old.keeps_lasts ≡ is_some profile.float → Represents self.old s → Represents self.new (step profile line read.now s)) }
+        ensures kept { OnOk result (IsSameKind self.old self.new) }
         ensures err { OnErr result (StandsAsBefore self.old self.new) }
         ensures err_loops { OnErr result (loops.new ≡ loops.old) }
     {
@@ -85,17 +85,18 @@ impl Machine {
         loops: &mut Facts,
     ) -> Result<(), NoMemory>
         requires needles { HasNeedlesInLine self.old (usual_read usual) }
+        requires carrier { HasCarrierInSet usual }
         requires room { HasRoomInLine self.old (usual_read usual) }
         requires loops { length loops.old < 2 ^ 32 - 1 }
         ensures loops { OnOk result ((s : State) → Represents self.old s → loops.new ≡ loops.old ++ option_to_list (fact_made line (usual_read usual) s)) }
-        ensures ok { OnOk result ((s : State) → Represents self.old s → Represents self.new (step line (usual_read usual) s)) }
-        ensures kept { OnOk result (SameBeds self.old.beds self.new.beds) }
+        ensures ok { OnOk result ((profile : Profile) (s : State) → self.old.keeps_lasts ≡ is_some profile.float → Represents self.old s → Represents self.new (step profile line (usual_read usual) s)) }
+        ensures kept { OnOk result (IsSameKind self.old self.new) }
         ensures err { OnErr result (StandsAsBefore self.old self.new) }
         ensures err_loops { OnErr result (loops.new ≡ loops.old) }
     {
         let made = loops.len();
         self.push_usual(line, usual, loops)?;
-        let stepped = self.step_usual(line, usual);
+        let stepped = self.step_noting(line, usual);
         if stepped.is_err() {
             loops.truncate(made);
         }

@@ -9,13 +9,16 @@ use crate::beds::Beds;
 use knit_base::{Needle, NoMemory, Profile, Quarter};
 use std::alloc::Global;
 
-/// The rack, the carriers in action, those in the hook, and the loops on the needles.
+/// The rack, the carriers in action, those in the hook, the loops on the needles, and, where there is a limit on floats, the number of
+/// each carrier's last needle.
 #[derive(Drop)]
 pub(crate) struct Machine {
     pub(crate) rack: Quarter,
     pub(crate) ins: u64,
     pub(crate) hook: u64,
     pub(crate) beds: Beds,
+    pub(crate) keeps_lasts: bool,
+    pub(crate) lasts: [Option<i16>; 64],
 }
 
 impl Machine {
@@ -32,6 +35,8 @@ impl Machine {
             ins: 0,
             hook: 0,
             beds: Beds::new(alloc, profile.low, profile.high)?,
+            keeps_lasts: profile.float.is_some(),
+            lasts: [None; 64],
         })
     }
 

@@ -1,20 +1,21 @@
 //! The rules that need the machine's state.
-ghost use Rattle.std.specs.Prelude.{◌≡◌, ◌+◌, ◌<◌, ◌^◌, [], ◌∷◌, true, None, length, position};
+ghost use Rattle.std.specs.Prelude.{◌≡◌, ◌+◌, ◌<◌, ◌^◌, [], ◌∷◌, true, not, None, is_some, length, position};
 ghost use Rattle.knit_base.specs.Reasons.{broken_if, first_broken, or_else};
 ghost use Rattle.knit_base.specs.Usual.{usual_read};
 ghost use Rattle.knit_base.specs.Yarns.{contains_carrier, lacks_carrier, AreCarriers, IsCarrier};
-ghost use Rattle.carriage_model.specs.State.{State};
-ghost use Rattle.carriage_model.specs.Rules.{broken, broken_instr, carrier_broken, rack_broken, slider_broken, size_broken, tuck_too_many, carriers_out, carriers_in, carriers_hooked, hook_busy, hook_other, not_aligned, slider_holds, too_many};
+ghost use Rattle.carriage_model.specs.State.{State, is_near};
+ghost use Rattle.carriage_model.specs.Rules.{broken, broken_instr, carrier_broken, rack_broken, slider_broken, size_broken, tuck_too_many, carriers_out, carriers_in, carriers_hooked, hook_busy, hook_other, not_aligned, slider_holds, too_many, float_broken, floats_asked, floats_far};
 
 use crate::machine::Machine;
 use knit_base::{CarrierNo, Instr, Needle, Profile, Read, Reason, Rule, Usual, Yarns, is_in_set};
 
 impl Machine {
-    ghost use Rattle.carriage_model.specs.Machine.{Represents, HasPlaces, HasPlacesInLine, FitsPlaces, HasNeedles, HasNeedlesInLine, HasCarrierInSet, stack_of};
+    ghost use Rattle.carriage_model.specs.Machine.{Represents, HasPlaces, HasPlacesInLine, FitsPlaces, HasNeedles, HasNeedlesInLine, HasCarrierInSet, last_in, stack_of};
     ghost use Rattle.carriage_model.specs.Beds.{IsOn};
 
     /// The first rule that the line breaks.
     pub fn broken(&self, profile: &Profile, read: &Read) -> Option<Reason>
+        requires floats { self.now.keeps_lasts ≡ is_some profile.now.float }
         requires needles { HasNeedlesInLine self.now read.now }
         requires places { HasPlacesInLine read.now }
         ensures { (s : State) → Represents self.now s → result ≡ broken profile.now read.now s }
@@ -26,17 +27,44 @@ impl Machine {
         }
     }
 
-    /// Whether the line breaks no rule.
+    /// Whether the line breaks no rule but that on floats, which isn't looked at.
     #[inline(always)]
     pub fn allows(&self, profile: &Profile, usual: Usual) -> bool
         requires needles { HasNeedlesInLine self.now (usual_read usual) }
         requires carrier { HasCarrierInSet usual }
-        ensures { result ≡ true → (s : State) → Represents self.now s → broken profile.now (usual_read usual) s ≡ None }
+        ensures { result ≡ true → (s : State) → Represents self.now s → floats_asked profile.now usual s ≡ None → broken profile.now (usual_read usual) s ≡ None }
     {
         match usual {
             Usual::Knit(_, n, c) => self.allows_loop(n, c),
             Usual::Tuck(_, n, c) => self.allows_loop(n, c) && self.has_room_on(profile, n),
             Usual::Xfer(n, n2) => self.is_aligned(n, n2) && self.has_room_together(profile, n, n2),
+        }
+    }
+
+    /// Whether the float to the loop that the line forms, if it forms one, isn't too long.
+    #[inline(always)]
+    pub fn allows_float(&self, profile: &Profile, usual: Usual) -> bool
+        requires floats { self.now.keeps_lasts ≡ is_some profile.now.float }
+        requires carrier { HasCarrierInSet usual }
+        ensures { result ≡ true → (s : State) → Represents self.now s → floats_asked profile.now usual s ≡ None }
+    {
+        match usual {
+            Usual::Knit(_, n, c) => self.is_within_float(profile, n.at, c),
+            Usual::Tuck(_, n, c) => self.is_within_float(profile, n.at, c),
+            Usual::Xfer(_, _) => true,
+        }
+    }
+
+    // Whether the carrier's float to a loop on this number isn't too long.
+    #[inline(always)]
+    fn is_within_float(&self, profile: &Profile, at: i16, c: CarrierNo) -> bool
+        requires floats { self.now.keeps_lasts ≡ is_some profile.now.float }
+        requires carrier { IsCarrier c }
+        ensures { result ≡ true → (s : State) → Represents self.now s → floats_far profile.now.float s at 3 (c ∷ []) ≡ None }
+    {
+        match profile.float {
+            None => true,
+            Some(float) => is_near(float, self.lasts[c.0 as usize], at),
         }
     }
 
@@ -81,6 +109,7 @@ impl Machine {
 
     // The groups of rules one after the other; where one is broken, the later ones aren't looked at.
     fn broken_instr(&self, profile: &Profile, instr: &Instr) -> Option<Reason>
+        requires floats { self.now.keeps_lasts ≡ is_some profile.now.float }
         requires needles { HasNeedles self.now instr.now }
         requires places { HasPlaces instr.now }
         ensures { (s : State) → Represents self.now s → result ≡ broken_instr profile.now instr.now s }
@@ -89,6 +118,7 @@ impl Machine {
             .or_else(|| self.rack_broken(instr))
             .or_else(|| self.slider_broken(instr))
             .or_else(|| self.size_broken(profile, instr))
+            .or_else(|| self.float_broken(profile, instr))
     }
 
     // The first rule on carriers and the hook that the instruction breaks.
@@ -145,6 +175,44 @@ impl Machine {
             Instr::Xfer(n, n2) => self.too_many_together(profile, *n, *n2, 2),
             _ => None,
         }
+    }
+
+    // A carrier's float to the loop that the instruction forms is too long.
+    fn float_broken(&self, profile: &Profile, instr: &Instr) -> Option<Reason>
+        requires floats { self.now.keeps_lasts ≡ is_some profile.now.float }
+        requires places { HasPlaces instr.now }
+        ensures { (s : State) → Represents self.now s → result ≡ float_broken profile.now instr.now s }
+    {
+        match instr {
+            Instr::Knit(_, n, yarns) => self.floats_far(profile, n.at, 3, yarns),
+            Instr::Tuck(_, n, yarns) => self.floats_far(profile, n.at, 3, yarns),
+            Instr::Split(_, n, _, yarns) => self.floats_far(profile, n.at, 4, yarns),
+            _ => None,
+        }
+    }
+
+    // A carrier's float to a loop on this number is too long. The list of carriers begins at this token.
+    fn floats_far(&self, profile: &Profile, number: i16, at: u16, yarns: &Yarns) -> Option<Reason>
+        requires floats { self.now.keeps_lasts ≡ is_some profile.now.float }
+        requires places { FitsPlaces at yarns.now }
+        ensures { (s : State) → Represents self.now s → result ≡ floats_far profile.now.float s number at yarns.now }
+    {
+        let float = profile.float?;
+        let i = self.first_far(float, number, yarns.as_slice())?;
+        Some(Reason {
+            rule: Rule::FloatTooLong,
+            at: at + i as u16,
+        })
+    }
+
+    // The place of the first carrier whose last needle is too far from this number.
+    fn first_far(&self, float: u16, number: i16, carriers: &[CarrierNo]) -> Option<usize>
+        requires { AreCarriers carriers.now }
+        ensures { result ≡ position (λ c. not (is_near float (last_in self.now c) number)) carriers.now }
+    {
+        carriers
+            .iter()
+            .position(|c| !is_near(float, self.lasts[c.0 as usize], number))
     }
 
     fn tuck_too_many(&self, profile: &Profile, n: Needle, yarns: &Yarns) -> Option<Reason>
@@ -226,6 +294,17 @@ impl Machine {
     {
         let loops = u64::from(self.beds.loops_on(n2)) + u64::from(self.beds.loops_on(n));
         too_many(profile, loops, at)
+    }
+}
+
+/// Whether a carrier's last needle, if there is one, is at most so many numbers away from this number.
+#[inline(always)]
+pub fn is_near(float: u16, last: Option<i16>, at: i16) -> bool
+    ensures { result ≡ is_near float last at }
+{
+    match last {
+        None => true,
+        Some(last) => (i32::from(last) - i32::from(at)).unsigned_abs() <= u32::from(float),
     }
 }
 

@@ -24,14 +24,14 @@ use Rattle.check_main.specs.Complete.{Gives, IsFile, IsFileThatFits, IsScriptTha
 use Rattle.check_main.specs.Top.{SinkUse, SourceUse}
 
 abbrev no_options : Options
-no_options = record { low = None; high = None; rack = None; hold = None; block = None }
+no_options = record { low = None; high = None; rack = None; hold = None; block = None; float = None }
 
 -- the limits that are chosen where no option is given
 abbrev usual : Chosen
-usual = record { profile = record { low = pos 0 -ℤ pos 1024; high = pos 1023; rack = 8; hold = 16 }; block = 64 }
+usual = record { profile = record { low = pos 0 -ℤ pos 1024; high = pos 1023; rack = 8; hold = 16; float = None }; block = 64 }
 
 usual_chosen : IsChosen no_options usual
-usual_chosen = record { low = refl; high = refl; rack = refl; hold = refl; block = refl }
+usual_chosen = record { low = refl; high = refl; rack = refl; hold = refl; block = refl; float = refl }
 
 abbrev file : List ℕ
 file = codes ";!knitout-2\n;;Carriers: 1\ndrop f1\n"

@@ -114,6 +114,43 @@ fn limits_by_options(rt: HostRuntime) -> Result<(), Fail> {
     Ok(())
 }
 
+const FAR: &str = "in 1\ntuck + f1 1\ntuck + f5 1\n";
+
+const NEAR: &str = "in 1\ntuck + f1 1\ntuck + f4 1\n";
+
+const PAST_A_MISS: &str = "in 1\ntuck + f1 1\nmiss + f3 1\ntuck + f5 1\n";
+
+const IN_ANEW: &str = "in 1\ntuck + f1 1\nout 1\nin 1\ntuck + f9 1\n";
+
+#[test]
+fn a_limit_on_floats(rt: HostRuntime) -> Result<(), Fail> {
+    let alloc = rt.alloc();
+    let far = "broken line 5 rule FloatTooLong at 3\n> tuck + f5 1\n";
+    let near = "sound lines 3 made 2 held 2 rack 0\nin: 1\nhook:\nf1: 4\nf4: 5\n";
+    let past = "broken line 6 rule FloatTooLong at 3\n> tuck + f5 1\n";
+    let anew = "sound lines 5 made 2 held 2 rack 0\nin: 1\nhook:\nf1: 4\nf9: 7\n";
+    for words in [
+        ["check", "--float", "3"].as_slice(),
+        ["check", "--float=3", "--block=1"].as_slice(),
+    ] {
+        assert!(rt; is(&said_of(&rt, alloc, words, FAR)?, Status::Broken, far));
+        assert!(rt; is(&said_of(&rt, alloc, words, NEAR)?, Status::Done, near));
+        assert!(rt;
+            is(
+                &said_of(&rt, alloc, words, PAST_A_MISS)?,
+                Status::Broken,
+                past
+            )
+        );
+        assert!(rt; is(&said_of(&rt, alloc, words, IN_ANEW)?, Status::Done, anew));
+    }
+    let free = said_of(&rt, alloc, &["check"], FAR)?;
+    assert!(rt; free.status == Status::Done);
+    let none = said_of(&rt, alloc, &["check", "--float", "0"], NEAR)?;
+    assert!(rt; none.status == Status::Usage);
+    Ok(())
+}
+
 pub(crate) const HEADED: &[u8] =
     b";!knitout-2\r\n;;Machine: SWG091N2\r\n;;Gauge: 15\r\n;;Carriers: 1 2 3 4 5 6 7 8 9 10\r\n;;Position: Center\r\n\r\nx-stitch-number 60\r\nstitch 10 5\r\ninhook 6\r\ntuck - f3 6 ; cast on\r\ntuck - b2 6\r\ntuck - f1 6\r\nknit + f1 6\r\nknit + b2 6\r\nreleasehook 6\r\nknit + f3 6\r\nouthook 6";
 

@@ -9,7 +9,7 @@ use Rattle.command_words.specs.Taken.{is_value, taken_of}
 use Rattle.command_words.specs.Given.{IsGiven, IsLawful, are_lawful, is_on, now_of, plain_or_none}
 use Rattle.command_words.specs.Numbers.{is_number, number_or_none}
 use Rattle.command_words.specs.declared.given.Given.{Given}
-use Rattle.command_words.specs.Grammar.{Low, High, Rack, Hold, Block, Loops, Json, spelling}
+use Rattle.command_words.specs.Grammar.{Low, High, Rack, Hold, Block, Float, Loops, Json, spelling}
 use Rattle.command_words.proofs.Rows.{stands_is}
 use Rattle.command_words.proofs.Walks.{MayWait}
 use Rattle.std.proofs.lemmas.Slice.Eq.{bytes_eq-Decides}
@@ -173,7 +173,8 @@ lawful_from items g distinct few is test =
     let rack = both_of (number_or_none (now_of g.rack)) _ high.1 in
     let hold = both_of (number_or_none (now_of g.hold)) _ rack.1 in
     let block = both_of (number_or_none (now_of g.block)) _ hold.1 in
-    let one = both_of (plain_or_none (now_of g.first)) _ block.1 in
+    let float = both_of (number_or_none (now_of g.float)) _ block.1 in
+    let one = both_of (plain_or_none (now_of g.first)) _ float.1 in
     let two = both_of (plain_or_none (now_of g.second)) _ one.1 in
     record {
       fit = record {
@@ -182,18 +183,19 @@ lawful_from items g distinct few is test =
         plain = plain_places (places_in items) few (ap plain_or_none (sym is.first) ∙ one.0) (ap plain_or_none (sym is.second) ∙ two.0) (ap plain_or_none (sym is.third) ∙ two.1);
       };
       numbers = λ n flag. go n flag (ap number_or_none (sym is.low) ∙ low.0) (ap number_or_none (sym is.high) ∙ high.0) (ap number_or_none (sym is.rack) ∙ rack.0)
-          (ap number_or_none (sym is.hold) ∙ hold.0) (ap number_or_none (sym is.block) ∙ block.0);
+          (ap number_or_none (sym is.hold) ∙ hold.0) (ap number_or_none (sym is.block) ∙ block.0) (ap number_or_none (sym is.float) ∙ float.0);
     }
   where
     go : (n : Name) → is_flag n ≡ false → number_or_none (value_in Low items) ≡ true → number_or_none (value_in High items) ≡ true → number_or_none (value_in Rack items) ≡ true
-        → number_or_none (value_in Hold items) ≡ true → number_or_none (value_in Block items) ≡ true → number_or_none (value_in n items) ≡ true
-    go Low flag a b c d e = a
-    go High flag a b c d e = b
-    go Rack flag a b c d e = c
-    go Hold flag a b c d e = d
-    go Block flag a b c d e = e
-    go Loops flag a b c d e = absurd (true≢false flag)
-    go Json flag a b c d e = absurd (true≢false flag)
+        → number_or_none (value_in Hold items) ≡ true → number_or_none (value_in Block items) ≡ true → number_or_none (value_in Float items) ≡ true → number_or_none (value_in n items) ≡ true
+    go Low flag a b c d e f = a
+    go High flag a b c d e f = b
+    go Rack flag a b c d e f = c
+    go Hold flag a b c d e f = d
+    go Block flag a b c d e f = e
+    go Float flag a b c d e f = f
+    go Loops flag a b c d e f = absurd (true≢false flag)
+    go Json flag a b c d e f = absurd (true≢false flag)
 
 -- lawful items pass the test
 pub test_from : (items : List Item) (g : Given) → IsGiven items g → IsLawful items → are_lawful g ≡ true
@@ -204,6 +206,7 @@ test_from items g is lawful =
       ap number_or_none is.rack ∙ lawful.numbers Rack refl,
       ap number_or_none is.hold ∙ lawful.numbers Hold refl,
       ap number_or_none is.block ∙ lawful.numbers Block refl,
+      ap number_or_none is.float ∙ lawful.numbers Float refl,
       ap plain_or_none is.first ∙ place_plain (places_in items) 0 lawful.fit.plain,
       ap plain_or_none is.second ∙ place_plain (places_in items) 1 lawful.fit.plain,
       ap plain_or_none is.third ∙ place_plain (places_in items) 2 lawful.fit.plain,
@@ -290,6 +293,7 @@ flag_is_on n (Setting m v ∷ xs) flag all = by_test (same_name m n)
     named Rack = refl
     named Hold = refl
     named Block = refl
+    named Float = refl
     named Loops = refl
     named Json = refl
 

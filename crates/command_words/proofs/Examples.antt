@@ -26,7 +26,7 @@ dashes = refl
 
 -- no option is given
 abbrev usual : Options
-usual = record { low = None; high = None; rack = None; hold = None; block = None }
+usual = record { low = None; high = None; rack = None; hold = None; block = None; float = None }
 
 abbrev asks : Command → Options → Option Request
 asks command options = Some (record { command = command; options = options })

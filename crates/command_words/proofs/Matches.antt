@@ -12,7 +12,7 @@ use Rattle.clap.specs.Faults.{default_fault, defaults_fault, entered_fault, faul
 use Rattle.clap.specs.declared.parser.matches.ValueSource.TheVariants.{DefaultValue}
 use Rattle.clap.specs.Walk.{more_values}
 use Rattle.command_words.specs.Arguments.{check_app}
-use Rattle.command_words.specs.Grammar.{Name, Text, Low, High, Rack, Hold, Block, Loops, Json, is_flag, spelling}
+use Rattle.command_words.specs.Grammar.{Name, Text, Low, High, Rack, Hold, Block, Float, Loops, Json, is_flag, spelling}
 use Rattle.command_words.proofs.Rules.{Spot, first, second, third, rule, shape, spot_id, spot_rule}
 use Rattle.knit_base.proofs.Places.{by_test}
 use Rattle.command_words.proofs.Rows.{added_row, at_row_none, has_row_is, or_first}
@@ -60,10 +60,13 @@ no_defaults_fault rows = all_defaults rows shape.rules (
         (
           (λ r. no_default_fault r (rule Block) refl),
           (
-            (λ r. flag_default_fault r (rule Loops) refl),
+            (λ r. no_default_fault r (rule Float) refl),
             (
-              (λ r. flag_default_fault r (rule Json) refl),
-              ((λ r. no_default_fault r (spot_rule first) refl), ((λ r. no_default_fault r (spot_rule second) refl), ((λ r. no_default_fault r (spot_rule third) refl), tt))),
+              (λ r. flag_default_fault r (rule Loops) refl),
+              (
+                (λ r. flag_default_fault r (rule Json) refl),
+                ((λ r. no_default_fault r (spot_rule first) refl), ((λ r. no_default_fault r (spot_rule second) refl), ((λ r. no_default_fault r (spot_rule third) refl), tt))),
+              ),
             ),
           ),
         ),
@@ -139,8 +142,9 @@ finished_is h =
     let rack = no_default (with_default (with_default rows (rule Low)) (rule High)) (rule Rack) refl ∙ high in
     let hold = no_default (with_default (with_default (with_default rows (rule Low)) (rule High)) (rule Rack)) (rule Hold) refl ∙ rack in
     let block = no_default (with_default (with_default (with_default (with_default rows (rule Low)) (rule High)) (rule Rack)) (rule Hold)) (rule Block) refl ∙ hold in
-    let flags = ap matched block in
-    let all = matched (with_default (with_default (with_default (with_default (with_default rows (rule Low)) (rule High)) (rule Rack)) (rule Hold)) (rule Block)) in
+    let float = no_default (with_default (with_default (with_default (with_default (with_default rows (rule Low)) (rule High)) (rule Rack)) (rule Hold)) (rule Block)) (rule Float) refl ∙ block in
+    let flags = ap matched float in
+    let all = matched (with_default (with_default (with_default (with_default (with_default (with_default rows (rule Low)) (rule High)) (rule Rack)) (rule Hold)) (rule Block)) (rule Float)) in
     no_default (with_default (with_default all (spot_rule first)) (spot_rule second)) (spot_rule third) refl
     ∙ no_default (with_default all (spot_rule first)) (spot_rule second) refl ∙ no_default all (spot_rule first) refl ∙ flags
 
@@ -151,6 +155,7 @@ option_matched High rows flag = default_row _ (with_default rows (rule Loops)) (
 option_matched Rack rows flag = default_row _ (with_default rows (rule Loops)) (rule Json) _ refl ∙ sym (none_first _) ∙ default_row _ rows (rule Loops) _ refl ∙ sym (none_first _)
 option_matched Hold rows flag = default_row _ (with_default rows (rule Loops)) (rule Json) _ refl ∙ sym (none_first _) ∙ default_row _ rows (rule Loops) _ refl ∙ sym (none_first _)
 option_matched Block rows flag = default_row _ (with_default rows (rule Loops)) (rule Json) _ refl ∙ sym (none_first _) ∙ default_row _ rows (rule Loops) _ refl ∙ sym (none_first _)
+option_matched Float rows flag = default_row _ (with_default rows (rule Loops)) (rule Json) _ refl ∙ sym (none_first _) ∙ default_row _ rows (rule Loops) _ refl ∙ sym (none_first _)
 option_matched Loops rows flag = absurd (true≢false flag)
 option_matched Json rows flag = absurd (true≢false flag)
 

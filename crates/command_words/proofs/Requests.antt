@@ -6,7 +6,7 @@ use Rattle.std.proofs.lemmas.Bool.{false≢true, true≢false}
 use Rattle.command_words.specs.declared.command.Command.{Command}
 use Rattle.command_words.specs.declared.command.Request.{Request}
 use Rattle.command_words.specs.declared.given.Given.{Given}
-use Rattle.command_words.specs.Grammar.{Item, Name, Low, High, Rack, Hold, Block, Loops, Json, Text}
+use Rattle.command_words.specs.Grammar.{Item, Name, Low, High, Rack, Hold, Block, Float, Loops, Json, Text}
 use Rattle.command_words.specs.Grammar.{are_distinct, begins_with_hyphen, is_flag, items_of, names_in, places_in, value_in}
 use Rattle.command_words.specs.Numbers.{number_or_none}
 use Rattle.command_words.specs.Given.{IsGiven, IsLawful, now_of, parts_given, words_of}
@@ -23,12 +23,12 @@ words_given (a ∷ b ∷ []) few = refl
 words_given (a ∷ b ∷ c ∷ []) few = refl
 words_given (a ∷ b ∷ c ∷ d ∷ ws) few = absurd (omega (arith, few))
 
-abbrev parts : (low high rack hold block : Option Text) (loops json : Bool) (words : List Text) → Parts
-parts l h r o b k j ws = record { low = l; high = h; rack = r; hold = o; block = b; loops = k; json = j; words = ws }
+abbrev parts : (low high rack hold block float : Option Text) (loops json : Bool) (words : List Text) → Parts
+parts l h r o b f k j ws = record { low = l; high = h; rack = r; hold = o; block = b; float = f; loops = k; json = j; words = ws }
 
-same_parts : (l l2 h h2 r r2 o o2 b b2 : Option Text) (k k2 j j2 : Bool) (ws ws2 : List Text) → l ≡ l2 → h ≡ h2 → r ≡ r2 → o ≡ o2 → b ≡ b2 → k ≡ k2 → j ≡ j2 → ws ≡ ws2
-    → parts l h r o b k j ws ≡ parts l2 h2 r2 o2 b2 k2 j2 ws2
-same_parts l l2 h h2 r r2 o o2 b b2 k k2 j j2 ws ws2 e1 e2 e3 e4 e5 e6 e7 e8 = rw (e1, e2, e3, e4, e5, e6, e7, e8) refl
+same_parts : (l l2 h h2 r r2 o o2 b b2 f f2 : Option Text) (k k2 j j2 : Bool) (ws ws2 : List Text) → l ≡ l2 → h ≡ h2 → r ≡ r2 → o ≡ o2 → b ≡ b2 → f ≡ f2 → k ≡ k2 → j ≡ j2 → ws ≡ ws2
+    → parts l h r o b f k j ws ≡ parts l2 h2 r2 o2 b2 f2 k2 j2 ws2
+same_parts l l2 h h2 r r2 o o2 b b2 f f2 k k2 j j2 ws ws2 e1 e2 e3 e4 e5 e6 e7 e8 e9 = rw (e1, e2, e3, e4, e5, e6, e7, e8, e9) refl
 
 words_are : (g : Given) (ws : List Text) → length ws ≤ 3 → now_of g.first ≡ slice_get ws 0 → now_of g.second ≡ slice_get ws 1 → now_of g.third ≡ slice_get ws 2
     → words_of (now_of g.first) (now_of g.second) (now_of g.third) ≡ ws
@@ -40,7 +40,7 @@ words_are g ws few first second third =
 
 parts_are : (items : List Item) (g : Given) → length (places_in items) ≤ 3 → IsGiven items g → parts_given g ≡ parts_of items
 parts_are items g few is =
-    same_parts _ _ _ _ _ _ _ _ _ _ _ _ _ _ _ _ is.low is.high is.rack is.hold is.block is.loops is.json
+    same_parts _ _ _ _ _ _ _ _ _ _ _ _ _ _ _ _ _ _ is.low is.high is.rack is.hold is.block is.float is.loops is.json
     (words_are g (places_in items) few is.first is.second is.third)
 
 -- the test of the items and its facts
@@ -54,38 +54,42 @@ lawful_is items lawful =
       lawful.numbers Rack refl,
       lawful.numbers Hold refl,
       lawful.numbers Block refl,
+      lawful.numbers Float refl,
     ) refl
 
 not_true : (b : Bool) → not b ≡ true → b ≡ false
 not_true true e = absurd (false≢true e)
 not_true false e = refl
 
-record Five (a b c d e : Bool) : Type 0 where
+record Six (a b c d e f : Bool) : Type 0 where
   first : a ≡ true
   second : b ≡ true
   third : c ≡ true
   fourth : d ≡ true
   fifth : e ≡ true
+  sixth : f ≡ true
 
-five : (a b c d e : Bool) → (a && (b && (c && (d && (e && true))))) ≡ true → Five a b c d e
-five a b c d e all =
+six : (a b c d e f : Bool) → (a && (b && (c && (d && (e && (f && true)))))) ≡ true → Six a b c d e f
+six a b c d e f all =
     let one = both a _ all in
     let two = both b _ one.1 in
     let three = both c _ two.1 in
     let four = both d _ three.1 in
-    record { first = one.0; second = two.0; third = three.0; fourth = four.0; fifth = (both e _ four.1).0 }
+    let five = both e _ four.1 in
+    record { first = one.0; second = two.0; third = three.0; fourth = four.0; fifth = five.0; sixth = (both f _ five.1).0 }
 
 all_numbers : (items : List Item) → has_numbers (parts_of items) ≡ true → (n : Name) → is_flag n ≡ false → number_or_none (value_in n items) ≡ true
-all_numbers items e n flag = go (five _ _ _ _ _ e) n flag
+all_numbers items e n flag = go (six _ _ _ _ _ _ e) n flag
   where
-    go : Five (number_or_none (value_in Low items)) (number_or_none (value_in High items)) (number_or_none (value_in Rack items))
-        (number_or_none (value_in Hold items)) (number_or_none (value_in Block items))
+    go : Six (number_or_none (value_in Low items)) (number_or_none (value_in High items)) (number_or_none (value_in Rack items))
+        (number_or_none (value_in Hold items)) (number_or_none (value_in Block items)) (number_or_none (value_in Float items))
         → (n : Name) → is_flag n ≡ false → number_or_none (value_in n items) ≡ true
     go all Low flag = all.first
     go all High flag = all.second
     go all Rack flag = all.third
     go all Hold flag = all.fourth
     go all Block flag = all.fifth
+    go all Float flag = all.sixth
     go all Loops flag = absurd (true≢false flag)
     go all Json flag = absurd (true≢false flag)
 

@@ -8,7 +8,7 @@ use Rattle.std.proofs.lemmas.List.Folds.{list_any-append}
 use Rattle.clap.specs.Walk.{Row, all_of, at_row, has_row, with_values, without, more_values}
 use Rattle.clap.specs.declared.builder.value_parser.Reading.{Reading}
 use Rattle.clap.specs.declared.parser.matches.ValueSource.TheVariants.{CommandLine}
-use Rattle.command_words.specs.Grammar.{Name, Text, Item, Flag, Setting, Place, are_distinct, names_in, places_in, same_name, spelling, value_in, Low, High, Rack, Hold, Block, Loops, Json}
+use Rattle.command_words.specs.Grammar.{Name, Text, Item, Flag, Setting, Place, are_distinct, names_in, places_in, same_name, spelling, value_in, Low, High, Rack, Hold, Block, Float, Loops, Json}
 use Rattle.command_words.proofs.Rules.{Spot, first, second, third, spot_at, spot_id}
 use Rattle.knit_base.proofs.Places.{by_test}
 
@@ -149,8 +149,11 @@ names_apart Hold first = refl
 names_apart Hold second = refl
 names_apart Hold third = refl
 names_apart Block first = refl
+names_apart Float first = refl
 names_apart Block second = refl
+names_apart Float second = refl
 names_apart Block third = refl
+names_apart Float third = refl
 names_apart Loops first = refl
 names_apart Loops second = refl
 names_apart Loops third = refl
@@ -165,6 +168,7 @@ spots_apart first High = refl
 spots_apart first Rack = refl
 spots_apart first Hold = refl
 spots_apart first Block = refl
+spots_apart first Float = refl
 spots_apart first Loops = refl
 spots_apart first Json = refl
 spots_apart second Low = refl
@@ -172,6 +176,7 @@ spots_apart second High = refl
 spots_apart second Rack = refl
 spots_apart second Hold = refl
 spots_apart second Block = refl
+spots_apart second Float = refl
 spots_apart second Loops = refl
 spots_apart second Json = refl
 spots_apart third Low = refl
@@ -179,6 +184,7 @@ spots_apart third High = refl
 spots_apart third Rack = refl
 spots_apart third Hold = refl
 spots_apart third Block = refl
+spots_apart third Float = refl
 spots_apart third Loops = refl
 spots_apart third Json = refl
 

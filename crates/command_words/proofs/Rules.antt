@@ -9,7 +9,7 @@ use Rattle.std.proofs.lemmas.Bool.{false≢true, true≢false}
 use Rattle.clap.specs.Kinds.{Kinds, or_else}
 use Rattle.clap.specs.declared.error.kind.ErrorKind.TheVariants as kind
 use Rattle.command_words.specs.Arguments.{check_app, flag_rule, option_rule}
-use Rattle.command_words.specs.Grammar.{Name, Text, Low, High, Rack, Hold, Block, Loops, Json, spelling, is_flag, name_of}
+use Rattle.command_words.specs.Grammar.{Name, Text, Low, High, Rack, Hold, Block, Float, Loops, Json, spelling, is_flag, name_of}
 
 -- the three positional words
 pub data Spot : Type 0 where
@@ -36,12 +36,13 @@ rule High = filled (option_rule (codes "high"))
 rule Rack = filled (option_rule (codes "rack"))
 rule Hold = filled (option_rule (codes "hold"))
 rule Block = filled (option_rule (codes "block"))
+rule Float = filled (option_rule (codes "float"))
 rule Loops = filled (flag_rule (codes "loops"))
 rule Json = filled (flag_rule (codes "json"))
 
 -- all rules of the command, in their order
 abbrev pub rules : List Rule
-rules = rule Low ∷ rule High ∷ rule Rack ∷ rule Hold ∷ rule Block ∷ rule Loops ∷ rule Json ∷ spot_rule first ∷ spot_rule second ∷ spot_rule third ∷ []
+rules = rule Low ∷ rule High ∷ rule Rack ∷ rule Hold ∷ rule Block ∷ rule Float ∷ rule Loops ∷ rule Json ∷ spot_rule first ∷ spot_rule second ∷ spot_rule third ∷ []
 
 -- the shape of the command
 abbrev pub shape : Shape
@@ -72,6 +73,7 @@ by_id High = refl
 by_id Rack = refl
 by_id Hold = refl
 by_id Block = refl
+by_id Float = refl
 by_id Loops = refl
 by_id Json = refl
 
@@ -82,22 +84,23 @@ by_spot_id second = refl
 by_spot_id third = refl
 
 -- the rules by their long names, test by test
-long_by_tests : (a b c d e f g : Bool) → cond (a || false) (Some (rule Low)) (cond (b || false) (Some (rule High)) (cond (c || false) (Some (rule Rack))
-    (cond (d || false) (Some (rule Hold)) (cond (e || false) (Some (rule Block)) (cond (f || false) (Some (rule Loops)) (cond (g || false) (Some (rule Json)) None))))))
-    ≡ option_map rule (cond a (Some Low) (cond b (Some High) (cond c (Some Rack) (cond d (Some Hold) (cond e (Some Block) (cond f (Some Loops) (cond g (Some Json) None)))))))
-long_by_tests true b c d e f g = refl
-long_by_tests false true c d e f g = refl
-long_by_tests false false true d e f g = refl
-long_by_tests false false false true e f g = refl
-long_by_tests false false false false true f g = refl
-long_by_tests false false false false false true g = refl
-long_by_tests false false false false false false true = refl
-long_by_tests false false false false false false false = refl
+long_by_tests : (a b c d e f g h : Bool) → cond (a || false) (Some (rule Low)) (cond (b || false) (Some (rule High)) (cond (c || false) (Some (rule Rack))
+    (cond (d || false) (Some (rule Hold)) (cond (e || false) (Some (rule Block)) (cond (f || false) (Some (rule Float)) (cond (g || false) (Some (rule Loops)) (cond (h || false) (Some (rule Json)) None)))))))
+    ≡ option_map rule (cond a (Some Low) (cond b (Some High) (cond c (Some Rack) (cond d (Some Hold) (cond e (Some Block) (cond f (Some Float) (cond g (Some Loops) (cond h (Some Json) None))))))))
+long_by_tests true b c d e f g h = refl
+long_by_tests false true c d e f g h = refl
+long_by_tests false false true d e f g h = refl
+long_by_tests false false false true e f g h = refl
+long_by_tests false false false false true f g h = refl
+long_by_tests false false false false false true g h = refl
+long_by_tests false false false false false false true h = refl
+long_by_tests false false false false false false false true = refl
+long_by_tests false false false false false false false false = refl
 
 -- the rule of the name behind `--`
 pub by_long : (t : Text) → arg_by_long shape.rules t ≡ option_map rule (name_of t)
 by_long t = long_by_tests (bytes_eq (spelling Low) t) (bytes_eq (spelling High) t) (bytes_eq (spelling Rack) t) (bytes_eq (spelling Hold) t)
-    (bytes_eq (spelling Block) t) (bytes_eq (spelling Loops) t) (bytes_eq (spelling Json) t)
+    (bytes_eq (spelling Block) t) (bytes_eq (spelling Float) t) (bytes_eq (spelling Loops) t) (bytes_eq (spelling Json) t)
 
 -- no letter has a rule
 pub by_short : (x : ℕ) → arg_by_short shape.rules x ≡ None
@@ -125,6 +128,7 @@ option_use High v rows flag = no_more _
 option_use Rack v rows flag = no_more _
 option_use Hold v rows flag = no_more _
 option_use Block v rows flag = no_more _
+option_use Float v rows flag = no_more _
 option_use Loops v rows bad = absurd (true≢false bad)
 option_use Json v rows bad = absurd (true≢false bad)
 
@@ -137,6 +141,7 @@ flag_use High rows bad = absurd (false≢true bad)
 flag_use Rack rows bad = absurd (false≢true bad)
 flag_use Hold rows bad = absurd (false≢true bad)
 flag_use Block rows bad = absurd (false≢true bad)
+flag_use Float rows bad = absurd (false≢true bad)
 
 -- so is a positional word
 pub spot_use : (s : Spot) (v : Text) (rows : List Row) → use_fault false (spot_rule s) (v ∷ []) rows ≡ repeat_fault false (spot_id s) rows
@@ -151,6 +156,7 @@ waiting_use High rows flag = refl
 waiting_use Rack rows flag = refl
 waiting_use Hold rows flag = refl
 waiting_use Block rows flag = refl
+waiting_use Float rows flag = refl
 waiting_use Loops rows bad = absurd (true≢false bad)
 waiting_use Json rows bad = absurd (true≢false bad)
 
@@ -161,6 +167,7 @@ takes_its_value High = refl
 takes_its_value Rack = refl
 takes_its_value Hold = refl
 takes_its_value Block = refl
+takes_its_value Float = refl
 takes_its_value Loops = refl
 takes_its_value Json = refl
 
@@ -171,5 +178,6 @@ rule_id High = refl
 rule_id Rack = refl
 rule_id Hold = refl
 rule_id Block = refl
+rule_id Float = refl
 rule_id Loops = refl
 rule_id Json = refl

@@ -9,7 +9,7 @@ use Rattle.clap.specs.Faults.{settle_fault, use_fault, turn_fault, walk_fault, f
 use Rattle.clap.specs.Kinds.{Kinds, or_else}
 use Rattle.clap.specs.declared.error.kind.ErrorKind.{ErrorKind}
 use Rattle.std.proofs.lemmas.Bool.{true≢false}
-use Rattle.command_words.specs.Grammar.{Name, Text, Low, High, Rack, Hold, Block, Loops, Json, spelling, is_flag, name_of}
+use Rattle.command_words.specs.Grammar.{Name, Text, Low, High, Rack, Hold, Block, Float, Loops, Json, spelling, is_flag, name_of}
 use Rattle.command_words.proofs.Rules.{Spot, first, second, third, shape, rule, spot_rule, spot_id, spot_at, by_long, by_index, takes_its_value, rule_id}
 
 -- there is a fault
@@ -261,5 +261,6 @@ value_move h High p word is flag = rw (is.other, is.long, is.short) refl
 value_move h Rack p word is flag = rw (is.other, is.long, is.short) refl
 value_move h Hold p word is flag = rw (is.other, is.long, is.short) refl
 value_move h Block p word is flag = rw (is.other, is.long, is.short) refl
+value_move h Float p word is flag = rw (is.other, is.long, is.short) refl
 value_move h Loops p word is flag = absurd (true≢false flag)
 value_move h Json p word is flag = absurd (true≢false flag)

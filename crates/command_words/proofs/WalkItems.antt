@@ -7,7 +7,7 @@ use Rattle.std.proofs.lemmas.Bool.{false≢true, true≢false}
 use Rattle.clap.specs.Walk.{Held, Row, all_of, has_row, settled, used}
 use Rattle.clap.specs.Faults.{repeat_fault, settle_fault}
 use Rattle.clap.specs.declared.builder.value_parser.Reading.{Reading}
-use Rattle.command_words.specs.Grammar.{Name, Text, Item, Flag, Setting, Place, are_distinct, is_flag, names_in, places_in, same_name, spelling, value_in, Low, High, Rack, Hold, Block, Loops, Json}
+use Rattle.command_words.specs.Grammar.{Name, Text, Item, Flag, Setting, Place, are_distinct, is_flag, names_in, places_in, same_name, spelling, value_in, Low, High, Rack, Hold, Block, Float, Loops, Json}
 use Rattle.command_words.proofs.Rules.{Spot, first, second, third, rule, shape, spot_at, spot_id, spot_rule}
 use Rattle.command_words.proofs.Rows.{added_row, fresh, has_row_is, names_apart, names_in_more, once, or_first, place_added, places_in_more, row, spots_apart, stands_is, value_in_more}
 use Rattle.command_words.proofs.Turns.{next_place}
@@ -121,6 +121,7 @@ option_used High v rows flag none = (_, fresh _ _ v rows none)
 option_used Rack v rows flag none = (_, fresh _ _ v rows none)
 option_used Hold v rows flag none = (_, fresh _ _ v rows none)
 option_used Block v rows flag none = (_, fresh _ _ v rows none)
+option_used Float v rows flag none = (_, fresh _ _ v rows none)
 option_used Loops v rows flag none = absurd (true≢false flag)
 option_used Json v rows flag none = absurd (true≢false flag)
 
@@ -134,6 +135,7 @@ flag_used High rows flag none = absurd (false≢true flag)
 flag_used Rack rows flag none = absurd (false≢true flag)
 flag_used Hold rows flag none = absurd (false≢true flag)
 flag_used Block rows flag none = absurd (false≢true flag)
+flag_used Float rows flag none = absurd (false≢true flag)
 
 -- nor is a positional word without a row
 pub spot_used : (s : Spot) (w : Text) (rows : List Row) → has_row (spot_id s) rows ≡ false

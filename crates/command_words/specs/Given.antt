@@ -4,7 +4,7 @@ use Rattle.std.specs.Prelude.{List, [], ◌∷◌, length, Option, Some, None, i
 use Rattle.std.specs.Str.{bytes_eq}
 use Rattle.std.specs.List.{list_any}
 use Rattle.std.specs.Borrow.{Bor}
-use Rattle.command_words.specs.Grammar.{Item, Name, Low, High, Rack, Hold, Block, Loops, Json, Text}
+use Rattle.command_words.specs.Grammar.{Item, Name, Low, High, Rack, Hold, Block, Float, Loops, Json, Text}
 use Rattle.command_words.specs.Grammar.{are_distinct, begins_with_hyphen, is_flag, names_in, places_in, value_in}
 use Rattle.command_words.specs.Numbers.{number_or_none}
 use Rattle.command_words.specs.Request.{Parts}
@@ -42,6 +42,7 @@ pub record IsGiven (items : List Item) (given : Given) : Type 0 where
   pub rack : now_of given.rack ≡ value_in Rack items
   pub hold : now_of given.hold ≡ value_in Hold items
   pub block : now_of given.block ≡ value_in Block items
+  pub float : now_of given.float ≡ value_in Float items
   pub loops : given.loops ≡ is_some (value_in Loops items)
   pub json : given.json ≡ is_some (value_in Json items)
   pub first : now_of given.first ≡ slice_get (places_in items) 0
@@ -51,8 +52,8 @@ pub record IsGiven (items : List Item) (given : Given) : Type 0 where
 -- `IsLawful` as a test of what is found
 abbrev pub are_lawful : Given → Bool
 are_lawful g = number_or_none (now_of g.low) && (number_or_none (now_of g.high) && (number_or_none (now_of g.rack)
-    && (number_or_none (now_of g.hold) && (number_or_none (now_of g.block)
-    && (plain_or_none (now_of g.first) && (plain_or_none (now_of g.second) && plain_or_none (now_of g.third)))))))
+    && (number_or_none (now_of g.hold) && (number_or_none (now_of g.block) && (number_or_none (now_of g.float)
+    && (plain_or_none (now_of g.first) && (plain_or_none (now_of g.second) && plain_or_none (now_of g.third))))))))
 
 -- the positional words; there is no later one without the first
 abbrev pub words_of : Option Text → Option Text → Option Text → List Text
@@ -70,6 +71,7 @@ parts_given g = record {
   rack = now_of g.rack;
   hold = now_of g.hold;
   block = now_of g.block;
+  float = now_of g.float;
   loops = g.loops;
   json = g.json;
   words = words_of (now_of g.first) (now_of g.second) (now_of g.third);
@@ -77,4 +79,4 @@ parts_given g = record {
 
 -- a limit of the machine is among the parts
 abbrev pub has_limits : Parts → Bool
-has_limits parts = is_some parts.low || (is_some parts.high || (is_some parts.rack || is_some parts.hold))
+has_limits parts = is_some parts.low || (is_some parts.high || (is_some parts.rack || (is_some parts.hold || is_some parts.float)))

@@ -7,7 +7,7 @@ use Rattle.machine_profile.specs.declared.Options.{Options}
 use Rattle.command_words.specs.declared.command.Command.{Command}
 use Rattle.command_words.specs.declared.command.Command.TheVariants.{Check, Text, Passes, Live, Make}
 use Rattle.command_words.specs.declared.command.Request.{Request}
-use Rattle.command_words.specs.Grammar.{Item, Name, Low, High, Rack, Hold, Block, Loops, Json, all_names}
+use Rattle.command_words.specs.Grammar.{Item, Name, Low, High, Rack, Hold, Block, Float, Loops, Json, all_names}
 use Rattle.command_words.specs.Grammar.{are_distinct, begins_with_hyphen, items_of, names_in, places_in, value_in}
 use Rattle.command_words.specs.Numbers.{count_of, number_of, number_or_none}
 
@@ -18,6 +18,7 @@ pub record Parts : Type 0 where
   pub rack : Option (List ℕ)
   pub hold : Option (List ℕ)
   pub block : Option (List ℕ)
+  pub float : Option (List ℕ)
   pub loops : Bool
   pub json : Bool
   pub words : List (List ℕ)
@@ -30,6 +31,7 @@ parts_of items = record {
   rack = value_in Rack items;
   hold = value_in Hold items;
   block = value_in Block items;
+  float = value_in Float items;
   loops = is_some (value_in Loops items);
   json = is_some (value_in Json items);
   words = places_in items;
@@ -42,15 +44,17 @@ stands parts High = is_some parts.high
 stands parts Rack = is_some parts.rack
 stands parts Hold = is_some parts.hold
 stands parts Block = is_some parts.block
+stands parts Float = is_some parts.float
 stands parts Loops = parts.loops
 stands parts Json = parts.json
 
--- the four limits of the machine
+-- the five limits of the machine
 abbrev pub is_limit : Name → Bool
 is_limit Low = true
 is_limit High = true
 is_limit Rack = true
 is_limit Hold = true
+is_limit Float = true
 is_limit _ = false
 
 -- the size of a block
@@ -119,11 +123,12 @@ options_of parts = record {
   rack = option_and_then number_of parts.rack;
   hold = option_and_then number_of parts.hold;
   block = option_and_then number_of parts.block;
+  float = option_and_then number_of parts.float;
 }
 
 -- the value of each option is a number
 abbrev pub has_numbers : Parts → Bool
-has_numbers parts = list_all number_or_none (parts.low ∷ parts.high ∷ parts.rack ∷ parts.hold ∷ parts.block ∷ [])
+has_numbers parts = list_all number_or_none (parts.low ∷ parts.high ∷ parts.rack ∷ parts.hold ∷ parts.block ∷ parts.float ∷ [])
 
 -- no option and no flag stands twice, no positional word begins with `-`, and the value of each option is a number
 abbrev pub is_lawful : List Item → Bool

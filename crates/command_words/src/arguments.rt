@@ -48,7 +48,7 @@ fn bare<'a>(alloc: Global) -> Command<'a>
         .disable_help_flag(true)
 }
 
-/// The command whose words are read: five options, two flags and three positional words.
+/// The command whose words are read: six options, two flags and three positional words.
 pub fn reader<'a>(alloc: Global) -> Result<Command<'a>, AllocError>
     ensures { IfOk result (λ c. app_of c ≡ check_app) }
 {
@@ -57,7 +57,8 @@ pub fn reader<'a>(alloc: Global) -> Result<Command<'a>, AllocError>
     let rack = adding_option(high, alloc, "rack")?;
     let hold = adding_option(rack, alloc, "hold")?;
     let block = adding_option(hold, alloc, "block")?;
-    let loops = adding_flag(block, alloc, "loops")?;
+    let float = adding_option(block, alloc, "float")?;
+    let loops = adding_flag(float, alloc, "loops")?;
     let json = adding_flag(loops, alloc, "json")?;
     let word = adding_place(json, alloc, "command")?;
     let rows = adding_place(word, alloc, "rows")?;

@@ -20,6 +20,7 @@ pub struct Given<'a> {
     pub rack: Option<&'a str>,
     pub hold: Option<&'a str>,
     pub block: Option<&'a str>,
+    pub float: Option<&'a str>,
     pub loops: bool,
     pub json: bool,
     pub first: Option<&'a str>,
@@ -52,6 +53,7 @@ fn parsed<'a>(alloc: Global, words: &'a [String]) -> Result<Given<'a>, WordFault
         rack: matches.get_str("rack"),
         hold: matches.get_str("hold"),
         block: matches.get_str("block"),
+        float: matches.get_str("float"),
         loops: is_set(&matches, "loops"),
         json: is_set(&matches, "json"),
         first: matches.get_str("command"),
@@ -89,6 +91,7 @@ fn is_lawful(given: &Given<'_>) -> bool
         && is_numeral_or_none(given.rack)
         && is_numeral_or_none(given.hold)
         && is_numeral_or_none(given.block)
+        && is_numeral_or_none(given.float)
         && is_plain_or_none(given.first)
         && is_plain_or_none(given.second)
         && is_plain_or_none(given.third)

@@ -82,6 +82,7 @@ fn options_in(given: &Given<'_>) -> Options
         rack: number_in(given.rack),
         hold: number_in(given.hold),
         block: number_in(given.block),
+        float: number_in(given.float),
     }
 }
 
@@ -89,7 +90,11 @@ fn options_in(given: &Given<'_>) -> Options
 fn has_limit(given: &Given<'_>) -> bool
     ensures { result ≡ has_limits (parts_given given.now) }
 {
-    given.low.is_some() || given.high.is_some() || given.rack.is_some() || given.hold.is_some()
+    given.low.is_some()
+        || given.high.is_some()
+        || given.rack.is_some()
+        || given.hold.is_some()
+        || given.float.is_some()
 }
 
 /// Whether each option that stands goes with the command.

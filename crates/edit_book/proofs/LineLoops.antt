@@ -46,8 +46,8 @@ run_ends profile s u k [] ys ends =
     let same : s ≡ u = cc in
     ap (λ t. run profile t k ys) same ∙ ap (λ n. run profile u n ys) (let e : k ≡ k + 0 = omega arith in e)
 run_ends profile s u k (x ∷ xs) ys ends =
-    goes_on k (broken profile x s) s u (run profile (step k x s) (k + 1) xs) (run profile (step k x s) (k + 1) (xs ++ ys)) (run profile u (k + length (x ∷ xs)) ys) ends
-    (λ later. run_ends profile (step k x s) u (k + 1) xs ys later ∙ ap (λ n. run profile u n ys) (let e : k + 1 + length xs ≡ k + length (x ∷ xs) = omega arith in e))
+    goes_on k (broken profile x s) s u (run profile (step profile k x s) (k + 1) xs) (run profile (step profile k x s) (k + 1) (xs ++ ys)) (run profile u (k + length (x ∷ xs)) ys) ends
+    (λ later. run_ends profile (step profile k x s) u (k + 1) xs ys later ∙ ap (λ n. run profile u n ys) (let e : k + 1 + length xs ≡ k + length (x ∷ xs) = omega arith in e))
 
 stays : (k : ℕ) (o : Option Reason) (s u : State) (fault : Fault) (rest both : Ended) → run_on k o s rest ≡ Stops u fault → (rest ≡ Stops u fault → both ≡ Stops u fault) → run_on k o s both ≡ Stops u fault
 stays k None s u fault rest both stops later = later stops
@@ -56,7 +56,7 @@ stays k (Some reason) s u fault rest both stops later = stops
 pub run_stops : (profile : Profile) (s u : State) (fault : Fault) (k : ℕ) (xs ys : List Read) → run profile s k xs ≡ Stops u fault → run profile s k (xs ++ ys) ≡ Stops u fault
 run_stops profile s u fault k [] ys stops = absurd (cc)
 run_stops profile s u fault k (x ∷ xs) ys stops =
-    stays k (broken profile x s) s u fault (run profile (step k x s) (k + 1) xs) (run profile (step k x s) (k + 1) (xs ++ ys)) stops (λ later. run_stops profile (step k x s) u fault (k + 1) xs ys later)
+    stays k (broken profile x s) s u fault (run profile (step profile k x s) (k + 1) xs) (run profile (step profile k x s) (k + 1) (xs ++ ys)) stops (λ later. run_stops profile (step profile k x s) u fault (k + 1) xs ys later)
 
 -- no line behind the fault makes a loop
 made_stays : (k : ℕ) (o : Option Reason) (s u : State) (fault : Fault) (rest : Ended) (fact : Option LoopFact) (made both : List LoopFact) → run_on k o s rest ≡ Stops u fault
@@ -67,8 +67,8 @@ made_stays k (Some reason) s u fault rest fact made both stops later = refl
 pub loops_stop : (profile : Profile) (s u : State) (fault : Fault) (k : ℕ) (xs ys : List Read) → run profile s k xs ≡ Stops u fault → loops_made profile s k (xs ++ ys) ≡ loops_made profile s k xs
 loops_stop profile s u fault k [] ys stops = absurd (cc)
 loops_stop profile s u fault k (x ∷ xs) ys stops =
-    made_stays k (broken profile x s) s u fault (run profile (step k x s) (k + 1) xs) (fact_made k x s) (loops_made profile (step k x s) (k + 1) xs) (loops_made profile (step k x s) (k + 1) (xs ++ ys)) stops
-    (λ later. loops_stop profile (step k x s) u fault (k + 1) xs ys later)
+    made_stays k (broken profile x s) s u fault (run profile (step profile k x s) (k + 1) xs) (fact_made k x s) (loops_made profile (step profile k x s) (k + 1) xs) (loops_made profile (step profile k x s) (k + 1) (xs ++ ys)) stops
+    (λ later. loops_stop profile (step profile k x s) u fault (k + 1) xs ys later)
 
 -- the loop of a line among those of two texts
 among_both : (line : ℕ) (first second : List LoopFact) → fact_of line second ≡ None → fact_of line (first ++ second) ≡ fact_of line first
@@ -88,7 +88,7 @@ among_second line (f ∷ first) second none = go (f.line == line) none (among_se
 pub behind_lines : (profile : Profile) (s : State) (k line : ℕ) (rs : List Read) → k + length rs ≤ line → fact_of line (loops_made profile s k rs) ≡ None
 behind_lines profile s k line [] late = refl
 behind_lines profile s k line (r ∷ rs) late =
-    made_on-other k line (broken profile r s) (fact_made k r s) (loops_made profile (step k r s) (k + 1) rs) (fact_made-line k r s) (λ e. omega arith) (behind_lines profile (step k r s) (k + 1) line rs (omega arith))
+    made_on-other k line (broken profile r s) (fact_made k r s) (loops_made profile (step profile k r s) (k + 1) rs) (fact_made-line k r s) (λ e. omega arith) (behind_lines profile (step profile k r s) (k + 1) line rs (omega arith))
 
 -- nor does a line at the fault or behind it
 faulted_at : (k line : ℕ) (o : Option Reason) (s u : State) (fault : Fault) (rest : Ended) (fact : Option LoopFact) (later : List LoopFact) → IfSome fact (IsOfLine k) → run_on k o s rest ≡ Stops u fault
@@ -101,10 +101,10 @@ faulted_at k line (Some reason) s u fault rest fact later named stops late rest_
 pub behind_fault : (profile : Profile) (s u : State) (fault : Fault) (k line : ℕ) (rs : List Read) → run profile s k rs ≡ Stops u fault → fault.line ≤ line → fact_of line (loops_made profile s k rs) ≡ None
 behind_fault profile s u fault k line [] stops late = refl
 behind_fault profile s u fault k line (r ∷ rs) stops late =
-    faulted_at k line (broken profile r s) s u fault (run profile (step k r s) (k + 1) rs) (fact_made k r s) (loops_made profile (step k r s) (k + 1) rs) (fact_made-line k r s) stops late
+    faulted_at k line (broken profile r s) s u fault (run profile (step profile k r s) (k + 1) rs) (fact_made k r s) (loops_made profile (step profile k r s) (k + 1) rs) (fact_made-line k r s) stops late
     (λ rest. (
-      (subst (StopsAmong (k + 1) (length rs)) rest (stops_among profile (step k r s) (k + 1) rs)).0,
-      behind_fault profile (step k r s) u fault (k + 1) line rs rest late,
+      (subst (StopsAmong (k + 1) (length rs)) rest (stops_among profile (step profile k r s) (k + 1) rs)).0,
+      behind_fault profile (step profile k r s) u fault (k + 1) line rs rest late,
     ))
 
 -- the block in which a line stands, and the state in which it begins

@@ -4,13 +4,14 @@
 //! has changed; that the journal grows by the one entry exactly where an edit is accepted; that an edit tells the verdict on the
 //! document after it, and `verdict` that on the document as it is, which `whole_verdict` tells whole; that a put of a block for which
 //! `ready` holds isn't refused for want of memory; and how many steps a call takes at most: an edit by the needles that are named and
-//! the height of the tree, whatever the number of lines, and the loop of a line 14. Sessions share a book by turns, each of which is right (`specs/Turns`).
+//! the height of the tree, whatever the number of lines, and the loop of a line 14. Sessions share a book by turns, each of which is
+//! right (`specs/Turns`).
 //!
 //! Definitions: `specs/Replies` (what is asked, and the one reply), `specs/Verdicts` (the verdict in short, and the loop of a line; the
 //! verdict itself is defined in `block_summary`, `specs/Verdicts`), `specs/Work` (how many steps a request may take), `specs/Orders` and
 //! `specs/Books` (what contracts see of a book, and what always holds of one), `specs/Opened` (what is kept of the first blocks) and
-//! `specs/Entered` (the state in which a block begins). Below it stand std, `knit_base`, `carriage_model`, `knitout_reader`, `face_data`, `loop_history`, `block_summary`,
-//! `edit_journal`, `turn_book` and the tree of faces.
+//! `specs/Entered` (the state in which a block begins). Below it stand std, `knit_base`, `carriage_model`, `knitout_reader`, `face_data`,
+//! `loop_history`, `block_summary`, `edit_journal`, `turn_book` and the tree of faces.
 #![tactic(auto)]
 
 mod add;

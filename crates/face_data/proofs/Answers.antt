@@ -3,13 +3,15 @@ use Rattle.std.proofs.Common.{◌≡◌, ℕ, ◌+◌, ◌-◌, ◌≤◌, ◌<�
 use Rattle.std.specs.Prelude.{nat_eq, nat_le, nat_lt, if◌then◌else◌, ℤ, unwrap_or}
 use Rattle.std.specs.Ordering.{int_eq}
 use Rattle.std.proofs.lemmas.Bool.{le-leb, lt-leb, leb-true, leb-false, ltb-true, ltb-false, lt-ltb, le-ltb}
-use Rattle.carriage_model.specs.State.{State}
+use Rattle.carriage_model.specs.State.{State, is_near}
+use Rattle.face_data.specs.declared.face.Last.{Last}
+use Rattle.face_data.specs.Lasts.{last_at}
 use Rattle.knit_base.specs.Yarns.{contains_carrier, without_set}
 use Rattle.face_data.specs.Conditions.{Ask, size_of, holds}
 use Rattle.face_data.specs.Segments.{Changed, names_through, new_through}
 use Rattle.face_data.specs.Summaries.{after, rack_after}
-use Rattle.face_data.specs.Conditions.Ask.{rack_is, carrier_in, carrier_out, hook_free, hook_is, hook_lacks, size_at_most}
-use Rattle.face_data.specs.Answers.{Answer, answer_of, size_left, size_answer, where_known, read_answer}
+use Rattle.face_data.specs.Conditions.Ask.{rack_is, carrier_in, carrier_out, hook_free, hook_is, hook_lacks, size_at_most, last_near}
+use Rattle.face_data.specs.Answers.{Answer, answer_of, size_left, size_answer, where_known, near_answer, read_answer}
 use Rattle.face_data.specs.Answers.Answer.{yes_it_does, no_it_does_not, asks}
 use Rattle.knit_base.specs.declared.yarns.CarrierNo.{CarrierNo}
 use Rattle.face_data.proofs.SizeConditions.{size-now}
@@ -19,9 +21,9 @@ use Rattle.face_data.specs.declared.face.Effect.{Effect}
 use Rattle.knit_base.specs.declared.instr.Quarter.{Quarter}
 
 -- how many loops the needles hold after the first block
-pub size_of-through : (s : State) (first : ℕ) (e : Effect) (a : List Changed) (names : List Needle) →
-    size_of names (after e a s first) ≡ size_of (names_through a names) s + new_through a names
-size_of-through s first e a names = size-now a s (after e a s first) first names (λ n. refl)
+pub size_of-through : (s : State) (first : ℕ) (e : Effect) (la : List Last) (a : List Changed) (names : List Needle) →
+    size_of names (after e la a s first) ≡ size_of (names_through a names) s + new_through a names
+size_of-through s first e la a names = size-now a s (after e la a s first) first names (λ n. refl)
 
 -- what an answer says in the state at the first block's entry
 unfoldable pub meaning : Answer → State → Bool
@@ -90,24 +92,30 @@ out_meaning false true false q s e = refl
 out_meaning false false true q s e = e
 out_meaning false false false q s e = e
 
-has-after : (e : Effect) (a : List Changed) (s : State) (first : ℕ) (c : CarrierNo) →
-    contains_carrier (after e a s first).ins c ≡ ((contains_carrier s.ins c && not (contains_carrier e.went c)) || contains_carrier e.came c)
-has-after e a s first c =
+has-after : (e : Effect) (la : List Last) (a : List Changed) (s : State) (first : ℕ) (c : CarrierNo) →
+    contains_carrier (after e la a s first).ins c ≡ ((contains_carrier s.ins c && not (contains_carrier e.went c)) || contains_carrier e.came c)
+has-after e la a s first c =
     has-bit_or (without_set s.ins e.went) e.came c ∙ ap (λ b. b || contains_carrier e.came c) (has-without s.ins e.went c)
 
+near_meaning : (o : Option (Option ℤ)) (old : Option ℤ) (q : Ask) (at : ℤ) (float : ℕ) (s : State) → meaning (asks q) s ≡ is_near float old at →
+    meaning (near_answer o q at float) s ≡ is_near float (unwrap_or o old) at
+near_meaning None old q at float s e = e
+near_meaning (Some last) old q at float s e = meaning-answer_of (is_near float last at) s
+
 -- What a condition says after the first block is what its answer says at the entry.
-pub read_answer_meaning : (e : Effect) (a : List Changed) (q : Ask) (s : State) (first : ℕ) →
-    meaning (read_answer e a q) s ≡ holds q (after e a s first)
+pub read_answer_meaning : (e : Effect) (la : List Last) (a : List Changed) (q : Ask) (s : State) (first : ℕ) →
+    meaning (read_answer e la a q) s ≡ holds q (after e la a s first)
 unfolding read_answer meaning
-read_answer_meaning e a (rack_is q) s first = rack_meaning e.rack q s.rack s refl
-read_answer_meaning e a (carrier_in c) s first = in_meaning (contains_carrier e.came c) (contains_carrier e.went c) (contains_carrier s.ins c) (carrier_in c) s refl ∙ sym (has-after e a s first c)
-read_answer_meaning e a (carrier_out c) s first = out_meaning (contains_carrier e.came c) (contains_carrier e.went c) (contains_carrier s.ins c) (carrier_out c) s refl ∙ ap not (sym (has-after e a s first c))
-read_answer_meaning e a hook_free s first = hook_meaning e.hook (λ h. nat_eq h 0) hook_free s refl
-read_answer_meaning e a (hook_is set) s first = hook_meaning e.hook (λ h. nat_eq h set) (hook_is set) s refl
-read_answer_meaning e a (hook_lacks c) s first = hook_meaning e.hook (λ h. not (contains_carrier h c)) (hook_lacks c) s refl
-read_answer_meaning e a (size_at_most names most) s first =
+read_answer_meaning e la a (rack_is q) s first = rack_meaning e.rack q s.rack s refl
+read_answer_meaning e la a (carrier_in c) s first = in_meaning (contains_carrier e.came c) (contains_carrier e.went c) (contains_carrier s.ins c) (carrier_in c) s refl ∙ sym (has-after e la a s first c)
+read_answer_meaning e la a (carrier_out c) s first = out_meaning (contains_carrier e.came c) (contains_carrier e.went c) (contains_carrier s.ins c) (carrier_out c) s refl ∙ ap not (sym (has-after e la a s first c))
+read_answer_meaning e la a hook_free s first = hook_meaning e.hook (λ h. nat_eq h 0) hook_free s refl
+read_answer_meaning e la a (hook_is set) s first = hook_meaning e.hook (λ h. nat_eq h set) (hook_is set) s refl
+read_answer_meaning e la a (hook_lacks c) s first = hook_meaning e.hook (λ h. not (contains_carrier h c)) (hook_lacks c) s refl
+read_answer_meaning e la a (size_at_most names most) s first =
     size_answer_meaning (names_through a names) (new_through a names) most s
-    ∙ ap (λ k. nat_le k most) (sym (size_of-through s first e a names))
+    ∙ ap (λ k. nat_le k most) (sym (size_of-through s first e la a names))
+read_answer_meaning e la a (last_near c at float) s first = near_meaning (last_at la c) (s.lasts c) (last_near c at float) at float s refl
 
 size_decided : (names : List Needle) (new most : ℕ) (b : Bool) → nat_lt most new ≡ b → size_answer names new most ≡ (if b then no_it_does_not else size_left names (most - new))
 unfolding size_answer

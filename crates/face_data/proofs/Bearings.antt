@@ -1,5 +1,5 @@
 -- The second block's conditions, read through the first block and held against the conditions kept so far.
-use Rattle.std.proofs.Common.{◌≡◌, ℕ, Bool, true, false, not, ◌&&◌, List, [], ◌∷◌, refl, ap, ◌∙◌, subst, arith, inl, inr}
+use Rattle.std.proofs.Common.{◌≡◌, ℕ, Bool, true, false, not, ◌&&◌, List, [], ◌∷◌, refl, sym, ap, ◌∙◌, subst, arith, inl, inr}
 use Rattle.std.specs.Prelude.{nat_eq, nat_le, ℤ}
 use Rattle.std.specs.List.{Contains, list_any}
 use Rattle.std.specs.Int.{bit_at}
@@ -10,11 +10,11 @@ use Rattle.std.proofs.lemmas.Bool.Decides.{Decides-int_eq}
 use Rattle.std.proofs.lemmas.Nat.Bits.{bit_at-zero}
 use Rattle.std.proofs.Math.ListN.{length}
 use Rattle.std.proofs.lemmas.Map.Views.{Contains-from_any}
-use Rattle.carriage_model.specs.State.{State}
+use Rattle.carriage_model.specs.State.{State, is_near}
 use Rattle.knit_base.specs.Yarns.{contains_carrier}
 use Rattle.knit_base.specs.Needle.{same_needle, same_needle-true}
 use Rattle.face_data.specs.Conditions.{Ask, holds, size_of}
-use Rattle.face_data.specs.Conditions.Ask.{rack_is, carrier_in, carrier_out, hook_free, hook_is, hook_lacks, size_at_most}
+use Rattle.face_data.specs.Conditions.Ask.{rack_is, carrier_in, carrier_out, hook_free, hook_is, hook_lacks, size_at_most, last_near}
 use Rattle.face_data.specs.declared.bearing.Bearing.{Bearing}
 use Rattle.face_data.specs.Bearings.{bearing, if_so, same_or_not, all_in}
 use Rattle.face_data.specs.declared.bearing.Bearing.TheVariants.{Implied, Refuted, Silent}
@@ -69,6 +69,9 @@ not_same b = not-true b
 nothing : (c : CarrierNo) → not (contains_carrier 0 c) ≡ true
 nothing c = ap (λ b. not (nat_eq b 1)) (bit_at-zero c.0)
 
+same_test : (s : State) (c e : CarrierNo) (n m : ℤ) (f g : ℕ) → c.0 ≡ e.0 → n ≡ m → f ≡ g → is_near f (s.lasts c) n ≡ is_near g (s.lasts e) m
+same_test s c e n m f g same number float = λ i. is_near (float i) (s.lasts (record { 0 = same i })) (number i)
+
 -- What a condition that holds says of another is so.
 pub bearing_tells : (p q : Ask) (s : State) → NamesOnce q → holds p s ≡ true → Tells (bearing p q) (holds q s)
 unfolding bearing
@@ -89,4 +92,10 @@ bearing_tells (size_at_most earlier least) (size_at_most later most) s d h =
     tells_if_so (all_in later earlier && nat_le least most) Implied (nat_le (size_of later s) most)
     (λ k. let both = and_parts (all_in later earlier) (nat_le least most) k in
     le-leb (size_of later s) most (omega (arith, sum_within (λ n. length (s.stacks n)) later earlier d (all_in_within later earlier both.0), leb-true (size_of earlier s) least h, leb-true least most both.1)))
+bearing_tells (last_near c n f) (last_near e m g) s d h =
+    tells_if_so (nat_eq c.0 e.0 && (int_eq n m && nat_eq f g)) Implied (is_near g (s.lasts e) m)
+    (λ k.
+    let one = and_parts (nat_eq c.0 e.0) (int_eq n m && nat_eq f g) k in
+    let two = and_parts (int_eq n m) (nat_eq f g) one.1 in
+    sym (same_test s c e n m f g (eqb-true c.0 e.0 one.0) ((Decides-int_eq n m).0 two.0) (eqb-true f g two.1)) ∙ h)
 bearing_tells p q s d h = tt

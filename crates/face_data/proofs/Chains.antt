@@ -17,7 +17,7 @@ use Rattle.face_data.specs.Bearings.{bearing, if_so, all_in}
 use Rattle.face_data.specs.Chains.{marks_in, chain_at, covers, chain_bearing}
 use Rattle.face_data.specs.Composition.{from_bearing, settled}
 use Rattle.face_data.specs.Conditions.{Ask}
-use Rattle.face_data.specs.Conditions.Ask.{rack_is, carrier_in, carrier_out, hook_free, hook_is, hook_lacks, size_at_most}
+use Rattle.face_data.specs.Conditions.Ask.{rack_is, carrier_in, carrier_out, hook_free, hook_is, hook_lacks, size_at_most, last_near}
 use Rattle.face_data.specs.Goodness.{OwnsOnce, LiesIn, names_in}
 use Rattle.face_data.specs.Segments.{names_through}
 use Rattle.face_data.specs.Sets.{IsDistinct, IsWithin, NestedOrApart}
@@ -91,6 +91,7 @@ bearing-marks (carrier_out x) n names most distinct distinct_earlier nested = re
 bearing-marks hook_free n names most distinct distinct_earlier nested = refl
 bearing-marks (hook_is x) n names most distinct distinct_earlier nested = refl
 bearing-marks (hook_lacks x) n names most distinct distinct_earlier nested = refl
+bearing-marks (last_near c at float) n names most distinct distinct_earlier nested = refl
 
 implied_either : (a b : Bool) (rest : Answer) → from_bearing (if_so a Implied) (from_bearing (if_so b Implied) rest) ≡ from_bearing (if_so (a || b) Implied) rest
 implied_either true b rest = refl
@@ -115,10 +116,10 @@ settled-sizes (c ∷ cs) n names most distinct each nested =
 -- a kept condition, and one of the second block read through the first
 pub kept_nested : (e : Effect) (a b : Summary) → OwnsOnce a.changes → ((c : Asked) → Contains a.checks c → LiesIn a.changes (names_in c.ask)) →
     ((c d : Asked) → Contains b.checks c → Contains b.checks d → NestedOrApart (names_in c.ask) (names_in d.ask)) →
-    (c d : Asked) → ComesFrom e a.changes a.lines a.checks b.checks c → Contains b.checks d → NestedOrApart (names_in c.ask) (names_through a.changes (names_in d.ask))
+    (c d : Asked) → ComesFrom e a.lasts a.changes a.lines a.checks b.checks c → Contains b.checks d → NestedOrApart (names_in c.ask) (names_through a.changes (names_in d.ask))
 kept_nested e a b owns lies nested c d (inl here) there = nested_or_apart_through a.changes (names_in c.ask) (names_in d.ask) owns (lies c here)
 kept_nested e a b owns lies nested c d (inr from) there =
-    subst (λ names. NestedOrApart names (names_through a.changes (names_in d.ask))) (sym (names_read e a.changes from.0.ask c.ask from.2))
+    subst (λ names. NestedOrApart names (names_through a.changes (names_in d.ask))) (sym (names_read e a.lasts a.changes from.0.ask c.ask from.2))
     (nested_through a.changes (names_in from.0.ask) (names_in d.ask) owns (nested from.0 d from.1 there))
 
 -- the chains with one condition more

@@ -23,8 +23,11 @@ use Rattle.knit_base.specs.declared.rule.Fault.{Fault}
 use Rattle.face_data.specs.declared.face.Effect.{Effect}
 use Rattle.face_data.specs.declared.face.Ending.{Ending}
 use Rattle.face_data.specs.declared.face.Ending.TheVariants.{Through, Broken}
-use Rattle.face_data.specs.Composition.{reads, merged, or_old, effect_of_both, ending_after, changes_with, closed_at, closed, composed_at, composed, and_then}
+use Rattle.face_data.specs.Composition.{reads, merged, or_old, effect_of_both, ending_after, changes_with, lasts_with, closed_at, closed, composed_at, composed, and_then}
+use Rattle.face_data.specs.declared.face.Last.{Last}
+use Rattle.face_data.specs.Lasts.{AreInOrder, lasts_of_both}
 use Rattle.face_data.specs.Goodness.{IsInOrder}
+use Rattle.face_data.proofs.LastLists.{after-both_lasts}
 
 rack_of_both : (r q : Option Quarter) (old : ℤ) → rack_after (or_old r q) old ≡ rack_after r (rack_after q old)
 rack_of_both None q old = refl
@@ -89,25 +92,26 @@ ins_of_both x in1 out1 in2 out2 = same_members _ _ (λ c.
     ∙ sym (has_after (bit_or (without_set x out1) in1) in2 out2 c ∙ ap (λ p. (p && not (contains_carrier out2 c)) || contains_carrier in2 c) (has_after x in1 out1 c)))
 
 -- The state after both effects and the merged changes is the state after the one and then the other.
-pub after-both : (e f : Effect) (a b : List Changed) (lines : ℕ) (s : State) (first : ℕ) → IsInOrder b →
-    after (effect_of_both e f) (merged a (changes_through a lines b)) s first ≡ after f b (after e a s first) (first + lines)
-after-both e f a b lines s first order =
-    let stacks : (n : Needle) → read_segs s first (segments_on (merged a (changes_through a lines b)) n) ≡ read_segs (after e a s first) (first + lines) (segments_on b n)
+pub after-both : (e f : Effect) (la lb : List Last) (a b : List Changed) (lines : ℕ) (s : State) (first : ℕ) → IsInOrder b → AreInOrder lb →
+    after (effect_of_both e f) (lasts_of_both la lb) (merged a (changes_through a lines b)) s first ≡ after f lb b (after e la a s first) (first + lines)
+after-both e f la lb a b lines s first order lasts_order =
+    let stacks : (n : Needle) → read_segs s first (segments_on (merged a (changes_through a lines b)) n) ≡ read_segs (after e la a s first) (first + lines) (segments_on b n)
     = λ n. ap (read_segs s first) (segments_on-both a b lines n order) ∙ read-through s first lines a (segments_on b n) in
     λ i. record {
       rack = rack_of_both f.rack e.rack s.rack i;
       ins = ins_of_both s.ins e.came e.went f.came f.went i;
       hook = hook_of_both f.hook e.hook s.hook i;
+      lasts = λ c. after-both_lasts la lb s.lasts c lasts_order i;
       stacks = λ n. stacks n i;
     }
 
 abbrev closing : Option Fault → Effect → Summary → Summary → State → ℕ → Outcome
 closing (Some f) e a b s first = faulted (raised first f)
 closing None e a b s first =
-    outcome_of None (ending_after a.lines e b.ending) (changes_with b.ending (merged a.changes (changes_through a.changes a.lines b.changes))) s first
+    outcome_of None (ending_after a.lines e b.ending) (lasts_with b.ending (lasts_of_both a.lasts b.lasts)) (changes_with b.ending (merged a.changes (changes_through a.changes a.lines b.changes))) s first
 
 closed_outcome : (o stop : Option Fault) (checks : List Asked) (e : Effect) (a b : Summary) (s : State) (first : ℕ) →
-    outcome_of o (closed_at stop checks e a b).ending (closed_at stop checks e a b).changes s first ≡ closing (or_else o stop) e a b s first
+    outcome_of o (closed_at stop checks e a b).ending (closed_at stop checks e a b).lasts (closed_at stop checks e a b).changes s first ≡ closing (or_else o stop) e a b s first
 closed_outcome (Some g) (Some f) checks e a b s first = refl
 closed_outcome None (Some f) checks e a b s first = refl
 closed_outcome (Some g) None checks e a b s first = refl
@@ -120,46 +124,46 @@ checks_closed None checks e a b = refl
 raised_twice : (first lines : ℕ) (f : Fault) → raised first (raised lines f) ≡ raised (first + lines) f
 raised_twice first lines f = λ i. record f { line = sym (add_assoc first lines f.line) i }
 
-ending_both : (ending : Ending) (e : Effect) (a b : Summary) (s : State) (first : ℕ) → IsInOrder b.changes →
-    outcome_of None (ending_after a.lines e ending) (changes_with ending (merged a.changes (changes_through a.changes a.lines b.changes))) s first
-    ≡ outcome_of None ending b.changes (after e a.changes s first) (first + a.lines)
-ending_both (Broken f) e a b s first order = ap faulted (raised_twice first a.lines f)
-ending_both (Through f) e a b s first order = ap went_on (after-both e f a.changes b.changes a.lines s first order)
+ending_both : (ending : Ending) (e : Effect) (a b : Summary) (s : State) (first : ℕ) → IsInOrder b.changes → AreInOrder b.lasts →
+    outcome_of None (ending_after a.lines e ending) (lasts_with ending (lasts_of_both a.lasts b.lasts)) (changes_with ending (merged a.changes (changes_through a.changes a.lines b.changes))) s first
+    ≡ outcome_of None ending b.lasts b.changes (after e a.lasts a.changes s first) (first + a.lines)
+ending_both (Broken f) e a b s first order lasts = ap faulted (raised_twice first a.lines f)
+ending_both (Through f) e a b s first order lasts = ap went_on (after-both e f a.lasts b.lasts a.changes b.changes a.lines s first order lasts)
 
-closing_both : (oa ob : Option Fault) (e : Effect) (a b : Summary) (s : State) (first : ℕ) → IsInOrder b.changes →
-    first_fault b.checks (after e a.changes s first) ≡ ob →
+closing_both : (oa ob : Option Fault) (e : Effect) (a b : Summary) (s : State) (first : ℕ) → IsInOrder b.changes → AreInOrder b.lasts →
+    first_fault b.checks (after e a.lasts a.changes s first) ≡ ob →
     closing (or_else oa (option_map (raised a.lines) ob)) e a b s first
-    ≡ and_then (outcome_of oa (Through e) a.changes s first) (λ t. applied b t (first + a.lines))
-closing_both (Some f) ob e a b s first order is = refl
-closing_both None (Some g) e a b s first order is =
+    ≡ and_then (outcome_of oa (Through e) a.lasts a.changes s first) (λ t. applied b t (first + a.lines))
+closing_both (Some f) ob e a b s first order lasts is = refl
+closing_both None (Some g) e a b s first order lasts is =
     ap faulted (raised_twice first a.lines g)
-    ∙ sym (ap (λ o. outcome_of o b.ending b.changes (after e a.changes s first) (first + a.lines)) is)
-closing_both None None e a b s first order is =
-    ending_both b.ending e a b s first order
-    ∙ sym (ap (λ o. outcome_of o b.ending b.changes (after e a.changes s first) (first + a.lines)) is)
+    ∙ sym (ap (λ o. outcome_of o b.ending b.lasts b.changes (after e a.lasts a.changes s first) (first + a.lines)) is)
+closing_both None None e a b s first order lasts is =
+    ending_both b.ending e a b s first order lasts
+    ∙ sym (ap (λ o. outcome_of o b.ending b.lasts b.changes (after e a.lasts a.changes s first) (first + a.lines)) is)
 
 -- what the second block's conditions are read_seg through
 abbrev pub AllNameOnceThrough : Ending → Summary → Summary → Type 0
 AllNameOnceThrough (Broken f) a b = Unit {0}
-AllNameOnceThrough (Through e) a b = AllNameOnce e a.changes b.checks
+AllNameOnceThrough (Through e) a b = AllNameOnce e a.lasts a.changes b.checks
 
-stays_broken : (o : Option Fault) (f : Fault) (cs : List Changed) (s : State) (first : ℕ) (go : State → Outcome) →
-    outcome_of o (Broken f) [] s first ≡ and_then (outcome_of o (Broken f) cs s first) go
-stays_broken (Some g) f cs s first go = refl
-stays_broken None f cs s first go = refl
+stays_broken : (o : Option Fault) (f : Fault) (la : List Last) (cs : List Changed) (s : State) (first : ℕ) (go : State → Outcome) →
+    outcome_of o (Broken f) [] [] s first ≡ and_then (outcome_of o (Broken f) la cs s first) go
+stays_broken (Some g) f la cs s first go = refl
+stays_broken None f la cs s first go = refl
 
-composed_applied_at : (ending : Ending) (a b : Summary) (s : State) (first : ℕ) → IsInOrder b.changes → AllNameOnceThrough ending a b →
+composed_applied_at : (ending : Ending) (a b : Summary) (s : State) (first : ℕ) → IsInOrder b.changes → AreInOrder b.lasts → AllNameOnceThrough ending a b →
     applied (composed_at ending a b) s first
-    ≡ and_then (outcome_of (first_fault a.checks s) ending a.changes s first) (λ t. applied b t (first + a.lines))
-composed_applied_at (Broken f) a b s first order plain = stays_broken (first_fault a.checks s) f a.changes s first (λ t. applied b t (first + a.lines))
-composed_applied_at (Through e) a b s first order plain =
-    let k = reads e a.changes a.lines a.checks b.checks in
-    ap (λ cs. outcome_of (first_fault cs s) (closed k e a b).ending (closed k e a b).changes s first) (checks_closed k.stop k.checks e a b)
+    ≡ and_then (outcome_of (first_fault a.checks s) ending a.lasts a.changes s first) (λ t. applied b t (first + a.lines))
+composed_applied_at (Broken f) a b s first order lasts plain = stays_broken (first_fault a.checks s) f a.lasts a.changes s first (λ t. applied b t (first + a.lines))
+composed_applied_at (Through e) a b s first order lasts plain =
+    let k = reads e a.lasts a.changes a.lines a.checks b.checks in
+    ap (λ cs. outcome_of (first_fault cs s) (closed k e a b).ending (closed k e a b).lasts (closed k e a b).changes s first) (checks_closed k.stop k.checks e a b)
     ∙ closed_outcome (first_fault k.checks s) k.stop k.checks e a b s first
-    ∙ ap (λ o. closing o e a b s first) (reads_fault e a.changes a.lines a.checks b.checks s first plain)
-    ∙ closing_both (first_fault a.checks s) (first_fault b.checks (after e a.changes s first)) e a b s first order refl
+    ∙ ap (λ o. closing o e a b s first) (reads_fault e a.lasts a.changes a.lines a.checks b.checks s first plain)
+    ∙ closing_both (first_fault a.checks s) (first_fault b.checks (after e a.lasts a.changes s first)) e a b s first order lasts refl
 
 -- Composition is running one after the other, with the first fault kept.
-pub composed_applied : (a b : Summary) (s : State) (first : ℕ) → IsInOrder b.changes → AllNameOnceThrough a.ending a b →
+pub composed_applied : (a b : Summary) (s : State) (first : ℕ) → IsInOrder b.changes → AreInOrder b.lasts → AllNameOnceThrough a.ending a b →
     applied (composed a b) s first ≡ and_then (applied a s first) (λ t. applied b t (first + a.lines))
-composed_applied a b s first order plain = composed_applied_at a.ending a b s first order plain
+composed_applied a b s first order lasts plain = composed_applied_at a.ending a b s first order lasts plain

@@ -12,13 +12,14 @@ use Rattle.face_data.specs.declared.bearing.Bearing.{Bearing}
 use Rattle.face_data.specs.declared.bearing.Bearing.TheVariants.{Implied, Refuted, Silent}
 use Rattle.face_data.specs.declared.digest.Digest.{Digest}
 use Rattle.face_data.specs.declared.face.Effect.{Effect}
+use Rattle.face_data.specs.declared.face.Last.{Last}
 use Rattle.face_data.specs.Answers.{Answer, answer_of, where_known, read_answer}
 use Rattle.face_data.specs.Segments.{Changed}
 use Rattle.face_data.specs.Answers.Answer.{yes_it_does, no_it_does_not, asks}
 use Rattle.face_data.specs.Bearings.{bearing, if_so, same_or_not}
 use Rattle.face_data.specs.Composition.{from_bearing, settled}
 use Rattle.face_data.specs.Conditions.{Ask}
-use Rattle.face_data.specs.Conditions.Ask.{rack_is, carrier_in, carrier_out, hook_free, hook_is, hook_lacks, size_at_most}
+use Rattle.face_data.specs.Conditions.Ask.{rack_is, carrier_in, carrier_out, hook_free, hook_is, hook_lacks, size_at_most, last_near}
 use Rattle.face_data.specs.Digests.{blank, noted, digest_of, bearing_by, digest_bearing, effect_bearing, IsPlainCondition}
 use Rattle.face_data.specs.Summaries.{Asked}
 use Rattle.face_data.specs.Goodness.{IsIrredundant}
@@ -115,7 +116,9 @@ same_carrier set c d none same = ap (λ i. nat_eq (bit_at set i) 1) (sym (eqb-tr
 pub digest_bearing-noted : (digest : Digest) (p q : Ask) → digest_bearing digest p ≡ Silent → IsPlainCondition q → digest_bearing (noted digest p) q ≡ or_said (digest_bearing digest q) (bearing p q)
 unfolding digest_bearing noted bearing
 digest_bearing-noted digest p (size_at_most names most) silence plain = absurd plain
+digest_bearing-noted digest p (last_near c at float) silence plain = absurd plain
 digest_bearing-noted digest (size_at_most names most) q silence plain = silent_last (digest_bearing digest q)
+digest_bearing-noted digest (last_near c at float) q silence plain = silent_last (digest_bearing digest q)
 digest_bearing-noted digest (rack_is x) (rack_is y) silence plain =
     known_now digest.rack (λ p. same_or_not (int_eq p.0 y)) (same_or_not (int_eq x y)) (not_known digest.rack (λ p. int_eq p.0 x) silence)
 digest_bearing-noted digest (carrier_in c) (carrier_in d) silence plain =
@@ -164,6 +167,7 @@ digest_bearing-blank hook_free = refl
 digest_bearing-blank (hook_is set) = refl
 digest_bearing-blank (hook_lacks c) = ap (λ n. if nat_eq n 1 then Implied else Silent) (bit_at-zero c.0)
 digest_bearing-blank (size_at_most names most) = refl
+digest_bearing-blank (last_near c at float) = refl
 
 -- the digest of conditions of which the digest so far says nothing, nor each of a later one
 said_so_far : (r s : Bearing) (rest : Answer) → from_bearing (or_said r s) rest ≡ from_bearing r (from_bearing s rest)
@@ -174,6 +178,7 @@ said_so_far Silent s rest = refl
 still_silent : (digest : Digest) (p q : Ask) → digest_bearing digest p ≡ Silent → digest_bearing digest q ≡ Silent → bearing p q ≡ Silent → digest_bearing (noted digest p) q ≡ Silent
 unfolding digest_bearing
 still_silent digest p (size_at_most names most) so_p so_q none = refl
+still_silent digest p (last_near c at float) so_p so_q none = refl
 still_silent digest p (rack_is x) so_p so_q none = digest_bearing-noted digest p (rack_is x) so_p tt ∙ ap₂ or_said so_q none
 still_silent digest p (carrier_in x) so_p so_q none = digest_bearing-noted digest p (carrier_in x) so_p tt ∙ ap₂ or_said so_q none
 still_silent digest p (carrier_out x) so_p so_q none = digest_bearing-noted digest p (carrier_out x) so_p tt ∙ ap₂ or_said so_q none
@@ -221,12 +226,13 @@ went_answer false true q = refl
 went_answer false false q = refl
 
 -- A condition that isn't on sizes, read through a block, is known by the block's effect, or left as it is.
-pub read-plain : (e : Effect) (changes : List Changed) (q : Ask) → IsPlainCondition q → read_answer e changes q ≡ from_bearing (effect_bearing e q) (asks q)
+pub read-plain : (e : Effect) (la : List Last) (changes : List Changed) (q : Ask) → IsPlainCondition q → read_answer e la changes q ≡ from_bearing (effect_bearing e q) (asks q)
 unfolding read_answer effect_bearing
-read-plain e changes (size_at_most names most) plain = absurd plain
-read-plain e changes (rack_is q) plain = known_answer e.rack (λ r. int_eq r.0 q) (rack_is q)
-read-plain e changes (carrier_in c) plain = came_answer (contains_carrier e.came c) (contains_carrier e.went c) (carrier_in c)
-read-plain e changes (carrier_out c) plain = went_answer (contains_carrier e.came c) (contains_carrier e.went c) (carrier_out c)
-read-plain e changes hook_free plain = known_answer e.hook (λ held. nat_eq held 0) hook_free
-read-plain e changes (hook_is set) plain = known_answer e.hook (λ held. nat_eq held set) (hook_is set)
-read-plain e changes (hook_lacks c) plain = known_answer e.hook (λ held. lacks_carrier held c) (hook_lacks c)
+read-plain e la changes (size_at_most names most) plain = absurd plain
+read-plain e la changes (last_near c at float) plain = absurd plain
+read-plain e la changes (rack_is q) plain = known_answer e.rack (λ r. int_eq r.0 q) (rack_is q)
+read-plain e la changes (carrier_in c) plain = came_answer (contains_carrier e.came c) (contains_carrier e.went c) (carrier_in c)
+read-plain e la changes (carrier_out c) plain = went_answer (contains_carrier e.came c) (contains_carrier e.went c) (carrier_out c)
+read-plain e la changes hook_free plain = known_answer e.hook (λ held. nat_eq held 0) hook_free
+read-plain e la changes (hook_is set) plain = known_answer e.hook (λ held. nat_eq held set) (hook_is set)
+read-plain e la changes (hook_lacks c) plain = known_answer e.hook (λ held. lacks_carrier held c) (hook_lacks c)

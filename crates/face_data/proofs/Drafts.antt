@@ -32,7 +32,7 @@ own_read s k n = append-nil (s.stacks n)
 
 -- no line does nothing
 pub no_lines-applied : (s : State) (k : ℕ) → applied no_lines s k ≡ went_on s
-no_lines-applied s k = ap went_on (λ i. record { rack = s.rack; ins = ins-nobody s.ins i; hook = s.hook; stacks = λ n. own_read s k n i })
+no_lines-applied s k = ap went_on (λ i. record { rack = s.rack; ins = ins-nobody s.ins i; hook = s.hook; lasts = s.lasts; stacks = λ n. own_read s k n i })
 
 -- the summary of no line stands for no line
 pub no_lines_stand : (profile : Profile) → StandsFor profile no_lines []
@@ -52,9 +52,12 @@ no_lines_good carriers limit known = record {
     within = λ c there. absurd (Contains-none c there);
     in_turn = tt;
     nested = λ c d there. absurd (Contains-none c there);
+    agree = λ c d there. absurd (Contains-none c there);
     in_order = tt;
     changes_fit = λ c there. absurd (Contains-none c there);
     owns = owns_nothing;
+    lasts_in_order = tt;
+    lasts_fit = λ l there. absurd (Contains-none l there);
     sizes = λ size small meets m. sizes_nothing limit size small m;
     ending = record {
       lies = λ c there. absurd (Contains-none c there);
@@ -62,6 +65,7 @@ no_lines_good carriers limit known = record {
       came = pow_pos carriers;
       went = pow_pos carriers;
       hook = tt;
+      nears = λ c there. absurd (Contains-none c there);
     };
   };
   irredundant = tt;

@@ -214,7 +214,7 @@ ins_told effect =
     ∙ ap (λ old. bit_or old effect.came) (sym (xor_zero_l 0) ∙ ap (bit_xor 0) (sym (and_zero_l effect.went)))
 
 -- the verdict of lines that go through
-pub sound_told : (summary : Summary) (effect : Effect) (first : ℕ) (stacks : List Stack) → applied summary empty_state first ≡ went_on (after effect summary.changes empty_state first) →
+pub sound_told : (summary : Summary) (effect : Effect) (first : ℕ) (stacks : List Stack) → applied summary empty_state first ≡ went_on (after effect summary.lasts summary.changes empty_state first) →
     stacks ≡ stacks_left first summary.changes →
     verdict.Sound (record { lines = summary.lines; made = summary.made; rack = unwrap_or effect.rack (record { 0 = pos 0 }); ins = effect.came; hook = unwrap_or effect.hook 0; stacks = stacks })
     ≡ verdict_of summary first
@@ -259,7 +259,7 @@ pub new_in_face : (face : FaceView) → IsPacked face → new_of face.segs.now �
 new_in_face face packed = ap new_of (sym packed.segs) ∙ sym (new_parts face.segs.now face.changes.now)
 
 -- the same in short
-pub brief_told : (face : FaceView) (effect : Effect) (first held : ℕ) → IsPacked face → applied (summary_of face) empty_state first ≡ went_on (after effect (summary_of face).changes empty_state first) →
+pub brief_told : (face : FaceView) (effect : Effect) (first held : ℕ) → IsPacked face → applied (summary_of face) empty_state first ≡ went_on (after effect (summary_of face).lasts (summary_of face).changes empty_state first) →
     held ≡ new_of face.segs.now →
     brief.Sound face.lines face.made held (unwrap_or effect.rack (record { 0 = pos 0 })) ≡ brief_of (verdict_of (summary_of face) first)
 brief_told face effect first held packed through is =

@@ -36,6 +36,7 @@ transfer at rack = record {
   made = 0;
   checks = map (asked_of (back (pos 1) ∷ front at ∷ [])) (checks rack);
   changes = (front at, []) ∷ (back (pos 1), Entry (back (pos 1)) ∷ Entry (front at) ∷ []) ∷ [];
+  lasts = [];
   ending = Through (record { rack = None; came = 0; went = 0; hook = None });
 }
 

@@ -14,6 +14,7 @@ use Rattle.face_data.specs.Bearings.{bearing}
 use Rattle.face_data.specs.declared.bearing.Bearing.TheVariants.{Implied, Refuted, Silent}
 use Rattle.face_data.proofs.Bearings.{bearing_tells, NamesOnce, Tells}
 use Rattle.face_data.specs.declared.face.Effect.{Effect}
+use Rattle.face_data.specs.declared.face.Last.{Last}
 use Rattle.knit_base.specs.declared.rule.Fault.{Fault}
 use Rattle.face_data.specs.Composition.{from_bearing, settled, against_kept, Gathering, next, reads}
 
@@ -79,18 +80,18 @@ next_stays (asks q) kept g go s f h ih =
     (first_fault-append kept (record { fault = g; ask = q } ∷ []) s
     ∙ ap (λ o. or_else o (first_fault (record { fault = g; ask = q } ∷ []) s)) h)
 
-reads_stays : (e : Effect) (a : List Changed) (lines : ℕ) (kept rest : List Asked) (s : State) (f : Fault) →
-    first_fault kept s ≡ Some f → fault_in (reads e a lines kept rest) s ≡ Some f
+reads_stays : (e : Effect) (la : List Last) (a : List Changed) (lines : ℕ) (kept rest : List Asked) (s : State) (f : Fault) →
+    first_fault kept s ≡ Some f → fault_in (reads e la a lines kept rest) s ≡ Some f
 unfolding reads
-reads_stays e a lines kept [] s f h = ap (λ o. or_else o None) h
-reads_stays e a lines kept (c ∷ cs) s f h =
-    next_stays (against_kept kept (read_answer e a c.ask)) kept (raised lines c.fault) (λ k. reads e a lines k cs) s f h
-    (λ k hk. reads_stays e a lines k cs s f hk)
+reads_stays e la a lines kept [] s f h = ap (λ o. or_else o None) h
+reads_stays e la a lines kept (c ∷ cs) s f h =
+    next_stays (against_kept kept (read_answer e la a c.ask)) kept (raised lines c.fault) (λ k. reads e la a lines k cs) s f h
+    (λ k hk. reads_stays e la a lines k cs s f hk)
 
 -- each condition that the second block adds is read_seg with distinct needles
-abbrev pub AllNameOnce : Effect → List Changed → List Asked → Type 0
-AllNameOnce e a [] = Unit {0}
-AllNameOnce e a (c ∷ cs) = AnswerNamesOnce (read_answer e a c.ask) × AllNameOnce e a cs
+abbrev pub AllNameOnce : Effect → List Last → List Changed → List Asked → Type 0
+AllNameOnce e la a [] = Unit {0}
+AllNameOnce e la a (c ∷ cs) = AnswerNamesOnce (read_answer e la a c.ask) × AllNameOnce e la a cs
 
 -- one condition, where those kept so far hold; `later` is what is then known of the rest
 next_none : (r : Answer) (kept : List Asked) (g : Fault) (go : List Asked → Gathering) (s : State) (t : Bool) (later : Option Fault) →
@@ -118,24 +119,24 @@ map_if : (b : Bool) (x : Option Fault) (f : Fault) (by : ℕ) → (if b then opt
 map_if true x f by = refl
 map_if false x f by = refl
 
-reads_none : (e : Effect) (a : List Changed) (lines : ℕ) (kept rest : List Asked) (s : State) (first : ℕ) → AllNameOnce e a rest →
-    first_fault kept s ≡ None → fault_in (reads e a lines kept rest) s ≡ option_map (raised lines) (first_fault rest (after e a s first))
+reads_none : (e : Effect) (la : List Last) (a : List Changed) (lines : ℕ) (kept rest : List Asked) (s : State) (first : ℕ) → AllNameOnce e la a rest →
+    first_fault kept s ≡ None → fault_in (reads e la a lines kept rest) s ≡ option_map (raised lines) (first_fault rest (after e la a s first))
 unfolding reads
-reads_none e a lines kept [] s first d h = ap (λ o. or_else o None) h
-reads_none e a lines kept (c ∷ cs) s first d h =
-    next_none (against_kept kept (read_answer e a c.ask)) kept (raised lines c.fault) (λ k. reads e a lines k cs) s
-    (holds c.ask (after e a s first)) (option_map (raised lines) (first_fault cs (after e a s first))) h
-    (against_kept_meaning kept (read_answer e a c.ask) s d.0 h ∙ read_answer_meaning e a c.ask s first)
-    (λ k hk. reads_none e a lines k cs s first d.1 hk)
-    (λ k hk. reads_stays e a lines k cs s (raised lines c.fault) hk)
-    ∙ map_if (holds c.ask (after e a s first)) (first_fault cs (after e a s first)) c.fault lines
+reads_none e la a lines kept [] s first d h = ap (λ o. or_else o None) h
+reads_none e la a lines kept (c ∷ cs) s first d h =
+    next_none (against_kept kept (read_answer e la a c.ask)) kept (raised lines c.fault) (λ k. reads e la a lines k cs) s
+    (holds c.ask (after e la a s first)) (option_map (raised lines) (first_fault cs (after e la a s first))) h
+    (against_kept_meaning kept (read_answer e la a c.ask) s d.0 h ∙ read_answer_meaning e la a c.ask s first)
+    (λ k hk. reads_none e la a lines k cs s first d.1 hk)
+    (λ k hk. reads_stays e la a lines k cs s (raised lines c.fault) hk)
+    ∙ map_if (holds c.ask (after e la a s first)) (first_fault cs (after e la a s first)) c.fault lines
 
 -- The conditions of both blocks, on the state at the first one's entry: the first fault of the first block, else the
 -- first of the second block in the state that the first one makes, its line raised.
-pub reads_fault : (e : Effect) (a : List Changed) (lines : ℕ) (kept rest : List Asked) (s : State) (first : ℕ) → AllNameOnce e a rest →
-    fault_in (reads e a lines kept rest) s ≡ or_else (first_fault kept s) (option_map (raised lines) (first_fault rest (after e a s first)))
-reads_fault e a lines kept rest s first d = go (first_fault kept s) refl
+pub reads_fault : (e : Effect) (la : List Last) (a : List Changed) (lines : ℕ) (kept rest : List Asked) (s : State) (first : ℕ) → AllNameOnce e la a rest →
+    fault_in (reads e la a lines kept rest) s ≡ or_else (first_fault kept s) (option_map (raised lines) (first_fault rest (after e la a s first)))
+reads_fault e la a lines kept rest s first d = go (first_fault kept s) refl
   where
-    go : (o : Option Fault) → first_fault kept s ≡ o → fault_in (reads e a lines kept rest) s ≡ or_else o (option_map (raised lines) (first_fault rest (after e a s first)))
-    go None h = reads_none e a lines kept rest s first d h
-    go (Some f) h = reads_stays e a lines kept rest s f h
+    go : (o : Option Fault) → first_fault kept s ≡ o → fault_in (reads e la a lines kept rest) s ≡ or_else o (option_map (raised lines) (first_fault rest (after e la a s first)))
+    go None h = reads_none e la a lines kept rest s first d h
+    go (Some f) h = reads_stays e la a lines kept rest s f h

@@ -1,21 +1,26 @@
 -- A good summary, and that two good ones compose to a good one.
 use Rattle.std.proofs.Common.{◌≡◌, ℕ, ◌+◌, ◌-◌, ◌^◌, ◌≤◌, ◌<◌, Bool, true, false, not, ◌&&◌, ◌||◌, List, [], ◌∷◌, ◌++◌, Option, Some, None, refl, sym, ap, ◌∙◌, subst, arith, inl, inr, ◌⊎◌, length}
-use Rattle.std.specs.Prelude.{if◌then◌else◌, nat_lt, bit_or, bit_and, IfSome}
+use Rattle.std.specs.Prelude.{ℤ, if◌then◌else◌, nat_lt, bit_or, bit_and, IfSome, is_some}
+use Rattle.std.proofs.lemmas.Bool.{false≢true}
 use Rattle.std.proofs.lemmas.Nat.{or_lt, xor_lt, and_le_l}
 use Rattle.std.specs.List.{Contains, sum_by}
 use Rattle.std.proofs.lemmas.List.Elements.{Contains-append_left, Contains-append_right, Contains-append_cases, Contains-push_cases}
 use Rattle.std.specs.declared.cmp.Ordering.{Ordering}
 use Rattle.std.specs.declared.cmp.Ordering.TheVariants.{Less, Equal, Greater}
 use Rattle.std.specs.List.Sorted.{IsStrictlySortedBy}
-use Rattle.carriage_model.specs.State.{State}
+use Rattle.carriage_model.specs.State.{State, is_near}
+use Rattle.knit_base.specs.declared.yarns.CarrierNo.{CarrierNo}
+use Rattle.face_data.specs.declared.face.Last.{Last}
+use Rattle.face_data.specs.Lasts.{last_at, lasts_of_both}
+use Rattle.face_data.proofs.LastLists.{last_at-both, members_both, or_last, order_both}
 use Rattle.knit_base.specs.Yarns.{contains_carrier, without_set}
 use Rattle.knit_base.specs.Needle.{needle_cmp}
 use Rattle.face_data.specs.Conditions.{Ask}
 use Rattle.face_data.specs.Summaries.{Asked, Summary, raised, applied}
 use Rattle.face_data.specs.Segments.{Changed, segments_on, names_through, new_through, entries_of, new_of}
-use Rattle.face_data.specs.Conditions.Ask.{rack_is, carrier_in, carrier_out, hook_free, hook_is, hook_lacks, size_at_most}
+use Rattle.face_data.specs.Conditions.Ask.{rack_is, carrier_in, carrier_out, hook_free, hook_is, hook_lacks, size_at_most, last_near}
 use Rattle.face_data.specs.Through.{through, changes_through, change_through}
-use Rattle.face_data.specs.Answers.{Answer, read_answer, size_answer, size_left, where_known, answer_of}
+use Rattle.face_data.specs.Answers.{Answer, read_answer, size_answer, size_left, near_answer, where_known, answer_of}
 use Rattle.face_data.specs.Answers.Answer.{yes_it_does, no_it_does_not, asks}
 use Rattle.face_data.proofs.Members.{Contains-none, Contains-head, Contains-tail, Contains-cons_cases}
 use Rattle.face_data.proofs.Bearings.{NamesOnce}
@@ -32,8 +37,8 @@ use Rattle.face_data.specs.declared.face.Ending.TheVariants.{Through, Broken}
 use Rattle.face_data.specs.declared.face.Seg.{Seg}
 use Rattle.face_data.specs.declared.face.Seg.TheVariants.{Entry, New}
 use Rattle.face_data.specs.Sets.{IsWithin, IsApart, NestedOrApart}
-use Rattle.face_data.specs.Composition.{or_old, Gathering, reads, against_kept, next, merged, merged_from, by_order, composed, composed_at, closed_at, effect_of_both, ending_after, made_with, changes_with, and_then}
-use Rattle.face_data.specs.Goodness.{entries_on, OwnsOnce, LiesIn, IsIrredundant, size_after, AskFits, names_in, NeverFalls, ChangeFits, BrokenFits, ThroughFits, EndingFits, IsGood, IsFair}
+use Rattle.face_data.specs.Composition.{or_old, Gathering, reads, against_kept, next, merged, merged_from, by_order, composed, composed_at, closed_at, effect_of_both, ending_after, made_with, changes_with, lasts_with, and_then}
+use Rattle.face_data.specs.Goodness.{entries_on, OwnsOnce, LiesIn, IsIrredundant, size_after, AskFits, names_in, NeverFalls, AgreeOnLast, IsSet, ChangeFits, BrokenFits, ThroughFits, EndingFits, IsGood, IsFair}
 
 where_known_asks : {X : Type 0} (o : Option X) (test : X → Bool) (q w : Ask) → where_known o test q ≡ asks w → w ≡ q
 where_known_asks None test q w e = cc
@@ -65,16 +70,25 @@ size_asks names new most w e = go (nat_lt most new) e
     go true e = absurd (cc)
     go false e = left_asks names (most - new) w e
 
+near_asks : (o : Option (Option ℤ)) (q : Ask) (at : ℤ) (float : ℕ) (w : Ask) → near_answer o q at float ≡ asks w → (w ≡ q) × (o ≡ None)
+near_asks None q at float w e = (cc, refl)
+near_asks (Some last) q at float w e = absurd (go (is_near float last at) e)
+  where
+    go : (b : Bool) → answer_of b ≡ asks w → ⊥
+    go true e = cc
+    go false e = cc
+
 -- the names of what is left are the names, read_seg through the first block
-pub names_read : (e : Effect) (a : List Changed) (q w : Ask) → read_answer e a q ≡ asks w → names_in w ≡ names_through a (names_in q)
+pub names_read : (e : Effect) (la : List Last) (a : List Changed) (q w : Ask) → read_answer e la a q ≡ asks w → names_in w ≡ names_through a (names_in q)
 unfolding read_answer
-names_read e a (rack_is x) w h = ap names_in (where_known_asks e.rack _ (rack_is x) w h)
-names_read e a (carrier_in x) w h = ap names_in (in_asks (contains_carrier e.came x) (contains_carrier e.went x) (carrier_in x) w h)
-names_read e a (carrier_out x) w h = ap names_in (out_asks (contains_carrier e.came x) (contains_carrier e.went x) (carrier_out x) w h)
-names_read e a hook_free w h = ap names_in (where_known_asks e.hook _ hook_free w h)
-names_read e a (hook_is x) w h = ap names_in (where_known_asks e.hook _ (hook_is x) w h)
-names_read e a (hook_lacks x) w h = ap names_in (where_known_asks e.hook _ (hook_lacks x) w h)
-names_read e a (size_at_most names most) w h = ap names_in (size_asks (names_through a names) (new_through a names) most w h).0
+names_read e la a (rack_is x) w h = ap names_in (where_known_asks e.rack _ (rack_is x) w h)
+names_read e la a (carrier_in x) w h = ap names_in (in_asks (contains_carrier e.came x) (contains_carrier e.went x) (carrier_in x) w h)
+names_read e la a (carrier_out x) w h = ap names_in (out_asks (contains_carrier e.came x) (contains_carrier e.went x) (carrier_out x) w h)
+names_read e la a hook_free w h = ap names_in (where_known_asks e.hook _ hook_free w h)
+names_read e la a (hook_is x) w h = ap names_in (where_known_asks e.hook _ (hook_is x) w h)
+names_read e la a (hook_lacks x) w h = ap names_in (where_known_asks e.hook _ (hook_lacks x) w h)
+names_read e la a (last_near c at float) w h = ap names_in (near_asks (last_at la c) (last_near c at float) at float w h).0
+names_read e la a (size_at_most names most) w h = ap names_in (size_asks (names_through a names) (new_through a names) most w h).0
 
 -- entries are known needles
 held_known : (a : List Changed) (lines : ℕ) (known : List Needle) → ((c : Changed) → Contains a c → ChangeFits lines known c) →
@@ -95,16 +109,17 @@ within_known a lines first second xs fit w n h =
     ]
 
 -- a condition read through the first block fits
-pub asks_fit_read : (carriers limit : ℕ) (first second : List Needle) (e : Effect) (a : List Changed) (lines : ℕ) (q w : Ask) → OwnsOnce a →
-    ((c : Changed) → Contains a c → ChangeFits lines first c) → AskFits carriers limit second q → read_answer e a q ≡ asks w → AskFits carriers limit (first ++ second) w
+pub asks_fit_read : (carriers limit : ℕ) (first second : List Needle) (e : Effect) (la : List Last) (a : List Changed) (lines : ℕ) (q w : Ask) → OwnsOnce a →
+    ((c : Changed) → Contains a c → ChangeFits lines first c) → AskFits carriers limit second q → read_answer e la a q ≡ asks w → AskFits carriers limit (first ++ second) w
 unfolding read_answer
-asks_fit_read carriers limit first second e a lines (rack_is x) w o fit h is = subst (AskFits carriers limit (first ++ second)) (sym (where_known_asks e.rack _ (rack_is x) w is)) tt
-asks_fit_read carriers limit first second e a lines (carrier_in x) w o fit h is = subst (AskFits carriers limit (first ++ second)) (sym (in_asks (contains_carrier e.came x) (contains_carrier e.went x) (carrier_in x) w is)) h
-asks_fit_read carriers limit first second e a lines (carrier_out x) w o fit h is = subst (AskFits carriers limit (first ++ second)) (sym (out_asks (contains_carrier e.came x) (contains_carrier e.went x) (carrier_out x) w is)) h
-asks_fit_read carriers limit first second e a lines hook_free w o fit h is = subst (AskFits carriers limit (first ++ second)) (sym (where_known_asks e.hook _ hook_free w is)) tt
-asks_fit_read carriers limit first second e a lines (hook_is x) w o fit h is = subst (AskFits carriers limit (first ++ second)) (sym (where_known_asks e.hook _ (hook_is x) w is)) h
-asks_fit_read carriers limit first second e a lines (hook_lacks x) w o fit h is = subst (AskFits carriers limit (first ++ second)) (sym (where_known_asks e.hook _ (hook_lacks x) w is)) h
-asks_fit_read carriers limit first second e a lines (size_at_most names most) w o fit h is =
+asks_fit_read carriers limit first second e la a lines (rack_is x) w o fit h is = subst (AskFits carriers limit (first ++ second)) (sym (where_known_asks e.rack _ (rack_is x) w is)) tt
+asks_fit_read carriers limit first second e la a lines (carrier_in x) w o fit h is = subst (AskFits carriers limit (first ++ second)) (sym (in_asks (contains_carrier e.came x) (contains_carrier e.went x) (carrier_in x) w is)) h
+asks_fit_read carriers limit first second e la a lines (carrier_out x) w o fit h is = subst (AskFits carriers limit (first ++ second)) (sym (out_asks (contains_carrier e.came x) (contains_carrier e.went x) (carrier_out x) w is)) h
+asks_fit_read carriers limit first second e la a lines hook_free w o fit h is = subst (AskFits carriers limit (first ++ second)) (sym (where_known_asks e.hook _ hook_free w is)) tt
+asks_fit_read carriers limit first second e la a lines (hook_is x) w o fit h is = subst (AskFits carriers limit (first ++ second)) (sym (where_known_asks e.hook _ (hook_is x) w is)) h
+asks_fit_read carriers limit first second e la a lines (hook_lacks x) w o fit h is = subst (AskFits carriers limit (first ++ second)) (sym (where_known_asks e.hook _ (hook_lacks x) w is)) h
+asks_fit_read carriers limit first second e la a lines (last_near c at float) w o fit h is = subst (AskFits carriers limit (first ++ second)) (sym (near_asks (last_at la c) (last_near c at float) at float w is).0) h
+asks_fit_read carriers limit first second e la a lines (size_at_most names most) w o fit h is =
     let left = size_asks (names_through a names) (new_through a names) most w is in
     let at_most : most - new_through a names ≤ limit = omega (arith, h.at_most) in
     subst (AskFits carriers limit (first ++ second)) (sym left.0) (record {
@@ -122,6 +137,7 @@ plain_from_fit carriers limit known (carrier_out x) h = tt
 plain_from_fit carriers limit known hook_free h = tt
 plain_from_fit carriers limit known (hook_is x) h = tt
 plain_from_fit carriers limit known (hook_lacks x) h = tt
+plain_from_fit carriers limit known (last_near c at float) h = tt
 
 plain_answer : (r : Answer) → ((w : Ask) → r ≡ asks w → NamesOnce w) → AnswerNamesOnce r
 plain_answer yes_it_does h = tt
@@ -129,13 +145,13 @@ plain_answer no_it_does_not h = tt
 plain_answer (asks q) h = h q refl
 
 -- each condition of the second block is read with distinct needles
-pub all_plain : (carriers limit : ℕ) (first second : List Needle) (e : Effect) (a : List Changed) (lines : ℕ) (rest : List Asked) → OwnsOnce a →
-    ((c : Changed) → Contains a c → ChangeFits lines first c) → ((c : Asked) → Contains rest c → AskFits carriers limit second c.ask) → AllNameOnce e a rest
-all_plain carriers limit first second e a lines [] o fit h = tt
-all_plain carriers limit first second e a lines (c ∷ cs) o fit h = (
-  plain_answer (read_answer e a c.ask) (λ w is. plain_from_fit carriers limit (first ++ second) w
-      (asks_fit_read carriers limit first second e a lines c.ask w o fit (h c (Contains-head c cs)) is)),
-  all_plain carriers limit first second e a lines cs o fit (λ d there. h d (Contains-tail c cs d there)),
+pub all_plain : (carriers limit : ℕ) (first second : List Needle) (e : Effect) (la : List Last) (a : List Changed) (lines : ℕ) (rest : List Asked) → OwnsOnce a →
+    ((c : Changed) → Contains a c → ChangeFits lines first c) → ((c : Asked) → Contains rest c → AskFits carriers limit second c.ask) → AllNameOnce e la a rest
+all_plain carriers limit first second e la a lines [] o fit h = tt
+all_plain carriers limit first second e la a lines (c ∷ cs) o fit h = (
+  plain_answer (read_answer e la a c.ask) (λ w is. plain_from_fit carriers limit (first ++ second) w
+      (asks_fit_read carriers limit first second e la a lines c.ask w o fit (h c (Contains-head c cs)) is)),
+  all_plain carriers limit first second e la a lines cs o fit (λ d there. h d (Contains-tail c cs d there)),
 )
 
 -- no check is of a later line
@@ -158,15 +174,15 @@ pub record InTurn (k : Gathering) : Type 0 where
   pub stops_last : (stop_at : Fault) → k.stop ≡ Some stop_at → (c : Asked) → Contains k.checks c → c.fault.line ≤ stop_at.line
 
 -- the lines of the conditions that are kept do not fall
-pub reads_in_turn : (e : Effect) (a : List Changed) (lines : ℕ) (kept rest : List Asked) → NeverFalls kept → NotPast kept lines rest → NeverFalls rest →
-    InTurn (reads e a lines kept rest)
+pub reads_in_turn : (e : Effect) (la : List Last) (a : List Changed) (lines : ℕ) (kept rest : List Asked) → NeverFalls kept → NotPast kept lines rest → NeverFalls rest →
+    InTurn (reads e la a lines kept rest)
 unfolding reads
-reads_in_turn e a lines kept [] h past turn = record { in_turn = h; stops_last = λ stop_at is c there. absurd (cc) }
-reads_in_turn e a lines kept (d ∷ ds) h past turn =
-    go (against_kept kept (read_answer e a d.ask)) (λ ks k p. reads_in_turn e a lines ks ds k p turn.1)
+reads_in_turn e la a lines kept [] h past turn = record { in_turn = h; stops_last = λ stop_at is c there. absurd (cc) }
+reads_in_turn e la a lines kept (d ∷ ds) h past turn =
+    go (against_kept kept (read_answer e la a d.ask)) (λ ks k p. reads_in_turn e la a lines ks ds k p turn.1)
   where
-    go : (r : Answer) → ((ks : List Asked) → NeverFalls ks → NotPast ks lines ds → InTurn (reads e a lines ks ds)) →
-        InTurn (next r kept (raised lines d.fault) (λ k. reads e a lines k ds))
+    go : (r : Answer) → ((ks : List Asked) → NeverFalls ks → NotPast ks lines ds → InTurn (reads e la a lines ks ds)) →
+        InTurn (next r kept (raised lines d.fault) (λ k. reads e la a lines k ds))
     go yes_it_does ih = ih kept h (λ c x there later. past c x there (Contains-tail d ds x later))
     go no_it_does_not ih = record {
       in_turn = h;
@@ -180,17 +196,17 @@ reads_in_turn e a lines kept (d ∷ ds) h past turn =
         ])
 
 -- a known stop is the raised fault of a condition of the second block
-pub reads_stop : (e : Effect) (a : List Changed) (lines : ℕ) (kept rest : List Asked) (stop_at : Fault) → (reads e a lines kept rest).stop ≡ Some stop_at →
+pub reads_stop : (e : Effect) (la : List Last) (a : List Changed) (lines : ℕ) (kept rest : List Asked) (stop_at : Fault) → (reads e la a lines kept rest).stop ≡ Some stop_at →
     (d : Asked) × Contains rest d × (raised lines d.fault ≡ stop_at)
 unfolding reads
-reads_stop e a lines kept [] stop_at is = absurd (cc)
-reads_stop e a lines kept (d ∷ ds) stop_at is = go (against_kept kept (read_answer e a d.ask)) (λ ks i. reads_stop e a lines ks ds stop_at i) is
+reads_stop e la a lines kept [] stop_at is = absurd (cc)
+reads_stop e la a lines kept (d ∷ ds) stop_at is = go (against_kept kept (read_answer e la a d.ask)) (λ ks i. reads_stop e la a lines ks ds stop_at i) is
   where
     later : (x : Asked) × Contains ds x × (raised lines x.fault ≡ stop_at) → (x : Asked) × Contains (d ∷ ds) x × (raised lines x.fault ≡ stop_at)
     later w = (w.0, Contains-tail d ds w.0 w.1, w.2)
 
-    go : (r : Answer) → ((ks : List Asked) → (reads e a lines ks ds).stop ≡ Some stop_at → (x : Asked) × Contains ds x × (raised lines x.fault ≡ stop_at)) →
-        (next r kept (raised lines d.fault) (λ k. reads e a lines k ds)).stop ≡ Some stop_at → (x : Asked) × Contains (d ∷ ds) x × (raised lines x.fault ≡ stop_at)
+    go : (r : Answer) → ((ks : List Asked) → (reads e la a lines ks ds).stop ≡ Some stop_at → (x : Asked) × Contains ds x × (raised lines x.fault ≡ stop_at)) →
+        (next r kept (raised lines d.fault) (λ k. reads e la a lines k ds)).stop ≡ Some stop_at → (x : Asked) × Contains (d ∷ ds) x × (raised lines x.fault ≡ stop_at)
     go yes_it_does ih i = later (ih kept i)
     go no_it_does_not ih i = (d, Contains-head d ds, cc)
     go (asks w) ih i = later (ih (kept ++ record { fault = raised lines d.fault; ask = w } ∷ []) i)
@@ -278,6 +294,7 @@ asks_fit_more carriers limit first second (carrier_out x) h = h
 asks_fit_more carriers limit first second hook_free h = tt
 asks_fit_more carriers limit first second (hook_is x) h = h
 asks_fit_more carriers limit first second (hook_lacks x) h = h
+asks_fit_more carriers limit first second (last_near c at float) h = h
 
 -- no change owns nothing twice
 pub owns_nothing : OwnsOnce []
@@ -296,6 +313,46 @@ NestedOrApart-comm xs ys (inl w) = inr (inl w)
 NestedOrApart-comm xs ys (inr (inl w)) = inl w
 NestedOrApart-comm xs ys (inr (inr p)) = inr (inr (λ n h k. p n k h))
 
+-- a condition on a last needle that is left to ask is as it was, and the first block doesn't set that needle
+near_from : (e : Effect) (la : List Last) (a : List Changed) (q : Ask) (c : CarrierNo) (n : ℤ) (f : ℕ) → read_answer e la a q ≡ asks (last_near c n f) → (q ≡ last_near c n f) × (last_at la c ≡ None)
+unfolding read_answer
+near_from e la a (rack_is x) c n f h = absurd (let same = where_known_asks e.rack _ (rack_is x) (last_near c n f) h in cc)
+near_from e la a (carrier_in x) c n f h = absurd (let same = in_asks (contains_carrier e.came x) (contains_carrier e.went x) (carrier_in x) (last_near c n f) h in cc)
+near_from e la a (carrier_out x) c n f h = absurd (let same = out_asks (contains_carrier e.came x) (contains_carrier e.went x) (carrier_out x) (last_near c n f) h in cc)
+near_from e la a hook_free c n f h = absurd (let same = where_known_asks e.hook _ hook_free (last_near c n f) h in cc)
+near_from e la a (hook_is x) c n f h = absurd (let same = where_known_asks e.hook _ (hook_is x) (last_near c n f) h in cc)
+near_from e la a (hook_lacks x) c n f h = absurd (let same = where_known_asks e.hook _ (hook_lacks x) (last_near c n f) h in cc)
+near_from e la a (size_at_most names most) c n f h = absurd (let same = (size_asks (names_through a names) (new_through a names) most (last_near c n f) h).0 in cc)
+near_from e la a (last_near d m g) c n f h =
+    let both = near_asks (last_at la d) (last_near d m g) m g (last_near c n f) h in
+    let one : d ≡ c = cc in
+    (sym both.0, subst (λ x. last_at la x ≡ None) one both.1)
+
+agree_of : (p q : Ask) → ((c : CarrierNo) (n : ℤ) (f : ℕ) (d : CarrierNo) (m : ℤ) (g : ℕ) → p ≡ last_near c n f → q ≡ last_near d m g → c ≡ d → (n ≡ m) × (f ≡ g)) → AgreeOnLast p q
+agree_of (last_near c n f) (last_near d m g) h = h c n f d m g refl refl
+agree_of p q h = tt
+
+agree_in : (p q : Ask) (c : CarrierNo) (n : ℤ) (f : ℕ) (d : CarrierNo) (m : ℤ) (g : ℕ) → AgreeOnLast p q → p ≡ last_near c n f → q ≡ last_near d m g → c ≡ d → (n ≡ m) × (f ≡ g)
+agree_in p q c n f d m g h i j = subst (λ x. AgreeOnLast (last_near c n f) x) j (subst (λ x. AgreeOnLast x q) i h)
+
+set_of : (lasts : List Last) (w : Ask) → ((c : CarrierNo) (n : ℤ) (f : ℕ) → w ≡ last_near c n f → is_some (last_at lasts c) ≡ true) → IsSet lasts w
+set_of lasts (last_near c n f) h = h c n f refl
+set_of lasts w h = tt
+
+set_in : (lasts : List Last) (w : Ask) (c : CarrierNo) (n : ℤ) (f : ℕ) → IsSet lasts w → w ≡ last_near c n f → is_some (last_at lasts c) ≡ true
+set_in lasts w c n f h i = subst (IsSet lasts) i h
+
+not_set : (o : Option (Option ℤ)) → is_some o ≡ true → o ≡ None → ⊥
+not_set o some none = false≢true (sym (ap is_some none) ∙ some)
+
+some_first : (o p : Option (Option ℤ)) → is_some o ≡ true → is_some (or_last o p) ≡ true
+some_first None p e = absurd (false≢true e)
+some_first (Some x) p e = refl
+
+some_second : (o p : Option (Option ℤ)) → is_some p ≡ true → is_some (or_last o p) ≡ true
+some_second None p e = e
+some_second (Some x) p e = refl
+
 -- the conditions of both blocks
 pub record ChecksAreGood (carriers limit lines : ℕ) (known : List Needle) (checks : List Asked) : Type 0 where
   pub asks_fit : (c : Asked) → Contains checks c → AskFits carriers limit known c.ask
@@ -303,6 +360,7 @@ pub record ChecksAreGood (carriers limit lines : ℕ) (known : List Needle) (che
   pub in_turn : NeverFalls checks
   pub irredundant : IsIrredundant checks
   pub nested : (c d : Asked) → Contains checks c → Contains checks d → NestedOrApart (names_in c.ask) (names_in d.ask)
+  pub agree : (c d : Asked) → Contains checks c → Contains checks d → AgreeOnLast c.ask d.ask
 
 first_past : (a : Summary) (rest : List Asked) → ((c : Asked) → Contains a.checks c → c.fault.line < a.lines) → NotPast a.checks a.lines rest
 first_past a rest h c d there k = let before = h c there in omega arith
@@ -310,40 +368,54 @@ first_past a rest h c d there k = let before = h c there in omega arith
 -- the conditions of both blocks fit
 pub checks_fit_both : (carriers limit : ℕ) (first second : List Needle) (a b : Summary) (e : Effect) → IsGood carriers limit first a → IsFair carriers limit second b →
     ((c : Asked) → Contains a.checks c → LiesIn a.changes (names_in c.ask)) →
-    ChecksAreGood carriers limit (a.lines + b.lines) (first ++ second) (reads e a.changes a.lines a.checks b.checks).checks
-checks_fit_both carriers limit first second a b e ga gb lies =
-    let all = reads_members e a.changes a.lines a.checks b.checks in
+    ((c : Asked) → Contains a.checks c → IsSet a.lasts c.ask) →
+    ChecksAreGood carriers limit (a.lines + b.lines) (first ++ second) (reads e a.lasts a.changes a.lines a.checks b.checks).checks
+checks_fit_both carriers limit first second a b e ga gb lies nears =
+    let all = reads_members e a.lasts a.changes a.lines a.checks b.checks in
     record {
       asks_fit = λ c there. elim (all c there) [
         | inl here ↦ asks_fit_more carriers limit first second c.ask (ga.fair.asks_fit c here)
-        | inr d ↦ asks_fit_read carriers limit first second e a.changes a.lines d.0.ask c.ask ga.fair.owns ga.fair.changes_fit (gb.asks_fit d.0 d.1) d.2
+        | inr d ↦ asks_fit_read carriers limit first second e a.lasts a.changes a.lines d.0.ask c.ask ga.fair.owns ga.fair.changes_fit (gb.asks_fit d.0 d.1) d.2
       ];
       within = λ c there. elim (all c there) [
         | inl here ↦ (let before = ga.fair.within c here in omega arith)
         | inr d ↦ (let before = gb.within d.0 d.1 in let same : c.fault.line ≡ a.lines + d.0.fault.line = ap (λ (f : Fault). f.line) d.3 in omega arith)
       ];
-      in_turn = (reads_in_turn e a.changes a.lines a.checks b.checks ga.fair.in_turn (first_past a b.checks ga.fair.within) gb.in_turn).in_turn;
-      irredundant = reads_irredundant e a.changes a.lines a.checks b.checks ga.irredundant;
+      in_turn = (reads_in_turn e a.lasts a.changes a.lines a.checks b.checks ga.fair.in_turn (first_past a b.checks ga.fair.within) gb.in_turn).in_turn;
+      irredundant = reads_irredundant e a.lasts a.changes a.lines a.checks b.checks ga.irredundant;
       nested = λ c d here there. elim (all c here) [
         | inl ca ↦ elim (all d there) [
           | inl da ↦ ga.fair.nested c d ca da
-          | inr db ↦ subst (NestedOrApart (names_in c.ask)) (sym (names_read e a.changes db.0.ask d.ask db.2))
+          | inr db ↦ subst (NestedOrApart (names_in c.ask)) (sym (names_read e a.lasts a.changes db.0.ask d.ask db.2))
               (nested_or_apart_through a.changes (names_in c.ask) (names_in db.0.ask) ga.fair.owns (lies c ca))
         ]
         | inr cb ↦ elim (all d there) [
-          | inl da ↦ NestedOrApart-comm (names_in d.ask) (names_in c.ask) (subst (NestedOrApart (names_in d.ask)) (sym (names_read e a.changes cb.0.ask c.ask cb.2))
+          | inl da ↦ NestedOrApart-comm (names_in d.ask) (names_in c.ask) (subst (NestedOrApart (names_in d.ask)) (sym (names_read e a.lasts a.changes cb.0.ask c.ask cb.2))
               (nested_or_apart_through a.changes (names_in d.ask) (names_in cb.0.ask) ga.fair.owns (lies d da)))
-          | inr db ↦ subst (λ xs. NestedOrApart xs (names_in d.ask)) (sym (names_read e a.changes cb.0.ask c.ask cb.2))
-              (subst (NestedOrApart (names_through a.changes (names_in cb.0.ask))) (sym (names_read e a.changes db.0.ask d.ask db.2))
+          | inr db ↦ subst (λ xs. NestedOrApart xs (names_in d.ask)) (sym (names_read e a.lasts a.changes cb.0.ask c.ask cb.2))
+              (subst (NestedOrApart (names_through a.changes (names_in cb.0.ask))) (sym (names_read e a.lasts a.changes db.0.ask d.ask db.2))
               (nested_through a.changes (names_in cb.0.ask) (names_in db.0.ask) ga.fair.owns (gb.nested cb.0 db.0 cb.1 db.1)))
         ]
       ];
+      agree = λ c d here there. agree_of c.ask d.ask (λ x n f y m g p q same. elim (all c here) [
+        | inl ca ↦ elim (all d there) [
+          | inl da ↦ agree_in c.ask d.ask x n f y m g (ga.fair.agree c d ca da) p q same
+          | inr db ↦ absurd (not_set (last_at a.lasts x) (set_in a.lasts c.ask x n f (nears c ca) p)
+              (subst (λ z. last_at a.lasts z ≡ None) (sym same) (near_from e a.lasts a.changes db.0.ask y m g (db.2 ∙ ap asks q)).1))
+        ]
+        | inr cb ↦ elim (all d there) [
+          | inl da ↦ absurd (not_set (last_at a.lasts y) (set_in a.lasts d.ask y m g (nears d da) q)
+              (subst (λ z. last_at a.lasts z ≡ None) same (near_from e a.lasts a.changes cb.0.ask x n f (cb.2 ∙ ap asks p)).1))
+          | inr db ↦ agree_in cb.0.ask db.0.ask x n f y m g (gb.agree cb.0 db.0 cb.1 db.1)
+              (near_from e a.lasts a.changes cb.0.ask x n f (cb.2 ∙ ap asks p)).0 (near_from e a.lasts a.changes db.0.ask y m g (db.2 ∙ ap asks q)).0 same
+        ]
+      ]);
     }
 
 -- a summary that ends broken is good where its conditions are and the fault stands last
 broken_good : (carriers limit lines : ℕ) (known : List Needle) (checks : List Asked) (f : Fault) → ChecksAreGood carriers limit lines known checks →
     f.line < lines → ((c : Asked) → Contains checks c → c.fault.line ≤ f.line) →
-    IsGood carriers limit known (record { lines = lines; made = 0; checks = checks; changes = []; ending = Broken f })
+    IsGood carriers limit known (record { lines = lines; made = 0; checks = checks; changes = []; lasts = []; ending = Broken f })
 unfolding IsStrictlySortedBy
 broken_good carriers limit lines known checks f h before last = record {
   fair = record {
@@ -352,11 +424,14 @@ broken_good carriers limit lines known checks f h before last = record {
     within = h.within;
     in_turn = h.in_turn;
     nested = h.nested;
+    agree = h.agree;
     in_order = tt;
     changes_fit = λ c there. absurd (Contains-none c there);
     owns = owns_nothing;
+    lasts_in_order = tt;
+    lasts_fit = λ l there. absurd (Contains-none l there);
     sizes = λ size small meets m. sizes_nothing limit size small m;
-    ending = record { within = before; last = last; unchanged = refl; made = refl };
+    ending = record { within = before; last = last; unchanged = refl; no_lasts = refl; made = refl };
   };
   irredundant = h.irredundant;
 }
@@ -387,18 +462,19 @@ hook_within carriers None old h k = k
 hook_within carriers (Some set) old h k = h
 
 open_good : (carriers limit : ℕ) (first second : List Needle) (a b : Summary) (e f : Effect) → IsGood carriers limit first a → IsFair carriers limit second b →
-    ThroughFits carriers a e → ThroughFits carriers b f → (reads e a.changes a.lines a.checks b.checks).stop ≡ None →
+    ThroughFits carriers a e → ThroughFits carriers b f → (reads e a.lasts a.changes a.lines a.checks b.checks).stop ≡ None →
     IsGood carriers limit (first ++ second) (record {
       lines = a.lines + b.lines;
       made = a.made + b.made;
-      checks = (reads e a.changes a.lines a.checks b.checks).checks;
+      checks = (reads e a.lasts a.changes a.lines a.checks b.checks).checks;
       changes = merged a.changes (changes_through a.changes a.lines b.changes);
+      lasts = lasts_of_both a.lasts b.lasts;
       ending = Through (effect_of_both e f);
     })
 open_good carriers limit first second a b e f ga gb ta tb goes_on =
-    let h = checks_fit_both carriers limit first second a b e ga gb ta.lies in
-    let all = reads_members e a.changes a.lines a.checks b.checks in
-    let plain = all_plain carriers limit first second e a.changes a.lines b.checks ga.fair.owns ga.fair.changes_fit gb.asks_fit in
+    let h = checks_fit_both carriers limit first second a b e ga gb ta.lies ta.nears in
+    let all = reads_members e a.lasts a.changes a.lines a.checks b.checks in
+    let plain = all_plain carriers limit first second e a.lasts a.changes a.lines b.checks ga.fair.owns ga.fair.changes_fit gb.asks_fit in
     record {
       fair = record {
         made = (let p = ga.fair.made in let q = gb.made in omega arith);
@@ -406,15 +482,18 @@ open_good carriers limit first second a b e f ga gb ta tb goes_on =
         within = h.within;
         in_turn = h.in_turn;
         nested = h.nested;
+        agree = h.agree;
         in_order = order_merged a.changes (changes_through a.changes a.lines b.changes) ga.fair.in_order (order_through a.changes a.lines b.changes gb.in_order);
         changes_fit = members_merged (ChangeFits (a.lines + b.lines) (first ++ second)) a.changes (changes_through a.changes a.lines b.changes)
             (λ c there. change_fits_more first second a.lines b.lines c (ga.fair.changes_fit c there))
             (members_through (ChangeFits (a.lines + b.lines) (first ++ second)) a.changes a.lines b.changes
             (λ c there. change_fits_through a.changes first second a.lines b.lines c ga.fair.changes_fit (gb.changes_fit c there)));
         owns = OwnsOnce-both a.changes b.changes a.lines gb.in_order ga.fair.owns gb.owns;
+        lasts_in_order = order_both a.lasts b.lasts ga.fair.lasts_in_order;
+        lasts_fit = members_both (λ (l : Last). l.carrier.0 < carriers) a.lasts b.lasts ga.fair.lasts_fit gb.lasts_fit;
         sizes = λ size small meets m.
-            let middle = ga.fair.sizes size small (λ c there. meets c (reads_longer e a.changes a.lines a.checks b.checks c there)) in
-            let second_meets = reads_meets e a.changes a.lines a.checks b.checks size plain goes_on meets in
+            let middle = ga.fair.sizes size small (λ c there. meets c (reads_longer e a.lasts a.changes a.lines a.checks b.checks c there)) in
+            let second_meets = reads_meets e a.lasts a.changes a.lines a.checks b.checks size plain goes_on meets in
             let bound = gb.sizes (size_after a.changes size) middle second_meets m in
             subst (λ segs. sum_by size (entries_of segs) + new_of segs ≤ limit) (sym (segments_on-both a.changes b.changes a.lines m gb.in_order))
             (omega (
@@ -428,54 +507,62 @@ open_good carriers limit first second a b e f ga gb ta tb goes_on =
           lies = λ c there. LiesIn-both a.changes b.changes a.lines (names_in c.ask) gb.in_order (elim (all c there) [
             | inl here ↦ first_lies a.changes b.changes (names_in c.ask) ga.fair.owns (ta.lies c here)
             | inr d ↦ subst (λ xs. ((x : Needle) × IsWithin xs (names_through a.changes (entries_on b.changes x))) ⊎ ((x : Needle) → IsApart xs (names_through a.changes (entries_on b.changes x))))
-                (sym (names_read e a.changes d.0.ask c.ask d.2)) (second_lies a.changes b.changes (names_in d.0.ask) ga.fair.owns (tb.lies d.0 d.1))
+                (sym (names_read e a.lasts a.changes d.0.ask c.ask d.2)) (second_lies a.changes b.changes (names_in d.0.ask) ga.fair.owns (tb.lies d.0 d.1))
           ]);
           apart = λ c came. has_after e.went f.went f.came c ∙ both_apart (contains_carrier e.came c) (contains_carrier e.went c) (contains_carrier f.came c) (contains_carrier f.went c) (ta.apart c) (tb.apart c) (sym (has_after e.came f.came f.went c) ∙ came);
           came = came_within carriers e.came f.went f.came ta.came tb.came;
           went = came_within carriers e.went f.came f.went ta.went tb.went;
           hook = hook_within carriers f.hook e.hook tb.hook ta.hook;
+          nears = λ c there. set_of (lasts_of_both a.lasts b.lasts) c.ask (λ x n g p.
+              ap is_some (last_at-both a.lasts b.lasts x gb.lasts_in_order)
+              ∙ elim (all c there) [
+                | inl here ↦ some_second (last_at b.lasts x) (last_at a.lasts x) (set_in a.lasts c.ask x n g (ta.nears c here) p)
+                | inr d ↦ some_first (last_at b.lasts x) (last_at a.lasts x)
+                    (set_in b.lasts d.0.ask x n g (tb.nears d.0 d.1) (near_from e a.lasts a.changes d.0.ask x n g (d.2 ∙ ap asks p)).0)
+              ]);
         };
       };
       irredundant = h.irredundant;
     }
 
 stopped_good : (carriers limit : ℕ) (first second : List Needle) (a b : Summary) (e : Effect) (f : Fault) → IsGood carriers limit first a → IsFair carriers limit second b →
-    ThroughFits carriers a e → (reads e a.changes a.lines a.checks b.checks).stop ≡ Some f →
-    IsGood carriers limit (first ++ second) (record { lines = a.lines + b.lines; made = 0; checks = (reads e a.changes a.lines a.checks b.checks).checks; changes = []; ending = Broken f })
+    ThroughFits carriers a e → (reads e a.lasts a.changes a.lines a.checks b.checks).stop ≡ Some f →
+    IsGood carriers limit (first ++ second) (record { lines = a.lines + b.lines; made = 0; checks = (reads e a.lasts a.changes a.lines a.checks b.checks).checks; changes = []; lasts = []; ending = Broken f })
 stopped_good carriers limit first second a b e f ga gb ta is =
-    let stop_at = reads_stop e a.changes a.lines a.checks b.checks f is in
+    let stop_at = reads_stop e a.lasts a.changes a.lines a.checks b.checks f is in
     let before = gb.within stop_at.0 stop_at.1 in
     let same : a.lines + stop_at.0.fault.line ≡ f.line = ap (λ (x : Fault). x.line) stop_at.2 in
-    broken_good carriers limit (a.lines + b.lines) (first ++ second) (reads e a.changes a.lines a.checks b.checks).checks f
-    (checks_fit_both carriers limit first second a b e ga gb ta.lies) (omega arith)
-    ((reads_in_turn e a.changes a.lines a.checks b.checks ga.fair.in_turn (first_past a b.checks ga.fair.within) gb.in_turn).stops_last f is)
+    broken_good carriers limit (a.lines + b.lines) (first ++ second) (reads e a.lasts a.changes a.lines a.checks b.checks).checks f
+    (checks_fit_both carriers limit first second a b e ga gb ta.lies ta.nears) (omega arith)
+    ((reads_in_turn e a.lasts a.changes a.lines a.checks b.checks ga.fair.in_turn (first_past a b.checks ga.fair.within) gb.in_turn).stops_last f is)
 
 ends_broken_good : (carriers limit : ℕ) (first second : List Needle) (a b : Summary) (e : Effect) (f : Fault) → IsGood carriers limit first a → IsFair carriers limit second b →
     ThroughFits carriers a e → BrokenFits b f →
-    IsGood carriers limit (first ++ second) (record { lines = a.lines + b.lines; made = 0; checks = (reads e a.changes a.lines a.checks b.checks).checks; changes = []; ending = Broken (raised a.lines f) })
+    IsGood carriers limit (first ++ second) (record { lines = a.lines + b.lines; made = 0; checks = (reads e a.lasts a.changes a.lines a.checks b.checks).checks; changes = []; lasts = []; ending = Broken (raised a.lines f) })
 ends_broken_good carriers limit first second a b e f ga gb ta tb =
-    broken_good carriers limit (a.lines + b.lines) (first ++ second) (reads e a.changes a.lines a.checks b.checks).checks (raised a.lines f)
-    (checks_fit_both carriers limit first second a b e ga gb ta.lies) (let before = tb.within in omega arith)
-    (λ c there. elim (reads_members e a.changes a.lines a.checks b.checks c there) [
+    broken_good carriers limit (a.lines + b.lines) (first ++ second) (reads e a.lasts a.changes a.lines a.checks b.checks).checks (raised a.lines f)
+    (checks_fit_both carriers limit first second a b e ga gb ta.lies ta.nears) (let before = tb.within in omega arith)
+    (λ c there. elim (reads_members e a.lasts a.changes a.lines a.checks b.checks c there) [
       | inl here ↦ (let before = ga.fair.within c here in omega arith)
       | inr d ↦ (let before = tb.last d.0 d.1 in let same : c.fault.line ≡ a.lines + d.0.fault.line = ap (λ (x : Fault). x.line) d.3 in omega arith)
     ])
 
 open_cases : (carriers limit : ℕ) (first second : List Needle) (a b : Summary) (e : Effect) (ending : Ending) → IsGood carriers limit first a → IsFair carriers limit second b →
-    ThroughFits carriers a e → EndingFits carriers b ending → (reads e a.changes a.lines a.checks b.checks).stop ≡ None →
+    ThroughFits carriers a e → EndingFits carriers b ending → (reads e a.lasts a.changes a.lines a.checks b.checks).stop ≡ None →
     IsGood carriers limit (first ++ second) (record {
       lines = a.lines + b.lines;
       made = made_with ending (a.made + b.made);
-      checks = (reads e a.changes a.lines a.checks b.checks).checks;
+      checks = (reads e a.lasts a.changes a.lines a.checks b.checks).checks;
       changes = changes_with ending (merged a.changes (changes_through a.changes a.lines b.changes));
+      lasts = lasts_with ending (lasts_of_both a.lasts b.lasts);
       ending = ending_after a.lines e ending;
     })
 open_cases carriers limit first second a b e (Broken f) ga gb ta tb is = ends_broken_good carriers limit first second a b e f ga gb ta tb
 open_cases carriers limit first second a b e (Through f) ga gb ta tb is = open_good carriers limit first second a b e f ga gb ta tb is
 
 closed_good : (carriers limit : ℕ) (first second : List Needle) (a b : Summary) (e : Effect) (stop : Option Fault) → IsGood carriers limit first a → IsFair carriers limit second b →
-    ThroughFits carriers a e → (reads e a.changes a.lines a.checks b.checks).stop ≡ stop →
-    IsGood carriers limit (first ++ second) (closed_at stop (reads e a.changes a.lines a.checks b.checks).checks e a b)
+    ThroughFits carriers a e → (reads e a.lasts a.changes a.lines a.checks b.checks).stop ≡ stop →
+    IsGood carriers limit (first ++ second) (closed_at stop (reads e a.lasts a.changes a.lines a.checks b.checks).checks e a b)
 closed_good carriers limit first second a b e (Some f) ga gb ta is = stopped_good carriers limit first second a b e f ga gb ta is
 closed_good carriers limit first second a b e None ga gb ta is = open_cases carriers limit first second a b e b.ending ga gb ta gb.ending is
 
@@ -486,16 +573,17 @@ known_more carriers limit first second lines more checks h = record {
   in_turn = h.in_turn;
   irredundant = h.irredundant;
   nested = h.nested;
+  agree = h.agree;
 }
 
 composed_good_at : (carriers limit : ℕ) (first second : List Needle) (a b : Summary) (ending : Ending) → IsGood carriers limit first a → IsFair carriers limit second b →
     EndingFits carriers a ending → IsGood carriers limit (first ++ second) (composed_at ending a b)
 composed_good_at carriers limit first second a b (Broken f) ga gb ta =
     broken_good carriers limit (a.lines + b.lines) (first ++ second) a.checks f
-    (known_more carriers limit first second a.lines b.lines a.checks (record { asks_fit = ga.fair.asks_fit; within = ga.fair.within; in_turn = ga.fair.in_turn; irredundant = ga.irredundant; nested = ga.fair.nested }))
+    (known_more carriers limit first second a.lines b.lines a.checks (record { asks_fit = ga.fair.asks_fit; within = ga.fair.within; in_turn = ga.fair.in_turn; irredundant = ga.irredundant; nested = ga.fair.nested; agree = ga.fair.agree }))
     (let before = ta.within in omega arith) ta.last
 composed_good_at carriers limit first second a b (Through e) ga gb ta =
-    closed_good carriers limit first second a b e (reads e a.changes a.lines a.checks b.checks).stop ga gb ta refl
+    closed_good carriers limit first second a b e (reads e a.lasts a.changes a.lines a.checks b.checks).stop ga gb ta refl
 
 -- A good summary and a fair one compose to a good one, of the needles of both.
 pub composed_good_fair : (carriers limit : ℕ) (first second : List Needle) (a b : Summary) → IsGood carriers limit first a → IsFair carriers limit second b →
@@ -504,13 +592,13 @@ composed_good_fair carriers limit first second a b ga gb = composed_good_at carr
 
 plain_at : (carriers limit : ℕ) (first second : List Needle) (a b : Summary) (ending : Ending) → IsGood carriers limit first a → IsFair carriers limit second b → AllNameOnceThrough ending a b
 plain_at carriers limit first second a b (Broken f) ga gb = tt
-plain_at carriers limit first second a b (Through e) ga gb = all_plain carriers limit first second e a.changes a.lines b.checks ga.fair.owns ga.fair.changes_fit gb.asks_fit
+plain_at carriers limit first second a b (Through e) ga gb = all_plain carriers limit first second e a.lasts a.changes a.lines b.checks ga.fair.owns ga.fair.changes_fit gb.asks_fit
 
 -- Their composition is running one after the other, with the first fault kept.
 pub composed_runs_fair : (carriers limit : ℕ) (first second : List Needle) (a b : Summary) → IsGood carriers limit first a → IsFair carriers limit second b →
     (s : State) (k : ℕ) → applied (composed a b) s k ≡ and_then (applied a s k) (λ t. applied b t (k + a.lines))
 composed_runs_fair carriers limit first second a b ga gb s k =
-    composed_applied a b s k gb.in_order (plain_at carriers limit first second a b a.ending ga gb)
+    composed_applied a b s k gb.in_order gb.lasts_in_order (plain_at carriers limit first second a b a.ending ga gb)
 
 -- Two good summaries compose to a good one, of the needles of both.
 pub composed_good : (carriers limit : ℕ) (first second : List Needle) (a b : Summary) → IsGood carriers limit first a → IsGood carriers limit second b →
@@ -535,6 +623,7 @@ ask_within carriers limit known more (carrier_out x) within h = h
 ask_within carriers limit known more hook_free within h = tt
 ask_within carriers limit known more (hook_is x) within h = h
 ask_within carriers limit known more (hook_lacks x) within h = h
+ask_within carriers limit known more (last_near c at float) within h = h
 
 -- A good summary stays good where more needles are known, in whatever order.
 pub good_within : (carriers limit : ℕ) (known more : List Needle) (a : Summary) → IsWithin known more → IsGood carriers limit known a → IsGood carriers limit more a
@@ -545,6 +634,7 @@ good_within carriers limit known more a within g = record {
     within = g.fair.within;
     in_turn = g.fair.in_turn;
     nested = g.fair.nested;
+    agree = g.fair.agree;
     in_order = g.fair.in_order;
     changes_fit = λ c there. (let fits = g.fair.changes_fit c there in record {
       needle = within c.0 fits.needle;
@@ -552,6 +642,8 @@ good_within carriers limit known more a within g = record {
       offsets = fits.offsets;
     });
     owns = g.fair.owns;
+    lasts_in_order = g.fair.lasts_in_order;
+    lasts_fit = g.fair.lasts_fit;
     sizes = g.fair.sizes;
     ending = g.fair.ending;
   };

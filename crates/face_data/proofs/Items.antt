@@ -1,12 +1,15 @@
 -- How many items a good summary has.
 use Rattle.std.proofs.Common.{◌≡◌, ℕ, zero, suc, ◌+◌, ◌-◌, ◌*◌, ◌≤◌, ◌<◌, Bool, true, false, List, [], ◌∷◌, length, get_or, refl, sym, ap, ◌∙◌, subst, arith, inl, inr, ◌⊎◌, map, length-append}
-use Rattle.std.specs.Prelude.{if◌then◌else◌, nat_eq, nat_le, unwrap_or}
+use Rattle.std.specs.Prelude.{ℤ, ◌&&◌, if◌then◌else◌, nat_eq, nat_le, unwrap_or}
 use Rattle.std.proofs.Common.{Some}
 use Rattle.std.specs.List.{Contains, sum_by, flat_map, list_any}
 use Rattle.std.specs.List.Sorted.{IsStrictlySortedBy}
 use Rattle.std.specs.Ordering.{int_eq}
+use Rattle.knit_base.specs.declared.yarns.CarrierNo.{CarrierNo}
+use Rattle.face_data.proofs.LastLists.{lasts_bound}
 use Rattle.std.specs.declared.cmp.Ordering.TheVariants.{Equal}
 use Rattle.std.proofs.lemmas.Bool.{and_from, le-leb, eq-eqb}
+use Rattle.std.proofs.lemmas.Bool.Decides.{Decides-int_eq}
 use Rattle.std.proofs.lemmas.List.Elements.{Contains-get_or, Contains-append_cases}
 use Rattle.std.proofs.lemmas.List.Sums.{sum_by-cons}
 use Rattle.std.proofs.lemmas.Map.Views.{list_any-from_Contains}
@@ -16,7 +19,7 @@ use Rattle.knit_base.specs.Needle.{same_needle, needle_cmp, same_needle-true}
 use Rattle.face_data.specs.Conditions.{Ask}
 use Rattle.face_data.specs.Summaries.{Asked, Summary}
 use Rattle.face_data.specs.Segments.{Changed, segments_on, change_at, entries_of, new_of, new_in}
-use Rattle.face_data.specs.Conditions.Ask.{rack_is, carrier_in, carrier_out, hook_free, hook_is, hook_lacks, size_at_most}
+use Rattle.face_data.specs.Conditions.Ask.{rack_is, carrier_in, carrier_out, hook_free, hook_is, hook_lacks, size_at_most, last_near}
 use Rattle.face_data.specs.declared.bearing.Bearing.{Bearing}
 use Rattle.face_data.specs.Bearings.{bearing, all_in, if_so}
 use Rattle.face_data.specs.declared.bearing.Bearing.TheVariants.{Implied, Refuted, Silent}
@@ -31,7 +34,7 @@ use Rattle.knit_base.specs.declared.needle.Needle.{Needle}
 use Rattle.face_data.specs.declared.face.Seg.{Seg}
 use Rattle.face_data.specs.declared.face.Seg.TheVariants.{Entry, New}
 use Rattle.face_data.specs.Sets.{IsDistinct, IsWithin, NestedOrApart}
-use Rattle.face_data.specs.Goodness.{entries_on, OwnsOnce, IsIrredundant, MeetsSize, IsGood, AskFits, SizeFits, ChangeFits, names_in, IsInOrder}
+use Rattle.face_data.specs.Goodness.{entries_on, OwnsOnce, IsIrredundant, MeetsSize, IsGood, AgreeOnLast, AskFits, SizeFits, ChangeFits, names_in, IsInOrder}
 use Rattle.knit_base.proofs.Needles.{needle_cmp-refl, Decides-same_needle}
 use Rattle.face_data.proofs.Digests.{not_silent}
 
@@ -80,6 +83,7 @@ from_sized c cs (carrier_out x) e ih s h = (let w = ih s h in (w.0, Contains-tai
 from_sized c cs hook_free e ih s h = (let w = ih s h in (w.0, Contains-tail c cs w.0 w.1, w.2))
 from_sized c cs (hook_is x) e ih s h = (let w = ih s h in (w.0, Contains-tail c cs w.0 w.1, w.2))
 from_sized c cs (hook_lacks x) e ih s h = (let w = ih s h in (w.0, Contains-tail c cs w.0 w.1, w.2))
+from_sized c cs (last_near d at float) e ih s h = (let w = ih s h in (w.0, Contains-tail c cs w.0 w.1, w.2))
 
 sizes_from : (cs : List Asked) (s : Sized) → Contains (sizes_of cs) s → IsSized cs s
 sizes_from [] s h = absurd (Contains-none s h)
@@ -117,6 +121,7 @@ needed_from c cs (carrier_out x) e h ih = ih
 needed_from c cs hook_free e h ih = ih
 needed_from c cs (hook_is x) e h ih = ih
 needed_from c cs (hook_lacks x) e h ih = ih
+needed_from c cs (last_near d at float) e h ih = ih
 
 needed_of : (cs : List Asked) → IsIrredundant cs → IsNeeded (sizes_of cs)
 needed_of [] h = tt
@@ -286,6 +291,7 @@ meets_nothing (carrier_out x) = tt
 meets_nothing hook_free = tt
 meets_nothing (hook_is x) = tt
 meets_nothing (hook_lacks x) = tt
+meets_nothing (last_near c at float) = tt
 
 -- no needle has more new loops than the limit
 pub new_on_at_most : (carriers limit : ℕ) (known : List Needle) (f : Summary) → IsGood carriers limit known f → (n : Needle) → new_of (segments_on f.changes n) ≤ limit
@@ -316,6 +322,7 @@ number carriers (hook_is set) = 1
 number carriers (carrier_in c) = 2 + c.0
 number carriers (carrier_out c) = 2 + c.0
 number carriers (hook_lacks c) = 2 + carriers + c.0
+number carriers (last_near c at float) = 2 + 2 * carriers + c.0
 number carriers (size_at_most names most) = 0
 
 abbrev IsOther : ℕ → Ask → Type 0
@@ -325,6 +332,7 @@ IsOther carriers (hook_is set) = Unit {0}
 IsOther carriers (carrier_in c) = c.0 < carriers
 IsOther carriers (carrier_out c) = c.0 < carriers
 IsOther carriers (hook_lacks c) = c.0 < carriers
+IsOther carriers (last_near c at float) = c.0 < carriers
 IsOther carriers (size_at_most names most) = ⊥
 
 if_so_speaks : (c d : ℕ) (r : Bearing) → c ≡ d → (r ≡ Silent → ⊥) → if_so (nat_eq c d) r ≡ Silent → ⊥
@@ -336,30 +344,44 @@ implied_speaks e = cc
 refuted_speaks : Refuted ≡ Silent → ⊥
 refuted_speaks e = cc
 
--- of two such conditions with one number, the earlier says something of the later
-speaks : (carriers : ℕ) (p q : Ask) → IsOther carriers p → IsOther carriers q → number carriers p ≡ number carriers q → bearing p q ≡ Silent → ⊥
+near_speaks : (c d : CarrierNo) (n m : ℤ) (f g : ℕ) → c.0 ≡ d.0 → AgreeOnLast (last_near c n f) (last_near d m g) → bearing (last_near c n f) (last_near d m g) ≡ Silent → ⊥
 unfolding bearing
-speaks carriers (rack_is p) (rack_is q) fp fq e s = not_silent (int_eq p q) s
-speaks carriers hook_free hook_free fp fq e s = implied_speaks s
-speaks carriers hook_free (hook_is set) fp fq e s = not_silent (nat_eq 0 set) s
-speaks carriers (hook_is set) hook_free fp fq e s = not_silent (nat_eq set 0) s
-speaks carriers (hook_is set) (hook_is other) fp fq e s = not_silent (nat_eq set other) s
-speaks carriers (carrier_in c) (carrier_in d) fp fq e s = if_so_speaks c.0 d.0 Implied (omega (arith, e)) implied_speaks s
-speaks carriers (carrier_in c) (carrier_out d) fp fq e s = if_so_speaks c.0 d.0 Refuted (omega (arith, e)) refuted_speaks s
-speaks carriers (carrier_out c) (carrier_out d) fp fq e s = if_so_speaks c.0 d.0 Implied (omega (arith, e)) implied_speaks s
-speaks carriers (carrier_out c) (carrier_in d) fp fq e s = if_so_speaks c.0 d.0 Refuted (omega (arith, e)) refuted_speaks s
-speaks carriers (hook_lacks c) (hook_lacks d) fp fq e s = if_so_speaks c.0 d.0 Implied (omega (arith, e)) implied_speaks s
-speaks carriers (size_at_most names most) q fp fq e s = fp
-speaks carriers p (size_at_most names most) fp fq e s = fq
-speaks carriers p q fp fq e s = omega (arith, e)
+near_speaks c d n m f g same agree s =
+    let both = agree (λ i. record { 0 = same i }) in
+    implied_speaks (sym (near_implied c d n m f g same both.0 both.1) ∙ s)
+  where
+    near_implied : (c d : CarrierNo) (n m : ℤ) (f g : ℕ) → c.0 ≡ d.0 → n ≡ m → f ≡ g → if_so (nat_eq c.0 d.0 && (int_eq n m && nat_eq f g)) Implied ≡ Implied
+    near_implied c d n m f g same at float =
+        ap (λ b. if_so b Implied) (and_from (nat_eq c.0 d.0) (int_eq n m && nat_eq f g) (eq-eqb c.0 d.0 same)
+        (and_from (int_eq n m) (nat_eq f g) ((Decides-int_eq n m).1 at) (eq-eqb f g float)))
 
-number_below : (carriers : ℕ) (p : Ask) → IsOther carriers p → number carriers p < 2 + 2 * carriers
+-- of two such conditions with one number, the earlier says something of the later
+speaks : (carriers : ℕ) (p q : Ask) → IsOther carriers p → IsOther carriers q → AgreeOnLast p q → number carriers p ≡ number carriers q → bearing p q ≡ Silent → ⊥
+unfolding bearing
+speaks carriers (rack_is p) (rack_is q) fp fq agree e s = not_silent (int_eq p q) s
+speaks carriers hook_free hook_free fp fq agree e s = implied_speaks s
+speaks carriers hook_free (hook_is set) fp fq agree e s = not_silent (nat_eq 0 set) s
+speaks carriers (hook_is set) hook_free fp fq agree e s = not_silent (nat_eq set 0) s
+speaks carriers (hook_is set) (hook_is other) fp fq agree e s = not_silent (nat_eq set other) s
+speaks carriers (carrier_in c) (carrier_in d) fp fq agree e s = if_so_speaks c.0 d.0 Implied (omega (arith, e)) implied_speaks s
+speaks carriers (carrier_in c) (carrier_out d) fp fq agree e s = if_so_speaks c.0 d.0 Refuted (omega (arith, e)) refuted_speaks s
+speaks carriers (carrier_out c) (carrier_out d) fp fq agree e s = if_so_speaks c.0 d.0 Implied (omega (arith, e)) implied_speaks s
+speaks carriers (carrier_out c) (carrier_in d) fp fq agree e s = if_so_speaks c.0 d.0 Refuted (omega (arith, e)) refuted_speaks s
+speaks carriers (hook_lacks c) (hook_lacks d) fp fq agree e s = if_so_speaks c.0 d.0 Implied (omega (arith, e)) implied_speaks s
+speaks carriers (last_near c n f) (last_near d m g) fp fq agree e s =
+    near_speaks c d n m f g (omega (arith, e)) agree s
+speaks carriers (size_at_most names most) q fp fq agree e s = fp
+speaks carriers p (size_at_most names most) fp fq agree e s = fq
+speaks carriers p q fp fq agree e s = omega (arith, e)
+
+number_below : (carriers : ℕ) (p : Ask) → IsOther carriers p → number carriers p < 2 + 3 * carriers
 number_below carriers (rack_is q) f = omega arith
 number_below carriers hook_free f = omega arith
 number_below carriers (hook_is set) f = omega arith
 number_below carriers (carrier_in c) f = omega arith
 number_below carriers (carrier_out c) f = omega arith
 number_below carriers (hook_lacks c) f = omega arith
+number_below carriers (last_near c at float) f = omega arith
 number_below carriers (size_at_most names most) f = absurd f
 
 member_other : (carriers limit : ℕ) (known : List Needle) (c : Asked) (cs : List Asked) (q : Ask) → c.ask ≡ q → AskFits carriers limit known q →
@@ -390,6 +412,10 @@ member_other carriers limit known c cs (hook_lacks x) e f ih d h = elim (Contain
   | inl same ↦ (subst (Contains (c ∷ cs)) same (Contains-head c cs), subst (λ (w : Asked). IsOther carriers w.ask) same (subst (IsOther carriers) (sym e) f))
   | inr later ↦ (let w = ih d later in (Contains-tail c cs d w.0, w.1))
 ]
+member_other carriers limit known c cs (last_near y at float) e f ih d h = elim (Contains-cons_cases c (others_of cs) d h) [
+  | inl same ↦ (subst (Contains (c ∷ cs)) same (Contains-head c cs), subst (λ (w : Asked). IsOther carriers w.ask) same (subst (IsOther carriers) (sym e) f))
+  | inr later ↦ (let w = ih d later in (Contains-tail c cs d w.0, w.1))
+]
 
 others_in : (carriers limit : ℕ) (known : List Needle) (cs : List Asked) → ((c : Asked) → Contains cs c → AskFits carriers limit known c.ask) →
     (d : Asked) → Contains (others_of cs) d → Contains cs d × IsOther carriers d.ask
@@ -406,6 +432,7 @@ others_irredundant_at carriers limit known c cs (hook_is x) h ih = (h, ih)
 others_irredundant_at carriers limit known c cs (carrier_in x) h ih = (h, ih)
 others_irredundant_at carriers limit known c cs (carrier_out x) h ih = (h, ih)
 others_irredundant_at carriers limit known c cs (hook_lacks x) h ih = (h, ih)
+others_irredundant_at carriers limit known c cs (last_near d at float) h ih = (h, ih)
 
 others_irredundant : (carriers limit : ℕ) (known : List Needle) (cs : List Asked) → ((c : Asked) → Contains cs c → AskFits carriers limit known c.ask) → IsIrredundant cs → IsIrredundant (others_of cs)
 others_irredundant carriers limit known [] fit h = tt
@@ -421,14 +448,18 @@ irredundant_at (c ∷ cs) d (suc k) zero h lt le = h.0 (get_or cs k d) (Contains
 irredundant_at (c ∷ cs) d (suc k) (suc l) h lt le = irredundant_at cs d k l h.1 (omega arith) (omega arith)
 
 -- How many other conditions there can be.
-pub others_bound : (carriers limit : ℕ) (known : List Needle) (cs : List Asked) (none : Asked) → ((c : Asked) → Contains cs c → AskFits carriers limit known c.ask) → IsIrredundant cs →
-    length (others_of cs) ≤ 2 + 2 * carriers
-others_bound carriers limit known cs none fit h =
-    at_most_bound (λ k. number carriers (get_or (others_of cs) k none).ask) (length (others_of cs)) (2 + 2 * carriers)
+pub others_bound : (carriers limit : ℕ) (known : List Needle) (cs : List Asked) (none : Asked) → ((c : Asked) → Contains cs c → AskFits carriers limit known c.ask) →
+    ((c d : Asked) → Contains cs c → Contains cs d → AgreeOnLast c.ask d.ask) → IsIrredundant cs →
+    length (others_of cs) ≤ 2 + 3 * carriers
+others_bound carriers limit known cs none fit agree h =
+    at_most_bound (λ k. number carriers (get_or (others_of cs) k none).ask) (length (others_of cs)) (2 + 3 * carriers)
     (λ k hk. number_below carriers (get_or (others_of cs) k none).ask (others_in carriers limit known cs fit (get_or (others_of cs) k none) (Contains-get_or (others_of cs) k none hk)).1)
     (λ k l hk hl e. speaks carriers (get_or (others_of cs) l none).ask (get_or (others_of cs) k none).ask
     (others_in carriers limit known cs fit (get_or (others_of cs) l none) (Contains-get_or (others_of cs) l none (omega arith))).1
     (others_in carriers limit known cs fit (get_or (others_of cs) k none) (Contains-get_or (others_of cs) k none hk)).1
+    (agree (get_or (others_of cs) l none) (get_or (others_of cs) k none)
+    (others_in carriers limit known cs fit (get_or (others_of cs) l none) (Contains-get_or (others_of cs) l none (omega arith))).0
+    (others_in carriers limit known cs fit (get_or (others_of cs) k none) (Contains-get_or (others_of cs) k none hk)).0)
     (sym e) (irredundant_at (others_of cs) none k l (others_irredundant carriers limit known cs fit h) hl hk))
 
 no_asked : Asked
@@ -444,6 +475,7 @@ split_from c cs (carrier_out x) ih = omega (arith, ih)
 split_from c cs hook_free ih = omega (arith, ih)
 split_from c cs (hook_is x) ih = omega (arith, ih)
 split_from c cs (hook_lacks x) ih = omega (arith, ih)
+split_from c cs (last_near d at float) ih = omega (arith, ih)
 
 -- the conditions on sizes and the others
 check_split : (cs : List Asked) → check_items cs ≡ length (others_of cs) + size_items (sizes_of cs)
@@ -462,9 +494,10 @@ items_bound carriers limit known f g =
     omega (
       arith,
       check_split f.checks,
-      others_bound carriers limit known f.checks no_asked g.fair.asks_fit g.irredundant,
+      others_bound carriers limit known f.checks no_asked g.fair.asks_fit g.fair.agree g.irredundant,
       size_items_bound carriers limit known f g,
       change_split f.changes,
       change_items_bound carriers limit known f g,
       ending_bound carriers f f.ending g.fair.ending,
+      lasts_bound carriers f.lasts g.fair.lasts_in_order g.fair.lasts_fit,
     )

@@ -8,7 +8,7 @@ use Rattle.std.proofs.lemmas.List.Sums.{sum_by-append, sum_by-cons}
 use Rattle.face_data.specs.Conditions.{Ask}
 use Rattle.face_data.specs.Summaries.{Asked, raised}
 use Rattle.face_data.specs.Segments.{Changed, segments_on, names_through, new_through, new_of}
-use Rattle.face_data.specs.Conditions.Ask.{rack_is, carrier_in, carrier_out, hook_free, hook_is, hook_lacks, size_at_most}
+use Rattle.face_data.specs.Conditions.Ask.{rack_is, carrier_in, carrier_out, hook_free, hook_is, hook_lacks, size_at_most, last_near}
 use Rattle.face_data.specs.Answers.{Answer, read_answer, size_answer, size_left}
 use Rattle.face_data.specs.Answers.Answer.{yes_it_does, no_it_does_not, asks}
 use Rattle.face_data.proofs.Members.{sum_within, Contains-none, Contains-head, Contains-tail, Contains-cons_cases}
@@ -19,6 +19,7 @@ use Rattle.face_data.proofs.Bearings.{all_in_within, NamesOnce}
 use Rattle.face_data.proofs.Gathering.{AnswerNamesOnce, AllNameOnce}
 use Rattle.knit_base.specs.declared.needle.Needle.{Needle}
 use Rattle.face_data.specs.declared.face.Effect.{Effect}
+use Rattle.face_data.specs.declared.face.Last.{Last}
 use Rattle.face_data.specs.Composition.{settled, from_bearing, against_kept, next, reads}
 use Rattle.face_data.specs.Goodness.{entries_on, IsIrredundant, MeetsSize, MeetsSizes, size_after}
 
@@ -77,47 +78,47 @@ against_asks kept (asks q) w e =
     (ap asks (sym both.0), λ c there. subst (λ x. bearing c.ask x ≡ Silent) (sym both.0) (both.1 c there))
 
 -- Any fact of the kept list that a new condition, of which nothing kept speaks, leaves true.
-pub reads_keep : (P : List Asked → Type 0) (e : Effect) (a : List Changed) (lines : ℕ) (kept rest : List Asked) → P kept →
-    ((ks : List Asked) (d : Asked) (w : Ask) → Contains rest d → read_answer e a d.ask ≡ asks w → ((c : Asked) → Contains ks c → bearing c.ask w ≡ Silent) →
+pub reads_keep : (P : List Asked → Type 0) (e : Effect) (la : List Last) (a : List Changed) (lines : ℕ) (kept rest : List Asked) → P kept →
+    ((ks : List Asked) (d : Asked) (w : Ask) → Contains rest d → read_answer e la a d.ask ≡ asks w → ((c : Asked) → Contains ks c → bearing c.ask w ≡ Silent) →
     P ks → P (ks ++ record { fault = raised lines d.fault; ask = w } ∷ [])) →
-    P (reads e a lines kept rest).checks
+    P (reads e la a lines kept rest).checks
 unfolding reads
-reads_keep P e a lines kept [] h push = h
-reads_keep P e a lines kept (d ∷ ds) h push =
-    go (against_kept kept (read_answer e a d.ask)) refl
-    (λ ks k. reads_keep P e a lines ks ds k (λ l x w there is none. push l x w (Contains-tail d ds x there) is none))
+reads_keep P e la a lines kept [] h push = h
+reads_keep P e la a lines kept (d ∷ ds) h push =
+    go (against_kept kept (read_answer e la a d.ask)) refl
+    (λ ks k. reads_keep P e la a lines ks ds k (λ l x w there is none. push l x w (Contains-tail d ds x there) is none))
   where
-    go : (r : Answer) → against_kept kept (read_answer e a d.ask) ≡ r → ((ks : List Asked) → P ks → P (reads e a lines ks ds).checks) →
-        P (next r kept (raised lines d.fault) (λ k. reads e a lines k ds)).checks
+    go : (r : Answer) → against_kept kept (read_answer e la a d.ask) ≡ r → ((ks : List Asked) → P ks → P (reads e la a lines ks ds).checks) →
+        P (next r kept (raised lines d.fault) (λ k. reads e la a lines k ds)).checks
     go yes_it_does is ih = ih kept h
     go no_it_does_not is ih = h
     go (asks w) is ih =
-        let both = against_asks kept (read_answer e a d.ask) w is in
+        let both = against_asks kept (read_answer e la a d.ask) w is in
         ih (kept ++ record { fault = raised lines d.fault; ask = w } ∷ []) (push kept d w (Contains-head d ds) both.0 both.1 h)
 
 -- no kept condition says anything of a later one
-pub reads_irredundant : (e : Effect) (a : List Changed) (lines : ℕ) (kept rest : List Asked) → IsIrredundant kept → IsIrredundant (reads e a lines kept rest).checks
-reads_irredundant e a lines kept rest h =
-    reads_keep IsIrredundant e a lines kept rest h (λ ks d w there is none k. irredundant_push ks (record { fault = raised lines d.fault; ask = w }) k none)
+pub reads_irredundant : (e : Effect) (la : List Last) (a : List Changed) (lines : ℕ) (kept rest : List Asked) → IsIrredundant kept → IsIrredundant (reads e la a lines kept rest).checks
+reads_irredundant e la a lines kept rest h =
+    reads_keep IsIrredundant e la a lines kept rest h (λ ks d w there is none k. irredundant_push ks (record { fault = raised lines d.fault; ask = w }) k none)
 
 -- each condition at the end is one of the first block's or one of the second's, read_seg through the first
-abbrev pub ComesFrom : Effect → List Changed → ℕ → List Asked → List Asked → Asked → Type 0
-ComesFrom e a lines kept rest c = Contains kept c ⊎ ((d : Asked) × Contains rest d × (read_answer e a d.ask ≡ asks c.ask) × (c.fault ≡ raised lines d.fault))
+abbrev pub ComesFrom : Effect → List Last → List Changed → ℕ → List Asked → List Asked → Asked → Type 0
+ComesFrom e la a lines kept rest c = Contains kept c ⊎ ((d : Asked) × Contains rest d × (read_answer e la a d.ask ≡ asks c.ask) × (c.fault ≡ raised lines d.fault))
 
 -- where kept conditions come from
-pub reads_members : (e : Effect) (a : List Changed) (lines : ℕ) (kept rest : List Asked) (c : Asked) →
-    Contains (reads e a lines kept rest).checks c → ComesFrom e a lines kept rest c
-reads_members e a lines kept rest =
-    reads_keep (λ ks. (c : Asked) → Contains ks c → ComesFrom e a lines kept rest c) e a lines kept rest (λ c h. inl h)
+pub reads_members : (e : Effect) (la : List Last) (a : List Changed) (lines : ℕ) (kept rest : List Asked) (c : Asked) →
+    Contains (reads e la a lines kept rest).checks c → ComesFrom e la a lines kept rest c
+reads_members e la a lines kept rest =
+    reads_keep (λ ks. (c : Asked) → Contains ks c → ComesFrom e la a lines kept rest c) e la a lines kept rest (λ c h. inl h)
     (λ ks d w there is none ih c h. elim (Contains-push_cases ks (record { fault = raised lines d.fault; ask = w }) c h) [
       | inl before ↦ ih c before
       | inr same ↦ inr (d, there, is ∙ ap (λ (x : Asked). asks x.ask) same, sym (ap (λ (x : Asked). x.fault) same))
     ])
 
 -- a kept condition stays
-pub reads_longer : (e : Effect) (a : List Changed) (lines : ℕ) (kept rest : List Asked) (c : Asked) → Contains kept c → Contains (reads e a lines kept rest).checks c
-reads_longer e a lines kept rest c h =
-    reads_keep (λ ks. Contains ks c) e a lines kept rest h (λ ks d w there is none k. Contains-append_left ks (record { fault = raised lines d.fault; ask = w } ∷ []) c k)
+pub reads_longer : (e : Effect) (la : List Last) (a : List Changed) (lines : ℕ) (kept rest : List Asked) (c : Asked) → Contains kept c → Contains (reads e la a lines kept rest).checks c
+reads_longer e la a lines kept rest c h =
+    reads_keep (λ ks. Contains ks c) e la a lines kept rest h (λ ks d w there is none k. Contains-append_left ks (record { fault = raised lines d.fault; ask = w } ∷ []) c k)
 
 -- sizes after the first block, together
 pub sum_by-size_after : (a : List Changed) (size : Needle → ℕ) (names : List Needle) →
@@ -148,12 +149,14 @@ implied_meets (carrier_out x) (size_at_most later most) size d e h = absurd (cc)
 implied_meets hook_free (size_at_most later most) size d e h = absurd (cc)
 implied_meets (hook_is x) (size_at_most later most) size d e h = absurd (cc)
 implied_meets (hook_lacks x) (size_at_most later most) size d e h = absurd (cc)
+implied_meets (last_near c at float) (size_at_most later most) size d e h = absurd (cc)
 implied_meets p (rack_is x) size d e h = tt
 implied_meets p (carrier_in x) size d e h = tt
 implied_meets p (carrier_out x) size d e h = tt
 implied_meets p hook_free size d e h = tt
 implied_meets p (hook_is x) size d e h = tt
 implied_meets p (hook_lacks x) size d e h = tt
+implied_meets p (last_near c at float) size d e h = tt
 
 -- what the answer to a size condition owes: sizes that meet it meet the condition, with the new loops added
 abbrev pub MeetsAnswer : Answer → (Needle → ℕ) → Type 0
@@ -170,16 +173,17 @@ size_meets_if : (names : List Needle) (new most : ℕ) (size : Needle → ℕ) (
 size_meets_if names new most size true e h = absurd h
 size_meets_if names new most size false e h = omega (arith, ltb-false most new e, left_meets names (most - new) size h)
 
-read_meets : (e : Effect) (a : List Changed) (q : Ask) (size : Needle → ℕ) → MeetsAnswer (read_answer e a q) size → MeetsSize q (size_after a size)
+read_meets : (e : Effect) (la : List Last) (a : List Changed) (q : Ask) (size : Needle → ℕ) → MeetsAnswer (read_answer e la a q) size → MeetsSize q (size_after a size)
 unfolding read_answer size_answer
-read_meets e a (size_at_most names most) size h =
+read_meets e la a (size_at_most names most) size h =
     omega (arith, sum_by-size_after a size names, size_meets_if (names_through a names) (new_through a names) most size (nat_lt most (new_through a names)) refl h)
-read_meets e a (rack_is x) size h = tt
-read_meets e a (carrier_in x) size h = tt
-read_meets e a (carrier_out x) size h = tt
-read_meets e a hook_free size h = tt
-read_meets e a (hook_is x) size h = tt
-read_meets e a (hook_lacks x) size h = tt
+read_meets e la a (rack_is x) size h = tt
+read_meets e la a (carrier_in x) size h = tt
+read_meets e la a (carrier_out x) size h = tt
+read_meets e la a hook_free size h = tt
+read_meets e la a (hook_is x) size h = tt
+read_meets e la a (hook_lacks x) size h = tt
+read_meets e la a (last_near c at float) size h = tt
 
 against_yes : (kept : List Asked) (r : Answer) (size : Needle → ℕ) → AnswerNamesOnce r → against_kept kept r ≡ yes_it_does → MeetsSizes kept size → MeetsAnswer r size
 against_yes kept yes_it_does size d e h = tt
@@ -188,29 +192,29 @@ against_yes kept (asks q) size d e h =
     let w = settled_yes kept q e in implied_meets w.0.ask q size d w.2 (h w.0 w.1)
 
 -- Where the run isn't known to stop, sizes that meet all conditions at the end meet, after the first block, those of the second.
-pub reads_meets : (e : Effect) (a : List Changed) (lines : ℕ) (kept rest : List Asked) (size : Needle → ℕ) → AllNameOnce e a rest →
-    (reads e a lines kept rest).stop ≡ None → MeetsSizes (reads e a lines kept rest).checks size → MeetsSizes rest (size_after a size)
+pub reads_meets : (e : Effect) (la : List Last) (a : List Changed) (lines : ℕ) (kept rest : List Asked) (size : Needle → ℕ) → AllNameOnce e la a rest →
+    (reads e la a lines kept rest).stop ≡ None → MeetsSizes (reads e la a lines kept rest).checks size → MeetsSizes rest (size_after a size)
 unfolding reads
-reads_meets e a lines kept [] size d goes_on h = λ c there. absurd (Contains-none c there)
-reads_meets e a lines kept (b ∷ bs) size d goes_on h =
-    go (against_kept kept (read_answer e a b.ask)) refl (λ ks o k. reads_meets e a lines ks bs size d.1 o k) goes_on h
+reads_meets e la a lines kept [] size d goes_on h = λ c there. absurd (Contains-none c there)
+reads_meets e la a lines kept (b ∷ bs) size d goes_on h =
+    go (against_kept kept (read_answer e la a b.ask)) refl (λ ks o k. reads_meets e la a lines ks bs size d.1 o k) goes_on h
   where
-    go : (r : Answer) → against_kept kept (read_answer e a b.ask) ≡ r →
-        ((ks : List Asked) → (reads e a lines ks bs).stop ≡ None → MeetsSizes (reads e a lines ks bs).checks size → MeetsSizes bs (size_after a size)) →
-        (next r kept (raised lines b.fault) (λ k. reads e a lines k bs)).stop ≡ None →
-        MeetsSizes (next r kept (raised lines b.fault) (λ k. reads e a lines k bs)).checks size →
+    go : (r : Answer) → against_kept kept (read_answer e la a b.ask) ≡ r →
+        ((ks : List Asked) → (reads e la a lines ks bs).stop ≡ None → MeetsSizes (reads e la a lines ks bs).checks size → MeetsSizes bs (size_after a size)) →
+        (next r kept (raised lines b.fault) (λ k. reads e la a lines k bs)).stop ≡ None →
+        MeetsSizes (next r kept (raised lines b.fault) (λ k. reads e la a lines k bs)).checks size →
         (c : Asked) → Contains (b ∷ bs) c → MeetsSize c.ask (size_after a size)
     go yes_it_does is ih o k c there = elim (Contains-cons_cases b bs c there) [
       | inl same ↦ subst (λ (x : Asked). MeetsSize x.ask (size_after a size)) same
-          (read_meets e a b.ask size (against_yes kept (read_answer e a b.ask) size d.0 is (λ x h. k x (reads_longer e a lines kept bs x h))))
+          (read_meets e la a b.ask size (against_yes kept (read_answer e la a b.ask) size d.0 is (λ x h. k x (reads_longer e la a lines kept bs x h))))
       | inr later ↦ ih kept o k c later
     ]
     go no_it_does_not is ih o k c there = absurd (cc)
     go (asks w) is ih o k c there = elim (Contains-cons_cases b bs c there) [
       | inl same ↦ subst (λ (x : Asked). MeetsSize x.ask (size_after a size)) same
-          (read_meets e a b.ask size (subst (λ r. MeetsAnswer r size) (sym (against_asks kept (read_answer e a b.ask) w is).0)
+          (read_meets e la a b.ask size (subst (λ r. MeetsAnswer r size) (sym (against_asks kept (read_answer e la a b.ask) w is).0)
           (k (record { fault = raised lines b.fault; ask = w })
-          (reads_longer e a lines (kept ++ record { fault = raised lines b.fault; ask = w } ∷ []) bs (record { fault = raised lines b.fault; ask = w })
+          (reads_longer e la a lines (kept ++ record { fault = raised lines b.fault; ask = w } ∷ []) bs (record { fault = raised lines b.fault; ask = w })
           (Contains-push kept (record { fault = raised lines b.fault; ask = w }))))))
       | inr later ↦ ih (kept ++ record { fault = raised lines b.fault; ask = w } ∷ []) o k c later
     ]

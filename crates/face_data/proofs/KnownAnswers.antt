@@ -9,7 +9,7 @@ use Rattle.face_data.specs.Answers.Answer.{yes_it_does, no_it_does_not, asks}
 use Rattle.face_data.specs.Chains.{chain_at, known_of, answer_known}
 use Rattle.face_data.specs.Composition.{against_kept, settled}
 use Rattle.face_data.specs.Conditions.{Ask}
-use Rattle.face_data.specs.Conditions.Ask.{rack_is, carrier_in, carrier_out, hook_free, hook_is, hook_lacks, size_at_most}
+use Rattle.face_data.specs.Conditions.Ask.{rack_is, carrier_in, carrier_out, hook_free, hook_is, hook_lacks, size_at_most, last_near}
 use Rattle.face_data.specs.Digests.{digest_of}
 use Rattle.face_data.specs.Goodness.{IsGood, IsIrredundant, LiesIn, AskFits, names_in}
 use Rattle.face_data.specs.Sets.{IsDistinct, NestedOrApart}
@@ -22,7 +22,7 @@ use Rattle.face_data.proofs.KeptChecks.{ComesFrom, irredundant_push, against_ask
 -- each kept condition is one of the first block's, or one of the second's read through the first, and none says anything of a later one
 pub record AreKept (e : Effect) (a b : Summary) (kept : List Asked) : Type 0 where
   pub irredundant : IsIrredundant kept
-  pub come_from : (c : Asked) → Contains kept c → ComesFrom e a.changes a.lines a.checks b.checks c
+  pub come_from : (c : Asked) → Contains kept c → ComesFrom e a.lasts a.changes a.lines a.checks b.checks c
 
 -- at first those of the first block are kept
 pub kept-first : (carriers limit : ℕ) (first : List Needle) (e : Effect) (a b : Summary) → IsGood carriers limit first a → AreKept e a b a.checks
@@ -30,9 +30,9 @@ kept-first carriers limit first e a b good = record { irredundant = good.irredun
 
 -- then each that is left to ask
 pub kept-push : (e : Effect) (a b : Summary) (kept : List Asked) (d : Asked) (ask : Ask) → AreKept e a b kept → Contains b.checks d →
-    against_kept kept (read_answer e a.changes d.ask) ≡ asks ask → AreKept e a b (kept ++ record { fault = raised a.lines d.fault; ask = ask } ∷ [])
+    against_kept kept (read_answer e a.lasts a.changes d.ask) ≡ asks ask → AreKept e a b (kept ++ record { fault = raised a.lines d.fault; ask = ask } ∷ [])
 kept-push e a b kept d ask are there is =
-    let both = against_asks kept (read_answer e a.changes d.ask) ask is in
+    let both = against_asks kept (read_answer e a.lasts a.changes d.ask) ask is in
     let new : Asked = record { fault = raised a.lines d.fault; ask = ask } in
     record {
       irredundant = irredundant_push kept new are.irredundant both.1;
@@ -51,10 +51,11 @@ AskFits-distinct carriers limit known (carrier_out x) fits = tt
 AskFits-distinct carriers limit known hook_free fits = tt
 AskFits-distinct carriers limit known (hook_is x) fits = tt
 AskFits-distinct carriers limit known (hook_lacks x) fits = tt
+AskFits-distinct carriers limit known (last_near c at float) fits = tt
 
 settled-known : (carriers limit : ℕ) (known : List Needle) (kept : List Asked) (w : Ask) → IsIrredundant kept → AskFits carriers limit known w →
     ((c : Asked) → Contains kept c → IsDistinct (names_in c.ask)) → ((c : Asked) → Contains kept c → NestedOrApart (names_in c.ask) (names_in w)) →
-    settled kept w ≡ known_of (digest_of kept) (chain_at kept) w
+    settled kept w ≡ known_of (digest_of kept) (chain_at kept) kept w
 settled-known carriers limit known kept (size_at_most [] most) alone fits distinct nested = absurd (let some : 1 ≤ 0 = fits.some in omega arith)
 settled-known carriers limit known kept (size_at_most (n ∷ names) most) alone fits distinct nested = settled-sizes kept n names most fits.distinct distinct nested
 settled-known carriers limit known kept (rack_is x) alone fits distinct nested = settled-plain kept (rack_is x) tt alone
@@ -63,25 +64,26 @@ settled-known carriers limit known kept (carrier_out x) alone fits distinct nest
 settled-known carriers limit known kept hook_free alone fits distinct nested = settled-plain kept hook_free tt alone
 settled-known carriers limit known kept (hook_is x) alone fits distinct nested = settled-plain kept (hook_is x) tt alone
 settled-known carriers limit known kept (hook_lacks x) alone fits distinct nested = settled-plain kept (hook_lacks x) tt alone
+settled-known carriers limit known kept (last_near c at float) alone fits distinct nested = refl
 
 -- What is known of the next condition of the second block.
 pub answer-known : (carriers limit : ℕ) (first second : List Needle) (e : Effect) (a b : Summary) (kept : List Asked) (d : Asked) → IsGood carriers limit first a →
     IsGood carriers limit second b → ((c : Asked) → Contains a.checks c → LiesIn a.changes (names_in c.ask)) → AreKept e a b kept → Contains b.checks d →
-    against_kept kept (read_answer e a.changes d.ask) ≡ answer_known (digest_of kept) (chain_at kept) (read_answer e a.changes d.ask)
-answer-known carriers limit first second e a b kept d ga gb lies are there = go (read_answer e a.changes d.ask) refl
+    against_kept kept (read_answer e a.lasts a.changes d.ask) ≡ answer_known (digest_of kept) (chain_at kept) kept (read_answer e a.lasts a.changes d.ask)
+answer-known carriers limit first second e a b kept d ga gb lies are there = go (read_answer e a.lasts a.changes d.ask) refl
   where
     kept_fits : (c : Asked) → Contains kept c → IsDistinct (names_in c.ask)
     kept_fits c here = elim (are.come_from c here) [
       | inl before ↦ AskFits-distinct carriers limit first c.ask (ga.fair.asks_fit c before)
       | inr from ↦ AskFits-distinct carriers limit (first ++ second) c.ask
-          (asks_fit_read carriers limit first second e a.changes a.lines from.0.ask c.ask ga.fair.owns ga.fair.changes_fit (gb.fair.asks_fit from.0 from.1) from.2)
+          (asks_fit_read carriers limit first second e a.lasts a.changes a.lines from.0.ask c.ask ga.fair.owns ga.fair.changes_fit (gb.fair.asks_fit from.0 from.1) from.2)
     ]
 
-    go : (r : Answer) → read_answer e a.changes d.ask ≡ r → against_kept kept r ≡ answer_known (digest_of kept) (chain_at kept) r
+    go : (r : Answer) → read_answer e a.lasts a.changes d.ask ≡ r → against_kept kept r ≡ answer_known (digest_of kept) (chain_at kept) kept r
     go yes_it_does is = refl
     go no_it_does_not is = refl
     go (asks w) is = settled-known carriers limit (first ++ second) kept w are.irredundant
-        (asks_fit_read carriers limit first second e a.changes a.lines d.ask w ga.fair.owns ga.fair.changes_fit (gb.fair.asks_fit d there) is)
+        (asks_fit_read carriers limit first second e a.lasts a.changes a.lines d.ask w ga.fair.owns ga.fair.changes_fit (gb.fair.asks_fit d there) is)
         kept_fits
-        (λ c here. subst (NestedOrApart (names_in c.ask)) (sym (names_read e a.changes d.ask w is))
+        (λ c here. subst (NestedOrApart (names_in c.ask)) (sym (names_read e a.lasts a.changes d.ask w is))
         (kept_nested e a b ga.fair.owns lies gb.fair.nested c d (are.come_from c here) there))

@@ -18,6 +18,7 @@ pub mod Front
 pub mod Gathering
 pub mod Goodness
 pub mod Items
+pub mod LastLists
 pub mod KeptChecks
 pub mod KnownAnswers
 pub mod Marks

@@ -12,7 +12,7 @@ use Rattle.knit_base.specs.Needle.{same_needle, same_needle-true}
 use Rattle.face_data.specs.declared.face.Change.{Change}
 use Rattle.face_data.specs.declared.face.Check.{Check}
 use Rattle.face_data.specs.declared.face.Cond.{Cond}
-use Rattle.face_data.specs.declared.face.Cond.TheVariants.{RackIs, CarrierIn, CarrierOut, HookFree, HookIs, HookLacks, SizeAtMost}
+use Rattle.face_data.specs.declared.face.Cond.TheVariants.{RackIs, CarrierIn, CarrierOut, HookFree, HookIs, HookLacks, SizeAtMost, LastNear}
 use Rattle.face_data.specs.declared.face.Part.{Part}
 use Rattle.face_data.specs.declared.face.Seg.{Seg}
 use Rattle.face_data.specs.Conditions.{ask_of, part_of}
@@ -47,6 +47,7 @@ cond_fits-more names more (CarrierOut c) fits = tt
 cond_fits-more names more HookFree fits = tt
 cond_fits-more names more (HookIs set) fits = tt
 cond_fits-more names more (HookLacks c) fits = tt
+cond_fits-more names more (LastNear c at float) fits = tt
 
 -- a condition with its needles written out
 pub ask_of-more : (names more : List Needle) (c : Cond) → CondFits names c → ask_of (names ++ more) c ≡ ask_of names c
@@ -57,6 +58,7 @@ ask_of-more names more (CarrierOut c) fits = refl
 ask_of-more names more HookFree fits = refl
 ask_of-more names more (HookIs set) fits = refl
 ask_of-more names more (HookLacks c) fits = refl
+ask_of-more names more (LastNear c at float) fits = refl
 
 -- the needles of a condition
 pub names_of-more : (names more : List Needle) (c : Cond) → CondFits names c → names_of (names ++ more) c ≡ names_of names c
@@ -67,6 +69,7 @@ names_of-more names more (CarrierOut c) fits = refl
 names_of-more names more HookFree fits = refl
 names_of-more names more (HookIs set) fits = refl
 names_of-more names more (HookLacks c) fits = refl
+names_of-more names more (LastNear c at float) fits = refl
 
 -- all checks
 pub checks-more : (checks : List Check) (names more : List Needle) → ChecksFit names checks → map (asked_of (names ++ more)) checks ≡ map (asked_of names) checks

@@ -19,6 +19,7 @@ use Rattle.face_data.specs.declared.face.Ending.{Ending}
 use Rattle.face_data.specs.declared.face.Ending.TheVariants.{Through, Broken}
 use Rattle.face_data.specs.Composition.{reads, composed, composed_at, closed_at, made_with, ending_after, and_then}
 use Rattle.face_data.specs.Goodness.{IsGood, IsFair}
+use Rattle.face_data.specs.declared.face.Last.{Last}
 use Rattle.face_data.specs.Segments.{AreRead, Changed}
 use Rattle.face_data.specs.Stands.{StandsFor, outcome_of_run}
 use Rattle.face_data.specs.Summaries.{Asked, Summary, Outcome, applied, first_fault, outcome_of}
@@ -31,7 +32,7 @@ closed_lines None checks e a b = refl
 
 lines_at : (ending : Ending) (a b : Summary) → (composed_at ending a b).lines ≡ a.lines + b.lines
 lines_at (Broken fault) a b = refl
-lines_at (Through e) a b = closed_lines (reads e a.changes a.lines a.checks b.checks).stop (reads e a.changes a.lines a.checks b.checks).checks e a b
+lines_at (Through e) a b = closed_lines (reads e a.lasts a.changes a.lines a.checks b.checks).stop (reads e a.lasts a.changes a.lines a.checks b.checks).checks e a b
 
 -- the lines of both
 pub lines-composed : (a b : Summary) → (composed a b).lines ≡ a.lines + b.lines
@@ -47,21 +48,21 @@ made_closed None checks e through a b (Through more) is goes = ap (λ ending. ma
 made_at : (ending : Ending) (a b : Summary) (through : Effect) → (composed_at ending a b).ending ≡ Through through → (composed_at ending a b).made ≡ a.made + b.made
 made_at (Broken fault) a b through goes = absurd (cc)
 made_at (Through e) a b through goes =
-    made_closed (reads e a.changes a.lines a.checks b.checks).stop (reads e a.changes a.lines a.checks b.checks).checks e through a b b.ending refl goes
+    made_closed (reads e a.lasts a.changes a.lines a.checks b.checks).stop (reads e a.lasts a.changes a.lines a.checks b.checks).checks e through a b b.ending refl goes
 
 -- the loops of both, where the block goes through
 pub made-composed : (a b : Summary) (through : Effect) → (composed a b).ending ≡ Through through → (composed a b).made ≡ a.made + b.made
 made-composed a b through goes = made_at a.ending a b through goes
 
-through_outcome : (fault : Option Fault) (ending : Ending) (changes : List Changed) (s t : State) (first : ℕ) → outcome_of fault ending changes s first ≡ went_on t →
+through_outcome : (fault : Option Fault) (ending : Ending) (la : List Last) (changes : List Changed) (s t : State) (first : ℕ) → outcome_of fault ending la changes s first ≡ went_on t →
     (e : Effect) × (ending ≡ Through e)
-through_outcome (Some fault) ending changes s t first goes = absurd (cc)
-through_outcome None (Broken fault) changes s t first goes = absurd (cc)
-through_outcome None (Through e) changes s t first goes = (e, refl)
+through_outcome (Some fault) ending la changes s t first goes = absurd (cc)
+through_outcome None (Broken fault) la changes s t first goes = absurd (cc)
+through_outcome None (Through e) la changes s t first goes = (e, refl)
 
 -- a block that goes on from some state doesn't end broken
 pub goes_through : (a : Summary) (s t : State) (first : ℕ) → applied a s first ≡ went_on t → (e : Effect) × (a.ending ≡ Through e)
-goes_through a s t first goes = through_outcome (first_fault a.checks s) a.ending a.changes s t first goes
+goes_through a s t first goes = through_outcome (first_fault a.checks s) a.ending a.lasts a.changes s t first goes
 
 -- the state in which a block ends that goes on
 abbrev pub state_in : Outcome → State → State
@@ -69,16 +70,16 @@ state_in (went_on t) s = t
 state_in (faulted fault) s = s
 
 -- the needles hold what the changes say where a summary goes on
-pub ends_read_at : (found : Option Fault) (ending : Ending) (changes : List Changed) (s t : State) (first : ℕ) → outcome_of found ending changes s first ≡ went_on t → AreRead changes s first t.stacks
-ends_read_at (Some fault) ending changes s t first goes n = absurd (cc)
-ends_read_at None (Broken fault) changes s t first goes n = absurd (cc)
-ends_read_at None (Through e) changes s t first goes n = sym (ap (λ o. (state_in o s).stacks n) goes)
+pub ends_read_at : (found : Option Fault) (ending : Ending) (la : List Last) (changes : List Changed) (s t : State) (first : ℕ) → outcome_of found ending la changes s first ≡ went_on t → AreRead changes s first t.stacks
+ends_read_at (Some fault) ending la changes s t first goes n = absurd (cc)
+ends_read_at None (Broken fault) la changes s t first goes n = absurd (cc)
+ends_read_at None (Through e) la changes s t first goes n = sym (ap (λ o. (state_in o s).stacks n) goes)
 
 -- where lines are carried out, the needles hold what their summary says
 pub ends_read : (profile : Profile) (summary : Summary) (lines : List Read) → StandsFor profile summary lines → (s t : State) (first : ℕ) → run profile s first lines ≡ Ends t →
     AreRead summary.changes s first t.stacks
 ends_read profile summary lines stands s t first ends =
-    ends_read_at (first_fault summary.checks s) summary.ending summary.changes s t first (stands.outcome s first ∙ ap outcome_of_run ends)
+    ends_read_at (first_fault summary.checks s) summary.ending summary.lasts summary.changes s t first (stands.outcome s first ∙ ap outcome_of_run ends)
 
 -- one block after another
 pub and_then_same : (o : Outcome) (f g : State → Outcome) → ((t : State) → f t ≡ g t) → and_then o f ≡ and_then o g
@@ -119,9 +120,9 @@ unfolding run_then
 run-append profile s k [] ys = ap (λ n. run profile s n ys) (let e : k ≡ k + 0 = omega arith in e)
 run-append profile s k (x ∷ xs) ys =
     ap (run_on k (broken profile x s) s)
-    (run-append profile (step k x s) (k + 1) xs ys
-    ∙ ap (λ n. run_then profile (run profile (step k x s) (k + 1) xs) n ys) (let e : k + 1 + length xs ≡ k + length (x ∷ xs) = omega arith in e))
-    ∙ run_on_then profile k (k + length (x ∷ xs)) (broken profile x s) s (run profile (step k x s) (k + 1) xs) ys
+    (run-append profile (step profile k x s) (k + 1) xs ys
+    ∙ ap (λ n. run_then profile (run profile (step profile k x s) (k + 1) xs) n ys) (let e : k + 1 + length xs ≡ k + length (x ∷ xs) = omega arith in e))
+    ∙ run_on_then profile k (k + length (x ∷ xs)) (broken profile x s) s (run profile (step profile k x s) (k + 1) xs) ys
 
 outcome_then : (profile : Profile) (ended : Ended) (k : ℕ) (rs : List Read) →
     outcome_of_run (run_then profile ended k rs) ≡ and_then (outcome_of_run ended) (λ t. outcome_of_run (run profile t k rs))
@@ -148,10 +149,10 @@ loops_made-append profile s u k [] ys ends =
     let same : s ≡ u = cc in
     ap (λ t. loops_made profile t k ys) same ∙ ap (λ n. loops_made profile u n ys) (let e : k ≡ k + 0 = omega arith in e)
 loops_made-append profile s u k (x ∷ xs) ys ends =
-    made_on-ends k (broken profile x s) s u (run profile (step k x s) (k + 1) xs) (fact_made k x s) (loops_made profile (step k x s) (k + 1) xs)
-    (loops_made profile u (k + length (x ∷ xs)) ys) (loops_made profile (step k x s) (k + 1) (xs ++ ys)) ends
-    (λ later. loops_made-append profile (step k x s) u (k + 1) xs ys later
-    ∙ ap (λ n. loops_made profile (step k x s) (k + 1) xs ++ loops_made profile u n ys) (let e : k + 1 + length xs ≡ k + length (x ∷ xs) = omega arith in e))
+    made_on-ends k (broken profile x s) s u (run profile (step profile k x s) (k + 1) xs) (fact_made k x s) (loops_made profile (step profile k x s) (k + 1) xs)
+    (loops_made profile u (k + length (x ∷ xs)) ys) (loops_made profile (step profile k x s) (k + 1) (xs ++ ys)) ends
+    (λ later. loops_made-append profile (step profile k x s) u (k + 1) xs ys later
+    ∙ ap (λ n. loops_made profile (step profile k x s) (k + 1) xs ++ loops_made profile u n ys) (let e : k + 1 + length xs ≡ k + length (x ∷ xs) = omega arith in e))
 
 -- The summary of two texts, one after the other, where the second one is fair.
 pub stands_fair : (profile : Profile) (carriers limit : ℕ) (first second : List Needle) (a b : Summary) (xs ys : List Read) → IsGood carriers limit first a →

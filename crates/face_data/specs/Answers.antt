@@ -1,11 +1,14 @@
 -- A condition that is asked after a first block, as one on the state at that block's entry.
-use Rattle.std.specs.Prelude.{ℕ, ◌-◌, Bool, true, false, nat_eq, nat_lt, List, [], ◌∷◌, Option, Some, None, if◌then◌else◌}
+use Rattle.std.specs.Prelude.{ℕ, ℤ, ◌-◌, Bool, true, false, nat_eq, nat_lt, List, [], ◌∷◌, Option, Some, None, if◌then◌else◌}
 use Rattle.std.specs.Ordering.{int_eq}
 use Rattle.knit_base.specs.declared.needle.Needle.{Needle}
 use Rattle.knit_base.specs.Yarns.{contains_carrier, lacks_carrier}
 use Rattle.face_data.specs.declared.face.Effect.{Effect}
 use Rattle.face_data.specs.Conditions.{Ask}
-use Rattle.face_data.specs.Conditions.Ask.{rack_is, carrier_in, carrier_out, hook_free, hook_is, hook_lacks, size_at_most}
+use Rattle.face_data.specs.Conditions.Ask.{rack_is, carrier_in, carrier_out, hook_free, hook_is, hook_lacks, size_at_most, last_near}
+use Rattle.face_data.specs.declared.face.Last.{Last}
+use Rattle.carriage_model.specs.State.{is_near}
+use Rattle.face_data.specs.Lasts.{last_at}
 use Rattle.face_data.specs.Segments.{Changed, names_through, new_through}
 
 -- what is known of a condition: that it holds, that it doesn't, or which condition on the entry it comes to
@@ -33,14 +36,20 @@ abbrev pub where_known : {X : Type 0} → Option X → (X → Bool) → Ask → 
 where_known None test ask = asks ask
 where_known (Some x) test ask = answer_of (test x)
 
+-- the condition that a carrier's last needle is near, where it is known
+abbrev pub near_answer : Option (Option ℤ) → Ask → ℤ → ℕ → Answer
+near_answer None ask at float = asks ask
+near_answer (Some last) ask at float = answer_of (is_near float last at)
+
 -- the condition, read through the first block
-unfoldable pub read_answer : Effect → List Changed → Ask → Answer
-read_answer effect changes (rack_is q) = where_known effect.rack (λ r. int_eq r.0 q) (rack_is q)
-read_answer effect changes (carrier_in c) =
+unfoldable pub read_answer : Effect → List Last → List Changed → Ask → Answer
+read_answer effect lasts changes (rack_is q) = where_known effect.rack (λ r. int_eq r.0 q) (rack_is q)
+read_answer effect lasts changes (carrier_in c) =
     if contains_carrier effect.came c then yes_it_does else (if contains_carrier effect.went c then no_it_does_not else asks (carrier_in c))
-read_answer effect changes (carrier_out c) =
+read_answer effect lasts changes (carrier_out c) =
     if contains_carrier effect.came c then no_it_does_not else (if contains_carrier effect.went c then yes_it_does else asks (carrier_out c))
-read_answer effect changes hook_free = where_known effect.hook (λ held. nat_eq held 0) hook_free
-read_answer effect changes (hook_is set) = where_known effect.hook (λ held. nat_eq held set) (hook_is set)
-read_answer effect changes (hook_lacks c) = where_known effect.hook (λ held. lacks_carrier held c) (hook_lacks c)
-read_answer effect changes (size_at_most names most) = size_answer (names_through changes names) (new_through changes names) most
+read_answer effect lasts changes hook_free = where_known effect.hook (λ held. nat_eq held 0) hook_free
+read_answer effect lasts changes (hook_is set) = where_known effect.hook (λ held. nat_eq held set) (hook_is set)
+read_answer effect lasts changes (hook_lacks c) = where_known effect.hook (λ held. lacks_carrier held c) (hook_lacks c)
+read_answer effect lasts changes (size_at_most names most) = size_answer (names_through changes names) (new_through changes names) most
+read_answer effect lasts changes (last_near c at float) = near_answer (last_at lasts c) (last_near c at float) at float

@@ -8,7 +8,7 @@ use Rattle.knit_base.specs.Yarns.{lacks_carrier}
 use Rattle.face_data.specs.declared.bearing.Bearing.{Bearing}
 use Rattle.face_data.specs.declared.bearing.Bearing.TheVariants.{Implied, Refuted, Silent}
 use Rattle.face_data.specs.Conditions.{Ask}
-use Rattle.face_data.specs.Conditions.Ask.{rack_is, carrier_in, carrier_out, hook_free, hook_is, hook_lacks, size_at_most}
+use Rattle.face_data.specs.Conditions.Ask.{rack_is, carrier_in, carrier_out, hook_free, hook_is, hook_lacks, size_at_most, last_near}
 
 -- this bearing, where the test passes
 abbrev pub if_so : Bool → Bearing → Bearing
@@ -39,4 +39,5 @@ bearing (hook_is set) (hook_is other) = same_or_not (nat_eq set other)
 bearing (hook_is set) (hook_lacks c) = if_so (lacks_carrier set c) Implied
 bearing (hook_lacks c) (hook_lacks d) = if_so (nat_eq c.0 d.0) Implied
 bearing (size_at_most earlier least) (size_at_most later most) = if_so (all_in later earlier && nat_le least most) Implied
+bearing (last_near c n f) (last_near d m g) = if_so (nat_eq c.0 d.0 && (int_eq n m && nat_eq f g)) Implied
 bearing p q = Silent

@@ -9,10 +9,10 @@ use Rattle.face_data.specs.declared.digest.Digest.{Digest}
 use Rattle.face_data.specs.Answers.{Answer}
 use Rattle.face_data.specs.Answers.Answer.{yes_it_does, no_it_does_not, asks}
 use Rattle.face_data.specs.Bearings.{if_so}
-use Rattle.face_data.specs.Composition.{from_bearing}
+use Rattle.face_data.specs.Composition.{from_bearing, settled}
 use Rattle.face_data.specs.Digests.{digest_bearing}
 use Rattle.face_data.specs.Conditions.{Ask}
-use Rattle.face_data.specs.Conditions.Ask.{size_at_most}
+use Rattle.face_data.specs.Conditions.Ask.{last_near, size_at_most}
 use Rattle.face_data.specs.Summaries.{Asked}
 
 -- a condition on sizes, by how many needles it names and how many loops it allows them
@@ -42,13 +42,14 @@ abbrev pub chain_bearing : (Needle → List SizeMark) → List Needle → ℕ �
 chain_bearing chains [] most = Silent
 chain_bearing chains (n ∷ names) most = if_so (is_covered (chains n) (length (n ∷ names)) most) Implied
 
--- what a digest and chains say of a condition
-abbrev pub known_of : Digest → (Needle → List SizeMark) → Ask → Answer
-known_of digest chains (size_at_most names most) = from_bearing (chain_bearing chains names most) (asks (size_at_most names most))
-known_of digest chains ask = from_bearing (digest_bearing digest ask) (asks ask)
+-- what a digest and chains of kept conditions say of a condition; one on a last needle is looked for among those that are kept
+abbrev pub known_of : Digest → (Needle → List SizeMark) → List Asked → Ask → Answer
+known_of digest chains kept (size_at_most names most) = from_bearing (chain_bearing chains names most) (asks (size_at_most names most))
+known_of digest chains kept (last_near c at float) = settled kept (last_near c at float)
+known_of digest chains kept ask = from_bearing (digest_bearing digest ask) (asks ask)
 
 -- the same of an answer: only a condition is left to ask
-abbrev pub answer_known : Digest → (Needle → List SizeMark) → Answer → Answer
-answer_known digest chains yes_it_does = yes_it_does
-answer_known digest chains no_it_does_not = no_it_does_not
-answer_known digest chains (asks ask) = known_of digest chains ask
+abbrev pub answer_known : Digest → (Needle → List SizeMark) → List Asked → Answer → Answer
+answer_known digest chains kept yes_it_does = yes_it_does
+answer_known digest chains kept no_it_does_not = no_it_does_not
+answer_known digest chains kept (asks ask) = known_of digest chains kept ask

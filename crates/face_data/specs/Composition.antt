@@ -15,6 +15,8 @@ use Rattle.face_data.specs.declared.bearing.Bearing.{Bearing}
 use Rattle.face_data.specs.Bearings.{bearing}
 use Rattle.face_data.specs.declared.bearing.Bearing.TheVariants.{Implied, Refuted, Silent}
 use Rattle.face_data.specs.Conditions.{Ask}
+use Rattle.face_data.specs.declared.face.Last.{Last}
+use Rattle.face_data.specs.Lasts.{lasts_of_both}
 use Rattle.face_data.specs.Segments.{Changed}
 use Rattle.face_data.specs.Summaries.{Asked, Summary, Outcome, raised}
 use Rattle.face_data.specs.Summaries.Outcome.{went_on, faulted}
@@ -65,10 +67,10 @@ next no_it_does_not kept fault go = record { checks = kept; stop = Some fault }
 next (asks ask) kept fault go = go (kept ++ record { fault = fault; ask = ask } ∷ [])
 
 -- the second block's conditions, read through the first block's effect, changes and lines, and held against those kept so far
-unfoldable pub reads : Effect → List Changed → ℕ → List Asked → List Asked → Gathering
-reads effect changes lines kept [] = record { checks = kept; stop = None }
-reads effect changes lines kept (c ∷ cs) =
-    next (against_kept kept (read_answer effect changes c.ask)) kept (raised lines c.fault) (λ ks. reads effect changes lines ks cs)
+unfoldable pub reads : Effect → List Last → List Changed → ℕ → List Asked → List Asked → Gathering
+reads effect lasts changes lines kept [] = record { checks = kept; stop = None }
+reads effect lasts changes lines kept (c ∷ cs) =
+    next (against_kept kept (read_answer effect lasts changes c.ask)) kept (raised lines c.fault) (λ ks. reads effect lasts changes lines ks cs)
 
 -- the new value, where there is one
 abbrev pub or_old : {X : Type 0} → Option X → Option X → Option X
@@ -99,14 +101,20 @@ abbrev pub changes_with : Ending → List Changed → List Changed
 changes_with (Broken fault) changes = []
 changes_with (Through effect) changes = changes
 
+-- nor any last needle
+abbrev pub lasts_with : Ending → List Last → List Last
+lasts_with (Broken fault) lasts = []
+lasts_with (Through effect) lasts = lasts
+
 -- the summary of both, with these checks, where both are known to stop at a fault or aren't
 abbrev pub closed_at : Option Fault → List Asked → Effect → Summary → Summary → Summary
-closed_at (Some fault) checks effect a b = record { lines = a.lines + b.lines; made = 0; checks = checks; changes = []; ending = Broken fault }
+closed_at (Some fault) checks effect a b = record { lines = a.lines + b.lines; made = 0; checks = checks; changes = []; lasts = []; ending = Broken fault }
 closed_at None checks effect a b = record {
   lines = a.lines + b.lines;
   made = made_with b.ending (a.made + b.made);
   checks = checks;
   changes = changes_with b.ending (merged a.changes (changes_through a.changes a.lines b.changes));
+  lasts = lasts_with b.ending (lasts_of_both a.lasts b.lasts);
   ending = ending_after a.lines effect b.ending;
 }
 
@@ -116,8 +124,8 @@ closed gathered effect a b = closed_at gathered.stop gathered.checks effect a b
 
 -- nothing is asked after a block that ends broken
 abbrev pub composed_at : Ending → Summary → Summary → Summary
-composed_at (Broken fault) a b = record { lines = a.lines + b.lines; made = 0; checks = a.checks; changes = []; ending = Broken fault }
-composed_at (Through effect) a b = closed (reads effect a.changes a.lines a.checks b.checks) effect a b
+composed_at (Broken fault) a b = record { lines = a.lines + b.lines; made = 0; checks = a.checks; changes = []; lasts = []; ending = Broken fault }
+composed_at (Through effect) a b = closed (reads effect a.lasts a.changes a.lines a.checks b.checks) effect a b
 
 -- the summary of a's block and then b's
 abbrev pub composed : Summary → Summary → Summary

@@ -8,9 +8,9 @@ use Rattle.knit_base.specs.declared.rule.Reason.{Reason}
 use Rattle.knit_base.specs.declared.yarns.CarrierNo.{CarrierNo}
 use Rattle.knit_base.specs.Reasons.{or_else}
 use Rattle.knit_base.specs.Yarns.{contains_carrier, lacks_carrier}
-use Rattle.carriage_model.specs.State.{State}
+use Rattle.carriage_model.specs.State.{State, is_near}
 use Rattle.face_data.specs.declared.face.Cond.{Cond}
-use Rattle.face_data.specs.declared.face.Cond.TheVariants.{RackIs, CarrierIn, CarrierOut, HookFree, HookIs, HookLacks, SizeAtMost}
+use Rattle.face_data.specs.declared.face.Cond.TheVariants.{RackIs, CarrierIn, CarrierOut, HookFree, HookIs, HookLacks, SizeAtMost, LastNear}
 use Rattle.face_data.specs.declared.face.Part.{Part}
 use Rattle.face_data.specs.declared.sizes.SizeAsk.{SizeAsk}
 
@@ -23,6 +23,7 @@ pub data Ask : Type 0 where
   hook_is : ℕ → Ask
   hook_lacks : CarrierNo → Ask
   size_at_most : List Needle → ℕ → Ask
+  last_near : CarrierNo → ℤ → ℕ → Ask
 
 -- a part of a list
 abbrev pub part_of : {X : Type 0} → List X → Part → List X
@@ -37,6 +38,7 @@ ask_of names HookFree = hook_free
 ask_of names (HookIs set) = hook_is set
 ask_of names (HookLacks c) = hook_lacks c
 ask_of names (SizeAtMost p most) = size_at_most (part_of names p) most
+ask_of names (LastNear c at float) = last_near c at float
 
 -- how many loops the needles hold together
 abbrev pub size_of : List Needle → State → ℕ
@@ -51,6 +53,7 @@ holds hook_free s = nat_eq s.hook 0
 holds (hook_is set) s = nat_eq s.hook set
 holds (hook_lacks c) s = lacks_carrier s.hook c
 holds (size_at_most names most) s = nat_le (size_of names s) most
+holds (last_near c at float) s = is_near float (s.lasts c) at
 
 -- the reason, where what it is given for fails
 abbrev pub unless : Bool → Reason → Option Reason

@@ -7,10 +7,10 @@ use Rattle.face_data.specs.declared.bearing.Bearing.TheVariants.{Implied, Refute
 use Rattle.face_data.specs.declared.digest.Digest.{Digest}
 use Rattle.face_data.specs.declared.face.Effect.{Effect}
 use Rattle.face_data.specs.declared.face.Cond.{Cond}
-use Rattle.face_data.specs.declared.face.Cond.TheVariants.{CarrierIn, CarrierOut, HookLacks}
+use Rattle.face_data.specs.declared.face.Cond.TheVariants.{CarrierIn, CarrierOut, HookLacks, LastNear}
 use Rattle.face_data.specs.Bearings.{if_so, same_or_not}
 use Rattle.face_data.specs.Conditions.{Ask}
-use Rattle.face_data.specs.Conditions.Ask.{rack_is, carrier_in, carrier_out, hook_free, hook_is, hook_lacks, size_at_most}
+use Rattle.face_data.specs.Conditions.Ask.{rack_is, carrier_in, carrier_out, hook_free, hook_is, hook_lacks, size_at_most, last_near}
 use Rattle.face_data.specs.Summaries.{Asked}
 
 -- nothing is asked
@@ -26,6 +26,7 @@ noted digest hook_free = record digest { hook = Some 0 }
 noted digest (hook_is set) = record digest { hook = Some set }
 noted digest (hook_lacks c) = record digest { lacks = bit_or digest.lacks (2 ^ c.0) }
 noted digest (size_at_most names most) = digest
+noted digest (last_near c at float) = digest
 
 -- the digest of conditions in their order
 abbrev pub digest_of : List Asked → Digest
@@ -36,7 +37,7 @@ abbrev pub bearing_by : {X : Type 0} → Option X → (X → Bearing) → Bearin
 bearing_by None says = Silent
 bearing_by (Some x) says = says x
 
--- what the digest says of a condition that isn't on sizes
+-- what the digest says of a condition that isn't on sizes or on a last needle
 unfoldable pub digest_bearing : Digest → Ask → Bearing
 digest_bearing digest (rack_is q) = bearing_by digest.rack (λ p. same_or_not (int_eq p.0 q))
 digest_bearing digest (carrier_in c) = if contains_carrier digest.ins c then Implied else if_so (contains_carrier digest.outs c) Refuted
@@ -46,8 +47,9 @@ digest_bearing digest (hook_is set) = bearing_by digest.hook (λ held. same_or_n
 digest_bearing digest (hook_lacks c) =
     if contains_carrier digest.lacks c then Implied else bearing_by digest.hook (λ held. if_so (lacks_carrier held c) Implied)
 digest_bearing digest (size_at_most names most) = Silent
+digest_bearing digest (last_near c at float) = Silent
 
--- what is known, after a block of this effect, of a condition that isn't on sizes
+-- what is known, after a block of this effect, of a condition that isn't on sizes or on a last needle
 unfoldable pub effect_bearing : Effect → Ask → Bearing
 effect_bearing effect (rack_is q) = bearing_by effect.rack (λ p. same_or_not (int_eq p.0 q))
 effect_bearing effect (carrier_in c) = if contains_carrier effect.came c then Implied else if_so (contains_carrier effect.went c) Refuted
@@ -56,10 +58,12 @@ effect_bearing effect hook_free = bearing_by effect.hook (λ held. same_or_not (
 effect_bearing effect (hook_is set) = bearing_by effect.hook (λ held. same_or_not (nat_eq held set))
 effect_bearing effect (hook_lacks c) = bearing_by effect.hook (λ held. same_or_not (lacks_carrier held c))
 effect_bearing effect (size_at_most names most) = Silent
+effect_bearing effect (last_near c at float) = Silent
 
--- the condition isn't on sizes
+-- the condition isn't on sizes or on a last needle
 abbrev pub IsPlainCondition : Ask → Type 0
 IsPlainCondition (size_at_most names most) = ⊥
+IsPlainCondition (last_near c at float) = ⊥
 IsPlainCondition ask = Unit {0}
 
 -- the carrier of a condition is one of 64
@@ -68,3 +72,13 @@ CarrierFits (CarrierIn c) = c.0 < 64
 CarrierFits (CarrierOut c) = c.0 < 64
 CarrierFits (HookLacks c) = c.0 < 64
 CarrierFits cond = Unit {0}
+
+-- the condition is that a carrier's last needle is near
+abbrev pub IsNearCond : Cond → Type 0
+IsNearCond (LastNear c at float) = Unit {0}
+IsNearCond cond = ⊥
+
+-- the condition isn't on sizes
+abbrev pub IsUnsized : Ask → Type 0
+IsUnsized (size_at_most names most) = ⊥
+IsUnsized ask = Unit {0}

@@ -12,7 +12,7 @@ no_effect = record { rack = None; came = 0; went = 0; hook = None }
 
 -- the summary of no line
 abbrev pub no_lines : Summary
-no_lines = record { lines = 0; made = 0; checks = []; changes = []; ending = Through no_effect }
+no_lines = record { lines = 0; made = 0; checks = []; changes = []; lasts = []; ending = Through no_effect }
 
 -- the summary of lines, one after the other, where each line has this summary
 abbrev pub drafted : (Read → Summary) → List Read → Summary

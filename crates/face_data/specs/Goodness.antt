@@ -1,5 +1,5 @@
 -- Summaries that composition can build on.
-use Rattle.std.specs.Prelude.{◌≡◌, ℕ, ◌+◌, ◌^◌, ◌≤◌, ◌<◌, true, false, ◌⊎◌, List, [], ◌∷◌, length, map, All, IfSome}
+use Rattle.std.specs.Prelude.{◌≡◌, ℕ, ◌+◌, ◌^◌, ◌≤◌, ◌<◌, true, false, ◌⊎◌, List, [], ◌∷◌, length, map, All, IfSome, is_some}
 use Rattle.std.specs.List.{Contains, sum_by}
 use Rattle.std.specs.List.Sorted.{IsStrictlySortedBy}
 use Rattle.knit_base.specs.declared.needle.Needle.{Needle}
@@ -14,8 +14,10 @@ use Rattle.face_data.specs.declared.face.Seg.TheVariants.{New}
 use Rattle.face_data.specs.Bearings.{bearing}
 use Rattle.face_data.specs.declared.bearing.Bearing.TheVariants.{Silent}
 use Rattle.face_data.specs.Conditions.{Ask}
-use Rattle.face_data.specs.Conditions.Ask.{rack_is, carrier_in, carrier_out, hook_free, hook_is, hook_lacks, size_at_most}
+use Rattle.face_data.specs.Conditions.Ask.{rack_is, carrier_in, carrier_out, hook_free, hook_is, hook_lacks, size_at_most, last_near}
 use Rattle.face_data.specs.Segments.{Changed, segments_on, entries_of, new_of}
+use Rattle.face_data.specs.declared.face.Last.{Last}
+use Rattle.face_data.specs.Lasts.{AreInOrder, last_at}
 use Rattle.face_data.specs.Sets.{IsDistinct, IsWithin, IsApart, NestedOrApart}
 use Rattle.face_data.specs.Spots.{IsNumbered}
 use Rattle.face_data.specs.Summaries.{Asked, Summary}
@@ -71,6 +73,7 @@ AskFits carriers limit known hook_free = Unit {0}
 AskFits carriers limit known (hook_is set) = set < 2 ^ carriers
 AskFits carriers limit known (hook_lacks c) = c.0 < carriers
 AskFits carriers limit known (size_at_most names most) = SizeFits limit known names most
+AskFits carriers limit known (last_near c at float) = c.0 < carriers
 
 -- the needles of a condition on sizes
 abbrev pub names_in : Ask → List Needle
@@ -81,6 +84,11 @@ names_in ask = []
 abbrev pub NeverFalls : List Asked → Type 0
 NeverFalls [] = Unit {0}
 NeverFalls (c ∷ cs) = ((d : Asked) → Contains cs d → c.fault.line ≤ d.fault.line) × NeverFalls cs
+
+-- two conditions on the last needle of one carrier ask the same
+abbrev pub AgreeOnLast : Ask → Ask → Type 0
+AgreeOnLast (last_near c n f) (last_near d m g) = c ≡ d → (n ≡ m) × (f ≡ g)
+AgreeOnLast p q = Unit {0}
 
 -- a change speaks of known needles and of lines of the block
 pub record ChangeFits (lines : ℕ) (known : List Needle) (c : Changed) : Type 0 where
@@ -93,7 +101,13 @@ pub record BrokenFits (summary : Summary) (fault : Fault) : Type 0 where
   pub within : fault.line < summary.lines
   pub last : (c : Asked) → Contains summary.checks c → c.fault.line ≤ fault.line
   pub unchanged : summary.changes ≡ []
+  pub no_lasts : summary.lasts ≡ []
   pub made : summary.made ≡ 0
+
+-- a carrier whose last needle is asked for is one whose last needle is set
+abbrev pub IsSet : List Last → Ask → Type 0
+IsSet lasts (last_near c at float) = is_some (last_at lasts c) ≡ true
+IsSet lasts ask = Unit {0}
 
 -- no carrier came and went, all are declared, and each condition on sizes lies within what one needle holds, or apart from all
 pub record ThroughFits (carriers : ℕ) (summary : Summary) (effect : Effect) : Type 0 where
@@ -102,6 +116,7 @@ pub record ThroughFits (carriers : ℕ) (summary : Summary) (effect : Effect) : 
   pub came : effect.came < 2 ^ carriers
   pub went : effect.went < 2 ^ carriers
   pub hook : IfSome effect.hook (λ set. set < 2 ^ carriers)
+  pub nears : (c : Asked) → Contains summary.checks c → IsSet summary.lasts c.ask
 
 -- the ending fits the rest of the summary
 abbrev pub EndingFits : ℕ → Summary → Ending → Type 0
@@ -115,9 +130,12 @@ pub record IsFair (carriers limit : ℕ) (known : List Needle) (summary : Summar
   pub within : (c : Asked) → Contains summary.checks c → c.fault.line < summary.lines
   pub in_turn : NeverFalls summary.checks
   pub nested : (c d : Asked) → Contains summary.checks c → Contains summary.checks d → NestedOrApart (names_in c.ask) (names_in d.ask)
+  pub agree : (c d : Asked) → Contains summary.checks c → Contains summary.checks d → AgreeOnLast c.ask d.ask
   pub in_order : IsInOrder summary.changes
   pub changes_fit : (c : Changed) → Contains summary.changes c → ChangeFits summary.lines known c
   pub owns : OwnsOnce summary.changes
+  pub lasts_in_order : AreInOrder summary.lasts
+  pub lasts_fit : (l : Last) → Contains summary.lasts l → l.carrier.0 < carriers
   pub sizes : (size : Needle → ℕ) → ((n : Needle) → size n ≤ limit) → MeetsSizes summary.checks size → (m : Needle) → size_after summary.changes size m ≤ limit
   pub ending : EndingFits carriers summary summary.ending
 

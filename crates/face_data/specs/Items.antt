@@ -38,9 +38,9 @@ ending_items (Broken fault) = 1
 
 -- all items of a summary
 abbrev pub items : Summary → ℕ
-items summary = check_items summary.checks + change_items summary.changes + ending_items summary.ending
+items summary = check_items summary.checks + change_items summary.changes + length summary.lasts + ending_items summary.ending
 
 -- how many there can be for so many carriers, a limit on the loops of a needle, and so many needles
 abbrev pub most_items : ℕ → ℕ → ℕ → ℕ
 most_items carriers limit needles =
-    3 * carriers + 4 + (2 * needles - 1) * (limit + 1) * (needles + 1) + (limit + 2) * needles
+    5 * carriers + 4 + (2 * needles - 1) * (limit + 1) * (needles + 1) + (limit + 2) * needles

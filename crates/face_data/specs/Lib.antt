@@ -7,6 +7,7 @@ pub mod Digests
 pub mod Drafts
 pub mod Goodness
 pub mod Items
+pub mod Lasts
 pub mod Places
 pub mod Segments
 pub mod Sets

@@ -10,6 +10,8 @@ use Rattle.face_data.specs.declared.face.Effect.{Effect}
 use Rattle.face_data.specs.declared.face.Ending.{Ending}
 use Rattle.face_data.specs.declared.face.Ending.TheVariants.{Through, Broken}
 use Rattle.face_data.specs.Conditions.{Ask, holds}
+use Rattle.face_data.specs.declared.face.Last.{Last}
+use Rattle.face_data.specs.Lasts.{lasts_after}
 use Rattle.face_data.specs.Segments.{Changed, segments_on, read_segs}
 
 -- a condition, and the fault where it doesn't hold
@@ -23,6 +25,7 @@ pub record Summary : Type 0 where
   pub made : ℕ
   pub checks : List Asked
   pub changes : List Changed
+  pub lasts : List Last
   pub ending : Ending
 
 -- the fault of the first condition that doesn't hold
@@ -49,12 +52,13 @@ pub record IsEffectOf (instr : Instr) (effect : Effect) : Type 0 where
   pub ins : (k : ℕ) (s : State) → ins_after effect s.ins ≡ (step_instr k instr s).ins
   pub hook : (k : ℕ) (s : State) → hook_after effect s.hook ≡ (step_instr k instr s).hook
 
--- the state that the effect and the changes make
-abbrev pub after : Effect → List Changed → State → ℕ → State
-after effect changes s first = record {
+-- the state that the effect, the last needles and the changes make
+abbrev pub after : Effect → List Last → List Changed → State → ℕ → State
+after effect lasts changes s first = record {
   rack = rack_after effect.rack s.rack;
   ins = ins_after effect s.ins;
   hook = hook_after effect s.hook;
+  lasts = lasts_after lasts s.lasts;
   stacks = λ n. read_segs s first (segments_on changes n);
 }
 
@@ -68,11 +72,11 @@ pub data Outcome : Type 0 where
   faulted : Fault → Outcome
 
 -- how a block ends whose first condition that fails has this fault
-abbrev pub outcome_of : Option Fault → Ending → List Changed → State → ℕ → Outcome
-outcome_of (Some fault) ending changes s first = faulted (raised first fault)
-outcome_of None (Broken fault) changes s first = faulted (raised first fault)
-outcome_of None (Through effect) changes s first = went_on (after effect changes s first)
+abbrev pub outcome_of : Option Fault → Ending → List Last → List Changed → State → ℕ → Outcome
+outcome_of (Some fault) ending lasts changes s first = faulted (raised first fault)
+outcome_of None (Broken fault) lasts changes s first = faulted (raised first fault)
+outcome_of None (Through effect) lasts changes s first = went_on (after effect lasts changes s first)
 
 -- how the block ends that is entered in state s at line `first`
 abbrev pub applied : Summary → State → ℕ → Outcome
-applied summary s first = outcome_of (first_fault summary.checks s) summary.ending summary.changes s first
+applied summary s first = outcome_of (first_fault summary.checks s) summary.ending summary.lasts summary.changes s first

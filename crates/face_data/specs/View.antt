@@ -27,6 +27,7 @@ summary_of view = record {
   made = view.made;
   checks = map (asked_of view.names.now) view.checks.now;
   changes = map (changed_of view.segs.now) view.changes.now;
+  lasts = view.lasts.now;
   ending = view.ending;
 }
 

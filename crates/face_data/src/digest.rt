@@ -49,11 +49,11 @@ impl Digest {
             Cond::HookFree => self.hook = Some(0),
             Cond::HookIs(set) => self.hook = Some(set),
             Cond::HookLacks(c) => self.lacks |= 1 << c.0,
-            Cond::SizeAtMost(_, _) => {}
+            Cond::SizeAtMost(_, _) | Cond::LastNear(_, _, _) => {}
         }
     }
 
-    /// What the conditions say of another one that isn't on sizes.
+    /// What the conditions say of another one that isn't on sizes or on a last needle.
     #[tactic(auto, unfolding(crate::specs::Digests::digest_bearing))]
     pub fn bearing_on(&self, cond: Cond) -> Bearing
         requires { CarrierFits cond }
@@ -73,7 +73,7 @@ impl Digest {
             Cond::HookFree => hook_bearing(self.hook, 0),
             Cond::HookIs(set) => hook_bearing(self.hook, set),
             Cond::HookLacks(c) => self.bearing_on_lack(c),
-            Cond::SizeAtMost(_, _) => Bearing::Silent,
+            Cond::SizeAtMost(_, _) | Cond::LastNear(_, _, _) => Bearing::Silent,
         }
     }
 

@@ -23,7 +23,8 @@ impl Effect {
         }
     }
 
-    /// What is known after the block of a condition that isn't on sizes. Where it is silent the condition is left to ask as it is.
+    /// What is known after the block of a condition that isn't on sizes or on a last needle. Where it is silent the condition is left to
+    /// ask as it is.
     #[inline(always)]
     #[tactic(auto, unfolding(crate::specs::Digests::effect_bearing))]
     pub fn bearing_on(&self, cond: Cond) -> Bearing
@@ -47,7 +48,7 @@ impl Effect {
                 None => Bearing::Silent,
                 Some(held) => implied_or_refuted(!is_in_set(held, c)),
             },
-            Cond::SizeAtMost(_, _) => Bearing::Silent,
+            Cond::SizeAtMost(_, _) | Cond::LastNear(_, _, _) => Bearing::Silent,
         }
     }
 }

@@ -25,7 +25,8 @@ pub struct Part {
 }
 
 /// A condition on the state at a block's entry. `SizeAtMost` names needles by their part in the face's list of names, and
-/// allows them so many loops together. `HookIs` has a bit for each carrier.
+/// allows them so many loops together. `HookIs` has a bit for each carrier. `LastNear` asks that the carrier has no last needle or one
+/// that is at most so many numbers, the second, away from the first.
 #[derive(Clone, Copy, Debug, PartialEq, Eq)]
 pub enum Cond {
     RackIs(Quarter),
@@ -35,6 +36,7 @@ pub enum Cond {
     HookIs(u64),
     HookLacks(CarrierNo),
     SizeAtMost(Part, u8),
+    LastNear(CarrierNo, i16, u16),
 }
 
 /// Conditions, each with the reason that is given where it fails. None of them is a `SizeAtMost`.
@@ -54,8 +56,18 @@ pub struct Change {
     pub part: Part,
 }
 
-/// What a block changes but for loops: the rack, the carriers that came and that went, a bit for each, and the yarns in the
-/// hook. `None` leaves it as it is.
+/// A carrier whose last needle is another at the end: its number, or none.
+#[derive(Clone, Copy, Debug, PartialEq, Eq)]
+pub struct Last {
+    pub carrier: CarrierNo,
+    pub at: Option<i16>,
+}
+
+/// Carriers, each with its last needle.
+pub type LastList = ShortList<Last>;
+
+/// What a block changes but for loops and last needles: the rack, the carriers that came and that went, a bit for each, and the yarns in
+/// the hook. `None` leaves it as it is.
 #[derive(Clone, Copy, Debug, PartialEq, Eq)]
 pub struct Effect {
     pub rack: Option<Quarter>,
@@ -72,7 +84,7 @@ pub enum Ending {
 }
 
 /// A face as it is read: how many lines the block has and how many loops it makes, its checks with the needles that they
-/// name, its changes with their segments, and its ending.
+/// name, its changes with their segments, the last needles that it changes, and its ending.
 #[derive(Clone, Copy)]
 pub struct FaceView<'a> {
     pub lines: u32,
@@ -81,6 +93,7 @@ pub struct FaceView<'a> {
     pub names: &'a [Needle],
     pub changes: &'a [Change],
     pub segs: &'a [Seg],
+    pub lasts: &'a [Last],
     pub ending: Ending,
 }
 
@@ -97,6 +110,7 @@ impl FaceView<'_> {
             names: &[],
             changes: &[],
             segs: &[],
+            lasts: &[],
             ending: Ending::Through(Effect {
                 rack: None,
                 came: 0,

@@ -2,7 +2,7 @@
 ghost use Rattle.std.specs.Prelude.{◌≡◌, IfOk};
 ghost use Rattle.face_data.specs.View.{IsPacked, summary_of};
 
-use crate::{Change, Check, Ending, FaceView, Seg};
+use crate::{Change, Check, Ending, FaceView, Last, Seg};
 use knit_base::{Needle, NoMemory};
 use std::alloc::Global;
 use std::marker::Model;
@@ -16,6 +16,7 @@ pub struct Face {
     names: Vec<Needle>,
     changes: Vec<Change>,
     segs: Vec<Seg>,
+    lasts: Vec<Last>,
     ending: Ending,
 }
 
@@ -26,7 +27,7 @@ impl Model for Face {
 
     ghost Value = { Summary };
 
-    ghost view = { λ f. record { lines = f.lines; made = f.made; checks = map (asked_of f.names.items) f.checks.items; changes = map (changed_of f.segs.items) f.changes.items; ending = f.ending } };
+    ghost view = { λ f. record { lines = f.lines; made = f.made; checks = map (asked_of f.names.items) f.checks.items; changes = map (changed_of f.segs.items) f.changes.items; lasts = f.lasts.items; ending = f.ending } };
 
     ghost invariant = { λ f. AreNamed f.names.items f.checks.items × ArePacked f.segs.items f.changes.items };
 }
@@ -44,6 +45,7 @@ impl Face {
             names: Vec::from_slice(alloc, view.names)?,
             changes: Vec::from_slice(alloc, view.changes)?,
             segs: Vec::from_slice(alloc, view.segs)?,
+            lasts: copied(alloc, view.lasts)?,
             ending: view.ending,
         })
     }
@@ -60,7 +62,19 @@ impl Face {
             names: &self.names,
             changes: &self.changes,
             segs: &self.segs,
+            lasts: &self.lasts,
             ending: self.ending,
         }
     }
+}
+
+// A copy of the list. Most faces change no last needle, and theirs is told without a call.
+#[inline(always)]
+fn copied(alloc: Global, lasts: &[Last]) -> Result<Vec<Last>, NoMemory>
+    ensures { IfOk result (λ list. list.items ≡ lasts.now) }
+{
+    if lasts.is_empty() {
+        return Ok(Vec::new(alloc));
+    }
+    Ok(Vec::from_slice(alloc, lasts)?)
 }

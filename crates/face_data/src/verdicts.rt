@@ -65,7 +65,7 @@ pub fn brief_of(face: &FaceView, first: u32) -> Brief
 fn on_empty_beds(face: &FaceView, first: u32) -> Result<Effect, Fault>
     requires good { IsGoodFace (summary_of face.now) }
     requires lines { first + face.now.lines < 2 ^ 32 }
-    ensures through { IfOk result (λ effect. applied (summary_of face.now) empty_state first ≡ went_on (after effect (map (changed_of face.now.segs.now) face.now.changes.now) empty_state first)) }
+    ensures through { IfOk result (λ effect. applied (summary_of face.now) empty_state first ≡ went_on (after effect face.now.lasts.now (map (changed_of face.now.segs.now) face.now.changes.now) empty_state first)) }
     ensures stops { IfErr result (λ fault. applied (summary_of face.now) empty_state first ≡ faulted fault) }
 {
     if let Some(fault) = fault_on_empty(face.checks, face.names) {
@@ -87,7 +87,7 @@ fn fault_on_empty(checks: &[Check], names: &[Needle]) -> Option<Fault>
         .map(|check| check.fault)
 }
 
-// Whether a condition holds on empty beds, where the rack is 0 and no carrier is in action or in the hook.
+// Whether a condition holds on empty beds, where the rack is 0, no carrier is in action or in the hook, and none has a last needle.
 #[tactic(auto, using(crate::proofs::EmptyBeds::sizes))]
 fn holds_on_empty(cond: &Cond, names: &[Needle]) -> bool
     ensures { result ≡ holds (ask_of names.now cond.now) empty_state }
@@ -100,6 +100,7 @@ fn holds_on_empty(cond: &Cond, names: &[Needle]) -> bool
         Cond::HookIs(set) => *set == 0,
         Cond::HookLacks(_) => true,
         Cond::SizeAtMost(_, _) => true,
+        Cond::LastNear(_, _, _) => true,
     }
 }
 

@@ -1,5 +1,6 @@
 -- Words that ask for a command ask for no other, and aren't refused.
-use Rattle.std.proofs.Common.{◌≡◌, ℕ, pos, List, None, Some, ap, sym, subst, ◌∙◌}
+use Rattle.std.proofs.Common.{◌≡◌, ℕ, pos, List, Option, None, Some, refl, ap, sym, subst, ◌∙◌}
+use Rattle.std.specs.Option.{option_map}
 use Rattle.machine_profile.specs.declared.Chosen.{Chosen}
 use Rattle.machine_profile.specs.declared.Options.{Options}
 use Rattle.machine_profile.specs.Bounds.{IsChosen, refused}
@@ -30,6 +31,14 @@ asked-command words command other chosen limits ask also =
 pos_same : (n m : ℕ) → pos n ≡ pos m → n ≡ m
 pos_same n m same = cc
 
+float_same : (a b : Option ℕ) → option_map (λ (f : ℕ). pos f) a ≡ option_map (λ (f : ℕ). pos f) b → a ≡ b
+float_same None None same = refl
+float_same None (Some m) same = absurd (cc)
+float_same (Some n) None same = absurd (cc)
+float_same (Some n) (Some m) same =
+    let e : n ≡ m = cc in
+    ap Some e
+
 same_values : (options : Options) (chosen limits : Chosen) → IsChosen options chosen → IsChosen options limits → limits ≡ chosen
 same_values options chosen limits is also =
     let low = also.low ∙ sym is.low in
@@ -37,7 +46,8 @@ same_values options chosen limits is also =
     let rack = pos_same limits.profile.rack chosen.profile.rack (also.rack ∙ sym is.rack) in
     let hold = pos_same limits.profile.hold chosen.profile.hold (also.hold ∙ sym is.hold) in
     let block = pos_same limits.block chosen.block (also.block ∙ sym is.block) in
-    λ i. record { profile = record { low = low i; high = high i; rack = rack i; hold = hold i }; block = block i }
+    let float = float_same limits.profile.float chosen.profile.float (sym also.float ∙ is.float) in
+    λ i. record { profile = record { low = low i; high = high i; rack = rack i; hold = hold i; float = float i }; block = block i }
 
 -- with one choice of limits
 pub asked-chosen : (words : List (List ℕ)) (command other : Command) (chosen limits : Chosen) → Ask words command chosen → Ask words other limits → limits ≡ chosen

@@ -101,8 +101,8 @@ made_from line count None (Some fact) later named none rest =
 all_from : (profile : Profile) (s : State) (line : ℕ) (reads : List Read) → facts_from (loops_made profile s line reads) line (length reads) ≡ loops_made profile s line reads
 all_from profile s line [] = refl
 all_from profile s line (r ∷ reads) =
-    made_from line (length reads) (broken profile r s) (fact_made line r s) (loops_made profile (step line r s) (line + 1) reads) (fact_made-line line r s)
-    (later_lines profile (step line r s) (line + 1) line reads (omega arith)) (all_from profile (step line r s) (line + 1) reads)
+    made_from line (length reads) (broken profile r s) (fact_made line r s) (loops_made profile (step profile line r s) (line + 1) reads) (fact_made-line line r s)
+    (later_lines profile (step profile line r s) (line + 1) line reads (omega arith)) (all_from profile (step profile line r s) (line + 1) reads)
 
 -- no line was asked yet
 pub asked_none : (setting : Setting) (lines : List (List ℕ)) (first count : ℕ) (loops made : List LoopFact) → loops ≡ [] → first ≡ setting.first → count ≡ length lines

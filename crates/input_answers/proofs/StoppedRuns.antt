@@ -23,8 +23,8 @@ stays_on k (Some reason) s rest both stopped later = refl
 pub run-stays : (profile : Profile) (s : State) (k : ℕ) (xs more : List Read) → HasStopped (run profile s k xs) → run profile s k (xs ++ more) ≡ run profile s k xs
 run-stays profile s k [] more stopped = absurd stopped
 run-stays profile s k (x ∷ xs) more stopped =
-    stays_on k (broken profile x s) s (run profile (step k x s) (k + 1) xs) (run profile (step k x s) (k + 1) (xs ++ more)) stopped
-    (λ later. run-stays profile (step k x s) (k + 1) xs more later)
+    stays_on k (broken profile x s) s (run profile (step profile k x s) (k + 1) xs) (run profile (step profile k x s) (k + 1) (xs ++ more)) stopped
+    (λ later. run-stays profile (step profile k x s) (k + 1) xs more later)
 
 made_stays : (k : ℕ) (o : Option Reason) (s : State) (rest : Ended) (fact : Option LoopFact) (made both : List LoopFact) → HasStopped (run_on k o s rest)
     → (HasStopped rest → both ≡ made) → made_on o fact both ≡ made_on o fact made
@@ -35,9 +35,9 @@ made_stays k (Some reason) s rest fact made both stopped later = refl
 pub loops_made-stays : (profile : Profile) (s : State) (k : ℕ) (xs more : List Read) → HasStopped (run profile s k xs) → loops_made profile s k (xs ++ more) ≡ loops_made profile s k xs
 loops_made-stays profile s k [] more stopped = absurd stopped
 loops_made-stays profile s k (x ∷ xs) more stopped =
-    made_stays k (broken profile x s) s (run profile (step k x s) (k + 1) xs) (fact_made k x s) (loops_made profile (step k x s) (k + 1) xs)
-    (loops_made profile (step k x s) (k + 1) (xs ++ more)) stopped
-    (λ later. loops_made-stays profile (step k x s) (k + 1) xs more later)
+    made_stays k (broken profile x s) s (run profile (step profile k x s) (k + 1) xs) (fact_made k x s) (loops_made profile (step profile k x s) (k + 1) xs)
+    (loops_made profile (step profile k x s) (k + 1) (xs ++ more)) stopped
+    (λ later. loops_made-stays profile (step profile k x s) (k + 1) xs more later)
 
 -- how many lines there are doesn't matter to the verdict, nor which loops
 pub verdict-stays : (lines more : ℕ) (result : Verdict) (ended : Ended) (loops other : List LoopFact) → HasStopped ended → IsVerdict lines result ended loops

@@ -52,6 +52,7 @@ fn judge_counted<L: Ledger, R: Threads + Sync>(
     ensures { IfOk result (IsJudgement with_loops plan.now.chosen.profile body.now.head.declared body.now.lines) }
 {
     let mut steps = Steps::<L>::start(rt, blank);
+    // (that the lines can be counted, the prover has from this call)
     let _lines = body.lines.len();
     let opened = open(rt, alloc, plan, &body.lines, &body.head, &mut steps)?;
     judge_document(alloc, with_loops, &opened.book, body.len(), &mut steps)

@@ -1,6 +1,7 @@
 //! What the words of the command line ask for.
 ghost use Rattle.std.specs.Prelude.{◌≡◌, ℕ, map, string_bytes, IfOk, IsErrOf};
 ghost use Rattle.command_words.specs.declared.command.Command.{Command};
+ghost use Rattle.std.proofs.Props.{props};
 ghost use Rattle.command_words.specs.Request.{IsMake};
 ghost use Rattle.input_answers.specs.Asked.{AreRefused, Ask, IsLawfulChosen, reads_file};
 
@@ -15,7 +16,7 @@ pub struct Plan {
     pub chosen: Chosen,
     /// Whether the words say how many lines a block has. The body is then checked by blocks.
     pub by_blocks: bool,
-    ghost lawful: { IsLawfulChosen chosen },
+    ghost lawful: { IsLawfulChosen chosen } by { Prim.hlevel props },
     ghost numbers: { (rows start : ℕ) → command ≡ Command.Make rows start → IsMake rows start },
 }
 

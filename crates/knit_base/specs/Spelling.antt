@@ -7,7 +7,7 @@ use Rattle.knit_base.specs.declared.needle.Dir.{Dir}
 use Rattle.knit_base.specs.declared.needle.Dir.TheVariants.{Right, Left}
 use Rattle.knit_base.specs.declared.needle.Needle.{Needle}
 use Rattle.knit_base.specs.declared.rule.Rule.{Rule}
-use Rattle.knit_base.specs.declared.rule.Rule.TheVariants.{Unreadable, OffBed, SliderForm, SameBed, TwoSliders, NoCarrier, CarrierTwice, RackStep, RackLimit, CarrierIsOut, CarrierIsIn, HookBusy, HookOther, CarrierHooked, NotAligned, SliderHolds, TooManyLoops}
+use Rattle.knit_base.specs.declared.rule.Rule.TheVariants.{Unreadable, OffBed, SliderForm, SameBed, TwoSliders, NoCarrier, CarrierTwice, RackStep, RackLimit, CarrierIsOut, CarrierIsIn, HookBusy, HookOther, CarrierHooked, NotAligned, SliderHolds, TooManyLoops, FloatTooLong}
 
 abbrev pub bed_word : Bed → List ℕ
 bed_word Front = codes "f"
@@ -58,3 +58,4 @@ rule_name CarrierHooked = codes "CarrierHooked"
 rule_name NotAligned = codes "NotAligned"
 rule_name SliderHolds = codes "SliderHolds"
 rule_name TooManyLoops = codes "TooManyLoops"
+rule_name FloatTooLong = codes "FloatTooLong"

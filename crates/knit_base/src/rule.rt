@@ -24,6 +24,7 @@ pub enum Rule {
     NotAligned,
     SliderHolds,
     TooManyLoops,
+    FloatTooLong,
 }
 
 impl Rule {
@@ -49,6 +50,7 @@ impl Rule {
             Rule::NotAligned => "NotAligned",
             Rule::SliderHolds => "SliderHolds",
             Rule::TooManyLoops => "TooManyLoops",
+            Rule::FloatTooLong => "FloatTooLong",
         }
     }
 }

@@ -43,7 +43,7 @@ stops_on k less lines (Some reason) s rest more among = (omega arith, omega arit
 pub stops_among : (profile : Profile) (s : State) (k : ℕ) (rs : List Read) → StopsAmong k (length rs) (run profile s k rs)
 stops_among profile s k [] = tt
 stops_among profile s k (r ∷ rs) =
-    stops_on k (length rs) (length (r ∷ rs)) (broken profile r s) s (run profile (step k r s) (k + 1) rs) (omega arith) (stops_among profile (step k r s) (k + 1) rs)
+    stops_on k (length rs) (length (r ∷ rs)) (broken profile r s) s (run profile (step profile k r s) (k + 1) rs) (omega arith) (stops_among profile (step profile k r s) (k + 1) rs)
 
 -- the rows of lines before one of this number
 abbrev pub rows_to : ℕ → ℕ → List LoopRow → List LoopRow
@@ -72,7 +72,7 @@ facts_of_option s first (Some row) = refl
 made_in_state : (profile : Profile) (rows : List LoopRow) (row : Option LoopRow) (lines first : ℕ) (r : Read) (s t : State) (b : Option Reason) (fact : Option LoopFact) (made : List LoopFact)
     → All (λ (x : LoopRow). x.offset < lines) rows → IfSome row (λ (x : LoopRow). x.offset ≡ lines) → made ≡ facts_of_rows s first rows
     → (b ≡ None → fact ≡ option_map (fact_of_row s first) row)
-    → made ++ made_on b fact [] ≡ facts_of_rows s first (rows_run (run_on (first + lines) b t (Ends (step (first + lines) r t))) first (rows ++ option_to_list row))
+    → made ++ made_on b fact [] ≡ facts_of_rows s first (rows_run (run_on (first + lines) b t (Ends (step profile (first + lines) r t))) first (rows ++ option_to_list row))
 made_in_state profile rows row lines first r s t None fact made all here is tells =
     ap (λ more. made ++ more) (append-nil (option_to_list fact) ∙ ap option_to_list (tells refl) ∙ sym (facts_of_option s first row))
     ∙ ap (λ xs. xs ++ facts_of_rows s first (option_to_list row)) is

@@ -168,8 +168,8 @@ run-goes_on profile s u k [] ys ends =
     let same : s ≡ u = cc in
     ap (λ t. run profile t k ys) same ∙ ap (λ n. run profile u n ys) (let e : k ≡ k + 0 = omega arith in e)
 run-goes_on profile s u k (x ∷ xs) ys ends =
-    run_on-ends k (broken profile x s) s u (run profile (step k x s) (k + 1) xs) (run profile (step k x s) (k + 1) (xs ++ ys)) (run profile u (k + length (x ∷ xs)) ys) ends
-    (λ later. run-goes_on profile (step k x s) u (k + 1) xs ys later ∙ ap (λ n. run profile u n ys) (let e : k + 1 + length xs ≡ k + length (x ∷ xs) = omega arith in e))
+    run_on-ends k (broken profile x s) s u (run profile (step profile k x s) (k + 1) xs) (run profile (step profile k x s) (k + 1) (xs ++ ys)) (run profile u (k + length (x ∷ xs)) ys) ends
+    (λ later. run-goes_on profile (step profile k x s) u (k + 1) xs ys later ∙ ap (λ n. run profile u n ys) (let e : k + 1 + length xs ≡ k + length (x ∷ xs) = omega arith in e))
 
 -- the same where it stops
 run_on-stops : (k : ℕ) (b : Option Reason) (s u : State) (fault : Fault) (rest both : Ended) → run_on k b s rest ≡ Stops u fault → (rest ≡ Stops u fault → both ≡ Stops u fault) → run_on k b s both ≡ Stops u fault
@@ -179,8 +179,8 @@ run_on-stops k (Some reason) s u fault rest both stops later = stops
 run-stays : (profile : Profile) (s u : State) (k : ℕ) (fault : Fault) (xs ys : List Read) → run profile s k xs ≡ Stops u fault → run profile s k (xs ++ ys) ≡ Stops u fault
 run-stays profile s u k fault [] ys stops = absurd (cc)
 run-stays profile s u k fault (x ∷ xs) ys stops =
-    run_on-stops k (broken profile x s) s u fault (run profile (step k x s) (k + 1) xs) (run profile (step k x s) (k + 1) (xs ++ ys)) stops
-    (run-stays profile (step k x s) u (k + 1) fault xs ys)
+    run_on-stops k (broken profile x s) s u fault (run profile (step profile k x s) (k + 1) xs) (run profile (step profile k x s) (k + 1) (xs ++ ys)) stops
+    (run-stays profile (step profile k x s) u (k + 1) fault xs ys)
 
 made_on-stops : (k : ℕ) (b : Option Reason) (s u : State) (fault : Fault) (rest : Ended) (fact : Option LoopFact) (both first : List LoopFact) → run_on k b s rest ≡ Stops u fault →
     (rest ≡ Stops u fault → both ≡ first) → made_on b fact both ≡ made_on b fact first
@@ -190,8 +190,8 @@ made_on-stops k (Some reason) s u fault rest fact both first stops later = refl
 loops-stay : (profile : Profile) (s u : State) (k : ℕ) (fault : Fault) (xs ys : List Read) → run profile s k xs ≡ Stops u fault → loops_made profile s k (xs ++ ys) ≡ loops_made profile s k xs
 loops-stay profile s u k fault [] ys stops = absurd (cc)
 loops-stay profile s u k fault (x ∷ xs) ys stops =
-    made_on-stops k (broken profile x s) s u fault (run profile (step k x s) (k + 1) xs) (fact_made k x s) (loops_made profile (step k x s) (k + 1) (xs ++ ys)) (loops_made profile (step k x s) (k + 1) xs) stops
-    (loops-stay profile (step k x s) u (k + 1) fault xs ys)
+    made_on-stops k (broken profile x s) s u fault (run profile (step profile k x s) (k + 1) xs) (fact_made k x s) (loops_made profile (step profile k x s) (k + 1) (xs ++ ys)) (loops_made profile (step profile k x s) (k + 1) xs) stops
+    (loops-stay profile (step profile k x s) u (k + 1) fault xs ys)
 
 made_both : (profile : Profile) (summary : Summary) (rows more : List LoopRow) (xs ys : List Read) → StandsFor profile summary xs → TableStandsFor profile rows xs → TableStandsFor profile more ys →
     All (λ (row : LoopRow). row.offset < length xs) rows → (s : State) (first : ℕ) (ended : Ended) → run profile s first xs ≡ ended →

@@ -1,10 +1,10 @@
 -- Which options may be chosen, and what they give.
 use Rattle.std.specs.Prelude.{◌≡◌, ◌≤◌, ℕ, ℤ, pos, ◌&&◌, if◌then◌else◌, Option, Some, None, unwrap_or, int_le, ◌-ℤ◌}
-use Rattle.std.specs.Option.{option_or}
+use Rattle.std.specs.Option.{option_map, option_or}
 use Rattle.machine_profile.specs.declared.Options.{Options}
 use Rattle.machine_profile.specs.declared.Chosen.{Chosen}
 use Rattle.machine_profile.specs.declared.Which.{Which}
-use Rattle.machine_profile.specs.declared.Which.TheVariants.{Low, High, Rack, Hold, Block}
+use Rattle.machine_profile.specs.declared.Which.TheVariants.{Low, High, Rack, Hold, Block, Float}
 
 -- the lowest needle, which is -1024 unless it is chosen
 abbrev pub low_of : Options → ℤ
@@ -30,6 +30,11 @@ block_of options = unwrap_or options.block (pos 64)
 abbrev pub outside : Which → ℤ → ℤ → ℤ → Option Which
 outside which least greatest value = if int_le least value && int_le value greatest then None else Some which
 
+-- the same of an option that has no default
+abbrev pub outside_if_any : Which → ℤ → ℤ → Option ℤ → Option Which
+outside_if_any which least greatest None = None
+outside_if_any which least greatest (Some value) = outside which least greatest value
+
 -- the first option that is refused; the highest needle lies no lower than the lowest
 abbrev pub refused : Options → Option Which
 refused options =
@@ -37,19 +42,21 @@ refused options =
     (option_or (outside High (low_of options) (pos 4096) (high_of options))
     (option_or (outside Rack (pos 0) (pos 64) (rack_of options))
     (option_or (outside Hold (pos 1) (pos 64) (hold_of options))
-    (outside Block (pos 1) (pos 4096) (block_of options)))))
+    (option_or (outside Block (pos 1) (pos 4096) (block_of options))
+    (outside_if_any Float (pos 1) (pos 8192) options.float)))))
 
 -- the profile and the block have these values
-pub record HasValues (lowest highest needles loops lines : ℤ) (chosen : Chosen) : Type 0 where
+pub record HasValues (lowest highest needles loops lines : ℤ) (longest : Option ℤ) (chosen : Chosen) : Type 0 where
   pub low : chosen.profile.low ≡ lowest
   pub high : chosen.profile.high ≡ highest
   pub rack : pos chosen.profile.rack ≡ needles
   pub hold : pos chosen.profile.hold ≡ loops
   pub block : pos chosen.block ≡ lines
+  pub float : longest ≡ option_map (λ f. pos f) chosen.profile.float
 
 -- the profile and the block have the values of the options
 abbrev pub IsChosen : Options → Chosen → Type 0
-IsChosen options = HasValues (low_of options) (high_of options) (rack_of options) (hold_of options) (block_of options)
+IsChosen options = HasValues (low_of options) (high_of options) (rack_of options) (hold_of options) (block_of options) options.float
 
 -- a block has 1 to 4,096 lines
 pub record IsBlockSize (lines : ℕ) : Type 0 where

@@ -5,9 +5,10 @@
 //! Below it stands `knit_base`. It takes no memory.
 #![tactic(auto)]
 
-ghost use Rattle.std.specs.Prelude.{◌≡◌, ◌≤◌, ◌≤ℤ◌, negsuc, pos, IfOk, MatchResult, None, Some};
-ghost use Rattle.knit_base.specs.Limits.{IsLawfulProfile};
-ghost use Rattle.machine_profile.specs.Bounds.{HasValues, IsBlockSize, IsChosen, outside, refused};
+ghost use Rattle.std.specs.Prelude.{◌≡◌, ◌≤◌, ◌≤ℤ◌, negsuc, pos, IfOk, IfSome, MatchResult, None, Some, option_map};
+ghost use Rattle.knit_base.specs.Limits.{IsFloatLimit, IsLawfulProfile};
+ghost use Rattle.machine_profile.specs.declared.Which.TheVariants.{Float};
+ghost use Rattle.machine_profile.specs.Bounds.{HasValues, IsBlockSize, IsChosen, outside, outside_if_any, refused};
 
 use knit_base::Profile;
 
@@ -41,6 +42,11 @@ const MAX_BLOCK: i64 = 4096;
 
 const DEFAULT_BLOCK: i64 = 64;
 
+// How far apart the needles of two loops may lie that a carrier forms one after the other.
+const MIN_FLOAT: i64 = 1;
+
+const MAX_FLOAT: i64 = 8192;
+
 /// The values that the options of a command line give; one that isn't given has its default value.
 #[derive(Clone, Copy, Debug, PartialEq, Eq)]
 pub struct Options {
@@ -54,6 +60,8 @@ pub struct Options {
     pub hold: Option<i64>,
     /// How many body lines an opening block has.
     pub block: Option<i64>,
+    /// How many needle numbers a float may span. Where none is given there is no limit.
+    pub float: Option<i64>,
 }
 
 /// The limits of the machine, and how many body lines an opening block has.
@@ -71,6 +79,7 @@ pub enum Which {
     Rack,
     Hold,
     Block,
+    Float,
 }
 
 /// An option that is refused.
@@ -92,14 +101,15 @@ fn within(which: Which, least: i64, greatest: i64, value: i64) -> Result<i64, Ba
 }
 
 /// The limits with these values, which lie within their bounds.
-fn chosen_with(low: i64, high: i64, rack: i64, hold: i64, block: i64) -> Chosen
+fn chosen_with(low: i64, high: i64, rack: i64, hold: i64, block: i64, float: Option<i64>) -> Chosen
     requires low { negsuc 4095 ≤ℤ low }
     requires ordered { low ≤ℤ high }
     requires high { high ≤ℤ pos 4096 }
     requires rack { (pos 0 ≤ℤ rack) × (rack ≤ℤ pos 64) }
     requires hold { (pos 1 ≤ℤ hold) × (hold ≤ℤ pos 64) }
     requires block { (pos 1 ≤ℤ block) × (block ≤ℤ pos 4096) }
-    ensures values { HasValues low high rack hold block result }
+    requires float { IfSome float (λ f. (pos 1 ≤ℤ f) × (f ≤ℤ pos 8192)) }
+    ensures values { HasValues low high rack hold block float result }
     ensures lawful { IsLawfulProfile result.profile }
     ensures block { IsBlockSize result.block }
 {
@@ -108,10 +118,35 @@ fn chosen_with(low: i64, high: i64, rack: i64, hold: i64, block: i64) -> Chosen
         high: high as i16,
         rack: rack as u8,
         hold: hold as u8,
+        float: limit_of(float),
     };
     Chosen {
         profile,
         block: block as u32,
+    }
+}
+
+/// The limit on floats with this value, if there is one.
+fn limit_of(float: Option<i64>) -> Option<u16>
+    requires { IfSome float (λ f. (pos 1 ≤ℤ f) × (f ≤ℤ pos 8192)) }
+    ensures value { float ≡ option_map (λ f. pos f) result }
+    ensures lawful { IfSome result IsFloatLimit }
+{
+    match float {
+        Some(f) => Some(f as u16),
+        None => None,
+    }
+}
+
+/// The value of the limit on floats, unless it lies outside its bounds.
+fn float_within(float: Option<i64>) -> Result<Option<i64>, BadOption>
+    ensures exact { MatchResult result (λ v. (outside_if_any Float (pos 1) (pos 8192) float ≡ None) × (v ≡ float))
+        (λ bad. outside_if_any Float (pos 1) (pos 8192) float ≡ Some bad.which) }
+    ensures bounds { IfOk result (λ v. IfSome v (λ f. (pos 1 ≤ℤ f) × (f ≤ℤ pos 8192))) }
+{
+    match float {
+        Some(f) => Ok(Some(within(Which::Float, MIN_FLOAT, MAX_FLOAT, f)?)),
+        None => Ok(None),
     }
 }
 
@@ -134,5 +169,6 @@ pub fn profile_of(options: &Options) -> Result<Chosen, BadOption>
     let hold = within(Which::Hold, MIN_HOLD, MAX_HOLD, hold)?;
     let block = options.block.unwrap_or(DEFAULT_BLOCK);
     let block = within(Which::Block, MIN_BLOCK, MAX_BLOCK, block)?;
-    Ok(chosen_with(low, high, rack, hold, block))
+    let float = float_within(options.float)?;
+    Ok(chosen_with(low, high, rack, hold, block, float))
 }

@@ -22,7 +22,7 @@ use Rattle.face_data.specs.Answers.Answer.{yes_it_does, asks}
 use Rattle.face_data.specs.Bearings.{bearing, same_or_not, if_so}
 use Rattle.face_data.specs.Composition.{from_bearing, settled}
 use Rattle.face_data.specs.Conditions.{Ask, ask_of, part_of}
-use Rattle.face_data.specs.Conditions.Ask.{rack_is, carrier_in, carrier_out, hook_free, hook_is, hook_lacks, size_at_most}
+use Rattle.face_data.specs.Conditions.Ask.{rack_is, carrier_in, carrier_out, hook_free, hook_is, hook_lacks, size_at_most, last_near}
 use Rattle.face_data.specs.Digests.{IsPlainCondition, digest_bearing, digest_of}
 use Rattle.face_data.specs.Goodness.{IsIrredundant}
 use Rattle.face_data.specs.Segments.{change_at, segments_on}
@@ -44,6 +44,7 @@ own_bearing (carrier_out c) plain = ap (λ b. if_so b Implied) (eq-eqb c.0 c.0 r
 own_bearing hook_free plain = refl
 own_bearing (hook_is set) plain = ap same_or_not (eq-eqb set set refl)
 own_bearing (hook_lacks c) plain = ap (λ b. if_so b Implied) (eq-eqb c.0 c.0 refl)
+own_bearing (last_near c at float) plain = absurd plain
 own_bearing (size_at_most names most) plain = absurd plain
 
 -- a condition that is kept is settled, since none before it says anything of it

@@ -9,9 +9,10 @@ use Rattle.std.proofs.lemmas.List.Sums.{sum_by-cons}
 use Rattle.knit_base.specs.declared.needle.Needle.{Needle}
 use Rattle.face_data.specs.declared.face.Check.{Check}
 use Rattle.face_data.specs.declared.face.Cond.{Cond}
-use Rattle.face_data.specs.declared.face.Cond.TheVariants.{RackIs, CarrierIn, CarrierOut, HookFree, HookIs, HookLacks, SizeAtMost}
+use Rattle.face_data.specs.declared.face.Cond.TheVariants.{RackIs, CarrierIn, CarrierOut, HookFree, HookIs, HookLacks, SizeAtMost, LastNear}
 use Rattle.face_data.specs.declared.face.Part.{Part}
 use Rattle.face_data.specs.Conditions.{ask_of}
+use Rattle.face_data.specs.Digests.{IsUnsized}
 use Rattle.face_data.specs.Conditions.Ask.{size_at_most}
 use Rattle.face_data.specs.Goodness.{names_in}
 use Rattle.face_data.specs.Summaries.{Asked}
@@ -55,6 +56,7 @@ names_in_ask names (CarrierOut c) = refl
 names_in_ask names HookFree = refl
 names_in_ask names (HookIs set) = refl
 names_in_ask names (HookLacks c) = refl
+names_in_ask names (LastNear c at float) = refl
 
 names_sum : (names : List Needle) (cs : List Check) → length (flat_map (λ (c : Check). names_of names c.cond) cs) ≡ names_count (map (asked_of names) cs)
 names_sum names [] = refl
@@ -70,3 +72,51 @@ named_size names cs named = sym (ap length named.whole) ∙ names_sum names cs
 -- one condition, one limit
 pub asks_same : (most left : ℕ) → Asks most ≡ Asks left → most ≡ left
 asks_same most left e = cc
+
+-- a condition that isn't on sizes names no needle
+unsized_ask : (names : List Needle) (c : Cond) → IsUnsized (ask_of [] c) → ask_of names c ≡ ask_of [] c
+unsized_ask names (SizeAtMost p most) plain = absurd plain
+unsized_ask names (RackIs q) plain = refl
+unsized_ask names (CarrierIn c) plain = refl
+unsized_ask names (CarrierOut c) plain = refl
+unsized_ask names HookFree plain = refl
+unsized_ask names (HookIs set) plain = refl
+unsized_ask names (HookLacks c) plain = refl
+unsized_ask names (LastNear c at float) plain = refl
+
+unsized_names : (names : List Needle) (c : Cond) → IsUnsized (ask_of [] c) → names_of names c ≡ []
+unsized_names names (SizeAtMost p most) plain = absurd plain
+unsized_names names (RackIs q) plain = refl
+unsized_names names (CarrierIn c) plain = refl
+unsized_names names (CarrierOut c) plain = refl
+unsized_names names HookFree plain = refl
+unsized_names names (HookIs set) plain = refl
+unsized_names names (HookLacks c) plain = refl
+unsized_names names (LastNear c at float) plain = refl
+
+unsized_fits : (names : List Needle) (c : Cond) → IsUnsized (ask_of [] c) → CondFits names c
+unsized_fits names (SizeAtMost p most) plain = absurd plain
+unsized_fits names (RackIs q) plain = tt
+unsized_fits names (CarrierIn c) plain = tt
+unsized_fits names (CarrierOut c) plain = tt
+unsized_fits names HookFree plain = tt
+unsized_fits names (HookIs set) plain = tt
+unsized_fits names (HookLacks c) plain = tt
+unsized_fits names (LastNear c at float) plain = tt
+
+-- one such condition more
+pub one_kept : (cs now : List Check) (names : List Needle) (c : Check) → now ≡ cs ++ c ∷ [] → IsUnsized (ask_of [] c.cond)
+    → map (asked_of names) now ≡ map (asked_of names) cs ++ record { fault = c.fault; ask = ask_of [] c.cond } ∷ []
+one_kept cs now names c e plain =
+    ap (map (asked_of names)) e ∙ map-append (asked_of names) cs (c ∷ [])
+    ∙ ap (λ q. map (asked_of names) cs ++ record { fault = c.fault; ask = q } ∷ []) (unsized_ask names c.cond plain)
+
+pub one_named : (cs now : List Check) (names : List Needle) (c : Check) → AreNamed names cs → now ≡ cs ++ c ∷ [] → IsUnsized (ask_of [] c.cond) → AreNamed names now
+one_named cs now names c named e plain =
+    let known : AreNamed names (cs ++ c ∷ []) = record {
+      fit = All-push (λ (c : Check). CondFits names c.cond) cs c named.fit (unsized_fits names c.cond plain);
+      whole = flat_map-append (λ (c : Check). names_of names c.cond) cs (c ∷ [])
+          ∙ ap₂ (λ (xs ys : List Needle). xs ++ ys) named.whole (append-nil (names_of names c.cond) ∙ unsized_names names c.cond plain)
+          ∙ append-nil names;
+    } in
+    subst (λ list. AreNamed names list) (sym e) known

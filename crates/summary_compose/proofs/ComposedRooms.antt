@@ -9,12 +9,15 @@ use Rattle.std.proofs.lemmas.List.Elements.{Contains-append_left, Contains-appen
 use Rattle.std.proofs.lemmas.List.Sums.{sum_by-cons, sum_by_push}
 use Rattle.knit_base.specs.declared.needle.Needle.{Needle}
 use Rattle.face_data.specs.declared.face.Effect.{Effect}
+use Rattle.face_data.specs.declared.face.Last.{Last}
+use Rattle.face_data.specs.Lasts.{lasts_of_both}
+use Rattle.summary_compose.proofs.LastCounts.{length_both}
 use Rattle.face_data.specs.Answers.{Answer, read_answer}
 use Rattle.face_data.specs.Answers.Answer.{yes_it_does, no_it_does_not, asks}
 use Rattle.knit_base.specs.declared.rule.Fault.{Fault}
 use Rattle.face_data.specs.declared.face.Ending.{Ending}
 use Rattle.face_data.specs.declared.face.Ending.TheVariants.{Through, Broken}
-use Rattle.face_data.specs.Composition.{against_kept, changes_with, closed_at, composed, composed_at, made_with, merged, next, reads}
+use Rattle.face_data.specs.Composition.{against_kept, changes_with, closed_at, composed, composed_at, made_with, merged, next, reads, lasts_with}
 use Rattle.face_data.specs.Goodness.{IsGood, IsInOrder, OwnsOnce, names_in}
 use Rattle.face_data.specs.Segments.{Changed, segments_on, entries_of, names_through}
 use Rattle.face_data.specs.Summaries.{Asked, Summary, raised}
@@ -41,22 +44,22 @@ pub record ReadSizes (ch : List Changed) (kept rest checks : List Asked) : Type 
   pub names : names_count checks ≤ names_count kept + names_read_count ch rest
 
 -- the conditions that are kept are no more, and name no more needles
-pub reads_sizes : (e : Effect) (a : List Changed) (lines : ℕ) (kept rest : List Asked) → ReadSizes a kept rest (reads e a lines kept rest).checks
+pub reads_sizes : (e : Effect) (lasts : List Last) (a : List Changed) (lines : ℕ) (kept rest : List Asked) → ReadSizes a kept rest (reads e lasts a lines kept rest).checks
 unfolding reads
-reads_sizes e a lines kept [] = record { few = omega arith; names = omega arith }
-reads_sizes e a lines kept (d ∷ ds) = go (against_kept kept (read_answer e a d.ask)) refl (λ ks. reads_sizes e a lines ks ds)
+reads_sizes e lasts a lines kept [] = record { few = omega arith; names = omega arith }
+reads_sizes e lasts a lines kept (d ∷ ds) = go (against_kept kept (read_answer e lasts a d.ask)) refl (λ ks. reads_sizes e lasts a lines ks ds)
   where
     more : names_read_count a (d ∷ ds) ≡ length (names_through a (names_in d.ask)) + names_read_count a ds
     more = sum_by-cons (λ (c : Asked). length (names_through a (names_in c.ask))) d ds
 
-    go : (r : Answer) → against_kept kept (read_answer e a d.ask) ≡ r → ((ks : List Asked) → ReadSizes a ks ds (reads e a lines ks ds).checks) → ReadSizes a kept (d ∷ ds) (next r kept (raised lines d.fault) (λ k. reads e a lines k ds)).checks
+    go : (r : Answer) → against_kept kept (read_answer e lasts a d.ask) ≡ r → ((ks : List Asked) → ReadSizes a ks ds (reads e lasts a lines ks ds).checks) → ReadSizes a kept (d ∷ ds) (next r kept (raised lines d.fault) (λ k. reads e lasts a lines k ds)).checks
     go yes_it_does is more_of = let ih = more_of kept in record { few = omega (arith, ih.few); names = omega (arith, ih.names, more) }
     go no_it_does_not is more_of = record { few = omega arith; names = omega (arith, more) }
     go (asks w) is more_of =
         let c : Asked = record { fault = raised lines d.fault; ask = w } in
         let ih = more_of (kept ++ c ∷ []) in
-        let both = against_asks kept (read_answer e a d.ask) w is in
-        let names = ap length (names_read e a d.ask w both.0) in
+        let both = against_asks kept (read_answer e lasts a d.ask) w is in
+        let names = ap length (names_read e lasts a d.ask w both.0) in
         record {
           few = omega (arith, ih.few, length-append kept (c ∷ []));
           names = omega (arith, ih.names, more, names, sum_by_push (λ (x : Asked). length (names_in x.ask)) kept c);
@@ -105,44 +108,46 @@ merged_entries a b lines order_a order_b oa ob =
     ]
 
 -- the lists of a summary are no longer than these numbers
-pub record Sizes (summary : Summary) (checks names changes segs entries : ℕ) : Type 0 where
+pub record Sizes (summary : Summary) (checks names changes segs entries lasts : ℕ) : Type 0 where
   pub few_checks : length summary.checks ≤ checks
   pub few_names : names_count summary.checks ≤ names
   pub few_changes : length summary.changes ≤ changes
   pub few_segs : segs_in summary.changes ≤ segs
   pub few_entries : length (all_entries summary.changes) ≤ entries
+  pub few_lasts : length summary.lasts ≤ lasts
 
 -- no longer than those of both summaries together
 abbrev pub SizesOfBoth : Summary → Summary → Summary → Type 0
 SizesOfBoth s a b =
     Sizes s (length a.checks + length b.checks) (names_count a.checks + names_read_count a.changes b.checks) (length a.changes + length b.changes)
-    (segs_in a.changes + segs_in b.changes) (length (all_entries a.changes) + length (all_entries b.changes))
+    (segs_in a.changes + segs_in b.changes) (length (all_entries a.changes) + length (all_entries b.changes)) (length a.lasts + length b.lasts)
 
 merged_sizes : (a b : Summary) (e : Ending) → IsInOrder a.changes → IsInOrder b.changes → OwnsOnce a.changes → OwnsOnce b.changes → (checks : List Asked) → ReadSizes a.changes a.checks b.checks checks →
-    SizesOfBoth (record { lines = a.lines + b.lines; made = made_with e (a.made + b.made); checks = checks; changes = changes_with e (merged a.changes (changes_through a.changes a.lines b.changes)); ending = e }) a b
+    SizesOfBoth (record { lines = a.lines + b.lines; made = made_with e (a.made + b.made); checks = checks; changes = changes_with e (merged a.changes (changes_through a.changes a.lines b.changes)); lasts = lasts_with e (lasts_of_both a.lasts b.lasts); ending = e }) a b
 merged_sizes a b (Broken fault) order_a order_b oa ob checks h =
-    record { few_checks = h.few; few_names = h.names; few_changes = omega arith; few_segs = omega arith; few_entries = omega arith }
+    record { few_checks = h.few; few_names = h.names; few_changes = omega arith; few_segs = omega arith; few_entries = omega arith; few_lasts = omega arith }
 merged_sizes a b (Through effect) order_a order_b oa ob checks h = record {
   few_checks = h.few;
   few_names = h.names;
   few_changes = omega (arith, merged_length a.changes (changes_through a.changes a.lines b.changes), length-map b.changes (change_through a.changes a.lines));
   few_segs = merged_segs a.changes b.changes a.lines order_a order_b ob;
   few_entries = merged_entries a.changes b.changes a.lines order_a order_b oa ob;
+  few_lasts = length_both a.lasts b.lasts;
 }
 
 closed_sizes : (a b : Summary) (e : Effect) (stop : Option Fault) → IsInOrder a.changes → IsInOrder b.changes → OwnsOnce a.changes → OwnsOnce b.changes → (checks : List Asked) → ReadSizes a.changes a.checks b.checks checks →
     SizesOfBoth (closed_at stop checks e a b) a b
 closed_sizes a b e (Some fault) order_a order_b oa ob checks h =
-    record { few_checks = h.few; few_names = h.names; few_changes = omega arith; few_segs = omega arith; few_entries = omega arith }
+    record { few_checks = h.few; few_names = h.names; few_changes = omega arith; few_segs = omega arith; few_entries = omega arith; few_lasts = omega arith }
 closed_sizes a b e None order_a order_b oa ob checks h =
     let m = merged_sizes a b b.ending order_a order_b oa ob checks h in
-    record { few_checks = m.few_checks; few_names = m.few_names; few_changes = m.few_changes; few_segs = m.few_segs; few_entries = m.few_entries }
+    record { few_checks = m.few_checks; few_names = m.few_names; few_changes = m.few_changes; few_segs = m.few_segs; few_entries = m.few_entries; few_lasts = m.few_lasts }
 
 composed_sizes_at : (a b : Summary) (e : Ending) → IsInOrder a.changes → IsInOrder b.changes → OwnsOnce a.changes → OwnsOnce b.changes → SizesOfBoth (composed_at e a b) a b
 composed_sizes_at a b (Broken fault) order_a order_b oa ob =
-    record { few_checks = omega arith; few_names = omega arith; few_changes = omega arith; few_segs = omega arith; few_entries = omega arith }
+    record { few_checks = omega arith; few_names = omega arith; few_changes = omega arith; few_segs = omega arith; few_entries = omega arith; few_lasts = omega arith }
 composed_sizes_at a b (Through e) order_a order_b oa ob =
-    closed_sizes a b e (reads e a.changes a.lines a.checks b.checks).stop order_a order_b oa ob (reads e a.changes a.lines a.checks b.checks).checks (reads_sizes e a.changes a.lines a.checks b.checks)
+    closed_sizes a b e (reads e a.lasts a.changes a.lines a.checks b.checks).stop order_a order_b oa ob (reads e a.lasts a.changes a.lines a.checks b.checks).checks (reads_sizes e a.lasts a.changes a.lines a.checks b.checks)
 
 -- How long the lists of two good summaries' composition can be.
 pub composed_sizes : (carriers limit : ℕ) (first second : List Needle) (a b : Summary) → IsGood carriers limit first a → IsGood carriers limit second b → SizesOfBoth (composed a b) a b
@@ -196,6 +201,7 @@ composed_room a b f g pa pb pf is made =
       changes = fits (length f.changes.now) (length a.changes.now + length b.changes.now) (omega (arith, s.few_changes, ha, hb, hf)) made.changes;
       segs = fits (length f.segs.now) (length a.segs.now + length b.segs.now) (omega (arith, s.few_segs, sa, sb, sf)) made.segs;
       entries = fits (length (entries_of f.segs.now)) (length (entries_of a.segs.now) + length (entries_of b.segs.now)) (omega (arith, s.few_entries, ea, eb, ef)) (omega (arith, length-segs f.segs.now, made.segs));
+      lasts = fits (length f.lasts.now) (length a.lasts.now + length b.lasts.now) (omega (arith, s.few_lasts)) made.lasts;
     }
 
 -- The face has the room for both where there is so much room at all.
@@ -219,4 +225,5 @@ composed_fits a b f room g pa pb pf is made h =
       names = omega (arith, s.few_names, nf, found.names, made.names);
       changes = omega (arith, s.few_changes, ha, hb, hf, capped_is (length a.changes.now + length b.changes.now) room.changes h.changes made.changes, made.changes);
       segs = omega (arith, s.few_segs, sa, sb, sf, capped_is (length a.segs.now + length b.segs.now) room.segs h.segs made.segs, made.segs);
+      lasts = omega (arith, s.few_lasts, capped_is (length a.lasts.now + length b.lasts.now) room.lasts h.lasts made.lasts, made.lasts);
     })

@@ -3,7 +3,7 @@ use Rattle.std.proofs.Common.{◌≡◌, ◌+◌, List, [], ◌∷◌, length, r
 use Rattle.std.proofs.lemmas.List.{length-map}
 use Rattle.std.proofs.lemmas.List.Sums.{sum_by-cons}
 use Rattle.face_data.specs.Conditions.{Ask}
-use Rattle.face_data.specs.Conditions.Ask.{rack_is, carrier_in, carrier_out, hook_free, hook_is, hook_lacks, size_at_most}
+use Rattle.face_data.specs.Conditions.Ask.{rack_is, carrier_in, carrier_out, hook_free, hook_is, hook_lacks, size_at_most, last_near}
 use Rattle.face_data.specs.declared.face.FaceView.{FaceView}
 use Rattle.face_data.specs.Goodness.{names_in}
 use Rattle.face_data.specs.Items.{ask_items, change_items, check_items, ending_items, items}
@@ -23,6 +23,7 @@ ask_count (carrier_out c) = refl
 ask_count hook_free = refl
 ask_count (hook_is set) = refl
 ask_count (hook_lacks c) = refl
+ask_count (last_near c at float) = refl
 
 check_count : (cs : List Asked) → check_items cs ≡ length cs + names_count cs
 check_count [] = refl
@@ -36,7 +37,7 @@ change_count (c ∷ cs) =
 
 -- its items are those of its lists and of its ending
 pub packed_items : (face : FaceView) → IsPacked face →
-    items (summary_of face) ≡ length face.checks.now + length face.names.now + length face.changes.now + length face.segs.now + ending_items face.ending
+    items (summary_of face) ≡ length face.checks.now + length face.names.now + length face.changes.now + length face.segs.now + length face.lasts.now + ending_items face.ending
 packed_items face p =
     omega (
       arith,

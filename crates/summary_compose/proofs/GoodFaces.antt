@@ -8,7 +8,7 @@ use Rattle.std.proofs.lemmas.List.Sums.{sum_by-le}
 use Rattle.knit_base.specs.declared.needle.Needle.{Needle}
 use Rattle.face_data.specs.declared.face.Check.{Check}
 use Rattle.face_data.specs.declared.face.Cond.{Cond}
-use Rattle.face_data.specs.declared.face.Cond.TheVariants.{RackIs, CarrierIn, CarrierOut, HookFree, HookIs, HookLacks, SizeAtMost}
+use Rattle.face_data.specs.declared.face.Cond.TheVariants.{RackIs, CarrierIn, CarrierOut, HookFree, HookIs, HookLacks, SizeAtMost, LastNear}
 use Rattle.face_data.specs.declared.face.Effect.{Effect}
 use Rattle.face_data.specs.declared.face.Ending.{Ending}
 use Rattle.face_data.specs.declared.face.Ending.TheVariants.{Through, Broken}
@@ -92,6 +92,7 @@ few_read carriers limit first second names a (CarrierOut c) ga numbers few_loops
 few_read carriers limit first second names a HookFree ga numbers few_loops fits = record { names = omega arith; new = omega arith }
 few_read carriers limit first second names a (HookIs set) ga numbers few_loops fits = record { names = omega arith; new = omega arith }
 few_read carriers limit first second names a (HookLacks c) ga numbers few_loops fits = record { names = omega arith; new = omega arith }
+few_read carriers limit first second names a (LastNear c at float) ga numbers few_loops fits = record { names = omega arith; new = omega arith }
 
 few_named : (carriers limit : ℕ) (known names : List Needle) (c : Cond) → All IsNumbered known → AskFits carriers limit known (ask_of names c) → length (names_of names c) < 2 ^ 32
 few_named carriers limit known names (SizeAtMost p most) numbers fits = omega (arith, few_within (part_of names p) known fits.distinct fits.within numbers)
@@ -101,6 +102,7 @@ few_named carriers limit known names (CarrierOut c) numbers fits = omega arith
 few_named carriers limit known names HookFree numbers fits = omega arith
 few_named carriers limit known names (HookIs set) numbers fits = omega arith
 few_named carriers limit known names (HookLacks c) numbers fits = omega arith
+few_named carriers limit known names (LastNear c at float) numbers fits = omega arith
 
 carrier_fits : (carriers limit : ℕ) (known names : List Needle) (c : Cond) → carriers ≤ 64 → AskFits carriers limit known (ask_of names c) → CarrierFits c
 carrier_fits carriers limit known names (SizeAtMost p most) few fits = tt
@@ -110,6 +112,7 @@ carrier_fits carriers limit known names (CarrierOut c) few fits = omega (arith, 
 carrier_fits carriers limit known names HookFree few fits = tt
 carrier_fits carriers limit known names (HookIs set) few fits = tt
 carrier_fits carriers limit known names (HookLacks c) few fits = omega (arith, few, fits)
+carrier_fits carriers limit known names (LastNear c at float) few fits = omega (arith, few, fits)
 
 asked_at : (face : FaceView) (k : ℕ) (d : Check) → k < length face.checks.now → Contains (checks_in face) (asked_of face.names.now (get_or face.checks.now k d))
 asked_at face k d within = contains_mapped (asked_of face.names.now) face.checks.now k d within
@@ -119,11 +122,11 @@ ending_rises carriers a b (Through effect) fits sum = tt
 ending_rises carriers a b (Broken fault) fits sum = omega (arith, fits.within, sum)
 
 -- where nothing stops, both faces' changes are merged
-merged_changes : (a b : FaceView) (effect more : Effect) → a.ending ≡ Through effect → b.ending ≡ Through more → (reads effect (changes_in a) a.lines (checks_in a) (checks_in b)).stop ≡ None →
+merged_changes : (a b : FaceView) (effect more : Effect) → a.ending ≡ Through effect → b.ending ≡ Through more → (reads effect a.lasts.now (changes_in a) a.lines (checks_in a) (checks_in b)).stop ≡ None →
     (composed (summary_of a) (summary_of b)).changes ≡ merged_of a b
 merged_changes a b effect more first second goes_on =
     ap (λ e. (composed_at e (summary_of a) (summary_of b)).changes) first
-    ∙ ap (λ o. (closed_at o (reads effect (changes_in a) a.lines (checks_in a) (checks_in b)).checks effect (summary_of a) (summary_of b)).changes) goes_on
+    ∙ ap (λ o. (closed_at o (reads effect a.lasts.now (changes_in a) a.lines (checks_in a) (checks_in b)).checks effect (summary_of a) (summary_of b)).changes) goes_on
     ∙ ap (λ e. changes_with e (merged_of a b)) second
 
 -- All that the code asks of two faces follows.
@@ -155,6 +158,7 @@ composable a b g pa pb sum =
       lines = sum;
       made = omega (arith, g.first.fair.made, g.second.fair.made, sum);
       ending = ending_rises g.carriers a (summary_of b) b.ending g.second.fair.ending sum;
+      lasts = g.first.fair.lasts_in_order;
     }
 
 -- The composition of two good faces is a good face.

@@ -12,6 +12,7 @@ use Rattle.face_data.specs.declared.bearing.Bearing.TheVariants.{Implied}
 use Rattle.face_data.specs.declared.digest.Digest.{Digest}
 use Rattle.face_data.specs.declared.face.Check.{Check}
 use Rattle.face_data.specs.declared.face.Effect.{Effect}
+use Rattle.face_data.specs.declared.face.Last.{Last}
 use Rattle.face_data.specs.declared.face.Ending.TheVariants.{Through}
 use Rattle.face_data.specs.declared.face.FaceView.{FaceView}
 use Rattle.face_data.specs.declared.face.Seg.TheVariants.{Entry}
@@ -21,9 +22,9 @@ use Rattle.face_data.specs.Bearings.{if_so}
 use Rattle.face_data.specs.Chains.{SizeMark, answer_known, chain_at}
 use Rattle.face_data.specs.Composition.{from_bearing}
 use Rattle.face_data.specs.declared.face.Cond.{Cond}
-use Rattle.face_data.specs.declared.face.Cond.TheVariants.{RackIs, CarrierIn, CarrierOut, HookFree, HookIs, HookLacks, SizeAtMost}
+use Rattle.face_data.specs.declared.face.Cond.TheVariants.{RackIs, CarrierIn, CarrierOut, HookFree, HookIs, HookLacks, SizeAtMost, LastNear}
 use Rattle.face_data.specs.Conditions.{Ask, ask_of, part_of}
-use Rattle.face_data.specs.Conditions.Ask.{size_at_most}
+use Rattle.face_data.specs.Conditions.Ask.{size_at_most, last_near}
 use Rattle.face_data.specs.Digests.{digest_bearing, digest_of, effect_bearing}
 use Rattle.face_data.specs.Segments.{Changed, entries_of, names_through, new_of, new_through, segments_on}
 use Rattle.face_data.specs.Summaries.{Asked, raised}
@@ -76,7 +77,7 @@ new_holds notes names new most none few =
 
 -- one more holds
 pub alike_next : (a b : FaceView) (e : Effect) (i : ℕ) (d : Check) (digest : Digest) → AreGood a b → a.ending ≡ Through e → AreAlike a b e i → i < length b.checks.now → digest ≡ digest_of (checks_in a) →
-    answer_known digest (chain_at (checks_in a)) (read_answer e (changes_in a) (check_at b i d).ask) ≡ yes_it_does → AreAlike a b e (i + 1)
+    answer_known digest (chain_at (checks_in a)) (checks_in a) (read_answer e a.lasts.now (changes_in a) (check_at b i d).ask) ≡ yes_it_does → AreAlike a b e (i + 1)
 alike_next a b e i d digest good through alike within is holds =
     let knows : Knows digest (notes_of (checks_in a)) (checks_in a) = record { digest_is = is; notes_are = refl } in
     let so = reads_begin a b e i (checks_in a) digest (notes_of (checks_in a)) good alike refl knows in
@@ -93,14 +94,15 @@ silent_yes q e = subst is_asked e tt
     is_asked (asks q) = Unit {0}
 
 -- a condition that the effect or the digest imply
-pub implied_yes : (d : Digest) (chains : Needle → List SizeMark) (effect : Effect) (changes : List Changed) (names : List Needle) (c : Cond) →
+pub implied_yes : (d : Digest) (chains : Needle → List SizeMark) (kept : List Asked) (effect : Effect) (lasts : List Last) (changes : List Changed) (names : List Needle) (c : Cond) →
     from_bearing (effect_bearing effect (ask_of [] c)) (from_bearing (digest_bearing d (ask_of [] c)) (asks (ask_of [] c))) ≡ yes_it_does →
-    answer_known d chains (read_answer effect changes (ask_of names c)) ≡ yes_it_does
+    answer_known d chains kept (read_answer effect lasts changes (ask_of names c)) ≡ yes_it_does
 unfolding effect_bearing digest_bearing
-implied_yes d chains effect changes names (SizeAtMost p most) e = absurd (silent_yes (size_at_most (part_of [] p) most) e)
-implied_yes d chains effect changes names (RackIs q) e = plain_known d chains effect changes names (RackIs q) tt ∙ e
-implied_yes d chains effect changes names (CarrierIn c) e = plain_known d chains effect changes names (CarrierIn c) tt ∙ e
-implied_yes d chains effect changes names (CarrierOut c) e = plain_known d chains effect changes names (CarrierOut c) tt ∙ e
-implied_yes d chains effect changes names HookFree e = plain_known d chains effect changes names HookFree tt ∙ e
-implied_yes d chains effect changes names (HookIs set) e = plain_known d chains effect changes names (HookIs set) tt ∙ e
-implied_yes d chains effect changes names (HookLacks c) e = plain_known d chains effect changes names (HookLacks c) tt ∙ e
+implied_yes d chains kept effect lasts changes names (SizeAtMost p most) e = absurd (silent_yes (size_at_most (part_of [] p) most) e)
+implied_yes d chains kept effect lasts changes names (RackIs q) e = plain_known d chains kept effect lasts changes names (RackIs q) tt ∙ e
+implied_yes d chains kept effect lasts changes names (CarrierIn c) e = plain_known d chains kept effect lasts changes names (CarrierIn c) tt ∙ e
+implied_yes d chains kept effect lasts changes names (CarrierOut c) e = plain_known d chains kept effect lasts changes names (CarrierOut c) tt ∙ e
+implied_yes d chains kept effect lasts changes names HookFree e = plain_known d chains kept effect lasts changes names HookFree tt ∙ e
+implied_yes d chains kept effect lasts changes names (HookIs set) e = plain_known d chains kept effect lasts changes names (HookIs set) tt ∙ e
+implied_yes d chains kept effect lasts changes names (HookLacks c) e = plain_known d chains kept effect lasts changes names (HookLacks c) tt ∙ e
+implied_yes d chains kept effect lasts changes names (LastNear c at float) e = absurd (silent_yes (last_near c at float) e)

@@ -5,6 +5,8 @@ pub mod ComposedRooms
 pub mod Counts
 pub mod GoodFaces
 pub mod ImpliedChecks
+pub mod LastCounts
+pub mod NearConditions
 pub mod Parts
 pub mod PlainFaces
 pub mod RaisedChanges

@@ -13,6 +13,7 @@ use Rattle.knit_base.specs.declared.rule.Rule.TheVariants.{Unreadable}
 use Rattle.face_data.specs.declared.face.Cond.TheVariants.{RackIs}
 use Rattle.face_data.specs.declared.face.Check.{Check}
 use Rattle.face_data.specs.declared.face.Effect.{Effect}
+use Rattle.face_data.specs.declared.face.Last.{Last}
 use Rattle.face_data.specs.declared.face.Ending.TheVariants.{Through}
 use Rattle.face_data.specs.declared.face.FaceView.{FaceView}
 use Rattle.face_data.specs.Answers.{Answer, read_answer}
@@ -36,7 +37,7 @@ use Rattle.summary_compose.proofs.Answers.{reads_step}
 
 -- what holds where the first i conditions are read
 pub record ReadsOn (a b : FaceView) (e : Effect) (i : ℕ) (kept : List Asked) (digest : Digest) (notes : List Note) : Type 0 where
-  pub read : reads e (changes_in a) a.lines kept (drop i (checks_in b)) ≡ reads e (changes_in a) a.lines (checks_in a) (checks_in b)
+  pub read : reads e a.lasts.now (changes_in a) a.lines kept (drop i (checks_in b)) ≡ reads e a.lasts.now (changes_in a) a.lines (checks_in a) (checks_in b)
   pub are_kept : AreKept e (summary_of a) (summary_of b) kept
   pub knows : Knows digest notes kept
   pub few : length kept ≤ length a.checks.now + i
@@ -51,7 +52,7 @@ contains_at cs i d within = subst (λ xs. Contains xs (get_or cs i d)) (take-app
 
 -- what becomes of the kept conditions
 kept_step : (carriers limit : ℕ) (first second : List Needle) (e : Effect) (a b : Summary) (kept now : List Asked) (c : Asked) (goes_on : Bool) (r : Answer) →
-    against_kept kept (read_answer e a.changes c.ask) ≡ r → StepIs r kept (raised a.lines c.fault) goes_on now → AreKept e a b kept → Contains b.checks c → AreKept e a b now
+    against_kept kept (read_answer e a.lasts a.changes c.ask) ≡ r → StepIs r kept (raised a.lines c.fault) goes_on now → AreKept e a b kept → Contains b.checks c → AreKept e a b now
 kept_step carriers limit first second e a b kept now c goes_on yes_it_does is h are there = subst (AreKept e a b) (sym h.1) are
 kept_step carriers limit first second e a b kept now c goes_on no_it_does_not is h are there = subst (AreKept e a b) (sym h.1) are
 kept_step carriers limit first second e a b kept now c goes_on (asks w) is h are there = subst (AreKept e a b) (sym h.1) (kept-push e a b kept c w are there is)
@@ -65,17 +66,17 @@ step_few kept now fault goes_on (asks w) h =
     let more = length_push kept new in
     omega arith
 
-step_names : (e : Effect) (changes : List Changed) (kept now : List Asked) (q : Ask) (fault : Fault) (goes_on : Bool) (r : Answer) → against_kept kept (read_answer e changes q) ≡ r →
+step_names : (e : Effect) (lasts : List Last) (changes : List Changed) (kept now : List Asked) (q : Ask) (fault : Fault) (goes_on : Bool) (r : Answer) → against_kept kept (read_answer e lasts changes q) ≡ r →
     StepIs r kept fault goes_on now → names_count now ≤ names_count kept + length (names_through changes (names_in q))
-step_names e changes kept now q fault goes_on yes_it_does is h = let same = ap names_count h.1 in omega arith
-step_names e changes kept now q fault goes_on no_it_does_not is h = let same = ap names_count h.1 in omega arith
-step_names e changes kept now q fault goes_on (asks w) is h =
+step_names e lasts changes kept now q fault goes_on yes_it_does is h = let same = ap names_count h.1 in omega arith
+step_names e lasts changes kept now q fault goes_on no_it_does_not is h = let same = ap names_count h.1 in omega arith
+step_names e lasts changes kept now q fault goes_on (asks w) is h =
     let new : Asked = record { fault = fault; ask = w } in
     let size : Asked → ℕ = λ (c : Asked). length (names_in c.ask) in
     let same : names_count now ≡ names_count (kept ++ new ∷ []) = ap names_count h.1 in
     let split = sum_by-append size kept (new ∷ []) in
     let one = sum_by-cons size new [] in
-    let from : length (names_in w) ≡ length (names_through changes (names_in q)) = ap length (names_read e changes q w ((against_asks kept (read_answer e changes q) w is).0)) in
+    let from : length (names_in w) ≡ length (names_through changes (names_in q)) = ap length (names_read e lasts changes q w ((against_asks kept (read_answer e lasts changes q) w is).0)) in
     omega (arith, same, split, one, from)
 
 names_left : (changes : List Changed) (cs : List Asked) (i : ℕ) → names_read_count changes (drop i cs) ≤ names_read_count changes cs
@@ -94,7 +95,7 @@ reads_begin a b e i kept digest notes good alike begun knows =
     let names : names_count kept ≡ names_count (checks_in a) = ap names_count begun in
     let left = names_left (changes_in a) (checks_in b) i in
     record {
-      read = ap (λ ks. reads e (changes_in a) a.lines ks (drop i (checks_in b))) begun ∙ alike.others;
+      read = ap (λ ks. reads e a.lasts.now (changes_in a) a.lines ks (drop i (checks_in b))) begun ∙ alike.others;
       are_kept = subst (AreKept e (summary_of a) (summary_of b)) (sym begun) (kept-first good.carriers good.limit good.first_known e (summary_of a) (summary_of b) good.first);
       knows = knows;
       few = omega arith;
@@ -118,35 +119,35 @@ next_there b i d within =
 
 step_against : (a b : FaceView) (e : Effect) (i : ℕ) (d : Check) (kept now : List Asked) (digest : Digest) (notes : List Note) (fault : Fault) (goes_on : Bool) → AreGood a b → a.ending ≡ Through e →
     ReadsOn a b e i kept digest notes → i < length b.checks.now → fault ≡ raised a.lines (check_at b i d).fault →
-    StepIs (answer_known digest (chain_at kept) (read_answer e (changes_in a) (check_at b i d).ask)) kept fault goes_on now →
-    StepIs (against_kept kept (read_answer e (changes_in a) (check_at b i d).ask)) kept (raised a.lines (check_at b i d).fault) goes_on now
+    StepIs (answer_known digest (chain_at kept) kept (read_answer e a.lasts.now (changes_in a) (check_at b i d).ask)) kept fault goes_on now →
+    StepIs (against_kept kept (read_answer e a.lasts.now (changes_in a) (check_at b i d).ask)) kept (raised a.lines (check_at b i d).fault) goes_on now
 step_against a b e i d kept now digest notes fault goes_on good through so within is h =
     subst (λ answer. StepIs answer kept (raised a.lines (check_at b i d).fault) goes_on now)
-    (ap (λ x. answer_known x (chain_at kept) (read_answer e (changes_in a) (check_at b i d).ask)) so.knows.digest_is
+    (ap (λ x. answer_known x (chain_at kept) kept (read_answer e a.lasts.now (changes_in a) (check_at b i d).ask)) so.knows.digest_is
     ∙ sym (answer-known good.carriers good.limit good.first_known good.second_known e (summary_of a) (summary_of b) kept (check_at b i d) good.first good.second
     (lies_of good.carriers (summary_of a) e through good.first.fair.ending) so.are_kept (next_there b i d within)))
-    (subst (λ f. StepIs (answer_known digest (chain_at kept) (read_answer e (changes_in a) (check_at b i d).ask)) kept f goes_on now) is h)
+    (subst (λ f. StepIs (answer_known digest (chain_at kept) kept (read_answer e a.lasts.now (changes_in a) (check_at b i d).ask)) kept f goes_on now) is h)
 
 -- one condition more
 pub reads_on : (a b : FaceView) (e : Effect) (i : ℕ) (d : Check) (kept now : List Asked) (digest after_digest : Digest) (notes after_notes : List Note) (fault : Fault) (goes_on : Bool) → AreGood a b → a.ending ≡ Through e →
     ReadsOn a b e i kept digest notes → i < length b.checks.now → goes_on ≡ true → fault ≡ raised a.lines (check_at b i d).fault →
-    StepIs (answer_known digest (chain_at kept) (read_answer e (changes_in a) (check_at b i d).ask)) kept fault goes_on now →
+    StepIs (answer_known digest (chain_at kept) kept (read_answer e a.lasts.now (changes_in a) (check_at b i d).ask)) kept fault goes_on now →
     Knows after_digest after_notes now → ReadsOn a b e (i + 1) now after_digest after_notes
 reads_on a b e i d kept now digest after_digest notes after_notes fault goes_on good through so within goes is h knows =
     let c = check_at b i d in
     let step = step_against a b e i d kept now digest notes fault goes_on good through so within is h in
-    let answer = against_kept kept (read_answer e (changes_in a) c.ask) in
+    let answer = against_kept kept (read_answer e a.lasts.now (changes_in a) c.ask) in
     let rest = drop (i + 1) (checks_in b) in
     let more = step_few kept now (raised a.lines c.fault) goes_on answer step in
     let few : length kept ≤ length a.checks.now + i = so.few in
-    let named = step_names e (changes_in a) kept now c.ask (raised a.lines c.fault) goes_on answer refl step in
+    let named = step_names e a.lasts.now (changes_in a) kept now c.ask (raised a.lines c.fault) goes_on answer refl step in
     let total = so.names in
     let left : names_read_count (changes_in a) (drop i (checks_in b)) ≡ names_read_count (changes_in a) (c ∷ rest) = ap (names_read_count (changes_in a)) (next_check b i d within) in
     let first = sum_by-cons (λ (x : Asked). length (names_through (changes_in a) (names_in x.ask))) c rest in
     record {
-      read = sym (ap (λ on. if on then reads e (changes_in a) a.lines now rest else record { checks = now; stop = Some (raised a.lines c.fault) }) goes)
-          ∙ sym (reads_step e (changes_in a) a.lines kept now rest c goes_on step)
-          ∙ ap (reads e (changes_in a) a.lines kept) (sym (next_check b i d within)) ∙ so.read;
+      read = sym (ap (λ on. if on then reads e a.lasts.now (changes_in a) a.lines now rest else record { checks = now; stop = Some (raised a.lines c.fault) }) goes)
+          ∙ sym (reads_step e a.lasts.now (changes_in a) a.lines kept now rest c goes_on step)
+          ∙ ap (reads e a.lasts.now (changes_in a) a.lines kept) (sym (next_check b i d within)) ∙ so.read;
       are_kept = kept_step good.carriers good.limit good.first_known good.second_known e (summary_of a) (summary_of b) kept now c goes_on answer refl step so.are_kept (next_there b i d within);
       knows = knows;
       few = omega arith;
@@ -156,34 +157,34 @@ reads_on a b e i d kept now digest after_digest notes after_notes fault goes_on 
 -- one that can't hold
 pub reads_stop : (a b : FaceView) (e : Effect) (i : ℕ) (d : Check) (kept now : List Asked) (digest : Digest) (notes : List Note) (fault : Fault) (goes_on : Bool) → AreGood a b → a.ending ≡ Through e →
     ReadsOn a b e i kept digest notes → i < length b.checks.now → goes_on ≡ false → fault ≡ raised a.lines (check_at b i d).fault →
-    StepIs (answer_known digest (chain_at kept) (read_answer e (changes_in a) (check_at b i d).ask)) kept fault goes_on now →
-    reads e (changes_in a) a.lines (checks_in a) (checks_in b) ≡ record { checks = now; stop = Some fault }
+    StepIs (answer_known digest (chain_at kept) kept (read_answer e a.lasts.now (changes_in a) (check_at b i d).ask)) kept fault goes_on now →
+    reads e a.lasts.now (changes_in a) a.lines (checks_in a) (checks_in b) ≡ record { checks = now; stop = Some fault }
 reads_stop a b e i d kept now digest notes fault goes_on good through so within stops is h =
     let c = check_at b i d in
     let step = step_against a b e i d kept now digest notes fault goes_on good through so within is h in
     let rest = drop (i + 1) (checks_in b) in
-    sym so.read ∙ ap (reads e (changes_in a) a.lines kept) (next_check b i d within)
-    ∙ reads_step e (changes_in a) a.lines kept now rest c goes_on step
-    ∙ ap (λ on. if on then reads e (changes_in a) a.lines now rest else record { checks = now; stop = Some (raised a.lines c.fault) }) stops
+    sym so.read ∙ ap (reads e a.lasts.now (changes_in a) a.lines kept) (next_check b i d within)
+    ∙ reads_step e a.lasts.now (changes_in a) a.lines kept now rest c goes_on step
+    ∙ ap (λ on. if on then reads e a.lasts.now (changes_in a) a.lines now rest else record { checks = now; stop = Some (raised a.lines c.fault) }) stops
     ∙ (λ k. record { checks = now; stop = Some (sym is k) })
 
-reads_none : (e : Effect) (changes : List Changed) (lines : ℕ) (kept : List Asked) → reads e changes lines kept [] ≡ record { checks = kept; stop = None }
+reads_none : (e : Effect) (lasts : List Last) (changes : List Changed) (lines : ℕ) (kept : List Asked) → reads e lasts changes lines kept [] ≡ record { checks = kept; stop = None }
 unfolding reads
-reads_none e changes lines kept = refl
+reads_none e lasts changes lines kept = refl
 
 -- all were read
 pub reads_end : (a b : FaceView) (e : Effect) (i : ℕ) (kept : List Asked) (digest : Digest) (notes : List Note) → ReadsOn a b e i kept digest notes → length b.checks.now ≤ i →
-    reads e (changes_in a) a.lines (checks_in a) (checks_in b) ≡ record { checks = kept; stop = None }
+    reads e a.lasts.now (changes_in a) a.lines (checks_in a) (checks_in b) ≡ record { checks = kept; stop = None }
 reads_end a b e i kept digest notes so past =
     let long : length (checks_in b) ≡ length b.checks.now = length-map b.checks.now (asked_of b.names.now) in
-    sym so.read ∙ ap (reads e (changes_in a) a.lines kept) (drop_all i (checks_in b) (omega arith)) ∙ reads_none e (changes_in a) a.lines kept
+    sym so.read ∙ ap (reads e a.lasts.now (changes_in a) a.lines kept) (drop_all i (checks_in b) (omega arith)) ∙ reads_none e a.lasts.now (changes_in a) a.lines kept
 
 -- all hold for what the first face asks
 pub alike_all : (a b : FaceView) (e : Effect) (i : ℕ) (kept : List Asked) → AreAlike a b e i → length b.checks.now ≤ i → kept ≡ checks_in a →
-    reads e (changes_in a) a.lines (checks_in a) (checks_in b) ≡ record { checks = kept; stop = None }
+    reads e a.lasts.now (changes_in a) a.lines (checks_in a) (checks_in b) ≡ record { checks = kept; stop = None }
 alike_all a b e i kept alike past begun =
     let long : length (checks_in b) ≡ length b.checks.now = length-map b.checks.now (asked_of b.names.now) in
-    sym alike.others ∙ ap (reads e (changes_in a) a.lines (checks_in a)) (drop_all i (checks_in b) (omega arith)) ∙ reads_none e (changes_in a) a.lines (checks_in a)
+    sym alike.others ∙ ap (reads e a.lasts.now (changes_in a) a.lines (checks_in a)) (drop_all i (checks_in b) (omega arith)) ∙ reads_none e a.lasts.now (changes_in a) a.lines (checks_in a)
     ∙ (λ j. record { checks = sym begun j; stop = None })
 
 -- there is room for the next

@@ -315,6 +315,7 @@ finds_room a b g pa pb room made h =
       names = omega (arith, na, nb, read, asked, names, own, other);
       changes = omega (arith, merged_length ca (changes_through ca a.lines cb), lines_a, lines_b, lines_t, capped_is (length a.changes.now + length b.changes.now) room.changes h.changes made.changes);
       segs = omega (arith, merged_segs ca cb a.lines g.first.fair.in_order g.second.fair.in_order g.second.fair.owns, sa, sb, capped_is (length a.segs.now + length b.segs.now) room.segs h.segs made.segs);
+      lasts = capped_is (length a.lasts.now + length b.lasts.now) room.lasts h.lasts made.lasts;
     }
 
 capped_more : (n m : ℕ) (b c : Bool) → nat_lt (2 ^ 62) n ≡ b → nat_lt (2 ^ 62) m ≡ c → n ≤ m → (if b then 2 ^ 62 + 1 else n) ≤ (if c then 2 ^ 62 + 1 else m)
@@ -341,4 +342,5 @@ after_grows room more next later h k =
       changes = capped_grows (room.changes + next.changes) (more.changes + later.changes) (omega (arith, h.changes, k.changes));
       segs = capped_grows (room.segs + next.segs) (more.segs + later.segs) (omega (arith, h.segs, k.segs));
       entries = capped_grows (room.entries + next.entries) (more.entries + later.entries) (omega (arith, h.entries, k.entries));
+      lasts = capped_grows (room.lasts + next.lasts) (more.lasts + later.lasts) (omega (arith, h.lasts, k.lasts));
     }

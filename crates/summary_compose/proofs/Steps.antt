@@ -2,24 +2,25 @@
 use Rattle.std.proofs.Common.{◌≡◌, ℕ, Bool, true, false, List, [], ◌∷◌, ◌++◌, refl, sym, ap, ◌∙◌, subst}
 use Rattle.std.proofs.lemmas.Grind.{flat_map-append}
 use Rattle.std.proofs.Common.{◌+◌, ◌-◌, length, map, length-append, arith}
-use Rattle.std.specs.Prelude.{nat_lt, if◌then◌else◌}
+use Rattle.std.specs.Prelude.{ℤ, nat_lt, if◌then◌else◌}
 use Rattle.std.proofs.Math.Path.{ap₂}
 use Rattle.std.proofs.lemmas.List.Sums.{sum_by-cons}
 use Rattle.face_data.specs.Goodness.{names_in}
 use Rattle.summary_compose.specs.Known.{names_count}
 use Rattle.std.proofs.lemmas.List.{append-nil, length-map}
 use Rattle.knit_base.specs.declared.needle.Needle.{Needle}
+use Rattle.knit_base.specs.declared.yarns.CarrierNo.{CarrierNo}
 use Rattle.knit_base.specs.declared.rule.Fault.{Fault}
 use Rattle.face_data.specs.declared.bearing.Bearing.{Bearing}
 use Rattle.face_data.specs.declared.bearing.Bearing.TheVariants.{Implied, Refuted, Silent}
 use Rattle.face_data.specs.declared.digest.Digest.{Digest}
 use Rattle.face_data.specs.declared.face.Cond.{Cond}
-use Rattle.face_data.specs.declared.face.Cond.TheVariants.{RackIs, CarrierIn, CarrierOut, HookFree, HookIs, HookLacks, SizeAtMost}
+use Rattle.face_data.specs.declared.face.Cond.TheVariants.{RackIs, CarrierIn, CarrierOut, HookFree, HookIs, HookLacks, SizeAtMost, LastNear}
 use Rattle.face_data.specs.Answers.{Answer}
 use Rattle.face_data.specs.Answers.Answer.{asks, no_it_does_not}
 use Rattle.face_data.specs.Composition.{from_bearing}
 use Rattle.face_data.specs.Conditions.{Ask, ask_of}
-use Rattle.face_data.specs.Conditions.Ask.{rack_is, carrier_in, carrier_out, hook_free, hook_is, hook_lacks, size_at_most}
+use Rattle.face_data.specs.Conditions.Ask.{rack_is, carrier_in, carrier_out, hook_free, hook_is, hook_lacks, size_at_most, last_near}
 use Rattle.face_data.specs.Digests.{digest_of, noted}
 use Rattle.face_data.specs.Summaries.{Asked}
 use Rattle.face_data.proofs.Digests.{digest_of-push}
@@ -66,6 +67,7 @@ plain_notes (CarrierOut c) plain = refl
 plain_notes HookFree plain = refl
 plain_notes (HookIs set) plain = refl
 plain_notes (HookLacks c) plain = refl
+plain_notes (LastNear c at float) plain = absurd plain
 
 pub notes_push : (kept : List Asked) (c : Asked) → notes_of (kept ++ c ∷ []) ≡ notes_of kept ++ notes_in c.ask
 notes_push kept c = flat_map-append (λ (c : Asked). notes_in c.ask) kept (c ∷ []) ∙ ap (λ ns. notes_of kept ++ ns) (append-nil (notes_in c.ask))
@@ -141,6 +143,7 @@ ask_notes_length (carrier_out c) = refl
 ask_notes_length hook_free = refl
 ask_notes_length (hook_is set) = refl
 ask_notes_length (hook_lacks c) = refl
+ask_notes_length (last_near c at float) = refl
 
 -- as many notes as needles that the kept conditions name
 pub notes_length : (kept : List Asked) → length (notes_of kept) ≡ names_count kept
@@ -152,3 +155,17 @@ notes_length (c ∷ cs) =
 -- there is a note for each needle that is named
 pub known_length : (digest : Digest) (notes : List Note) (kept : List Asked) → Knows digest notes kept → length notes ≡ names_count kept
 known_length digest notes kept h = ap length h.notes_are ∙ notes_length kept
+
+noted_near : (d : Digest) (c : CarrierNo) (at : ℤ) (float : ℕ) → noted d (last_near c at float) ≡ d
+unfolding noted
+noted_near d c at float = refl
+
+-- and one on a last needle, of which neither digest nor notes tell
+pub knows_near : (digest : Digest) (notes : List Note) (kept checks : List Asked) (fault : Fault) (c : CarrierNo) (at : ℤ) (float : ℕ) →
+    checks ≡ kept ++ record { fault = fault; ask = last_near c at float } ∷ [] → Knows digest notes kept → Knows digest notes checks
+knows_near digest notes kept checks fault c at float k h =
+    let new : Asked = record { fault = fault; ask = last_near c at float } in
+    record {
+      digest_is = h.digest_is ∙ sym (noted_near (digest_of kept) c at float) ∙ sym (digest_of-push kept new) ∙ ap digest_of (sym k);
+      notes_are = h.notes_are ∙ sym (append-nil (notes_of kept)) ∙ sym (notes_push kept new) ∙ ap notes_of (sym k);
+    }

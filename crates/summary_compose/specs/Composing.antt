@@ -8,6 +8,7 @@ use Rattle.face_data.specs.declared.face.FaceView.{FaceView}
 use Rattle.face_data.specs.Composition.{reads}
 use Rattle.face_data.specs.Digests.{CarrierFits}
 use Rattle.face_data.specs.Goodness.{IsInOrder}
+use Rattle.face_data.specs.Lasts.{AreInOrder}
 use Rattle.face_data.specs.Summaries.{Summary}
 use Rattle.face_data.specs.View.{names_of, AreNamed, ArePacked, PartsFit}
 use Rattle.summary_compose.specs.Changes.{changes_in, merged_of, segs_in, HaveOffsets}
@@ -34,10 +35,11 @@ pub record Composes (a b : FaceView) : Type 0 where
   pub second_packed : ArePacked b.segs.now b.changes.now
   pub offsets : HaveOffsets a.lines b.segs.now b.changes.now
   pub few_segs : (effect more : Effect) → a.ending ≡ Through effect → b.ending ≡ Through more →
-      (reads effect (changes_in a) a.lines (checks_in a) (checks_in b)).stop ≡ None → segs_in (merged_of a b) < 2 ^ 32
+      (reads effect a.lasts.now (changes_in a) a.lines (checks_in a) (checks_in b)).stop ≡ None → segs_in (merged_of a b) < 2 ^ 32
   pub lines : a.lines + b.lines < 2 ^ 32
   pub made : a.made + b.made < 2 ^ 32
   pub ending : EndingRises a b.ending
+  pub lasts : AreInOrder a.lasts.now
 
 -- there is room for what is made on the way
 pub record FindsRoom (a b : FaceView) (room : Room) : Type 0 where
@@ -45,6 +47,7 @@ pub record FindsRoom (a b : FaceView) (room : Room) : Type 0 where
   pub names : names_count (checks_in a) + names_read_count (changes_in a) (checks_in b) ≤ room.names
   pub changes : length (merged_of a b) ≤ room.changes
   pub segs : segs_in (merged_of a b) ≤ room.segs
+  pub lasts : length a.lasts.now + length b.lasts.now ≤ room.lasts
 
 -- so many items find room
 pub record Holds (making : Making) (room : Room) : Type 0 where
@@ -53,6 +56,7 @@ pub record Holds (making : Making) (room : Room) : Type 0 where
   pub index : room.names ≤ making.index.room
   pub changes : room.changes ≤ making.laid.change_room
   pub segs : room.segs ≤ making.laid.seg_room
+  pub lasts : room.lasts ≤ making.lasts.room
 
 -- each room that there was is there
 abbrev pub KeepsRooms : Making → Making → Type 0
@@ -65,10 +69,11 @@ pub record IsNoGreater (room other : Room) : Type 0 where
   pub changes : room.changes ≤ other.changes
   pub segs : room.segs ≤ other.segs
   pub entries : room.entries ≤ other.entries
+  pub lasts : room.lasts ≤ other.lasts
 
 -- the summary that was made
 abbrev pub made_in : Making → Summary
-made_in making = record { lines = making.lines; made = making.made; checks = making.kept.checks; changes = making.laid.changes; ending = making.ending }
+made_in making = record { lines = making.lines; made = making.made; checks = making.kept.checks; changes = making.laid.changes; lasts = making.lasts.lasts; ending = making.ending }
 
 -- what contracts see of a scratch: the summary that was made last, and the room that there is
 pub record ScratchView : Type 0 where

@@ -1,12 +1,14 @@
 -- What is known while conditions are read and kept.
-use Rattle.std.specs.Prelude.{◌≤◌, ◌<◌, ◌^◌, ◌≡◌, ℕ, ◌-◌, nat_lt, All, List, [], ◌∷◌, drop, length, map, if◌then◌else◌, ◌++◌, Bool, true, false}
+use Rattle.std.specs.Prelude.{◌≤◌, ◌<◌, ◌^◌, ◌≡◌, ℕ, ℤ, ◌-◌, ◌&&◌, nat_eq, nat_lt, All, List, [], ◌∷◌, drop, length, map, if◌then◌else◌, ◌++◌, Bool, true, false}
 use Rattle.std.specs.List.{flat_map, list_any, sum_by}
+use Rattle.std.specs.Ordering.{int_eq}
 use Rattle.knit_base.specs.declared.needle.Needle.{Needle}
+use Rattle.knit_base.specs.declared.yarns.CarrierNo.{CarrierNo}
 use Rattle.knit_base.specs.declared.rule.Fault.{Fault}
 use Rattle.face_data.specs.declared.bearing.Bearing.TheVariants.{Implied}
 use Rattle.face_data.specs.declared.face.Cond.{Cond}
 use Rattle.face_data.specs.declared.face.Effect.{Effect}
-use Rattle.face_data.specs.declared.face.Cond.TheVariants.{SizeAtMost}
+use Rattle.face_data.specs.declared.face.Cond.TheVariants.{SizeAtMost, LastNear}
 use Rattle.face_data.specs.declared.digest.Digest.{Digest}
 use Rattle.face_data.specs.Bearings.{if_so}
 use Rattle.face_data.specs.Conditions.{Ask}
@@ -26,9 +28,15 @@ use Rattle.summary_compose.specs.Tables.{Note, suits}
 use Rattle.summary_compose.specs.declared.sizes.SizeWord.{SizeWord}
 use Rattle.summary_compose.specs.declared.sizes.SizeWord.TheVariants.{Holds, Fails, Asks}
 
--- the condition isn't on sizes
+-- the condition is that the last needle of the carrier is near the number
+abbrev pub asks_near : Cond → CarrierNo → ℤ → ℕ → Bool
+asks_near (LastNear d n f) c at float = nat_eq d.0 c.0 && (int_eq n at && nat_eq f float)
+asks_near cond c at float = false
+
+-- the condition isn't on sizes or on a last needle
 abbrev pub IsPlainCond : Cond → Type 0
 IsPlainCond (SizeAtMost p most) = ⊥
+IsPlainCond (LastNear c at float) = ⊥
 IsPlainCond cond = Unit {0}
 
 -- a note for each needle of a condition on sizes
@@ -113,4 +121,4 @@ pub record AreGood (a b : FaceView) : Type 0 where
 -- so many of the second face's first conditions hold for what those of the first face ask, so that the others alone are to be read
 pub record AreAlike (a b : FaceView) (effect : Effect) (count : ℕ) : Type 0 where
   pub within : count ≤ length b.checks.now
-  pub others : reads effect (changes_in a) a.lines (checks_in a) (drop count (checks_in b)) ≡ reads effect (changes_in a) a.lines (checks_in a) (checks_in b)
+  pub others : reads effect a.lasts.now (changes_in a) a.lines (checks_in a) (drop count (checks_in b)) ≡ reads effect a.lasts.now (changes_in a) a.lines (checks_in a) (checks_in b)

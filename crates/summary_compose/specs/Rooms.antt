@@ -10,7 +10,7 @@ capped n = if nat_lt (2 ^ 62) n then 2 ^ 62 + 1 else n
 
 -- no room
 abbrev pub no_room : Room
-no_room = record { checks = 0; names = 0; changes = 0; segs = 0; entries = 0 }
+no_room = record { checks = 0; names = 0; changes = 0; segs = 0; entries = 0; lasts = 0 }
 
 -- the greater of both in each field
 abbrev pub greater : Room → Room → Room
@@ -20,6 +20,7 @@ greater a b = record {
   changes = max a.changes b.changes;
   segs = max a.segs b.segs;
   entries = max a.entries b.entries;
+  lasts = max a.lasts b.lasts;
 }
 
 -- the items of a face's lists
@@ -30,6 +31,7 @@ room_of face = record {
   changes = length face.changes.now;
   segs = length face.segs.now;
   entries = length (entries_of face.segs.now);
+  lasts = length face.lasts.now;
 }
 
 -- Room for the composition of a face with this room and one with the next: a condition of the second may name, beside its own
@@ -41,6 +43,7 @@ room_after room next = record {
   changes = capped (room.changes + next.changes);
   segs = capped (room.segs + next.segs);
   entries = capped (room.entries + next.entries);
+  lasts = capped (room.lasts + next.lasts);
 }
 
 -- room for the composition of both faces
@@ -53,3 +56,4 @@ pub record CanBeMade (room : Room) : Type 0 where
   pub names : room.names ≤ 2 ^ 62
   pub changes : room.changes ≤ 2 ^ 62
   pub segs : room.segs ≤ 2 ^ 62
+  pub lasts : room.lasts ≤ 2 ^ 62

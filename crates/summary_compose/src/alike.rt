@@ -3,6 +3,8 @@
 ghost use Rattle.std.specs.Prelude.{◌≡◌, ◌↔◌, ◌<◌, ◌≤◌, ◌+◌, ◌^◌, List, true, false, IsTrue, IfSome, [], All, length};
 ghost use Rattle.std.specs.List.{list_any};
 ghost use Rattle.face_data.specs.declared.face.Check.{Check};
+ghost use Rattle.face_data.specs.declared.bearing.Bearing.TheVariants.{Implied};
+ghost use Rattle.face_data.specs.Lasts.{last_bearing};
 ghost use Rattle.face_data.specs.Answers.Answer.{yes_it_does, asks};
 ghost use Rattle.face_data.specs.Composition.{from_bearing};
 ghost use Rattle.face_data.specs.Conditions.{ask_of, part_of};
@@ -18,8 +20,8 @@ use crate::laid::count_new;
 use crate::names::{names_at, one_name};
 use crate::places::Places;
 use crate::spots::is_same;
-use face_data::{Bearing, Change, Cond, Effect, Ending, FaceView, Part};
-use knit_base::Needle;
+use face_data::{Bearing, Change, Cond, Effect, Ending, FaceView, Part, last_bearing};
+use knit_base::{CarrierNo, Needle};
 
 // Whether two conditions are the same.
 fn is_same_cond(first: Cond, second: Cond) -> bool
@@ -37,7 +39,7 @@ fn is_same_plain(first: Cond, second: Cond) -> bool
         return false;
     }
     match second {
-        Cond::SizeAtMost(_, _) => false,
+        Cond::SizeAtMost(_, _) | Cond::LastNear(_, _, _) => false,
         Cond::RackIs(_) => true,
         Cond::CarrierIn(_) => true,
         Cond::CarrierOut(_) => true,
@@ -292,7 +294,18 @@ fn implied(
     if let Cond::SizeAtMost(part, most) = b.checks[at].cond {
         return size_holds(spared, noted, places, a, b.names, part, most, walk);
     }
+    if let Cond::LastNear(c, number, float) = b.checks[at].cond {
+        return near_implied(a, c, number, float);
+    }
     plain_implied(a, effect, &b.checks[at].cond, *walk)
+}
+
+// Whether it is implied that a carrier's last needle is near: the first face changes it.
+#[inline(never)]
+fn near_implied(a: &FaceView, c: CarrierNo, at: i16, float: u16) -> bool
+    ensures { result ≡ true → last_bearing a.now.lasts.now c at float ≡ Implied }
+{
+    last_bearing(a.lasts, c, at, float) == Bearing::Implied
 }
 
 /// How many of the second face's first conditions hold for what the first one asks, as far as that is seen at little cost: each by the

@@ -5,7 +5,9 @@ ghost use Rattle.face_data.specs.declared.digest.Digest.{Digest};
 ghost use Rattle.face_data.specs.Answers.{read_answer};
 ghost use Rattle.face_data.specs.Answers.Answer.{asks};
 ghost use Rattle.face_data.specs.Chains.{answer_known, chain_at};
-ghost use Rattle.face_data.specs.Composition.{from_bearing};
+ghost use Rattle.face_data.specs.Composition.{from_bearing, settled};
+ghost use Rattle.face_data.specs.Conditions.Ask.{last_near};
+ghost use Rattle.face_data.specs.Lasts.{last_bearing};
 ghost use Rattle.face_data.specs.Conditions.{ask_of, part_of};
 ghost use Rattle.face_data.specs.Digests.{CarrierFits, digest_bearing, effect_bearing};
 ghost use Rattle.face_data.specs.Goodness.{IsInOrder};
@@ -20,8 +22,8 @@ use crate::kept::Kept;
 use crate::names::names_at;
 use crate::places::Places;
 use crate::sizes::SizeWord;
-use face_data::{Bearing, Check, Cond, Digest, Effect, FaceView, Part};
-use knit_base::{Fault, Needle};
+use face_data::{Bearing, Check, Cond, Digest, Effect, FaceView, Part, last_bearing};
+use knit_base::{CarrierNo, Fault, Needle};
 
 /// Asks a condition that isn't on sizes. False where it can't hold.
 #[inline(always)]
@@ -93,6 +95,34 @@ pub fn ask_sized(
     }
 }
 
+/// Asks that a carrier's last needle is near. False where it can't be.
+#[inline(never)]
+pub fn ask_near(
+    kept: &mut Kept,
+    a: &FaceView,
+    c: CarrierNo,
+    at: i16,
+    float: u16,
+    fault: Fault,
+) -> bool
+    requires room { length kept.old.checks < kept.old.check_room }
+    ensures step { StepIs (from_bearing (last_bearing a.now.lasts.now c at float) (settled kept.old.checks (last_near c at float))) kept.old.checks fault result kept.new.checks }
+    ensures knows { (digest : Digest) (notes : List Note) → Knows digest notes kept.old.checks → result ≡ true → Knows digest notes kept.new.checks }
+    ensures check_room { kept.new.check_room ≡ kept.old.check_room }
+    ensures name_room { kept.new.name_room ≡ kept.old.name_room }
+{
+    match last_bearing(a.lasts, c, at, float) {
+        Bearing::Implied => true,
+        Bearing::Refuted => false,
+        Bearing::Silent => {
+            if !kept.has(c, at, float) {
+                kept.keep_plain(fault, Cond::LastNear(c, at, float));
+            }
+            true
+        }
+    }
+}
+
 /// Asks a condition of the second face. False where it can't hold.
 #[inline(always)]
 pub fn ask(
@@ -114,7 +144,7 @@ pub fn ask(
     requires noted { IsTableOf places.now.table.entries.items (changed_needles a.now.changes.now) }
     requires fit { PartsFit a.now.segs.now a.now.changes.now }
     requires order { IsInOrder (changes_in a.now) }
-    ensures step { StepIs (answer_known digest.old (chain_at kept.old.checks) (read_answer effect.now (changes_in a.now) (ask_of names.now cond))) kept.old.checks fault result kept.new.checks }
+    ensures step { StepIs (answer_known digest.old (chain_at kept.old.checks) kept.old.checks (read_answer effect.now a.now.lasts.now (changes_in a.now) (ask_of names.now cond))) kept.old.checks fault result kept.new.checks }
     ensures knows { result ≡ true → Knows digest.new index.new.notes kept.new.checks }
     ensures check_room { kept.new.check_room ≡ kept.old.check_room }
     ensures name_room { kept.new.name_room ≡ kept.old.name_room }
@@ -130,5 +160,6 @@ pub fn ask(
         Cond::HookFree => ask_plain(kept, digest, effect, cond, fault),
         Cond::HookIs(_) => ask_plain(kept, digest, effect, cond, fault),
         Cond::HookLacks(_) => ask_plain(kept, digest, effect, cond, fault),
+        Cond::LastNear(c, at, float) => ask_near(kept, a, c, at, float, fault),
     }
 }

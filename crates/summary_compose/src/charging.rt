@@ -16,6 +16,7 @@ pub fn charge<L: Ledger>(face: &FaceView, steps: &mut Steps<L>)
     charge_each(face.names.len() as u64, steps);
     charge_each(face.changes.len() as u64, steps);
     charge_each(face.segs.len() as u64, steps);
+    charge_each(face.lasts.len() as u64, steps);
     charge_ending(&face.ending, steps);
 }
 

@@ -1,6 +1,7 @@
 //! Composition.
 ghost use Rattle.std.specs.Prelude.{◌≡◌, ◌<◌, ◌≤◌, ◌+◌, ◌^◌, true, [], length};
 ghost use Rattle.face_data.specs.Composition.{composed, composed_at, reads, closed};
+ghost use Rattle.face_data.specs.Lasts.{AreInOrder, lasts_of_both};
 ghost use Rattle.face_data.specs.View.{summary_of};
 ghost use Rattle.summary_compose.specs.Changes.{changed_needles, changes_in, merged_of, segs_in};
 ghost use Rattle.summary_compose.specs.Composing.{Composes, FindsRoom, Holds, KeepsRooms, made_in};
@@ -16,7 +17,7 @@ use crate::merging::merge;
 use crate::noting::note_plain;
 use crate::places::Places;
 use crate::reading::read_checks;
-use face_data::{Digest, Effect, Ending, FaceView};
+use face_data::{Digest, Effect, Ending, FaceView, Lasts};
 use knit_base::Fault;
 
 // Gathers the conditions of both faces. Answers the fault of one that can't hold, and whether the first face's changes were noted.
@@ -34,7 +35,7 @@ fn gather(
     requires check_room { length a.now.checks.now + length b.now.checks.now ≤ kept.old.check_room }
     requires name_room { names_count (checks_in a.now) + names_read_count (changes_in a.now) (checks_in b.now) ≤ kept.old.name_room }
     requires index_room { names_count (checks_in a.now) + names_read_count (changes_in a.now) (checks_in b.now) ≤ index.old.room }
-    ensures read { reads effect.now (changes_in a.now) a.now.lines (checks_in a.now) (checks_in b.now) ≡ record { checks = kept.new.checks; stop = result.0 } }
+    ensures read { reads effect.now a.now.lasts.now (changes_in a.now) a.now.lines (checks_in a.now) (checks_in b.now) ≡ record { checks = kept.new.checks; stop = result.0 } }
     ensures noted { result.1 ≡ true → IsTableOf places.new.table.entries.items (changed_needles a.now.changes.now) }
     ensures check_room { kept.new.check_room ≡ kept.old.check_room }
     ensures name_room { kept.new.name_room ≡ kept.old.name_room }
@@ -67,7 +68,7 @@ fn read_rest(
     requires check_room { length a.now.checks.now + length b.now.checks.now ≤ kept.old.check_room }
     requires name_room { names_count (checks_in a.now) + names_read_count (changes_in a.now) (checks_in b.now) ≤ kept.old.name_room }
     requires index_room { names_count (checks_in a.now) + names_read_count (changes_in a.now) (checks_in b.now) ≤ index.old.room }
-    ensures read { reads effect.now (changes_in a.now) a.now.lines (checks_in a.now) (checks_in b.now) ≡ record { checks = kept.new.checks; stop = result } }
+    ensures read { reads effect.now a.now.lasts.now (changes_in a.now) a.now.lines (checks_in a.now) (checks_in b.now) ≡ record { checks = kept.new.checks; stop = result } }
     ensures check_room { kept.new.check_room ≡ kept.old.check_room }
     ensures name_room { kept.new.name_room ≡ kept.old.name_room }
     ensures index_room { index.new.room ≡ index.old.room }
@@ -75,6 +76,34 @@ fn read_rest(
     let mut digest = Digest::blank();
     note_plain(a, &mut digest);
     read_checks(kept, index, &mut digest, places, a, effect, b, alike)
+}
+
+// The last needles of both faces, where both change one that of the second. Without a limit on floats there are none.
+#[inline(always)]
+fn merge_lasts(lasts: &mut Lasts, a: &FaceView, b: &FaceView)
+    requires none { lasts.old.lasts ≡ [] }
+    requires order { AreInOrder a.now.lasts.now }
+    requires room { length a.now.lasts.now + length b.now.lasts.now ≤ lasts.old.room }
+    ensures lasts { lasts.new.lasts ≡ lasts_of_both a.now.lasts.now b.now.lasts.now }
+    ensures room { lasts.old.room ≤ lasts.new.room }
+{
+    if a.lasts.is_empty() && b.lasts.is_empty() {
+        return;
+    }
+    put_lasts(lasts, a, b);
+}
+
+#[inline(never)]
+fn put_lasts(lasts: &mut Lasts, a: &FaceView, b: &FaceView)
+    requires order { AreInOrder a.now.lasts.now }
+    requires room { length a.now.lasts.now + length b.now.lasts.now ≤ lasts.old.room }
+    ensures lasts { lasts.new.lasts ≡ lasts_of_both a.now.lasts.now b.now.lasts.now }
+    ensures room { lasts.old.room ≤ lasts.new.room }
+{
+    lasts.begin(a.lasts);
+    for last in b.lasts {
+        let _ = lasts.put(*last);
+    }
 }
 
 /// Makes the face of the first face's text followed by the second's.
@@ -86,6 +115,7 @@ pub fn put_together(a: &FaceView, b: &FaceView, making: &mut Making)
     ensures keeps { KeepsRooms making.old making.new }
 {
     making.laid.clear();
+    making.lasts.clear();
     making.kept.begin(a);
     making.lines = a.lines + b.lines;
     making.made = 0;
@@ -102,9 +132,10 @@ fn go_on(a: &FaceView, effect: &Effect, b: &FaceView, making: &mut Making)
     requires room { (room : Room) × FindsRoom a.now b.now room × Holds making.old room }
     requires begun { making.old.kept.checks ≡ checks_in a.now }
     requires none { making.old.laid.changes ≡ [] }
+    requires no_lasts { making.old.lasts.lasts ≡ [] }
     requires lines { making.old.lines ≡ a.now.lines + b.now.lines }
     requires made { making.old.made ≡ 0 }
-    ensures made { made_in making.new ≡ closed (reads effect.now (changes_in a.now) a.now.lines (checks_in a.now) (checks_in b.now)) effect.now (summary_of a.now) (summary_of b.now) }
+    ensures made { made_in making.new ≡ closed (reads effect.now a.now.lasts.now (changes_in a.now) a.now.lines (checks_in a.now) (checks_in b.now)) effect.now (summary_of a.now) (summary_of b.now) }
     ensures keeps { KeepsRooms making.old making.new }
 {
     let (stop, noted) = gather(
@@ -130,6 +161,7 @@ fn go_on(a: &FaceView, effect: &Effect, b: &FaceView, making: &mut Making)
             making.made = a.made + b.made;
             making.ending = Ending::Through(effect.then(&more));
             merge(&mut making.laid, a, b, &mut making.places, noted);
+            merge_lasts(&mut making.lasts, a, b);
         }
     }
 }

@@ -1,14 +1,20 @@
 //! Conditions that are kept, with the needles that they name.
 ghost use Rattle.std.specs.Prelude.{◌≡◌, ℕ, ◌<◌, ◌≤◌, ◌+◌, ◌^◌, [], ◌∷◌, ◌++◌, true, length, map, OnOk, vec_len, vec_capacity};
+ghost use Rattle.std.specs.List.{list_any};
 ghost use Rattle.knit_base.specs.declared.needle.Needle.{Needle};
 ghost use Rattle.face_data.specs.Conditions.{ask_of};
-ghost use Rattle.face_data.specs.Conditions.Ask.{size_at_most};
+ghost use Rattle.face_data.specs.Conditions.Ask.{last_near, size_at_most};
 ghost use Rattle.face_data.specs.Goodness.{IsInOrder};
 ghost use Rattle.face_data.specs.Segments.{names_through, new_through};
+ghost use Rattle.face_data.specs.declared.bearing.Bearing.TheVariants.{Implied};
+ghost use Rattle.face_data.specs.Answers.Answer.{asks};
+ghost use Rattle.face_data.specs.Bearings.{if_so};
+ghost use Rattle.face_data.specs.Composition.{from_bearing, settled};
+ghost use Rattle.face_data.specs.Digests.{IsUnsized};
 ghost use Rattle.face_data.specs.View.{asked_of, AreNamed, PartsFit};
 ghost use Rattle.summary_compose.specs.Changes.{changed_needles, changes_in};
 ghost use Rattle.face_data.specs.declared.digest.Digest.{Digest};
-ghost use Rattle.summary_compose.specs.Known.{IsPlainCond, Knows, StepIs, answer_in, checks_in, names_count, noted_answer, notes_in};
+ghost use Rattle.summary_compose.specs.Known.{Knows, StepIs, answer_in, asks_near, checks_in, names_count, noted_answer, notes_in};
 ghost use Rattle.summary_compose.specs.Tables.{IsTableOf};
 
 use crate::index::Index;
@@ -16,7 +22,7 @@ use crate::names::read_names;
 use crate::places::Places;
 use crate::sizes::{SizeWord, note_each, word_on};
 use face_data::{Check, Cond, FaceView, Part};
-use knit_base::{Fault, Needle, NoMemory};
+use knit_base::{CarrierNo, Fault, Needle, NoMemory};
 use std::alloc::Global;
 use std::marker::Model;
 
@@ -100,12 +106,19 @@ impl Kept {
     #[inline(always)]
     pub fn keep_plain(&mut self, fault: Fault, cond: Cond)
         requires room { length self.old.checks < self.old.check_room }
-        requires plain { IsPlainCond cond }
+        requires nameless { IsUnsized (ask_of [] cond) }
         ensures checks { self.new.checks ≡ self.old.checks ++ record { fault = fault; ask = ask_of [] cond } ∷ [] }
         ensures check_room { self.new.check_room ≡ self.old.check_room }
         ensures name_room { self.new.name_room ≡ self.old.name_room }
     {
         self.checks.push_reserved(Check { fault, cond });
+    }
+
+    /// Whether it is kept that the carrier's last needle is near this number.
+    pub fn has(&self, c: CarrierNo, at: i16, float: u16) -> bool
+        ensures { settled self.now.checks (last_near c at float) ≡ from_bearing (if_so result Implied) (asks (last_near c at float)) }
+    {
+        has_near(&self.checks, c, at, float)
     }
 
     /// Asks that a needle, which no face changed yet, holds at most so many loops: keeps that where the kept conditions don't imply it.
@@ -174,5 +187,23 @@ impl Kept {
             }
         }
         word
+    }
+}
+
+fn has_near(checks: &[Check], c: CarrierNo, at: i16, float: u16) -> bool
+    ensures { result ≡ list_any (λ check. asks_near check.cond c at float) checks.now }
+{
+    checks
+        .iter()
+        .any(|check| asks_near(check.cond, c, at, float))
+}
+
+// Whether the condition is this one on a last needle.
+fn asks_near(cond: Cond, c: CarrierNo, at: i16, float: u16) -> bool
+    ensures { result ≡ asks_near cond c at float }
+{
+    match cond {
+        Cond::LastNear(d, n, f) => d == c && n == at && f == float,
+        _ => false,
     }
 }

@@ -8,7 +8,7 @@ use crate::kept::Kept;
 use crate::laid::Laid;
 use crate::places::Places;
 use crate::room::Room;
-use face_data::{Effect, Ending, FaceView};
+use face_data::{Effect, Ending, FaceView, Lasts};
 use knit_base::NoMemory;
 use std::alloc::Global;
 
@@ -20,6 +20,7 @@ pub struct Making {
     pub ending: Ending,
     pub kept: Kept,
     pub laid: Laid,
+    pub lasts: Lasts,
     pub index: Index,
     pub places: Places,
 }
@@ -38,6 +39,7 @@ impl Making {
             }),
             kept: Kept::new(alloc),
             laid: Laid::new(alloc),
+            lasts: Lasts::new(alloc),
             index: Index::new(alloc),
             places: Places::new(alloc),
         }
@@ -50,6 +52,7 @@ impl Making {
     {
         self.kept.reserve(room.checks, room.names)?;
         self.laid.reserve(room.changes, room.segs)?;
+        self.lasts.reserve(room.lasts)?;
         self.index.reserve(room.names)?;
         self.places.reserve()
     }
@@ -68,6 +71,7 @@ impl Making {
             names,
             changes,
             segs,
+            lasts: self.lasts.as_slice(),
             ending: self.ending,
         }
     }

@@ -11,15 +11,16 @@ use crate::sizes::note_each;
 use face_data::{Check, Cond, Digest, FaceView};
 use knit_base::Needle;
 
-// Notes a condition, if it isn't on sizes. Most are, so what is done for the others stays out of the loop.
+// Notes a condition, if it isn't on sizes or on a last needle. Most are on sizes, so what is done for the others stays out of the loop.
 #[inline(always)]
 #[tactic(auto, unfolding(face_data::specs::Digests::noted))]
 fn note_if_plain(names: &[Needle], check: &Check, digest: &mut Digest)
     requires { CarrierFits check.now.cond }
     ensures { digest.new ≡ noted digest.old (ask_of names.now check.now.cond) }
 {
-    if let Cond::SizeAtMost(_, _) = check.cond {
-        return;
+    match check.cond {
+        Cond::SizeAtMost(_, _) | Cond::LastNear(_, _, _) => return,
+        _ => {}
     }
     note_cond(check.cond, digest);
 }

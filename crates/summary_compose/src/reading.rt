@@ -30,13 +30,13 @@ fn raised(a: &FaceView, fault: Fault) -> Fault
     }
 }
 
-// Whether a condition isn't on sizes.
+// Whether a condition isn't on sizes or on a last needle.
 #[inline(always)]
 fn is_plain(cond: &Cond) -> bool
     ensures { result ≡ true → IsPlainCond cond.now }
 {
     match cond {
-        Cond::SizeAtMost(_, _) => false,
+        Cond::SizeAtMost(_, _) | Cond::LastNear(_, _, _) => false,
         Cond::RackIs(_) => true,
         Cond::CarrierIn(_) => true,
         Cond::CarrierOut(_) => true,
@@ -74,7 +74,7 @@ pub fn read_checks(
     requires noted { IsTableOf places.now.table.entries.items (changed_needles a.now.changes.now) }
     requires fit { PartsFit a.now.segs.now a.now.changes.now }
     requires order { IsInOrder (changes_in a.now) }
-    ensures read { reads effect.now (changes_in a.now) a.now.lines (checks_in a.now) (checks_in b.now) ≡ record { checks = kept.new.checks; stop = result } }
+    ensures read { reads effect.now a.now.lasts.now (changes_in a.now) a.now.lines (checks_in a.now) (checks_in b.now) ≡ record { checks = kept.new.checks; stop = result } }
     ensures check_room { kept.new.check_room ≡ kept.old.check_room }
     ensures name_room { kept.new.name_room ≡ kept.old.name_room }
     ensures index_room { index.new.room ≡ index.old.room }

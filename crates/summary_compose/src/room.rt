@@ -15,6 +15,7 @@ pub struct Room {
     pub changes: u64,
     pub segs: u64,
     pub entries: u64,
+    pub lasts: u64,
 }
 
 /// The greatest room that can be made.
@@ -47,6 +48,7 @@ impl Room {
         changes: 0,
         segs: 0,
         entries: 0,
+        lasts: 0,
     };
 
     /// Whether this room is in each field no greater than the other.
@@ -58,6 +60,7 @@ impl Room {
             && self.changes <= other.changes
             && self.segs <= other.segs
             && self.entries <= other.entries
+            && self.lasts <= other.lasts
     }
 
     /// The greater of both in each field.
@@ -72,6 +75,7 @@ impl Room {
             changes: self.changes.max(other.changes),
             segs: self.segs.max(other.segs),
             entries: self.entries.max(other.entries),
+            lasts: self.lasts.max(other.lasts),
         }
     }
 
@@ -83,6 +87,7 @@ impl Room {
             || self.names > GREATEST
             || self.changes > GREATEST
             || self.segs > GREATEST
+            || self.lasts > GREATEST
     }
 
     /// The room that the face takes.
@@ -95,6 +100,7 @@ impl Room {
             changes: face.changes.len() as u64,
             segs: face.segs.len() as u64,
             entries: entries_in(face.segs),
+            lasts: face.lasts.len() as u64,
         }
     }
 
@@ -112,6 +118,7 @@ impl Room {
             changes: sum(self.changes, next.changes),
             segs: sum(self.segs, next.segs),
             entries: sum(self.entries, next.entries),
+            lasts: sum(self.lasts, next.lasts),
         }
     }
 }

@@ -1,5 +1,5 @@
 -- The faces of transfers are good.
-use Rattle.std.proofs.Common.{◌≡◌, ℕ, ◌≤◌, ◌<◌, List, [], ◌∷◌, pos, refl, sym, ap, subst, inl, inr, arith}
+use Rattle.std.proofs.Common.{◌≡◌, ℕ, ◌≤◌, ◌<◌, List, [], ◌∷◌, pos, None, refl, sym, ap, subst, inl, inr, arith}
 use Rattle.std.proofs.lemmas.Int.{ints}
 use Rattle.std.specs.Prelude.{◌≤ℤ◌}
 use Rattle.std.specs.List.{Contains}
@@ -34,8 +34,8 @@ abbrev pub back : ℕ → Needle
 back n = record { bed = Back; at = pos n }
 
 -- a machine with needles 0 to 8 a bed
-abbrev machine : Profile
-machine = record { low = pos 0; high = pos 8; rack = 8; hold = 16 }
+abbrev pub machine : Profile
+machine = record { low = pos 0; high = pos 8; rack = 8; hold = 16; float = None }
 
 on_bed : (n : Needle) (k : ℕ) → n.at ≡ pos k → k ≤ 8 → IsOnBed machine n
 on_bed n k is small = subst (λ at. IsOnBed machine (record { bed = n.bed; at = at })) (sym is) (record { above = omega (arith, ints); below = omega (arith, ints) })
@@ -49,7 +49,7 @@ lawful n m small few = record {
   rack = tt;
 }
 
-fair : (n m : ℕ) → n ≤ 8 → m ≤ 8 → IsFair 0 16 (front n ∷ back m ∷ []) (line_summary 16 (read.Instr (Xfer (front n) (back m))))
+fair : (n m : ℕ) → n ≤ 8 → m ≤ 8 → IsFair 0 16 (front n ∷ back m ∷ []) (line_summary machine (read.Instr (Xfer (front n) (back m))))
 fair n m small few =
     line_fair machine 0 (front n ∷ back m ∷ []) (read.Instr (Xfer (front n) (back m))) (omega arith) (lawful n m small few)
     (record { needles = λ x there. there; slider = tt })
@@ -58,7 +58,7 @@ alone : (c : Asked) → IsIrredundant (c ∷ [])
 alone c = ((λ d there. absurd (Contains-none d there)), tt)
 
 -- the condition on the rack says nothing of the one on sizes
-irredundant : (n m : ℕ) → IsIrredundant (asked_by 16 (Xfer (front n) (back m)))
+irredundant : (n m : ℕ) → IsIrredundant (asked_by machine (Xfer (front n) (back m)))
 unfolding bearing
 irredundant n m =
     let rack : Asked = rule_asked NotAligned 2 (rack_is (rack_facing (front n) (back m))) in
@@ -71,11 +71,11 @@ irredundant n m =
     )
 
 -- The summary of a transfer is good.
-pub transfer_good : (n m : ℕ) → n ≤ 8 → m ≤ 8 → IsGood 0 16 (front n ∷ back m ∷ []) (line_summary 16 (read.Instr (Xfer (front n) (back m))))
+pub transfer_good : (n m : ℕ) → n ≤ 8 → m ≤ 8 → IsGood 0 16 (front n ∷ back m ∷ []) (line_summary machine (read.Instr (Xfer (front n) (back m))))
 transfer_good n m small few = record { fair = fair n m small few; irredundant = irredundant n m }
 
 -- The face of `xfer f1 b1` is good.
-pub transfer_face : IsGoodFace (line_summary 16 (read.Instr (Xfer (front 1) (back 1))))
+pub transfer_face : IsGoodFace (line_summary machine (read.Instr (Xfer (front 1) (back 1))))
 transfer_face = record {
   carriers = 0;
   limit = 16;

@@ -79,10 +79,11 @@ fn loops_in_lists_that_they_share(rt: HostRuntime) -> Result<(), Fail> {
     loops.push(6, BACK, Dir::Right, &both[1..], &[5])?;
     loops.truncate(2);
     loops.push(7, FRONT, Dir::Left, &both[1..], &[4])?;
-    assert!(rt; is_loop(&loops, 0, 4, &both[..1], &[]));
-    assert!(rt; is_loop(&loops, 1, 5, &both, &[4, 3]));
-    assert!(rt; is_loop(&loops, 2, 7, &both[1..], &[4]));
-    assert!(rt; loops.get(3).is_none());
+    let are_three = is_loop(&loops, 0, 4, &both[..1], &[])
+        && is_loop(&loops, 1, 5, &both, &[4, 3])
+        && is_loop(&loops, 2, 7, &both[1..], &[4])
+        && loops.get(3).is_none();
+    assert!(rt; are_three);
     Ok(())
 }
 

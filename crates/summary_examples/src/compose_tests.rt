@@ -3,8 +3,9 @@ ghost use Rattle.std.specs.Prelude.{◌≡◌, ◌<◌, ◌+◌, ◌^◌};
 ghost use Rattle.face_data.specs.View.{IsPacked};
 ghost use Rattle.summary_compose.specs.Known.{AreGood};
 
-use face_data::{Check, Cond, Effect, Ending, FaceView};
-use knit_base::{CarrierNo, Fault, Reason, Rule, Steps};
+use face_data::{Check, Cond, Effect, Ending, FaceView, Last};
+use knit_base::{CarrierNo, Fault, NoMemory, Reason, Rule, Steps};
+use std::alloc::Global;
 use std::marker::Brand;
 use std::sync::ledger::{Blank, Ledger};
 use std::test::Fail;
@@ -33,6 +34,7 @@ const IDLE: FaceView = FaceView {
     names: &[],
     changes: &[],
     segs: &[],
+    lasts: &[],
     ending: Ending::Through(STAYS),
 };
 
@@ -60,13 +62,79 @@ const CARRIER_IS_OUT: Fault = Fault {
     },
 };
 
-fn compose<L: Ledger, R: Threads>(
+const FLOAT_TOO_LONG: Fault = Fault {
+    line: 0,
+    reason: Reason {
+        rule: Rule::FloatTooLong,
+        at: 3,
+    },
+};
+
+// A line that forms a loop with carrier 0 on needle 5, 8 or 9, whose float may be 3 numbers long.
+const ON_5: FaceView = FaceView {
+    checks: &[Check {
+        fault: FLOAT_TOO_LONG,
+        cond: Cond::LastNear(CarrierNo(0), 5, 3),
+    }],
+    lasts: &[Last {
+        carrier: CarrierNo(0),
+        at: Some(5),
+    }],
+    ..IDLE
+};
+
+const ON_8: FaceView = FaceView {
+    checks: &[Check {
+        fault: FLOAT_TOO_LONG,
+        cond: Cond::LastNear(CarrierNo(0), 8, 3),
+    }],
+    lasts: &[Last {
+        carrier: CarrierNo(0),
+        at: Some(8),
+    }],
+    ..IDLE
+};
+
+const ON_9: FaceView = FaceView {
+    checks: &[Check {
+        fault: FLOAT_TOO_LONG,
+        cond: Cond::LastNear(CarrierNo(0), 9, 3),
+    }],
+    lasts: &[Last {
+        carrier: CarrierNo(0),
+        at: Some(9),
+    }],
+    ..IDLE
+};
+
+// One after which that carrier has no last needle.
+const GONE: FaceView = FaceView {
+    lasts: &[Last {
+        carrier: CarrierNo(0),
+        at: None,
+    }],
+    ..IDLE
+};
+
+// Whether the faces are told alike: their lines, the loops that they make, their checks, changes, last needles and endings.
+fn are_alike(one: &FaceView, other: &FaceView) -> bool {
+    one.lines == other.lines
+        && one.made == other.made
+        && one.checks == other.checks
+        && one.changes == other.changes
+        && one.lasts == other.lasts
+        && one.ending == other.ending
+}
+
+// Whether one face behind another is told so.
+fn composes_to<L: Ledger, R: Threads>(
     rt: &R,
+    alloc: Global,
     blank: Blank,
     first: &FaceView,
     second: &FaceView,
-    scratch: &mut Scratch,
-) -> Result<(), Fail>
+    both: &FaceView,
+) -> Result<bool, NoMemory>
     requires name { (blank.name ≡ L.name) × (blank.parts ≡ L.parts) × (0 < L.parts) }
     requires good { AreGood first.now second.now }
     requires packed { IsPacked first.now }
@@ -74,29 +142,30 @@ fn compose<L: Ledger, R: Threads>(
     requires lines { first.now.lines + second.now.lines < 2 ^ 32 }
 {
     let mut steps = Steps::<L>::start(rt, blank);
+    let mut scratch = Scratch::new(alloc);
     scratch.reserve(&room_for(first, second))?;
-    compose_into(first, second, scratch, &mut steps);
-    Ok(())
+    compose_into(first, second, &mut scratch, &mut steps);
+    Ok(are_alike(&scratch.view(), both))
 }
 
 #[test]
 fn a_later_fault_is_raised(rt: HostRuntime) -> Result<(), Fail> {
-    let broken = FaceView {
+    let first = IDLE;
+    let second = FaceView {
         ending: Ending::Broken(NOT_ALIGNED),
         ..IDLE
     };
-    let mut scratch = Scratch::new(rt.alloc());
-    compose::<Brand, _>(&rt, Blank::new(1), &IDLE, &broken, &mut scratch)?;
-    let face = scratch.view();
-    assert_eq!(rt; face.lines, 2);
-    assert_eq!(rt; face.made, 0);
-    assert!(rt; face.checks.is_empty());
-    assert!(rt; face.changes.is_empty());
     let raised = Fault {
         line: 1,
         ..NOT_ALIGNED
     };
-    assert_eq!(rt; face.ending, Ending::Broken(raised));
+    let both = FaceView {
+        lines: 2,
+        ending: Ending::Broken(raised),
+        ..IDLE
+    };
+    let blank = Blank::new(1);
+    assert!(rt; composes_to::<Brand, _>(&rt, rt.alloc(), blank, &first, &second, &both)?);
     Ok(())
 }
 
@@ -110,21 +179,68 @@ fn a_carrier_that_came_in_is_there(rt: HostRuntime) -> Result<(), Fail> {
         fault: CARRIER_IS_OUT,
         cond: Cond::CarrierIn(CarrierNo(0)),
     }];
-    let comes = FaceView {
+    let first = FaceView {
         checks: &is_out,
         ending: Ending::Through(COMES),
         ..IDLE
     };
-    let misses = FaceView {
+    let second = FaceView {
         checks: &is_in,
         ..IDLE
     };
-    let mut scratch = Scratch::new(rt.alloc());
-    compose::<Brand, _>(&rt, Blank::new(1), &comes, &misses, &mut scratch)?;
-    let face = scratch.view();
-    assert_eq!(rt; face.lines, 2);
-    assert!(rt; face.checks == is_out.as_slice());
-    assert_eq!(rt; face.ending, Ending::Through(COMES));
+    let asked = [Check {
+        fault: CARRIER_IS_IN,
+        cond: Cond::CarrierOut(CarrierNo(0)),
+    }];
+    let both = FaceView {
+        lines: 2,
+        checks: &asked,
+        ending: Ending::Through(COMES),
+        ..IDLE
+    };
+    let blank = Blank::new(1);
+    assert!(rt; composes_to::<Brand, _>(&rt, rt.alloc(), blank, &first, &second, &both)?);
+    Ok(())
+}
+
+#[test]
+fn a_near_loop_asks_nothing(rt: HostRuntime) -> Result<(), Fail> {
+    let both = FaceView {
+        lines: 2,
+        checks: ON_5.checks,
+        lasts: ON_8.lasts,
+        ..IDLE
+    };
+    let blank = Blank::new(1);
+    assert!(rt; composes_to::<Brand, _>(&rt, rt.alloc(), blank, &ON_5, &ON_8, &both)?);
+    Ok(())
+}
+
+#[test]
+fn a_far_loop_breaks(rt: HostRuntime) -> Result<(), Fail> {
+    let both = FaceView {
+        lines: 2,
+        checks: ON_5.checks,
+        ending: Ending::Broken(Fault {
+            line: 1,
+            ..FLOAT_TOO_LONG
+        }),
+        ..IDLE
+    };
+    let blank = Blank::new(1);
+    assert!(rt; composes_to::<Brand, _>(&rt, rt.alloc(), blank, &ON_5, &ON_9, &both)?);
+    Ok(())
+}
+
+#[test]
+fn a_carrier_that_went_has_no_float(rt: HostRuntime) -> Result<(), Fail> {
+    let both = FaceView {
+        lines: 2,
+        lasts: ON_9.lasts,
+        ..IDLE
+    };
+    let blank = Blank::new(1);
+    assert!(rt; composes_to::<Brand, _>(&rt, rt.alloc(), blank, &GONE, &ON_9, &both)?);
     Ok(())
 }
 
@@ -136,6 +252,7 @@ fn rooms_add_up(rt: HostRuntime) -> Result<(), Fail> {
         changes: 1,
         segs: 4,
         entries: 2,
+        lasts: 2,
     };
     let second = Room {
         checks: 2,
@@ -143,6 +260,7 @@ fn rooms_add_up(rt: HostRuntime) -> Result<(), Fail> {
         changes: 1,
         segs: 1,
         entries: 1,
+        lasts: 1,
     };
     let both = Room {
         checks: 5,
@@ -150,6 +268,7 @@ fn rooms_add_up(rt: HostRuntime) -> Result<(), Fail> {
         changes: 2,
         segs: 5,
         entries: 3,
+        lasts: 3,
     };
     assert_eq!(rt; first.after(&second), both);
     Ok(())

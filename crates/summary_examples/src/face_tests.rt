@@ -16,15 +16,19 @@ const BACK: Needle = Needle {
     at: 1,
 };
 
+// The front needle alone is touched, and holds nothing.
+fn is_front_touched(symbols: &Symbols) -> bool {
+    match symbols.of(FRONT) {
+        Some(segs) => segs.is_empty() && symbols.of(BACK).is_none(),
+        None => false,
+    }
+}
+
 #[test]
 fn touched_needles_have_segments(rt: HostRuntime) -> Result<(), Fail> {
     let mut symbols = Symbols::new(rt.alloc());
     symbols.set(FRONT, Segs::new(rt.alloc()))?;
-    assert!(rt; symbols.of(BACK).is_none());
-    match symbols.of(FRONT) {
-        Some(segs) => assert!(rt; segs.is_empty()),
-        None => assert!(rt; false),
-    }
+    assert!(rt; is_front_touched(&symbols));
     Ok(())
 }
 
@@ -40,11 +44,21 @@ fn new_loops_take_room(rt: HostRuntime) -> Result<(), Fail> {
         at: 2,
     };
     let ask = ask_size(rt.alloc(), reason, 16, &[BACK, FRONT], &symbols)?;
-    assert_eq!(rt; ask.max, 15);
-    assert_eq!(rt; ask.entries.len(), 2);
-    assert_eq!(rt; ask.entries.get(0).copied(), Some(BACK));
-    assert_eq!(rt; ask.entries.get(1).copied(), Some(FRONT));
+    assert!(rt; ask.max == 15 && ask.entries.as_slice() == [BACK, FRONT].as_slice());
     Ok(())
+}
+
+// The segments are those of the first six loops.
+fn are_six(segs: &Segs) -> bool {
+    let new = [
+        Seg::New(0),
+        Seg::New(1),
+        Seg::New(2),
+        Seg::New(3),
+        Seg::New(4),
+        Seg::New(5),
+    ];
+    segs.as_slice() == new.as_slice() && segs.get(6).is_none()
 }
 
 #[test]
@@ -53,14 +67,9 @@ fn a_list_outgrows_its_places(rt: HostRuntime) -> Result<(), Fail> {
     segs.extend_from_slice(&[Seg::New(0), Seg::New(1)])?;
     segs.push(Seg::New(2))?;
     segs.push(Seg::New(3))?;
-    assert_eq!(rt; segs.len(), 4);
     segs.push(Seg::New(4))?;
     segs.extend_from_slice(&[Seg::New(5)])?;
-    assert_eq!(rt; segs.len(), 6);
-    assert_eq!(rt; segs.get(0).copied(), Some(Seg::New(0)));
-    assert_eq!(rt; segs.get(3).copied(), Some(Seg::New(3)));
-    assert_eq!(rt; segs.get(5).copied(), Some(Seg::New(5)));
-    assert!(rt; segs.get(6).is_none());
+    assert!(rt; are_six(&segs));
     Ok(())
 }
 
@@ -135,6 +144,19 @@ fn who_came_may_go(rt: HostRuntime) -> Result<(), Fail> {
     Ok(())
 }
 
+// Whether the face is told as this one.
+fn is_told_as(face: &Face, told: &FaceView) -> bool {
+    let read = face.view();
+    read.lines == told.lines
+        && read.made == told.made
+        && read.checks == told.checks
+        && read.names == told.names
+        && read.changes == told.changes
+        && read.segs == told.segs
+        && read.lasts == told.lasts
+        && read.ending == told.ending
+}
+
 #[test]
 fn an_owned_face_is_read_as_it_was(rt: HostRuntime) -> Result<(), Fail> {
     let checks = [Check {
@@ -158,16 +180,10 @@ fn an_owned_face_is_read_as_it_was(rt: HostRuntime) -> Result<(), Fail> {
         names: &[],
         changes: &changes,
         segs: &[Seg::New(1)],
+        lasts: &[],
         ending: Ending::Broken(checks[0].fault),
     };
     let face = Face::of(rt.alloc(), &view)?;
-    let read = face.view();
-    assert_eq!(rt; read.lines, 2);
-    assert_eq!(rt; read.made, 1);
-    assert!(rt; read.checks == checks.as_slice());
-    assert!(rt; read.names.is_empty());
-    assert!(rt; read.changes == changes.as_slice());
-    assert!(rt; read.segs == [Seg::New(1)].as_slice());
-    assert_eq!(rt; read.ending, view.ending);
+    assert!(rt; is_told_as(&face, &view));
     Ok(())
 }

@@ -4,7 +4,7 @@ ghost use Rattle.face_data.specs.Segments.{OffsetFits};
 ghost use Rattle.loop_history.specs.Rows.{RowFits};
 ghost use Rattle.loop_history.specs.declared.row.LoopRow.{LoopRow};
 
-use carriage_model::LoopLines;
+use carriage_model::{LoopFact, LoopLines};
 use face_data::{Effect, Ending, FaceView, Seg, Segs};
 use knit_base::{Bed, CarrierNo, Dir, Needle, NoMemory, Steps, Yarns};
 use loop_history::{Entries, LoopRow, LoopTable, resolve};
@@ -78,6 +78,7 @@ const THREE_LINES: FaceView = FaceView {
     names: &[],
     changes: &[],
     segs: &[],
+    lasts: &[],
     ending: Ending::Through(Effect {
         rack: None,
         came: 0,
@@ -186,6 +187,15 @@ fn long_lists_are_copied_and_read_through(rt: HostRuntime) -> Result<(), Fail> {
     Ok(())
 }
 
+// The loop of line 11, through two that were there and one of line 10.
+fn is_drawn_through_three(fact: &LoopFact) -> bool {
+    fact.line == 11
+        && fact.needle == FRONT
+        && fact.dir == Dir::Left
+        && fact.yarns.as_slice() == [CarrierNo(2)].as_slice()
+        && fact.through.as_slice() == [7, 5, 10].as_slice()
+}
+
 #[test]
 fn a_loop_is_drawn_through_what_was_there(rt: HostRuntime) -> Result<(), Fail> {
     let mut through = Segs::new(rt.alloc());
@@ -199,10 +209,6 @@ fn a_loop_is_drawn_through_what_was_there(rt: HostRuntime) -> Result<(), Fail> {
     entries.push((BACK, LoopLines::new(rt.alloc())))?;
     entries.push((FRONT, held))?;
     let fact = resolve(rt.alloc(), &row, 10, &entries)?;
-    assert_eq!(rt; fact.line, 11);
-    assert_eq!(rt; fact.needle, FRONT);
-    assert_eq!(rt; fact.dir, Dir::Left);
-    assert!(rt; fact.yarns.as_slice() == [CarrierNo(2)].as_slice());
-    assert!(rt; fact.through.as_slice() == [7, 5, 10].as_slice());
+    assert!(rt; is_drawn_through_three(&fact));
     Ok(())
 }

@@ -16,7 +16,7 @@ use Rattle.summary_compose.specs.declared.room.Room.{Room}
 use Rattle.summary_tree.specs.declared.faces.Entry.{Entry}
 use Rattle.summary_tree.specs.declared.faces.Pools.{Pools}
 use Rattle.summary_tree.specs.declared.faces.FaceList.{FaceList}
-use Rattle.summary_tree.specs.declared.faces.FaceList.TheVariants.{Checks, Names, Changes, Segs}
+use Rattle.summary_tree.specs.declared.faces.FaceList.TheVariants.{Checks, Names, Changes, Segs, Lasts}
 use Rattle.summary_tree.specs.Faces.{IsPackedEntry, IsTable, KeepsSpares, TookSpans, class_in, length_in, pool_in, spans_at, spare_in, spares_of, summary_in, table_view}
 use Rattle.summary_tree.specs.Lists.{Exchanged, TookSpan}
 use Rattle.summary_tree.proofs.SpanCounts.{fewer, more}
@@ -46,6 +46,7 @@ spare_seen entries pools Checks class = spare_is pools.checks class
 spare_seen entries pools Names class = spare_is pools.names class
 spare_seen entries pools Changes class = spare_is pools.changes class
 spare_seen entries pools Segs class = spare_is pools.segs class
+spare_seen entries pools Lasts class = spare_is pools.lasts class
 
 -- no pool has fewer spare spans of a class
 pub keeps_spares : (entries others : List (Option Entry)) (old new : Pools) → ((list : FaceList) (class : ℕ) → spare_of (pool_in list old) class ≤ spare_of (pool_in list new) class)

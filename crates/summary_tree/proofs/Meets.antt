@@ -31,7 +31,7 @@ use Rattle.summary_compose.proofs.Rooms.{all_entries_flat}
 use Rattle.face_data.specs.Segments.{entries_of}
 use Rattle.summary_compose.proofs.Parts.{packed_size}
 use Rattle.summary_tree.specs.declared.faces.FaceList.{FaceList}
-use Rattle.summary_tree.specs.declared.faces.FaceList.TheVariants.{Checks, Names, Changes, Segs}
+use Rattle.summary_tree.specs.declared.faces.FaceList.TheVariants.{Checks, Names, Changes, Segs, Lasts}
 use Rattle.summary_tree.specs.Faces.{FacesView, AreMet, TookSpans, KeepsSpares, spare_in, length_in, face_in}
 use Rattle.summary_tree.specs.Laws.{capped_is_min, product_kept, sum_kept, along_rooms, bounds}
 use Rattle.summary_tree.specs.Leaves.{LeavesFit}
@@ -131,10 +131,11 @@ no_greater_in a b h Checks = h.checks
 no_greater_in a b h Names = h.names
 no_greater_in a b h Changes = h.changes
 no_greater_in a b h Segs = h.segs
+no_greater_in a b h Lasts = h.lasts
 
 -- a room whose numbers are capped
 abbrev pub kept_of : Room → Room
-kept_of r = record { checks = capped r.checks; names = capped r.names; changes = capped r.changes; segs = capped r.segs; entries = capped r.entries }
+kept_of r = record { checks = capped r.checks; names = capped r.names; changes = capped r.changes; segs = capped r.segs; entries = capped r.entries; lasts = capped r.lasts }
 
 -- the room of a packed face's summary is that of its lists
 pub kept_is : (face : FaceView) → IsPacked face → kept_room (summary_of face) ≡ kept_of (room_of face)
@@ -145,17 +146,18 @@ kept_is face p =
     let changes = length-map face.changes.now (changed_of face.segs.now) in
     let entries : length (all_entries (map (changed_of face.segs.now) face.changes.now)) ≡ length (entries_of face.segs.now) = ap length (sym (all_entries_flat face.segs.now face.changes.now) ∙ ap entries_of p.segs) in
     let s = summary_of face in
-    ap (λ n. record { checks = capped n; names = (kept_room s).names; changes = (kept_room s).changes; segs = (kept_room s).segs; entries = (kept_room s).entries }) checks
-    ∙ (ap (λ n. record { checks = capped (length face.checks.now); names = capped n; changes = (kept_room s).changes; segs = (kept_room s).segs; entries = (kept_room s).entries }) names
-    ∙ (ap (λ n. record { checks = capped (length face.checks.now); names = capped (length face.names.now); changes = capped n; segs = (kept_room s).segs; entries = (kept_room s).entries }) changes
-    ∙ (ap (λ n. record { checks = capped (length face.checks.now); names = capped (length face.names.now); changes = capped (length face.changes.now); segs = capped n; entries = (kept_room s).entries }) segs
-    ∙ ap (λ n. record { checks = capped (length face.checks.now); names = capped (length face.names.now); changes = capped (length face.changes.now); segs = capped (length face.segs.now); entries = capped n }) entries)))
+    ap (λ n. record { checks = capped n; names = (kept_room s).names; changes = (kept_room s).changes; segs = (kept_room s).segs; entries = (kept_room s).entries; lasts = (kept_room s).lasts }) checks
+    ∙ (ap (λ n. record { checks = capped (length face.checks.now); names = capped n; changes = (kept_room s).changes; segs = (kept_room s).segs; entries = (kept_room s).entries; lasts = (kept_room s).lasts }) names
+    ∙ (ap (λ n. record { checks = capped (length face.checks.now); names = capped (length face.names.now); changes = capped n; segs = (kept_room s).segs; entries = (kept_room s).entries; lasts = (kept_room s).lasts }) changes
+    ∙ (ap (λ n. record { checks = capped (length face.checks.now); names = capped (length face.names.now); changes = capped (length face.changes.now); segs = capped n; entries = (kept_room s).entries; lasts = (kept_room s).lasts }) segs
+    ∙ ap (λ n. record { checks = capped (length face.checks.now); names = capped (length face.names.now); changes = capped (length face.changes.now); segs = capped (length face.segs.now); entries = capped n; lasts = (kept_room s).lasts }) entries)))
 
 capped_in : (list : FaceList) (r : Room) → length_in list (kept_of r) ≡ capped (length_in list r)
 capped_in Checks r = refl
 capped_in Names r = refl
 capped_in Changes r = refl
 capped_in Segs r = refl
+capped_in Lasts r = refl
 
 -- no list of a face is longer than one that was reckoned with
 pub list_fits : (v : FacesView) (face : FaceView) (r : Room) (rest : List Room) → AreMet v (r ∷ rest) → IsPacked face → IsNoGreater (kept_room (summary_of face)) r
@@ -194,10 +196,11 @@ both_kept a b p q = subst (λ x. IsNoGreater (room_of_both a b) (room_after x (k
           changes = sum_kept (r.changes + s.changes) r.changes s.changes (omega arith);
           segs = sum_kept (r.segs + s.segs) r.segs s.segs (omega arith);
           entries = sum_kept (r.entries + s.entries) r.entries s.entries (omega arith);
+          lasts = sum_kept (r.lasts + s.lasts) r.lasts s.lasts (omega arith);
         }
 
 -- nothing more than a face's own room
-pub after_none : (r none : Room) → none ≡ record { checks = 0; names = 0; changes = 0; segs = 0; entries = 0 } → room_after r none ≡ kept_of r
+pub after_none : (r none : Room) → none ≡ record { checks = 0; names = 0; changes = 0; segs = 0; entries = 0; lasts = 0 } → room_after r none ≡ kept_of r
 after_none r none e = ap (room_after r) e ∙ go
   where
     plus : (n : ℕ) → capped (n + 0) ≡ capped n
@@ -206,13 +209,14 @@ after_none r none e = ap (room_after r) e ∙ go
     both : (n e : ℕ) → capped (capped (n + 0) + capped (0 * e)) ≡ capped n
     both n e = omega (arith, capped_is_min (n + 0), capped_is_min (0 * e), capped_is_min (capped (n + 0) + capped (0 * e)), capped_is_min n)
 
-    go : room_after r (record { checks = 0; names = 0; changes = 0; segs = 0; entries = 0 }) ≡ kept_of r
+    go : room_after r (record { checks = 0; names = 0; changes = 0; segs = 0; entries = 0; lasts = 0 }) ≡ kept_of r
     go =
-        ap (λ n. record { checks = n; names = capped (capped (r.names + 0) + capped (0 * r.entries)); changes = capped (r.changes + 0); segs = capped (r.segs + 0); entries = capped (r.entries + 0) }) (plus r.checks)
-        ∙ (ap (λ n. record { checks = capped r.checks; names = n; changes = capped (r.changes + 0); segs = capped (r.segs + 0); entries = capped (r.entries + 0) }) (both r.names r.entries)
-        ∙ (ap (λ n. record { checks = capped r.checks; names = capped r.names; changes = n; segs = capped (r.segs + 0); entries = capped (r.entries + 0) }) (plus r.changes)
-        ∙ (ap (λ n. record { checks = capped r.checks; names = capped r.names; changes = capped r.changes; segs = n; entries = capped (r.entries + 0) }) (plus r.segs)
-        ∙ ap (λ n. record { checks = capped r.checks; names = capped r.names; changes = capped r.changes; segs = capped r.segs; entries = n }) (plus r.entries))))
+        ap (λ n. record { checks = n; names = capped (capped (r.names + 0) + capped (0 * r.entries)); changes = capped (r.changes + 0); segs = capped (r.segs + 0); entries = capped (r.entries + 0); lasts = capped (r.lasts + 0) }) (plus r.checks)
+        ∙ (ap (λ n. record { checks = capped r.checks; names = n; changes = capped (r.changes + 0); segs = capped (r.segs + 0); entries = capped (r.entries + 0); lasts = capped (r.lasts + 0) }) (both r.names r.entries)
+        ∙ (ap (λ n. record { checks = capped r.checks; names = capped r.names; changes = n; segs = capped (r.segs + 0); entries = capped (r.entries + 0); lasts = capped (r.lasts + 0) }) (plus r.changes)
+        ∙ (ap (λ n. record { checks = capped r.checks; names = capped r.names; changes = capped r.changes; segs = n; entries = capped (r.entries + 0); lasts = capped (r.lasts + 0) }) (plus r.segs)
+        ∙ (ap (λ n. record { checks = capped r.checks; names = capped r.names; changes = capped r.changes; segs = capped r.segs; entries = n; lasts = capped (r.lasts + 0) }) (plus r.entries)
+        ∙ ap (λ n. record { checks = capped r.checks; names = capped r.names; changes = capped r.changes; segs = capped r.segs; entries = capped r.entries; lasts = n }) (plus r.lasts)))))
 
 -- what a child of the tree has is the face at its place
 pub part_face : (faces : FacesView) (tables : List (Option (List LoopRow))) (child : Child) (v : Summary × List LoopRow) → part (leaf_in faces tables) (node_in faces) child ≡ Some v → face_in faces (place_of child) ≡ Some v.0

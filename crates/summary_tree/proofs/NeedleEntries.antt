@@ -48,7 +48,7 @@ read_alike s t first (New offset ∷ segs) same = ap (λ rest. read_segs s first
 -- read behind a summary, they are those that are read through it before
 read_before : (summary : Summary) (s t : State) (first : ℕ) (segs : List Seg) → applied summary s first ≡ went_on t → read_segs t (first + summary.lines) segs ≡ read_segs s first (through summary.changes summary.lines segs)
 read_before summary s t first segs goes =
-    read_alike t (with_stacks s (λ n. read_segs s first (segments_on summary.changes n))) (first + summary.lines) segs (ends_read_at (first_fault summary.checks s) summary.ending summary.changes s t first goes)
+    read_alike t (with_stacks s (λ n. read_segs s first (segments_on summary.changes n))) (first + summary.lines) segs (ends_read_at (first_fault summary.checks s) summary.ending summary.lasts summary.changes s t first goes)
     ∙ sym (read-through s first summary.lines summary.changes segs)
 
 -- the segments of a change are of the summary's own lines

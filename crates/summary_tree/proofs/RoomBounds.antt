@@ -5,13 +5,13 @@ use Rattle.std.proofs.lemmas.List.Elements.{All-nil, All-cons, All-head, All-tai
 use Rattle.summary_compose.specs.Composing.{IsNoGreater}
 use Rattle.summary_compose.specs.declared.room.Room.{Room}
 use Rattle.summary_tree.specs.declared.faces.FaceList.{FaceList}
-use Rattle.summary_tree.specs.declared.faces.FaceList.TheVariants.{Checks, Names, Changes, Segs}
+use Rattle.summary_tree.specs.declared.faces.FaceList.TheVariants.{Checks, Names, Changes, Segs, Lasts}
 use Rattle.summary_tree.specs.Faces.{length_in}
 use Rattle.summary_compose.specs.Rooms.{greater}
 use Rattle.summary_tree.specs.Rooms.{greatest_of}
 
 pub no_greater_same : (r : Room) → IsNoGreater r r
-no_greater_same r = record { checks = omega arith; names = omega arith; changes = omega arith; segs = omega arith; entries = omega arith }
+no_greater_same r = record { checks = omega arith; names = omega arith; changes = omega arith; segs = omega arith; entries = omega arith; lasts = omega arith }
 
 max_swap : (n : ℕ) → max n 0 ≡ max 0 n
 max_swap n = omega arith
@@ -27,6 +27,7 @@ greatest_push [] r = λ i. record {
   changes = max_swap r.changes i;
   segs = max_swap r.segs i;
   entries = max_swap r.entries i;
+  lasts = max_swap r.lasts i;
 }
 greatest_push (x ∷ rooms) r =
     let g = greatest_of rooms in
@@ -37,6 +38,7 @@ greatest_push (x ∷ rooms) r =
       changes = max_round x.changes g.changes r.changes i;
       segs = max_round x.segs g.segs r.segs i;
       entries = max_round x.entries g.entries r.entries i;
+      lasts = max_round x.lasts g.lasts r.lasts i;
     }
 
 -- all are within a room exactly if the greatest is
@@ -45,11 +47,11 @@ each_within [] bound h = All-nil (λ r. IsNoGreater r bound)
 each_within (x ∷ rooms) bound h =
     let g = greatest_of rooms in
     All-cons (λ r. IsNoGreater r bound) x rooms
-    (record { checks = omega (arith, h.checks); names = omega (arith, h.names); changes = omega (arith, h.changes); segs = omega (arith, h.segs); entries = omega (arith, h.entries) })
-    (each_within rooms bound (record { checks = omega (arith, h.checks); names = omega (arith, h.names); changes = omega (arith, h.changes); segs = omega (arith, h.segs); entries = omega (arith, h.entries) }))
+    (record { checks = omega (arith, h.checks); names = omega (arith, h.names); changes = omega (arith, h.changes); segs = omega (arith, h.segs); entries = omega (arith, h.entries); lasts = omega (arith, h.lasts) })
+    (each_within rooms bound (record { checks = omega (arith, h.checks); names = omega (arith, h.names); changes = omega (arith, h.changes); segs = omega (arith, h.segs); entries = omega (arith, h.entries); lasts = omega (arith, h.lasts) }))
 
 pub greatest_within : (rooms : List Room) (bound : Room) → All (λ r. IsNoGreater r bound) rooms → IsNoGreater (greatest_of rooms) bound
-greatest_within [] bound all = record { checks = omega arith; names = omega arith; changes = omega arith; segs = omega arith; entries = omega arith }
+greatest_within [] bound all = record { checks = omega arith; names = omega arith; changes = omega arith; segs = omega arith; entries = omega arith; lasts = omega arith }
 greatest_within (x ∷ rooms) bound all =
     let h = All-head (λ r. IsNoGreater r bound) x rooms all in
     let g = greatest_within rooms bound (All-tail (λ r. IsNoGreater r bound) x rooms all) in
@@ -59,6 +61,7 @@ greatest_within (x ∷ rooms) bound all =
       changes = omega (arith, h.changes, g.changes);
       segs = omega (arith, h.segs, g.segs);
       entries = omega (arith, h.entries, g.entries);
+      lasts = omega (arith, h.lasts, g.lasts);
     }
 
 -- the longer list of both rooms
@@ -67,12 +70,14 @@ longer Checks a b = refl
 longer Names a b = refl
 longer Changes a b = refl
 longer Segs a b = refl
+longer Lasts a b = refl
 
 none_long : (list : FaceList) → length_in list (greatest_of []) ≡ 0
 none_long Checks = refl
 none_long Names = refl
 none_long Changes = refl
 none_long Segs = refl
+none_long Lasts = refl
 
 -- no list is longer than a bound exactly if that of the greatest room isn't
 pub each_short : (list : FaceList) (rooms : List Room) (bound : ℕ) → length_in list (greatest_of rooms) ≤ bound → All (λ r. length_in list r ≤ bound) rooms

@@ -12,7 +12,7 @@ use Rattle.summary_compose.specs.declared.room.Room.{Room}
 use Rattle.summary_tree.specs.declared.faces.Entry.{Entry}
 use Rattle.summary_tree.specs.declared.faces.Pools.{Pools}
 use Rattle.summary_tree.specs.declared.faces.FaceList.{FaceList}
-use Rattle.summary_tree.specs.declared.faces.FaceList.TheVariants.{Checks, Names, Changes, Segs}
+use Rattle.summary_tree.specs.declared.faces.FaceList.TheVariants.{Checks, Names, Changes, Segs, Lasts}
 use Rattle.summary_tree.specs.Meeting.{IsMet}
 
 -- the summary that an entry shows
@@ -22,6 +22,7 @@ summary_in e = record {
   made = e.head.made;
   checks = map (asked_of e.names.items) e.checks.items;
   changes = map (changed_of e.segs.items) e.changes.items;
+  lasts = e.lasts.items;
   ending = e.head.ending;
 }
 
@@ -37,6 +38,7 @@ class_in Checks e = e.checks.class
 class_in Names e = e.names.class
 class_in Changes e = e.changes.class
 class_in Segs e = e.segs.class
+class_in Lasts e = e.lasts.class
 
 -- the pool of one of the lists
 abbrev pub pool_in : FaceList → Pools → PoolView
@@ -44,6 +46,7 @@ pool_in Checks pools = pools.checks
 pool_in Names pools = pools.names
 pool_in Changes pools = pools.changes
 pool_in Segs pools = pools.segs
+pool_in Lasts pools = pools.lasts
 
 -- how many spans of a class are at a place for one of the lists
 abbrev pub spans_at : FaceList → ℕ → Option Entry → ℕ
@@ -59,13 +62,14 @@ pub record IsTable (entries : List (Option Entry)) (pools : Pools) : Type 0 wher
 abbrev pub spares_of : PoolView → List ℕ
 spares_of pool = map (λ (shelf : ShelfView). shelf.spare) pool
 
--- what contracts see of a table: the summary at each place, and the spare spans of the four pools
+-- what contracts see of a table: the summary at each place, and the spare spans of the five pools
 pub record FacesView : Type 0 where
   pub faces : List (Option Summary)
   pub check_spares : List ℕ
   pub name_spares : List ℕ
   pub change_spares : List ℕ
   pub seg_spares : List ℕ
+  pub last_spares : List ℕ
 
 -- those of a table with these entries and pools
 abbrev pub table_view : List (Option Entry) → Pools → FacesView
@@ -75,6 +79,7 @@ table_view entries pools = record {
   name_spares = spares_of pools.names;
   change_spares = spares_of pools.changes;
   seg_spares = spares_of pools.segs;
+  last_spares = spares_of pools.lasts;
 }
 
 -- the spare spans for one of the lists
@@ -83,6 +88,7 @@ spares_in v Checks = v.check_spares
 spares_in v Names = v.name_spares
 spares_in v Changes = v.change_spares
 spares_in v Segs = v.seg_spares
+spares_in v Lasts = v.last_spares
 
 -- those of a class
 abbrev pub spare_in : FacesView → FaceList → ℕ → ℕ
@@ -94,6 +100,7 @@ length_in Checks room = room.checks
 length_in Names room = room.names
 length_in Changes room = room.changes
 length_in Segs room = room.segs
+length_in Lasts room = room.lasts
 
 -- the summary at a place
 abbrev pub face_in : FacesView → ℕ → Option Summary

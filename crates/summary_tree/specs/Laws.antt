@@ -182,7 +182,7 @@ pub capped_is_min : (n : ℕ) → capped n ≡ min n (2 ^ 62 + 1)
 capped_is_min n = capped_at n (nat_lt (2 ^ 62) n) refl
 
 same_room : (a : Room) → IsNoGreater a a
-same_room a = record { checks = omega arith; names = omega arith; changes = omega arith; segs = omega arith; entries = omega arith }
+same_room a = record { checks = omega arith; names = omega arith; changes = omega arith; segs = omega arith; entries = omega arith; lasts = omega arith }
 
 pub along_rooms : (a b c : Room) → IsNoGreater a b → IsNoGreater b c → IsNoGreater a c
 along_rooms a b c p q = record {
@@ -191,6 +191,7 @@ along_rooms a b c p q = record {
   changes = omega (arith, p.changes, q.changes);
   segs = omega (arith, p.segs, q.segs);
   entries = omega (arith, p.entries, q.entries);
+  lasts = omega (arith, p.lasts, q.lasts);
 }
 
 -- a product of capped numbers is no less than the capped product
@@ -243,6 +244,7 @@ bounds a b f =
       changes = sum_kept (length (composed a.0 b.0).changes) (length a.0.changes) (length b.0.changes) s.few_changes;
       segs = sum_kept (segs_in (composed a.0 b.0).changes) (segs_in a.0.changes) (segs_in b.0.changes) s.few_segs;
       entries = sum_kept (length (all_entries (composed a.0 b.0).changes)) ea (length (all_entries b.0.changes)) s.few_entries;
+      lasts = sum_kept (length (composed a.0 b.0).lasts) (length a.0.lasts) (length b.0.lasts) s.few_lasts;
     }
 
 pub room_laws : RoomLaws {V = Leaf} {R = Room} joined_leaf LeavesFit leaf_room room_after IsNoGreater

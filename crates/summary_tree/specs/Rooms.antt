@@ -15,6 +15,7 @@ kept_room s = record {
   changes = capped (length s.changes);
   segs = capped (segs_in s.changes);
   entries = capped (length (all_entries s.changes));
+  lasts = capped (length s.lasts);
 }
 
 -- the greatest of all in each field

@@ -12,7 +12,7 @@ ghost use Rattle.summary_tree.specs.Faces.{IsPackedEntry, summary_in, class_in, 
 ghost use Rattle.summary_tree.specs.Rooms.{kept_room};
 
 use crate::lists::{put_anew, refill};
-use face_data::{Change, Check, Ending, FaceView, Seg};
+use face_data::{Change, Check, Ending, FaceView, Last, Seg};
 use knit_base::{Needle, NoMemory};
 use span_pool::{Pool, Span};
 use std::alloc::Global;
@@ -35,6 +35,7 @@ pub(crate) enum FaceList {
     Names,
     Changes,
     Segs,
+    Lasts,
 }
 
 /// A face that is kept: each list in a span of its own, side by side, so that few places of memory are read for it.
@@ -44,6 +45,7 @@ pub(crate) struct Entry {
     names: Span<Needle>,
     changes: Span<Change>,
     segs: Span<Seg>,
+    lasts: Span<Last>,
     head: Head,
 }
 
@@ -61,6 +63,7 @@ impl Entry {
             names: self.names.get(),
             changes: self.changes.get(),
             segs: self.segs.get(),
+            lasts: self.lasts.get(),
             ending: self.head.ending,
         }
     }
@@ -80,6 +83,7 @@ pub(crate) struct Pools {
     names: Pool<Needle>,
     changes: Pool<Change>,
     segs: Pool<Seg>,
+    lasts: Pool<Last>,
 }
 
 impl Pools {
@@ -91,6 +95,7 @@ impl Pools {
             names: Pool::new(alloc),
             changes: Pool::new(alloc),
             segs: Pool::new(alloc),
+            lasts: Pool::new(alloc),
         }
     }
 
@@ -102,6 +107,7 @@ impl Pools {
             FaceList::Names => self.names.spare(class),
             FaceList::Changes => self.changes.spare(class),
             FaceList::Segs => self.segs.spare(class),
+            FaceList::Lasts => self.lasts.spare(class),
         }
     }
 
@@ -116,6 +122,7 @@ impl Pools {
             FaceList::Names => self.names.reserve(class, n),
             FaceList::Changes => self.changes.reserve(class, n),
             FaceList::Segs => self.segs.reserve(class, n),
+            FaceList::Lasts => self.lasts.reserve(class, n),
         }
     }
 
@@ -136,6 +143,7 @@ impl Pools {
             names: put_anew(&mut self.names, face.names),
             changes: put_anew(&mut self.changes, face.changes),
             segs: put_anew(&mut self.segs, face.segs),
+            lasts: put_anew(&mut self.lasts, face.lasts),
             head: head_of(face),
         }
     }
@@ -157,6 +165,7 @@ impl Pools {
         refill(&mut self.names, &mut entry.names, face.names);
         refill(&mut self.changes, &mut entry.changes, face.changes);
         refill(&mut self.segs, &mut entry.segs, face.segs);
+        refill(&mut self.lasts, &mut entry.lasts, face.lasts);
         entry.head = head_of(face);
     }
 
@@ -170,6 +179,7 @@ impl Pools {
         self.names.give(entry.names);
         self.changes.give(entry.changes);
         self.segs.give(entry.segs);
+        self.lasts.give(entry.lasts);
     }
 }
 
@@ -185,6 +195,7 @@ fn room_with(face: &FaceView, entries: u64) -> Room
         changes: face.changes.len() as u64,
         segs: face.segs.len() as u64,
         entries,
+        lasts: face.lasts.len() as u64,
     };
     room.after(&Room::NONE)
 }

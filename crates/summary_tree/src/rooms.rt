@@ -49,6 +49,7 @@ fn length_in(list: FaceList, room: &Room) -> u64
         FaceList::Names => room.names,
         FaceList::Changes => room.changes,
         FaceList::Segs => room.segs,
+        FaceList::Lasts => room.lasts,
     }
 }
 

@@ -15,6 +15,7 @@ use value_tree::{Takes, Values};
 // Makes the room for a leaf that has a place, and puts it there.
 fn put_leaf(
     store: &mut FaceStore,
+    need: &mut Rooms,
     number: u32,
     face: &FaceView,
     loops: LoopTable,
@@ -25,9 +26,9 @@ fn put_leaf(
     ensures others { (n : ℕ) → n ≢ number → leaf_in store.new.faces store.new.tables.items n ≡ leaf_in store.old.faces store.old.tables.items n }
     ensures places { places_in store.old.faces store.old.tables.items ≤ places_in store.new.faces store.new.tables.items }
 {
-    let mut need = Rooms::new();
+    need.clear();
     need.push(kept_room(face));
-    store.reserve(&need)?;
+    store.reserve(need)?;
     store.set_leaf(number, (*face, loops));
     Ok(())
 }
@@ -42,9 +43,10 @@ pub(crate) fn put_leaves(
     ensures places { OnOk result (length leaves.items ≤ places_in store.new.faces store.new.tables.items) }
 {
     store.reserve_slots(leaves.len() as u32)?;
+    let mut need = Rooms::new();
     let mut number = 0;
     for (face, loops) in leaves {
-        put_leaf(store, number, &face.view(), loops)?;
+        put_leaf(store, &mut need, number, &face.view(), loops)?;
         number += 1;
     }
     Ok(())

@@ -232,7 +232,8 @@ impl Values for FaceStore {
         reserve_list(&mut self.faces, FaceList::Checks, need)?;
         reserve_list(&mut self.faces, FaceList::Names, need)?;
         reserve_list(&mut self.faces, FaceList::Changes, need)?;
-        reserve_list(&mut self.faces, FaceList::Segs, need)
+        reserve_list(&mut self.faces, FaceList::Segs, need)?;
+        reserve_list(&mut self.faces, FaceList::Lasts, need)
     }
 
     fn meets(&self, need: &Rooms) -> bool {
@@ -241,6 +242,7 @@ impl Values for FaceStore {
             && list_is_met(&self.faces, FaceList::Names, need)
             && list_is_met(&self.faces, FaceList::Changes, need)
             && list_is_met(&self.faces, FaceList::Segs, need)
+            && list_is_met(&self.faces, FaceList::Lasts, need)
     }
 
     fn compose<L: Ledger>(&mut self, row: DirtyRow, steps: &mut Steps<L>) {

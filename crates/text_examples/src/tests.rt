@@ -22,4 +22,5 @@ const NO_OPTIONS: Options = Options {
     rack: None,
     hold: None,
     block: None,
+    float: None,
 };

@@ -25,11 +25,21 @@ plain_good carriers limit known lines rack =
         within = λ c there. absurd (Contains-none c there);
         in_turn = tt;
         nested = g.fair.nested;
+        agree = g.fair.agree;
         in_order = g.fair.in_order;
         changes_fit = λ c there. absurd (Contains-none c there);
         owns = g.fair.owns;
+        lasts_in_order = g.fair.lasts_in_order;
+        lasts_fit = g.fair.lasts_fit;
         sizes = g.fair.sizes;
-        ending = record { lies = g.fair.ending.lies; apart = g.fair.ending.apart; came = g.fair.ending.came; went = g.fair.ending.went; hook = tt };
+        ending = record {
+          lies = g.fair.ending.lies;
+          apart = g.fair.ending.apart;
+          came = g.fair.ending.came;
+          went = g.fair.ending.went;
+          hook = tt;
+          nears = λ c there. absurd (Contains-none c there);
+        };
       };
       irredundant = tt;
     }

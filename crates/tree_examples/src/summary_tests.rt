@@ -26,6 +26,7 @@ fn plain(lines: u32, rack: i32) -> FaceView<'static>
         names: &[],
         changes: &[],
         segs: &[],
+        lasts: &[],
         ending: Ending::Through(Effect {
             rack: Some(Quarter(rack)),
             came: 0,

@@ -9,19 +9,19 @@ use std::test::Fail;
 fn items_of_a_face() -> u64
     ensures { result ≡ most_items 3 16 16 }
 {
-    9_260
+    9_266
 }
 
 fn steps_in_282_blocks() -> u64
     ensures { result ≡ 16 * (highest 282 + 2) * (most_items 3 16 16 + 1) }
 {
-    1_926_288
+    1_927_536
 }
 
 fn steps_in_2813_blocks() -> u64
     ensures { result ≡ 16 * (highest 2813 + 2) * (most_items 3 16 16 + 1) }
 {
-    2_667_168
+    2_668_896
 }
 
 #[test]

@@ -125,6 +125,7 @@ fn names_are_found(rt: HostRuntime) -> Result<(), Fail> {
         high: 4,
         rack: 8,
         hold: 16,
+        float: None,
     };
     let setting = Setting {
         profile,

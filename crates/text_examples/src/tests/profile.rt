@@ -21,3 +21,29 @@ fn the_first_option_outside_is_refused(rt: HostRuntime) {
     };
     assert!(rt; profile_of(&options) == Err(BadOption { which: Which::Hold }));
 }
+
+// What is chosen where this float is given.
+fn with_float(float: i64) -> Result<Chosen, BadOption> {
+    profile_of(&Options {
+        float: Some(float),
+        ..NO_OPTIONS
+    })
+}
+
+#[test]
+fn a_limit_on_floats_is_chosen(rt: HostRuntime) {
+    let far = Profile {
+        float: Some(8192),
+        ..Profile::USUAL
+    };
+    let chosen = Chosen {
+        profile: far,
+        block: 64,
+    };
+    assert!(rt; with_float(8192) == Ok(chosen));
+    let bad = BadOption {
+        which: Which::Float,
+    };
+    assert!(rt; with_float(0) == Err(bad));
+    assert!(rt; with_float(8193) == Err(bad));
+}

@@ -13,6 +13,7 @@ const PROFILE: Profile = Profile {
     high: 250,
     rack: 8,
     hold: 16,
+    float: None,
 };
 
 // The carriers `A`, `;`, a carriage return, `1`, `10` and `01`.

@@ -9,34 +9,34 @@ use Rattle.block_summary.proofs.adding.add_transfer.Goals as goal
 
 pub returns-in-Stops-clause-lines : goal.returns-in-Stops-clause-lines
 returns-in-Stops-clause-lines c =
-    let hold = c.args.setting.now.profile.hold in
+    let profile = c.args.setting.now.profile in
     let xfer = read.Instr (Xfer c.args.n c.args.n2) in
     let old = c.args.draft.now in
     let new = c.transfer.new.self in
-    stops_lines hold xfer old new c.in-Stops.fault (subst (λ (end : LineEnd). EndsAs hold xfer old new end) c.in-Stops.is c.in_ok-fault.ensures)
+    stops_lines profile xfer old new c.in-Stops.fault (subst (λ (end : LineEnd). EndsAs profile xfer old new end) c.in-Stops.is c.in_ok-fault.ensures)
 
 pub returns-in-Stops-clause-rows : goal.returns-in-Stops-clause-rows
 returns-in-Stops-clause-rows c =
-    let hold = c.args.setting.now.profile.hold in
+    let profile = c.args.setting.now.profile in
     let xfer = read.Instr (Xfer c.args.n c.args.n2) in
     let old = c.args.draft.now in
     let new = c.transfer.new.self in
     rows_wider old.lines new.lines c.args.loops.now
-    (stops_lines hold xfer old new c.in-Stops.fault (subst (λ (end : LineEnd). EndsAs hold xfer old new end) c.in-Stops.is c.in_ok-fault.ensures)) c.requires.rows
+    (stops_lines profile xfer old new c.in-Stops.fault (subst (λ (end : LineEnd). EndsAs profile xfer old new end) c.in-Stops.is c.in_ok-fault.ensures)) c.requires.rows
 
 pub returns-clause-lines : goal.returns-clause-lines
 returns-clause-lines c =
-    let hold = c.args.setting.now.profile.hold in
+    let profile = c.args.setting.now.profile in
     let xfer = read.Instr (Xfer c.args.n c.args.n2) in
     let old = c.args.draft.now in
     let new = c.transfer.new.self in
-    goes_lines hold xfer old new c.in-GoesOn.field-0 (subst (λ (end : LineEnd). EndsAs hold xfer old new end) c.in-GoesOn.is c.in_ok-fault.ensures)
+    goes_lines profile xfer old new c.in-GoesOn.field-0 (subst (λ (end : LineEnd). EndsAs profile xfer old new end) c.in-GoesOn.is c.in_ok-fault.ensures)
 
 pub returns-clause-rows : goal.returns-clause-rows
 returns-clause-rows c =
-    let hold = c.args.setting.now.profile.hold in
+    let profile = c.args.setting.now.profile in
     let xfer = read.Instr (Xfer c.args.n c.args.n2) in
     let old = c.args.draft.now in
     let new = c.transfer.new.self in
     rows_wider old.lines new.lines c.args.loops.now
-    (goes_lines hold xfer old new c.in-GoesOn.field-0 (subst (λ (end : LineEnd). EndsAs hold xfer old new end) c.in-GoesOn.is c.in_ok-fault.ensures)) c.requires.rows
+    (goes_lines profile xfer old new c.in-GoesOn.field-0 (subst (λ (end : LineEnd). EndsAs profile xfer old new end) c.in-GoesOn.is c.in_ok-fault.ensures)) c.requires.rows

@@ -11,7 +11,8 @@ returns-clause-broken c s t first read =
     let rack = c.ask-rack.ensures.broken t in
     let slider = c.in_ok-slider.ensures.broken s t first read in
     let sizes = c.in_ok-beds.ensures.broken s t first read in
-    λ i. or_else (carriers i) (or_else (rack i) (or_else (slider i) (sizes i)))
+    let floats = c.in_ok-carriers.ensures.floats t in
+    λ i. or_else (carriers i) (or_else (rack i) (or_else (slider i) (or_else (sizes i) (floats i))))
 
 pub returns-clause-step : goal.returns-clause-step
 returns-clause-step c s t first offset read =
@@ -21,10 +22,12 @@ returns-clause-step c s t first offset read =
     let rack = sym (effect.rack line t) in
     let ins = sym (effect.ins line t) in
     let hook = sym (effect.hook line t) in
+    let lasts = sym (c.in_ok-carriers.ensures.lasts_after t) in
     λ i. record {
       rack = rack i;
       ins = ins i;
       hook = hook i;
+      lasts = lasts i;
       stacks = λ n. stacks-read segments c.args.instr.now s t first offset read _ _ c.in_ok-beds.ensures.changes c.in_ok-formed_loop.ensures n i;
     }
 

@@ -15,7 +15,7 @@ returns-in_ok-ask_instr-in-Instr-clause-broken c s t first read =
 pub returns-in_ok-ask_instr-in-Instr-clause-step :
     goal.returns-in_ok-ask_instr-in-Instr-clause-step
 returns-in_ok-ask_instr-in-Instr-clause-step c s t first offset read =
-    ap (λ line. step (first + offset) line t) c.in-Instr.is
+    ap (λ line. step c.args.profile.now (first + offset) line t) c.in-Instr.is
     ∙ c.in_ok-ask_instr-in-Instr.ensures.step s t first offset read
 
 pub returns-in_ok-ask_instr-in-Instr-clause-formed :
@@ -28,4 +28,4 @@ pub returns-in_ok-ask_instr-in-Instr-clause-is :
     goal.returns-in_ok-ask_instr-in-Instr-clause-is
 returns-in_ok-ask_instr-in-Instr-clause-is c =
     ap Asks c.in_ok-ask_instr-in-Instr.ensures.is
-    ∙ ap (λ line. line_ask c.args.profile.now.hold line c.args.segments.now) (sym c.in-Instr.is)
+    ∙ ap (λ line. line_ask c.args.profile.now line c.args.segments.now) (sym c.in-Instr.is)

@@ -19,6 +19,11 @@ broken-requires-clause-needles c =
     line_has-needles c.args.profile.now (length c.args.declared.now) _ _ here.needles
     (lawful-item _ _ _ _ _ c.read-item.result c.as_slice-read-items.ensures.items c.requires.lawful c.loop-i-test.true c.read-item.is)
 
+pub broken-requires-clause-floats : goal.broken-requires-clause-floats
+broken-requires-clause-floats c =
+    let here : Seeks c.args.profile.now c.as_slice-read-items.result.now c.args.first c.loop-i.i c.loop-i.machine c.args.line = c.loop-i.invariant in
+    here.needles.floats
+
 pub broken-requires-clause-places : goal.broken-requires-clause-places
 broken-requires-clause-places c =
     line_has-places c.args.profile.now (length c.args.declared.now) _
@@ -73,7 +78,7 @@ loop-i-preserved c =
     let here : Seeks c.args.profile.now c.as_slice-read-items.result.now c.args.first c.loop-i.i c.loop-i.machine c.args.line = c.loop-i.invariant in
     seeks-next _ _ _ _ c.read-item.result _ _ _ c.loop-i-test.true c.read-item.is c.if-at-line.false here
     (sym (c.broken.ensures here.state here.represented) ∙ none_from_test _ (sym c.is_some.ensures ∙ c.if-is_some.false))
-    (c.in_ok-step.ensures.ok here.state here.represented) c.in_ok-step.ensures.kept
+    (c.in_ok-step.ensures.ok c.args.profile.now here.state here.needles.floats here.represented) c.in_ok-step.ensures.kept
 
 pub returns : goal.returns
 returns c =

@@ -2,7 +2,7 @@ use Rattle.std.proofs.Common.{◌≡◌, ◌∙◌, inl, inr, refl, sym, ap, sub
 use Rattle.clap.specs.Simple.{is_simple, matches_of}
 use Rattle.clap.specs.Faults.{fault_of, is_simple_and_free}
 use Rattle.clap.specs.Matches.{found_of}
-use Rattle.command_words.specs.Grammar.{Low, High, Rack, Hold, Block, Loops, Json}
+use Rattle.command_words.specs.Grammar.{Low, High, Rack, Hold, Block, Float, Loops, Json}
 use Rattle.command_words.specs.Arguments.{check_app}
 use Rattle.command_words.proofs.Rules.{first, second, third, is_free_app, is_simple_app}
 use Rattle.command_words.proofs.Agreement.{flag_stands_is}
@@ -39,10 +39,11 @@ returns-clause-ok c =
         rack = c.get_str-3.ensures ∙ t.option Rack refl;
         hold = c.get_str-4.ensures ∙ t.option Hold refl;
         block = c.get_str-5.ensures ∙ t.option Block refl;
+        float = c.get_str-6.ensures ∙ t.option Float refl;
         loops = c.is_set.ensures ∙ t.loops ∙ flag_stands_is words t.items Loops t.spelled refl;
         json = c.is_set-2.ensures ∙ t.json ∙ flag_stands_is words t.items Json t.spelled refl;
-        first = c.get_str-6.ensures ∙ t.spot first;
-        second = c.get_str-7.ensures ∙ t.spot second;
-        third = c.get_str-8.ensures ∙ t.spot third;
+        first = c.get_str-7.ensures ∙ t.spot first;
+        second = c.get_str-8.ensures ∙ t.spot second;
+        third = c.get_str-9.ensures ∙ t.spot third;
       },
     )

@@ -12,5 +12,6 @@ returns g c =
       c.charge_each-2.ensures,
       c.charge_each-3.ensures,
       c.charge_each-4.ensures,
+      c.charge_each-5.ensures,
       c.charge_ending.ensures,
     )

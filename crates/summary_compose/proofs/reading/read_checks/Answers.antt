@@ -20,14 +20,14 @@ pub returns-then-not-ask_plain-clause-read : goal.returns-then-not-ask_plain-cla
 returns-then-not-ask_plain-clause-read c =
     reads_stop c.args.a.now c.args.b.now c.args.effect.now c.loop-i.i _ c.loop-i.kept.checks c.ask_plain.new.kept.checks c.loop-i.digest (notes_of (checks_in c.args.a.now)) c.raised-fault.result c.ask_plain.result c.requires.good c.requires.through
     c.loop-i.invariant.reads c.loop-i-test.true c.if-not-ask_plain.true c.raised-fault.ensures
-    (plain_step c.loop-i.digest (chain_at c.loop-i.kept.checks) c.args.effect.now (changes_in c.args.a.now) c.args.b.now.names.now _ c.loop-i.kept.checks c.ask_plain.new.kept.checks c.raised-fault.result c.ask_plain.result
+    (plain_step c.loop-i.digest (chain_at c.loop-i.kept.checks) c.args.effect.now c.args.a.now.lasts.now (changes_in c.args.a.now) c.args.b.now.names.now _ c.loop-i.kept.checks c.ask_plain.new.kept.checks c.raised-fault.result c.ask_plain.result
     (c.is_plain.ensures c.if-is_plain.true) c.ask_plain.ensures.step)
 
 pub loop-i-preserved : goal.loop-i-preserved
 loop-i-preserved c = record {
   reads = reads_on c.args.a.now c.args.b.now c.args.effect.now c.loop-i.i _ c.loop-i.kept.checks c.ask_plain.new.kept.checks c.loop-i.digest c.ask_plain.new.digest (notes_of (checks_in c.args.a.now)) (notes_of (checks_in c.args.a.now)) c.raised-fault.result c.ask_plain.result
       c.requires.good c.requires.through c.loop-i.invariant.reads c.loop-i-test.true c.if-not-ask_plain.false c.raised-fault.ensures
-      (plain_step c.loop-i.digest (chain_at c.loop-i.kept.checks) c.args.effect.now (changes_in c.args.a.now) c.args.b.now.names.now _ c.loop-i.kept.checks c.ask_plain.new.kept.checks c.raised-fault.result c.ask_plain.result
+      (plain_step c.loop-i.digest (chain_at c.loop-i.kept.checks) c.args.effect.now c.args.a.now.lasts.now (changes_in c.args.a.now) c.args.b.now.names.now _ c.loop-i.kept.checks c.ask_plain.new.kept.checks c.raised-fault.result c.ask_plain.result
       (c.is_plain.ensures c.if-is_plain.true) c.ask_plain.ensures.step)
       (c.ask_plain.ensures.knows (notes_of (checks_in c.args.a.now)) c.loop-i.invariant.reads.knows c.if-not-ask_plain.false);
   check_room = c.ask_plain.ensures.check_room ∙ c.loop-i.invariant.check_room;

@@ -6,8 +6,8 @@ use Rattle.face_data.specs.Spots.{IsNumbered}
 use Rattle.summary_compose.proofs.PlainFaces.{idle_good, broken_good}
 use Rattle.summary_examples.proofs.compose_tests.a_later_fault_is_raised.Goals as goal
 
-pub compose-requires-clause-good : goal.compose-requires-clause-good
-compose-requires-clause-good t c = record {
+pub composes_to-requires-clause-good : goal.composes_to-requires-clause-good
+composes_to-requires-clause-good t c = record {
   carriers = 0;
   limit = 0;
   first_known = [];

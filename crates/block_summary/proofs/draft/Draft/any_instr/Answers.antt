@@ -17,7 +17,7 @@ pub ask_all-requires-clause-carriers : goal.ask_all-requires-clause-carriers
 ask_all-requires-clause-carriers c =
     let lawful = c.requires.lawful in
     subst (λ (conds : List (Reason × Cond)). All CanBeAsked conds) (sym (ap (λ (a : InstrAsk). a.carriers) c.in_ok-ask.ensures.is))
-    (conds_can c.args.profile.now lawful.0 c.args.instr.now lawful.1 lawful.2)
+    (conds_can c.args.profile.now lawful.0 c.args.profile.now.float c.args.instr.now lawful.1 lawful.2)
 
 pub ask_all-requires-clause-slider : goal.ask_all-requires-clause-slider
 ask_all-requires-clause-slider c =
@@ -31,36 +31,36 @@ ask_all-requires-clause-sizes c =
 
 pub returns-in-Some : goal.returns-in-Some
 returns-in-Some c =
-    let hold = c.args.profile.now.hold in
+    let profile = c.args.profile.now in
     let instr = c.args.instr.now in
     let old = c.args.self.now in
     let mid = c.ask_all.new.self in
-    let is = c.in_ok-ask.ensures.is ∙ ap (instr_ask hold instr) c.contents.ensures.contents in
-    line_stops hold instr old mid c.in-Some.reason c.contents.ensures.through
-    (subst (λ (stop : Option Reason). HasAskedAll old mid (asked_by hold instr) stop) c.in-Some.is (c.in_ok-reason.ensures hold instr is))
+    let is = c.in_ok-ask.ensures.is ∙ ap (instr_ask profile instr) c.contents.ensures.contents in
+    line_stops profile instr old mid c.in-Some.reason c.contents.ensures.through
+    (subst (λ (stop : Option Reason). HasAskedAll old mid (asked_by profile instr) stop) c.in-Some.is (c.in_ok-reason.ensures profile instr is))
     ∙ (λ i. stopped_at (sym c.stop.ensures.fault i) (sym c.stop.ensures.line i))
 
 pub returns-in_ok-carry_out-in-None : goal.returns-in_ok-carry_out-in-None
 returns-in_ok-carry_out-in-None c =
-    let hold = c.args.profile.now.hold in
+    let profile = c.args.profile.now in
     let instr = c.args.instr.now in
     let old = c.args.self.now in
     let mid = c.ask_all.new.self in
-    let is = c.in_ok-ask.ensures.is ∙ ap (instr_ask hold instr) c.contents.ensures.contents in
+    let is = c.in_ok-ask.ensures.is ∙ ap (instr_ask profile instr) c.contents.ensures.contents in
     let lawful = c.requires.lawful in (
       c.in_ok-carry_out-in-None.ensures
           ∙ ap (λ (s : Summary). carried s c.in_ok-ask.ask) c.note_slider.ensures
-          ∙ line_goes c.args.profile.now lawful.0 hold instr old mid c.in_ok-ask.ask c.contents.ensures.through c.contents.ensures.rising lawful.2 is
-          (subst (λ (stop : Option Reason). HasAskedAll old mid (asked_by hold instr) stop) c.in-None.is (c.in_ok-reason.ensures hold instr is)),
+          ∙ line_goes profile lawful.0 instr old mid c.in_ok-ask.ask c.contents.ensures.through c.contents.ensures.rising lawful.2 is
+          (subst (λ (stop : Option Reason). HasAskedAll old mid (asked_by profile instr) stop) c.in-None.is (c.in_ok-reason.ensures profile instr is)),
       ap (λ (a : InstrAsk). a.formed) is,
     )
 
 pub note_slider-requires : goal.note_slider-requires
 note_slider-requires c =
-    let hold = c.args.profile.now.hold in
+    let profile = c.args.profile.now in
     let instr = c.args.instr.now in
     let old = c.args.self.now in
     let mid = c.ask_all.new.self in
-    let is = c.in_ok-ask.ensures.is ∙ ap (instr_ask hold instr) c.contents.ensures.contents in
-    some_slider_holds hold instr old mid c.forming_needle.result c.forming_needle.ensures
-    (subst (λ (stop : Option Reason). HasAskedAll old mid (asked_by hold instr) stop) c.in-None.is (c.in_ok-reason.ensures hold instr is))
+    let is = c.in_ok-ask.ensures.is ∙ ap (instr_ask profile instr) c.contents.ensures.contents in
+    some_slider_holds profile instr old mid c.forming_needle.result c.forming_needle.ensures
+    (subst (λ (stop : Option Reason). HasAskedAll old mid (asked_by profile instr) stop) c.in-None.is (c.in_ok-reason.ensures profile instr is))

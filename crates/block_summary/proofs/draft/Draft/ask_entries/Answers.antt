@@ -7,4 +7,4 @@ pub invariant_of-self-2 : goal.invariant_of-self-2
 invariant_of-self-2 c =
     let inside = c.self.inside in
     let more : Asked = record { fault = record { line = inside.lines; reason = c.args.reason }; ask = size_at_most c.args.entries.now c.args.most } in
-    kept_more inside.lines inside.made inside.kept c.keep_size.new.self inside.effect inside.symbols inside.bare more c.in_ok-keep_size.ensures.ok c.self.invariant
+    kept_more inside.lines inside.made inside.kept c.keep_size.new.self inside.effect inside.lasts.lasts inside.symbols inside.bare more c.in_ok-keep_size.ensures.ok c.self.invariant

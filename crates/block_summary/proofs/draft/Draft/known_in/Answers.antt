@@ -9,4 +9,4 @@ pub returns : goal.returns
 returns c x known =
     let inside = c.self.inside in
     subst (λ (s : Summary). HoldsAfter s (carrier_in x)) c.self.view_is
-    (carrier_held inside.kept inside.effect inside.symbols c.digest-asked.result x c.digest-asked.ensures.digest c.digest-asked.ensures.irredundant known)
+    (carrier_held inside.kept inside.effect inside.lasts.lasts inside.symbols c.digest-asked.result x c.digest-asked.ensures.digest c.digest-asked.ensures.irredundant known)

@@ -8,18 +8,18 @@ use Rattle.block_summary.proofs.draft.Draft.line.Goals as goal
 
 pub returns-in-Broken : goal.returns-in-Broken
 returns-in-Broken c =
-    let hold = c.args.profile.now.hold in
+    let profile = c.args.profile.now in
     let old = c.args.self.now in
-    ap (λ read. composed old (line_summary hold read)) c.in-Broken.is
-    ∙ broken_stops hold old c.in-Broken.reason c.stop.ensures.through
+    ap (λ read. composed old (line_summary profile read)) c.in-Broken.is
+    ∙ broken_stops profile old c.in-Broken.reason c.stop.ensures.through
     ∙ (λ i. stopped_at (sym c.stop.ensures.fault i) (sym c.stop.ensures.line i))
 
 pub returns-in-Blank : goal.returns-in-Blank
 returns-in-Blank c =
-    let hold = c.args.profile.now.hold in
+    let profile = c.args.profile.now in
     let old = c.args.self.now in
     let goes = c.pass.ensures.line ∙ nothing_goes old c.pass.ensures.through in
     elim c.in-Blank.is [
-      | inl blank ↦ (goes ∙ ap (λ read. composed old (line_summary hold read)) (sym blank), ap (λ read. loop_of_line read old.changes) (sym blank))
-      | inr comment ↦ (goes ∙ ap (λ read. composed old (line_summary hold read)) (sym comment), ap (λ read. loop_of_line read old.changes) (sym comment))
+      | inl blank ↦ (goes ∙ ap (λ read. composed old (line_summary profile read)) (sym blank), ap (λ read. loop_of_line read old.changes) (sym blank))
+      | inr comment ↦ (goes ∙ ap (λ read. composed old (line_summary profile read)) (sym comment), ap (λ read. loop_of_line read old.changes) (sym comment))
     ]
