@@ -1,9 +1,7 @@
 """What other programs may call. All of it runs the program check_main, which `find_program` finds."""
 from __future__ import annotations
 
-from dataclasses import dataclass
-from pathlib import Path
-from typing import Any
+from typing import Any, NamedTuple
 
 from .findings import Finding
 from .judge import judged
@@ -14,8 +12,7 @@ from .settings import Settings, Wishes, settings_of
 Text = str | bytes
 
 
-@dataclass(frozen=True)
-class Verdict:
+class Verdict(NamedTuple):
     """What check_main says of a text.
 
     A sound text has a `state`, how the machine stands at its end. A broken one has the `line` that breaks a rule, the
@@ -73,7 +70,7 @@ def findings(text: Text, limits: Limits | None = None, *, warn: bool = True, nam
     unless limits are given, which then hold instead of all its settings.
     """
     source = Source(name, as_bytes(text))
-    settings = settings_of(source, Path(name), Wishes()) if limits is None else Settings(limits=limits)
+    settings = settings_of(source, name, Wishes()) if limits is None else Settings(limits=limits)
     return judged(Program(find_program(), settings.limits), source, settings, warn).findings
 
 

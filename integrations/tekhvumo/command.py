@@ -12,44 +12,44 @@ from __future__ import annotations
 import argparse
 import io
 import os
-import signal
 import sys
-from dataclasses import dataclass
-from pathlib import Path
-from typing import Callable, Sequence
+from typing import TYPE_CHECKING, Callable, Sequence
 
 from .files import each_file, expanded, read_file, unreadable_file
 from .findings import Finding, Report
-from .fmt import canonical_text, formatted
 from .formats import FORMATS, as_text
 from .judge import judged
 from .lines import Source
-from .pictures import Range, drawn
 from .program import BOUNDS, Program, SetupFault, Status, find_program
 from .settings import FILE, Settings, Wishes, settings_of
 from .version import VERSION
 from .warning_names import WARNINGS
+
+# What one command alone needs is read where it is called, since reading it takes longer than checking a short file.
+if TYPE_CHECKING:
+    from .pictures import Range
 
 HELP = {
     "low": "the lowest needle (-1024)",
     "high": "the highest needle (1023)",
     "rack": "how far the beds rack, in needles (8)",
     "hold": "loops that a needle may hold (16)",
+    "float": "needle numbers from one loop of a carrier to the next (any)",
 }
 
 
-@dataclass(frozen=True)
 class Check:
     """The judging of a file, as other processes can have it, too."""
 
-    program: str
-    wishes: Wishes
-    name: str
-    is_warned: bool = False
+    def __init__(self, program: str, wishes: Wishes, name: str, is_warned: bool = False) -> None:
+        self.program = program
+        self.wishes = wishes
+        self.name = name
+        self.is_warned = is_warned
 
     def settings(self, source: Source, path: str) -> Settings:
         """What holds for a file; for standard input, as if it lay where its name says."""
-        return settings_of(source, Path(self.name if path == "-" else path), self.wishes)
+        return settings_of(source, self.name if path == "-" else path, self.wishes)
 
     def source(self, path: str) -> Source:
         """The file, under the name that findings give it."""
@@ -61,13 +61,16 @@ class Check:
         return judged(Program(self.program, settings.limits), source, settings, self.is_warned)
 
 
-@dataclass(frozen=True)
 class Format(Check):
     """The writing of a file's canonical text over it."""
 
-    only_check: bool = False
+    def __init__(self, program: str, wishes: Wishes, name: str, only_check: bool) -> None:
+        super().__init__(program, wishes, name)
+        self.only_check = only_check
 
     def __call__(self, path: str) -> Report:
+        from .fmt import formatted
+
         source = self.source(path)
         program = Program(self.program, self.settings(source, path).limits)
         return formatted(program, path, source, self.only_check)
@@ -91,9 +94,21 @@ def number(name: str, least: int, most: int) -> Callable[[str], int]:
     return read
 
 
+class Help(argparse.HelpFormatter):
+    """How help is written; argparse makes one for each option, and would read `shutil` in for the width alone."""
+
+    def __init__(self, prog: str) -> None:
+        try:
+            width = os.get_terminal_size().columns
+        except OSError:
+            width = 80
+        super().__init__(prog, width=width - 2)
+
+
 def common_parser(command: str, does: str) -> argparse.ArgumentParser:
     """The options of all commands."""
-    parser = argparse.ArgumentParser(prog=f"tekhvumo {command}".rstrip(), description=does, allow_abbrev=False)
+    name = f"tekhvumo {command}".rstrip()
+    parser = argparse.ArgumentParser(prog=name, description=does, allow_abbrev=False, formatter_class=Help)
     parser.add_argument("--version", action="version", version=f"tekhvumo {VERSION}")
     limits = parser.add_argument_group("limits of the machine", f"else those of the nearest {FILE}, or as in brackets")
     for name, (least, most) in BOUNDS.items():
@@ -135,15 +150,14 @@ def check_parser() -> argparse.ArgumentParser:
         parser.add_argument(
             option, action="append", choices=WARNINGS, default=[], metavar="NAME", help=f"{does}; as often as needed"
         )
-    parser.add_argument(
-        "--float", type=number("float", 1, 8192), metavar="N", help="needles that a yarn may float over (10)"
-    )
     parser.add_argument("--strict", action="store_true", help="warn, and end with status 1 where a warning is written")
     return parser
 
 
 def line_range(word: str) -> Range:
     """A range of lines, or what argparse says of a word that is none."""
+    from .pictures import Range
+
     try:
         return Range.of(word)
     except ValueError as trouble:
@@ -153,8 +167,6 @@ def line_range(word: str) -> Range:
 def wishes_of(options: argparse.Namespace) -> Wishes:
     """What the command line asks for."""
     numbers = {name: getattr(options, name) for name in BOUNDS if getattr(options, name) is not None}
-    if getattr(options, "float", None) is not None:
-        numbers["longest_float"] = options.float
     return Wishes(numbers, frozenset(getattr(options, "ignore", [])), frozenset(getattr(options, "also", [])))
 
 
@@ -194,6 +206,8 @@ def check_command(words: Sequence[str]) -> int:
 
 def fmt_command(words: Sequence[str]) -> int:
     """Writes canonical texts."""
+    from .fmt import canonical_text
+
     parser = many_parser(
         "fmt", "Writes the canonical text of a knitout file over it; of standard input, to standard output."
     )
@@ -201,7 +215,7 @@ def fmt_command(words: Sequence[str]) -> int:
         "--check", action="store_true", help="write nothing, and end with status 1 where a file isn't canonical"
     )
     options = parser.parse_intermixed_args(words)
-    work = Format(find_program(options.program), wishes_of(options), options.name, only_check=options.check)
+    work = Format(find_program(options.program), wishes_of(options), options.name, options.check)
     if "-" in options.files and len(options.files) > 1:
         parser.error("standard input is formatted alone")
     if options.files == ["-"] and not options.check:
@@ -217,6 +231,8 @@ def fmt_command(words: Sequence[str]) -> int:
 
 def draw_command(words: Sequence[str]) -> int:
     """Draws a program."""
+    from .pictures import drawn
+
     parser = common_parser(
         "draw", "Writes a picture of the loops that a knitout program makes, as SVG, to standard output."
     )
@@ -264,4 +280,6 @@ def main(words: Sequence[str] | None = None) -> int:
         os.dup2(os.open(os.devnull, os.O_WRONLY), sys.stdout.fileno())
         return Status.WRITE_FAULT
     except KeyboardInterrupt:
-        return Status.SIGNAL + signal.SIGINT
+        from signal import SIGINT
+
+        return Status.SIGNAL + SIGINT

@@ -3,7 +3,6 @@ from __future__ import annotations
 
 import re
 from collections import Counter
-from fractions import Fraction
 from typing import Callable, Iterator
 
 from .edits import (
@@ -21,6 +20,7 @@ from .edits import (
     written,
 )
 from .findings import Cure
+from .floats import of_float_too_long
 from .hints import Place, nearest_rack, needed_rack
 from .instructions import ACTIONS, SHAPES, instruction_of
 from .lines import CARRIERS_HEADER, Needle, needle_of, shown
@@ -173,6 +173,8 @@ def of_rack_step(place: Place) -> Candidates:
 
 
 def of_rack_limit(place: Place) -> Candidates:
+    from fractions import Fraction
+
     value = Fraction(place.culprit.text)
     for part in (10, 100):
         if (4 * value / part).denominator == 1:
@@ -279,7 +281,7 @@ def of_slider_holds(place: Place) -> Candidates:
     if facing:
         yield above(place, f"xfer {slider} {facing}")
     else:
-        rack = spelled_rack(place.state.rack)
+        rack = place.state.spelled_rack
         whole = round(place.state.rack)
         taker = Needle("b", slider.number - whole) if slider.is_front else Needle("f", slider.number + whole)
         lines = (f"rack {whole}", f"xfer {slider} {taker}", f"rack {rack}")
@@ -312,4 +314,5 @@ OF_RULES: dict[str, Callable[[Place], Candidates]] = {
     "NotAligned": of_not_aligned,
     "SliderHolds": of_slider_holds,
     "TooManyLoops": of_too_many_loops,
+    "FloatTooLong": of_float_too_long,
 }

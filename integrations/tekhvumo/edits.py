@@ -63,7 +63,7 @@ def lines_above(place: Place, *words: str) -> Iterator[tuple[int, list[str]]]:
 
 def needle_at(place: Place, number: int, at: int) -> Needle | None:
     """The needle at a place of a line, if the line has the word of the broken one."""
-    if not place.source.head_length < number <= len(place.source.pieces):
+    if not place.source.head_length < number <= place.source.length:
         return None
     tokens = place.source.tokens(number)
     return needle_of(tokens[at].text) if len(tokens) > at and tokens[0].text == place.word else None

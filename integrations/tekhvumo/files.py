@@ -3,7 +3,6 @@ from __future__ import annotations
 
 import os
 import sys
-from pathlib import Path
 from typing import Callable, Iterable, Iterator, Sequence
 
 from .findings import Report, fault
@@ -52,7 +51,7 @@ def is_worth_processes(paths: Sequence[str]) -> bool:
     """Whether the work is so much that processes save time."""
     if len(paths) < 2:
         return False
-    sizes = (Path(path).stat().st_size for path in paths if os.path.isfile(path))
+    sizes = (os.stat(path).st_size for path in paths if os.path.isfile(path))
     return len(paths) >= WORTH_FILES or sum(sizes) >= WORTH_BYTES
 
 

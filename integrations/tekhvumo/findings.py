@@ -1,7 +1,6 @@
 """Findings: what is wrong at a place of a file, and what would cure it."""
 from __future__ import annotations
 
-from dataclasses import dataclass
 from typing import NamedTuple
 
 from .lines import Source
@@ -10,8 +9,7 @@ from .lines import Source
 SUMMARIES: dict[str, str] = {}
 
 
-@dataclass(frozen=True)
-class Cure:
+class Cure(NamedTuple):
     """An edit that cures a finding: `lines` in the place of the lines `first` to `last` of the file.
 
     Where `last` is `first` - 1 no line goes, and `lines` come above line `first`.
@@ -32,8 +30,7 @@ class Cure:
         return len(self.lines) - (self.last - self.first + 1)
 
 
-@dataclass(frozen=True)
-class Finding:
+class Finding(NamedTuple):
     """What is wrong at a place: a line from 1, and columns in characters from 1, the last one behind the token.
 
     `level` is error or warning. `cures` were tried on the whole file; the first is the best.

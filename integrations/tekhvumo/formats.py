@@ -3,10 +3,7 @@ from __future__ import annotations
 
 import json
 import os
-from dataclasses import asdict
-from pathlib import Path
 from typing import Any, Callable, Sequence
-from urllib.parse import quote
 
 from .findings import SUMMARIES, Finding
 from .lines import shown
@@ -19,7 +16,8 @@ def as_text(findings: Sequence[Finding]) -> str:
 
 
 def as_json(findings: Sequence[Finding]) -> str:
-    return json.dumps([asdict(it) for it in findings], indent=1) + "\n"
+    found = [{**it._asdict(), "cures": [cure._asdict() for cure in it.cures]} for it in findings]
+    return json.dumps(found, indent=1) + "\n"
 
 
 def as_github(findings: Sequence[Finding]) -> str:
@@ -38,6 +36,13 @@ def as_github(findings: Sequence[Finding]) -> str:
 
 def as_sarif(findings: Sequence[Finding]) -> str:
     """A log of SARIF 2.1.0."""
+    from pathlib import Path
+    from urllib.parse import quote
+
+    # (which have the sentences of rules and refusals)
+    from . import hints, refusals, warning_names
+
+    del hints, refusals, warning_names
     names = sorted({it.rule for it in findings})
     rules = [{"id": name, "shortDescription": {"text": SUMMARIES.get(name, name)}} for name in names]
 

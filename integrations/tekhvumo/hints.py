@@ -1,13 +1,11 @@
 """What is said of a line that breaks a rule."""
 from __future__ import annotations
 
-from dataclasses import dataclass
-from fractions import Fraction
 from functools import cached_property
-from typing import Callable, Sequence
+from typing import Callable, Iterable, NamedTuple, Sequence
 
 from .findings import SUMMARIES
-from .instructions import SHAPES, needles_of
+from .instructions import FORMS, SHAPES, Action, instruction_of, needles_of
 from .lines import MOST_BYTES, Needle, Source, Token, listed, shown
 from .program import Broken, NotSound, Program, State, named, spelled_rack
 from .unreadable import Misfit, misfit
@@ -79,7 +77,7 @@ class Place:
     @cached_property
     def near(self) -> list[list[Token]]:
         """The tokens of the lines beside, the nearest first."""
-        begin, end = self.source.head_length + 1, len(self.source.pieces) + 1
+        begin, end = self.source.head_length + 1, self.source.length + 1
         numbers = [self.number + step * side for step in range(1, NEAR) for side in (-1, 1)]
         found = (self.source.tokens(number) for number in numbers if begin <= number < end)
         return [tokens for tokens in found if tokens]
@@ -101,8 +99,26 @@ def carriers_of(tokens: Sequence[Token]) -> list[str]:
     return [token.text for token in tokens[shape.carriers :]] if shape and shape.carriers else []
 
 
-@dataclass(frozen=True)
-class Hint:
+def next_needle(lines: Iterable[tuple[int, bytes]], name: str) -> Needle | None:
+    """Where a carrier forms a loop first in some lines; None where it comes in or goes out before, or forms none."""
+    word = name.encode()
+    for _, piece in lines:
+        words = piece.removesuffix(b"\r").partition(b";")[0].replace(b"\t", b" ").split(b" ")
+        if word in words:
+            found = instruction_of([it.decode() for it in words if it])
+            if found and name in found.carriers and found.action not in (Action.MISS, Action.RELEASE):
+                return found.needles[0] if found.action in FORMS else None
+    return None
+
+
+def last_needle(place: Place) -> Needle:
+    """Where the carrier whose float is too long formed its last loop."""
+    needle = next_needle(place.source.lines_up(place.number), place.culprit.text)
+    assert needle is not None
+    return needle
+
+
+class Hint(NamedTuple):
     """What is wrong, the cure that is said where none was found by trial, and what is said in any case."""
 
     what: str
@@ -152,7 +168,7 @@ def same_bed(place: Place) -> Hint:
     what = f"{first} and {second} lie on the same bed, and loops go over to the other"
     if facing is None:
         return Hint(what, "name a needle of the other bed")
-    return Hint(what, "", f" (at rack {spelled_rack(place.state.rack)} it is {facing} that faces {first})")
+    return Hint(what, "", f" (at rack {place.state.spelled_rack} it is {facing} that faces {first})")
 
 
 @hints("TwoSliders", "A loop would go from a slider to a slider.")
@@ -185,11 +201,15 @@ def rack_step(place: Place) -> Hint:
 
 def nearest_rack(text: str) -> str:
     """The rack in quarters that is nearest to a number."""
+    from fractions import Fraction
+
     return spelled_rack(Fraction(round(4 * Fraction(text)), 4))
 
 
 @hints("RackLimit", "A rack lies beyond the limit.")
 def rack_limit(place: Place) -> Hint:
+    from fractions import Fraction
+
     what = f"{place.name} is beyond the limit, which is {place.limits.rack} needles to either side"
     needed = -(-abs(Fraction(place.culprit.text)) // 1)
     option = f", or `--rack {needed}` where the machine racks so far" if needed <= 64 else ""
@@ -242,7 +262,7 @@ def needed_rack(first: Needle, second: Needle) -> int:
 def not_aligned(place: Place) -> Hint:
     first, second = place.needles
     needed = needed_rack(first, second)
-    what = f"{first} and {second} face each other at rack {needed}, and the rack is {spelled_rack(place.state.rack)}"
+    what = f"{first} and {second} face each other at rack {needed}, and the rack is {place.state.spelled_rack}"
     facing = place.state.facing(first)
     other = f"{facing} is what faces {first} now" if facing else ""
     if abs(needed) > place.limits.rack:
@@ -268,3 +288,13 @@ def too_many_loops(place: Place) -> Hint:
     what = f"{place.needles[-1]} would hold {total} loops, and a needle holds {place.limits.hold}"
     option = f", or `--hold {total}` where the machine bears it" if total <= 64 else ""
     return Hint(what, "knit them off first", option)
+
+
+@hints("FloatTooLong", "A carrier's loop lies farther from the one before than the limit.")
+def float_too_long(place: Place) -> Hint:
+    needle, last = place.needles[0], last_needle(place)
+    away = abs(needle.number - last.number)
+    what = f"carrier {place.name} formed its last loop on {last}, {away} numbers from {needle}"
+    option = f", or `--float {away}` where a yarn may lie loose so far"
+    cure = "form a loop with it between the two, or take it out and in again"
+    return Hint(f"{what}, and the limit is {place.limits.float}", cure, option)

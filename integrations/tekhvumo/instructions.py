@@ -2,7 +2,6 @@
 from __future__ import annotations
 
 import re
-from dataclasses import dataclass
 from enum import Enum, IntEnum
 from typing import Iterator, NamedTuple, Sequence
 
@@ -111,8 +110,7 @@ ACTIONS = {
 WITHOUT_CARRIER = {"knit": Action.DROP, "tuck": Action.NOTHING, "split": Action.MOVE, "miss": Action.NOTHING}
 
 
-@dataclass(frozen=True, slots=True)
-class Instruction:
+class Instruction(NamedTuple):
     """A readable instruction. `step` is 1 to the right and -1 to the left, `rack` a number of needles."""
 
     word: str

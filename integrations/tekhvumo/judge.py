@@ -1,13 +1,12 @@
 """The verdict on a text as findings."""
 from __future__ import annotations
 
-from .findings import Report
+from .findings import Finding, Report
 from .lines import Source
-from .mistakes import Mistakes
 from .program import Broken, Program, Status
-from .refusals import refusal
 from .settings import Settings
-from .warnings import warnings
+
+# What tells mistakes, refusals and warnings is read only for a text that has them: it takes longer than a short text.
 
 
 def judged(program: Program, source: Source, settings: Settings, is_warned: bool) -> Report:
@@ -15,11 +14,18 @@ def judged(program: Program, source: Source, settings: Settings, is_warned: bool
     answer = program.check(source.data)
     verdict = answer.verdict
     if not verdict:
+        from .refusals import refusal
+
         return Report([refusal(program, source, answer.status, answer.refusal)], answer.status)
     is_sound = answer.status == Status.SOUND
-    end = len(source.pieces) + 1 if is_sound else verdict["line"]
-    findings = warnings(source, end, is_sound, settings) if is_warned else []
+    findings: list[Finding] = []
+    if is_warned:
+        from .warnings import warnings
+
+        findings = warnings(source, source.length + 1 if is_sound else verdict["line"], is_sound, settings)
     if not is_sound:
+        from .mistakes import Mistakes
+
         first = Broken(verdict["line"], verdict["rule"], verdict["at"])
-        findings += Mistakes(program, source, settings).all(first)
+        findings += Mistakes(program, source, settings, first).all()
     return Report(findings, answer.status)

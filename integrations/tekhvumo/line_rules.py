@@ -2,19 +2,18 @@
 from __future__ import annotations
 
 import re
-from fractions import Fraction
 from typing import Sequence
 
 from .instructions import FORMS, SHAPES, Action, Instruction, instruction_of
-from .lines import Source
+from .lines import PORTION, Source
 from .program import Broken, Limits
 
 
-def broken_lines(source: Source, limits: Limits) -> list[Broken]:
-    """All lines that break one of the rules that need no state."""
+def broken_lines(source: Source, first: int, limits: Limits) -> list[Broken]:
+    """All lines from one on that break one of the rules that need no state."""
     declared = frozenset(source.declared)
-    first = source.head_length + 1
-    body = source.pieces[first - 1 :]
+    is_short = len(source.data) - source.offset(first) < PORTION
+    body = [piece for _, piece in source.lines_from(first)] if is_short else source.pieces[first - 1 :]
     found: dict[bytes, tuple[str, int]] = {}
     for piece in set(body):
         words = re.findall(r"[^ \t]+", piece.removesuffix(b"\r").decode(errors="replace").partition(";")[0])
@@ -69,6 +68,8 @@ def carrier_rule(words: Sequence[str], begin: int | None, declared: frozenset[st
 
 def rack_rule(number: str, limits: Limits) -> tuple[str, int] | None:
     """The rule of racks that a number breaks."""
+    from fractions import Fraction
+
     rack = Fraction(number)
     if (4 * rack).denominator != 1:
         return "RackStep", 1

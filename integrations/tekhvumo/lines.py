@@ -11,6 +11,9 @@ MOST_LINE_BYTES = 4096
 MOST_CARRIERS = 64
 CARRIERS_HEADER = ";;Carriers:"
 MACHINE_HEADER = ";;Machine:"
+# So many bytes are cut into lines at a time, where not all have to be; and for so many lines all are.
+PORTION = 1 << 16
+MANY = 1000
 # The line feed above the first line that is neither blank nor begins with a semicolon.
 BODY_BEGINS = re.compile(rb"\n(?!;)[ \t]*(?:[^ \t\r\n]|\r(?!\n|\Z))")
 
@@ -77,7 +80,13 @@ class Source:
     def __init__(self, name: str, data: bytes) -> None:
         self.name = name
         self.data = data
-        self.offsets = {1: 0}
+        # A line, and the place among the bytes at which it begins.
+        self.known = 1, 0
+
+    @cached_property
+    def length(self) -> int:
+        """The number of lines."""
+        return self.data.count(b"\n") + (not self.data.endswith(b"\n") and self.data != b"")
 
     @cached_property
     def pieces(self) -> list[bytes]:
@@ -85,9 +94,17 @@ class Source:
         pieces = self.data.split(b"\n")
         return pieces if pieces[-1] else pieces[:-1]
 
+    def piece(self, number: int) -> bytes:
+        """A line without its line feed, none for a line that isn't there."""
+        if "pieces" in self.__dict__:
+            return self.pieces[number - 1] if number <= len(self.pieces) else b""
+        begin = self.offset(number)
+        end = self.data.find(b"\n", begin)
+        return self.data[begin:] if end < 0 else self.data[begin:end]
+
     def raw(self, number: int) -> bytes:
         """The bytes of a line, none for a line that isn't there."""
-        piece = self.pieces[number - 1] if number <= len(self.pieces) else b""
+        piece = self.piece(number)
         return piece[:-1] if piece.endswith(b"\r") else piece
 
     def line(self, number: int) -> str:
@@ -99,13 +116,49 @@ class Source:
         return runs(self.line(number).partition(";")[0])
 
     def offset(self, number: int) -> int:
-        """The place among the bytes at which a line begins, also one behind the last."""
-        if number not in self.offsets:
-            # (asked for again and again near one line)
-            known = max(it for it in self.offsets if it < number)
-            between = sum(map(len, self.pieces[known - 1 : number - 1])) + number - known
-            self.offsets[number] = self.offsets[known] + between
-        return self.offsets[number]
+        """The place among the bytes at which a line begins; the end for one behind the last."""
+        # (asked for again and again near one line)
+        line, at = self.known
+        at = self.behind(at, number - line) if number >= line else self.before(at, line - number)
+        if at < len(self.data):
+            self.known = number, at
+        return at
+
+    def behind(self, at: int, lines: int) -> int:
+        """The place so many lines behind that at which one begins."""
+        # (a line has a byte at least, so that as many bytes don't go too far)
+        while lines > 16 and at < len(self.data):
+            at, lines = at + lines, lines - self.data.count(b"\n", at, at + lines)
+        for _ in range(lines):
+            at = self.data.find(b"\n", at) + 1 or len(self.data)
+        return min(at, len(self.data))
+
+    def before(self, at: int, lines: int) -> int:
+        """The place so many lines before that at which one begins."""
+        while lines > 16 and at > lines:
+            at, lines = at - lines, lines - self.data.count(b"\n", at - lines, at)
+        for _ in range(lines + 1):
+            at = self.data.rfind(b"\n", 0, max(0, at))
+        return at + 1
+
+    def lines_from(self, number: int) -> Iterator[tuple[int, bytes]]:
+        """The lines from one on, each with its number, without their line feeds."""
+        begin = self.offset(number)
+        while begin < len(self.data):
+            end = self.data.find(b"\n", begin + PORTION) + 1 or len(self.data)
+            pieces = self.data[begin:end].removesuffix(b"\n").split(b"\n")
+            yield from enumerate(pieces, number)
+            number, begin = number + len(pieces), end
+
+    def lines_up(self, number: int) -> Iterator[tuple[int, bytes]]:
+        """The lines above one, the nearest first, each with its number, without their line feeds."""
+        end = self.offset(number)
+        while end > 0:
+            begin = self.data.rfind(b"\n", 0, max(0, end - PORTION)) + 1
+            for piece in reversed(self.data[begin:end].removesuffix(b"\n").split(b"\n")):
+                number -= 1
+                yield number, piece
+            end = begin
 
     def lines_of(self, words: Iterable[str]) -> list[int]:
         """The lines of the body that have one of the words first."""
@@ -137,15 +190,27 @@ class Source:
 
     def with_texts(self, texts: Mapping[int, bytes]) -> Source:
         """This source with other texts for some of its lines."""
-        lines = [texts.get(number, piece) for number, piece in enumerate(self.pieces, 1)]
-        return Source(self.name, b"".join(line + b"\n" for line in lines))
+        if len(texts) > MANY:
+            lines = [texts.get(number, piece) for number, piece in enumerate(self.pieces, 1)]
+            return Source(self.name, b"\n".join([*lines, b""] if self.data.endswith(b"\n") else lines))
+        parts: list[bytes | memoryview] = []
+        end = 0
+        for number in sorted(texts):
+            begin = self.offset(number)
+            parts += [memoryview(self.data)[end:begin], texts[number]]
+            end = self.data.find(b"\n", begin)
+            end = len(self.data) if end < 0 else end
+        return Source(self.name, b"".join([*parts, memoryview(self.data)[end:]]))
 
     def with_lines(self, first: int, last: int, lines: Sequence[str]) -> Source:
         """This source with other lines in the place of the lines `first` to `last`."""
         new = "".join(f"{line}{self.line_end}" for line in lines).encode()
-        before, behind = self.data[: self.offset(first)], self.data[self.offset(last + 1) :]
+        begin, end, data = self.offset(first), self.offset(last + 1), memoryview(self.data)
         # (the last line may lack its line feed)
-        return Source(self.name, before + (b"\n" if before and before[-1:] != b"\n" else b"") + new + behind)
+        feed = b"\n" if begin and not self.data.endswith(b"\n", 0, begin) else b""
+        source = Source(self.name, b"".join([data[:begin], feed, new, data[end:]]))
+        source.known = first, begin + len(feed)
+        return source
 
     @cached_property
     def head(self) -> bytes:
@@ -165,8 +230,10 @@ class Source:
 
     def carriers_lines(self) -> list[int]:
         """The lines that begin with `;;Carriers:`, wherever they stand."""
-        key = CARRIERS_HEADER.encode()
-        return [number for number, piece in enumerate(self.pieces, 1) if piece.startswith(key)]
+        key, found, at = b"\n" + CARRIERS_HEADER.encode(), [], -1
+        while (at := self.data.find(key, at + 1)) >= 0:
+            found.append(self.data.count(b"\n", 0, at) + 2)
+        return [1, *found] if self.data.startswith(key[1:]) else found
 
     def names(self, number: int) -> list[Token]:
         """The names that a line `;;Carriers:` declares."""

@@ -20,9 +20,9 @@ from .trials import Budget, Trial, tried
 
 # So many mistakes are told of those that need a state: behind them little is certain.
 MOST_OF_STATE = 5
-# Instructions that change loops alone, and the rules that look at loops.
+# Instructions that change loops alone, and the rules that look at loops and at the yarn between them.
 LOOPS_ALONE = frozenset({"knit", "tuck", "miss", "split", "xfer", "drop", "amiss", "stitch", "pause"})
-OF_LOOPS = frozenset({"SliderHolds", "TooManyLoops"})
+OF_LOOPS = frozenset({"SliderHolds", "TooManyLoops", "FloatTooLong"})
 # So many lines that name one absent carrier or needle are one mistake, and so many of them are told by number.
 MANY_LINES = 5
 MOST_LISTED = 8
@@ -73,8 +73,9 @@ class Doubt(Enum):
 class Mistakes:
     """The mistakes of a file, one after another."""
 
-    def __init__(self, program: Program, source: Source, settings: Settings) -> None:
+    def __init__(self, program: Program, source: Source, settings: Settings, first: Broken) -> None:
         self.program = program
+        self.first = first
         self.file = source
         self.settings = settings
         self.budget = Budget(len(source.data))
@@ -83,13 +84,13 @@ class Mistakes:
         self.doubts: set[Doubt] = set()
         # What the draft breaks since its last cure.
         self.fault_behind: Broken | None = None
-        # Lines that break a rule by themselves, by mistakes, in the order of the file.
-        self.alone = grouped(source, broken_lines(source, program.limits))
+        # Lines that break a rule by themselves, by mistakes, in the order of the file; those above the first fault run.
+        self.alone = grouped(source, broken_lines(source, first.line, program.limits))
 
-    def all(self, first: Broken) -> list[Finding]:
+    def all(self) -> list[Finding]:
         """The findings of a file whose first fault is known."""
         self.blank(self.alone)
-        fault = self.program.fault(self.draft.source.data) if self.alone else first
+        fault = self.program.fault(self.draft.source.data) if self.alone else self.first
         of_state = 0
         while True:
             if fault and (of_state == MOST_OF_STATE or not self.is_certain(fault)):
@@ -114,13 +115,15 @@ class Mistakes:
     def blank(self, groups: list[list[Broken]]) -> None:
         """Leaves lines out of the draft."""
         numbers = [self.draft.here(broken.line) for group in groups for broken in group]
-        self.draft.source = self.draft.source.with_texts(dict.fromkeys(numbers, b""))
+        if numbers:
+            self.draft.source = self.draft.source.with_texts(dict.fromkeys(numbers, b""))
 
     def restore(self, groups: list[list[Broken]]) -> None:
         """Puts lines into the draft again."""
         lines = [broken.line for group in groups for broken in group]
-        texts = {self.draft.here(line): self.file.pieces[line - 1] for line in lines}
-        self.draft.source = self.draft.source.with_texts(texts)
+        if lines:
+            texts = {self.draft.here(line): self.file.piece(line) for line in lines}
+            self.draft.source = self.draft.source.with_texts(texts)
 
     def line_alone(self, group: list[Broken]) -> bool:
         """Tells a mistake of lines that break a rule by themselves, and whether it was cured in the draft."""

@@ -3,16 +3,13 @@ from __future__ import annotations
 
 import json
 import os
-import shutil
-import subprocess
-from dataclasses import asdict, dataclass, fields
 from enum import IntEnum
-from fractions import Fraction
-from functools import cached_property
-from pathlib import Path
-from typing import Any, Mapping, NamedTuple, Sequence
+from typing import TYPE_CHECKING, Any, Mapping, NamedTuple, Sequence
 
 from .lines import Needle, Source, needle_of
+
+if TYPE_CHECKING:
+    from fractions import Fraction
 
 
 class Status(IntEnum):
@@ -38,30 +35,43 @@ class NotSound(ValueError):
     """A text has no state and no loops to tell, as it is refused, or breaks a rule too early."""
 
 
-BOUNDS = {"low": (-4096, 4096), "high": (-4096, 4096), "rack": (0, 64), "hold": (1, 64)}
+BOUNDS = {"low": (-4096, 4096), "high": (-4096, 4096), "rack": (0, 64), "hold": (1, 64), "float": (1, 8192)}
 
 
-@dataclass(frozen=True)
-class Limits:
+class LimitValues(NamedTuple):
+    """The limits, lawful or not."""
+
+    low: int
+    high: int
+    rack: int
+    hold: int
+    float: int | None
+
+
+class Limits(LimitValues):
     """What the machine has: its lowest and highest needle, how far the beds rack, the loops that a needle may hold.
 
-    An unknown name is a TypeError, a value that is out of bounds a SetupFault.
+    `float` says how many needle numbers a carrier's loop may lie from the one before it; None is no limit. An unknown
+    name is a TypeError, a value that is out of bounds a SetupFault.
     """
 
-    low: int = -1024
-    high: int = 1023
-    rack: int = 8
-    hold: int = 16
+    __slots__ = ()
 
-    def __post_init__(self) -> None:
-        for name, (least, most) in BOUNDS.items():
-            value = getattr(self, name)
+    def __new__(
+        cls, low: int = -1024, high: int = 1023, rack: int = 8, hold: int = 16, float: int | None = None
+    ) -> Limits:
+        limits = super().__new__(cls, low, high, rack, hold, float)
+        for name, value in limits._asdict().items():
+            least, most = BOUNDS[name]
+            if value is None and name == "float":
+                continue
             if isinstance(value, bool) or not isinstance(value, int):
                 raise SetupFault(f"{name} is a whole number, not {value!r}")
             if not least <= value <= most:
                 raise SetupFault(f"{name} is {least} to {most}, not {value}")
-        if self.low > self.high:
-            raise SetupFault(f"the lowest needle, {self.low}, lies above the highest, {self.high}")
+        if low > high:
+            raise SetupFault(f"the lowest needle, {low}, lies above the highest, {high}")
+        return limits
 
     @classmethod
     def of(cls, given: Mapping[str, int]) -> Limits:
@@ -71,14 +81,16 @@ class Limits:
                 raise SetupFault(f"{name} is no limit; there are {', '.join(BOUNDS)}")
         return cls(**given)
 
+    def having(self, given: Mapping[str, int]) -> Limits:
+        """These limits, but for the values that are given."""
+        return self.of({**self._asdict(), **given})
+
     def words(self) -> list[str]:
         """The options of check_main for the limits that aren't the usual ones."""
-        usual = {field.name: field.default for field in fields(self)}
-        return [f"--{name}={value}" for name, value in asdict(self).items() if value != usual[name]]
+        return [f"--{name}={value}" for name, value, usual in zip(self._fields, self, Limits()) if value != usual]
 
 
-@dataclass(frozen=True)
-class Loop:
+class Loop(NamedTuple):
     """A loop that was made, its direction as + or -, with the lines of the loops that it was pulled through."""
 
     line: int
@@ -101,15 +113,14 @@ def named(spelled: str) -> Needle:
     return needle
 
 
-@dataclass(frozen=True)
-class Answer:
+class Answer(NamedTuple):
     """What check_main says of a text: its status, and its verdict, or the words with which it refuses the text."""
 
     status: int
     verdict: dict[str, Any]
     refusal: str
 
-    @cached_property
+    @property
     def loops(self) -> list[Loop]:
         """The loops made, in the order of lines, if they were asked for."""
         return [Loop.of(made) for made in self.verdict.get("made_loops", [])]
@@ -123,14 +134,13 @@ class Broken(NamedTuple):
     at: int
 
 
-@dataclass(frozen=True)
-class State:
+class State(NamedTuple):
     """The machine as a sound text leaves it.
 
     `needles` has, for each needle that holds loops, the lines that made them; `made` is the number of loops made.
     """
 
-    rack: Fraction
+    spelled_rack: str
     carriers: tuple[str, ...]
     hook: tuple[str, ...]
     needles: Mapping[Needle, tuple[int, ...]]
@@ -140,9 +150,14 @@ class State:
     def of(cls, verdict: Mapping[str, Any]) -> State:
         """The state that a sound verdict tells."""
         needles = {named(it["needle"]): tuple(it["loops"]) for it in verdict["needles"]}
-        return cls(
-            Fraction(verdict["rack"]), tuple(verdict["in"]), tuple(verdict["hook"]), needles, int(verdict["made"])
-        )
+        return cls(verdict["rack"], tuple(verdict["in"]), tuple(verdict["hook"]), needles, int(verdict["made"]))
+
+    @property
+    def rack(self) -> Fraction:
+        """How far the beds are racked, in needles."""
+        from fractions import Fraction
+
+        return Fraction(self.spelled_rack)
 
     def on(self, needle: Needle) -> tuple[int, ...]:
         """The lines of the loops on a needle."""
@@ -150,17 +165,32 @@ class State:
 
     def facing(self, needle: Needle) -> Needle | None:
         """The hook that faces a needle, or None where the rack lies between two."""
-        if self.rack.denominator != 1:
+        if "." in self.spelled_rack:
             return None
-        rack = int(self.rack)
+        rack = int(self.spelled_rack)
         return Needle("b", needle.number - rack) if needle.is_front else Needle("f", needle.number + rack)
 
 
 def spelled_rack(rack: Fraction) -> str:
     """The canonical spelling of a rack in quarters."""
-    whole, rest = divmod(abs(rack), 1)
-    quarters = {Fraction(0): "", Fraction(1, 4): ".25", Fraction(1, 2): ".5", Fraction(3, 4): ".75"}[rest]
-    return f"{'-' if rack < 0 else ''}{whole}{quarters}"
+    whole, rest = divmod(abs(4 * rack), 4)
+    return f"{'-' if rack < 0 else ''}{whole}{('', '.25', '.5', '.75')[int(rest)]}"
+
+
+def answer_to(words: Sequence[str], text: bytes) -> tuple[int, bytes]:
+    """The exit status of a program, or less than 0 for a signal, and its output, for a text as its standard input.
+
+    Both are files in memory: a pipe would take a long text in a thousand pieces, and `subprocess` long to be read in.
+    """
+    with open(os.memfd_create("text"), "w+b", 0) as given, open(os.memfd_create("answer"), "w+b", 0) as taken:
+        rest = memoryview(text)
+        while rest:
+            rest = rest[given.write(rest) :]
+        given.seek(0)
+        streams = [(os.POSIX_SPAWN_DUP2, given.fileno(), 0), (os.POSIX_SPAWN_DUP2, taken.fileno(), 1)]
+        _, ended = os.waitpid(os.posix_spawnp(words[0], words, os.environ, file_actions=streams), 0)
+        taken.seek(0)
+        return os.waitstatus_to_exitcode(ended), taken.read()
 
 
 class Program:
@@ -175,12 +205,12 @@ class Program:
         """Its status and its output for words and a text."""
         self.runs += 1
         try:
-            ran = subprocess.run([self.path, *words], input=text, stdout=subprocess.PIPE, check=False)
+            status, output = answer_to([self.path, *words], text)
         except OSError as trouble:
             raise SetupFault(f"{self.path}: {trouble.strerror}") from trouble
-        if ran.returncode == Status.USAGE:
+        if status == Status.USAGE:
             raise SetupFault(f"{self.path} refuses its options: {' '.join(words)}")
-        return (ran.returncode if ran.returncode >= 0 else Status.SIGNAL - ran.returncode), ran.stdout
+        return (status if status >= 0 else Status.SIGNAL - status), output
 
     def check(self, text: bytes, loops: bool = False) -> Answer:
         """The verdict on a text, or why it is refused."""
@@ -216,11 +246,14 @@ class Program:
 
 def find_program(given: str | None = None) -> str:
     """Where check_main is: as given, by the environment, in this package, on the PATH, or built in its repository."""
-    here = Path(__file__).resolve().parent
-    within = here / "bin" / "check_main"
-    built = here.parent.parent / "crates" / "check_main" / "out" / "check_main"
-    found = given or os.environ.get("TEKHVUMO_PROGRAM") or (str(within) if within.is_file() else None)
-    found = found or shutil.which("check_main") or (str(built) if built.is_file() else None)
-    if found is None:
-        raise SetupFault("check_main isn't on the PATH; put it there, or name it by --program or TEKHVUMO_PROGRAM")
-    return found
+    named = given or os.environ.get("TEKHVUMO_PROGRAM")
+    if named:
+        return named
+    here = os.path.dirname(os.path.realpath(__file__))
+    built = os.path.join(here, "..", "..", "crates", "check_main", "out")
+    on_path = os.environ.get("PATH", os.defpath).split(os.pathsep)
+    for folder in (os.path.join(here, "bin"), *on_path, os.path.normpath(built)):
+        path = os.path.join(folder, "check_main")
+        if os.path.isfile(path) and os.access(path, os.X_OK):
+            return path
+    raise SetupFault("check_main isn't on the PATH; put it there, or name it by --program or TEKHVUMO_PROGRAM")

@@ -1,10 +1,9 @@
 """What holds for a file: its machine's limits and what is warned of, from `.tekhvumo.toml` and the command line."""
 from __future__ import annotations
 
-from dataclasses import dataclass, field, replace
+import os
 from functools import lru_cache
-from pathlib import Path
-from typing import Any, Mapping
+from typing import Any, Mapping, NamedTuple
 
 from .lines import Source
 from .program import BOUNDS, Limits, SetupFault
@@ -13,32 +12,37 @@ from .warning_names import WARNINGS
 FILE = ".tekhvumo.toml"
 # Machines by the name that `;;Machine:` gives, with the needles of a bed.
 PRESETS: dict[str, dict[str, int]] = {"SWG091N2": {"width": 540}, "Kniterate": {"width": 252}}
-MEASURES = {"longest_float": 10, "hook_courses": 16, "width": 0}
+MEASURES = ("longest_float", "hook_courses", "width")
+USUAL_FLOAT = 10
 # Lawful ways to cast on and the like, of which one is told who asks for it.
 UNASKED = frozenset({"KnitCastOn"})
 
 
-@dataclass(frozen=True)
-class Settings:
+class Settings(NamedTuple):
     """What holds for one file.
 
-    `longest_float` is in needles, `hook_courses` says how many the hook may hold a yarn, `width` has the needles of a
-    bed or 0 where that isn't known, and `silent` the warnings that are left out.
+    `longest_float` is in needles, where it is asked for, `hook_courses` says how many the hook may hold a yarn, `width`
+    has the needles of a bed or 0 where that isn't known, and `silent` the warnings that are left out.
     """
 
     limits: Limits = Limits()
-    longest_float: int = MEASURES["longest_float"]
-    hook_courses: int = MEASURES["hook_courses"]
-    width: int = MEASURES["width"]
+    longest_float: int | None = None
+    hook_courses: int = 16
+    width: int = 0
     silent: frozenset[str] = UNASKED
     machine: str = ""
 
+    @property
+    def unwarned_float(self) -> int:
+        """How many needles a yarn may go over without a warning: as asked, else as the limit says, else ten."""
+        usual = USUAL_FLOAT if self.limits.float is None else self.limits.float
+        return usual if self.longest_float is None else self.longest_float
 
-@dataclass(frozen=True)
-class Wishes:
+
+class Wishes(NamedTuple):
     """What a settings file or the command line asks for; where several do, the later one holds."""
 
-    numbers: Mapping[str, int] = field(default_factory=dict)
+    numbers: Mapping[str, int] = {}
     ignored: frozenset[str] = frozenset()
     asked: frozenset[str] = frozenset()
 
@@ -47,18 +51,17 @@ class Wishes:
         limits = {name: value for name, value in self.numbers.items() if name in BOUNDS}
         measures = {name: value for name, value in self.numbers.items() if name in MEASURES}
         silent = (settings.silent | self.ignored) - self.asked
-        return replace(settings, limits=replace(settings.limits, **limits), silent=silent, **measures)
+        return settings._replace(limits=settings.limits.having(limits), silent=silent, **measures)
 
 
-@dataclass(frozen=True)
-class SettingsFile:
+class SettingsFile(NamedTuple):
     """A file `.tekhvumo.toml`: what holds for all files, and more for those of a machine."""
 
     wishes: Wishes = Wishes()
-    machines: Mapping[str, Wishes] = field(default_factory=dict)
+    machines: Mapping[str, Wishes] = {}
 
 
-def settings_of(source: Source, path: Path, command_line: Wishes) -> Settings:
+def settings_of(source: Source, path: str, command_line: Wishes) -> Settings:
     """What holds for a source: the machine's preset, the settings file above `path`, the command line."""
     file = settings_above(path)
     machine = source.machine
@@ -69,23 +72,25 @@ def settings_of(source: Source, path: Path, command_line: Wishes) -> Settings:
     return command_line.upon(settings)
 
 
-def settings_above(path: Path) -> SettingsFile:
+def settings_above(path: str) -> SettingsFile:
     """The nearest settings file in the folder of a file or above it, or none."""
-    folder = path.absolute().parent
-    for place in (folder, *folder.parents):
-        if (place / FILE).is_file():
-            return read_settings(place / FILE)
+    folder = os.path.abspath(path)
+    while folder != os.path.dirname(folder):
+        folder = os.path.dirname(folder)
+        if os.path.isfile(os.path.join(folder, FILE)):
+            return read_settings(os.path.join(folder, FILE))
     return SettingsFile()
 
 
 @lru_cache
-def read_settings(path: Path) -> SettingsFile:
+def read_settings(path: str) -> SettingsFile:
     """The settings of a file; SetupFault where it is wrong."""
     # (read only where there is such a file)
     import tomllib
 
     try:
-        tables = tomllib.loads(path.read_text(encoding="utf-8"))
+        with open(path, "rb") as file:
+            tables = tomllib.load(file)
     except (OSError, ValueError) as trouble:
         raise SetupFault(f"{path}: {trouble}") from trouble
     machines = tables.pop("machine", {})
@@ -95,7 +100,7 @@ def read_settings(path: Path) -> SettingsFile:
     return SettingsFile(wishes, {name: wishes_of(path, table) for name, table in machines.items()})
 
 
-def wishes_of(path: Path, table: Any) -> Wishes:
+def wishes_of(path: str, table: Any) -> Wishes:
     """The wishes of a table."""
     if not isinstance(table, dict):
         raise SetupFault(f"{path}: a machine's settings are a table")
@@ -113,7 +118,7 @@ def wishes_of(path: Path, table: Any) -> Wishes:
     return Wishes(numbers, names["ignore"], names["also"])
 
 
-def warning_names(path: Path, name: str, value: Any) -> frozenset[str]:
+def warning_names(path: str, name: str, value: Any) -> frozenset[str]:
     """The warnings that a list names."""
     if not isinstance(value, list) or not all(isinstance(it, str) for it in value):
         raise SetupFault(f"{path}: {name} is a list of warnings")

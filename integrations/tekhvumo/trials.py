@@ -1,15 +1,12 @@
 """Cures, each tried on the whole file: the best is the one with which it runs furthest, then the least change."""
 from __future__ import annotations
 
-from dataclasses import dataclass
-from difflib import SequenceMatcher
-
+from typing import NamedTuple
 from .cures import candidates
 from .findings import Cure
 from .hints import Place
 from .program import Broken
 from .settings import Settings
-from .warnings import spots
 
 # The runs of check_main that one file may cost, and how much text they may read: a long file gets fewer.
 MOST_RUNS = 48
@@ -32,8 +29,7 @@ class Budget:
         return self.left >= 0
 
 
-@dataclass(frozen=True)
-class Trial:
+class Trial(NamedTuple):
     """A cure, how far the file runs with it, and the fault that is next."""
 
     cure: Cure
@@ -63,7 +59,7 @@ def tried(place: Place, last: int, settings: Settings, budget: Budget) -> list[T
         is_last = is_last_resort(place, trial.cure)
         return -trial.reaches, is_last, warnings, change(place, trial.cure), trial.order
 
-    return sorted(found, key=rank)[:MOST_CURES]
+    return sorted(found, key=rank)[:MOST_CURES] if len(found) > 1 else found
 
 
 def is_last_resort(place: Place, cure: Cure) -> bool:
@@ -86,6 +82,8 @@ def reach(broken: Broken | None, cure: Cure) -> int:
 
 def change(place: Place, cure: Cure) -> float:
     """How much a cure changes."""
+    from difflib import SequenceMatcher
+
     old = [place.source.line(number) for number in range(cure.first, cure.last + 1)]
     if not old:
         if is_usual_rack(place, cure):
@@ -111,6 +109,8 @@ def is_usual_rack(place: Place, cure: Cure) -> bool:
 
 def warned(place: Place, trial: Trial, settings: Settings) -> int:
     """How many warnings the file has with a cure, as far as it runs; what is left at the end says little of a cure."""
+    from .warnings import spots
+
     source = trial.cure.of(place.source)
-    end = len(source.pieces) + 1 if trial.reaches == BEYOND_ALL else trial.reaches + trial.cure.grows
+    end = source.length + 1 if trial.reaches == BEYOND_ALL else trial.reaches + trial.cure.grows
     return len(spots(source, end, False, settings))

@@ -1,7 +1,6 @@
 """Which word of a line that doesn't read is wrong, what it should be, and how the line would read then."""
 from __future__ import annotations
 
-import difflib
 import re
 import unicodedata
 from typing import NamedTuple, Sequence
@@ -107,7 +106,9 @@ def no_instruction(text: str, tokens: Sequence[Token]) -> Misfit:
                 return Misfit(token, f"{said}; a blank is missing: `{low[:end]} {shown(rest)}`", meant)
     if f"x-{low}" in EXTENSIONS:
         return Misfit(token, f"{said}; did you mean `x-{low}`?", meant_of(text, token, f"x-{low}"))
-    close = difflib.get_close_matches(low, [*SHAPES, *EXTENSIONS], 3, 0.6)
+    from difflib import get_close_matches
+
+    close = get_close_matches(low, [*SHAPES, *EXTENSIONS], 3, 0.6)
     if not close:
         return Misfit(token, said)
     instead = tuple(line for it in close for line in meant_of(text, token, it))

@@ -34,10 +34,13 @@ class Calls(unittest.TestCase):
     def test_limits_refuse_what_is_none(self) -> None:
         with self.assertRaises(TypeError):
             Limits(hig=5)
-        for given in ({"hig": 5}, {"high": 4097}, {"hold": 0}, {"low": 3, "high": 2}, {"rack": 1.5}, {"rack": True}):
+        bad_numbers = {"rack": 1.5}, {"rack": True}, {"float": 0}
+        for given in ({"hig": 5}, {"high": 4097}, {"hold": 0}, {"low": 3, "high": 2}, *bad_numbers):
             with self.subTest(given), self.assertRaises(SetupFault):
                 Limits.of(given)
         self.assertEqual(check(body("drop f6"), Limits(high=5)).rule, "OffBed")
+        self.assertEqual(check(body("in 1; tuck + f1 1; tuck + f5 1"), Limits(float=3)).rule, "FloatTooLong")
+        self.assertTrue(check(body("in 1; tuck + f1 1; tuck + f5 1")).is_sound)
 
     def test_findings_have_cures_and_warnings(self) -> None:
         [finding] = findings(BROKEN, name="scarf.k")

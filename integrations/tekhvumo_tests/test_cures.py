@@ -98,6 +98,20 @@ class AllMistakes(Case):
         self.assertEqual([(it["line"], it["rule"]) for it in found], [(3, "CarrierIsOut"), (8, "NotAligned")])
         self.assertEqual([(cure["first"], cure["last"]) for cure in found[1]["cures"][:2]], [(8, 8), (8, 8)])
 
+    def test_a_float_is_cut_where_the_file_has_cut_one(self) -> None:
+        lines = "inhook 1; tuck + f1 1; releasehook 1; out 1; in 1; tuck + f30 1; tuck + f31 1; tuck - f1 1; out 1"
+        [finding] = self.findings("--float", "5", "-", given=body(lines))
+        self.assertEqual([cure["lines"] for cure in finding["cures"]], [["out 1", "in 1"], []])
+
+    def test_a_carrier_that_the_lines_beside_have_makes_no_float(self) -> None:
+        lines = "in 1 2; tuck + f1 2; tuck + f7 1; tuck + f8 2; tuck + f9 1; out 1 2"
+        [finding] = self.findings("--float", "4", "-", given=body(lines))
+        self.assertEqual(finding["cures"][0]["title"], "write `1` for `2`")
+
+    def test_a_float_behind_a_loop_that_is_left_out_is_not_told(self) -> None:
+        lines = "in 1; tuck + f1 1; tuck + b3 1; xfer b3 fs3; tuck + f3 1; tuck + f5 1; drop fs3; out 1"
+        self.assertEqual(self.rules(lines, "--float", "2"), [(7, "SliderHolds")])
+
     def test_refused_heads_have_cures(self) -> None:
         heads = (";!knitout 2", ";;Carriers: 1"), (f"\ufeff{MAGIC}", ";;Carriers: 1"), (MAGIC, ";; Carriers: 1")
         for first, second in heads:

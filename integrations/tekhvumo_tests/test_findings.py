@@ -68,7 +68,17 @@ RULES = [
         ("--hold", "2"),
     ),
     Row("TooManyLoops", "in 1; tuck + f1 1; tuck + b1 1; xfer f1 b1", 9, "b1 would hold 2 loops", ("--hold", "1")),
+    Row(
+        "FloatTooLong",
+        "in 1; knit + f1 1; knit + b9 1",
+        11,
+        "last loop on f1, 8 numbers from b9, and the limit is 5; `tuck + b5 1` above this line, or `--float 8`",
+        ("--float", "5"),
+    ),
+    Row("FloatTooLong", "in 1 2; tuck - f9 2; tuck - f4 1; tuck - f3 1 2", 13, "f9, 6 numbers", ("--float", "5")),
 ]
+
+
 class Rules(Case):
     def found(self) -> list[tuple[Row, dict]]:
         """Each row with its one finding, from one run for the rows with the same options."""
@@ -106,7 +116,7 @@ class Rules(Case):
     def test_the_option_of_a_hint_cures_its_rule(self) -> None:
         for row, finding in self.found():
             option = re.search(r"`--(\w+)[ =](-?[0-9]+)`", finding["message"])
-            self.assertEqual(option is not None, row.rule in ("OffBed", "RackLimit", "TooManyLoops"))
+            self.assertEqual(option is not None, row.rule in ("OffBed", "RackLimit", "TooManyLoops", "FloatTooLong"))
             if option:
                 with self.subTest(row.lines):
                     ran = self.run_command("check_main", "check", f"--{option[1]}={option[2]}", given=body(row.lines))

@@ -47,7 +47,7 @@ class Formats(Case):
 
     def test_each_rule_and_warning_is_explained(self) -> None:
         rules = re.findall(r"^#### (\w+)$", (TOP / "docs" / "MODEL.md").read_text(), re.M)
-        self.assertEqual(len(rules), 17)
+        self.assertEqual(len(rules), 18)
         self.assertEqual(set(rules), set(HINTS))
         self.assertLessEqual({*rules, *WARNINGS, *OF_FILES}, set(SUMMARIES))
 

@@ -25,10 +25,10 @@ class SettingsFiles(Case):
             self.assertEqual([it["rule"] for it in given], found)
 
     def test_the_command_line_goes_first(self) -> None:
-        self.write(".tekhvumo.toml", "high = 5\nlongest_float = 3\nignore = ['CarrierLeftIn']\n")
+        self.write(".tekhvumo.toml", "high = 5\nfloat = 3\nignore = ['CarrierLeftIn']\n")
         self.write("a.k", body("in 1; tuck + f1 1; tuck + f6 1"))
         self.assertEqual(self.rules("a.k"), ["OffBed"])
-        self.assertEqual(self.rules("--high", "6", "a.k"), ["LongFloat"])
+        self.assertEqual(self.rules("--high", "6", "a.k"), ["FloatTooLong"])
         self.assertEqual(self.rules("--high", "6", "--float", "9", "--also", "CarrierLeftIn", "a.k"), ["CarrierLeftIn"])
 
     def test_machines(self) -> None:
@@ -39,11 +39,16 @@ class SettingsFiles(Case):
         self.assertEqual(self.rules("--float", "999", "b.k"), [])
         self.write(".tekhvumo.toml", "longest_float = 999\n[machine.Kniterate]\nwidth = 253\nhigh = 252\n")
         self.assertEqual(self.rules("a.k", "b.k"), ["OffBed"])
+        self.write("near/.tekhvumo.toml", "longest_float = 999\n[machine.Kniterate]\nwidth = 253\nfloat = 251\n")
+        self.write("near/a.k", KNITERATE + lines)
+        self.write("near/b.k", HEAD + lines)
+        self.assertEqual(self.rules("near/a.k", "near/b.k"), ["FloatTooLong"])
 
     def test_what_is_no_setting(self) -> None:
         self.write("a.k", SOUND)
         for text, said in (
-            ("hig = 5", "hig is no setting; there are low, high, rack, hold, longest_float"),
+            ("hig = 5", "hig is no setting; there are low, high, rack, hold, float, longest_float"),
+            ("float = 0", "float is 1 to 8192, not 0"),
             ("high = 'x'", "high is a whole number, not 'x'"),
             ("high = 5000", "high is -4096 to 4096, not 5000"),
             ("low = 9\nhigh = 3", "the lowest needle, 9, lies above the highest, 3"),
@@ -63,3 +68,8 @@ class SettingsFiles(Case):
         self.write("a.k", body("drop f06"))
         self.assertEqual(self.tekhvumo("fmt", "--check", "a.k"), (0, ""))
         self.assertIn("OffBed", self.tekhvumo("draw", "a.k")[1])
+        self.write("a.k", body("in 1; tuck + f1 1; tuck + f5 1"))
+        for words, status in ((["--float", "3"], 1), (["--float", "4"], 0)):
+            self.assertEqual(self.tekhvumo("fmt", "--check", *words, "a.k"), (0, ""))
+            self.assertEqual(self.tekhvumo("draw", *words, "a.k")[0], 0)
+            self.assertEqual("FloatTooLong" in self.told, status == 1)

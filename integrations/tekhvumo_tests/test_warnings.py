@@ -87,8 +87,20 @@ class Warnings(Case):
     def test_a_float_is_as_long_as_one_says(self) -> None:
         lines = "in 1; tuck + f1 1; tuck + f9 1; knit - f9 1; knit - f1 1; out 1"
         self.assertEqual(self.places("--warn", lines=lines), [])
-        found = self.places("--warn", "--float", "7", lines=lines)
-        self.assertEqual(found, [(5, 11, "LongFloat"), (7, 11, "LongFloat")])
+        self.write(".tekhvumo.toml", "longest_float = 7")
+        found = [(5, 11, "LongFloat"), (7, 11, "LongFloat")]
+        self.assertEqual(self.places("--warn", lines=lines), found)
+        self.assertEqual(self.places("--warn", "--float", "8", lines=lines), found)
+
+    def test_a_float_within_the_limit_is_no_long_one(self) -> None:
+        lines = "in 1; tuck + f1 1; tuck + f20 1; knit - f20 1; knit - f1 1; out 1"
+        self.assertEqual(self.places("--warn", lines=lines), [(5, 12, "LongFloat"), (7, 11, "LongFloat")])
+        self.assertEqual(self.places("--warn", "--float", "19", lines=lines), [])
+
+    def test_a_float_beyond_the_limit_is_told_once(self) -> None:
+        lines = "in 1; tuck + f1 1; tuck + f20 1; knit - f20 1; knit - f1 1; out 1"
+        found = self.findings("--warn", "--float", "18", "-", given=body(lines))
+        self.assertEqual([(it["line"], it["rule"]) for it in found], [(5, "FloatTooLong"), (7, "FloatTooLong")])
 
     def test_loops_are_where_check_main_has_them(self) -> None:
         program = Program(find_program())

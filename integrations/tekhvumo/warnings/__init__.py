@@ -17,7 +17,7 @@ def watchers(machine: Machine, settings: Settings) -> list[Watcher]:
         ForgottenCarriers(machine),
         EmptyNeedles(machine),
         FacingNeedles(machine),
-        Yarns(machine, settings.longest_float),
+        Yarns(machine, settings.unwarned_float),
         Hook(machine, settings.hook_courses),
         Ends(machine),
     ]

@@ -1,8 +1,6 @@
 """Warnings of yarns: floats, carriers that are behind or unused, a hook held for long."""
 from __future__ import annotations
 
-from dataclasses import dataclass
-
 from ..instructions import FORMS, SHAPES, Action, Instruction
 from ..lines import listed, shown
 from .machine import Machine, Watcher
@@ -11,17 +9,19 @@ from .machine import Machine, Watcher
 USUAL_DISTANCE = 3
 
 
-@dataclass(slots=True)
 class Carrier:
     """Where a carrier is, and since its last loop."""
 
-    line: int
-    at: int
-    x: float | None = None
-    step: int = 0
-    line_here: int = 0
-    stitch: float | None = None
-    stitch_line: int = 0
+    __slots__ = ("line", "at", "x", "step", "line_here", "stitch", "stitch_line")
+
+    def __init__(self, line: int, at: int) -> None:
+        self.line = line
+        self.at = at
+        self.x: float | None = None
+        self.step = 0
+        self.line_here = 0
+        self.stitch: float | None = None
+        self.stitch_line = 0
 
     def is_far(self, x: float) -> bool:
         """Whether a place isn't beside the carrier, or not beside its last loop."""
