@@ -40,6 +40,22 @@ impl<T: Drop> ListOf<T> {
         Ok(ListOf { items })
     }
 
+    /// The list of these items.
+    pub fn of(items: Vec<T>) -> Self
+        requires { length items.items < 2 ^ 32 }
+        ensures { result ≡ items.items }
+    {
+        ListOf { items }
+    }
+
+    /// The items, in a vector.
+    pub fn into_vec(self) -> Vec<T>
+        ensures items { result.items ≡ self }
+        ensures small { length self < 2 ^ 32 }
+    {
+        self.items
+    }
+
     /// Appends an item.
     pub fn push(&mut self, item: T) -> Result<(), NoMemory>
         requires { length self.old < 2 ^ 32 - 1 }

@@ -1,5 +1,5 @@
 -- The head of a file: its magic line and its headers.
-use Rattle.std.specs.Prelude.{◌≡◌, ℕ, ◌+◌, ◌<◌, Bool, true, false, ◌||◌, ◌&&◌, nat_eq, nat_lt, List, [], ◌∷◌, length, take, drop, Result, Ok, Err, codes, if◌then◌else◌}
+use Rattle.std.specs.Prelude.{◌≡◌, ℕ, ◌+◌, ◌<◌, Bool, true, false, ◌||◌, ◌&&◌, nat_eq, nat_lt, List, [], ◌∷◌, length, take, drop, Option, Some, None, Result, Ok, Err, codes, if◌then◌else◌}
 use Rattle.std.specs.List.{starts_with, prefix_len, list_any, list_all}
 use Rattle.std.specs.Str.{bytes_eq, is_utf8}
 use Rattle.knit_base.specs.Lines.{HasNoLineEnd}
@@ -61,6 +61,15 @@ has_name_twice (name ∷ names) = list_any (bytes_eq name) names || has_name_twi
 abbrev pub names_declared : CarriersHeader → Result (List (List ℕ)) HeadFault
 names_declared header =
     if has_name_twice header.names then Err (CarrierNameTwice header.line) else (if nat_lt 64 (length header.names) then Err (ManyCarriers header.line) else Ok header.names)
+
+-- the names, if they are given
+abbrev pub names_or_none : Result (List (List ℕ)) HeadFault → Option (List (List ℕ))
+names_or_none (Ok names) = Some names
+names_or_none (Err fault) = None
+
+-- the names that a line gives, where it is a header that names the carriers, and they are different and at most 64
+abbrev pub names_in_line : List ℕ → Option (List (List ℕ))
+names_in_line line = if is_carriers_line line then names_or_none (names_declared (record { line = 1; names = names_of line })) else None
 
 -- the names, where one header gives them
 abbrev pub one_declared : List CarriersHeader → Result (List (List ℕ)) HeadFault

@@ -4,11 +4,11 @@ ghost use Rattle.std.specs.List.{list_any};
 ghost use Rattle.std.specs.Str.{bytes_eq};
 ghost use Rattle.knit_base.specs.Lines.{IsLine};
 ghost use Rattle.knitout_reader.specs.Tokens.{tokens_of};
-ghost use Rattle.knitout_reader.specs.Head.{is_magic, is_head_line, head_len, is_carriers_line, carriers_word, carriers_headers, has_name_twice, names_declared, IsHead, IsHeadFault, IsRefusal, IsNamesText};
+ghost use Rattle.knitout_reader.specs.Head.{is_magic, is_head_line, head_len, is_carriers_line, carriers_word, carriers_headers, has_name_twice, names_declared, names_in_line, IsHead, IsHeadFault, IsRefusal, IsNamesText};
 
 use crate::body::nth_line;
 use crate::tokens::{is_blank_text, next_token};
-use knit_base::{AddName, Declared, Lines};
+use knit_base::{AddName, Declared, Lines, NoMemory};
 use std::alloc::Global;
 use thiserror::Error;
 
@@ -142,6 +142,23 @@ fn names_text(line: &str) -> Option<&[u8]>
     ensures text { IfSome result (λ text. IsNamesText text.now) }
 {
     line.as_bytes().strip_prefix(CARRIERS)
+}
+
+/// The names that a header line gives: those behind `;;Carriers:`, where they are different and at most 64. None where the line
+/// doesn't begin so, or gives a name twice or more names.
+pub fn declared_in(alloc: Global, line: &str) -> Result<Option<Declared>, NoMemory>
+    requires line { IsLine line.now }
+    requires short { length line.now < 65535 }
+    ensures { IfOk result (λ found. found ≡ names_in_line line.now) }
+{
+    let Some(text) = names_text(line) else {
+        return Ok(None);
+    };
+    match read_names(alloc, text, 1) {
+        Ok(declared) => Ok(Some(declared)),
+        Err(HeadFault::NoMemory) => Err(NoMemory),
+        Err(_) => Ok(None),
+    }
 }
 
 // The carriers that the header at this line declares.
