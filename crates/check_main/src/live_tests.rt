@@ -8,15 +8,15 @@ use std::sync::Wait;
 use std::test::Fail;
 use std::thread::Threads;
 
-// What the program wrote, and what it gave.
+/// What the program wrote, and what it gave.
 #[derive(Drop)]
-struct Told {
-    outcome: Outcome,
-    text: Vec<u8>,
+pub(crate) struct Told {
+    pub outcome: Outcome,
+    pub text: Vec<u8>,
 }
 
-// The program on a script, over a sink that takes all.
-fn run_script<R: Threads + Wait + Sync, G: Gate + Sync>(
+/// The program on a script, over a sink that takes all.
+pub(crate) fn run_script<R: Threads + Wait + Sync, G: Gate + Sync>(
     rt: &R,
     alloc: Global,
     script: &str,
@@ -30,8 +30,8 @@ fn run_script<R: Threads + Wait + Sync, G: Gate + Sync>(
     Ok(Told { outcome, text })
 }
 
-// Whether the program told this of a script, which it carried out.
-fn tells<R: Threads + Wait + Sync>(
+/// Whether the program told this of a script, which it carried out.
+pub(crate) fn tells<R: Threads + Wait + Sync>(
     rt: &R,
     alloc: Global,
     script: &str,
@@ -41,8 +41,8 @@ fn tells<R: Threads + Wait + Sync>(
     Ok(is(&told, Status::Done, text))
 }
 
-// Whether the input is refused so.
-fn is_refused<R: Threads + Wait + Sync>(
+/// Whether the input is refused so.
+pub(crate) fn is_refused<R: Threads + Wait + Sync>(
     rt: &R,
     alloc: Global,
     input: &[u8],

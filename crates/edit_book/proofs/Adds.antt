@@ -13,9 +13,11 @@ use Rattle.edit_journal.specs.Entries.{text_for}
 use Rattle.edit_journal.specs.Documents.{Block, Document, block_of, with_after, with_new, after, document_of, body, lines_in}
 use Rattle.edit_book.specs.declared.block_state.BlockState.{BlockState}
 use Rattle.edit_book.specs.declared.block_state.BlockState.TheVariants.{There, CutBy}
-use Rattle.edit_book.specs.Books.{AreDistinct, Each, ids_of, state_of, HasIds, HasText, HasLeaves, Fits, Stands, IsLeafOf}
+use Rattle.edit_book.specs.Books.{AreDistinct, Each, ids_of, state_of, HasIds, HasText, HasLeaves, Fits, IsLawfulSetting, Stands, IsLeafOf}
 use Rattle.edit_book.specs.Orders.{is_id, place_of}
-use Rattle.edit_book.specs.Replies.{Add, cut_number, or_else, refused_anchor, refused_entries, refused_blocks, refused_lines, refusal_of}
+use Rattle.edit_book.specs.Replies.{Add, cut_number, or_else, refused_anchor, refused_head, refused_entries, refused_blocks, refused_lines, refusal_of}
+use Rattle.edit_book.specs.Verdicts.{setting_of}
+use Rattle.edit_book.specs.declared.reply.Reply.{Reply}
 use Rattle.edit_book.proofs.Puts.{cut_number_snoc, doc_snoc, got_before, got_last, ids_count, named_there, place_there, or_else_none, short_after, text_last, texts_before, under}
 use Rattle.summary_tree.specs.Leaves.{Leaf}
 
@@ -177,13 +179,22 @@ lines_added d es (After id) i text free = after_lines d.blocks id (record { id =
 
 pub ruleset added = (lines_added)
 
-pub add_free : (d : Document) (es : List Entry) (anchor : Anchor) (text : List (List ℕ)) → refusal_of d es (Add anchor text) ≡ None
-    → (refused_anchor d es anchor ≡ None) × (refused_entries es ≡ None) × (refused_blocks d es ≡ None) × (refused_lines d es (edit.Add anchor d.drawn text) ≡ None)
-add_free d es anchor text h =
-    let a = or_else_none (refused_anchor d es anchor) (or_else (refused_entries es) (or_else (refused_blocks d es) (refused_lines d es (edit.Add anchor d.drawn text)))) h in
-    let b = or_else_none (refused_entries es) (or_else (refused_blocks d es) (refused_lines d es (edit.Add anchor d.drawn text))) a.1 in
-    let c = or_else_none (refused_blocks d es) (refused_lines d es (edit.Add anchor d.drawn text)) b.1 in
-    (a.0, b.0, c.0, c.1)
+-- what it says that nothing refuses an add
+pub record IsFreeAdd (d : Document) (es : List Entry) (anchor : Anchor) (head : ℕ) (text : List (List ℕ)) : Type 0 where
+  pub anchored : refused_anchor d es anchor ≡ None
+  pub headed : refused_head d es head ≡ None
+  pub entries : refused_entries es ≡ None
+  pub blocks : refused_blocks d es ≡ None
+  pub lines : refused_lines d es (edit.Add anchor d.drawn text) ≡ None
+
+pub add_free : (d : Document) (es : List Entry) (anchor : Anchor) (head : ℕ) (text : List (List ℕ)) → refusal_of d es (Add anchor head text) ≡ None → IsFreeAdd d es anchor head text
+add_free d es anchor head text h =
+    let lines : Option Reply = refused_lines d es (edit.Add anchor d.drawn text) in
+    let a = or_else_none (refused_anchor d es anchor) (or_else (refused_head d es head) (or_else (refused_entries es) (or_else (refused_blocks d es) lines))) h in
+    let b = or_else_none (refused_head d es head) (or_else (refused_entries es) (or_else (refused_blocks d es) lines)) a.1 in
+    let c = or_else_none (refused_entries es) (or_else (refused_blocks d es) lines) b.1 in
+    let e = or_else_none (refused_blocks d es) lines c.1 in
+    record { anchored = a.0; headed = b.0; entries = c.0; blocks = e.0; lines = e.1 }
 
 -- the place lies within the list or at its end
 pub place_within : (d : Document) (es : List Entry) (anchor : Anchor) → refused_anchor d es anchor ≡ None → place_of anchor (ids_of d.blocks) ≤ length d.blocks
@@ -215,20 +226,20 @@ add_short anchor id session k text h = go (id == k)
     go true = h
     go false = tt
 
-pub add_stands : (o : Opening) (es : List Entry) (leaves : List Leaf) (states : List BlockState) (ids : List ℕ) (had session : ℕ) (anchor : Anchor) (lines : ℕ) (text : List (List ℕ)) (leaf : Leaf)
-    → Stands o es leaves states ids had → refusal_of (document_of o es) es (Add anchor text) ≡ None
-    → lines ≡ length (body (after (document_of o es) (length es + 1) (edit.Add anchor (document_of o es).drawn text))) → length text ≤ 4096 → IsLeafOf o.setting leaf text
+pub add_stands : (o : Opening) (es : List Entry) (leaves : List Leaf) (states : List BlockState) (ids : List ℕ) (had session : ℕ) (anchor : Anchor) (head lines : ℕ) (text : List (List ℕ)) (leaf : Leaf)
+    → Stands o es leaves states ids had → refusal_of (document_of o es) es (Add anchor head text) ≡ None
+    → lines ≡ length (body (after (document_of o es) (length es + 1) (edit.Add anchor (document_of o es).drawn text))) → length text ≤ 4096 → IsLeafOf (setting_of o (document_of o es)) leaf text
     → Stands o (es ++ record { session = session; edit = edit.Add anchor (document_of o es).drawn text } ∷ []) (insert leaves (place_of anchor (ids_of (document_of o es).blocks)) leaf) (states ++ There (length es + 1) ∷ [])
     (insert ids (place_of anchor (ids_of (document_of o es).blocks)) (document_of o es).drawn) lines
-add_stands o es leaves states ids had session anchor lines text leaf s free lines_is short leaf_is =
+add_stands o es leaves states ids had session anchor head lines text leaf s free lines_is short leaf_is =
     let d : Document = document_of o es in
     let e : Entry = record { session = session; edit = edit.Add anchor d.drawn text } in
     let i : ℕ = length es + 1 in
     let new : Block = record { id = d.drawn; stamp = i; lines = text } in
     let at : ℕ = place_of anchor (ids_of d.blocks) in
     let next : document_of o (es ++ e ∷ []) ≡ after d i (edit.Add anchor d.drawn text) = doc_snoc o es e in
-    let f = add_free d es anchor text free in
-    let there = anchor_there d es anchor f.0 in
+    let f = add_free d es anchor head text free in
+    let there = anchor_there d es anchor f.anchored in
     let long : length (es ++ e ∷ []) ≡ length es + 1 = length-append es (e ∷ []) in
     record {
       lawful = record {
@@ -237,20 +248,20 @@ add_stands o es leaves states ids had session anchor lines text leaf s free line
           drawn = add_each_id (λ k. k < d.drawn + 1) anchor d.blocks new (omega arith) (more_drawn (ids_of d.blocks) d.drawn s.lawful.has_ids.drawn);
         });
         fits = subst (λ (x : Document). Fits x (es ++ e ∷ [])) (sym next) (record {
-          entries_fit = omega (arith, long, under _ _ _ _ f.1);
-          blocks_fit = omega (arith, add_count anchor d.blocks new, under _ _ _ _ f.2);
-          lines_fit = under _ _ _ _ f.3;
+          entries_fit = omega (arith, long, under _ _ _ _ f.entries);
+          blocks_fit = omega (arith, add_count anchor d.blocks new, under _ _ _ _ f.blocks);
+          lines_fit = under _ _ _ _ f.lines;
           ids_fit = omega (arith, long, s.lawful.fits.ids_fit);
         });
         texts = subst (λ (x : Document). Each (HasText o (es ++ e ∷ [])) x.blocks) (sym next)
             (add_each (HasText o (es ++ e ∷ [])) anchor d.blocks new (text_last o es e d.drawn ∙ ap (λ (t : Bool). cond t (Some text) None) (eq-eqb d.drawn d.drawn refl)) (texts_before o es e d.blocks s.lawful.texts));
         short = short_after o es e s.lawful.short (λ k. add_short anchor d.drawn session k text short);
-        leaves_are = subst (λ (x : Document). HasLeaves o x (insert leaves at leaf)) (sym next) (add_zip (IsLeafOf o.setting) anchor leaves d.blocks leaf new leaf_is there s.lawful.leaves_are);
-        setting = s.lawful.setting;
+        leaves_are = subst (λ (x : Document). HasLeaves o x (insert leaves at leaf)) (sym next) (add_zip (IsLeafOf (setting_of o d)) anchor leaves d.blocks leaf new leaf_is there s.lawful.leaves_are);
+        setting = subst (λ (x : Document). IsLawfulSetting (setting_of o x)) (sym next) s.lawful.setting;
       };
       drawn = length-append states (There i ∷ []) ∙ (ap (λ (n : ℕ). n + 1) s.drawn ∙ ap (λ (x : Document). x.drawn) (sym next));
       states_are = subst (λ (x : Document). (k : ℕ) → k < x.drawn → slice_get (states ++ There i ∷ []) k ≡ Some (state_of x (es ++ e ∷ []) k)) (sym next)
-          (add_states d es states anchor session text s.drawn s.lawful.has_ids.drawn f.0 s.states_are);
+          (add_states d es states anchor session text s.drawn s.lawful.has_ids.drawn f.anchored s.states_are);
       order = ap (λ (l : List ℕ). insert l at d.drawn) s.order ∙ (sym (add_ids anchor d.blocks new there) ∙ ap (λ (x : Document). ids_of x.blocks) (sym next));
       lines = lines_is ∙ ap (λ (x : Document). length (body x)) (sym next);
     }

@@ -3,7 +3,6 @@ use Rattle.std.proofs.Common.{◌≡◌, ⊎_elim, ℕ, ◌+◌, ◌-◌, ◌<�
 use Rattle.std.specs.List.{Contains}
 use Rattle.std.specs.Map.{lookup}
 use Rattle.std.proofs.lemmas.Bool.{eqb-true}
-use Rattle.std.proofs.lemmas.List.Elements.{All-weaker}
 use Rattle.std.proofs.lemmas.List.Quantifiers.{position-Some}
 use Rattle.std.proofs.lemmas.Option.{get_or_from_slice_get}
 use Rattle.knit_base.specs.declared.instr.Read.{Read}
@@ -24,7 +23,6 @@ use Rattle.edit_journal.specs.declared.opening.Opening.{Opening}
 use Rattle.edit_journal.specs.Documents.{body, document_of}
 use Rattle.face_data.specs.declared.face.FaceView.{FaceView}
 use Rattle.face_data.specs.declared.face.Seg.{Seg}
-use Rattle.face_data.specs.declared.face.Seg.TheVariants.{Entry as entry, New}
 use Rattle.face_data.specs.Segments.{OffsetFits, entries_of}
 use Rattle.face_data.specs.Summaries.{Outcome, applied}
 use Rattle.face_data.specs.Summaries.Outcome.{went_on, faulted}
@@ -34,16 +32,16 @@ use Rattle.face_data.proofs.Members.{Contains-cons_cases, Contains-none}
 use Rattle.loop_history.specs.declared.row.LoopRow.{LoopRow}
 use Rattle.loop_history.specs.Entries.{AreEntriesOf}
 use Rattle.loop_history.specs.Rows.{fact_of_row}
-use Rattle.loop_history.specs.Tables.{IsOfEarlier, IsRowOf, TableStandsFor}
+use Rattle.loop_history.specs.Tables.{IsRowOf, TableStandsFor}
 use Rattle.tree_shape.proofs.RowWalks.{all_get}
 use Rattle.edit_book.specs.declared.block_state.BlockState.{BlockState}
 use Rattle.edit_book.specs.Books.{BookView, Stands, document}
 use Rattle.edit_book.specs.Entered.{IsBehind, entries_held, stops_by}
-use Rattle.edit_book.specs.Verdicts.{IsLoopOn}
+use Rattle.edit_book.specs.Verdicts.{IsLoopOn, setting_of}
 use Rattle.carriage_model.proofs.LoopOfLine.{later_lines}
 use Rattle.summary_tree.proofs.NeedleEntries.{own_fit}
 use Rattle.edit_book.proofs.LineLoops.{BeginsIn, GoesPast, at_offset, at_stop, begins_in, behind_lines, each_runs, in_no_block, past_stop, row_found, row_missing}
-use Rattle.edit_book.proofs.Trees.{AllRead, all_read}
+use Rattle.edit_book.proofs.Trees.{AllRead, all_read, setting_at}
 use Rattle.summary_tree.specs.Leaves.{IsRootOf, Leaf, all_lines, applied_each, place_of_line}
 use Rattle.summary_tree.specs.Trees.{TreeView}
 
@@ -83,21 +81,21 @@ stops_told leaves view first line fault root is = go (applied (summary_of view) 
 
 module _ (o : Opening) (es : List Entry) (states : List BlockState) (ids : List ℕ) (had line : ℕ) (v : BookView) (room : Bool) (tree : TreeView)
     (s : Stands o es tree.leaves states ids had) (view : record { opening = o; entries = es; journal_room = room; tree = tree } ≡ v) where
-  abbrev all : AllRead o.setting tree.leaves (document_of o es).blocks
-  all = all_read o.setting tree.leaves (document_of o es).blocks s.lawful.leaves_are
+  abbrev all : AllRead (setting_at o es) tree.leaves (document_of o es).blocks
+  all = all_read (setting_at o es) tree.leaves (document_of o es).blocks s.lawful.leaves_are
 
   abbrev reads : List Read
   reads = all_lines all.blocks
 
-  told : (fact : Option LoopFact) → fact ≡ fact_of line (loops_made o.setting.profile empty_state o.setting.first reads) → IsLoopOn v.opening.setting (body (document v)) line fact
-  told fact is = subst (λ (w : BookView). IsLoopOn w.opening.setting (body (document w)) line fact) view (record { readings = reads; read = all.read; made = is })
+  told : (fact : Option LoopFact) → fact ≡ fact_of line (loops_made o.setting.profile empty_state o.setting.first reads) → IsLoopOn (setting_of v.opening (document v)) (body (document v)) line fact
+  told fact is = subst (λ (w : BookView). IsLoopOn (setting_of w.opening (document w)) (body (document w)) line fact) view (record { readings = reads; read = all.read; made = is })
 
   -- no line of the head makes a loop
-  pub none_in_head : line < o.setting.first → IsLoopOn v.opening.setting (body (document v)) line None
+  pub none_in_head : line < o.setting.first → IsLoopOn (setting_of v.opening (document v)) (body (document v)) line None
   none_in_head early = told None (sym (later_lines o.setting.profile empty_state o.setting.first line reads early))
 
   -- nor one that isn't carried out
-  pub none_at_stop : stops_by line (applied_each v.tree.leaves empty_state v.opening.setting.first) ≡ true → IsLoopOn v.opening.setting (body (document v)) line None
+  pub none_at_stop : stops_by line (applied_each v.tree.leaves empty_state v.opening.setting.first) ≡ true → IsLoopOn (setting_of v.opening (document v)) (body (document v)) line None
   none_at_stop is =
       let here : stops_by line (applied_each tree.leaves empty_state o.setting.first) ≡ true = subst (λ (w : BookView). stops_by line (applied_each w.tree.leaves empty_state w.opening.setting.first) ≡ true) (sym view) is in
       told None (sym (at_stop o.setting.profile empty_state o.setting.first line reads (ap (stops_by line) (sym (each_runs o.setting.profile tree.leaves all.blocks empty_state o.setting.first all.stand)) ∙ here)))
@@ -107,7 +105,7 @@ module _ (o : Opening) (es : List Entry) (states : List BlockState) (ids : List 
     whole_line = omega (arith, behind)
 
     -- nor one that isn't there
-    pub none_behind : place_of_line tree.leaves (line - o.setting.first) ≡ None → IsLoopOn v.opening.setting (body (document v)) line None
+    pub none_behind : place_of_line tree.leaves (line - o.setting.first) ≡ None → IsLoopOn (setting_of v.opening (document v)) (body (document v)) line None
     none_behind none =
         let past = in_no_block o.setting.profile tree.leaves all.blocks (line - o.setting.first) all.stand none in
         told None (sym (behind_lines o.setting.profile empty_state o.setting.first line reads (omega (arith, past, behind))))
@@ -147,7 +145,7 @@ module _ (o : Opening) (es : List Entry) (states : List BlockState) (ids : List 
           ∙ ap (λ n. fact_of n (loops_made o.setting.profile begins.state start begins.reads)) at_line
 
       -- nor one of which the block's table has no row
-      pub none_in_table : position (at_offset within) leaf.1 ≡ None → IsLoopOn v.opening.setting (body (document v)) line None
+      pub none_in_table : position (at_offset within) leaf.1 ≡ None → IsLoopOn (setting_of v.opening (document v)) (body (document v)) line None
       none_in_table missing = told None (sym (told_there ∙ row_missing o.setting.profile begins.state start within leaf.1 begins.reads table goes_there missing))
 
       module _ (place : ℕ) (row : LoopRow) (hit : position (at_offset within) leaf.1 ≡ Some place) (row_is : slice_get leaf.1 place ≡ Some row) where
@@ -170,7 +168,7 @@ module _ (o : Opening) (es : List Entry) (states : List BlockState) (ids : List 
 
         -- the loop of the row is the line's
         pub row_told : (entries : List (Needle × List ℕ)) (fact : LoopFact) → ((t : State) → IsBehind v at t → entries ≡ entries_held t (entries_of row.through))
-            → ((t : State) → AreEntriesOf t entries row.through → fact ≡ fact_of_row t (line - within) row) → IsLoopOn v.opening.setting (body (document v)) line (Some fact)
+            → ((t : State) → AreEntriesOf t entries row.through → fact ≡ fact_of_row t (line - within) row) → IsLoopOn (setting_of v.opening (document v)) (body (document v)) line (Some fact)
         row_told entries fact held resolved =
             let behind_here : IsBehind v at begins.state = subst (λ (w : BookView). IsBehind w at begins.state) view begins.behind in
             let is : fact ≡ fact_of_row begins.state start row =

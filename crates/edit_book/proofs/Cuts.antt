@@ -10,14 +10,16 @@ use Rattle.edit_journal.specs.declared.opening.Opening.{Opening}
 use Rattle.edit_journal.specs.Documents.{Block, Document, block_of, without, after, document_of, body}
 use Rattle.edit_book.specs.declared.block_state.BlockState.{BlockState}
 use Rattle.edit_book.specs.declared.block_state.BlockState.TheVariants.{There, CutBy}
-use Rattle.edit_book.specs.Books.{BookView, document, AreDistinct, Each, ids_of, state_of, HasIds, HasText, HasLeaves, Fits, Stands, IsLeafOf}
+use Rattle.edit_book.specs.Books.{BookView, document, AreDistinct, Each, ids_of, state_of, HasIds, HasText, HasLeaves, Fits, IsLawfulSetting, Stands, IsLeafOf}
 use Rattle.edit_book.specs.Orders.{is_id}
 use Rattle.edit_book.specs.Replies.{Cut, cut_number, or_else, refused_name, refused_stamp, refused_entries, refusal_of}
 use Rattle.edit_book.proofs.Puts.{cut_number_snoc, doc_snoc, has_place, named_there, or_else_none, place_is, set_other, set_there, short_after, texts_before, under}
-use Rattle.edit_book.proofs.Trees.{zip_count}
+use Rattle.edit_book.proofs.Trees.{leaf_each}
 use Rattle.edit_book.proofs.Work.{KnowsLine, cut_lines, edit_work, lines_known}
+use Rattle.edit_book.specs.Verdicts.{setting_of}
 use Rattle.edit_book.specs.Work.{needles_in, work_limit}
 use Rattle.knit_base.specs.declared.needle.Needle.{Needle}
+use Rattle.knit_base.specs.declared.setting.Setting.{Setting}
 use Rattle.face_data.specs.Items.{most_items}
 use Rattle.tree_shape.specs.Fewest.{removed}
 use Rattle.summary_tree.specs.Leaves.{AreGoodFor, Leaf}
@@ -174,9 +176,9 @@ cut_stands o es leaves states ids had session id seen at lines s free place line
         texts = subst (λ (x : Document). Each (HasText o (es ++ e ∷ [])) x.blocks) (sym next) (cut_each (HasText o (es ++ e ∷ [])) d.blocks id (texts_before o es e d.blocks s.lawful.texts));
         short = short_after o es e s.lawful.short (λ k. tt);
         leaves_are = subst (λ (x : Document). HasLeaves o x (remove leaves at)) (sym next)
-            (subst (λ (n : ℕ). AllZip (λ (l : Leaf) (y : Block). IsLeafOf o.setting l y.lines) (remove leaves n) (without id d.blocks)) (sym at_is)
-            (cut_zip (IsLeafOf o.setting) leaves d.blocks id s.lawful.leaves_are));
-        setting = s.lawful.setting;
+            (subst (λ (n : ℕ). AllZip (λ (l : Leaf) (y : Block). IsLeafOf (setting_of o d) l y.lines) (remove leaves n) (without id d.blocks)) (sym at_is)
+            (cut_zip (IsLeafOf (setting_of o d)) leaves d.blocks id s.lawful.leaves_are));
+        setting = subst (λ (x : Document). IsLawfulSetting (setting_of o x)) (sym next) s.lawful.setting;
       };
       drawn = length-set states id (CutBy i) ∙ (s.drawn ∙ ap (λ (x : Document). x.drawn) (sym next));
       states_are = subst (λ (x : Document). (k : ℕ) → k < x.drawn → slice_get (set states id (CutBy i)) k ≡ Some (state_of x (es ++ e ∷ []) k)) (sym next)
@@ -216,7 +218,8 @@ module _ (o : Opening) (es : List Entry) (states : List BlockState) (ids : List 
   cut_work at lines version longer leaves now left before later place lines_is fewer version_is longer_is leaves_are now_is left_is steps =
       let d : Document = document_of o es in
       let stands = cut_made at lines version longer leaves now left place lines_is fewer version_is longer_is leaves_are now_is left_is in
-      let P : List ℕ → Type 0 = KnowsLine o.setting (needles_in o.setting (body d)) in
-      let count : length leaves ≡ length d.blocks = ap length leaves_are ∙ zip_count (λ (l : Leaf) (b : Block). IsLeafOf o.setting l b.lines) tree.leaves d.blocks s.lawful.leaves_are in
-      edit_work o es session (length leaves) (length d.blocks) before later (Cut id seen) (edit.Cut id seen) (body d) v room tree longer now view longer_is stands.lawful refl count
-      (cut_lines P d.blocks id (lines_known o.setting (body d))) steps
+      let setting : Setting = setting_of o d in
+      let P : List ℕ → Type 0 = KnowsLine setting (needles_in setting (body d)) in
+      let count : length leaves ≡ length d.blocks = ap length leaves_are ∙ leaf_each o es tree.leaves s.lawful in
+      edit_work o es session (length leaves) (length d.blocks) before later (Cut id seen) (edit.Cut id seen) (body d) v room tree longer now view longer_is refl stands.lawful refl count
+      (cut_lines P d.blocks id (lines_known setting (body d))) steps

@@ -1,5 +1,5 @@
 -- The loop of one line, among those of all blocks.
-use Rattle.std.proofs.Common.{◌≡◌, ◌≢◌, ℕ, suc, ◌+◌, ◌-◌, ◌<◌, ◌≤◌, Bool, true, false, cond, not, nat_lt, ◌==◌, List, [], ◌∷◌, ◌++◌, length, take, position, Option, Some, None, IfSome, unwrap_or, sym, subst, ap, ◌∙◌, refl, length-append, one-add, arith}
+use Rattle.std.proofs.Common.{◌≡◌, ℕ, suc, ◌+◌, ◌-◌, ◌<◌, ◌≤◌, Bool, true, false, cond, not, nat_lt, ◌==◌, List, [], ◌∷◌, ◌++◌, length, take, position, Option, Some, None, IfSome, unwrap_or, sym, subst, ap, ◌∙◌, refl, length-append, one-add, arith}
 use Rattle.std.specs.Prelude.{filter}
 use Rattle.std.specs.List.{AllZip, position_or_len, slice_get}
 use Rattle.std.specs.Option.{option_map}

@@ -12,7 +12,7 @@ use Rattle.edit_book.specs.Orders.{is_id}
 use Rattle.edit_book.specs.Replies.{Look, Request, IsAnswer, IsDue, IsGranted, lines_before, refusal_of, refused_name}
 use Rattle.edit_book.proofs.LinePlaces.{StandsIn, block_at, id_at, line_none, line_there, lines_at, lines_taken}
 use Rattle.edit_book.proofs.Puts.{has_place, named_there, place_is}
-use Rattle.edit_book.proofs.Trees.{zip_lines}
+use Rattle.edit_book.proofs.Trees.{setting_at, zip_lines}
 use Rattle.summary_tree.specs.Leaves.{lines_of, place_of_line}
 use Rattle.summary_tree.specs.Trees.{TreeView}
 use Rattle.std.proofs.Common.{Bool}
@@ -70,8 +70,8 @@ module _ (o : Opening) (es : List Entry) (states : List BlockState) (ids : List 
       let b = named_there (document_of o es) es id free_here in
       let at_is : at ≡ position_or_len (is_id id) (ids_of (document_of o es).blocks) = (place_is ids id at place).0 ∙ ap (position_or_len (is_id id)) s.order in
       let told : before ≡ lines_before id (document_of o es).blocks =
-      is ∙ ap (λ (n : ℕ). lines_of (take n tree.leaves)) at_is ∙ lines_at o.setting tree.leaves (document_of o es).blocks id b.0 s.lawful.leaves_are b.1 in
-      let all : lines_of tree.leaves ≤ 1048576 = omega (arith, zip_lines o.setting tree.leaves (document_of o es).blocks s.lawful.leaves_are, s.lawful.fits.lines_fit) in (
+      is ∙ ap (λ (n : ℕ). lines_of (take n tree.leaves)) at_is ∙ lines_at (setting_at o es) tree.leaves (document_of o es).blocks id b.0 s.lawful.leaves_are b.1 in
+      let all : lines_of tree.leaves ≤ 1048576 = omega (arith, zip_lines (setting_at o es) tree.leaves (document_of o es).blocks s.lawful.leaves_are, s.lawful.fits.lines_fit) in (
         ap (λ (n : ℕ). o.setting.first + n) told ∙ ap (λ (w : BookView). w.opening.setting.first + lines_before id (document w).blocks) view,
         omega (arith, is, lines_taken at tree.leaves, all, s.lawful.setting.first),
       )
@@ -80,7 +80,7 @@ module _ (o : Opening) (es : List Entry) (states : List BlockState) (ids : List 
 module _ (o : Opening) (es : List Entry) (states : List BlockState) (ids : List ℕ) (had offset at within : ℕ) (v : BookView) (room : Bool) (tree : TreeView)
     (s : Stands o es tree.leaves states ids had) (view : record { opening = o; entries = es; journal_room = room; tree = tree } ≡ v) (found : place_of_line tree.leaves offset ≡ Some (at, within)) where
   here : StandsIn (document_of o es).blocks offset at within
-  here = line_there o.setting tree.leaves (document_of o es).blocks offset at within s.lawful.leaves_are found
+  here = line_there (setting_at o es) tree.leaves (document_of o es).blocks offset at within s.lawful.leaves_are found
 
   id_there : slice_get ids at ≡ Some here.block.id
   id_there = ap (λ (l : List ℕ). slice_get l at) s.order ∙ id_at (document_of o es).blocks at here.block here.there
@@ -112,4 +112,4 @@ module _ (o : Opening) (es : List Entry) (states : List BlockState) (ids : List 
 pub no_line : (o : Opening) (es : List Entry) (states : List BlockState) (ids : List ℕ) (had offset : ℕ) (v : BookView) (room : Bool) (tree : TreeView) → Stands o es tree.leaves states ids had
     → record { opening = o; entries = es; journal_room = room; tree = tree } ≡ v → place_of_line tree.leaves offset ≡ None → slice_get (body (document v)) offset ≡ None
 no_line o es states ids had offset v room tree s view none =
-    subst (λ (w : BookView). slice_get (body (document w)) offset ≡ None) view (line_none o.setting tree.leaves (document_of o es).blocks offset s.lawful.leaves_are none)
+    subst (λ (w : BookView). slice_get (body (document w)) offset ≡ None) view (line_none (setting_at o es) tree.leaves (document_of o es).blocks offset s.lawful.leaves_are none)

@@ -10,12 +10,15 @@ use Rattle.knit_base.specs.declared.setting.Setting.{Setting}
 use Rattle.face_data.specs.Items.{most_items}
 use Rattle.block_summary.specs.declared.prepared.Prepared.{Prepared}
 use Rattle.block_summary.specs.Prepared.{IsPreparedFor}
+use Rattle.edit_journal.specs.declared.edit.Entry.{Entry}
 use Rattle.edit_journal.specs.declared.opening.Opening.{Opening}
 use Rattle.edit_journal.specs.Documents.{Block, block_of, document_of, lines_in, opened_from, text_at}
 use Rattle.edit_book.specs.declared.block_state.BlockState.{BlockState}
 use Rattle.edit_book.specs.declared.block_state.BlockState.TheVariants.{There, CutBy}
+use Rattle.edit_book.specs.declared.header.Header.{Header}
 use Rattle.edit_book.specs.declared.start.Kept.{Kept}
 use Rattle.edit_book.specs.Books.{AreDistinct, Each, HasText, IsLawfulSetting, IsLeafOf, Stands, ids_of, state_of}
+use Rattle.edit_book.specs.Headers.{HasHeader}
 use Rattle.edit_book.specs.Opened.{HasKept, IsAdded, leaves_of, states_at_start, texts_in}
 use Rattle.edit_book.specs.Replies.{block_limit, cut_number, line_limit}
 use Rattle.edit_book.specs.Work.{needles_in, start_limit}
@@ -159,6 +162,11 @@ opened_stands setting blocks kept leaves ids lawful all few lines h leaves_are i
             opened_states blocks id (omega (arith, within, many))
             ∙ ap (λ (n : ℕ). Some (There n)) (sym b.2)
             ∙ ap (λ (o : Option Block). Some (option_map_or (λ x. There x.stamp) o (CutBy (cut_number [] id)))) (sym b.1)
+
+-- what is kept of its header
+pub opened_header : (o : Opening) (entries : List Entry) (made kept : Header) → entries ≡ [] → kept ≡ made → made.setting ≡ o.setting → made.entries.items ≡ [] → HasHeader o entries 0 kept
+opened_header o entries made kept none is setting_is changed =
+    subst (λ (p : List Entry × Header). HasHeader o p.0 0 p.1) (λ i. (sym none i, sym is i)) (record { stamp = refl; setting = setting_is; changed = changed })
 
 -- its leaves may stand in one tree
 pub opened_sound : (setting : Setting) (blocks : List Prepared) (kept : Kept) → IsLawfulSetting setting → All (IsPreparedFor setting.profile setting.declared) blocks → length blocks ≤ block_limit

@@ -8,13 +8,16 @@ use Rattle.edit_journal.specs.declared.edit.Entry.{Entry}
 use Rattle.edit_journal.specs.declared.opening.Opening.{Opening}
 use Rattle.edit_journal.specs.Entries.{text_for}
 use Rattle.edit_journal.specs.Documents.{Block, Document, block_of, with_text, after, after_all, document_of, body, opened, text_at}
+use Rattle.edit_journal.proofs.Known.{text_longer}
 use Rattle.edit_book.specs.declared.block_state.BlockState.{BlockState}
 use Rattle.edit_book.specs.declared.block_state.BlockState.TheVariants.{There, CutBy}
+use Rattle.edit_book.specs.declared.reply.Reply.{Reply}
 use Rattle.edit_book.specs.declared.reply.Reply.TheVariants.{Gone, NoBlock, Full}
 use Rattle.edit_book.specs.declared.reply.Which.{Which}
-use Rattle.edit_book.specs.Books.{Each, AreDistinct, ids_of, state_of, HasIds, HasText, HasShortTexts, HasLeaves, Fits, Stands, IsLeafOf}
+use Rattle.edit_book.specs.Books.{Each, AreDistinct, ids_of, state_of, HasIds, HasText, HasShortTexts, HasLeaves, Fits, IsLawfulSetting, Stands, IsLeafOf}
 use Rattle.edit_book.specs.Orders.{is_id}
-use Rattle.edit_book.specs.Replies.{Put, or_else, cuts_block, cut_from, cut_number, refused_name, refused_stamp, refused_over, refused_entries, refused_lines, refusal_of}
+use Rattle.edit_book.specs.Replies.{Put, or_else, cuts_block, cut_from, cut_number, refused_name, refused_stamp, refused_head, refused_over, refused_entries, refused_lines, refusal_of}
+use Rattle.edit_book.specs.Verdicts.{setting_of}
 use Rattle.summary_tree.specs.Leaves.{Leaf}
 
 -- one more entry
@@ -51,17 +54,9 @@ got_cases [] x P last none all (suc i) = none
 got_cases (y ∷ xs) x P last none all zero = all zero
 got_cases (y ∷ xs) x P last none all (suc i) = got_cases xs x P last none (λ j. all (suc j)) i
 
-pub text_before : (o : Opening) (es : List Entry) (e : Entry) (id stamp : ℕ) (text : List (List ℕ)) → text_at o es id stamp ≡ Some text → text_at o (es ++ e ∷ []) id stamp ≡ Some text
-text_before o es e id zero text h = h
-text_before o es e id (suc i) text h = go (slice_get es i) refl h
-  where
-    go : (g : Option Entry) → slice_get es i ≡ g → option_and_then (text_for id) g ≡ Some text → option_and_then (text_for id) (slice_get (es ++ e ∷ []) i) ≡ Some text
-    go None is h = absurd (cc)
-    go (Some x) is h = ap (option_and_then (text_for id)) (got_before es e x i is) ∙ h
-
 pub texts_before : (o : Opening) (es : List Entry) (e : Entry) (bs : List Block) → Each (HasText o es) bs → Each (HasText o (es ++ e ∷ [])) bs
 texts_before o es e [] h = tt
-texts_before o es e (b ∷ bs) h = (text_before o es e b.id b.stamp b.lines h.0, texts_before o es e bs h.1)
+texts_before o es e (b ∷ bs) h = (text_longer o es (e ∷ []) b.id b.stamp b.lines h.0, texts_before o es e bs h.1)
 
 pub short_after : (o : Opening) (es : List Entry) (e : Entry) → HasShortTexts o es → ((id : ℕ) → IfSome (text_for id e) (λ text. length text ≤ 4096)) → HasShortTexts o (es ++ e ∷ [])
 short_after o es e short last id zero = short id zero
@@ -134,13 +129,15 @@ or_else_none None b h = (refl, h)
 or_else_none (Some a) b h = absurd (cc)
 
 -- what it says that nothing refuses a put
-pub put_free : (d : Document) (entries : List Entry) (id seen : ℕ) (text : List (List ℕ)) → refusal_of d entries (Put id seen text) ≡ None
-    → (refused_name d entries id ≡ None) × (refused_entries entries ≡ None) × (refused_lines d entries (edit.Put id seen text) ≡ None)
-put_free d entries id seen text h =
-    let a = or_else_none (refused_name d entries id) (or_else (refused_stamp d entries id seen) (or_else (refused_entries entries) (refused_lines d entries (edit.Put id seen text)))) h in
-    let b = or_else_none (refused_stamp d entries id seen) (or_else (refused_entries entries) (refused_lines d entries (edit.Put id seen text))) a.1 in
-    let c = or_else_none (refused_entries entries) (refused_lines d entries (edit.Put id seen text)) b.1 in
-    (a.0, c.0, c.1)
+pub put_free : (d : Document) (entries : List Entry) (id seen head : ℕ) (text : List (List ℕ)) → refusal_of d entries (Put id seen head text) ≡ None
+    → (refused_name d entries id ≡ None) × (refused_head d entries head ≡ None) × (refused_entries entries ≡ None) × (refused_lines d entries (edit.Put id seen text) ≡ None)
+put_free d entries id seen head text h =
+    let lines : Option Reply = refused_lines d entries (edit.Put id seen text) in
+    let a = or_else_none (refused_name d entries id) (or_else (refused_stamp d entries id seen) (or_else (refused_head d entries head) (or_else (refused_entries entries) lines))) h in
+    let b = or_else_none (refused_stamp d entries id seen) (or_else (refused_head d entries head) (or_else (refused_entries entries) lines)) a.1 in
+    let c = or_else_none (refused_head d entries head) (or_else (refused_entries entries) lines) b.1 in
+    let e = or_else_none (refused_entries entries) lines c.1 in
+    (a.0, c.0, e.0, e.1)
 
 pub under : (v limit count : ℕ) (what : Which) → refused_over v what limit count ≡ None → count ≤ limit
 under v limit count what h = go (nat_le count limit) refl h
@@ -226,16 +223,16 @@ put_states d es states id seen session i text b there fits all k drawn = go (k =
         ∙ (ap (λ (o : Option Block). Some (option_map_or (λ x. There x.stamp) o (CutBy (cut_number es k)))) (sym (put_other d.blocks id i text k ne))
         ∙ ap (λ (n : ℕ). Some (option_map_or (λ x. There x.stamp) (block_of (with_text id i text d.blocks) k) (CutBy n))) (sym (cut_number_snoc es (record { session = session; edit = edit.Put id seen text }) k))))
 
-pub put_stands : (o : Opening) (es : List Entry) (leaves : List Leaf) (states : List BlockState) (ids : List ℕ) (had session id seen at lines : ℕ) (text : List (List ℕ)) (leaf : Leaf)
-    → Stands o es leaves states ids had → refusal_of (document_of o es) es (Put id seen text) ≡ None → position (is_id id) ids ≡ Some at
-    → lines ≡ length (body (after (document_of o es) (length es + 1) (edit.Put id seen text))) → length text ≤ 4096 → IsLeafOf o.setting leaf text
+pub put_stands : (o : Opening) (es : List Entry) (leaves : List Leaf) (states : List BlockState) (ids : List ℕ) (had session id seen head at lines : ℕ) (text : List (List ℕ)) (leaf : Leaf)
+    → Stands o es leaves states ids had → refusal_of (document_of o es) es (Put id seen head text) ≡ None → position (is_id id) ids ≡ Some at
+    → lines ≡ length (body (after (document_of o es) (length es + 1) (edit.Put id seen text))) → length text ≤ 4096 → IsLeafOf (setting_of o (document_of o es)) leaf text
     → Stands o (es ++ record { session = session; edit = edit.Put id seen text } ∷ []) (set leaves at leaf) (set states id (There (length es + 1))) ids lines
-put_stands o es leaves states ids had session id seen at lines text leaf s free place lines_is short leaf_is =
+put_stands o es leaves states ids had session id seen head at lines text leaf s free place lines_is short leaf_is =
     let e : Entry = record { session = session; edit = edit.Put id seen text } in
     let d : Document = document_of o es in
     let i : ℕ = length es + 1 in
     let next : document_of o (es ++ e ∷ []) ≡ after d i (edit.Put id seen text) = doc_snoc o es e in
-    let f = put_free d es id seen text free in
+    let f = put_free d es id seen head text free in
     let b = named_there d es id f.0 in
     let long : length (es ++ e ∷ []) ≡ length es + 1 = length-append es (e ∷ []) in
     let at_is : at ≡ position_or_len (is_id id) (ids_of d.blocks) = (place_is ids id at place).0 ∙ ap (position_or_len (is_id id)) s.order in
@@ -247,18 +244,18 @@ put_stands o es leaves states ids had session id seen at lines text leaf s free 
           drawn = subst (Each (λ k. k < d.drawn)) (sym same_ids) s.lawful.has_ids.drawn;
         });
         fits = subst (λ (x : Document). Fits x (es ++ e ∷ [])) (sym next) (record {
-          entries_fit = omega (arith, long, under _ _ _ _ f.1);
+          entries_fit = omega (arith, long, under _ _ _ _ f.2);
           blocks_fit = omega (arith, put_count d.blocks id i text, s.lawful.fits.blocks_fit);
-          lines_fit = under _ _ _ _ f.2;
+          lines_fit = under _ _ _ _ f.3;
           ids_fit = omega (arith, long, s.lawful.fits.ids_fit);
         });
         texts = subst (λ (x : Document). Each (HasText o (es ++ e ∷ [])) x.blocks) (sym next)
             (put_each (HasText o (es ++ e ∷ [])) d.blocks id i text (text_last o es e id ∙ own_text id seen session text) (texts_before o es e d.blocks s.lawful.texts));
         short = short_after o es e s.lawful.short (λ k. put_short id seen session k text short);
         leaves_are = subst (λ (x : Document). HasLeaves o x (set leaves at leaf)) (sym next)
-            (subst (λ (n : ℕ). AllZip (λ (l : Leaf) (y : Block). IsLeafOf o.setting l y.lines) (set leaves n leaf) (with_text id i text d.blocks)) (sym at_is)
-            (put_zip (IsLeafOf o.setting) leaves d.blocks id i text leaf leaf_is s.lawful.leaves_are));
-        setting = s.lawful.setting;
+            (subst (λ (n : ℕ). AllZip (λ (l : Leaf) (y : Block). IsLeafOf (setting_of o d) l y.lines) (set leaves n leaf) (with_text id i text d.blocks)) (sym at_is)
+            (put_zip (IsLeafOf (setting_of o d)) leaves d.blocks id i text leaf leaf_is s.lawful.leaves_are));
+        setting = subst (λ (x : Document). IsLawfulSetting (setting_of o x)) (sym next) s.lawful.setting;
       };
       drawn = length-set states id (There i) ∙ (s.drawn ∙ ap (λ (x : Document). x.drawn) (sym next));
       states_are = subst (λ (x : Document). (k : ℕ) → k < x.drawn → slice_get (set states id (There i)) k ≡ Some (state_of x (es ++ e ∷ []) k)) (sym next)

@@ -18,8 +18,13 @@ use Rattle.loop_history.specs.Tables.{TableStandsFor}
 use Rattle.block_summary.specs.Prepared.{AreReadings, IsMadeOf}
 use Rattle.block_summary.proofs.Blocks.{named, named_known}
 use Rattle.edit_book.specs.Books.{IsLawful, IsLawfulSetting, IsLeafOf}
+use Rattle.edit_book.specs.Verdicts.{setting_of}
 use Rattle.block_summary.proofs.BedNeedles.{named_numbered}
 use Rattle.summary_tree.specs.Leaves.{Leaf, AreSound, EachStandsFor, IsGoodFor, IsRootOf, all_lines, lines_of}
+
+-- what the document of these entries is read by
+abbrev pub setting_at : Opening → List Entry → Setting
+setting_at o es = setting_of o (document_of o es)
 
 pub zip_count : {A B : Type 0} (R : A → B → Type 0) (xs : List A) (ys : List B) → AllZip R xs ys → length xs ≡ length ys
 zip_count R [] [] h = refl
@@ -66,15 +71,19 @@ zip_lines setting [] (b ∷ bs) h = absurd h
 zip_lines setting (l ∷ leaves) [] h = absurd h
 zip_lines setting (l ∷ leaves) (b ∷ bs) h = omega (arith, leaf_count setting l b.lines h.0, zip_lines setting leaves bs h.1, length-append b.lines (lines_in bs))
 
+-- there is a leaf for each block
+pub leaf_each : (o : Opening) (es : List Entry) (leaves : List Leaf) → IsLawful o es leaves → length leaves ≡ length (document_of o es).blocks
+leaf_each o es leaves s = zip_count (λ (l : Leaf) (b : Block). IsLeafOf (setting_at o es) l b.lines) leaves (document_of o es).blocks s.leaves_are
+
 pub sound_of : (o : Opening) (es : List Entry) (leaves : List Leaf) → IsLawful o es leaves → AreSound leaves
 sound_of o es leaves s = record {
-  carriers = length o.setting.declared;
+  carriers = length (setting_at o es).declared;
   limit = o.setting.profile.hold;
   few_carriers = s.setting.carriers;
   few_loops = omega (arith, s.setting.profile.hold);
-  good = zip_good o.setting leaves (document_of o es).blocks s.setting s.leaves_are;
-  few_leaves = omega (arith, zip_count (λ (l : Leaf) (b : Block). IsLeafOf o.setting l b.lines) leaves (document_of o es).blocks s.leaves_are, s.fits.blocks_fit);
-  few_lines = omega (arith, zip_lines o.setting leaves (document_of o es).blocks s.leaves_are, s.fits.lines_fit);
+  good = zip_good (setting_at o es) leaves (document_of o es).blocks s.setting s.leaves_are;
+  few_leaves = omega (arith, leaf_each o es leaves s, s.fits.blocks_fit);
+  few_lines = omega (arith, zip_lines (setting_at o es) leaves (document_of o es).blocks s.leaves_are, s.fits.lines_fit);
 }
 
 -- the readings of all blocks, block by block
@@ -100,13 +109,13 @@ all_read setting (l ∷ leaves) (b ∷ bs) h =
 
 -- the root has the lines of the body
 pub root_lines : (o : Opening) (es : List Entry) (leaves : List Leaf) (view : FaceView) → IsLawful o es leaves → IsRootOf leaves view → view.lines ≡ length (body (document_of o es))
-root_lines o es leaves view s root = root.whole.lines ∙ zip_lines o.setting leaves (document_of o es).blocks s.leaves_are
+root_lines o es leaves view s root = root.whole.lines ∙ zip_lines (setting_at o es) leaves (document_of o es).blocks s.leaves_are
 
 pub root_good : (o : Opening) (es : List Entry) (leaves : List Leaf) (view : FaceView) → IsLawful o es leaves → IsRootOf leaves view → IsGoodFace (summary_of view)
 root_good o es leaves view s root =
-    let good = root.good (length o.setting.declared) o.setting.profile.hold (zip_good o.setting leaves (document_of o es).blocks s.setting s.leaves_are) in
+    let good = root.good (length (setting_at o es).declared) o.setting.profile.hold (zip_good (setting_at o es) leaves (document_of o es).blocks s.setting s.leaves_are) in
     record {
-      carriers = length o.setting.declared;
+      carriers = length (setting_at o es).declared;
       limit = o.setting.profile.hold;
       known = good.known;
       few_loops = omega (arith, s.setting.profile.hold);
@@ -119,4 +128,4 @@ root_fits o es leaves view s root = omega (arith, root_lines o es leaves view s 
 
 -- each line of the leaves has a number of 32 bits
 pub lines_fit : (o : Opening) (es : List Entry) (leaves : List Leaf) → IsLawful o es leaves → o.setting.first + lines_of leaves < 2 ^ 32
-lines_fit o es leaves s = omega (arith, zip_lines o.setting leaves (document_of o es).blocks s.leaves_are, s.fits.lines_fit, s.setting.first)
+lines_fit o es leaves s = omega (arith, zip_lines (setting_at o es) leaves (document_of o es).blocks s.leaves_are, s.fits.lines_fit, s.setting.first)

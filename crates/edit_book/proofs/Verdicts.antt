@@ -18,15 +18,15 @@ use Rattle.face_data.specs.View.{summary_of}
 use Rattle.face_data.proofs.EmptyBeds.{judged}
 use Rattle.edit_book.specs.Books.{IsLawful}
 use Rattle.edit_book.specs.Verdicts.{HasVerdict, IsBriefOn}
-use Rattle.edit_book.proofs.Trees.{all_read, root_good, zip_count}
+use Rattle.edit_book.proofs.Trees.{all_read, root_good, setting_at, zip_count}
 use Rattle.summary_tree.specs.Leaves.{Leaf, IsRootOf, all_lines}
 
 pub root_verdict : (o : Opening) (es : List Entry) (leaves : List Leaf) (view : FaceView) (told : Verdict) → IsLawful o es leaves → IsRootOf leaves view → told ≡ verdict_of (summary_of view) o.setting.first
-    → HasVerdict o.setting (body (document_of o es)) told
+    → HasVerdict (setting_at o es) (body (document_of o es)) told
 root_verdict o es leaves view told s root is =
-    let all = all_read o.setting leaves (document_of o es).blocks s.leaves_are in
+    let all = all_read (setting_at o es) leaves (document_of o es).blocks s.leaves_are in
     let reads : List Read = all_lines all.blocks in
-    let many : length (body (document_of o es)) ≡ length reads = zip_count (ReadsAs o.setting.profile o.setting.declared) (body (document_of o es)) reads all.read in
+    let many : length (body (document_of o es)) ≡ length reads = zip_count (ReadsAs o.setting.profile (setting_at o es).declared) (body (document_of o es)) reads all.read in
     let made : List LoopFact = loops_made o.setting.profile empty_state o.setting.first reads in (
       made,
       record {
@@ -39,6 +39,6 @@ root_verdict o es leaves view told s root is =
     )
 
 pub root_brief : (o : Opening) (es : List Entry) (leaves : List Leaf) (view : FaceView) (brief : Brief) → IsLawful o es leaves → IsRootOf leaves view
-    → brief ≡ brief_of (verdict_of (summary_of view) o.setting.first) → IsBriefOn o.setting (body (document_of o es)) brief
+    → brief ≡ brief_of (verdict_of (summary_of view) o.setting.first) → IsBriefOn (setting_at o es) (body (document_of o es)) brief
 root_brief o es leaves view brief s root is =
     (verdict_of (summary_of view) o.setting.first, root_verdict o es leaves view (verdict_of (summary_of view) o.setting.first) s root refl, is)

@@ -25,8 +25,11 @@ use Rattle.edit_journal.specs.declared.opening.Opening.{Opening}
 use Rattle.edit_journal.specs.Documents.{Block, Document, after, body, document_of, lines_in, with_after, with_new, with_text, without}
 use Rattle.edit_book.specs.Books.{BookView, Each, IsLawful, IsLeafOf}
 use Rattle.edit_book.specs.Replies.{Request}
+use Rattle.edit_book.specs.Headers.{changes_header}
 use Rattle.edit_book.specs.Work.{edit_limit, limit_at, needles_in, once, work_limit}
+use Rattle.edit_book.proofs.KeptHeaders.{setting_stays}
 use Rattle.edit_book.proofs.Puts.{doc_snoc}
+use Rattle.edit_book.proofs.Trees.{setting_at}
 use Rattle.summary_tree.specs.Leaves.{AreGoodFor, Leaf}
 use Rattle.summary_tree.specs.Trees.{TreeView, change_steps}
 
@@ -155,19 +158,24 @@ leaves_known setting known (l ∷ leaves) (b ∷ bs) h all =
 within_limit : (high most : ℕ) → 9 * (high + 2) * most ≤ 16 * (high + 2) * (most + 1)
 within_limit high most = mul-le (9 * (high + 2)) most (16 * (high + 2)) (most + 1) (omega arith) (omega arith)
 
--- An edit takes no more steps than it may.
+-- An edit of a block takes no more steps than it may.
 pub edit_work : (o : Opening) (es : List Entry) (session count blocks before now : ℕ) (request : Request) (change : Edit) (lines : List (List ℕ)) (v : BookView) (room : Bool) (tree : TreeView) (longer : List Entry) (leaves : List Leaf)
-    → record { opening = o; entries = es; journal_room = room; tree = tree } ≡ v → longer ≡ es ++ record { session = session; edit = change } ∷ [] → IsLawful o longer leaves
-    → limit_at o.setting (document_of o es) request ≡ edit_limit o.setting blocks lines → count ≡ blocks
-    → Each (KnowsLine o.setting (needles_in o.setting lines)) (body (after (document_of o es) (length es + 1) change))
+    → record { opening = o; entries = es; journal_room = room; tree = tree } ≡ v → longer ≡ es ++ record { session = session; edit = change } ∷ [] → changes_header change ≡ false → IsLawful o longer leaves
+    → limit_at (setting_at o es) (document_of o es) request ≡ edit_limit (setting_at o es) blocks lines → count ≡ blocks
+    → Each (KnowsLine (setting_at o es) (needles_in (setting_at o es) lines)) (body (after (document_of o es) (length es + 1) change))
     → ((carriers limit : ℕ) (known : List Needle) → AreGoodFor carriers limit known leaves → now ≤ before + change_steps count (most_items carriers limit (length known)))
     → now ≤ before + work_limit v.opening v.entries request
-edit_work o es session count blocks before now request change lines v room tree longer leaves view longer_is lawful limit_is count_is all steps =
-    let next : document_of o longer ≡ after (document_of o es) (length es + 1) change = ap (document_of o) longer_is ∙ doc_snoc o es (record { session = session; edit = change }) in
-    let known : List Needle = needles_in o.setting lines in
-    let good = leaves_known o.setting known leaves (document_of o longer).blocks lawful.leaves_are (subst (λ (d : Document). Each (KnowsLine o.setting known) (body d)) (sym next) all) in
-    let most : ℕ = most_items (length o.setting.declared) o.setting.profile.hold (length known) in
-    let taken : now ≤ before + change_steps blocks most = subst (λ (n : ℕ). now ≤ before + change_steps n most) count_is (steps (length o.setting.declared) o.setting.profile.hold known good) in
-    let less : change_steps blocks most ≤ edit_limit o.setting blocks lines = within_limit (highest blocks) most in
-    let here : now ≤ before + limit_at o.setting (document_of o es) request = subst (λ (n : ℕ). now ≤ before + n) (sym limit_is) (omega (arith, taken, less)) in
+edit_work o es session count blocks before now request change lines v room tree longer leaves view longer_is isnt lawful limit_is count_is all steps =
+    let setting : Setting = setting_at o es in
+    let e : Entry = record { session = session; edit = change } in
+    let next : document_of o longer ≡ after (document_of o es) (length es + 1) change = ap (document_of o) longer_is ∙ doc_snoc o es e in
+    let same : setting_at o longer ≡ setting = ap (setting_at o) longer_is ∙ setting_stays o es e isnt in
+    let known : List Needle = needles_in setting lines in
+    let leaves_are : AllZip (λ (l : Leaf) (b : Block). IsLeafOf setting l b.lines) leaves (document_of o longer).blocks =
+    subst (λ (x : Setting). AllZip (λ (l : Leaf) (b : Block). IsLeafOf x l b.lines) leaves (document_of o longer).blocks) same lawful.leaves_are in
+    let good = leaves_known setting known leaves (document_of o longer).blocks leaves_are (subst (λ (d : Document). Each (KnowsLine setting known) (body d)) (sym next) all) in
+    let most : ℕ = most_items (length setting.declared) setting.profile.hold (length known) in
+    let taken : now ≤ before + change_steps blocks most = subst (λ (n : ℕ). now ≤ before + change_steps n most) count_is (steps (length setting.declared) setting.profile.hold known good) in
+    let less : change_steps blocks most ≤ edit_limit setting blocks lines = within_limit (highest blocks) most in
+    let here : now ≤ before + limit_at setting (document_of o es) request = subst (λ (n : ℕ). now ≤ before + n) (sym limit_is) (omega (arith, taken, less)) in
     subst (λ (w : BookView). now ≤ before + work_limit w.opening w.entries request) view here

@@ -92,7 +92,7 @@ pub record IsLawful (opening : Opening) (entries : List Entry) (leaves : List Le
   pub texts : Each (HasText opening entries) (document_of opening entries).blocks
   pub short : HasShortTexts opening entries
   pub leaves_are : HasLeaves opening (document_of opening entries) leaves
-  pub setting : IsLawfulSetting opening.setting
+  pub setting : IsLawfulSetting (setting_of opening (document_of opening entries))
 
 -- what a book keeps beside its opening, its journal and its tree stands for the document: the states of the blocks drawn, the
 -- ids in their order, and the count of lines

@@ -1,5 +1,8 @@
 pub mod Books
 pub mod Entered
+pub mod Fitting
+pub mod HeaderTrees
+pub mod Headers
 pub mod Opened
 pub mod Orders
 pub mod Replies

@@ -27,6 +27,6 @@ pub record IsLoopOn (setting : Setting) (lines : List (List ℕ)) (line : ℕ) (
   pub read : AreReadings setting.profile setting.declared lines readings
   pub made : fact ≡ fact_of line (loops_made setting.profile empty_state setting.first readings)
 
--- what a document is read by
+-- what a document is read by: the setting of its opening, with the names that its header has
 abbrev pub setting_of : Opening → Document → Setting
-setting_of opening d = opening.setting
+setting_of opening d = record { profile = opening.setting.profile; declared = d.header.names; first = opening.setting.first }

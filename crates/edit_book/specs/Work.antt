@@ -1,5 +1,5 @@
 -- How much work a request may take, in steps.
-use Rattle.std.specs.Prelude.{ℕ, ◌+◌, ◌*◌, List, [], ◌∷◌, ◌++◌, length, if◌then◌else◌}
+use Rattle.std.specs.Prelude.{ℕ, ◌+◌, ◌*◌, ◌==◌, Bool, ◌&&◌, List, [], ◌∷◌, ◌++◌, length, if◌then◌else◌}
 use Rattle.std.specs.List.{list_any}
 use Rattle.std.specs.Option.{option_map_or}
 use Rattle.knit_base.specs.declared.needle.Needle.{Needle}
@@ -11,8 +11,11 @@ use Rattle.block_summary.proofs.Blocks.{named}
 use Rattle.tree_shape.specs.Fewest.{highest}
 use Rattle.edit_journal.specs.declared.edit.Entry.{Entry}
 use Rattle.edit_journal.specs.declared.opening.Opening.{Opening}
-use Rattle.edit_journal.specs.Documents.{Document, block_of, document_of, body}
-use Rattle.edit_book.specs.Replies.{Request, Look, Put, Add, Cut, LoopAt, VerdictNow}
+use Rattle.edit_journal.specs.Documents.{Block, Document, block_of, document_of, body}
+use Rattle.edit_book.specs.declared.reply.Again.{Again}
+use Rattle.edit_book.specs.declared.reply.BookCommand.{BookCommand}
+use Rattle.edit_book.specs.declared.reply.BookCommand.TheVariants as command
+use Rattle.edit_book.specs.Replies.{Request, Look, Put, Add, Cut, LoopAt, VerdictNow, LookHead, Texts, PutHead}
 use Rattle.edit_book.specs.Verdicts.{setting_of}
 
 -- each needle once
@@ -32,14 +35,51 @@ edit_limit setting blocks lines = 16 * (highest blocks + 2) * (most_items (lengt
 abbrev pub start_limit : Setting → ℕ → List (List ℕ) → ℕ
 start_limit setting blocks lines = 3 * most_items (length setting.declared) setting.profile.hold (length (needles_in setting lines)) * blocks
 
--- for a request of a document
+-- a setting with other names
+abbrev pub with_names : List (List ℕ) → Setting → Setting
+with_names names setting = record { profile = setting.profile; declared = names; first = setting.first }
+
+-- a summary is for the block and its stamp
+abbrev pub is_for : Block → Again → Bool
+is_for b a = (a.block == b.id) && (a.stamp == b.stamp)
+
+-- one of these is
+abbrev pub is_known : List Again → Block → Bool
+is_known again b = list_any (is_for b) again
+
+-- how many lines the blocks have whose summary isn't handed over
+abbrev pub lines_anew : List Again → List Block → ℕ
+lines_anew again [] = 0
+lines_anew again (b ∷ bs) = (if is_known again b then 0 else length b.lines) + lines_anew again bs
+
+-- for other names of the header, where these summaries are handed over
+abbrev pub header_limit : Setting → Document → List Again → ℕ
+header_limit setting d again =
+    4 * (length d.blocks + 1) * (most_items (length setting.declared) setting.profile.hold (length (needles_in setting (body d))) + 1) + 2 * lines_anew again d.blocks
+
+-- for a request of a document; other names of the header are reckoned as if no summary were handed over
 abbrev pub limit_at : Setting → Document → Request → ℕ
 limit_at setting d (Look id) = option_map_or (λ b. length b.lines) (block_of d.blocks id) 0
-limit_at setting d (Put id seen text) = edit_limit setting (length d.blocks) (body d ++ text)
-limit_at setting d (Add anchor text) = edit_limit setting (length d.blocks + 1) (body d ++ text)
+limit_at setting d (Put id seen head text) = edit_limit setting (length d.blocks) (body d ++ text)
+limit_at setting d (Add anchor head text) = edit_limit setting (length d.blocks + 1) (body d ++ text)
 limit_at setting d (Cut id seen) = edit_limit setting (length d.blocks) (body d)
 limit_at setting d (LoopAt line) = 14
 limit_at setting d VerdictNow = 1
+limit_at setting d LookHead = 0
+limit_at setting d Texts = 0
+limit_at setting d (PutHead seen names) = header_limit (with_names names setting) d []
 
 abbrev pub work_limit : Opening → List Entry → Request → ℕ
 work_limit opening entries request = let d = document_of opening entries in limit_at (setting_of opening d) d request
+
+-- for a command, with what it hands over
+abbrev pub command_limit : Opening → List Entry → BookCommand → ℕ
+command_limit opening entries (command.Look block) = work_limit opening entries (Look block)
+command_limit opening entries (command.Put block seen head prepared) = work_limit opening entries (Put block seen head prepared.text)
+command_limit opening entries (command.Add anchor head prepared) = work_limit opening entries (Add anchor head prepared.text)
+command_limit opening entries (command.Cut block seen) = work_limit opening entries (Cut block seen)
+command_limit opening entries (command.LoopAt line) = work_limit opening entries (LoopAt line)
+command_limit opening entries command.Verdict = work_limit opening entries VerdictNow
+command_limit opening entries command.LookHead = 0
+command_limit opening entries command.Texts = 0
+command_limit opening entries (command.PutHead seen names again) = let d = document_of opening entries in header_limit (with_names names (setting_of opening d)) d again

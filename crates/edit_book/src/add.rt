@@ -1,6 +1,6 @@
 //! A new block comes in.
 ghost use Rattle.std.specs.Prelude.{◌≡◌, ◌+◌, ◌<◌, ◌≤◌, None, length};
-ghost use Rattle.block_summary.specs.Prepared.{IsPreparedFor};
+ghost use Rattle.edit_book.specs.Headers.{IsPreparedUnder};
 ghost use Rattle.edit_journal.specs.Documents.{after, body};
 ghost use Rattle.edit_journal.specs.declared.edit.Edit.TheVariants as edit;
 ghost use Rattle.edit_book.specs.Books.{document, ids_of};
@@ -19,21 +19,26 @@ use knit_base::{BlockText, Steps};
 use std::sync::ledger::Ledger;
 
 impl Book {
-    /// Puts a new block first, or directly after another. Its id is the count of ids drawn, its stamp the new version.
+    /// Puts a new block first, or directly after another. Its id is the count of ids drawn, its stamp the new version. The text was
+    /// prepared under the names that the header got from entry `head`; where the header has changed since, the add is stale.
     pub fn add<L: Ledger>(
         &mut self,
         session: u32,
         anchor: Anchor,
+        head: u32,
         prepared: Prepared,
         steps: &mut Steps<L>,
     ) -> Reply
         requires session { session < 64 }
-        requires prepared { IsPreparedFor self.old.opening.setting.profile self.old.opening.setting.declared prepared }
+        requires prepared { IsPreparedUnder self.old.opening self.old.entries head prepared }
         ensures opening { self.new.opening ≡ self.old.opening }
-        ensures turned { IsTurn self.old.opening self.old.entries session (request.Add anchor prepared.text) result self.new.entries }
-        ensures steps { steps.new ≤ steps.old + work_limit self.old.opening self.old.entries (request.Add anchor prepared.text) }
+        ensures turned { IsTurn self.old.opening self.old.entries session (request.Add anchor head prepared.text) result self.new.entries }
+        ensures steps { steps.new ≤ steps.old + work_limit self.old.opening self.old.entries (request.Add anchor head prepared.text) }
     {
         if let Some(refusal) = self.refused_anchor(anchor) {
+            return refusal;
+        }
+        if let Some(refusal) = self.refused_head(head) {
             return refusal;
         }
         if let Some(refusal) = self.refused_entries() {
@@ -47,7 +52,7 @@ impl Book {
         if let Some(refusal) = self.refused_count(lines) {
             return refusal;
         }
-        self.add_fitting(session, anchor, id, prepared, steps)
+        self.add_fitting(session, anchor, id, head, prepared, steps)
     }
 
     // An add that nothing refuses, apart from the others, since a call pays for all values that it may have.
@@ -57,16 +62,17 @@ impl Book {
         session: u32,
         anchor: Anchor,
         id: u32,
+        head: u32,
         prepared: Prepared,
         steps: &mut Steps<L>,
     ) -> Reply
-        requires prepared { IsPreparedFor self.old.opening.setting.profile self.old.opening.setting.declared prepared }
+        requires prepared { IsPreparedUnder self.old.opening self.old.entries head prepared }
         requires id { id ≡ (document self.old).drawn }
         requires anchor { refused_anchor (document self.old) self.old.entries anchor ≡ None }
-        requires free { refusal_of (document self.old) self.old.entries (request.Add anchor prepared.text) ≡ None }
+        requires free { refusal_of (document self.old) self.old.entries (request.Add anchor head prepared.text) ≡ None }
         ensures opening { self.new.opening ≡ self.old.opening }
-        ensures turned { IsTurn self.old.opening self.old.entries session (request.Add anchor prepared.text) result self.new.entries }
-        ensures steps { steps.new ≤ steps.old + work_limit self.old.opening self.old.entries (request.Add anchor prepared.text) }
+        ensures turned { IsTurn self.old.opening self.old.entries session (request.Add anchor head prepared.text) result self.new.entries }
+        ensures steps { steps.new ≤ steps.old + work_limit self.old.opening self.old.entries (request.Add anchor head prepared.text) }
     {
         let lines = self.lines_after_add(anchor, id, &prepared.text);
         let version = self.version() + 1;

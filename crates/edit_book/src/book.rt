@@ -1,21 +1,22 @@
 //! The book: what it began with, the journal of what was done to it, and the document that follows.
 ghost use Rattle.std.specs.Prelude.{◌≡◌, ◌≢◌, ℕ, ◌+◌, ◌<◌, ◌≤◌, Some, None, IfSome, length, option_map, nat_lt, if◌then◌else◌};
 ghost use Rattle.std.specs.Option.{option_copied};
-ghost use Rattle.edit_journal.specs.Documents.{block_of, stamp_at, after, body, text_at as text_given};
+ghost use Rattle.edit_journal.specs.Documents.{block_of, stamp_at, after, body, names_at as names_given_at, text_at as text_given};
 ghost use Rattle.edit_journal.specs.declared.edit.Edit.TheVariants as edit;
 ghost use Rattle.edit_book.specs.Books.{document, state_of, IsLawfulBook};
-ghost use Rattle.edit_journal.specs.Entries.{entry_limit};
-ghost use Rattle.edit_book.specs.Replies.{refused_name as name_refusal, refused_anchor as anchor_refusal, refused_stamp as stamp_refusal, refused_entries as entries_refusal, refused_blocks as blocks_refusal, refused_lines as lines_refusal, refused_over as over, line_limit};
-ghost use Rattle.edit_book.specs.Verdicts.{IsBriefOn};
+ghost use Rattle.edit_journal.specs.Entries.{entry_limit, head_id};
+ghost use Rattle.edit_book.specs.Replies.{refused_name as name_refusal, refused_anchor as anchor_refusal, refused_stamp as stamp_refusal, refused_head as head_refusal, refused_entries as entries_refusal, refused_blocks as blocks_refusal, refused_lines as lines_refusal, refused_over as over, line_limit};
+ghost use Rattle.edit_book.specs.Verdicts.{IsBriefOn, setting_of};
 ghost use Rattle.edit_book.specs.declared.reply.Which.TheVariants as which;
 
 use crate::block_state::BlockState;
+use crate::header::Header;
 use crate::order::Order;
 use crate::{Reply, Which};
 use carriage_model::Brief;
-use edit_journal::{Anchor, Journal, Opening};
+use edit_journal::{Anchor, HEAD, Journal, Opening};
 use face_data::brief_of;
-use knit_base::{BlockText, Setting};
+use knit_base::{BlockText, Declared, Setting};
 use std::alloc::Global;
 use std::marker::Model;
 use std::mem;
@@ -26,6 +27,9 @@ use summary_tree::Tree;
 pub struct Book {
     pub(crate) opening: Opening,
     pub(crate) journal: Journal,
+    // the header's stamp, beside the rest of what is kept of the header, which few calls ask for
+    pub(crate) head: u32,
+    pub(crate) header: Box<Header>,
     pub(crate) states: Vec<BlockState>,
     pub(crate) order: Order,
     pub(crate) lines: u32,
@@ -38,6 +42,7 @@ impl Model for Book {
     ghost use Rattle.std.specs.Coded.{codes};
     ghost use Rattle.tree_shape.specs.View.{tree_code};
     ghost use Rattle.edit_book.specs.Books.{BookView, Stands, book_view};
+    ghost use Rattle.edit_book.specs.Headers.{HasHeader};
 
     ghost Value = { BookView };
 
@@ -45,7 +50,7 @@ impl Model for Book {
 
     ghost view = { λ b. book_view b.opening b.journal b.tree.value };
 
-    ghost invariant = { λ b. Stands b.opening b.journal.entries b.tree.value.leaves b.states.items b.order.ids b.lines };
+    ghost invariant = { λ b. Stands b.opening b.journal.entries b.tree.value.leaves b.states.items b.order.ids b.lines × HasHeader b.opening b.journal.entries b.head b.header.value };
 }
 
 impl Book {
@@ -64,11 +69,24 @@ impl Book {
         &self.journal
     }
 
-    /// What the document is read by.
+    /// What the document is read by at its version: the opening's setting, with the names that the header now has.
     pub fn setting(&self) -> &Setting
-        ensures { result.now ≡ self.now.opening.setting }
+        ensures { result.now ≡ setting_of self.now.opening (document self.now) }
     {
-        &self.opening.setting
+        &self.header.setting
+    }
+
+    /// The header's names at a version; those of now for one that is still to come. Takes no memory.
+    pub fn names_at(&self, version: u32) -> &Declared
+        ensures { result.now ≡ names_given_at self.now.opening self.now.entries version }
+    {
+        match self.journal.get(self.header.stamp_at(version)) {
+            Some(entry) => match entry.names_for() {
+                Some(names) => names,
+                None => unreachable!(),
+            },
+            None => &self.opening.setting.declared,
+        }
     }
 
     /// The journal alone.
@@ -86,12 +104,14 @@ impl Book {
         let Book {
             opening,
             journal,
+            header,
             states,
             order,
             tree,
             ..
         } = self;
         mem::forget(opening);
+        mem::forget(header);
         mem::forget(states);
         mem::forget(order);
         mem::forget(tree);
@@ -100,7 +120,7 @@ impl Book {
 
     /// The verdict on the document, in short.
     pub fn verdict(&self) -> Brief
-        ensures { IsBriefOn self.now.opening.setting (body (document self.now)) result }
+        ensures { IsBriefOn (setting_of self.now.opening (document self.now)) (body (document self.now)) result }
     {
         brief_of(&self.tree.root(), self.opening.setting.first)
     }
@@ -121,6 +141,7 @@ impl Book {
     pub(crate) fn ids(&self) -> u32
         ensures ids { result ≡ (document self.now).drawn }
         ensures lawful { IsLawfulBook self.now }
+        ensures below_head { (document self.now).drawn < head_id }
     {
         self.states.len() as u32
     }
@@ -213,6 +234,21 @@ impl Book {
             }
             None => None,
         }
+    }
+
+    /// Whether the header has another stamp than this.
+    pub(crate) fn refused_head(&self, seen: u32) -> Option<Reply>
+        ensures { result ≡ head_refusal (document self.now) self.now.entries seen }
+    {
+        if self.head == seen {
+            return None;
+        }
+        Some(Reply::Stale {
+            version: self.version(),
+            block: HEAD,
+            seen,
+            now: self.head,
+        })
     }
 
     pub(crate) fn refused_entries(&self) -> Option<Reply>

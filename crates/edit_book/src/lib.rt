@@ -7,28 +7,37 @@
 //! the height of the tree, whatever the number of lines, and the loop of a line 14. Sessions share a book by turns, each of which is
 //! right (`specs/Turns`).
 //!
+//! Other names of the header are read into a new tree, which is made first.
+//!
 //! Definitions: `specs/Replies` (what is asked, and the one reply), `specs/Verdicts` (the verdict in short, and the loop of a line; the
-//! verdict itself is defined in `block_summary`, `specs/Verdicts`), `specs/Work` (how many steps a request may take), `specs/Orders` and
-//! `specs/Books` (what contracts see of a book, and what always holds of one), `specs/Opened` (what is kept of the first blocks) and
-//! `specs/Entered` (the state in which a block begins). Below it stand std, `knit_base`, `carriage_model`, `knitout_reader`, `face_data`,
-//! `loop_history`, `block_summary`, `edit_journal`, `turn_book` and the tree of faces.
+//! verdict itself is defined in `block_summary`, `specs/Verdicts`), `specs/Headers` (the names under which a text was prepared, and what
+//! is kept of the header), `specs/Turns` and `specs/Fitting` (what a turn needs, and that it stays so), `specs/Work` (how many steps a
+//! request may take), `specs/Orders` and `specs/Books` (what contracts see of a book, and what always holds of one), `specs/Opened` (what
+//! is kept of the first blocks), `specs/HeaderTrees` (what is taken of summaries that are handed over) and `specs/Entered` (the state in
+//! which a block begins). Below it stand std, `knit_base`, `carriage_model`, `knitout_reader`, `face_data`, `loop_history`,
+//! `block_summary`, `edit_journal`, `turn_book` and the tree of faces.
 #![tactic(auto)]
 
 mod add;
 mod block_state;
 mod book;
 mod cut;
+mod header;
 mod look;
+mod look_head;
 mod loops;
 mod now;
 mod order;
 mod put;
+mod put_head;
 mod replies;
 mod reply;
 mod room;
 mod start;
+mod texts;
 mod turns;
 
 pub use book::Book;
+pub use edit_journal::HEAD;
 pub use replies::Replies;
-pub use reply::{BookCommand, Reply, Which};
+pub use reply::{Again, AgainList, BookCommand, Reply, Which};

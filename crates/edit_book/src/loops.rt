@@ -8,7 +8,7 @@ ghost use Rattle.edit_book.specs.Books.{document};
 ghost use Rattle.edit_book.specs.Entered.{IsBehind, entries_held, stops_by};
 ghost use Rattle.edit_book.specs.Replies as request;
 ghost use Rattle.edit_book.specs.Replies.{IsAnswer};
-ghost use Rattle.edit_book.specs.Verdicts.{IsLoopOn};
+ghost use Rattle.edit_book.specs.Verdicts.{IsLoopOn, setting_of};
 
 use crate::{Book, Reply};
 use carriage_model::{Brief, LoopFact};
@@ -39,7 +39,7 @@ impl Book {
         line: u32,
         steps: &mut Steps<L>,
     ) -> Result<Option<LoopFact>, NoMemory>
-        ensures fact { IfOk result (IsLoopOn self.now.opening.setting (body (document self.now)) line) }
+        ensures fact { IfOk result (IsLoopOn (setting_of self.now.opening (document self.now)) (body (document self.now)) line) }
         ensures steps { steps.new ≤ steps.old + 14 }
     {
         let first = self.opening.setting.first;

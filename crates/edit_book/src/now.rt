@@ -5,7 +5,7 @@ ghost use Rattle.edit_book.specs.Books.{document};
 ghost use Rattle.edit_book.specs.Replies as request;
 ghost use Rattle.edit_book.specs.Replies.{IsAnswer, IsGranted};
 ghost use Rattle.block_summary.specs.Verdicts.{broken_line};
-ghost use Rattle.edit_book.specs.Verdicts.{HasVerdict};
+ghost use Rattle.edit_book.specs.Verdicts.{HasVerdict, setting_of};
 
 use crate::{Book, Reply};
 use carriage_model::Verdict;
@@ -40,7 +40,7 @@ impl Book {
 
     /// The verdict on the document, whole. The only error is want of memory.
     pub fn whole_verdict(&self) -> Result<Verdict, NoMemory>
-        ensures { IfOk result (HasVerdict self.now.opening.setting (body (document self.now))) }
+        ensures { IfOk result (HasVerdict (setting_of self.now.opening (document self.now)) (body (document self.now))) }
     {
         verdict_of(self.alloc, &self.tree.root(), self.opening.setting.first)
     }

@@ -1,6 +1,6 @@
 //! A block gets another text.
 ghost use Rattle.std.specs.Prelude.{◌≡◌, ◌≢◌, ◌+◌, ◌<◌, ◌≤◌, None};
-ghost use Rattle.block_summary.specs.Prepared.{IsPreparedFor};
+ghost use Rattle.edit_book.specs.Headers.{IsPreparedUnder};
 ghost use Rattle.edit_book.specs.Books.{document, IsReady};
 ghost use Rattle.edit_book.specs.Replies as request;
 ghost use Rattle.edit_book.specs.Replies.{refusal_of, IsTurn};
@@ -17,26 +17,31 @@ use knit_base::Steps;
 use std::sync::ledger::Ledger;
 
 impl Book {
-    /// Gives a block another text, and the stamp of the new version.
+    /// Gives a block another text, and the stamp of the new version. The text was prepared under the names that the header got from
+    /// entry `head`; where the header has changed since, the put is stale.
     pub fn put<L: Ledger>(
         &mut self,
         session: u32,
         block: u32,
         seen: u32,
+        head: u32,
         prepared: Prepared,
         steps: &mut Steps<L>,
     ) -> Reply
         requires session { session < 64 }
-        requires prepared { IsPreparedFor self.old.opening.setting.profile self.old.opening.setting.declared prepared }
+        requires prepared { IsPreparedUnder self.old.opening self.old.entries head prepared }
         ensures opening { self.new.opening ≡ self.old.opening }
-        ensures turned { IsTurn self.old.opening self.old.entries session (request.Put block seen prepared.text) result self.new.entries }
-        ensures steps { steps.new ≤ steps.old + work_limit self.old.opening self.old.entries (request.Put block seen prepared.text) }
+        ensures turned { IsTurn self.old.opening self.old.entries session (request.Put block seen head prepared.text) result self.new.entries }
+        ensures steps { steps.new ≤ steps.old + work_limit self.old.opening self.old.entries (request.Put block seen head prepared.text) }
         ensures ready { IsReady self.old block prepared.face → result ≢ Reply.NoMemory }
     {
         if let Some(refusal) = self.refused_name(block) {
             return refusal;
         }
         if let Some(refusal) = self.refused_stamp(block, seen) {
+            return refusal;
+        }
+        if let Some(refusal) = self.refused_head(head) {
             return refusal;
         }
         if let Some(refusal) = self.refused_entries() {
@@ -46,7 +51,7 @@ impl Book {
         if let Some(refusal) = self.refused_count(lines) {
             return refusal;
         }
-        self.put_fitting(session, block, seen, prepared, steps)
+        self.put_fitting(session, block, seen, head, prepared, steps)
     }
 
     // A put that nothing refuses, apart from the others, since a call pays for all values that it may have.
@@ -56,14 +61,15 @@ impl Book {
         session: u32,
         id: u32,
         seen: u32,
+        head: u32,
         prepared: Prepared,
         steps: &mut Steps<L>,
     ) -> Reply
-        requires prepared { IsPreparedFor self.old.opening.setting.profile self.old.opening.setting.declared prepared }
-        requires free { refusal_of (document self.old) self.old.entries (request.Put id seen prepared.text) ≡ None }
+        requires prepared { IsPreparedUnder self.old.opening self.old.entries head prepared }
+        requires free { refusal_of (document self.old) self.old.entries (request.Put id seen head prepared.text) ≡ None }
         ensures opening { self.new.opening ≡ self.old.opening }
-        ensures turned { IsTurn self.old.opening self.old.entries session (request.Put id seen prepared.text) result self.new.entries }
-        ensures steps { steps.new ≤ steps.old + work_limit self.old.opening self.old.entries (request.Put id seen prepared.text) }
+        ensures turned { IsTurn self.old.opening self.old.entries session (request.Put id seen head prepared.text) result self.new.entries }
+        ensures steps { steps.new ≤ steps.old + work_limit self.old.opening self.old.entries (request.Put id seen head prepared.text) }
         ensures ready { IsReady self.old id prepared.face → result ≢ Reply.NoMemory }
     {
         let lines = self.lines_after_put(id, seen, &prepared.text);

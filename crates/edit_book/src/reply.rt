@@ -1,8 +1,8 @@
 //! What is asked of a book, and what it answers.
 use block_summary::Prepared;
 use carriage_model::{Brief, LoopFact, Verdict};
-use edit_journal::{Anchor, BlockName};
-use knit_base::{Lines, Text};
+use edit_journal::{Anchor, BlockName, TextList};
+use knit_base::{Declared, Lines, ListOf, Text};
 
 /// Which count would pass its limit.
 #[derive(Clone, Copy, Debug, PartialEq, Eq)]
@@ -12,17 +12,31 @@ pub enum Which {
     Lines,
 }
 
-/// What is asked of a book. `seen` is the stamp that the asker knows of the block.
+/// A summary of a block's text under other names of the header: of the text that the block had with this stamp.
+#[derive(Drop)]
+pub struct Again {
+    pub block: u32,
+    pub stamp: u32,
+    pub prepared: Prepared,
+}
+
+/// Summaries of several blocks.
+pub type AgainList = ListOf<Again>;
+
+/// What is asked of a book. `seen` is the stamp that the asker knows of the block, or of the header where its names are replaced;
+/// `head` is the stamp of the header under whose names the text was prepared.
 #[derive(Drop)]
 pub enum BookCommand {
     Look(u32),
     Put {
         block: u32,
         seen: u32,
+        head: u32,
         prepared: Prepared,
     },
     Add {
         anchor: Anchor,
+        head: u32,
         prepared: Prepared,
     },
     Cut {
@@ -31,9 +45,18 @@ pub enum BookCommand {
     },
     LoopAt(u32),
     Verdict,
+    LookHead,
+    /// The texts of all blocks.
+    Texts,
+    PutHead {
+        seen: u32,
+        declared: Declared,
+        again: AgainList,
+    },
 }
 
-/// What a session is answered. The version is the number of entries in the journal, after the edit for `Accepted`.
+/// What is answered. The version is the number of entries in the journal, after the edit for `Accepted`. Where a block's id stands,
+/// `HEAD` names the header.
 #[derive(Drop)]
 pub enum Reply {
     /// The edit was done. `brief` is the verdict after it.
@@ -60,7 +83,12 @@ pub enum Reply {
         verdict: Verdict,
         text: Text,
     },
-    /// The block has another stamp than the one that was seen.
+    /// The blocks as they stand, in their order. No session's command is answered so.
+    Texts {
+        version: u32,
+        blocks: TextList,
+    },
+    /// The block, or the header, has another stamp than the one that was seen.
     Stale {
         version: u32,
         block: u32,

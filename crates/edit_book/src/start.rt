@@ -10,6 +10,7 @@ ghost use Rattle.edit_book.specs.Work.{start_limit};
 
 use crate::Book;
 use crate::block_state::BlockState;
+use crate::header::Header;
 use crate::order::Order;
 use block_summary::Prepared;
 use edit_journal::{Journal, Opening};
@@ -88,6 +89,10 @@ impl Book {
         ensures steps { steps.new ≤ steps.old + start_limit setting (length blocks.items) (flat_map (λ (block : Prepared). block.text) blocks.items) }
     {
         let _carriers = setting.declared.len();
+        let header = Header {
+            setting: setting.try_clone()?,
+            entries: Vec::new(alloc),
+        };
         let order = Order::start(alloc, blocks.len() as u32)?;
         let Kept {
             texts,
@@ -98,6 +103,8 @@ impl Book {
         Ok(Book {
             opening: Opening { setting, texts },
             journal: Journal::new(alloc),
+            head: 0,
+            header: Box::new(alloc, header)?,
             states,
             order,
             lines,

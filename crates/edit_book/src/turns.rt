@@ -9,8 +9,8 @@ use turn_book::Booked;
 
 impl Booked for Book {
     ghost use Rattle.edit_book.specs.Turns.{IsRight, IsFit};
-    ghost use Rattle.edit_book.specs.Replies.{request_of};
-    ghost use Rattle.edit_book.specs.Work.{work_limit};
+    ghost use Rattle.edit_book.specs.Work.{command_limit};
+    ghost use Rattle.edit_book.specs.Fitting.{fits_longer};
 
     type Command = BookCommand;
 
@@ -28,9 +28,9 @@ impl Booked for Book {
 
     ghost right = { IsRight };
 
-    ghost fits = { λ opening before command. IsFit opening command };
+    ghost fits = { IsFit };
 
-    ghost bound = { λ opening before command. work_limit opening before (request_of command) };
+    ghost bound = { command_limit };
 
     fn count(&self) -> u32 {
         self.version()
@@ -38,19 +38,33 @@ impl Booked for Book {
 
     #[tactic(auto, using(crate::proofs::Appended::turns))]
     fn act<L: Ledger>(&mut self, number: u32, command: BookCommand, steps: &mut Steps<L>) -> Reply {
+        // No block has the header's id.
+        let _ = self.ids();
         match command {
             BookCommand::Look(block) => self.look(block, steps),
             BookCommand::Put {
                 block,
                 seen,
+                head,
                 prepared,
-            } => self.put(number, block, seen, prepared, steps),
-            BookCommand::Add { anchor, prepared } => self.add(number, anchor, prepared, steps),
+            } => self.put(number, block, seen, head, prepared, steps),
+            BookCommand::Add {
+                anchor,
+                head,
+                prepared,
+            } => self.add(number, anchor, head, prepared, steps),
             BookCommand::Cut { block, seen } => self.cut(number, block, seen, steps),
             BookCommand::LoopAt(line) => self.loop_at(line, steps),
             BookCommand::Verdict => self.now(steps),
+            BookCommand::LookHead => self.look_head(),
+            BookCommand::Texts => self.texts(),
+            BookCommand::PutHead {
+                seen,
+                declared,
+                again,
+            } => self.put_head(number, seen, declared, again, steps),
         }
     }
 
-    ghost fits_longer = { λ opening before more command fits. fits };
+    ghost fits_longer = { fits_longer };
 }

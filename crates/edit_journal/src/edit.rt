@@ -1,9 +1,12 @@
 //! Edits, and the entries that they leave.
 ghost use Rattle.std.specs.Prelude.{◌≡◌, IfOk};
 ghost use Rattle.std.specs.Option.{option_copied};
-ghost use Rattle.edit_journal.specs.Entries.{text_for};
+ghost use Rattle.edit_journal.specs.Entries.{names_for, text_for};
 
-use knit_base::{BlockText, NoMemory};
+use knit_base::{BlockText, Declared, ListOf, NoMemory};
+
+/// The id by which the `Carriers` header is named where a block's id stands. No block has it.
+pub const HEAD: u32 = 4_294_967_295;
 
 /// Where a new block stands: first, or directly after the block with this id.
 #[derive(Clone, Copy, Debug, PartialEq, Eq)]
@@ -19,8 +22,20 @@ pub enum BlockName {
     Own(u32),
 }
 
-/// What is done to a document: a block gets another text, a new block with the next id comes in, or a block is taken out.
-/// `seen` is the stamp that the block had: the number of the entry that gave it its text, 0 for an opening text.
+/// A block as it stood at some version: its id, its stamp and its text, which has at most 4,096 lines.
+#[derive(Drop)]
+pub struct BlockAt {
+    pub block: u32,
+    pub stamp: u32,
+    pub text: BlockText,
+}
+
+/// Blocks, in the order of a document.
+pub type TextList = ListOf<BlockAt>;
+
+/// What is done to a document: a block gets another text, a new block with the next id comes in, a block is taken out, or the
+/// header gets other names. `seen` is the stamp that the block or the header had: the number of the entry that gave it its text or
+/// its names, 0 for those of the opening.
 #[derive(Drop)]
 pub enum Edit {
     Put {
@@ -36,6 +51,10 @@ pub enum Edit {
     Cut {
         block: u32,
         seen: u32,
+    },
+    Head {
+        seen: u32,
+        declared: Declared,
     },
 }
 
@@ -62,6 +81,10 @@ impl Edit {
             Edit::Cut { block, seen } => Edit::Cut {
                 block: *block,
                 seen: *seen,
+            },
+            Edit::Head { seen, declared } => Edit::Head {
+                seen: *seen,
+                declared: declared.try_clone()?,
             },
         })
     }
@@ -92,6 +115,16 @@ impl Entry {
         match &self.edit {
             Edit::Put { block, text, .. } if *block == id => Some(text),
             Edit::Add { block, text, .. } if *block == id => Some(text),
+            Edit::Put { .. } | Edit::Add { .. } | Edit::Cut { .. } | Edit::Head { .. } => None,
+        }
+    }
+
+    /// The names that the entry gives to the header, if it gives it some.
+    pub fn names_for(&self) -> Option<&Declared>
+        ensures { option_copied result ≡ names_for self.now }
+    {
+        match &self.edit {
+            Edit::Head { declared, .. } => Some(declared),
             Edit::Put { .. } | Edit::Add { .. } | Edit::Cut { .. } => None,
         }
     }

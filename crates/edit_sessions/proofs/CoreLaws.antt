@@ -17,12 +17,14 @@ use Rattle.edit_book.specs.declared.reply.Reply.TheVariants.{Stale, Gone, Unseen
 use Rattle.edit_journal.specs.declared.edit.Edit.{Edit}
 use Rattle.edit_journal.specs.declared.edit.Edit.TheVariants as edit
 use Rattle.edit_journal.specs.Documents.{Block, Document, block_of, after, body, document_of}
-use Rattle.edit_book.specs.Replies.{Request, Look, Put, Add, Cut, LoopAt, VerdictNow, or_else, refused_name, refused_anchor, refused_stamp, refused_over, refused_entries, refused_blocks, refused_lines, refusal_of, cut_number, IsAccepted, IsGranted, IsDue, IsReply, entry_of, accepted_block, edit_of}
-use Rattle.edit_sessions.specs.Memory.{Memory, named, unless_long, asked, IsAnswered, asked_entry, version_of, base_of, core}
+use Rattle.edit_journal.specs.Entries.{head_id}
+use Rattle.edit_book.specs.Replies.{Request, Look, Put, Add, Cut, LoopAt, VerdictNow, LookHead, Texts, PutHead, or_else, refused_name, refused_anchor, refused_stamp, refused_head, refused_over, refused_entries, refused_blocks, refused_lines, refusal_of, cut_number, IsAccepted, IsGranted, IsDue, IsReply, entry_of, accepted_block, edit_of}
+use Rattle.edit_sessions.specs.Memory.{Memory, head_of, named, unless_long, asked, IsAnswered, asked_entry, version_of, base_of, core}
+use Rattle.edit_sessions.specs.Session.{Teaches}
 
--- a refusal that carries this version
+-- a refusal that carries this version, and tells no stamp
 abbrev pub Refuses : ℕ → Reply → Type 0
-Refuses v reply = (version_of reply ≡ Some v) × (base_of reply ≡ Some v) × (accepted_block reply ≡ None)
+Refuses v reply = (version_of reply ≡ Some v) × (base_of reply ≡ Some v) × (accepted_block reply ≡ None) × (Teaches reply → ⊥)
 
 pub record MayRefuse (v : ℕ) (o : Option Reply) : Type 0 where
   pub fact : IfSome o (Refuses v)
@@ -36,10 +38,10 @@ refuses_if v true a b p q = p
 refuses_if v false a b p q = q
 
 refuses_name : (d : Document) (journal : List Entry) (id : ℕ) → MayRefuse (length journal) (refused_name d journal id)
-refuses_name d journal id = record { fact = refuses_if _ (nat_lt id d.drawn) _ _ (here (block_of d.blocks id)) (refl, refl, refl) }
+refuses_name d journal id = record { fact = refuses_if _ (nat_lt id d.drawn) _ _ (here (block_of d.blocks id)) (refl, refl, refl, λ t. t) }
   where
     here : (o : Option Block) → IfSome (option_map_or (λ b. None) o (Some (Gone (length journal) id (cut_number journal id)))) (Refuses (length journal))
-    here None = (refl, refl, refl)
+    here None = (refl, refl, refl, λ t. t)
     here (Some b) = tt
 
 refuses_stamp : (d : Document) (journal : List Entry) (id seen : ℕ) → MayRefuse (length journal) (refused_stamp d journal id seen)
@@ -47,10 +49,13 @@ refuses_stamp d journal id seen = record { fact = here (block_of d.blocks id) }
   where
     here : (o : Option Block) → IfSome (option_and_then (λ b. cond (b.stamp == seen) None (Some (Stale (length journal) id seen b.stamp))) o) (Refuses (length journal))
     here None = tt
-    here (Some b) = refuses_if _ (b.stamp == seen) None _ tt (refl, refl, refl)
+    here (Some b) = refuses_if _ (b.stamp == seen) None _ tt (refl, refl, refl, λ t. t)
+
+refuses_head : (d : Document) (journal : List Entry) (seen : ℕ) → MayRefuse (length journal) (refused_head d journal seen)
+refuses_head d journal seen = record { fact = refuses_if _ (d.header.stamp == seen) None _ tt (refl, refl, refl, λ t. t) }
 
 refuses_over : (v : ℕ) (what : Which) (limit count : ℕ) → MayRefuse v (refused_over v what limit count)
-refuses_over v what limit count = record { fact = refuses_if v (nat_le count limit) None _ tt (refl, refl, refl) }
+refuses_over v what limit count = record { fact = refuses_if v (nat_le count limit) None _ tt (refl, refl, refl, λ t. t) }
 
 refuses_entries : (journal : List Entry) → MayRefuse (length journal) (refused_entries journal)
 refuses_entries journal = refuses_over (length journal) Entries 1048576 (length journal + 1)
@@ -67,11 +72,18 @@ refuses_anchor d journal (After id) = refuses_name d journal id
 
 pub refuses : (d : Document) (journal : List Entry) (request : Request) → MayRefuse (length journal) (refusal_of d journal request)
 refuses d journal (Look id) = refuses_name d journal id
-refuses d journal (Put id seen text) = refuses_or (refuses_name d journal id) (refuses_or (refuses_stamp d journal id seen) (refuses_or (refuses_entries journal) (refuses_lines d journal (edit.Put id seen text))))
-refuses d journal (Add anchor text) = refuses_or (refuses_anchor d journal anchor) (refuses_or (refuses_entries journal) (refuses_or (refuses_blocks d journal) (refuses_lines d journal (edit.Add anchor d.drawn text))))
+refuses d journal (Put id seen head text) =
+    refuses_or (refuses_name d journal id) (refuses_or (refuses_stamp d journal id seen) (refuses_or (refuses_head d journal head)
+    (refuses_or (refuses_entries journal) (refuses_lines d journal (edit.Put id seen text)))))
+refuses d journal (Add anchor head text) =
+    refuses_or (refuses_anchor d journal anchor) (refuses_or (refuses_head d journal head)
+    (refuses_or (refuses_entries journal) (refuses_or (refuses_blocks d journal) (refuses_lines d journal (edit.Add anchor d.drawn text)))))
 refuses d journal (Cut id seen) = refuses_or (refuses_name d journal id) (refuses_or (refuses_stamp d journal id seen) (refuses_entries journal))
 refuses d journal (LoopAt line) = record { fact = tt }
 refuses d journal VerdictNow = record { fact = tt }
+refuses d journal LookHead = record { fact = tt }
+refuses d journal Texts = record { fact = tt }
+refuses d journal (PutHead seen names) = refuses_or (refuses_head d journal seen) (refuses_entries journal)
 
 -- the reply carries the version of the journal before it or, with an entry, after it
 abbrev Carries : ℕ → ℕ → Request → Reply → Type 0
@@ -88,11 +100,14 @@ carries_accepted n v block opening d request e f reply is a = subst (Carries n v
 
 carries_granted : (n : ℕ) (opening : Opening) (d : Document) (v : ℕ) (request : Request) (reply : Reply) → IsGranted opening d v request reply → Carries n v request reply
 carries_granted n opening d v (Look id) reply g = subst (Carries n v (Look id)) (sym g.2) (inl (refl, refl, refl))
-carries_granted n opening d v (Put id seen text) reply g = carries_accepted n v id opening d (Put id seen text) (edit.Put id seen text) _ reply refl g
-carries_granted n opening d v (Add anchor text) reply g = carries_accepted n v d.drawn opening d (Add anchor text) (edit.Add anchor d.drawn text) _ reply refl g
+carries_granted n opening d v (Put id seen head text) reply g = carries_accepted n v id opening d (Put id seen head text) (edit.Put id seen text) _ reply refl g
+carries_granted n opening d v (Add anchor head text) reply g = carries_accepted n v d.drawn opening d (Add anchor head text) (edit.Add anchor d.drawn text) _ reply refl g
 carries_granted n opening d v (Cut id seen) reply g = carries_accepted n v id opening d (Cut id seen) (edit.Cut id seen) _ reply refl g
 carries_granted n opening d v (LoopAt line) reply g = subst (Carries n v (LoopAt line)) (sym g.1) (inl (refl, refl, refl))
 carries_granted n opening d v VerdictNow reply g = subst (Carries n v VerdictNow) (sym g.1) (inl (refl, refl, refl))
+carries_granted n opening d v LookHead reply g = subst (Carries n v LookHead) (sym g.0) (inl (refl, refl, refl))
+carries_granted n opening d v Texts reply g = subst (Carries n v Texts) (sym g) (inl (refl, refl, refl))
+carries_granted n opening d v (PutHead seen names) reply g = carries_accepted n v head_id opening d (PutHead seen names) (edit.Head seen names) _ reply refl g
 
 carries_due : (n v : ℕ) (opening : Opening) (d : Document) (request : Request) (reply : Reply) (o : Option Reply) → IfSome o (Refuses v) → IsDue o (IsGranted opening d v request reply) reply → Carries n v request reply
 carries_due n v opening d request reply None r due = carries_granted n opening d v request reply due
@@ -119,12 +134,16 @@ alone_option (Some id) name ask f = f id
 
 alone : (m : Memory) (c : Command) → Alone (asked m c)
 alone m (command.Look name) = alone_option (named m name) name (λ id. Ok (Look id)) (λ id. tt)
-alone m (command.Put name text) = alone_option (named m name) name _ (λ id. alone_option (m.stamps id) name (λ seen. unless_long text (Put id seen text)) (λ seen. alone_long text (Put id seen text)))
-alone m (command.Add place.Start text) = alone_long text (Add Start text)
-alone m (command.Add (place.After name) text) = alone_option (named m name) name (λ id. unless_long text (Add (After id) text)) (λ id. alone_long text (Add (After id) text))
+alone m (command.Put name text) = alone_option (named m name) name _
+    (λ id. alone_option (m.stamps id) name (λ seen. unless_long text (Put id seen (head_of m) text)) (λ seen. alone_long text (Put id seen (head_of m) text)))
+alone m (command.Add place.Start text) = alone_long text (Add Start (head_of m) text)
+alone m (command.Add (place.After name) text) =
+    alone_option (named m name) name (λ id. unless_long text (Add (After id) (head_of m) text)) (λ id. alone_long text (Add (After id) (head_of m) text))
 alone m (command.Cut name) = alone_option (named m name) name _ (λ id. alone_option (m.stamps id) name (λ seen. Ok (Cut id seen)) (λ seen. tt))
 alone m (command.LoopAt line) = tt
 alone m command.Verdict = tt
+alone m command.LookHead = tt
+alone m (command.PutHead names) = tt
 
 module _ (opening : Opening) where
   short_entry : (n : ℕ) (a : Result Request Reply) → asked_entry n a NoMemory ≡ None

@@ -10,4 +10,6 @@ pub mod Sessions
 pub mod Stamps
 pub mod Asks
 pub mod Takes
+pub mod Names
+pub mod GivenTexts
 pub mod Talked

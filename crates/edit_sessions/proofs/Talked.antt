@@ -3,6 +3,7 @@ use Rattle.std.proofs.Common.{◌≡◌, ℕ, zero, suc, ◌+◌, ◌<◌, ◌�
 use Rattle.std.proofs.lemmas.List.{take_all, take-append-le, length-take}
 use Rattle.edit_journal.specs.declared.edit.Entry.{Entry}
 use Rattle.edit_journal.specs.declared.opening.Opening.{Opening}
+use Rattle.edit_journal.proofs.Known.{names_longer}
 use Rattle.script_reader.specs.declared.command.Command.{Command}
 use Rattle.edit_book.specs.declared.reply.Reply.{Reply}
 use Rattle.turn_book.specs.declared.view.View.{View}
@@ -13,7 +14,7 @@ use Rattle.turn_book.specs.Views.{lower, upper, united, own_journal}
 use Rattle.edit_sessions.specs.Histories.{IsHistory, AreHistories}
 use Rattle.edit_sessions.specs.Laws.{IsLegal}
 use Rattle.edit_sessions.specs.Memory.{Memory, core, first_memory, memory_after}
-use Rattle.edit_sessions.specs.Session.{Remembers}
+use Rattle.edit_sessions.specs.Session.{HasNames, Remembers}
 use Rattle.edit_sessions.specs.Shared.{session_of}
 use Rattle.edit_sessions.specs.Taken.{IsTaken}
 use Rattle.edit_sessions.specs.Talks.{AreReady, IsReady}
@@ -31,26 +32,29 @@ pub record TalkSoFar (opening : Opening) (script : List Command) (i : ℕ) (bega
   pub number : session.number ≡ began.first
   pub count : length replies ≡ i
   pub remembers : Remembers session (memory_of (core opening) (first_memory opening) (take i script) replies)
+  pub names : HasNames opening now.seen session
   pub history : Foreign session_of began.first began.past began.seen → IsHistory (core opening) began.first now.seen (first_memory opening) (take i script) replies
 
-pub talk_begins : (opening : Opening) (script : List Command) (v : View Opening Entry) (session : Session) (replies : List Reply) → v.first < v.past → session.number ≡ v.first → Remembers session (first_memory opening) → replies ≡ []
+pub talk_begins : (opening : Opening) (script : List Command) (v : View Opening Entry) (session : Session) (replies : List Reply) → v.first < v.past → session.number ≡ v.first → Remembers session (first_memory opening) → HasNames opening [] session → replies ≡ []
     → TalkSoFar opening script 0 v v session replies
-talk_begins opening script v session replies some number remembers none = record {
+talk_begins opening script v session replies some number remembers names none = record {
   first = refl;
   past = refl;
   number = number;
   count = ap length none;
   remembers = subst (λ (rs : List Reply). Remembers session (memory_of (core opening) (first_memory opening) [] rs)) (sym none) remembers;
+  names = names_longer opening [] v.seen session.learned.head session.header.declared names;
   history = λ fresh. subst (λ (rs : List Reply). IsHistory (core opening) v.first v.seen (first_memory opening) [] rs) (sym none)
       (history_starts (core opening) (is_core opening) v.first v.first v.past v.seen (first_memory opening) (omega arith) some fresh);
 }
 
 pub talk_goes_on : (opening : Opening) (script : List Command) (i : ℕ) (began v w : View Opening Entry) (s t : Session) (replies all : List Reply) (c : Command) (r : Reply) → i < length script → began.first < began.past → TalkSoFar opening script i began v s replies
     → take (i + 1) script ≡ take i script ++ c ∷ [] → t.number ≡ s.number
+    → HasNames opening w.seen t
     → ((m : Memory) → Remembers s m → IsTaken opening s.number m c r v w)
     → ((m : Memory) → Remembers s m → Remembers t (memory_after m c r))
     → all ≡ replies ++ r ∷ [] → TalkSoFar opening script (i + 1) began w t all
-talk_goes_on opening script i began v w s t replies all c r within some so_far one same taken learned all_is =
+talk_goes_on opening script i began v w s t replies all c r within some so_far one same names taken learned all_is =
     let m = memory_of (core opening) (first_memory opening) (take i script) replies in
     let had = taken m so_far.remembers in
     let front : List Command = take i script in
@@ -64,6 +68,7 @@ talk_goes_on opening script i began v w s t replies all c r within some so_far o
       count = ap length all_is ∙ length-append replies (r ∷ []) ∙ ap (λ n. n + 1) so_far.count;
       remembers = subst (λ (p : List Command × List Reply). Remembers t (memory_of (core opening) (first_memory opening) p.0 p.1)) (λ k. (sym one k, sym all_is k))
           (subst (Remembers t) (sym (memory_push (core opening) (is_core opening) began.first (first_memory opening) front replies c r lengths)) (learned m so_far.remembers));
+      names = names;
       history = λ fresh.
           subst (λ (p : List Command × List Reply). IsHistory (core opening) began.first w.seen (first_memory opening) p.0 p.1) (λ k. (sym one k, sym all_is k))
           (subst (λ (j : List Entry). IsHistory (core opening) began.first j (first_memory opening) (front ++ c ∷ []) (replies ++ r ∷ [])) (sym had.seen)

@@ -1,4 +1,5 @@
 pub mod Core
+pub mod Headers
 pub mod Histories
 pub mod Laws
 pub mod Legal

@@ -1,5 +1,5 @@
 -- What a session remembers, and the answer to its command.
-use Rattle.std.specs.Prelude.{◌≡◌, ℕ, zero, suc, ◌-◌, if◌then◌else◌, ◌==◌, nat_lt, nat_le, List, [], ◌∷◌, ◌++◌, Option, Some, None, Result, Ok, Err, length, option_and_then}
+use Rattle.std.specs.Prelude.{◌≡◌, ℕ, zero, suc, ◌-◌, if◌then◌else◌, ◌==◌, nat_lt, nat_le, List, [], ◌∷◌, ◌++◌, Option, Some, None, Result, Ok, Err, length, option_and_then, unwrap_or}
 use Rattle.std.specs.List.{slice_get}
 use Rattle.std.specs.Option.{option_map_or}
 use Rattle.edit_journal.specs.declared.edit.Anchor.{Anchor}
@@ -8,27 +8,32 @@ use Rattle.edit_journal.specs.declared.edit.BlockName.{BlockName}
 use Rattle.edit_journal.specs.declared.edit.BlockName.TheVariants.{Id, Own}
 use Rattle.edit_journal.specs.declared.edit.Entry.{Entry}
 use Rattle.edit_journal.specs.declared.opening.Opening.{Opening}
+use Rattle.edit_journal.specs.Entries.{head_id}
 use Rattle.script_reader.specs.declared.command.Command.{Command}
 use Rattle.script_reader.specs.declared.command.Command.TheVariants as command
 use Rattle.script_reader.specs.declared.command.Place.{Place}
 use Rattle.script_reader.specs.declared.command.Place.TheVariants.{Start, After}
 use Rattle.edit_book.specs.declared.reply.Reply.{Reply}
 use Rattle.edit_book.specs.declared.reply.Reply.TheVariants as reply
-use Rattle.edit_book.specs.Replies.{Request, Look, Put, Add, Cut, LoopAt, VerdictNow, IsReply, entry_of}
+use Rattle.edit_book.specs.Replies.{Request, Look, Put, Add, Cut, LoopAt, VerdictNow, LookHead, PutHead, IsReply, entry_of}
 use Rattle.edit_sessions.specs.Core.{Core}
 
 pub record Memory : Type 0 where
-  -- the stamp of each block that the session knows
+  -- the stamp of each block that the session knows, and of the header, by their ids
   pub stamps : ℕ → Option ℕ
   -- the block that each of its add commands made
   pub adds : List (Option ℕ)
 
--- at the start: stamp 0 for each of so many opening blocks
+-- at the start: stamp 0 for each of so many opening blocks, and for the header
 abbrev pub opening_stamp : ℕ → ℕ → Option ℕ
-opening_stamp blocks id = if nat_lt id blocks then Some 0 else None
+opening_stamp blocks id = if nat_lt id blocks then Some 0 else (if id == head_id then Some 0 else None)
 
 abbrev pub first_memory : Opening → Memory
 first_memory opening = record { stamps = opening_stamp (length opening.texts); adds = [] }
+
+-- the stamp of the header that the session knows
+abbrev pub head_of : Memory → ℕ
+head_of m = unwrap_or (m.stamps head_id) 0
 
 abbrev pub with_stamp : ℕ → ℕ → (ℕ → Option ℕ) → ℕ → Option ℕ
 with_stamp block stamp stamps id = if id == block then Some stamp else stamps id
@@ -38,11 +43,17 @@ abbrev pub told_by : Command → Reply → Option (ℕ × ℕ)
 told_by c (reply.Shown version block stamp first text) = Some (block, stamp)
 told_by (command.Put name text) (reply.Accepted version block brief) = Some (block, version)
 told_by (command.Add place text) (reply.Accepted version block brief) = Some (block, version)
+told_by (command.PutHead names) (reply.Accepted version block brief) = Some (block, version)
 told_by c r = None
 
 abbrev pub with_told : Option (ℕ × ℕ) → (ℕ → Option ℕ) → ℕ → Option ℕ
 with_told None stamps = stamps
 with_told (Some told) stamps = with_stamp told.0 told.1 stamps
+
+-- the stamp of the header after that
+abbrev pub head_told : Option (ℕ × ℕ) → ℕ → ℕ
+head_told None head = head
+head_told (Some told) head = if told.0 == head_id then told.1 else head
 
 -- the block that an accepted reply made
 abbrev pub made_by : Reply → Option ℕ
@@ -89,11 +100,13 @@ if_anchored m (After name) ask = if_named m name (λ id. ask (anchor.After id))
 -- what a command asks of the book, or the reply that the session has without it
 abbrev pub asked : Memory → Command → Result Request Reply
 asked m (command.Look name) = if_named m name (λ id. Ok (Look id))
-asked m (command.Put name text) = if_seen m name (λ id seen. unless_long text (Put id seen text))
-asked m (command.Add place text) = if_anchored m place (λ anchor. unless_long text (Add anchor text))
+asked m (command.Put name text) = if_seen m name (λ id seen. unless_long text (Put id seen (head_of m) text))
+asked m (command.Add place text) = if_anchored m place (λ anchor. unless_long text (Add anchor (head_of m) text))
 asked m (command.Cut name) = if_seen m name (λ id seen. Ok (Cut id seen))
 asked m (command.LoopAt line) = Ok (LoopAt line)
 asked m command.Verdict = Ok VerdictNow
+asked m command.LookHead = Ok LookHead
+asked m (command.PutHead names) = Ok (PutHead (head_of m) names)
 
 abbrev pub IsAnswered : Opening → List Entry → Result Request Reply → Reply → Type 0
 IsAnswered opening journal (Ok request) r = IsReply opening journal request r
@@ -114,6 +127,7 @@ version_of (reply.Accepted version block brief) = Some version
 version_of (reply.Shown version block stamp first text) = Some version
 version_of (reply.Loop version fact) = Some version
 version_of (reply.Now version verdict text) = Some version
+version_of (reply.Texts version blocks) = Some version
 version_of (reply.Stale version block seen now) = Some version
 version_of (reply.Gone version block at) = Some version
 version_of (reply.NoBlock version block ids) = Some version

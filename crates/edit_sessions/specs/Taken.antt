@@ -9,6 +9,14 @@ use Rattle.turn_book.specs.Journal.{Foreign, listed}
 use Rattle.edit_sessions.specs.Memory.{Memory, asked, asked_entry, core}
 use Rattle.edit_sessions.specs.Walk.{IsGiven}
 
+-- What the pass had seen goes on with entries of others, and nothing was entered.
+pub record SeesMore (before after : View Opening Entry) : Type 0 where
+  pub more : List Entry
+  pub foreign : Foreign (λ e. e.session) before.first before.past more
+  pub seen : after.seen ≡ before.seen ++ more
+  pub first : after.first ≡ before.first
+  pub past : after.past ≡ before.past
+
 -- Session n has had this reply to its command. What its pass had seen goes on with entries of others; the reply is the answer
 -- at that journal, or want of memory; and its entry, if it was accepted, is the last that the pass has seen afterwards.
 pub record IsTaken (opening : Opening) (n : ℕ) (m : Memory) (c : Command) (r : Reply) (before after : View Opening Entry) : Type 0 where

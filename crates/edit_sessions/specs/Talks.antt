@@ -3,7 +3,7 @@ use Rattle.std.specs.Prelude.{◌≡◌, ℕ, ◌+◌, ◌≤◌, List, [], ◌�
 use Rattle.edit_journal.specs.declared.opening.Opening.{Opening}
 use Rattle.script_reader.specs.declared.command.Command.{Command}
 use Rattle.edit_sessions.specs.Memory.{first_memory}
-use Rattle.edit_sessions.specs.Session.{Remembers}
+use Rattle.edit_sessions.specs.Session.{HasNames, Remembers}
 use Rattle.edit_sessions.specs.declared.talk.Talk.{Talk}
 use Rattle.edit_book.specs.declared.reply.Reply.{Reply}
 
@@ -11,6 +11,7 @@ use Rattle.edit_book.specs.declared.reply.Reply.{Reply}
 pub record IsReady (opening : Opening) (n : ℕ) (script : List Command) (talk : Talk) : Type 0 where
   pub number : talk.session.number ≡ n
   pub remembers : Remembers talk.session (first_memory opening)
+  pub names : HasNames opening [] talk.session
   pub empty : talk.replies.items ≡ []
   pub room : length script ≤ vec_capacity talk.replies
 

@@ -15,7 +15,7 @@ use crate::session::Session;
 use crate::take::do_command;
 use crate::talk::Talk;
 use edit_book::{Book, Replies, Reply};
-use knit_base::{NoMemory, Setting};
+use knit_base::{Declared, NoMemory, Setting};
 use knit_ports::Gate;
 use script_reader::{Command, CommandList};
 use std::alloc::Global;
@@ -47,7 +47,7 @@ pub fn run_all<G: Gate + Sync, R: Threads + Wait + Sync>(
     ensures histories { Foreign session_of (view_of pass).first (view_of pass).past (view_of pass).seen → IfOk result (λ r. AreHistories (core (opening_of shared.now)) (view_of pass).first (view_of r.0).seen (first_memory (opening_of shared.now)) scripts.now r.1) }
     ensures legal { (view_of pass).first ≡ 0 → (view_of pass).past ≡ (view_of pass).count → (view_of pass).seen ≡ [] → IfOk result (λ r. IsLegal (opening_of shared.now) scripts.now (view_of r.0).seen r.1) }
 {
-    let mut talks = begin(alloc, pass.first(), blocks, scripts)?;
+    let mut talks = begin(alloc, pass.first(), blocks, &setting.declared, scripts)?;
     let lists = Vec::with_capacity(alloc, scripts.len())?;
     if scripts.is_empty() {
         return Ok((pass, Replies::of(lists)));
@@ -87,15 +87,16 @@ fn begin(
     alloc: Global,
     first: u32,
     blocks: u32,
+    declared: &Declared,
     scripts: &[CommandList],
 ) -> Result<Vec<Talk>, NoMemory>
     requires few { first + length scripts.now ≤ 64 }
-    ensures ready { IfOk result (λ talks. (opening : Opening) → length opening.texts ≡ blocks → AreReady opening first scripts.now talks.items) }
+    ensures ready { IfOk result (λ talks. (opening : Opening) → length opening.texts ≡ blocks → opening.setting.declared ≡ declared.now → AreReady opening first scripts.now talks.items) }
     ensures count { IfOk result (λ talks. length talks.items ≡ length scripts.now) }
 {
     let mut talks = Vec::with_capacity(alloc, scripts.len())?;
     for i in 0..scripts.len() {
-        let session = Session::start(alloc, first + i as u32, blocks)?;
+        let session = Session::start(alloc, first + i as u32, blocks, declared)?;
         let replies = Vec::with_capacity(alloc, scripts[i].len() as usize)?;
         talks.push(Talk { session, replies })?;
     }
@@ -103,7 +104,7 @@ fn begin(
 }
 
 // One session, command by command.
-fn talk<G: Gate, R: Threads + Wait>(
+fn talk<G: Gate, R: Threads + Wait + Sync>(
     rt: &R,
     alloc: Global,
     gate: &G,

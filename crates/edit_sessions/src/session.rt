@@ -3,13 +3,13 @@ ghost use Rattle.std.specs.Prelude.{◌≡◌, ℕ, ◌<◌, ◌+◌, nat_eq, Is
 ghost use Rattle.std.specs.Bool.{OnTrue};
 ghost use Rattle.std.specs.HashMap.{get, spare};
 ghost use Rattle.edit_journal.specs.declared.opening.Opening.{Opening};
-ghost use Rattle.edit_sessions.specs.Memory.{Memory, first_memory, memory_after, with_stamp, with_told, told_by, named};
+ghost use Rattle.edit_sessions.specs.Memory.{Memory, first_memory, memory_after, head_told, with_stamp, with_told, told_by, named};
 ghost use Rattle.edit_sessions.specs.Session.{HasLearned, HasRoom, Remembers, Teaches};
 
 use block_summary::Draft;
 use edit_book::Reply;
-use edit_journal::BlockName;
-use knit_base::NoMemory;
+use edit_journal::{BlockName, HEAD};
+use knit_base::{Declared, NoMemory, Profile, Setting};
 use script_reader::Command;
 use std::alloc::Global;
 use std::collections::HashMap;
@@ -20,16 +20,20 @@ use std::collections::HashMap;
 pub struct Learned {
     opening: u32,
     stamps: HashMap<u32, u32>,
+    // the stamp of the header, which each put and add tells, beside the others
+    pub head: u32,
     made: HashMap<u64, u32>,
     adds: u64,
 }
 
-/// A session. The draft is room in which its texts are prepared, one after the other.
+/// A session. It keeps the names that belong to its stamp of the header, in a setting whose other parts say nothing: its texts are
+/// prepared under these. The draft is room in which they are prepared, one after the other.
 #[derive(Drop)]
 pub struct Session {
-    pub(crate) number: u32,
-    pub(crate) learned: Learned,
-    pub(crate) draft: Draft,
+    pub number: u32,
+    pub learned: Learned,
+    pub header: Setting,
+    pub draft: Draft,
 }
 
 fn set_stamp(stamps: &mut HashMap<u32, u32>, block: u32, stamp: u32)
@@ -60,6 +64,7 @@ fn told(command: &Command, reply: &Reply) -> Option<(u32, u32)>
         Reply::Accepted { version, block, .. } => match command {
             Command::Put(_, _) => Some((*block, *version)),
             Command::Add(_, _) => Some((*block, *version)),
+            Command::PutHead(_) => Some((*block, *version)),
             _ => None,
         },
         _ => None,
@@ -75,9 +80,24 @@ fn learn_stamp(stamps: &mut HashMap<u32, u32>, told: Option<(u32, u32)>)
     }
 }
 
+fn learn_head(head: u32, told: Option<(u32, u32)>) -> u32
+    ensures { result ≡ head_told told head }
+{
+    match told {
+        Some((HEAD, stamp)) => stamp,
+        _ => head,
+    }
+}
+
 impl Session {
-    /// The session with this number, which knows stamp 0 of each opening block. Takes no memory.
-    pub fn start(alloc: Global, number: u32, blocks: u32) -> Result<Session, NoMemory>
+    /// The session with this number, which knows stamp 0 of each opening block, and stamp 0 of the header, with these names.
+    pub fn start(
+        alloc: Global,
+        number: u32,
+        blocks: u32,
+        declared: &Declared,
+    ) -> Result<Session, NoMemory>
+        ensures names { IfOk result (λ session. session.header.declared ≡ declared.now) }
         ensures number { IfOk result (λ session. session.number ≡ number) }
         ensures remembers { IfOk result (λ session. (opening : Opening) → length opening.texts ≡ blocks → Remembers session (first_memory opening)) }
     {
@@ -86,8 +106,14 @@ impl Session {
             learned: Learned {
                 opening: blocks,
                 stamps: HashMap::new(alloc),
+                head: 0,
                 made: HashMap::new(alloc),
                 adds: 0,
+            },
+            header: Setting {
+                profile: Profile::USUAL,
+                declared: declared.try_clone()?,
+                first: 1,
             },
             draft: Draft::new(alloc),
         })
@@ -98,6 +124,7 @@ impl Learned {
     /// Makes room for what one reply can teach.
     pub fn make_room(&mut self) -> bool
         ensures kept { (m : Memory) → HasLearned self.old m → HasLearned self.new m }
+        ensures head { self.new.head ≡ self.old.head }
         ensures room { OnTrue result (HasRoom self.new) }
     {
         self.stamps.reserve(1).is_ok() && self.made.reserve(1).is_ok()
@@ -120,6 +147,7 @@ impl Learned {
         match self.stamps.get(&id) {
             Some(stamp) => Some(*stamp),
             None if id < self.opening => Some(0),
+            None if id == HEAD => Some(0),
             None => None,
         }
     }
@@ -128,9 +156,12 @@ impl Learned {
     #[tactic(auto, using(crate::proofs::Made::made, crate::proofs::Stamps::stamps))]
     pub fn learn(&mut self, command: &Command, reply: &Reply)
         requires { Teaches reply.now → HasRoom self.old }
-        ensures { (m : Memory) → HasLearned self.old m → HasLearned self.new (memory_after m command.now reply.now) }
+        ensures learned { (m : Memory) → HasLearned self.old m → HasLearned self.new (memory_after m command.now reply.now) }
+        ensures head { self.new.head ≡ head_told (told_by command.now reply.now) self.old.head }
     {
-        learn_stamp(&mut self.stamps, told(command, reply));
+        let told = told(command, reply);
+        self.head = learn_head(self.head, told);
+        learn_stamp(&mut self.stamps, told);
         if let Command::Add(_, _) = command {
             self.adds = self.adds.saturating_add(1);
             if let Reply::Accepted { block, .. } = reply {

@@ -1,14 +1,16 @@
 //! One command of a session, carried out on the shared book.
-ghost use Rattle.std.specs.Prelude.{◌≡◌, ◌<◌, ◌≤◌};
+ghost use Rattle.std.specs.Prelude.{◌≡◌, ◌<◌, ◌≤◌, Some};
 ghost use Rattle.edit_book.specs.Turns.{IsRight};
 ghost use Rattle.knit_base.specs.Limits.{IsLawfulProfile};
-ghost use Rattle.edit_sessions.specs.Memory.{Memory, memory_after};
-ghost use Rattle.edit_sessions.specs.Session.{HasLearned, Remembers};
+ghost use Rattle.edit_journal.specs.Documents.{names_given};
+ghost use Rattle.edit_sessions.specs.Memory.{Memory, head_told, memory_after, told_by};
+ghost use Rattle.edit_sessions.specs.Session.{HasLearned, HasNames, Remembers};
 ghost use Rattle.edit_sessions.specs.Shared.{opening_of};
 ghost use Rattle.edit_sessions.specs.Taken.{IsTaken};
 ghost use Rattle.turn_book.specs.Passes.{IsPassOf, view_of};
 
 use crate::ask::ask;
+use crate::head::{look_head, put_head};
 use crate::session::{Learned, Session};
 use block_summary::Draft;
 use edit_book::{Book, Reply};
@@ -21,12 +23,13 @@ use std::sync::ledger::{Blank, Ledger};
 use std::thread::Threads;
 use turn_book::{Pass, Shared};
 
-/// Carries out one command of a session on a shared book, at one turn, and remembers what the reply tells.
+/// Carries out one command of a session on a shared book, at one turn, and remembers what the reply tells. Other names of the header
+/// take two turns: at the first the texts of all blocks are asked for, and then they are summarised under these names.
 ///
 /// The reply is `Unseen` or `BlockLong` without a turn. The text of a put or an add is prepared before the turn is taken, and
 /// room for what the reply can tell is made before that: where there is none, the reply is want of memory, and no turn is taken.
 /// It may wait for as long as other threads hold the turn.
-pub fn do_command<R: Threads + Wait>(
+pub fn do_command<R: Threads + Wait + Sync>(
     rt: &R,
     alloc: Global,
     shared: &Shared<Book>,
@@ -39,16 +42,20 @@ pub fn do_command<R: Threads + Wait>(
     requires number { ((view_of pass.old).first ≤ session.old.number) × (session.old.number < (view_of pass.old).past) }
     requires setting { (opening_of shared.now).setting ≡ setting.now }
     requires profile { IsLawfulProfile setting.now.profile }
+    requires names { HasNames (opening_of shared.now) (view_of pass.old).seen session.old }
     ensures of_this { IsPassOf shared.now pass.new }
     ensures number { session.new.number ≡ session.old.number }
+    ensures names { HasNames (opening_of shared.now) (view_of pass.new).seen session.new }
     ensures taken { (m : Memory) → Remembers session.old m → IsTaken (opening_of shared.now) session.old.number m command.now result (view_of pass.old) (view_of pass.new) }
     ensures learned { (m : Memory) → Remembers session.old m → Remembers session.new (memory_after m command.now result) }
 {
     let Session {
         number,
         learned,
+        header,
         draft,
     } = session;
+    header.profile = setting.profile;
     let reply = if learned.make_room() {
         take::<Brand, R>(
             rt,
@@ -56,7 +63,7 @@ pub fn do_command<R: Threads + Wait>(
             Blank::new(1),
             shared,
             pass,
-            setting,
+            header,
             *number,
             learned,
             draft,
@@ -71,13 +78,13 @@ pub fn do_command<R: Threads + Wait>(
 
 // The steps are counted by nobody.
 #[tactic(auto, using(crate::proofs::Takes::takes))]
-fn take<L: Ledger, R: Threads + Wait>(
+fn take<L: Ledger, R: Threads + Wait + Sync>(
     rt: &R,
     alloc: Global,
     blank: Blank,
     shared: &Shared<Book>,
     pass: &mut Pass<Book>,
-    setting: &Setting,
+    header: &mut Setting,
     number: u32,
     learned: &Learned,
     draft: &mut Draft,
@@ -86,14 +93,31 @@ fn take<L: Ledger, R: Threads + Wait>(
     requires blank { (blank.name ≡ L.name) × (blank.parts ≡ L.parts) × (0 < L.parts) }
     requires of_this { IsPassOf shared.now pass.old }
     requires number { ((view_of pass.old).first ≤ number) × (number < (view_of pass.old).past) }
-    requires setting { (opening_of shared.now).setting ≡ setting.now }
-    requires profile { IsLawfulProfile setting.now.profile }
+    requires setting { (opening_of shared.now).setting.profile ≡ header.old.profile }
+    requires profile { IsLawfulProfile header.old.profile }
+    requires names { names_given (opening_of shared.now) (view_of pass.old).seen learned.now.head ≡ Some header.old.declared }
     ensures of_this { IsPassOf shared.now pass.new }
+    ensures profile { header.new.profile ≡ header.old.profile }
+    ensures names { names_given (opening_of shared.now) (view_of pass.new).seen (head_told (told_by command.now result) learned.now.head) ≡ Some header.new.declared }
     ensures taken { (m : Memory) → HasLearned learned.now m → IsTaken (opening_of shared.now) number m command.now result (view_of pass.old) (view_of pass.new) }
 {
     let mut steps = Steps::<L>::start(rt, blank);
-    match ask(alloc, setting, learned, draft, command, &mut steps) {
-        Ok(asked) => shared.turn(rt, pass, number, asked, &mut steps),
-        Err(reply) => reply,
+    match command {
+        Command::LookHead => look_head(rt, alloc, shared, pass, header, number, &mut steps),
+        Command::PutHead(declared) => put_head(
+            rt,
+            alloc,
+            shared,
+            pass,
+            header,
+            number,
+            learned.head,
+            declared,
+            &mut steps,
+        ),
+        _ => match ask(alloc, header, learned, draft, command, &mut steps) {
+            Ok(asked) => shared.turn(rt, pass, number, asked, &mut steps),
+            Err(reply) => reply,
+        },
     }
 }

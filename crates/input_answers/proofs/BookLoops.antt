@@ -22,7 +22,7 @@ use Rattle.machine_profile.specs.declared.Chosen.{Chosen}
 use Rattle.edit_journal.specs.declared.edit.Entry.{Entry}
 use Rattle.edit_journal.specs.declared.opening.Opening.{Opening}
 use Rattle.edit_journal.specs.Documents.{body, document_of, lines_in, opened_from}
-use Rattle.edit_book.specs.Verdicts.{IsLoopOn}
+use Rattle.edit_book.specs.Verdicts.{IsLoopOn, setting_of}
 use Rattle.input_answers.specs.declared.judge.Judgement.{Judgement}
 use Rattle.input_answers.specs.BodyRun.{AreLoopsOn, IsJudgement, IsJudgementOn}
 use Rattle.input_answers.specs.CheckReport.{body_of, setting_for}
@@ -40,10 +40,12 @@ opening_body chosen head lines opening entries is none = ap (λ (es : List Entry
 
 -- what is made of the document's lines is made of the file
 pub judged_file : (with_loops : Bool) (chosen : Chosen) (head : Head) (lines : List (List ℕ)) (opening : Opening) (entries : List Entry) (judgement : Judgement)
-    → IsOpening chosen head lines opening → entries ≡ [] → IsJudgementOn with_loops opening.setting (body (document_of opening entries)) judgement
+    → IsOpening chosen head lines opening → entries ≡ [] → IsJudgementOn with_loops (setting_of opening (document_of opening entries)) (body (document_of opening entries)) judgement
     → IsJudgement with_loops chosen.profile head.declared lines judgement
 judged_file with_loops chosen head lines opening entries judgement is none judged =
-    let setting : opening.setting ≡ setting_for chosen.profile head.declared lines = λ i. record { profile = is.profile i; declared = is.declared i; first = is.first i } in
+    let setting : setting_of opening (document_of opening entries) ≡ setting_for chosen.profile head.declared lines =
+    ap (λ (es : List Entry). setting_of opening (document_of opening es)) none
+    ∙ (λ i. record { profile = is.profile i; declared = is.declared i; first = is.first i }) in
     let behind : body (document_of opening entries) ≡ body_of lines = opening_body chosen head lines opening entries is none in
     subst (λ (ls : List (List ℕ)). IsJudgementOn with_loops (setting_for chosen.profile head.declared lines) ls judgement) behind
     (subst (λ (s : Setting). IsJudgementOn with_loops s (body (document_of opening entries)) judgement) setting judged)

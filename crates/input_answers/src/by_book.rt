@@ -6,6 +6,7 @@ ghost use Rattle.carriage_model.specs.declared.verdict.LoopFact.{LoopFact};
 ghost use Rattle.carriage_model.specs.Loops.{fact_of};
 ghost use Rattle.edit_journal.specs.Documents.{body as document_lines};
 ghost use Rattle.edit_book.specs.Books.{document};
+ghost use Rattle.edit_book.specs.Verdicts.{setting_of};
 ghost use Rattle.input_answers.specs.BodyRun.{AreLoopsOn, IsJudgement, IsJudgementOn};
 ghost use Rattle.input_answers.specs.CheckReport.{body_of};
 ghost use Rattle.input_answers.specs.Due.{Fits};
@@ -68,7 +69,7 @@ fn judge_document<L: Ledger>(
 ) -> Result<Judgement, NoMemory>
     requires count { count ≡ length (document_lines (document book.now)) }
     requires few { book.now.opening.setting.first + count < 2 ^ 32 }
-    ensures { IfOk result (IsJudgementOn with_loops book.now.opening.setting (document_lines (document book.now))) }
+    ensures { IfOk result (IsJudgementOn with_loops (setting_of book.now.opening (document book.now)) (document_lines (document book.now))) }
 {
     let verdict = book.whole_verdict()?;
     if !with_loops {
@@ -94,7 +95,7 @@ fn loops_of<L: Ledger>(
     requires count { count ≡ length (document_lines (document book.now)) }
     requires few { book.now.opening.setting.first + count < 2 ^ 32 }
     ensures { IfOk result (λ loops. (made : List LoopFact)
-        → AreLoopsOn book.now.opening.setting (document_lines (document book.now)) made → loops ≡ made) }
+        → AreLoopsOn (setting_of book.now.opening (document book.now)) (document_lines (document book.now)) made → loops ≡ made) }
 {
     let first = book.setting().first;
     let mut loops = Facts::new(alloc);
@@ -111,7 +112,7 @@ fn add_loop<L: Ledger>(
     loops: &mut Facts,
     steps: &mut Steps<L>,
 ) -> Result<(), NoMemory>
-    ensures { OnOk result ((made : List LoopFact) → AreLoopsOn book.now.opening.setting (document_lines (document book.now)) made
+    ensures { OnOk result ((made : List LoopFact) → AreLoopsOn (setting_of book.now.opening (document book.now)) (document_lines (document book.now)) made
         → loops.new ≡ loops.old ++ option_to_list (fact_of line made)) }
 {
     match book.fact_at(line, steps)? {

@@ -1,18 +1,20 @@
 -- The names of carriers, as the code keeps them.
-use Rattle.std.proofs.Common.{◌≡◌, ◌≢◌, ℕ, ◌<◌, ◌≤◌, List, get_or, [], ◌∷◌, ◌++◌, length, map, Option, None, Some, position, true, false, ap, sym, ◌∙◌, refl, arith, length-append}
+use Rattle.std.proofs.Common.{rules, ◌≡◌, ◌≢◌, ℕ, ◌+◌, ◌<◌, ◌≤◌, List, get_or, [], ◌∷◌, ◌++◌, All, codes, length, map, sum_by, Option, None, Some, position, true, false, ap, sym, ◌∙◌, refl, arith, length-append}
 use Rattle.std.specs.Option.{option_map}
-use Rattle.std.specs.List.{list_any, AllZip}
+use Rattle.std.specs.List.{list_any, AllByRecursion, AllZip}
 use Rattle.std.specs.Str.{bytes_eq}
 use Rattle.std.specs.String.{string_bytes, string_eq}
 use Rattle.std.specs.Bool.{if◌then◌else◌}
 use Rattle.std.proofs.lemmas.List.{map-append}
-use Rattle.std.proofs.lemmas.List.Elements.{All-push}
+use Rattle.std.proofs.lemmas.List.Elements.{All-append, All-cons, All-from_recursion, All-head, All-nil, All-push, All-tail, All-weaker}
 use Rattle.std.proofs.lemmas.List.Folds.{list_any_at}
+use Rattle.std.proofs.lemmas.List.Sums.{sum_by-cons}
 use Rattle.std.proofs.lemmas.List.Quantifiers.{all_pairs_push}
 use Rattle.std.proofs.lemmas.Slice.Eq.{bytes_eq-Decides}
 use Rattle.std.proofs.lemmas.Bool.{true≢false}
 use Rattle.std.proofs.Common.{Global, String}
-use Rattle.knit_base.specs.Names.{carrier_of, IsName, AreNames, names_len}
+use Rattle.knit_base.specs.Names.{carrier_of, header_line, spaced_names, IsName, AreNames, IsNameByte, names_len}
+use Rattle.knit_base.specs.Lines.{HasNoLineEnd}
 use Rattle.knit_base.proofs.Places.{position-map, list_any-none}
 
 abbrev pub texts : List (String Global) → List (List ℕ)
@@ -69,3 +71,31 @@ texts-insert keys after new names name view same is none =
     ∙ map-append string_bytes keys (new ∷ [])
     ∙ ap (λ ts. ts ++ string_bytes new ∷ []) view
     ∙ ap (λ t. names ++ t ∷ []) same
+
+-- the line of a header with these names is one line
+module _ where
+  abbrev passes : ℕ → Type 0
+  passes byte = byte ≢ 10
+
+  spaced_one : (names : List (List ℕ)) → All IsName names → HasNoLineEnd (spaced_names names)
+  spaced_one [] are = All-nil passes
+  spaced_one (name ∷ names) are =
+      let first : IsName name = All-head IsName name names are in
+      All-append passes (codes " " ++ name) (spaced_names names)
+      (All-cons passes 32 name (λ is. absurd (cc)) (All-weaker IsNameByte passes (λ byte is. is.2) name first.plain))
+      (spaced_one names (All-tail IsName name names are))
+
+  pub line_one : (names : List (List ℕ)) → AreNames names → HasNoLineEnd (header_line names)
+  line_one names are = All-append passes (codes ";;Carriers:") (spaced_names names) (All-from_recursion passes (codes ";;Carriers:") plain) (spaced_one names are.each)
+    where
+      plain : AllByRecursion passes (codes ";;Carriers:")
+      plain = search rules
+
+-- and not too long
+pub line_short : (names : List (List ℕ)) → AreNames names → length (header_line names) < 65536
+line_short names are = omega (arith, length-append (codes ";;Carriers:") (spaced_names names), length-spaced names, are.room)
+  where
+    length-spaced : (names : List (List ℕ)) → length (spaced_names names) ≡ names_len names
+    length-spaced [] = refl
+    length-spaced (name ∷ names) =
+        omega (arith, length-append name (spaced_names names), length-spaced names, sum_by-cons (λ (each : List ℕ). length each + 1) name names)

@@ -1,5 +1,5 @@
 -- The names of carriers.
-use Rattle.std.specs.Prelude.{◌≢◌, ℕ, ◌+◌, ◌<◌, ◌≤◌, List, length, Option, position, sum_by, All, AllPairs}
+use Rattle.std.specs.Prelude.{◌≢◌, ℕ, ◌+◌, ◌++◌, ◌<◌, ◌≤◌, List, length, Option, codes, flat_map, position, sum_by, All, AllPairs}
 use Rattle.std.specs.Option.{option_map}
 use Rattle.std.specs.Str.{bytes_eq}
 use Rattle.knit_base.specs.declared.yarns.CarrierNo.{CarrierNo}
@@ -20,6 +20,18 @@ pub record IsName (name : List ℕ) : Type 0 where
 -- the bytes of the names, with a space for each
 abbrev pub names_len : List (List ℕ) → ℕ
 names_len names = sum_by (λ name. length name + 1) names
+
+-- a name behind a space
+abbrev pub spaced : List ℕ → List ℕ
+spaced name = codes " " ++ name
+
+-- the names, each behind a space
+abbrev pub spaced_names : List (List ℕ) → List ℕ
+spaced_names names = flat_map spaced names
+
+-- the line of a header with these names
+abbrev pub header_line : List (List ℕ) → List ℕ
+header_line names = codes ";;Carriers:" ++ spaced_names names
 
 -- The names that a header may declare: at most 64, no two the same, and not too long together.
 pub record AreNames (names : List (List ℕ)) : Type 0 where

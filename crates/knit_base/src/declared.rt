@@ -1,8 +1,9 @@
 //! The carriers that a header declares.
-ghost use Rattle.std.specs.Prelude.{◌≡◌, ◌+◌, ◌<◌, ◌≤◌, ◌↔◌, ◌++◌, ◌∷◌, [], length, position, string_bytes, IsSome, IsErrOf, OnOk, OnErr, None, IfOk, IfSome, slice_get};
+ghost use Rattle.std.specs.Prelude.{◌≡◌, ◌+◌, ◌<◌, ◌≤◌, ◌^◌, ◌↔◌, ◌++◌, ◌∷◌, [], length, position, string_bytes, IsSome, IsErrOf, OnOk, OnErr, None, IfOk, IfSome, slice_get};
 ghost use Rattle.std.specs.Option.{option_copied};
 ghost use Rattle.std.specs.Str.{bytes_eq};
-ghost use Rattle.knit_base.specs.Names.{carrier_of, IsName, names_len};
+ghost use Rattle.knit_base.specs.Names.{carrier_of, header_line, AreNames, IsName, names_len};
+ghost use Rattle.knit_base.specs.Lines.{HasNoLineEnd};
 
 use crate::{CarrierNo, NoMemory};
 use indexmap::IndexSet;
@@ -144,5 +145,21 @@ impl Declared {
     {
         let names = self.names.clone()?;
         Ok(Declared { names })
+    }
+
+    /// The line of a header with these names: `;;Carriers:`, and each name behind a space. The only error is want of memory.
+    pub fn header_line(&self, alloc: Global) -> Result<String, NoMemory>
+        ensures line { IfOk result (λ line. string_bytes line ≡ header_line self.now) }
+        ensures one { IfOk result (λ line. HasNoLineEnd (string_bytes line)) }
+        ensures short { IfOk result (λ line. length (string_bytes line) < 2 ^ 16) }
+        ensures names { IfOk result (λ line. AreNames self.now) }
+    {
+        let names = self.names.as_slice();
+        let mut line = String::from_str(alloc, ";;Carriers:")?;
+        for name in names {
+            line.push_str(" ")?;
+            line.push_str(name.as_str())?;
+        }
+        Ok(line)
     }
 }

@@ -40,22 +40,6 @@ impl<T: Drop> ListOf<T> {
         Ok(ListOf { items })
     }
 
-    /// The list of these items.
-    pub fn of(items: Vec<T>) -> Self
-        requires { length items.items < 2 ^ 32 }
-        ensures { result ≡ items.items }
-    {
-        ListOf { items }
-    }
-
-    /// The items, in a vector.
-    pub fn into_vec(self) -> Vec<T>
-        ensures items { result.items ≡ self }
-        ensures small { length self < 2 ^ 32 }
-    {
-        self.items
-    }
-
     /// Appends an item.
     pub fn push(&mut self, item: T) -> Result<(), NoMemory>
         requires { length self.old < 2 ^ 32 - 1 }
@@ -114,6 +98,22 @@ impl<T: Drop> ListOf<T> {
         ensures { option_copied result ≡ slice_get self.now i }
     {
         self.items.get(i as usize)
+    }
+
+    /// The list of these items.
+    pub fn of(items: Vec<T>) -> Self
+        requires { length items.items < 2 ^ 32 }
+        ensures { result ≡ items.items }
+    {
+        ListOf { items }
+    }
+
+    /// The items, in a vector.
+    pub fn into_vec(self) -> Vec<T>
+        ensures items { result.items ≡ self }
+        ensures small { length self < 2 ^ 32 }
+    {
+        self.items
     }
 
     pub fn as_slice(&self) -> &[T]

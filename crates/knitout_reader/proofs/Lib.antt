@@ -4,6 +4,7 @@ pub mod Decimals
 pub mod Digits
 pub mod FewCarriers
 pub mod FrontHeads
+pub mod HeaderLines
 pub mod Heads
 pub mod LawfulReadings
 pub mod Marks

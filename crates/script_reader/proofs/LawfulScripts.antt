@@ -6,8 +6,8 @@ use Rattle.std.proofs.lemmas.Grind.{flat_map-append}
 use Rattle.std.proofs.lemmas.List.{map-append}
 use Rattle.std.proofs.lemmas.List.Sums.{sum_by-cons}
 use Rattle.script_reader.specs.Reading.{command_of, longer, on_last, script_of, with_statement, unless, walk}
-use Rattle.script_reader.specs.Script.{statements, session_statements, command_statements, says_something, command_line_in, names_known, adds_of, adds_in, all_known, takes_text, last_takes_text, last_session, cause_of}
-use Rattle.script_reader.specs.Statements.{Statement, Nothing, Text, Session, Command, Nonsense, statement_of}
+use Rattle.script_reader.specs.Script.{statements, session_statements, command_statements, says_something, command_line_in, names_known, adds_of, adds_in, all_known, takes_text, last_takes_text, last_session, cause_of, command_cause, is_put_head}
+use Rattle.script_reader.specs.Statements.{Statement, Nothing, Text, Session, Command, Header, Nonsense}
 use Rattle.script_reader.specs.declared.command.Command as declared
 use Rattle.script_reader.specs.declared.command.Command.TheVariants as command
 use Rattle.script_reader.specs.declared.command.Script.{Script}
@@ -84,6 +84,8 @@ longer_head line (command.Add place text) = refl
 longer_head line (command.Cut name) = refl
 longer_head line (command.LoopAt at) = refl
 longer_head line command.Verdict = refl
+longer_head line command.LookHead = refl
+longer_head line (command.PutHead names) = refl
 
 longer_said : (line : List ℕ) (c : declared.Command) → takes_text (command_line_in c) ≡ true → command_statements (longer line c) ≡ command_statements c ++ Text line ∷ []
 longer_said line (command.Look name) takes = absurd (cc)
@@ -92,6 +94,8 @@ longer_said line (command.Add place text) takes = ap (λ l. Command (command_lin
 longer_said line (command.Cut name) takes = absurd (cc)
 longer_said line (command.LoopAt at) takes = absurd (cc)
 longer_said line command.Verdict takes = absurd (cc)
+longer_said line command.LookHead takes = absurd (cc)
+longer_said line (command.PutHead names) takes = absurd (cc)
 
 longer_known : (adds : ℕ) (line : List ℕ) (commands : List declared.Command) → all_known adds (on_last (longer line) commands) ≡ all_known adds commands
 longer_known adds line [] = refl
@@ -106,13 +110,15 @@ known_snoc adds (d ∷ ds) c all known =
     (first_true (names_known adds (command_line_in d)) (all_known (adds + adds_of (command_line_in d)) ds) all)
     (known_snoc (adds + adds_of (command_line_in d)) ds c (second_true (names_known adds (command_line_in d)) (all_known (adds + adds_of (command_line_in d)) ds) all) (subst (λ n. names_known n (command_line_in c) ≡ true) count known))
 
-bare_said : (h : CommandLine) → command_statements (command_of h []) ≡ Command h ∷ []
-bare_said (command_lines.Look name) = refl
-bare_said (command_lines.Put name) = refl
-bare_said (command_lines.Add place) = refl
-bare_said (command_lines.Cut name) = refl
-bare_said (command_lines.LoopAt line) = refl
-bare_said command_lines.Verdict = refl
+bare_said : (h : CommandLine) → is_put_head h ≡ false → command_statements (command_of h []) ≡ Command h ∷ []
+bare_said (command_lines.Look name) isnt = refl
+bare_said (command_lines.Put name) isnt = refl
+bare_said (command_lines.Add place) isnt = refl
+bare_said (command_lines.Cut name) isnt = refl
+bare_said (command_lines.LoopAt line) isnt = refl
+bare_said command_lines.Verdict isnt = refl
+bare_said command_lines.LookHead isnt = refl
+bare_said command_lines.PutHead isnt = absurd (cc)
 
 bare_line : (h : CommandLine) → command_line_in (command_of h []) ≡ h
 bare_line (command_lines.Look name) = refl
@@ -121,10 +127,12 @@ bare_line (command_lines.Add place) = refl
 bare_line (command_lines.Cut name) = refl
 bare_line (command_lines.LoopAt line) = refl
 bare_line command_lines.Verdict = refl
+bare_line command_lines.LookHead = refl
+bare_line command_lines.PutHead = refl
 
-session_more : (commands : List declared.Command) (h : CommandLine) → session_statements (commands ++ command_of h [] ∷ []) ≡ session_statements commands ++ Command h ∷ []
-session_more commands h = ap (λ l. Session ∷ l)
-    (flat_map-append command_statements commands (command_of h [] ∷ []) ∙ ap (λ l. flat_map command_statements commands ++ l) (append-nil (command_statements (command_of h [])) ∙ bare_said h))
+session_more : (commands : List declared.Command) (c : declared.Command) (x : Statement) → command_statements c ≡ x ∷ [] → session_statements (commands ++ c ∷ []) ≡ session_statements commands ++ x ∷ []
+session_more commands c x is = ap (λ l. Session ∷ l)
+    (flat_map-append command_statements commands (c ∷ []) ∙ ap (λ l. flat_map command_statements commands ++ l) (append-nil (command_statements c) ∙ is))
 
 -- what a statement adds
 abbrev pub something : Statement → List Statement
@@ -160,21 +168,31 @@ grows_text text (s ∷ ss) line free lawful =
       },
     )
 
-grows_command : (text : List (List ℕ)) (sessions : List (List declared.Command)) (h : CommandLine) → cause_of (script_of text sessions) (Command h) ≡ None → IsLawful (script_of text sessions) → Grows (script_of text sessions) (Command h)
-grows_command text [] h free lawful = absurd (cc)
-grows_command text (s ∷ ss) h free lawful =
-    let more : List declared.Command → List declared.Command = λ cs. cs ++ command_of h [] ∷ [] in
+-- a command with this line, which says this, behind the commands of the last session
+grows_with : (text : List (List ℕ)) (sessions : List (List declared.Command)) (h : CommandLine) (c : declared.Command) (x : Statement) → command_statements c ≡ x ∷ [] → command_line_in c ≡ h
+    → command_cause sessions h ≡ None → IsLawful (script_of text sessions)
+    → (statements (script_of text (on_last (λ cs. cs ++ c ∷ []) sessions)) ≡ statements (script_of text sessions) ++ x ∷ []) × IsLawful (script_of text (on_last (λ cs. cs ++ c ∷ []) sessions))
+grows_with text [] h c x says line free lawful = absurd (cc)
+grows_with text (s ∷ ss) h c x says line free lawful =
+    let more : List declared.Command → List declared.Command = λ cs. cs ++ c ∷ [] in
     let known : names_known (adds_in (last_session (s ∷ ss))) h ≡ true = no_cause (names_known (adds_in (last_session (s ∷ ss))) h) NoOwn free in (
-      ap (λ l. map Text text ++ l) (flat_last session_statements more (Command h ∷ []) (s ∷ ss) (ends_always (λ cs. session_statements (more cs) ≡ session_statements cs ++ Command h ∷ []) (λ cs. session_more cs h) s ss))
-          ∙ sym (append_assoc (map Text text) (flat_map session_statements (s ∷ ss)) (Command h ∷ [])),
+      ap (λ l. map Text text ++ l) (flat_last session_statements more (x ∷ []) (s ∷ ss) (ends_always (λ cs. session_statements (more cs) ≡ session_statements cs ++ x ∷ []) (λ cs. session_more cs c x says) s ss))
+          ∙ sym (append_assoc (map Text text) (flat_map session_statements (s ∷ ss)) (x ∷ [])),
       record {
         few = let few = lawful.few in omega (arith, length_last more (s ∷ ss));
         known = all_last (all_known 0) more (s ∷ ss)
             (ends_weaker (λ cs. names_known (adds_in cs) h ≡ true) (λ cs. all_known 0 cs ≡ true → all_known 0 (more cs) ≡ true)
-            (λ cs is all. known_snoc 0 cs (command_of h []) all (subst (λ n. names_known n (command_line_in (command_of h [])) ≡ true) (sym (zero-add (adds_in cs))) (ap (names_known (adds_in cs)) (bare_line h) ∙ is))) (s ∷ ss)
+            (λ cs is all. known_snoc 0 cs c all (subst (λ n. names_known n (command_line_in c) ≡ true) (sym (zero-add (adds_in cs))) (ap (names_known (adds_in cs)) line ∙ is))) (s ∷ ss)
             (ends_last (λ cs. names_known (adds_in cs) h ≡ true) s ss known)) lawful.known;
       },
     )
+
+grows_command : (text : List (List ℕ)) (sessions : List (List declared.Command)) (h : CommandLine) → cause_of (script_of text sessions) (Command h) ≡ None → IsLawful (script_of text sessions) → Grows (script_of text sessions) (Command h)
+grows_command text sessions h free lawful = go (is_put_head h) refl free
+  where
+    go : (b : Bool) → is_put_head h ≡ b → cond b (Some BadLine) (command_cause sessions h) ≡ None → Grows (script_of text sessions) (Command h)
+    go true is free = absurd (cc)
+    go false isnt free = grows_with text sessions h (command_of h []) (Command h) (bare_said h isnt) (bare_line h) free lawful
 
 grows : (script : Script) (x : Statement) → cause_of script x ≡ None → IsLawful script → Grows script x
 grows script Nothing free lawful = (sym (append-nil (statements script)), lawful)
@@ -188,6 +206,7 @@ grows script Session free lawful = (
   },
 )
 grows script (Command h) free lawful = grows_command script.text script.sessions h free lawful
+grows script (Header names) free lawful = grows_with script.text script.sessions command_lines.PutHead (command.PutHead names) (Header names) refl refl free lawful
 grows script Nonsense free lawful = absurd (cc)
 
 filter-first : (x : Statement) (xs : List Statement) → filter says_something (x ∷ xs) ≡ something x ++ filter says_something xs
@@ -195,24 +214,25 @@ filter-first Nothing xs = refl
 filter-first (Text line) xs = refl
 filter-first Session xs = refl
 filter-first (Command h) xs = refl
+filter-first (Header names) xs = refl
 filter-first Nonsense xs = refl
 
 -- what the walk ends with says what the lines say, behind what it began with
-pub grown : (count : ℕ) (script after : Script) (lines : List (List ℕ)) → walk count script lines ≡ Ok after → IsLawful script
-    → (statements after ≡ statements script ++ filter says_something (map statement_of lines)) × IsLawful after
+pub grown : (count : ℕ) (script after : Script) (xs : List Statement) → walk count script xs ≡ Ok after → IsLawful script
+    → (statements after ≡ statements script ++ filter says_something xs) × IsLawful after
 grown count script after [] is lawful = let same : script ≡ after = cc in
     (subst (λ (s : Script). statements s ≡ statements script ++ []) same (sym (append-nil (statements script))), subst IsLawful same lawful)
-grown count script after (line ∷ lines) is lawful = go (λ r l. grown count (with_statement script (statement_of line)) after lines r l) (cause_of script (statement_of line)) refl is
+grown count script after (x ∷ xs) is lawful = go (λ r l. grown count (with_statement script x) after xs r l) (cause_of script x) refl is
   where
-    go : (walk count (with_statement script (statement_of line)) lines ≡ Ok after → IsLawful (with_statement script (statement_of line)) → (statements after ≡ statements (with_statement script (statement_of line)) ++ filter says_something (map statement_of lines)) × IsLawful after)
-        → (o : Option Cause) → cause_of script (statement_of line) ≡ o → unless o (count - length lines) (walk count (with_statement script (statement_of line)) lines) ≡ Ok after
-        → (statements after ≡ statements script ++ filter says_something (map statement_of (line ∷ lines))) × IsLawful after
+    go : (walk count (with_statement script x) xs ≡ Ok after → IsLawful (with_statement script x) → (statements after ≡ statements (with_statement script x) ++ filter says_something xs) × IsLawful after)
+        → (o : Option Cause) → cause_of script x ≡ o → unless o (count - length xs) (walk count (with_statement script x) xs) ≡ Ok after
+        → (statements after ≡ statements script ++ filter says_something (x ∷ xs)) × IsLawful after
     go more (Some cause) stops r = absurd (cc)
     go more None free r =
-        let one = grows script (statement_of line) free lawful in
+        let one = grows script x free lawful in
         let rest = more r one.1 in (
-          rest.0 ∙ ap (λ l. l ++ filter says_something (map statement_of lines)) one.0
-              ∙ append_assoc (statements script) (something (statement_of line)) (filter says_something (map statement_of lines))
-              ∙ ap (λ l. statements script ++ l) (sym (filter-first (statement_of line) (map statement_of lines))),
+          rest.0 ∙ ap (λ l. l ++ filter says_something xs) one.0
+              ∙ append_assoc (statements script) (something x) (filter says_something xs)
+              ∙ ap (λ l. statements script ++ l) (sym (filter-first x xs)),
           rest.1,
         )

@@ -1,7 +1,9 @@
 pub mod Texts
 pub mod Walks
+pub mod Headers
 pub mod Steps
 pub mod Sessions
 pub mod LawfulScripts
 pub mod Runs
 pub mod Scripts
+pub mod Said

@@ -2,9 +2,9 @@
 use Rattle.std.proofs.Common.{◌≡◌, ℕ, ◌+◌, ◌-◌, ◌<◌, ◌≤◌, true, cond, List, [], ◌∷◌, ◌++◌, length, map, filter, Option, Some, None, Ok, sym, ap, ◌∙◌, refl, subst, append_assoc, append-nil, arith, length-append}
 use Rattle.std.specs.List.{flat_map, list_all}
 use Rattle.std.proofs.lemmas.Bool.{lt-ltb}
-use Rattle.script_reader.specs.Reading.{command_of, script_of, with_statement, unless, walk}
-use Rattle.script_reader.specs.Script.{statements, session_statements, command_statements, says_something, command_line_in, text_in, names_known, adds_of, adds_in, all_known, takes_text, cause_of}
-use Rattle.script_reader.specs.Statements.{Statement, Nothing, Text, Session, Command, Nonsense, statement_of}
+use Rattle.script_reader.specs.Reading.{command_of, on_last, script_of, with_statement, unless, walk}
+use Rattle.script_reader.specs.Script.{statements, session_statements, command_statement, command_statements, says_something, command_line_in, text_in, names_known, adds_of, adds_in, all_known, takes_text, cause_of, command_cause}
+use Rattle.script_reader.specs.Statements.{Statement, Nothing, Text, Session, Command, Header, Nonsense}
 use Rattle.script_reader.specs.declared.command.Command as declared
 use Rattle.script_reader.specs.declared.command.Command.TheVariants as command
 use Rattle.script_reader.specs.declared.command.Script.{Script}
@@ -15,6 +15,17 @@ use Rattle.script_reader.proofs.Walks.{writing, writing-cause, writing-text, on_
 use Rattle.script_reader.proofs.Sessions.{command_cause-snoc, adds-snoc}
 use Rattle.script_reader.proofs.LawfulScripts.{first_true, second_true}
 
+-- a command without its text
+abbrev pub bare : declared.Command → declared.Command
+bare (command.Look name) = command.Look name
+bare (command.Put name text) = command.Put name []
+bare (command.Add place text) = command.Add place []
+bare (command.Cut name) = command.Cut name
+bare (command.LoopAt line) = command.LoopAt line
+bare command.Verdict = command.Verdict
+bare command.LookHead = command.LookHead
+bare (command.PutHead names) = command.PutHead names
+
 abbrev pub onward : Option Cause → Option Script → Option Script
 onward None result = result
 onward (Some cause) result = None
@@ -24,12 +35,12 @@ abbrev pub runs : Script → List Statement → Option Script
 runs script [] = Some script
 runs script (x ∷ xs) = onward (cause_of script x) (runs (with_statement script x) xs)
 
-pub walk_runs : (count : ℕ) (script after : Script) (lines : List (List ℕ)) → runs script (map statement_of lines) ≡ Some after → walk count script lines ≡ Ok after
+pub walk_runs : (count : ℕ) (script after : Script) (xs : List Statement) → runs script xs ≡ Some after → walk count script xs ≡ Ok after
 walk_runs count script after [] is = let same : script ≡ after = cc in ap (λ (s : Script). Ok s) same
-walk_runs count script after (line ∷ lines) is = go (λ r. walk_runs count (with_statement script (statement_of line)) after lines r) (cause_of script (statement_of line)) is
+walk_runs count script after (x ∷ xs) is = go (λ r. walk_runs count (with_statement script x) after xs r) (cause_of script x) is
   where
-    go : (runs (with_statement script (statement_of line)) (map statement_of lines) ≡ Some after → walk count (with_statement script (statement_of line)) lines ≡ Ok after)
-        → (o : Option Cause) → onward o (runs (with_statement script (statement_of line)) (map statement_of lines)) ≡ Some after → unless o (count - length lines) (walk count (with_statement script (statement_of line)) lines) ≡ Ok after
+    go : (runs (with_statement script x) xs ≡ Some after → walk count (with_statement script x) xs ≡ Ok after)
+        → (o : Option Cause) → onward o (runs (with_statement script x) xs) ≡ Some after → unless o (count - length xs) (walk count (with_statement script x) xs) ≡ Ok after
     go rest None r = rest r
     go rest (Some cause) r = absurd (cc)
 
@@ -39,6 +50,7 @@ runs_something script (Nothing ∷ xs) = runs_something script xs
 runs_something script (Text line ∷ xs) = ap (onward (cause_of script (Text line))) (runs_something (with_statement script (Text line)) xs)
 runs_something script (Session ∷ xs) = ap (onward (cause_of script Session)) (runs_something (with_statement script Session) xs)
 runs_something script (Command h ∷ xs) = ap (onward (cause_of script (Command h))) (runs_something (with_statement script (Command h)) xs)
+runs_something script (Header names ∷ xs) = ap (onward (cause_of script (Header names))) (runs_something (with_statement script (Header names)) xs)
 runs_something script (Nonsense ∷ xs) = refl
 
 runs_append : (script after : Script) (xs ys : List Statement) → runs script xs ≡ Some after → runs script (xs ++ ys) ≡ runs after ys
@@ -66,21 +78,48 @@ module _ (text : List (List ℕ)) where
       ∙ command_texts done commands h (so_far ++ t ∷ []) ts takes
       ∙ ap (λ (l : List (List ℕ)). Some (writing text done commands h l)) (append_assoc so_far (t ∷ []) ts)
 
+  -- the script of a command without its text
+  abbrev begun : List (List declared.Command) → List declared.Command → declared.Command → Script
+  begun done commands c = script_of text (done ++ (commands ++ bare c ∷ []) ∷ [])
+
   command_text : (done : List (List declared.Command)) (commands : List declared.Command) (c : declared.Command)
-      → runs (writing text done commands (command_line_in c) []) (map Text (text_in c)) ≡ Some (script_of text (done ++ (commands ++ c ∷ []) ∷ []))
+      → runs (begun done commands c) (map Text (text_in c)) ≡ Some (script_of text (done ++ (commands ++ c ∷ []) ∷ []))
   command_text done commands (command.Look name) = refl
   command_text done commands (command.Put name lines) = command_texts done commands (command_line_in (command.Put name lines)) [] lines refl
   command_text done commands (command.Add place lines) = command_texts done commands (command_line_in (command.Add place lines)) [] lines refl
   command_text done commands (command.Cut name) = refl
   command_text done commands (command.LoopAt line) = refl
   command_text done commands command.Verdict = refl
+  command_text done commands command.LookHead = refl
+  command_text done commands (command.PutHead names) = refl
+
+  -- why what a command says can't stand there
+  statement_cause : (script : Script) (c : declared.Command) → cause_of script (command_statement c) ≡ command_cause script.sessions (command_line_in c)
+  statement_cause script (command.Look name) = refl
+  statement_cause script (command.Put name lines) = refl
+  statement_cause script (command.Add place lines) = refl
+  statement_cause script (command.Cut name) = refl
+  statement_cause script (command.LoopAt line) = refl
+  statement_cause script command.Verdict = refl
+  statement_cause script command.LookHead = refl
+  statement_cause script (command.PutHead names) = refl
+
+  statement_begins : (script : Script) (c : declared.Command) → with_statement script (command_statement c) ≡ script_of script.text (on_last (λ cs. cs ++ bare c ∷ []) script.sessions)
+  statement_begins script (command.Look name) = refl
+  statement_begins script (command.Put name lines) = refl
+  statement_begins script (command.Add place lines) = refl
+  statement_begins script (command.Cut name) = refl
+  statement_begins script (command.LoopAt line) = refl
+  statement_begins script command.Verdict = refl
+  statement_begins script command.LookHead = refl
+  statement_begins script (command.PutHead names) = refl
 
   one_command : (done : List (List declared.Command)) (commands : List declared.Command) (c : declared.Command) → names_known (adds_in commands) (command_line_in c) ≡ true
       → runs (script_of text (done ++ commands ∷ [])) (command_statements c) ≡ Some (script_of text (done ++ (commands ++ c ∷ []) ∷ []))
   one_command done commands c known =
-      runs_step (script_of text (done ++ commands ∷ [])) (writing text done commands (command_line_in c) []) (Command (command_line_in c)) (map Text (text_in c))
-      (command_cause-snoc done commands (command_line_in c) ∙ ap (λ b. cond b None (Some NoOwn)) known)
-      (ap (script_of text) (on_last-snoc (λ cs. cs ++ command_of (command_line_in c) [] ∷ []) done commands))
+      runs_step (script_of text (done ++ commands ∷ [])) (begun done commands c) (command_statement c) (map Text (text_in c))
+      (statement_cause (script_of text (done ++ commands ∷ [])) c ∙ (command_cause-snoc done commands (command_line_in c) ∙ ap (λ b. cond b None (Some NoOwn)) known))
+      (statement_begins (script_of text (done ++ commands ∷ [])) c ∙ ap (script_of text) (on_last-snoc (λ cs. cs ++ bare c ∷ []) done commands))
       ∙ command_text done commands c
 
   all_commands : (done : List (List declared.Command)) (commands more : List declared.Command) → all_known (adds_in commands) more ≡ true

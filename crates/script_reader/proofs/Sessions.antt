@@ -1,12 +1,13 @@
 -- What a line and a command do to the loops over commands and sessions.
-use Rattle.std.proofs.Common.{◌≡◌, ◌≢◌, ◌⊎◌, inl, inr, ⊎_elim, ℕ, ◌+◌, ◌<◌, ◌≤◌, Bool, true, false, cond, ltb, List, [], ◌∷◌, ◌++◌, length, drop, get_or, Some, None, Ok, Err, sym, ap, ◌∙◌, refl, subst, arith, length-append}
+use Rattle.std.proofs.Common.{◌≡◌, ◌≢◌, ◌⊎◌, inl, inr, ⊎_elim, ℕ, ◌+◌, ◌<◌, ◌≤◌, Bool, true, false, cond, ltb, List, [], ◌∷◌, ◌++◌, length, drop, get_or, Option, Some, None, Ok, Err, sym, ap, ◌∙◌, refl, subst, arith, length-append}
 use Rattle.std.proofs.lemmas.Bool.{lt-ltb}
 use Rattle.std.proofs.lemmas.List.{drop_more, drop_all, length-drop}
 use Rattle.std.proofs.lemmas.List.Sums.{sum_by_push}
-use Rattle.script_reader.specs.Reading.{command_of, command_in_front, behind_command, script_of, with_statement, unless, walk, reading, behind_texts, texts_in_front, IsErr, IsHeading, BeginWithHeading, BeginWithSession}
-use Rattle.script_reader.specs.Script.{adds_in, adds_of, command_line_in, takes_text, last_takes_text, cause_of, command_cause, names_known}
-use Rattle.script_reader.specs.Statements.{said, kind_of, is_live}
+use Rattle.script_reader.specs.Reading.{command_of, command_in_front, behind_command, script_of, with_statement, unless, walk, reading, behind_texts, texts_in_front, GivesNames, IsErr, IsHeading, BeginWithHeading, BeginWithSession}
+use Rattle.script_reader.specs.Script.{adds_in, adds_of, command_line_in, takes_text, last_takes_text, cause_of, command_cause, is_put_head, names_known}
+use Rattle.script_reader.specs.Statements.{Statement, Nothing, Text, Session, Command, Header, Nonsense, header_said, is_live, kind_of, statements_of, text_ahead, told, told_from}
 use Rattle.script_reader.specs.declared.command.Command as declared
+use Rattle.script_reader.specs.declared.command.Command.TheVariants as command
 use Rattle.script_reader.specs.declared.command.Script.{Script}
 use Rattle.script_reader.specs.declared.fault.Cause.{Cause}
 use Rattle.script_reader.specs.declared.fault.Cause.TheVariants.{NoLive, BadLine, ManySessions, NoOwn}
@@ -16,7 +17,8 @@ use Rattle.script_reader.specs.declared.line.CommandLine.{CommandLine}
 use Rattle.script_reader.specs.declared.line.CommandLine.TheVariants as command_lines
 use Rattle.script_reader.specs.declared.line.Kind.{Kind}
 use Rattle.script_reader.specs.declared.line.Kind.TheVariants as kind
-use Rattle.script_reader.proofs.Walks.{walk_line, writing, on_last-snoc, last_session-snoc, last_takes-snoc, text_cause-snoc, line_of_command, walk_read, walk_opening, behind_is_heading}
+use Rattle.script_reader.proofs.Texts.{no_put_head}
+use Rattle.script_reader.proofs.Walks.{told_line, walk_said, writing, on_last-snoc, last_session-snoc, last_takes-snoc, text_cause-snoc, line_of_command, walk_read, walk_opening, behind_is_heading}
 
 -- why a command can't stand behind the last of these sessions
 pub command_cause-snoc : (done : List (List declared.Command)) (session : List declared.Command) (h : CommandLine) → command_cause (done ++ session ∷ []) h ≡ cond (names_known (adds_in session) h) None (Some NoOwn)
@@ -37,6 +39,12 @@ few_adds (command_lines.Add place) = omega arith
 few_adds (command_lines.Cut name) = omega arith
 few_adds (command_lines.LoopAt line) = omega arith
 few_adds command_lines.Verdict = omega arith
+few_adds command_lines.LookHead = omega arith
+few_adds command_lines.PutHead = omega arith
+
+-- why a command that isn't `put head` can't stand behind these sessions
+pub plain_cause : (h : CommandLine) → is_put_head h ≡ false → (sessions : List (List declared.Command)) → cond (is_put_head h) (Some BadLine) (command_cause sessions h) ≡ command_cause sessions h
+plain_cause h isnt sessions = ap (λ b. cond b (Some BadLine) (command_cause sessions h)) isnt
 
 -- the commands of a session that were read from these lines, up to the place `at`
 pub record CommandsSoFar (lines : List (List ℕ)) (start at : ℕ) (commands : List declared.Command) (adds : ℕ) : Type 0 where
@@ -47,7 +55,7 @@ pub record CommandsSoFar (lines : List (List ℕ)) (start at : ℕ) (commands : 
   pub short : length commands ≤ at
   pub next : (last_takes_text commands ≡ false) ⊎ BeginWithHeading (drop at lines)
   pub walks : (text : List (List ℕ)) (done : List (List declared.Command))
-      → walk (length lines) (script_of text (done ++ [] ∷ [])) (drop start lines) ≡ walk (length lines) (script_of text (done ++ commands ∷ [])) (drop at lines)
+      → walk (length lines) (script_of text (done ++ [] ∷ [])) (statements_of (drop start lines)) ≡ walk (length lines) (script_of text (done ++ commands ∷ [])) (statements_of (drop at lines))
 
 pub commands_begin : (lines : List (List ℕ)) (start : ℕ) → start ≤ length lines → CommandsSoFar lines start start [] 0
 commands_begin lines start high = record { low = omega arith; high = high; counted = refl; few = omega arith; short = omega arith; next = inl refl; walks = λ text done. refl }
@@ -59,23 +67,28 @@ module _ (lines : List (List ℕ)) (at : ℕ) (within : at < length lines) where
   heading_here : BeginWithHeading (drop at lines) → IsHeading (kind_of this)
   heading_here h = subst BeginWithHeading (drop_more lines at [] within) h
 
-  -- the walk over this line
-  walk_here : (script : Script) (k : Kind) → kind_of this ≡ k
-      → walk (length lines) script (drop at lines) ≡ unless (cause_of script (said this k)) (at + 1) (walk (length lines) (with_statement script (said this k)) (drop (at + 1) lines))
-  walk_here script k is =
-      ap (walk (length lines) script) (drop_more lines at [] within)
-      ∙ walk_line (length lines) script this (drop (at + 1) lines) k is
-      ∙ ap (λ n. unless (cause_of script (said this k)) n (walk (length lines) (with_statement script (said this k)) (drop (at + 1) lines))) (omega (arith, length-drop (at + 1) lines))
+  -- what this line and those behind it say
+  told_here : (k : Kind) → kind_of this ≡ k → statements_of (drop at lines) ≡ told k false this (text_ahead (drop (at + 1) lines)) (λ wants. told_from wants (drop (at + 1) lines))
+  told_here k is = ap statements_of (drop_more lines at [] within) ∙ told_line false this (drop (at + 1) lines) k is
+
+  -- the walk over what it says
+  walk_here : (script : Script) (x : Statement) (wants : Bool) → statements_of (drop at lines) ≡ x ∷ told_from wants (drop (at + 1) lines)
+      → walk (length lines) script (statements_of (drop at lines)) ≡ unless (cause_of script x) (at + 1) (walk (length lines) (with_statement script x) (told_from wants (drop (at + 1) lines)))
+  walk_here script x wants is =
+      ap (walk (length lines) script) is
+      ∙ walk_said (length lines) script x wants (drop (at + 1) lines)
+      ∙ ap (λ n. unless (cause_of script x) n (walk (length lines) (with_statement script x) (told_from wants (drop (at + 1) lines)))) (omega (arith, length-drop (at + 1) lines))
 
   -- where there is a cause it ends here
-  walk_stops : (script : Script) (k : Kind) (cause : Cause) → kind_of this ≡ k → cause_of script (said this k) ≡ Some cause → walk (length lines) script (drop at lines) ≡ Err (At (at + 1) cause)
-  walk_stops script k cause is stops =
-      walk_here script k is ∙ ap (λ o. unless o (at + 1) (walk (length lines) (with_statement script (said this k)) (drop (at + 1) lines))) stops
+  walk_stops : (script : Script) (x : Statement) (wants : Bool) (cause : Cause) → statements_of (drop at lines) ≡ x ∷ told_from wants (drop (at + 1) lines) → cause_of script x ≡ Some cause → walk (length lines) script (statements_of (drop at lines)) ≡ Err (At (at + 1) cause)
+  walk_stops script x wants cause is stops =
+      walk_here script x wants is ∙ ap (λ o. unless o (at + 1) (walk (length lines) (with_statement script x) (told_from wants (drop (at + 1) lines)))) stops
 
-  walk_goes_on : (script after : Script) (k : Kind) → kind_of this ≡ k → cause_of script (said this k) ≡ None → with_statement script (said this k) ≡ after → walk (length lines) script (drop at lines) ≡ walk (length lines) after (drop (at + 1) lines)
-  walk_goes_on script after k is goes_on after_is =
-      walk_here script k is ∙ ap (λ o. unless o (at + 1) (walk (length lines) (with_statement script (said this k)) (drop (at + 1) lines))) goes_on
-      ∙ ap (λ (s : Script). walk (length lines) s (drop (at + 1) lines)) after_is
+  walk_goes_on : (script after : Script) (x : Statement) (wants : Bool) → statements_of (drop at lines) ≡ x ∷ told_from wants (drop (at + 1) lines) → cause_of script x ≡ None → with_statement script x ≡ after
+      → walk (length lines) script (statements_of (drop at lines)) ≡ walk (length lines) after (told_from wants (drop (at + 1) lines))
+  walk_goes_on script after x wants is goes_on after_is =
+      walk_here script x wants is ∙ ap (λ o. unless o (at + 1) (walk (length lines) (with_statement script x) (told_from wants (drop (at + 1) lines)))) goes_on
+      ∙ ap (λ (s : Script). walk (length lines) s (told_from wants (drop (at + 1) lines))) after_is
 
   module _ (start : ℕ) (commands : List declared.Command) (adds : ℕ) (s : CommandsSoFar lines start at commands adds) where
     pub command_skipped : kind_of this ≡ kind.Skipped → CommandsSoFar lines start (at + 1) commands adds
@@ -86,28 +99,28 @@ module _ (lines : List (List ℕ)) (at : ℕ) (within : at < length lines) where
       few = let few = s.few in omega arith;
       short = let short = s.short in omega arith;
       next = ⊎_elim (λ none. inl none) (λ heading. absurd (subst IsHeading is (heading_here heading))) s.next;
-      walks = λ text done. s.walks text done ∙ walk_goes_on (script_of text (done ++ commands ∷ [])) (script_of text (done ++ commands ∷ [])) kind.Skipped is refl refl;
+      walks = λ text done. s.walks text done ∙ walk_goes_on (script_of text (done ++ commands ∷ [])) (script_of text (done ++ commands ∷ [])) Nothing false (told_here kind.Skipped is) refl refl;
     }
 
     pub session_ends : kind_of this ≡ kind.Session → BeginWithSession (drop at lines)
     session_ends is = subst BeginWithSession (sym (drop_more lines at [] within)) is
 
-    stops : (cause : Cause) (k : Kind) → kind_of this ≡ k → ((text : List (List ℕ)) (done : List (List declared.Command)) → cause_of (script_of text (done ++ commands ∷ [])) (said this k) ≡ Some cause)
-        → (text : List (List ℕ)) (done : List (List declared.Command)) → walk (length lines) (script_of text (done ++ [] ∷ [])) (drop start lines) ≡ Err (At (at + 1) cause)
-    stops cause k is has text done = s.walks text done ∙ walk_stops (script_of text (done ++ commands ∷ [])) k cause is (has text done)
+    stops : (cause : Cause) (x : Statement) (wants : Bool) → statements_of (drop at lines) ≡ x ∷ told_from wants (drop (at + 1) lines) → ((text : List (List ℕ)) (done : List (List declared.Command)) → cause_of (script_of text (done ++ commands ∷ [])) x ≡ Some cause)
+        → (text : List (List ℕ)) (done : List (List declared.Command)) → walk (length lines) (script_of text (done ++ [] ∷ [])) (statements_of (drop start lines)) ≡ Err (At (at + 1) cause)
+    stops cause x wants is has text done = s.walks text done ∙ walk_stops (script_of text (done ++ commands ∷ [])) x wants cause is (has text done)
 
-    pub other_stops : kind_of this ≡ kind.Other → (text : List (List ℕ)) (done : List (List declared.Command)) → walk (length lines) (script_of text (done ++ [] ∷ [])) (drop start lines) ≡ Err (At (at + 1) BadLine)
-    other_stops is = stops BadLine kind.Other is (λ text done. refl)
+    pub other_stops : kind_of this ≡ kind.Other → (text : List (List ℕ)) (done : List (List declared.Command)) → walk (length lines) (script_of text (done ++ [] ∷ [])) (statements_of (drop start lines)) ≡ Err (At (at + 1) BadLine)
+    other_stops is = stops BadLine Nonsense false (told_here kind.Other is) (λ text done. refl)
 
-    pub text_stops : kind_of this ≡ kind.Text → (text : List (List ℕ)) (done : List (List declared.Command)) → walk (length lines) (script_of text (done ++ [] ∷ [])) (drop start lines) ≡ Err (At (at + 1) BadLine)
+    pub text_stops : kind_of this ≡ kind.Text → (text : List (List ℕ)) (done : List (List declared.Command)) → walk (length lines) (script_of text (done ++ [] ∷ [])) (statements_of (drop start lines)) ≡ Err (At (at + 1) BadLine)
     text_stops is = ⊎_elim
-        (λ none. stops BadLine kind.Text is (λ text done. text_cause-snoc done commands ∙ ap (λ b. cond b None (Some BadLine)) none))
+        (λ none. stops BadLine (Text (drop 1 this)) false (told_here kind.Text is) (λ text done. text_cause-snoc done commands ∙ ap (λ b. cond b None (Some BadLine)) none))
         (λ heading. absurd (subst IsHeading is (heading_here heading)))
         s.next
 
-    pub unknown_stops : (h : CommandLine) → kind_of this ≡ kind.Command h → names_known adds h ≡ false → (text : List (List ℕ)) (done : List (List declared.Command)) → walk (length lines) (script_of text (done ++ [] ∷ [])) (drop start lines) ≡ Err (At (at + 1) NoOwn)
-    unknown_stops h is unknown = stops NoOwn (kind.Command h) is
-        (λ text done. command_cause-snoc done commands h ∙ ap (λ n. cond (names_known n h) None (Some NoOwn)) (sym s.counted) ∙ ap (λ b. cond b None (Some NoOwn)) unknown)
+    pub unknown_stops : (h : CommandLine) → kind_of this ≡ kind.Command h → names_known adds h ≡ false → (text : List (List ℕ)) (done : List (List declared.Command)) → walk (length lines) (script_of text (done ++ [] ∷ [])) (statements_of (drop start lines)) ≡ Err (At (at + 1) NoOwn)
+    unknown_stops h is unknown = stops NoOwn (Command h) false (told_here (kind.Command h) is)
+        (λ text done. plain_cause h (no_put_head this h is) (done ++ commands ∷ []) ∙ command_cause-snoc done commands h ∙ ap (λ n. cond (names_known n h) None (Some NoOwn)) (sym s.counted) ∙ ap (λ b. cond b None (Some NoOwn)) unknown)
 
     pub command_more : (h : CommandLine) (command : declared.Command) (next : ℕ) → kind_of this ≡ kind.Command h → names_known adds h ≡ true
         → command ≡ command_in_front h (drop (at + 1) lines) → drop next lines ≡ behind_command h (drop (at + 1) lines) → at + 1 ≤ next → next ≤ length lines
@@ -121,11 +134,11 @@ module _ (lines : List (List ℕ)) (at : ℕ) (within : at < length lines) where
       next = ends (takes_text h) refl;
       walks = λ text done.
           s.walks text done
-          ∙ walk_goes_on (script_of text (done ++ commands ∷ [])) (writing text done commands h []) (kind.Command h) is
-          (command_cause-snoc done commands h ∙ ap (λ n. cond (names_known n h) None (Some NoOwn)) (sym s.counted) ∙ ap (λ b. cond b None (Some NoOwn)) known)
+          ∙ walk_goes_on (script_of text (done ++ commands ∷ [])) (writing text done commands h []) (Command h) false (told_here (kind.Command h) is)
+          (plain_cause h (no_put_head this h is) (done ++ commands ∷ []) ∙ command_cause-snoc done commands h ∙ ap (λ n. cond (names_known n h) None (Some NoOwn)) (sym s.counted) ∙ ap (λ b. cond b None (Some NoOwn)) known)
           (ap (script_of text) (on_last-snoc (λ cs. cs ++ command_of h [] ∷ []) done commands))
           ∙ walk_read (length lines) text done commands h (drop (at + 1) lines)
-          ∙ ap (λ (p : List (List ℕ) × declared.Command). walk (length lines) (script_of text (done ++ (commands ++ p.1 ∷ []) ∷ [])) p.0) (λ i. (sym rest_is i, sym command_is i));
+          ∙ ap (λ (p : List (List ℕ) × declared.Command). walk (length lines) (script_of text (done ++ (commands ++ p.1 ∷ []) ∷ [])) (statements_of p.0)) (λ i. (sym rest_is i, sym command_is i));
     }
       where
         line_is : command_line_in command ≡ h
@@ -134,6 +147,34 @@ module _ (lines : List (List ℕ)) (at : ℕ) (within : at < length lines) where
         ends : (b : Bool) → takes_text h ≡ b → (last_takes_text (commands ++ command ∷ []) ≡ false) ⊎ BeginWithHeading (drop next lines)
         ends false none = inl (last_takes-snoc commands command ∙ ap takes_text line_is ∙ none)
         ends true takes = inr (subst BeginWithHeading (sym (rest_is ∙ ap (λ b. cond b (behind_texts (drop (at + 1) lines)) (drop (at + 1) lines)) takes)) (behind_is_heading (drop (at + 1) lines)))
+
+module _ (lines : List (List ℕ)) (at : ℕ) (within : at < length lines) (start : ℕ) (commands : List declared.Command) (adds : ℕ) (s : CommandsSoFar lines start at commands adds) (is : kind_of (get_or lines at []) ≡ kind.Header) where
+  header_free : (text : List (List ℕ)) (done : List (List declared.Command)) (names : List (List ℕ)) → cause_of (script_of text (done ++ commands ∷ [])) (Header names) ≡ None
+  header_free text done names = command_cause-snoc done commands command_lines.PutHead
+
+  pub header_more : (names : List (List ℕ)) (next : ℕ) → GivesNames lines (at + 1) names next → at + 1 ≤ next → next ≤ length lines → CommandsSoFar lines start next (commands ++ command.PutHead names ∷ []) adds
+  header_more names next gives low high = record {
+    low = let before = s.low in omega arith;
+    high = high;
+    counted = s.counted ∙ sym (adds-snoc commands (command.PutHead names) command_lines.PutHead refl ∙ (let n : ℕ = adds_in commands in omega arith));
+    few = let few = s.few in omega arith;
+    short = let short = s.short in omega (arith, length-append commands (command.PutHead names ∷ []));
+    next = inl (last_takes-snoc commands (command.PutHead names));
+    walks = λ text done.
+        s.walks text done
+        ∙ walk_goes_on lines at within (script_of text (done ++ commands ∷ [])) (script_of text (done ++ (commands ++ command.PutHead names ∷ []) ∷ [])) (Header names) true
+        (told_here lines at within kind.Header is ∙ ap (λ (x : Statement). x ∷ told_from true (drop (at + 1) lines)) gives.said)
+        (header_free text done names)
+        (ap (script_of text) (on_last-snoc (λ cs. cs ++ command.PutHead names ∷ []) done commands))
+        ∙ gives.walks (length lines) (script_of text (done ++ (commands ++ command.PutHead names ∷ []) ∷ []));
+  }
+
+  pub header_refused : (fault : ScriptFault)
+      → ((script : Script) → cause_of script (Header []) ≡ None → IsErr (walk (length lines) script (header_said (text_ahead (drop (at + 1) lines)) ∷ told_from true (drop (at + 1) lines))) fault)
+      → (text : List (List ℕ)) (done : List (List declared.Command)) → IsErr (walk (length lines) (script_of text (done ++ [] ∷ [])) (statements_of (drop start lines))) fault
+  header_refused fault refused text done =
+      subst (λ r. IsErr r fault) (sym (s.walks text done ∙ ap (walk (length lines) (script_of text (done ++ commands ∷ []))) (told_here lines at within kind.Header is)))
+      (refused (script_of text (done ++ commands ∷ [])) (header_free text done []))
 
 pub all_read : (lines : List (List ℕ)) (at : ℕ) → length lines ≤ at → BeginWithSession (drop at lines)
 all_read lines at past = subst BeginWithSession (sym (drop_all at lines past)) tt
@@ -148,7 +189,7 @@ pub record SessionsSoFar (lines : List (List ℕ)) (start at : ℕ) (sessions : 
   pub high : at ≤ length lines
   pub few : length sessions ≤ 64
   pub next : SessionAhead sessions (drop at lines)
-  pub walks : (text : List (List ℕ)) → walk (length lines) (script_of text []) (drop start lines) ≡ walk (length lines) (script_of text sessions) (drop at lines)
+  pub walks : (text : List (List ℕ)) → walk (length lines) (script_of text []) (statements_of (drop start lines)) ≡ walk (length lines) (script_of text sessions) (statements_of (drop at lines))
 
 ahead_first : (lines : List (List ℕ)) → BeginWithHeading lines → SessionAhead [] lines
 ahead_first [] h = tt
@@ -161,36 +202,48 @@ ahead_next sessions (line ∷ lines) h = inl h
 pub sessions_begin : (lines : List (List ℕ)) (start : ℕ) → start ≤ length lines → BeginWithHeading (drop start lines) → SessionsSoFar lines start start []
 sessions_begin lines start high heading = record { high = high; few = omega arith; next = ahead_first (drop start lines) heading; walks = λ text. refl }
 
-pub sessions_end : (lines : List (List ℕ)) (start at : ℕ) (sessions : List (List declared.Command)) → length lines ≤ at → SessionsSoFar lines start at sessions → (text : List (List ℕ)) → walk (length lines) (script_of text []) (drop start lines) ≡ Ok (script_of text sessions)
-sessions_end lines start at sessions past s text = s.walks text ∙ ap (walk (length lines) (script_of text sessions)) (drop_all at lines past)
+pub sessions_end : (lines : List (List ℕ)) (start at : ℕ) (sessions : List (List declared.Command)) → length lines ≤ at → SessionsSoFar lines start at sessions → (text : List (List ℕ)) → walk (length lines) (script_of text []) (statements_of (drop start lines)) ≡ Ok (script_of text sessions)
+sessions_end lines start at sessions past s text = s.walks text ∙ ap (λ (l : List (List ℕ)). walk (length lines) (script_of text sessions) (statements_of l)) (drop_all at lines past)
 
 module _ (lines : List (List ℕ)) (at : ℕ) (within : at < length lines) (start : ℕ) (sessions : List (List declared.Command)) (s : SessionsSoFar lines start at sessions) where
   abbrev here : List ℕ
   here = get_or lines at []
 
-  heading_bad : (text : List (List ℕ)) (k : Kind) → k ≢ kind.Session → IsHeading k → cause_of (script_of text []) (said here k) ≡ Some BadLine
-  heading_bad text kind.Skipped isnt h = absurd h
-  heading_bad text kind.Text isnt h = absurd h
-  heading_bad text kind.Session isnt h = absurd (isnt refl)
-  heading_bad text (kind.Command command_line) isnt h = refl
-  heading_bad text kind.Other isnt h = refl
+  plain_bad : (text : List (List ℕ)) (h : CommandLine) → cause_of (script_of text []) (Command h) ≡ Some BadLine
+  plain_bad text h = go (is_put_head h)
+    where
+      go : (b : Bool) → cond b (Some BadLine) (Some BadLine) ≡ Some BadLine
+      go true = refl
+      go false = refl
 
-  pub no_session_stops : kind_of here ≢ kind.Session → (text : List (List ℕ)) → walk (length lines) (script_of text []) (drop start lines) ≡ Err (At (at + 1) BadLine)
+  header_bad : (text : List (List ℕ)) (ahead : Option (List ℕ)) → cause_of (script_of text []) (header_said ahead) ≡ Some BadLine
+  header_bad text None = refl
+  header_bad text (Some t) = refl
+
+  first_stops : (text : List (List ℕ)) (k : Kind) → kind_of here ≡ k → k ≢ kind.Session → IsHeading k → walk (length lines) (script_of text []) (statements_of (drop at lines)) ≡ Err (At (at + 1) BadLine)
+  first_stops text kind.Skipped is isnt h = absurd h
+  first_stops text kind.Text is isnt h = absurd h
+  first_stops text kind.Session is isnt h = absurd (isnt refl)
+  first_stops text (kind.Command command_line) is isnt h = walk_stops lines at within (script_of text []) (Command command_line) false BadLine (told_here lines at within (kind.Command command_line) is) (plain_bad text command_line)
+  first_stops text kind.Header is isnt h =
+      walk_stops lines at within (script_of text []) (header_said (text_ahead (drop (at + 1) lines))) true BadLine (told_here lines at within kind.Header is) (header_bad text (text_ahead (drop (at + 1) lines)))
+  first_stops text kind.Other is isnt h = walk_stops lines at within (script_of text []) Nonsense false BadLine (told_here lines at within kind.Other is) refl
+
+  pub no_session_stops : kind_of here ≢ kind.Session → (text : List (List ℕ)) → walk (length lines) (script_of text []) (statements_of (drop start lines)) ≡ Err (At (at + 1) BadLine)
   no_session_stops isnt text = ⊎_elim
       (λ is. absurd (isnt is))
-      (λ first. s.walks text ∙ walk_stops lines at within (script_of text sessions) (kind_of here) BadLine refl
-      (ap (λ (l : List (List declared.Command)). cause_of (script_of text l) (said here (kind_of here))) first.0 ∙ heading_bad text (kind_of here) isnt first.1))
+      (λ first. s.walks text ∙ ap (λ (l : List (List declared.Command)). walk (length lines) (script_of text l) (statements_of (drop at lines))) first.0 ∙ first_stops text (kind_of here) refl isnt first.1)
       (subst (SessionAhead sessions) (drop_more lines at [] within) s.next)
 
-  pub many_stops : kind_of here ≡ kind.Session → length sessions ≡ 64 → (text : List (List ℕ)) → walk (length lines) (script_of text []) (drop start lines) ≡ Err (At (at + 1) ManySessions)
-  many_stops is many text = s.walks text ∙ walk_stops lines at within (script_of text sessions) kind.Session ManySessions is (ap (λ n. cond (ltb n 64) None (Some ManySessions)) many)
+  pub many_stops : kind_of here ≡ kind.Session → length sessions ≡ 64 → (text : List (List ℕ)) → walk (length lines) (script_of text []) (statements_of (drop start lines)) ≡ Err (At (at + 1) ManySessions)
+  many_stops is many text = s.walks text ∙ walk_stops lines at within (script_of text sessions) Session false ManySessions (told_here lines at within kind.Session is) (ap (λ n. cond (ltb n 64) None (Some ManySessions)) many)
 
-  begins : kind_of here ≡ kind.Session → length sessions < 64 → (text : List (List ℕ)) → walk (length lines) (script_of text []) (drop start lines) ≡ walk (length lines) (script_of text (sessions ++ [] ∷ [])) (drop (at + 1) lines)
-  begins is few text = s.walks text ∙ walk_goes_on lines at within (script_of text sessions) (script_of text (sessions ++ [] ∷ [])) kind.Session is
+  begins : kind_of here ≡ kind.Session → length sessions < 64 → (text : List (List ℕ)) → walk (length lines) (script_of text []) (statements_of (drop start lines)) ≡ walk (length lines) (script_of text (sessions ++ [] ∷ [])) (statements_of (drop (at + 1) lines))
+  begins is few text = s.walks text ∙ walk_goes_on lines at within (script_of text sessions) (script_of text (sessions ++ [] ∷ [])) Session false (told_here lines at within kind.Session is)
       (ap (λ b. cond b None (Some ManySessions)) (lt-ltb (length sessions) 64 few)) refl
 
   pub session_more : (commands : List declared.Command) (next : ℕ) → kind_of here ≡ kind.Session → length sessions ≢ 64 → next ≤ length lines → BeginWithSession (drop next lines)
-      → ((text : List (List ℕ)) (done : List (List declared.Command)) → walk (length lines) (script_of text (done ++ [] ∷ [])) (drop (at + 1) lines) ≡ walk (length lines) (script_of text (done ++ commands ∷ [])) (drop next lines))
+      → ((text : List (List ℕ)) (done : List (List declared.Command)) → walk (length lines) (script_of text (done ++ [] ∷ [])) (statements_of (drop (at + 1) lines)) ≡ walk (length lines) (script_of text (done ++ commands ∷ [])) (statements_of (drop next lines)))
       → SessionsSoFar lines start next (sessions ++ commands ∷ [])
   session_more commands next is not_many high ahead walks = record {
     high = high;
@@ -200,27 +253,27 @@ module _ (lines : List (List ℕ)) (at : ℕ) (within : at < length lines) (star
   }
 
   pub session_refused : (fault : ScriptFault) → kind_of here ≡ kind.Session → length sessions ≢ 64
-      → ((text : List (List ℕ)) (done : List (List declared.Command)) → IsErr (walk (length lines) (script_of text (done ++ [] ∷ [])) (drop (at + 1) lines)) fault)
-      → (text : List (List ℕ)) → IsErr (walk (length lines) (script_of text []) (drop start lines)) fault
+      → ((text : List (List ℕ)) (done : List (List declared.Command)) → IsErr (walk (length lines) (script_of text (done ++ [] ∷ [])) (statements_of (drop (at + 1) lines))) fault)
+      → (text : List (List ℕ)) → IsErr (walk (length lines) (script_of text []) (statements_of (drop start lines))) fault
   session_refused fault is not_many refused text =
       subst (λ r. IsErr r fault) (sym (begins is (let few = s.few in omega (arith, not_many)) text)) (refused text sessions)
 
 -- the whole reading
-pub reading_live : (lines : List (List ℕ)) → 0 < length lines → is_live (get_or lines 0 []) ≡ true → reading lines ≡ walk (length lines) (script_of [] []) (drop 1 lines)
+pub reading_live : (lines : List (List ℕ)) → 0 < length lines → is_live (get_or lines 0 []) ≡ true → reading lines ≡ walk (length lines) (script_of [] []) (statements_of (drop 1 lines))
 reading_live [] some live = absurd (omega arith)
 reading_live (first ∷ lines) some live =
-    ap (λ b. cond b (walk (length lines + 1) (script_of [] []) lines) (Err (At 1 NoLive))) live
-    ∙ ap (λ n. walk n (script_of [] []) lines) (omega arith)
+    ap (λ b. cond b (walk (length lines + 1) (script_of [] []) (statements_of lines)) (Err (At 1 NoLive))) live
+    ∙ ap (λ n. walk n (script_of [] []) (statements_of lines)) (omega arith)
 
 pub reading_not_live : (lines : List (List ℕ)) → is_live (get_or lines 0 []) ≡ false → reading lines ≡ Err (At 1 NoLive)
 reading_not_live [] other = refl
-reading_not_live (first ∷ lines) other = ap (λ b. cond b (walk (length lines + 1) (script_of [] []) lines) (Err (At 1 NoLive))) other
+reading_not_live (first ∷ lines) other = ap (λ b. cond b (walk (length lines + 1) (script_of [] []) (statements_of lines)) (Err (At 1 NoLive))) other
 
 pub reading_text : (lines text : List (List ℕ)) (next : ℕ) → 0 < length lines → is_live (get_or lines 0 []) ≡ true → text ≡ texts_in_front (drop 1 lines) → drop next lines ≡ behind_texts (drop 1 lines)
-    → reading lines ≡ walk (length lines) (script_of text []) (drop next lines)
+    → reading lines ≡ walk (length lines) (script_of text []) (statements_of (drop next lines))
 reading_text lines text next some live text_is rest_is =
     reading_live lines some live ∙ walk_opening (length lines) [] (drop 1 lines)
-    ∙ ap (λ (p : List (List ℕ) × List (List ℕ)). walk (length lines) (script_of p.0 []) p.1) (λ i. (sym text_is i, sym rest_is i))
+    ∙ ap (λ (p : List (List ℕ) × List (List ℕ)). walk (length lines) (script_of p.0 []) (statements_of p.1)) (λ i. (sym text_is i, sym rest_is i))
 
 pub text_heading : (lines : List (List ℕ)) (next : ℕ) → drop next lines ≡ behind_texts (drop 1 lines) → BeginWithHeading (drop next lines)
 text_heading lines next is = subst BeginWithHeading (sym is) (behind_is_heading (drop 1 lines))

@@ -46,6 +46,7 @@ module _ (lines : List (List ℕ)) (start i : ℕ) (text : List (List ℕ)) (wit
   heading_texts kind.Text h line rest = absurd h
   heading_texts kind.Session h line rest = refl
   heading_texts (kind.Command command_line) h line rest = refl
+  heading_texts kind.Header h line rest = refl
   heading_texts kind.Other h line rest = refl
 
   heading_rest : (k : Kind) → IsHeading k → (here rest : List (List ℕ)) → rest_from k here rest ≡ here
@@ -53,6 +54,7 @@ module _ (lines : List (List ℕ)) (start i : ℕ) (text : List (List ℕ)) (wit
   heading_rest kind.Text h here rest = absurd h
   heading_rest kind.Session h here rest = refl
   heading_rest (kind.Command command_line) h here rest = refl
+  heading_rest kind.Header h here rest = refl
   heading_rest kind.Other h here rest = refl
 
   -- a heading ends the text

@@ -1,5 +1,5 @@
 -- The text of a text line is a text.
-use Rattle.std.proofs.Common.{◌≡◌, ℕ, ◌<◌, Bool, true, false, cond, Option, Some, None, codes, refl, ◌≢◌, List, [], ◌∷◌, length, drop, get_or, sym, ap, subst, arith, length-drop}
+use Rattle.std.proofs.Common.{◌≡◌, ℕ, ◌<◌, Bool, true, false, cond, ◌&&◌, Option, Some, None, codes, refl, ◌≢◌, List, [], ◌∷◌, length, drop, get_or, sym, ap, ◌∙◌, subst, arith, length-drop}
 use Rattle.std.specs.Str.{IsCharBoundary, bytes_eq}
 use Rattle.std.proofs.lemmas.List.Elements.{All-drop}
 use Rattle.std.proofs.lemmas.Slice.Eq.{bytes_eq-Decides}
@@ -8,10 +8,12 @@ use Rattle.knit_base.specs.Lines.{IsLine, MayLoseFirst}
 use Rattle.script_reader.specs.Reading.{IsTextLine}
 use Rattle.script_reader.specs.Statements.{is_skipped, is_text_line, kind_of, kind_of_words, command_line_of}
 use Rattle.script_reader.specs.declared.line.CommandLine.{CommandLine}
-use Rattle.script_reader.specs.declared.line.CommandLine.TheVariants.{Verdict}
+use Rattle.script_reader.specs.declared.line.CommandLine.TheVariants.{Look, Put, Add, Cut, LoopAt, Verdict, LookHead}
 use Rattle.script_reader.specs.declared.line.Kind.TheVariants as kind
 use Rattle.knitout_reader.specs.Tokens.{tokens_of}
-use Rattle.std.specs.Option.{option_map_or}
+use Rattle.std.specs.Option.{option_map, option_map_or}
+use Rattle.script_reader.specs.Script.{is_put_head}
+use Rattle.script_reader.specs.Words.{name_in, number_in, place_in}
 
 first_byte : (line : List ℕ) → is_text_line line ≡ true → (0 < length line) × (get_or line 0 0 ≡ 124)
 first_byte [] is = absurd (cc)
@@ -32,15 +34,60 @@ one_word_no_text true b is = cc
 one_word_no_text false true is = cc
 one_word_no_text false false is = cc
 
-two_words_no_text : (o : Option CommandLine) → option_map_or kind.Command o kind.Other ≡ kind.Text → ⊥
-two_words_no_text None is = cc
-two_words_no_text (Some h) is = cc
+two_words_no_text : (a : Bool) (o : Option CommandLine) → cond a kind.Header (option_map_or kind.Command o kind.Other) ≡ kind.Text → ⊥
+two_words_no_text true o is = cc
+two_words_no_text false None is = cc
+two_words_no_text false (Some h) is = cc
 
 words_no_text : (words : List (List ℕ)) → kind_of_words words ≡ kind.Text → ⊥
 words_no_text [] is = cc
 words_no_text (word ∷ []) is = one_word_no_text (bytes_eq word (codes "session")) (bytes_eq word (codes "verdict")) is
-words_no_text (word ∷ operand ∷ []) is = two_words_no_text (command_line_of word operand) is
+words_no_text (word ∷ operand ∷ []) is = two_words_no_text (bytes_eq word (codes "put") && bytes_eq operand (codes "head")) (command_line_of word operand) is
 words_no_text (word ∷ operand ∷ more ∷ words) is = cc
+
+-- no command line of a line is that of `put head`
+named_no_put : {A : Type 0} (f : A → CommandLine) → ((a : A) → is_put_head (f a) ≡ false) → (o : Option A) (h : CommandLine) → option_map f o ≡ Some h → is_put_head h ≡ false
+named_no_put f isnt None h is = absurd (cc)
+named_no_put f isnt (Some a) h is = let same : f a ≡ h = cc in subst (λ c. is_put_head c ≡ false) same (isnt a)
+
+line_no_put : (word operand : List ℕ) (h : CommandLine) → command_line_of word operand ≡ Some h → is_put_head h ≡ false
+line_no_put word operand h is = go (bytes_eq word (codes "look")) (bytes_eq operand (codes "head")) (bytes_eq word (codes "put")) (bytes_eq word (codes "add")) (bytes_eq word (codes "cut")) (bytes_eq word (codes "loop")) is
+  where
+    go : (a b c d e f : Bool) → cond a (cond b (Some LookHead) (option_map Look (name_in operand))) (cond c (option_map Put (name_in operand)) (cond d (option_map Add (place_in operand)) (cond e (option_map Cut (name_in operand)) (cond f (option_map LoopAt (number_in operand)) None)))) ≡ Some h → is_put_head h ≡ false
+    go true true c d e f is = let same : LookHead ≡ h = cc in subst (λ x. is_put_head x ≡ false) same refl
+    go true false c d e f is = named_no_put Look (λ a. refl) (name_in operand) h is
+    go false b true d e f is = named_no_put Put (λ a. refl) (name_in operand) h is
+    go false b false true e f is = named_no_put Add (λ a. refl) (place_in operand) h is
+    go false b false false true f is = named_no_put Cut (λ a. refl) (name_in operand) h is
+    go false b false false false true is = named_no_put LoopAt (λ a. refl) (number_in operand) h is
+    go false b false false false false is = absurd (cc)
+
+two_words_no_put : (a : Bool) (word operand : List ℕ) (h : CommandLine) → cond a kind.Header (option_map_or kind.Command (command_line_of word operand) kind.Other) ≡ kind.Command h → is_put_head h ≡ false
+two_words_no_put true word operand h is = absurd (cc)
+two_words_no_put false word operand h is = go (command_line_of word operand) refl is
+  where
+    go : (o : Option CommandLine) → command_line_of word operand ≡ o → option_map_or kind.Command o kind.Other ≡ kind.Command h → is_put_head h ≡ false
+    go None has is = absurd (cc)
+    go (Some found) has is = let same : found ≡ h = cc in line_no_put word operand h (has ∙ ap (λ (c : CommandLine). Some c) same)
+
+one_word_no_put : (a b : Bool) (h : CommandLine) → cond a kind.Session (cond b (kind.Command Verdict) kind.Other) ≡ kind.Command h → is_put_head h ≡ false
+one_word_no_put true b h is = absurd (cc)
+one_word_no_put false true h is = let same : Verdict ≡ h = cc in subst (λ x. is_put_head x ≡ false) same refl
+one_word_no_put false false h is = absurd (cc)
+
+words_no_put : (words : List (List ℕ)) (h : CommandLine) → kind_of_words words ≡ kind.Command h → is_put_head h ≡ false
+words_no_put [] h is = absurd (cc)
+words_no_put (word ∷ []) h is = one_word_no_put (bytes_eq word (codes "session")) (bytes_eq word (codes "verdict")) h is
+words_no_put (word ∷ operand ∷ []) h is = two_words_no_put (bytes_eq word (codes "put") && bytes_eq operand (codes "head")) word operand h is
+words_no_put (word ∷ operand ∷ more ∷ words) h is = absurd (cc)
+
+pub no_put_head : (line : List ℕ) (h : CommandLine) → kind_of line ≡ kind.Command h → is_put_head h ≡ false
+no_put_head line h is = go (is_skipped line) (is_text_line line) is
+  where
+    go : (a b : Bool) → cond a kind.Skipped (cond b kind.Text (kind_of_words (tokens_of line))) ≡ kind.Command h → is_put_head h ≡ false
+    go true b r = absurd (cc)
+    go false true r = absurd (cc)
+    go false false r = words_no_put (tokens_of line) h r
 
 -- a text line is what its first byte says
 pub text_kind : (line : List ℕ) → kind_of line ≡ kind.Text → is_text_line line ≡ true

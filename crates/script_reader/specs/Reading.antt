@@ -1,8 +1,8 @@
 -- The script of a list of lines, or its refusal, as a walk from the first line to the last. The proofs alone speak of it.
-use Rattle.std.specs.Prelude.{◌≡◌, ℕ, ◌+◌, ◌-◌, true, List, [], ◌∷◌, ◌++◌, length, drop, Option, Some, None, Result, Ok, Err, if◌then◌else◌}
+use Rattle.std.specs.Prelude.{◌≡◌, ℕ, ◌+◌, ◌-◌, Bool, true, List, [], ◌∷◌, ◌++◌, length, drop, Option, Some, None, Result, Ok, Err, if◌then◌else◌}
 use Rattle.knit_base.specs.Lines.{IsLine}
 use Rattle.script_reader.specs.Script.{cause_of, takes_text}
-use Rattle.script_reader.specs.Statements.{Statement, Nothing, Text, Session, Command, Nonsense, is_live, is_text_line, kind_of, statement_of}
+use Rattle.script_reader.specs.Statements.{Statement, Nothing, Text, Session, Command, Header, Nonsense, is_live, is_text_line, header_said, kind_of, statements_of, text_ahead, told_from}
 use Rattle.script_reader.specs.declared.command.Command as declared
 use Rattle.script_reader.specs.declared.command.Command.TheVariants as command
 use Rattle.script_reader.specs.declared.command.Script.{Script}
@@ -23,6 +23,8 @@ command_of (command_lines.Add place) text = command.Add place text
 command_of (command_lines.Cut name) text = command.Cut name
 command_of (command_lines.LoopAt line) text = command.LoopAt line
 command_of command_lines.Verdict text = command.Verdict
+command_of command_lines.LookHead text = command.LookHead
+command_of command_lines.PutHead text = command.PutHead []
 
 -- with one more line of text
 abbrev pub longer : List ℕ → declared.Command → declared.Command
@@ -32,6 +34,8 @@ longer line (command.Add place text) = command.Add place (text ++ line ∷ [])
 longer line (command.Cut name) = command.Cut name
 longer line (command.LoopAt at) = command.LoopAt at
 longer line command.Verdict = command.Verdict
+longer line command.LookHead = command.LookHead
+longer line (command.PutHead names) = command.PutHead names
 
 abbrev pub on_last : {A : Type 0} → (A → A) → List A → List A
 on_last f [] = []
@@ -52,6 +56,7 @@ with_statement script Nothing = script
 with_statement script (Text line) = with_text script.text script.sessions line
 with_statement script Session = script_of script.text (script.sessions ++ [] ∷ [])
 with_statement script (Command command_line) = script_of script.text (on_last (λ commands. commands ++ command_of command_line [] ∷ []) script.sessions)
+with_statement script (Header names) = script_of script.text (on_last (λ commands. commands ++ command.PutHead names ∷ []) script.sessions)
 with_statement script Nonsense = script
 
 -- refused at the line with this number, if there is a cause
@@ -59,14 +64,14 @@ abbrev pub unless : Option Cause → ℕ → Result Script ScriptFault → Resul
 unless None number result = result
 unless (Some cause) number result = Err (At number cause)
 
--- The lines are the last of so many.
-abbrev pub walk : ℕ → Script → List (List ℕ) → Result Script ScriptFault
+-- The statements are those of the last of so many lines.
+abbrev pub walk : ℕ → Script → List Statement → Result Script ScriptFault
 walk count script [] = Ok script
-walk count script (line ∷ lines) = unless (cause_of script (statement_of line)) (count - length lines) (walk count (with_statement script (statement_of line)) lines)
+walk count script (x ∷ xs) = unless (cause_of script x) (count - length xs) (walk count (with_statement script x) xs)
 
 abbrev pub reading : List (List ℕ) → Result Script ScriptFault
 reading [] = Err (At 1 NoLive)
-reading (first ∷ lines) = if is_live first then walk (length lines + 1) (script_of [] []) lines else Err (At 1 NoLive)
+reading (first ∷ lines) = if is_live first then walk (length lines + 1) (script_of [] []) (statements_of lines) else Err (At 1 NoLive)
 
 -- the refusal that this answer is; want of memory may come with any
 abbrev pub IsErr : Result Script ScriptFault → ScriptFault → Type 0
@@ -79,6 +84,7 @@ text_before kind.Skipped line texts = texts
 text_before kind.Text line texts = drop 1 line ∷ texts
 text_before kind.Session line texts = []
 text_before (kind.Command command_line) line texts = []
+text_before kind.Header line texts = []
 text_before kind.Other line texts = []
 
 abbrev pub texts_in_front : List (List ℕ) → List (List ℕ)
@@ -91,6 +97,7 @@ rest_from kind.Skipped here rest = rest
 rest_from kind.Text here rest = rest
 rest_from kind.Session here rest = here
 rest_from (kind.Command command_line) here rest = here
+rest_from kind.Header here rest = here
 rest_from kind.Other here rest = here
 
 abbrev pub behind_texts : List (List ℕ) → List (List ℕ)
@@ -115,6 +122,7 @@ IsHeading kind.Skipped = ⊥
 IsHeading kind.Text = ⊥
 IsHeading kind.Session = Unit {0}
 IsHeading (kind.Command command_line) = Unit {0}
+IsHeading kind.Header = Unit {0}
 IsHeading kind.Other = Unit {0}
 
 -- the first of the lines, if there is one, is neither
@@ -126,3 +134,13 @@ BeginWithHeading (line ∷ lines) = IsHeading (kind_of line)
 abbrev pub BeginWithSession : List (List ℕ) → Type 0
 BeginWithSession [] = Unit {0}
 BeginWithSession (line ∷ lines) = kind_of line ≡ kind.Session
+
+-- the lines from the one place up to the other say nothing
+pub record IsPassed (lines : List (List ℕ)) (start next : ℕ) : Type 0 where
+  pub walks : (wants : Bool) (count : ℕ) (script : Script) → walk count script (told_from wants (drop start lines)) ≡ walk count script (told_from wants (drop next lines))
+  pub ahead : text_ahead (drop start lines) ≡ text_ahead (drop next lines)
+
+-- behind `put head`, whose line stands before the first place, stands a text that gives these names, and behind it the other place
+pub record GivesNames (lines : List (List ℕ)) (start : ℕ) (names : List (List ℕ)) (next : ℕ) : Type 0 where
+  pub said : header_said (text_ahead (drop start lines)) ≡ Header names
+  pub walks : (count : ℕ) (script : Script) → walk count script (told_from true (drop start lines)) ≡ walk count script (statements_of (drop next lines))

@@ -6,7 +6,7 @@ use Rattle.std.specs.Prelude.{◌≡◌, ◌⊎◌, ℕ, ◌+◌, ◌<◌, ◌�
 use Rattle.std.specs.List.{flat_map, list_all, sum_by}
 use Rattle.edit_journal.specs.declared.edit.BlockName.{BlockName}
 use Rattle.edit_journal.specs.declared.edit.BlockName.TheVariants.{Id, Own}
-use Rattle.script_reader.specs.Statements.{Statement, Nothing, Text, Session, Command, Nonsense, is_live, statement_of}
+use Rattle.script_reader.specs.Statements.{Statement, Nothing, Text, Session, Command, Header, Nonsense, is_live, kind_of, statements_of, text_ahead}
 use Rattle.script_reader.specs.declared.command.Command as declared
 use Rattle.script_reader.specs.declared.command.Command.TheVariants as command
 use Rattle.script_reader.specs.declared.command.Place.{Place}
@@ -18,6 +18,7 @@ use Rattle.script_reader.specs.declared.fault.ScriptFault.{ScriptFault}
 use Rattle.script_reader.specs.declared.fault.ScriptFault.TheVariants.{At, NoMemory}
 use Rattle.script_reader.specs.declared.line.CommandLine.{CommandLine}
 use Rattle.script_reader.specs.declared.line.CommandLine.TheVariants as command_lines
+use Rattle.script_reader.specs.declared.line.Kind.TheVariants as kind
 
 -- the line of a command
 abbrev pub command_line_in : declared.Command → CommandLine
@@ -27,6 +28,8 @@ command_line_in (command.Add place text) = command_lines.Add place
 command_line_in (command.Cut name) = command_lines.Cut name
 command_line_in (command.LoopAt line) = command_lines.LoopAt line
 command_line_in command.Verdict = command_lines.Verdict
+command_line_in command.LookHead = command_lines.LookHead
+command_line_in (command.PutHead names) = command_lines.PutHead
 
 -- and its text
 abbrev pub text_in : declared.Command → List (List ℕ)
@@ -36,10 +39,23 @@ text_in (command.Add place text) = text
 text_in (command.Cut name) = []
 text_in (command.LoopAt line) = []
 text_in command.Verdict = []
+text_in command.LookHead = []
+text_in (command.PutHead names) = []
 
--- a command is its line, and the lines of its text
+-- what a command says without its text
+abbrev pub command_statement : declared.Command → Statement
+command_statement (command.Look name) = Command (command_lines.Look name)
+command_statement (command.Put name text) = Command (command_lines.Put name)
+command_statement (command.Add place text) = Command (command_lines.Add place)
+command_statement (command.Cut name) = Command (command_lines.Cut name)
+command_statement (command.LoopAt line) = Command (command_lines.LoopAt line)
+command_statement command.Verdict = Command command_lines.Verdict
+command_statement command.LookHead = Command command_lines.LookHead
+command_statement (command.PutHead names) = Header names
+
+-- a command is that, and the lines of its text
 abbrev pub command_statements : declared.Command → List Statement
-command_statements command = Command (command_line_in command) ∷ map Text (text_in command)
+command_statements command = command_statement command ∷ map Text (text_in command)
 
 -- a session is the line `session`, and its commands
 abbrev pub session_statements : List declared.Command → List Statement
@@ -54,6 +70,7 @@ says_something Nothing = false
 says_something (Text text) = true
 says_something Session = true
 says_something (Command command_line) = true
+says_something (Header names) = true
 says_something Nonsense = true
 
 -- the name is an id, or that of an add command among so many
@@ -73,6 +90,8 @@ names_known adds (command_lines.Add place) = is_known_place adds place
 names_known adds (command_lines.Cut name) = is_known adds name
 names_known adds (command_lines.LoopAt line) = true
 names_known adds command_lines.Verdict = true
+names_known adds command_lines.LookHead = true
+names_known adds command_lines.PutHead = true
 
 -- one for an add command
 abbrev pub adds_of : CommandLine → ℕ
@@ -82,6 +101,8 @@ adds_of (command_lines.Add place) = 1
 adds_of (command_lines.Cut name) = 0
 adds_of (command_lines.LoopAt line) = 0
 adds_of command_lines.Verdict = 0
+adds_of command_lines.LookHead = 0
+adds_of command_lines.PutHead = 0
 
 -- how many add commands there are
 abbrev pub adds_in : List declared.Command → ℕ
@@ -95,7 +116,7 @@ all_known adds (command ∷ commands) = names_known adds (command_line_in comman
 -- the lines spell this script
 pub record Spells (first : List ℕ) (lines : List (List ℕ)) (script : Script) : Type 0 where
   pub live : is_live first ≡ true
-  pub said : filter says_something (map statement_of lines) ≡ statements script
+  pub said : filter says_something (statements_of lines) ≡ statements script
   pub few : length script.sessions ≤ 64
   pub known : list_all (all_known 0) script.sessions ≡ true
 
@@ -103,6 +124,17 @@ pub record Spells (first : List ℕ) (lines : List (List ℕ)) (script : Script)
 abbrev pub IsScript : List (List ℕ) → Script → Type 0
 IsScript [] script = ⊥
 IsScript (first ∷ lines) script = Spells first lines script
+
+-- the line is `put head`, whose text says what it is
+abbrev pub is_put_head : CommandLine → Bool
+is_put_head (command_lines.Look name) = false
+is_put_head (command_lines.Put name) = false
+is_put_head (command_lines.Add place) = false
+is_put_head (command_lines.Cut name) = false
+is_put_head (command_lines.LoopAt line) = false
+is_put_head command_lines.Verdict = false
+is_put_head command_lines.LookHead = false
+is_put_head command_lines.PutHead = true
 
 -- text lines may stand behind the command
 abbrev pub takes_text : CommandLine → Bool
@@ -112,6 +144,8 @@ takes_text (command_lines.Add place) = true
 takes_text (command_lines.Cut name) = false
 takes_text (command_lines.LoopAt line) = false
 takes_text command_lines.Verdict = false
+takes_text command_lines.LookHead = false
+takes_text command_lines.PutHead = false
 
 -- behind the last of the commands
 abbrev pub last_takes_text : List declared.Command → Bool
@@ -143,24 +177,37 @@ abbrev pub cause_of : Script → Statement → Option Cause
 cause_of script Nothing = None
 cause_of script (Text text) = text_cause script.sessions
 cause_of script Session = session_cause script.sessions
-cause_of script (Command command_line) = command_cause script.sessions command_line
+cause_of script (Command command_line) = if is_put_head command_line then Some BadLine else command_cause script.sessions command_line
+cause_of script (Header names) = command_cause script.sessions command_lines.PutHead
 cause_of script Nonsense = Some BadLine
 
 -- no script begins with these lines
 abbrev pub BeginNoScript : List (List ℕ) → Type 0
 BeginNoScript lines = (more : List (List ℕ)) (script : Script) → ¬ IsScript (lines ++ more) script
 
--- the line with this number is the first outside the grammar: it can't stand behind the script that the lines before it spell, for this cause
+-- the line is `put head`, and no text line follows, whatever may come behind these lines
+pub record LacksHeader (line : List ℕ) (after : List (List ℕ)) : Type 0 where
+  pub is : kind_of line ≡ kind.Header
+  pub none : text_ahead after ≡ None
+
+-- The line with this number is the first outside the grammar: what it says can't stand behind the script that the lines before it say, for this cause. No script
+-- begins with the lines up to it, or it is `put head` without the text that it needs.
 pub record IsFirstOutside (lines : List (List ℕ)) (number : ℕ) (cause : Cause) : Type 0 where
+  pub first : List ℕ
   pub before : List (List ℕ)
   pub line : List ℕ
   pub after : List (List ℕ)
-  pub lines_are : lines ≡ before ++ line ∷ after
-  pub counted : number ≡ length before + 1
+  pub lines_are : lines ≡ first ∷ before ++ line ∷ after
+  pub counted : number ≡ length before + 2
   pub script : Script
-  pub good_before : IsScript before script
-  pub is_cause : cause_of script (statement_of line) ≡ Some cause
-  pub ends : BeginNoScript (before ++ line ∷ [])
+  pub front : List Statement
+  pub here : Statement
+  pub back : List Statement
+  pub told : statements_of (before ++ line ∷ after) ≡ front ++ here ∷ back
+  pub placed : length front ≡ length before
+  pub good_before : filter says_something front ≡ statements script
+  pub is_cause : cause_of script here ≡ Some cause
+  pub ends : BeginNoScript (first ∷ before ++ line ∷ []) ⊎ LacksHeader line after
 
 -- the first line isn't that of a script, or there is none
 pub record HasNoLive (lines : List (List ℕ)) (number : ℕ) (cause : Cause) : Type 0 where

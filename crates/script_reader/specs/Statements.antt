@@ -1,12 +1,13 @@
 -- What one line of a script says by itself.
-use Rattle.std.specs.Prelude.{ℕ, Bool, false, ◌||◌, ◌&&◌, nat_eq, List, [], ◌∷◌, drop, codes, Option, None, if◌then◌else◌}
+use Rattle.std.specs.Prelude.{ℕ, Bool, true, false, unwrap_or, ◌||◌, ◌&&◌, nat_eq, List, [], ◌∷◌, drop, codes, Option, Some, None, if◌then◌else◌}
 use Rattle.std.specs.List.{starts_with, list_all}
 use Rattle.std.specs.Option.{option_map, option_map_or}
 use Rattle.std.specs.Str.{bytes_eq}
 use Rattle.knitout_reader.specs.Tokens.{is_blank, tokens_of}
+use Rattle.knitout_reader.specs.Head.{names_in_line}
 use Rattle.script_reader.specs.Words.{name_in, number_in, place_in}
 use Rattle.script_reader.specs.declared.line.CommandLine.{CommandLine}
-use Rattle.script_reader.specs.declared.line.CommandLine.TheVariants.{Look, Put, Add, Cut, LoopAt, Verdict}
+use Rattle.script_reader.specs.declared.line.CommandLine.TheVariants.{Look, Put, Add, Cut, LoopAt, Verdict, LookHead}
 use Rattle.script_reader.specs.declared.line.Kind.{Kind}
 use Rattle.script_reader.specs.declared.line.Kind.TheVariants as kind
 
@@ -31,7 +32,7 @@ is_text_line line = starts_with nat_eq line (codes "|")
 -- the command of a line of two words
 abbrev pub command_line_of : List ℕ → List ℕ → Option CommandLine
 command_line_of word operand =
-    if bytes_eq word (codes "look") then option_map Look (name_in operand)
+    if bytes_eq word (codes "look") then (if bytes_eq operand (codes "head") then Some LookHead else option_map Look (name_in operand))
     else (if bytes_eq word (codes "put") then option_map Put (name_in operand)
     else (if bytes_eq word (codes "add") then option_map Add (place_in operand)
     else (if bytes_eq word (codes "cut") then option_map Cut (name_in operand)
@@ -39,7 +40,8 @@ command_line_of word operand =
     else None))))
 
 abbrev pub kind_of_two : List ℕ → List ℕ → Kind
-kind_of_two word operand = option_map_or kind.Command (command_line_of word operand) kind.Other
+kind_of_two word operand =
+    if bytes_eq word (codes "put") && bytes_eq operand (codes "head") then kind.Header else option_map_or kind.Command (command_line_of word operand) kind.Other
 
 abbrev pub kind_of_one : List ℕ → Kind
 kind_of_one word = if bytes_eq word (codes "session") then kind.Session else (if bytes_eq word (codes "verdict") then kind.Command Verdict else kind.Other)
@@ -53,20 +55,53 @@ kind_of_words (word ∷ operand ∷ more ∷ words) = kind.Other
 abbrev pub kind_of : List ℕ → Kind
 kind_of line = if is_skipped line then kind.Skipped else (if is_text_line line then kind.Text else kind_of_words (tokens_of line))
 
--- what a line says: nothing, a text, that a session begins, a command without its text, or what no script says
+-- what a line says: nothing, a text, that a session begins, a command without its text, that the header gets these names, or what no script says
 pub data Statement : Type 0 where
   Nothing : Statement
   Text : List ℕ → Statement
   Session : Statement
   Command : CommandLine → Statement
+  Header : List (List ℕ) → Statement
   Nonsense : Statement
 
-abbrev pub said : List ℕ → Kind → Statement
-said line kind.Skipped = Nothing
-said line kind.Text = Text (drop 1 line)
-said line kind.Session = Session
-said line (kind.Command command_line) = Command command_line
-said line kind.Other = Nonsense
+-- the text that stands in front of these lines, where the first of them that says anything is a text line
+abbrev pub text_or : Kind → List ℕ → Option (List ℕ) → Option (List ℕ)
+text_or kind.Skipped line rest = rest
+text_or kind.Text line rest = Some (drop 1 line)
+text_or kind.Session line rest = None
+text_or (kind.Command command_line) line rest = None
+text_or kind.Header line rest = None
+text_or kind.Other line rest = None
 
-abbrev pub statement_of : List ℕ → Statement
-statement_of line = said line (kind_of line)
+abbrev pub text_ahead : List (List ℕ) → Option (List ℕ)
+text_ahead [] = None
+text_ahead (line ∷ lines) = text_or (kind_of line) line (text_ahead lines)
+
+-- what `put head` says with the text behind it: the names that the text gives to the header. Where no text stands there it says nothing lawful; where the
+-- text gives no names, that line is the one that says nothing lawful.
+abbrev pub header_said : Option (List ℕ) → Statement
+header_said None = Nonsense
+header_said (Some text) = Header (unwrap_or (names_in_line text) [])
+
+-- what a text says that `put head` has read: nothing more, or nothing lawful
+abbrev pub names_said : Option (List (List ℕ)) → Statement
+names_said None = Nonsense
+names_said (Some names) = Nothing
+
+-- what these lines say, one by one; where `put head` wants its text, the first text line is what it reads
+abbrev pub told : Kind → Bool → List ℕ → Option (List ℕ) → (Bool → List Statement) → List Statement
+told kind.Skipped wants line ahead rest = Nothing ∷ rest wants
+told kind.Text false line ahead rest = Text (drop 1 line) ∷ rest false
+told kind.Text true line ahead rest = names_said (names_in_line (drop 1 line)) ∷ rest false
+told kind.Session wants line ahead rest = Session ∷ rest false
+told (kind.Command command_line) wants line ahead rest = Command command_line ∷ rest false
+told kind.Header wants line ahead rest = header_said ahead ∷ rest true
+told kind.Other wants line ahead rest = Nonsense ∷ rest false
+
+abbrev pub told_from : Bool → List (List ℕ) → List Statement
+told_from wants [] = []
+told_from wants (line ∷ lines) = told (kind_of line) wants line (text_ahead lines) (λ wants. told_from wants lines)
+
+-- what lines say
+abbrev pub statements_of : List (List ℕ) → List Statement
+statements_of lines = told_from false lines

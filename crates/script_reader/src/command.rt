@@ -1,6 +1,6 @@
 //! What a script asks for.
 use edit_journal::BlockName;
-use knit_base::{Lines, ListOf};
+use knit_base::{Declared, Lines, ListOf};
 
 /// Where a new block goes: first, or directly behind another.
 #[derive(Clone, Copy, Debug, PartialEq, Eq)]
@@ -24,6 +24,10 @@ pub enum Command {
     LoopAt(u32),
     /// Show the verdict.
     Verdict,
+    /// Show the header.
+    LookHead,
+    /// Replace the names of the header by these.
+    PutHead(Declared),
 }
 
 /// The commands of a session, in order.

@@ -27,6 +27,8 @@ const LOOP: &[u8] = b"loop";
 
 const VERDICT: &[u8] = b"verdict";
 
+const HEADER: &[u8] = b"head";
+
 /// A command without its text.
 #[derive(Clone, Copy, Debug, PartialEq, Eq)]
 pub(crate) enum CommandLine {
@@ -36,6 +38,8 @@ pub(crate) enum CommandLine {
     Cut(BlockName),
     LoopAt(u32),
     Verdict,
+    LookHead,
+    PutHead,
 }
 
 /// What a line is.
@@ -49,6 +53,8 @@ pub(crate) enum Kind {
     Session,
     /// It is a command line.
     Command(CommandLine),
+    /// It is `put head`, which reads the text behind it.
+    Header,
     /// It is none of these.
     Other,
 }
@@ -126,6 +132,9 @@ fn one_word(word: &[u8]) -> Kind
 fn two_words(word: &[u8], operand: &[u8]) -> Kind
     ensures { result ≡ kind_of_two word.now operand.now }
 {
+    if word == PUT && operand == HEADER {
+        return Kind::Header;
+    }
     match command_line_of(word, operand) {
         Some(command_line) => Kind::Command(command_line),
         None => Kind::Other,
@@ -136,6 +145,9 @@ fn command_line_of(word: &[u8], operand: &[u8]) -> Option<CommandLine>
     ensures { result ≡ command_line_of word.now operand.now }
 {
     if word == LOOK {
+        if operand == HEADER {
+            return Some(CommandLine::LookHead);
+        }
         return Some(CommandLine::Look(name(operand)?));
     }
     if word == PUT {

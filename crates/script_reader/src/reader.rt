@@ -1,16 +1,20 @@
 //! A script, read from its first line to its last.
-ghost use Rattle.std.specs.Prelude.{◌≡◌, ◌⊎◌, ◌↔◌, IsTrue, ◌+◌, ◌<◌, ◌≤◌, false, List, ℕ, [], ◌∷◌, ◌++◌, All, length, drop, slice_range, IfOk, IfErr, Ok};
-ghost use Rattle.script_reader.specs.Script.{IsScript, IsRefusal, adds_in, adds_of, is_known, last_takes_text, names_known};
-ghost use Rattle.script_reader.specs.Reading.{BeginWithHeading, BeginWithSession, IsErr, IsTextLine, behind_command, behind_texts, command_in_front, reading, script_of, texts_in_front, walk};
+ghost use Rattle.std.specs.Prelude.{◌≡◌, ◌≢◌, ◌⊎◌, ◌↔◌, get_or, IsTrue, ◌+◌, ◌<◌, ◌≤◌, ◌^◌, true, false, None, List, ℕ, [], ◌∷◌, ◌++◌, All, length, drop, slice_range, IfOk, IfErr, Ok};
+ghost use Rattle.script_reader.specs.Script.{IsScript, IsRefusal, adds_in, cause_of, adds_of, is_known, last_takes_text, names_known};
+ghost use Rattle.script_reader.specs.Reading.{BeginWithHeading, BeginWithSession, GivesNames, IsErr, IsPassed, IsTextLine, behind_command, behind_texts, command_in_front, reading, script_of, texts_in_front, walk};
+ghost use Rattle.script_reader.specs.Statements.{Header, header_said, kind_of, statements_of, text_ahead, told_from};
 ghost use Rattle.script_reader.specs.declared.command.Command.{Command};
 ghost use Rattle.script_reader.specs.declared.command.Script.{Script};
+ghost use Rattle.script_reader.specs.declared.line.Kind.TheVariants as kind;
+ghost use Rattle.script_reader.specs.declared.fault.Cause.TheVariants.{BadLine};
+ghost use Rattle.script_reader.specs.declared.fault.ScriptFault.TheVariants.{At};
 
 use crate::command::{Command, CommandList, Place, Script, SessionScripts};
 use crate::fault::{Cause, ScriptFault};
 use crate::line::{CommandLine, Kind, is_live, is_text_line, kind_of, text_of};
 use edit_journal::BlockName;
-use knit_base::{Lines, ListOf, NoMemory};
-use knitout_reader::nth_line;
+use knit_base::{Declared, Lines, ListOf, NoMemory};
+use knitout_reader::{declared_in, nth_line};
 use std::alloc::Global;
 
 /// How many sessions a script has at most.
@@ -47,8 +51,8 @@ fn read(alloc: Global, lines: &Lines) -> Result<Script, ScriptFault>
 fn read_sessions(alloc: Global, lines: &Lines, start: u32) -> Result<SessionScripts, ScriptFault>
     requires start { start ≤ length lines.now }
     requires heading { BeginWithHeading (drop start lines.now) }
-    ensures sessions { IfOk result (λ sessions. (text : List (List ℕ)) → walk (length lines.now) (script_of text []) (drop start lines.now) ≡ Ok (script_of text sessions)) }
-    ensures fault { IfErr result (λ fault. (text : List (List ℕ)) → IsErr (walk (length lines.now) (script_of text []) (drop start lines.now)) fault) }
+    ensures sessions { IfOk result (λ sessions. (text : List (List ℕ)) → walk (length lines.now) (script_of text []) (statements_of (drop start lines.now)) ≡ Ok (script_of text sessions)) }
+    ensures fault { IfErr result (λ fault. (text : List (List ℕ)) → IsErr (walk (length lines.now) (script_of text []) (statements_of (drop start lines.now))) fault) }
 {
     let mut sessions = ListOf::new(alloc);
     let mut at = start;
@@ -88,8 +92,8 @@ fn read_commands(
     requires start { start ≤ length lines.now }
     ensures within { IfOk result (λ read. (start ≤ read.1) × (read.1 ≤ length lines.now)) }
     ensures session { IfOk result (λ read. BeginWithSession (drop read.1 lines.now)) }
-    ensures commands { IfOk result (λ read. (text : List (List ℕ)) (done : List (List Command)) → walk (length lines.now) (script_of text (done ++ [] ∷ [])) (drop start lines.now) ≡ walk (length lines.now) (script_of text (done ++ read.0 ∷ [])) (drop read.1 lines.now)) }
-    ensures fault { IfErr result (λ fault. (text : List (List ℕ)) (done : List (List Command)) → IsErr (walk (length lines.now) (script_of text (done ++ [] ∷ [])) (drop start lines.now)) fault) }
+    ensures commands { IfOk result (λ read. (text : List (List ℕ)) (done : List (List Command)) → walk (length lines.now) (script_of text (done ++ [] ∷ [])) (statements_of (drop start lines.now)) ≡ walk (length lines.now) (script_of text (done ++ read.0 ∷ [])) (statements_of (drop read.1 lines.now))) }
+    ensures fault { IfErr result (λ fault. (text : List (List ℕ)) (done : List (List Command)) → IsErr (walk (length lines.now) (script_of text (done ++ [] ∷ [])) (statements_of (drop start lines.now))) fault) }
 {
     let mut commands = ListOf::new(alloc);
     let mut adds = 0;
@@ -98,6 +102,11 @@ fn read_commands(
         match kind_of(nth_line(lines, at).as_bytes()) {
             Kind::Skipped => at += 1,
             Kind::Session => return Ok((commands, at)),
+            Kind::Header => {
+                let (declared, next) = read_names(alloc, lines, at + 1)?;
+                commands.push(Command::PutHead(declared))?;
+                at = next;
+            }
             Kind::Command(command_line) => {
                 if !names_known(adds, command_line) {
                     return Err(ScriptFault::At {
@@ -105,7 +114,7 @@ fn read_commands(
                         cause: Cause::NoOwn,
                     });
                 }
-                let (command, next) = read_command(alloc, command_line, lines, at + 1)?;
+                let (command, next) = read_operand(alloc, command_line, lines, at + 1)?;
                 commands.push(command)?;
                 adds += adds_of(command_line);
                 at = next;
@@ -121,8 +130,55 @@ fn read_commands(
     Ok((commands, at))
 }
 
+// The place of the first line from this place on that says anything.
+fn next_said(lines: &Lines, start: u32) -> u32
+    requires { start ≤ length lines.now }
+    ensures within { (start ≤ result) × (result ≤ length lines.now) }
+    ensures passed { IsPassed lines.now start result }
+    ensures says { result < length lines.now → kind_of (get_or lines.now result []) ≢ kind.Skipped }
+{
+    for i in start..lines.len() {
+        let Kind::Skipped = kind_of(nth_line(lines, i).as_bytes()) else {
+            return i;
+        };
+    }
+    lines.len()
+}
+
+fn bad_line(at: u32) -> ScriptFault
+    requires { at + 1 < 2 ^ 32 }
+    ensures { result ≡ At (at + 1) BadLine }
+{
+    ScriptFault::At {
+        line: at + 1,
+        cause: Cause::BadLine,
+    }
+}
+
+// The names that the text behind `put head` gives, whose line stands before this place, and the place of the line behind the text.
+fn read_names(alloc: Global, lines: &Lines, start: u32) -> Result<(Declared, u32), ScriptFault>
+    requires { (0 < start) × (start ≤ length lines.now) }
+    ensures within { IfOk result (λ read. (start ≤ read.1) × (read.1 ≤ length lines.now)) }
+    ensures names { IfOk result (λ read. GivesNames lines.now start read.0 read.1) }
+    ensures fault { IfErr result (λ fault. (script : Script) → cause_of script (Header []) ≡ None → IsErr (walk (length lines.now) script (header_said (text_ahead (drop start lines.now)) ∷ told_from true (drop start lines.now))) fault) }
+{
+    let at = next_said(lines, start);
+    if at == lines.len() {
+        return Err(bad_line(start - 1));
+    }
+    let line = nth_line(lines, at);
+    if !is_text_line(line.as_bytes()) {
+        return Err(bad_line(start - 1));
+    }
+    match declared_in(alloc, text_of(line)) {
+        Ok(Some(declared)) => Ok((declared, at + 1)),
+        Ok(None) => Err(bad_line(at)),
+        Err(NoMemory) => Err(ScriptFault::NoMemory),
+    }
+}
+
 // The command with this line, whose text, if it takes one, begins here, and the place of the line behind it.
-fn read_command(
+fn read_operand(
     alloc: Global,
     command_line: CommandLine,
     lines: &Lines,
@@ -145,6 +201,9 @@ fn read_command(
         }
         CommandLine::Cut(name) => Ok((Command::Cut(name), start)),
         CommandLine::LoopAt(line) => Ok((Command::LoopAt(line), start)),
+        CommandLine::LookHead => Ok((Command::LookHead, start)),
+        // Its names are read apart.
+        CommandLine::PutHead => Ok((Command::PutHead(Declared::new(alloc)), start)),
         CommandLine::Verdict => Ok((Command::Verdict, start)),
     }
 }
@@ -193,7 +252,11 @@ fn names_known(adds: u32, command_line: CommandLine) -> bool
             adds, name,
         ),
         CommandLine::Add(Place::After(name)) => is_known(adds, name),
-        CommandLine::Add(Place::Start) | CommandLine::LoopAt(_) | CommandLine::Verdict => true,
+        CommandLine::Add(Place::Start)
+        | CommandLine::LoopAt(_)
+        | CommandLine::Verdict
+        | CommandLine::LookHead
+        | CommandLine::PutHead => true,
     }
 }
 

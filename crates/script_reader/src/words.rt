@@ -2,10 +2,10 @@
 ghost use Rattle.std.specs.Prelude.{◌≡◌, min, length};
 ghost use Rattle.std.specs.List.{list_all};
 ghost use Rattle.knitout_reader.specs.Numbers.{number_of};
-ghost use Rattle.script_reader.specs.Words.{is_digit, name_in, number_in, place_in};
+ghost use Rattle.script_reader.specs.Words.{id_in, is_digit, name_in, number_in, place_in};
 
 use crate::command::Place;
-use edit_journal::BlockName;
+use edit_journal::{BlockName, HEAD};
 
 /// How many digits a number has at most.
 const MAX_DIGITS: usize = 10;
@@ -31,8 +31,19 @@ pub(crate) fn name(word: &[u8]) -> Option<BlockName>
 {
     match word {
         [b'@', own @ ..] => Some(BlockName::Own(number(own)?)),
-        _ => Some(BlockName::Id(number(word)?)),
+        _ => Some(BlockName::Id(block_id(word)?)),
     }
+}
+
+// The id that a word spells: a number that isn't the header's.
+fn block_id(word: &[u8]) -> Option<u32>
+    ensures { result ≡ id_in word.now }
+{
+    let id = number(word)?;
+    if id == HEAD {
+        return None;
+    }
+    Some(id)
 }
 
 /// The number that a word spells: 1 to 10 digits, of a value that fits 32 bits.

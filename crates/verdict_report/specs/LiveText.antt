@@ -1,5 +1,5 @@
 -- The lines of a document that sessions edit: what each session was answered, the journal, and the verdict at its end.
-use Rattle.std.specs.Prelude.{◌≡◌, ℕ, ◌+◌, Option, None, Some, List, [], ◌∷◌, ◌++◌, length, flat_map, codes, decimal}
+use Rattle.std.specs.Prelude.{◌≡◌, ℕ, ◌+◌, Option, None, Some, List, [], ◌∷◌, ◌++◌, length, flat_map, codes, decimal, ◌==◌, if◌then◌else◌}
 use Rattle.carriage_model.specs.declared.verdict.Brief.{Brief}
 use Rattle.carriage_model.specs.declared.verdict.LoopFact.{LoopFact}
 use Rattle.carriage_model.specs.declared.verdict.Verdict.{Verdict}
@@ -11,7 +11,9 @@ use Rattle.edit_journal.specs.declared.edit.Edit.{Edit}
 use Rattle.edit_journal.specs.declared.edit.Edit.TheVariants as edit
 use Rattle.edit_journal.specs.declared.edit.Entry.{Entry}
 use Rattle.edit_journal.specs.declared.opening.Opening.{Opening}
-use Rattle.edit_journal.specs.Documents.{body, document_of}
+use Rattle.edit_journal.specs.Documents.{body, document_of, names_at}
+use Rattle.edit_journal.specs.Entries.{head_id}
+use Rattle.knit_base.specs.Names.{spaced_names}
 use Rattle.edit_book.specs.declared.reply.Reply.{Reply}
 use Rattle.edit_book.specs.declared.reply.Reply.TheVariants as reply
 use Rattle.edit_book.specs.declared.reply.Which.{Which}
@@ -35,9 +37,13 @@ which_word which.Lines = codes "lines"
 abbrev pub barred : Text → Text
 barred line = codes "|" ++ (line ++ codes "\n")
 
+-- a block by its id, or the header
+unfoldable pub block_text : ℕ → Text
+block_text block = if block == head_id then codes " block head" else labelled (codes " block ") block
+
 -- a version and a block, behind a word
 abbrev pub at_block : Text → ℕ → ℕ → Text
-at_block word version block = labelled word version ++ labelled (codes " block ") block
+at_block word version block = labelled word version ++ block_text block
 
 abbrev pub accepted_text : ℕ → ℕ → Brief → Text
 accepted_text version block told = at_block (codes "accepted version ") version block ++ (codes " " ++ (brief_text told ++ codes "\n"))
@@ -58,12 +64,13 @@ stale_text version block seen now = at_block (codes "stale version ") version bl
 abbrev pub full_text : ℕ → Which → ℕ → Text
 full_text version what limit = labelled (codes "full version ") version ++ (codes " " ++ (which_word what ++ (labelled (codes " limit ") limit ++ codes "\n")))
 
--- a reply
+-- a reply, with these names of carriers
 abbrev pub reply_text : List Text → Reply → Text
 reply_text names (reply.Accepted version block told) = accepted_text version block told
 reply_text names (reply.Shown version block stamp first lines) = shown_text version block stamp first lines
 reply_text names (reply.Loop version fact) = labelled (codes "loop version ") version ++ (codes " " ++ fact_text names fact)
 reply_text names (reply.Now version verdict line) = labelled (codes "verdict version ") version ++ (codes "\n" ++ end_text names line verdict)
+reply_text names (reply.Texts version blocks) = []
 reply_text names (reply.Stale version block seen now) = stale_text version block seen now
 reply_text names (reply.Gone version block at) = at_block (codes "gone version ") version block ++ (labelled (codes " at ") at ++ codes "\n")
 reply_text names (reply.NoBlock version block ids) = at_block (codes "noblock version ") version block ++ (labelled (codes " ids ") ids ++ codes "\n")
@@ -72,21 +79,31 @@ reply_text names (reply.Unseen block) = codes "unseen " ++ (block_name_text bloc
 reply_text names (reply.BlockLong lines) = labelled (codes "blocklong lines ") lines ++ codes "\n"
 reply_text names reply.NoMemory = codes "nomemory\n"
 
+-- the version whose names a reply is told with; for a reply that names no carrier it is any
+abbrev pub version_named : Reply → ℕ
+version_named (reply.Loop version fact) = version
+version_named (reply.Now version verdict line) = version
+version_named r = 0
+
+-- a reply, with the names that the header has at its version
+abbrev pub told_reply : (ℕ → List Text) → Reply → Text
+told_reply names r = reply_text (names (version_named r)) r
+
 -- a reply with its number
-abbrev pub numbered_reply : List Text → ℕ → Reply → Text
-numbered_reply names n r = decimal n ++ (codes " " ++ reply_text names r)
+abbrev pub numbered_reply : (ℕ → List Text) → ℕ → Reply → Text
+numbered_reply names n r = decimal n ++ (codes " " ++ told_reply names r)
 
 -- the replies to a session, numbered from here on
-abbrev pub replies_text : List Text → ℕ → List Reply → Text
+abbrev pub replies_text : (ℕ → List Text) → ℕ → List Reply → Text
 replies_text names n [] = []
 replies_text names n (r ∷ rs) = numbered_reply names n r ++ replies_text names (n + 1) rs
 
 -- a session's number, and its replies
-abbrev pub session_text : List Text → ℕ → List Reply → Text
+abbrev pub session_text : (ℕ → List Text) → ℕ → List Reply → Text
 session_text names s rs = labelled (codes "session ") s ++ (codes "\n" ++ replies_text names 1 rs)
 
 -- the sessions, numbered from here on, each with its replies
-abbrev pub sessions_text : List Text → ℕ → List (List Reply) → Text
+abbrev pub sessions_text : (ℕ → List Text) → ℕ → List (List Reply) → Text
 sessions_text names s [] = []
 sessions_text names s (rs ∷ more) = session_text names s rs ++ sessions_text names (s + 1) more
 
@@ -104,11 +121,15 @@ add_text where_ block lines = codes " add " ++ (anchor_text where_ ++ (labelled 
 abbrev pub cut_text : ℕ → ℕ → Text
 cut_text block seen = labelled (codes " cut ") block ++ labelled (codes " seen ") seen
 
--- an edit that was accepted; of a text the number of lines is told
+abbrev pub head_text : ℕ → List Text → Text
+head_text seen names = labelled (codes " put head seen ") seen ++ (codes " carriers" ++ spaced_names names)
+
+-- an edit that was accepted; of a text the number of lines is told, of a header the names
 abbrev pub edit_text : Edit → Text
 edit_text (edit.Put block seen text) = put_text block seen (length text)
 edit_text (edit.Add where_ block text) = add_text where_ block (length text)
 edit_text (edit.Cut block seen) = cut_text block seen
+edit_text (edit.Head seen names) = head_text seen names
 
 -- an entry with its number
 abbrev pub entry_text : ℕ → Entry → Text
@@ -127,12 +148,12 @@ journal_text entries = labelled (codes "journal ") (length entries) ++ (codes "\
 abbrev pub final_text : List Text → ℕ → Text → Verdict → Text
 final_text names version line verdict = labelled (codes "final version ") version ++ (codes "\n" ++ end_text names line verdict)
 
--- the whole report
-abbrev pub live_text : List Text → List (List Reply) → List Entry → Text → Verdict → Text
-live_text names replies entries line verdict = sessions_text names 0 replies ++ (journal_text entries ++ final_text names (length entries) line verdict)
-
--- the text tells these replies, this journal, and the verdict on the document that it gives: what one carriage makes of its lines
-pub record IsLiveReport (opening : Opening) (entries : List Entry) (replies : List (List Reply)) (text : Text) : Type 0 where
+-- the end of a report: the journal, and the verdict on the document that it gives, which is what one carriage makes of its lines
+pub record IsEnd (opening : Opening) (entries : List Entry) (text : Text) : Type 0 where
   pub verdict_given : Verdict
   pub judged : let d = document_of opening entries in HasVerdict (setting_of opening d) (body d) verdict_given
-  pub reported : text ≡ live_text opening.setting.declared replies entries (let d = document_of opening entries in broken_line (setting_of opening d).first (body d) verdict_given) verdict_given
+  pub ended : text ≡ journal_text entries ++ final_text (document_of opening entries).header.names (length entries) (let d = document_of opening entries in broken_line (setting_of opening d).first (body d) verdict_given) verdict_given
+
+-- the whole report: these replies, this journal, and the verdict on the document that it gives
+abbrev pub IsLiveReport : Opening → List Entry → List (List Reply) → Text → Type 0
+IsLiveReport opening entries replies text = (end : Text) × (text ≡ sessions_text (names_at opening entries) 0 replies ++ end) × IsEnd opening entries end

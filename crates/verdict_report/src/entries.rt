@@ -1,10 +1,11 @@
 //! The lines of a journal.
 ghost use Rattle.std.specs.Prelude.{◌≡◌, ◌+◌, ◌++◌, ◌<◌, length, drop, OnOk, OnErr};
-ghost use Rattle.verdict_report.specs.LiveText.{add_text, anchor_text, cut_text, edit_text, entries_text, entry_text, journal_text, put_text};
+ghost use Rattle.knit_base.specs.Names.{spaced, spaced_names};
+ghost use Rattle.verdict_report.specs.LiveText.{add_text, anchor_text, cut_text, edit_text, entries_text, entry_text, head_text, journal_text, put_text};
 
 use crate::text::append_labelled;
 use edit_journal::{Anchor, Edit, Entry, Journal};
-use knit_base::{NoMemory, append_number};
+use knit_base::{CarrierNo, Declared, NoMemory, append_number};
 use std::alloc::Global;
 
 // Appends where a new block stands.
@@ -47,7 +48,46 @@ fn append_cut(block: u32, seen: u32, out: &mut Vec<u8>) -> Result<(), NoMemory>
     append_labelled(" seen ", u64::from(seen), out)
 }
 
-// Appends an edit. Of a text the number of lines is told.
+// Appends a name behind a space.
+fn append_spaced(name: &str, out: &mut Vec<u8>) -> Result<(), NoMemory>
+    ensures { OnOk result (out.new.items ≡ out.old.items ++ spaced name.now) }
+{
+    out.extend_from_slice(b" ")?;
+    out.extend_from_slice(name.as_bytes())?;
+    Ok(())
+}
+
+// Appends the name at this place, if there is one.
+fn append_name_at(c: u8, declared: &Declared, out: &mut Vec<u8>) -> Result<(), NoMemory>
+    ensures { OnOk result (out.new.items ++ spaced_names (drop (c + 1) declared.now) ≡ out.old.items ++ spaced_names (drop c declared.now)) }
+{
+    match declared.name(CarrierNo(c)) {
+        Some(name) => append_spaced(name, out),
+        None => Ok(()),
+    }
+}
+
+// Appends a space and each name.
+fn append_names(declared: &Declared, out: &mut Vec<u8>) -> Result<(), NoMemory>
+    ensures { OnOk result (out.new.items ≡ out.old.items ++ spaced_names declared.now) }
+{
+    'names: for c in 0..declared.len() {
+        append_name_at(c, declared, out)?;
+    }
+    Ok(())
+}
+
+// Appends that the header got other names.
+fn append_head(seen: u32, declared: &Declared, out: &mut Vec<u8>) -> Result<(), NoMemory>
+    ensures { OnOk result (out.new.items ≡ out.old.items ++ head_text seen declared.now) }
+{
+    append_labelled(" put head seen ", u64::from(seen), out)?;
+    out.extend_from_slice(b" carriers")?;
+    append_names(declared, out)?;
+    Ok(())
+}
+
+// Appends an edit. Of a text the number of lines is told, of a header the names.
 fn append_edit(edit: &Edit, out: &mut Vec<u8>) -> Result<(), NoMemory>
     ensures { OnOk result (out.new.items ≡ out.old.items ++ edit_text edit.now) }
 {
@@ -59,6 +99,7 @@ fn append_edit(edit: &Edit, out: &mut Vec<u8>) -> Result<(), NoMemory>
             text,
         } => append_add(*anchor, *block, text.len(), out),
         Edit::Cut { block, seen } => append_cut(*block, *seen, out),
+        Edit::Head { seen, declared } => append_head(*seen, declared, out),
     }
 }
 

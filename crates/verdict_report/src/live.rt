@@ -2,7 +2,7 @@
 ghost use Rattle.std.specs.Prelude.{◌≡◌, ◌++◌, ◌+◌, ◌≤◌, length, IfOk, OnOk, OnErr, List, ℕ};
 ghost use Rattle.edit_journal.specs.Documents.{body, document_of};
 ghost use Rattle.block_summary.specs.Verdicts.{broken_line};
-ghost use Rattle.edit_book.specs.Verdicts.{HasVerdict};
+ghost use Rattle.edit_book.specs.Verdicts.{HasVerdict, setting_of};
 ghost use Rattle.verdict_report.specs.LiveText.{IsLiveReport, final_text};
 
 use crate::entries::append_journal;
@@ -43,7 +43,7 @@ struct Ending {
 
 // What the document comes to at its version.
 fn ending_of<L: Ledger>(book: &Book, steps: &mut Steps<L>) -> Result<Ending, NoMemory>
-    ensures ending { IfOk result (λ ending. let d = document_of book.now.opening book.now.entries in HasVerdict book.now.opening.setting (body d) ending.verdict × (ending.broken ≡ broken_line book.now.opening.setting.first (body d) ending.verdict)) }
+    ensures ending { IfOk result (λ ending. let d = document_of book.now.opening book.now.entries in HasVerdict (setting_of book.now.opening d) (body d) ending.verdict × (ending.broken ≡ broken_line (setting_of book.now.opening d).first (body d) ending.verdict)) }
     ensures steps { steps.new ≤ steps.old + 1 }
 {
     match book.now(steps) {
@@ -66,7 +66,7 @@ fn append_final(
     ending: &Ending,
     out: &mut Vec<u8>,
 ) -> Result<(), NoMemory>
-    ensures { OnOk result (out.new.items ≡ out.old.items ++ final_text book.now.opening.setting.declared (length book.now.entries) ending.now.broken ending.now.verdict) }
+    ensures { OnOk result (out.new.items ≡ out.old.items ++ final_text (document_of book.now.opening book.now.entries).header.names (length book.now.entries) ending.now.broken ending.now.verdict) }
 {
     let Ending { verdict, broken } = ending;
     let declared = &book.setting().declared;
@@ -93,12 +93,7 @@ pub fn live_of<L: Ledger>(
 {
     let ending = ending_of(book, steps)?;
     let mut text = Vec::new(alloc);
-    append_sessions(
-        alloc,
-        replies.as_slice(),
-        &book.setting().declared,
-        &mut text,
-    )?;
+    append_sessions(alloc, replies.as_slice(), book, &mut text)?;
     append_journal(book.journal(), &mut text)?;
     append_final(alloc, book, &ending, &mut text)?;
     Ok(text)

@@ -1,16 +1,17 @@
 //! The lines of what sessions were answered.
 ghost use Rattle.std.specs.Prelude.{◌≡◌, ◌+◌, ◌++◌, codes, drop, flat_map, length, map, OnOk, OnErr};
 ghost use Rattle.carriage_model.specs.FactList.{lent_fact};
+ghost use Rattle.edit_journal.specs.Documents.{names_at};
 ghost use Rattle.edit_book.specs.declared.reply.Reply.TheVariants as reply;
 ghost use Rattle.verdict_report.specs.VerdictText.{brief_text, end_text, labelled};
-ghost use Rattle.verdict_report.specs.LiveText.{accepted_text, at_block, barred, block_name_text, fact_text, full_text, numbered_reply, replies_text, reply_text, session_text, sessions_text, shown_text, stale_text, which_word};
+ghost use Rattle.verdict_report.specs.LiveText.{accepted_text, at_block, barred, block_name_text, block_text, fact_text, full_text, numbered_reply, replies_text, reply_text, session_text, sessions_text, shown_text, stale_text, told_reply, version_named, which_word};
 
 use crate::text::{
     append_broken_brief, append_end, append_labelled, append_loop, append_sound_brief,
 };
 use carriage_model::{Brief, FactRef, LoopFact, Verdict};
-use edit_book::{Reply, Which};
-use edit_journal::BlockName;
+use edit_book::{Book, Reply, Which};
+use edit_journal::{BlockName, HEAD};
 use knit_base::{Declared, Lines, NoMemory, append_number};
 use std::alloc::Global;
 
@@ -50,12 +51,23 @@ fn which_word(which: Which) -> &'static str
     }
 }
 
+// Appends a block's id, or that it is the header.
+fn append_block(block: u32, out: &mut Vec<u8>) -> Result<(), NoMemory>
+    ensures { OnOk result (out.new.items ≡ out.old.items ++ block_text block) }
+{
+    if block == HEAD {
+        out.extend_from_slice(b" block head")?;
+        return Ok(());
+    }
+    append_labelled(" block ", u64::from(block), out)
+}
+
 // Appends a label, a version and a block.
 fn append_at_block(label: &str, version: u32, block: u32, out: &mut Vec<u8>) -> Result<(), NoMemory>
     ensures { OnOk result (out.new.items ≡ out.old.items ++ at_block label.now version block) }
 {
     append_labelled(label, u64::from(version), out)?;
-    append_labelled(" block ", u64::from(block), out)
+    append_block(block, out)
 }
 
 // Appends that an edit of the block was done, and the verdict after it.
@@ -273,7 +285,7 @@ fn append_no_memory(out: &mut Vec<u8>) -> Result<(), NoMemory>
     Ok(())
 }
 
-// Appends a reply.
+// Appends a reply, with these names of carriers. A list of texts is no session's reply, and nothing is appended for it.
 fn append_reply(
     alloc: Global,
     reply: &Reply,
@@ -309,6 +321,7 @@ fn append_reply(
             text.as_str(),
             out,
         ),
+        Reply::Texts { .. } => Ok(()),
         Reply::Stale {
             version,
             block,
@@ -352,32 +365,42 @@ pub fn report_reply(
     Ok(())
 }
 
-// Appends a reply with its number.
+// The version whose names a reply is told with. One that names no carrier is told with any.
+fn version_named(reply: &Reply) -> u32
+    ensures { result ≡ version_named reply.now }
+{
+    match reply {
+        Reply::Loop { version, .. } | Reply::Now { version, .. } => *version,
+        _ => 0,
+    }
+}
+
+// Appends a reply with its number. Its carriers have the names that the header had at its version.
 fn append_numbered(
     alloc: Global,
     number: u64,
     reply: &Reply,
-    declared: &Declared,
+    book: &Book,
     out: &mut Vec<u8>,
 ) -> Result<(), NoMemory>
-    ensures { OnOk result (out.new.items ≡ out.old.items ++ numbered_reply declared.now number reply.now) }
+    ensures { OnOk result (out.new.items ≡ out.old.items ++ numbered_reply (names_at book.now.opening book.now.entries) number reply.now) }
 {
     append_number(number, out)?;
     out.extend_from_slice(b" ")?;
-    append_reply(alloc, reply, declared, out)
+    append_reply(alloc, reply, book.names_at(version_named(reply)), out)
 }
 
 // Appends the replies to a session.
 fn append_replies(
     alloc: Global,
     replies: &[Reply],
-    declared: &Declared,
+    book: &Book,
     out: &mut Vec<u8>,
 ) -> Result<(), NoMemory>
-    ensures { OnOk result (out.new.items ≡ out.old.items ++ replies_text declared.now 1 replies.now) }
+    ensures { OnOk result (out.new.items ≡ out.old.items ++ replies_text (names_at book.now.opening book.now.entries) 1 replies.now) }
 {
     for (i, reply) in replies.iter().enumerate() {
-        append_numbered(alloc, i as u64 + 1, reply, declared, out)?;
+        append_numbered(alloc, i as u64 + 1, reply, book, out)?;
     }
     Ok(())
 }
@@ -387,27 +410,27 @@ fn append_session(
     alloc: Global,
     session: u64,
     replies: &[Reply],
-    declared: &Declared,
+    book: &Book,
     out: &mut Vec<u8>,
 ) -> Result<(), NoMemory>
-    ensures { OnOk result (out.new.items ≡ out.old.items ++ session_text declared.now session replies.now) }
+    ensures { OnOk result (out.new.items ≡ out.old.items ++ session_text (names_at book.now.opening book.now.entries) session replies.now) }
 {
     append_labelled("session ", session, out)?;
     out.extend_from_slice(b"\n")?;
-    append_replies(alloc, replies, declared, out)
+    append_replies(alloc, replies, book, out)
 }
 
 /// Appends what each session was answered. The sessions are numbered from 0, the replies to each from 1.
 pub(crate) fn append_sessions(
     alloc: Global,
     sessions: &[Vec<Reply>],
-    declared: &Declared,
+    book: &Book,
     out: &mut Vec<u8>,
 ) -> Result<(), NoMemory>
-    ensures { OnOk result (out.new.items ≡ out.old.items ++ sessions_text declared.now 0 (map (λ list. list.items) sessions.now)) }
+    ensures { OnOk result (out.new.items ≡ out.old.items ++ sessions_text (names_at book.now.opening book.now.entries) 0 (map (λ list. list.items) sessions.now)) }
 {
     for (session, replies) in sessions.iter().enumerate() {
-        append_session(alloc, session as u64, replies, declared, out)?;
+        append_session(alloc, session as u64, replies, book, out)?;
     }
     Ok(())
 }

@@ -50,6 +50,26 @@ fn prepared<L: Ledger>(
     }
 }
 
+// Some of these lines, prepared for the setting that the book began with.
+fn prepared_at_first<L: Ledger>(
+    alloc: Global,
+    from: u32,
+    to: u32,
+    book: &Book,
+    steps: &mut Steps<L>,
+) -> Result<Prepared, NoMemory>
+    requires profile { IsLawfulProfile book.now.opening.setting.profile }
+    requires range { (from ≤ to) × (to ≤ 6) }
+    ensures { IfOk result (IsPreparedFor book.now.opening.setting.profile book.now.opening.setting.declared) }
+{
+    let setting = Setting {
+        profile: book.setting().profile,
+        declared: book.names_at(0).try_clone()?,
+        first: book.setting().first,
+    };
+    prepared(alloc, from, to, &setting, steps)
+}
+
 // Of a file whose head has two lines.
 fn setting(alloc: Global) -> Setting
     ensures profile { IsLawfulProfile result.profile }
@@ -111,10 +131,10 @@ fn puts<L: Ledger>(
     requires range { (from ≤ to) × (to ≤ 6) }
     ensures { book.new.opening ≡ book.old.opening }
 {
-    match prepared(alloc, from, to, book.setting(), steps) {
+    match prepared_at_first(alloc, from, to, book, steps) {
         Ok(block) => {
             let seen = at.saturating_sub(1);
-            is_accepted(book.put(0, 0, seen, block, steps), at, 0, verdict)
+            is_accepted(book.put(0, 0, seen, 0, block, steps), at, 0, verdict)
         }
         Err(NoMemory) => false,
     }
@@ -137,8 +157,8 @@ fn is_late<L: Ledger>(alloc: Global, book: &mut Book, steps: &mut Steps<L>) -> b
     requires { IsLawfulProfile book.old.opening.setting.profile }
     ensures { book.new.opening ≡ book.old.opening }
 {
-    match prepared(alloc, 0, 1, book.setting(), steps) {
-        Ok(block) => is_stale(book.put(0, 0, 0, block, steps)),
+    match prepared_at_first(alloc, 0, 1, book, steps) {
+        Ok(block) => is_stale(book.put(0, 0, 0, 0, block, steps)),
         Err(NoMemory) => false,
     }
 }
@@ -238,8 +258,8 @@ fn misses_anchor<L: Ledger>(alloc: Global, book: &mut Book, steps: &mut Steps<L>
     requires { IsLawfulProfile book.old.opening.setting.profile }
     ensures { book.new.opening ≡ book.old.opening }
 {
-    match prepared(alloc, 0, 1, book.setting(), steps) {
-        Ok(block) => is_gone(book.add(0, Anchor::After(0), block, steps)),
+    match prepared_at_first(alloc, 0, 1, book, steps) {
+        Ok(block) => is_gone(book.add(0, Anchor::After(0), 0, block, steps)),
         Err(NoMemory) => false,
     }
 }
@@ -259,8 +279,8 @@ fn adds<L: Ledger>(
     ensures { book.new.opening ≡ book.old.opening }
 {
     let (at, id) = named;
-    match prepared(alloc, line, line + 1, book.setting(), steps) {
-        Ok(block) => is_accepted(book.add(0, anchor, block, steps), at, id, verdict),
+    match prepared_at_first(alloc, line, line + 1, book, steps) {
+        Ok(block) => is_accepted(book.add(0, anchor, 0, block, steps), at, id, verdict),
         Err(NoMemory) => false,
     }
 }
@@ -365,7 +385,7 @@ fn a_bad_line_is_named_and_a_block_shown(rt: HostRuntime) -> Result<(), Fail> {
 fn warms<L: Ledger>(alloc: Global, book: &mut Book, steps: &mut Steps<L>) -> bool
     requires { IsLawfulProfile book.old.opening.setting.profile }
 {
-    match prepared(alloc, 0, 3, book.setting(), steps) {
+    match prepared_at_first(alloc, 0, 3, book, steps) {
         Ok(block) => book.warm(0, &block).is_ok() && book.ready(0, &block),
         Err(NoMemory) => false,
     }
@@ -395,11 +415,11 @@ fn a_block_is_made_ready(rt: HostRuntime) -> Result<(), Fail> {
 fn puts_warm<L: Ledger>(alloc: Global, book: &mut Book, steps: &mut Steps<L>) -> [bool; 2]
     requires { IsLawfulProfile book.old.opening.setting.profile }
 {
-    match prepared(alloc, 0, 3, book.setting(), steps) {
+    match prepared_at_first(alloc, 0, 3, book, steps) {
         Ok(block) => {
             let warm = book.warm(0, &block).is_ok();
             let ready = book.ready(0, &block);
-            let put = is_accepted(book.put(0, 0, 0, block, steps), 1, 0, sound(3, 2, 2));
+            let put = is_accepted(book.put(0, 0, 0, 0, block, steps), 1, 0, sound(3, 2, 2));
             [warm && ready, put]
         }
         Err(NoMemory) => [false; 2],

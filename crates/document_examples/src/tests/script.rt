@@ -1,6 +1,7 @@
 //! Scripts and their refusals.
 use super::script_lines;
 use edit_journal::BlockName;
+use knit_base::CarrierNo;
 use script_reader::{Cause, Command, Place, ScriptFault, read_script};
 use std::alloc::Global;
 use std::test::Fail;
@@ -63,7 +64,7 @@ fn own_blocks_stand_before_their_names(rt: HostRuntime) {
 fn numbers_fit_32_bits(rt: HostRuntime) {
     let alloc = rt.alloc();
     assert_eq!(rt;
-        refusal(alloc, &["live 1", "session", "look 4294967295"]),
+        refusal(alloc, &["live 1", "session", "look 4294967294"]),
         None
     );
     assert_eq!(rt;
@@ -72,6 +73,72 @@ fn numbers_fit_32_bits(rt: HostRuntime) {
     );
     assert_eq!(rt;
         refusal(alloc, &["live 1", "session", "look 00000000001"]),
+        at(3, Cause::BadLine)
+    );
+}
+
+// The header's id is no block's.
+#[test]
+fn the_header_is_named_by_its_word(rt: HostRuntime) {
+    let alloc = rt.alloc();
+    for command in [
+        "look 4294967295",
+        "put 4294967295",
+        "add 4294967295",
+        "cut 04294967295",
+    ] {
+        assert_eq!(rt;
+            refusal(alloc, &["live 1", "session", command]),
+            at(3, Cause::BadLine)
+        );
+    }
+    for command in ["cut head", "add head", "put head", "look head 1"] {
+        assert_eq!(rt;
+            refusal(alloc, &["live 1", "session", command]),
+            at(3, Cause::BadLine)
+        );
+    }
+    assert_eq!(rt;
+        refusal(
+            alloc,
+            &["live 1", "session", "look head", "loop 4294967295"]
+        ),
+        None
+    );
+}
+
+// Where the names of a header are refused that stand behind `put head`, with these lines.
+fn head_refusal(alloc: Global, first: &str, second: &str) -> Option<ScriptFault> {
+    refusal(alloc, &["live 1", "session", "put head", first, second])
+}
+
+#[test]
+fn the_names_of_a_header_are_one_text_line(rt: HostRuntime) {
+    let alloc = rt.alloc();
+    let names = "|;;Carriers: 1 B";
+    assert_eq!(rt; head_refusal(alloc, names, "verdict"), None);
+    assert_eq!(rt; head_refusal(alloc, "# skipped", names), None);
+    assert_eq!(rt; head_refusal(alloc, "|;;Carriers:", ""), None);
+    assert_eq!(rt; head_refusal(alloc, names, "|in 1"), at(5, Cause::BadLine));
+    assert_eq!(rt;
+        head_refusal(alloc, "", "|;;Carriers: 1 1"),
+        at(5, Cause::BadLine)
+    );
+    assert_eq!(rt;
+        head_refusal(alloc, "|;; Carriers: 1", ""),
+        at(4, Cause::BadLine)
+    );
+    assert_eq!(rt; head_refusal(alloc, "|", names), at(4, Cause::BadLine));
+    assert_eq!(rt;
+        head_refusal(alloc, "verdict", names),
+        at(3, Cause::BadLine)
+    );
+    assert_eq!(rt;
+        head_refusal(alloc, "session", names),
+        at(3, Cause::BadLine)
+    );
+    assert_eq!(rt;
+        head_refusal(alloc, "put head", names),
         at(3, Cause::BadLine)
     );
 }
@@ -143,6 +210,36 @@ fn a_script_is_read(rt: HostRuntime) -> Result<(), Fail> {
         Some(Command::Add(Place::After(BlockName::Id(5)), text)) => assert_eq!(rt; text.len(), 0),
         _ => assert!(rt; false),
     }
+    Ok(())
+}
+
+#[test]
+fn the_names_of_a_header_are_read(rt: HostRuntime) -> Result<(), Fail> {
+    let alloc = rt.alloc();
+    let lines = script_lines(
+        alloc,
+        &[
+            "live 1",
+            "session",
+            " put  head ",
+            "|;;Carriers:A  B ;",
+            "look head",
+        ],
+    )?;
+    let Ok(script) = read_script(alloc, &lines) else {
+        panic!(rt; "refused")
+    };
+    let Some(session) = script.sessions.get(0) else {
+        panic!(rt; "no session")
+    };
+    match session.get(0) {
+        Some(Command::PutHead(declared)) => {
+            assert_eq!(rt; declared.len(), 3);
+            assert_eq!(rt; declared.name(CarrierNo(2)), Some(";"));
+        }
+        _ => assert!(rt; false),
+    }
+    assert!(rt; matches!(session.get(1), Some(Command::LookHead)));
     Ok(())
 }
 

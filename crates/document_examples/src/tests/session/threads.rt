@@ -153,14 +153,19 @@ fn eight_sessions(alloc: Global) -> Result<Script, NoMemory> {
 fn prepared_again<L: Ledger>(
     alloc: Global,
     text: &BlockText,
-    setting: &Setting,
+    book: &Book,
     steps: &mut Steps<L>,
 ) -> Result<Prepared, NoMemory>
-    requires { IsLawfulProfile setting.now.profile }
-    ensures { IfOk result (IsPreparedFor setting.now.profile setting.now.declared) }
+    requires { IsLawfulProfile book.now.opening.setting.profile }
+    ensures { IfOk result (IsPreparedFor book.now.opening.setting.profile book.now.opening.setting.declared) }
 {
     let text = text.try_clone()?;
-    match prepare(alloc, text, setting, steps) {
+    let setting = Setting {
+        profile: book.setting().profile,
+        declared: book.names_at(0).try_clone()?,
+        first: book.setting().first,
+    };
+    match prepare(alloc, text, &setting, steps) {
         Ok(block) => Ok(block),
         Err(_) => Err(NoMemory),
     }
@@ -180,8 +185,8 @@ fn put_again<L: Ledger>(
     requires profile { IsLawfulProfile book.old.opening.setting.profile }
     ensures { book.new.opening ≡ book.old.opening }
 {
-    match prepared_again(alloc, text, book.setting(), steps) {
-        Ok(prepared) => is_entered(&book.put(session, block, seen, prepared, steps)),
+    match prepared_again(alloc, text, book, steps) {
+        Ok(prepared) => is_entered(&book.put(session, block, seen, 0, prepared, steps)),
         Err(_) => false,
     }
 }
@@ -198,8 +203,8 @@ fn add_again<L: Ledger>(
     requires profile { IsLawfulProfile book.old.opening.setting.profile }
     ensures { book.new.opening ≡ book.old.opening }
 {
-    match prepared_again(alloc, text, book.setting(), steps) {
-        Ok(prepared) => is_entered(&book.add(session, anchor, prepared, steps)),
+    match prepared_again(alloc, text, book, steps) {
+        Ok(prepared) => is_entered(&book.add(session, anchor, 0, prepared, steps)),
         Err(_) => false,
     }
 }
@@ -223,6 +228,8 @@ fn again<L: Ledger>(alloc: Global, book: &mut Book, entry: &Entry, steps: &mut S
         }
         Edit::Add { anchor, text, .. } => add_again(alloc, book, session, *anchor, text, steps),
         Edit::Cut { block, seen } => is_entered(&book.cut(session, *block, *seen, steps)),
+        // No session of these tests gives the header other names.
+        Edit::Head { .. } => false,
     }
 }
 

@@ -6,5 +6,5 @@ use Rattle.edit_sessions.proofs.run.begin.Given as goal
 abbrev pub invariant-loop-i : goal.invariant-loop-i
 invariant-loop-i l = record {
   count : length l.talks.items ≡ l.i;
-  ready : (opening : Opening) → length opening.texts ≡ l.blocks → AreReady opening l.first (take l.i l.scripts) l.talks.items;
+  ready : (opening : Opening) → length opening.texts ≡ l.blocks → opening.setting.declared ≡ l.declared → AreReady opening l.first (take l.i l.scripts) l.talks.items;
 }

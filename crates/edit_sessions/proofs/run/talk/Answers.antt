@@ -11,7 +11,7 @@ loop-i-init g c = record {
   room = c.requires.ready.room;
   so_far =
       talk_begins (opening_of c.args.shared.now) c.args.script.now (view_of c.args.pass.now) c.args.talk.now.session c.args.talk.now.replies.items (let range = c.requires.range in omega arith)
-      c.requires.ready.number c.requires.ready.remembers c.requires.ready.empty;
+      c.requires.ready.number c.requires.ready.remembers c.requires.ready.names c.requires.ready.empty;
 }
 
 pub loop-i-preserved : goal.loop-i-preserved
@@ -22,5 +22,5 @@ loop-i-preserved g c = record {
       talk_goes_on (opening_of c.args.shared.now) c.args.script.now c.loop-i.i (view_of c.args.pass.now) (view_of c.loop-i.pass) (view_of c.do_command-reply.new.pass) c.loop-i.session c.do_command-reply.new.session
       c.loop-i.replies.items c.push_reserved.new.self.items c.index-script-i.result c.do_command-reply.result c.loop-i-test.true (let range = c.requires.range in omega arith) c.loop-i.invariant.so_far
       (take_more c.args.script.now c.loop-i.i c.index-script-i.result c.loop-i-test.true ∙ ap (λ x. take c.loop-i.i c.args.script.now ++ x ∷ []) (sym c.index-script-i.is))
-      c.do_command-reply.ensures.number c.do_command-reply.ensures.taken c.do_command-reply.ensures.learned c.push_reserved.ensures.items;
+      c.do_command-reply.ensures.number c.do_command-reply.ensures.names c.do_command-reply.ensures.taken c.do_command-reply.ensures.learned c.push_reserved.ensures.items;
 }

@@ -2,12 +2,13 @@ use Rattle.std.proofs.Common.{ap, arith}
 use Rattle.knit_base.specs.declared.setting.Setting.{Setting}
 use Rattle.edit_journal.specs.Documents.{body as document_lines}
 use Rattle.edit_book.specs.Books.{document}
+use Rattle.edit_book.specs.Verdicts.{setting_of}
 use Rattle.input_answers.proofs.BookLoops.{asked_all, asked_more, asked_none}
 use Rattle.input_answers.proofs.by_book.loops_of.Goals as goal
 
 pub loop-i-init : goal.loop-i-init
 loop-i-init g c = λ made are.
-    asked_none c.args.book.now.opening.setting (document_lines (document c.args.book.now)) c.setting.result.now.first c.args.count c.new-loops.result made c.new-loops.ensures
+    asked_none (setting_of c.args.book.now.opening (document c.args.book.now)) (document_lines (document c.args.book.now)) c.setting.result.now.first c.args.count c.new-loops.result made c.new-loops.ensures
     (ap (λ (s : Setting). s.first) c.setting.ensures) c.requires.count are
 
 pub loop-i-preserved : goal.loop-i-preserved

@@ -1,8 +1,9 @@
 use Rattle.std.proofs.Common.{◌≡◌, ◌++◌, drop, map}
+use Rattle.edit_journal.specs.Documents.{names_at}
 use Rattle.verdict_report.specs.LiveText.{sessions_text}
 use Rattle.verdict_report.proofs.replies.append_sessions.Given as goal
 
 abbrev pub invariant-loop-session : goal.invariant-loop-session
 invariant-loop-session l =
-    l.out.items ++ sessions_text l.declared l.session (drop l.session (map (λ list. list.items) l.sessions))
-    ≡ l.fn.out.items ++ sessions_text l.declared 0 (map (λ list. list.items) l.sessions)
+    l.out.items ++ sessions_text (names_at l.book.opening l.book.entries) l.session (drop l.session (map (λ list. list.items) l.sessions))
+    ≡ l.fn.out.items ++ sessions_text (names_at l.book.opening l.book.entries) 0 (map (λ list. list.items) l.sessions)

@@ -9,10 +9,10 @@ use Rattle.edit_book.proofs.Boxes.{root_of}
 use Rattle.edit_book.proofs.book.Book.stops_before.Goals as goal
 
 pub brief_of-requires-clause-good : goal.brief_of-requires-clause-good
-brief_of-requires-clause-good c = root_good _ _ _ _ c.self.invariant.lawful (root_of _ _ c.deref.ensures _ c.root.ensures)
+brief_of-requires-clause-good c = root_good _ _ _ _ c.self.invariant.0.lawful (root_of _ _ c.deref.ensures _ c.root.ensures)
 
 pub brief_of-requires-clause-lines : goal.brief_of-requires-clause-lines
-brief_of-requires-clause-lines c = root_fits _ _ _ _ c.self.invariant.lawful (root_of _ _ c.deref.ensures _ c.root.ensures)
+brief_of-requires-clause-lines c = root_fits _ _ _ _ c.self.invariant.0.lawful (root_of _ _ c.deref.ensures _ c.root.ensures)
 
 pub returns-in-Sound : goal.returns-in-Sound
 returns-in-Sound c =
