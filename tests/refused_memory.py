@@ -91,6 +91,7 @@ RUNS = {
     "make": (["make", "2", "0"], b""),
     "puts": (["live"], TWO_PUTS),
     "live": (["live"], example("mended-transfer.live")),
+    "header": (["live"], example("another-yarn.live")),
 }
 
 
@@ -144,7 +145,7 @@ def accepted_alone(script: str, report: str) -> str:
     for number, (command, text) in enumerate(commands, 1):
         word = command.split()[0]
         adds += word == "add"
-        accepted = re.match(r"accepted version \d+ block (\d+)", replies[number])
+        accepted = re.match(r"accepted version \d+ block (\w+)", replies[number])
         if not accepted:
             continue
         if word == "add":
