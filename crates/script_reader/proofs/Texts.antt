@@ -6,10 +6,12 @@ use Rattle.std.proofs.lemmas.Slice.Eq.{bytes_eq-Decides}
 use Rattle.std.proofs.lemmas.Str.{IsUtf8-from_is_utf8, is_utf8-from_IsUtf8, IsUtf8-drop, IsCharBoundary-after_ascii}
 use Rattle.knit_base.specs.Lines.{IsLine, MayLoseFirst}
 use Rattle.script_reader.specs.Reading.{IsTextLine}
-use Rattle.script_reader.specs.Statements.{is_skipped, is_text_line, kind_of, kind_of_words, command_line_of}
+use Rattle.script_reader.specs.Statements.{is_skipped, is_text_line, kind_of, kind_of_words, command_line_of, mark_of}
 use Rattle.script_reader.specs.declared.line.CommandLine.{CommandLine}
 use Rattle.script_reader.specs.declared.line.CommandLine.TheVariants.{Look, Put, Add, Cut, LoopAt, Verdict, LookHead}
+use Rattle.script_reader.specs.declared.line.Kind.{Kind}
 use Rattle.script_reader.specs.declared.line.Kind.TheVariants as kind
+use Rattle.script_reader.specs.declared.line.Mark as marks
 use Rattle.knitout_reader.specs.Tokens.{tokens_of}
 use Rattle.std.specs.Option.{option_map, option_map_or}
 use Rattle.script_reader.specs.Script.{is_put_head}
@@ -29,21 +31,44 @@ text_is_line line is text = record {
   short = let short = is.short in omega (arith, length-drop 1 line);
 }
 
-one_word_no_text : (a b : Bool) → cond a kind.Session (cond b (kind.Command Verdict) kind.Other) ≡ kind.Text → ⊥
-one_word_no_text true b is = cc
-one_word_no_text false true is = cc
-one_word_no_text false false is = cc
+-- a line of words is neither skipped nor a text
+abbrev is_plain : Kind → Bool
+is_plain kind.Skipped = false
+is_plain kind.Text = false
+is_plain kind.Session = true
+is_plain (kind.Command command_line) = true
+is_plain kind.Header = true
+is_plain (kind.Mark mark) = true
+is_plain kind.Other = true
 
-two_words_no_text : (a : Bool) (o : Option CommandLine) → cond a kind.Header (option_map_or kind.Command o kind.Other) ≡ kind.Text → ⊥
-two_words_no_text true o is = cc
-two_words_no_text false None is = cc
-two_words_no_text false (Some h) is = cc
+one_word_plain : (a b : Bool) (o : Option marks.Mark) → is_plain (cond a kind.Session (cond b (kind.Command Verdict) (option_map_or kind.Mark o kind.Other))) ≡ true
+one_word_plain true b o = refl
+one_word_plain false true o = refl
+one_word_plain false false None = refl
+one_word_plain false false (Some mark) = refl
 
-words_no_text : (words : List (List ℕ)) → kind_of_words words ≡ kind.Text → ⊥
-words_no_text [] is = cc
-words_no_text (word ∷ []) is = one_word_no_text (bytes_eq word (codes "session")) (bytes_eq word (codes "verdict")) is
-words_no_text (word ∷ operand ∷ []) is = two_words_no_text (bytes_eq word (codes "put") && bytes_eq operand (codes "head")) (command_line_of word operand) is
-words_no_text (word ∷ operand ∷ more ∷ words) is = cc
+two_words_plain : (a : Bool) (o : Option CommandLine) → is_plain (cond a kind.Header (option_map_or kind.Command o kind.Other)) ≡ true
+two_words_plain true o = refl
+two_words_plain false None = refl
+two_words_plain false (Some h) = refl
+
+words_plain : (words : List (List ℕ)) → is_plain (kind_of_words words) ≡ true
+words_plain [] = refl
+words_plain (word ∷ []) = one_word_plain (bytes_eq word (codes "session")) (bytes_eq word (codes "verdict")) (mark_of word)
+words_plain (word ∷ operand ∷ []) = two_words_plain (bytes_eq word (codes "put") && bytes_eq operand (codes "head")) (command_line_of word operand)
+words_plain (word ∷ operand ∷ more ∷ words) = refl
+
+-- what is skipped, and what isn't
+pub skipped_kind : (line : List ℕ) → is_skipped line ≡ true → kind_of line ≡ kind.Skipped
+skipped_kind line is = ap (λ b. cond b kind.Skipped (cond (is_text_line line) kind.Text (kind_of_words (tokens_of line)))) is
+
+pub not_skipped_kind : (line : List ℕ) → is_skipped line ≡ false → kind_of line ≢ kind.Skipped
+not_skipped_kind line isnt = go (is_skipped line) isnt (is_text_line line)
+  where
+    go : (a : Bool) → a ≡ false → (b : Bool) → cond a kind.Skipped (cond b kind.Text (kind_of_words (tokens_of line))) ≢ kind.Skipped
+    go true isnt b = absurd (cc)
+    go false isnt true = λ is. cc
+    go false isnt false = λ is. let clash : true ≡ false = sym (words_plain (tokens_of line)) ∙ ap is_plain is in cc
 
 -- no command line of a line is that of `put head`
 named_no_put : {A : Type 0} (f : A → CommandLine) → ((a : A) → is_put_head (f a) ≡ false) → (o : Option A) (h : CommandLine) → option_map f o ≡ Some h → is_put_head h ≡ false
@@ -70,14 +95,15 @@ two_words_no_put false word operand h is = go (command_line_of word operand) ref
     go None has is = absurd (cc)
     go (Some found) has is = let same : found ≡ h = cc in line_no_put word operand h (has ∙ ap (λ (c : CommandLine). Some c) same)
 
-one_word_no_put : (a b : Bool) (h : CommandLine) → cond a kind.Session (cond b (kind.Command Verdict) kind.Other) ≡ kind.Command h → is_put_head h ≡ false
-one_word_no_put true b h is = absurd (cc)
-one_word_no_put false true h is = let same : Verdict ≡ h = cc in subst (λ x. is_put_head x ≡ false) same refl
-one_word_no_put false false h is = absurd (cc)
+one_word_no_put : (a b : Bool) (o : Option marks.Mark) (h : CommandLine) → cond a kind.Session (cond b (kind.Command Verdict) (option_map_or kind.Mark o kind.Other)) ≡ kind.Command h → is_put_head h ≡ false
+one_word_no_put true b o h is = absurd (cc)
+one_word_no_put false true o h is = let same : Verdict ≡ h = cc in subst (λ x. is_put_head x ≡ false) same refl
+one_word_no_put false false None h is = absurd (cc)
+one_word_no_put false false (Some mark) h is = absurd (cc)
 
 words_no_put : (words : List (List ℕ)) (h : CommandLine) → kind_of_words words ≡ kind.Command h → is_put_head h ≡ false
 words_no_put [] h is = absurd (cc)
-words_no_put (word ∷ []) h is = one_word_no_put (bytes_eq word (codes "session")) (bytes_eq word (codes "verdict")) h is
+words_no_put (word ∷ []) h is = one_word_no_put (bytes_eq word (codes "session")) (bytes_eq word (codes "verdict")) (mark_of word) h is
 words_no_put (word ∷ operand ∷ []) h is = two_words_no_put (bytes_eq word (codes "put") && bytes_eq operand (codes "head")) word operand h is
 words_no_put (word ∷ operand ∷ more ∷ words) h is = absurd (cc)
 
@@ -97,7 +123,7 @@ text_kind line is = go (is_skipped line) (is_text_line line) is
     go true true r = refl
     go false true r = refl
     go true false r = absurd (cc)
-    go false false r = absurd (words_no_text (tokens_of line) r)
+    go false false r = let clash : true ≡ false = sym (words_plain (tokens_of line)) ∙ ap is_plain r in absurd (cc)
 
 -- a line that begins as a text line is one
 pub text_line_kind : (line : List ℕ) → is_text_line line ≡ true → kind_of line ≡ kind.Text

@@ -2,11 +2,14 @@
 --
 -- A script is the line `live 1`, the text lines of its opening text, and its sessions. A session is the line `session` and its
 -- commands. A command is its line and, behind `put` and `add`, its text lines. Lines that say nothing are as if they weren't there.
-use Rattle.std.specs.Prelude.{◌≡◌, ◌⊎◌, ℕ, ◌+◌, ◌<◌, ◌≤◌, Bool, true, false, ◌&&◌, nat_le, nat_lt, List, [], ◌∷◌, ◌++◌, length, take, map, filter, Option, Some, None, if◌then◌else◌}
+use Rattle.std.specs.Prelude.{◌≡◌, ◌⊎◌, ℕ, ◌+◌, ◌≤◌, Bool, true, false, ◌&&◌, nat_le, nat_lt, List, [], ◌∷◌, ◌++◌, length, map, filter, Option, Some, None, if◌then◌else◌}
 use Rattle.std.specs.List.{flat_map, list_all, sum_by}
 use Rattle.edit_journal.specs.declared.edit.BlockName.{BlockName}
 use Rattle.edit_journal.specs.declared.edit.BlockName.TheVariants.{Id, Own}
-use Rattle.script_reader.specs.Statements.{Statement, Nothing, Text, Session, Command, Header, Nonsense, is_live, kind_of, statements_of, text_ahead}
+pub use Rattle.script_reader.specs.Grammar.{LacksHeader}
+use Rattle.script_reader.specs.Grammar.{Grammar, BeginNone, HasOtherForm, IsOutside}
+pub use Rattle.script_reader.specs.Statements.{says_something}
+use Rattle.script_reader.specs.Statements.{Statement, Nothing, Text, Session, Command, Header, Mark, Nonsense, is_live, statements_of}
 use Rattle.script_reader.specs.declared.command.Command as declared
 use Rattle.script_reader.specs.declared.command.Command.TheVariants as command
 use Rattle.script_reader.specs.declared.command.Place.{Place}
@@ -18,7 +21,6 @@ use Rattle.script_reader.specs.declared.fault.ScriptFault.{ScriptFault}
 use Rattle.script_reader.specs.declared.fault.ScriptFault.TheVariants.{At, NoMemory}
 use Rattle.script_reader.specs.declared.line.CommandLine.{CommandLine}
 use Rattle.script_reader.specs.declared.line.CommandLine.TheVariants as command_lines
-use Rattle.script_reader.specs.declared.line.Kind.TheVariants as kind
 
 -- the line of a command
 abbrev pub command_line_in : declared.Command → CommandLine
@@ -64,14 +66,6 @@ session_statements commands = Session ∷ flat_map command_statements commands
 -- what the lines behind the first one say: the opening text, and the sessions
 abbrev pub statements : Script → List Statement
 statements script = map Text script.text ++ flat_map session_statements script.sessions
-
-abbrev pub says_something : Statement → Bool
-says_something Nothing = false
-says_something (Text text) = true
-says_something Session = true
-says_something (Command command_line) = true
-says_something (Header names) = true
-says_something Nonsense = true
 
 -- the name is an id, or that of an add command among so many
 abbrev pub is_known : ℕ → BlockName → Bool
@@ -147,13 +141,18 @@ takes_text command_lines.Verdict = false
 takes_text command_lines.LookHead = false
 takes_text command_lines.PutHead = false
 
+-- there is a last item, and it is such
+abbrev pub last_is : {A : Type 0} → (A → Bool) → List A → Bool
+last_is test [] = false
+last_is test (x ∷ []) = test x
+last_is test (x ∷ y ∷ ys) = last_is test (y ∷ ys)
+
 -- behind the last of the commands
 abbrev pub last_takes_text : List declared.Command → Bool
-last_takes_text [] = false
-last_takes_text (command ∷ []) = takes_text (command_line_in command)
-last_takes_text (command ∷ next ∷ commands) = last_takes_text (next ∷ commands)
+last_takes_text commands = last_is (λ command. takes_text (command_line_in command)) commands
 
-abbrev pub last_session : List (List declared.Command) → List declared.Command
+-- the last of the sessions
+abbrev pub last_session : {A : Type 0} → List (List A) → List A
 last_session [] = []
 last_session (session ∷ []) = session
 last_session (session ∷ next ∷ sessions) = last_session (next ∷ sessions)
@@ -164,7 +163,7 @@ text_cause [] = None
 text_cause (session ∷ sessions) = if last_takes_text (last_session (session ∷ sessions)) then None else Some BadLine
 
 -- why a session can't begin there: 64 are there
-abbrev pub session_cause : List (List declared.Command) → Option Cause
+abbrev pub session_cause : {A : Type 0} → List (List A) → Option Cause
 session_cause sessions = if nat_lt (length sessions) 64 then None else Some ManySessions
 
 -- why a command can't stand there: there is no session, or the name is that of an add command to come
@@ -179,42 +178,29 @@ cause_of script (Text text) = text_cause script.sessions
 cause_of script Session = session_cause script.sessions
 cause_of script (Command command_line) = if is_put_head command_line then Some BadLine else command_cause script.sessions command_line
 cause_of script (Header names) = command_cause script.sessions command_lines.PutHead
+cause_of script (Mark mark) = Some BadLine
 cause_of script Nonsense = Some BadLine
+
+-- at most 64 sessions, whose commands name known blocks
+pub record IsLawful (script : Script) : Type 0 where
+  pub few : length script.sessions ≤ 64
+  pub known : list_all (all_known 0) script.sessions ≡ true
+
+-- a script may end behind each of its lines
+abbrev pub live_grammar : Grammar
+live_grammar = record { SoFar = Script; says = statements; IsLawful = IsLawful; cause_of = cause_of; end_cause = λ script. None }
 
 -- no script begins with these lines
 abbrev pub BeginNoScript : List (List ℕ) → Type 0
-BeginNoScript lines = (more : List (List ℕ)) (script : Script) → ¬ IsScript (lines ++ more) script
+BeginNoScript lines = BeginNone IsScript lines
 
--- the line is `put head`, and no text line follows, whatever may come behind these lines
-pub record LacksHeader (line : List ℕ) (after : List (List ℕ)) : Type 0 where
-  pub is : kind_of line ≡ kind.Header
-  pub none : text_ahead after ≡ None
-
--- The line with this number is the first outside the grammar: what it says can't stand behind the script that the lines before it say, for this cause. No script
--- begins with the lines up to it, or it is `put head` without the text that it needs.
-pub record IsFirstOutside (lines : List (List ℕ)) (number : ℕ) (cause : Cause) : Type 0 where
-  pub first : List ℕ
-  pub before : List (List ℕ)
-  pub line : List ℕ
-  pub after : List (List ℕ)
-  pub lines_are : lines ≡ first ∷ before ++ line ∷ after
-  pub counted : number ≡ length before + 2
-  pub script : Script
-  pub front : List Statement
-  pub here : Statement
-  pub back : List Statement
-  pub told : statements_of (before ++ line ∷ after) ≡ front ++ here ∷ back
-  pub placed : length front ≡ length before
-  pub good_before : filter says_something front ≡ statements script
-  pub is_cause : cause_of script here ≡ Some cause
-  pub ends : BeginNoScript (first ∷ before ++ line ∷ []) ⊎ LacksHeader line after
+-- the line with this number is the first that can't stand behind those before it
+abbrev pub IsFirstOutside : List (List ℕ) → ℕ → Cause → Type 0
+IsFirstOutside lines number cause = IsOutside live_grammar IsScript lines number cause
 
 -- the first line isn't that of a script, or there is none
-pub record HasNoLive (lines : List (List ℕ)) (number : ℕ) (cause : Cause) : Type 0 where
-  pub first : number ≡ 1
-  pub is_cause : cause ≡ NoLive
-  pub none : (script : Script) → ¬ IsScript lines script
-  pub ends : 0 < length lines → BeginNoScript (take 1 lines)
+abbrev pub HasNoLive : List (List ℕ) → ℕ → Cause → Type 0
+HasNoLive lines number cause = HasOtherForm IsScript NoLive lines number cause
 
 -- the refusal names the first line outside the grammar, and its cause; want of memory says nothing of the lines
 abbrev pub IsRefusal : List (List ℕ) → ScriptFault → Type 0

@@ -10,16 +10,23 @@ use Rattle.script_reader.specs.declared.line.CommandLine.{CommandLine}
 use Rattle.script_reader.specs.declared.line.CommandLine.TheVariants.{Look, Put, Add, Cut, LoopAt, Verdict, LookHead}
 use Rattle.script_reader.specs.declared.line.Kind.{Kind}
 use Rattle.script_reader.specs.declared.line.Kind.TheVariants as kind
+use Rattle.script_reader.specs.declared.line.Mark as marks
+use Rattle.script_reader.specs.declared.line.Mark.TheVariants as mark
 
--- the first line: `live 1`
-abbrev pub are_live_words : List (List ℕ) → Bool
-are_live_words [] = false
-are_live_words (word ∷ []) = false
-are_live_words (word ∷ form ∷ []) = bytes_eq word (codes "live") && bytes_eq form (codes "1")
-are_live_words (word ∷ form ∷ more ∷ words) = false
+-- the first line: a word and `1`
+abbrev pub are_form_words : List ℕ → List (List ℕ) → Bool
+are_form_words name [] = false
+are_form_words name (word ∷ []) = false
+are_form_words name (word ∷ form ∷ []) = bytes_eq word name && bytes_eq form (codes "1")
+are_form_words name (word ∷ form ∷ more ∷ words) = false
 
+-- `live 1`
 abbrev pub is_live : List ℕ → Bool
-is_live line = are_live_words (tokens_of line)
+is_live line = are_form_words (codes "live") (tokens_of line)
+
+-- `groups 1`
+abbrev pub is_groups : List ℕ → Bool
+is_groups line = are_form_words (codes "groups") (tokens_of line)
 
 -- a blank line, or one that begins with `#`
 abbrev pub is_skipped : List ℕ → Bool
@@ -43,8 +50,19 @@ abbrev pub kind_of_two : List ℕ → List ℕ → Kind
 kind_of_two word operand =
     if bytes_eq word (codes "put") && bytes_eq operand (codes "head") then kind.Header else option_map_or kind.Command (command_line_of word operand) kind.Other
 
+-- a word that stands alone, of scripts of groups
+abbrev pub mark_of : List ℕ → Option marks.Mark
+mark_of word =
+    if bytes_eq word (codes "group") then Some mark.Group
+    else (if bytes_eq word (codes "end") then Some mark.End
+    else (if bytes_eq word (codes "undo") then Some mark.Undo
+    else None))
+
 abbrev pub kind_of_one : List ℕ → Kind
-kind_of_one word = if bytes_eq word (codes "session") then kind.Session else (if bytes_eq word (codes "verdict") then kind.Command Verdict else kind.Other)
+kind_of_one word =
+    if bytes_eq word (codes "session") then kind.Session
+    else (if bytes_eq word (codes "verdict") then kind.Command Verdict
+    else option_map_or kind.Mark (mark_of word) kind.Other)
 
 abbrev pub kind_of_words : List (List ℕ) → Kind
 kind_of_words [] = kind.Other
@@ -55,14 +73,24 @@ kind_of_words (word ∷ operand ∷ more ∷ words) = kind.Other
 abbrev pub kind_of : List ℕ → Kind
 kind_of line = if is_skipped line then kind.Skipped else (if is_text_line line then kind.Text else kind_of_words (tokens_of line))
 
--- what a line says: nothing, a text, that a session begins, a command without its text, that the header gets these names, or what no script says
+-- what a line says: nothing, a text, that a session begins, a command without its text, that the header gets these names, `group`, `end` or `undo`, or what no script says
 pub data Statement : Type 0 where
   Nothing : Statement
   Text : List ℕ → Statement
   Session : Statement
   Command : CommandLine → Statement
   Header : List (List ℕ) → Statement
+  Mark : marks.Mark → Statement
   Nonsense : Statement
+
+abbrev pub says_something : Statement → Bool
+says_something Nothing = false
+says_something (Text text) = true
+says_something Session = true
+says_something (Command command_line) = true
+says_something (Header names) = true
+says_something (Mark mark) = true
+says_something Nonsense = true
 
 -- the text that stands in front of these lines, where the first of them that says anything is a text line
 abbrev pub text_or : Kind → List ℕ → Option (List ℕ) → Option (List ℕ)
@@ -71,6 +99,7 @@ text_or kind.Text line rest = Some (drop 1 line)
 text_or kind.Session line rest = None
 text_or (kind.Command command_line) line rest = None
 text_or kind.Header line rest = None
+text_or (kind.Mark mark) line rest = None
 text_or kind.Other line rest = None
 
 abbrev pub text_ahead : List (List ℕ) → Option (List ℕ)
@@ -96,6 +125,7 @@ told kind.Text true line ahead rest = names_said (names_in_line (drop 1 line)) �
 told kind.Session wants line ahead rest = Session ∷ rest false
 told (kind.Command command_line) wants line ahead rest = Command command_line ∷ rest false
 told kind.Header wants line ahead rest = header_said ahead ∷ rest true
+told (kind.Mark mark) wants line ahead rest = Mark mark ∷ rest false
 told kind.Other wants line ahead rest = Nonsense ∷ rest false
 
 abbrev pub told_from : Bool → List (List ℕ) → List Statement

@@ -16,6 +16,8 @@ pub enum Cause {
     ManySessions,
     /// The line names the block of an add command that doesn't stand before it in its session.
     NoOwn,
+    /// The first line isn't `groups 1`, or there is none. A `live` script is never refused so.
+    NoGroups,
 }
 
 /// Why lines are no script.

@@ -1,8 +1,8 @@
 //! What a line of a script says by itself.
-ghost use Rattle.std.specs.Prelude.{◌≡◌, true, drop};
+ghost use Rattle.std.specs.Prelude.{◌≡◌, codes, true, drop};
 ghost use Rattle.knit_base.specs.Lines.{IsLine};
 ghost use Rattle.knitout_reader.specs.Tokens.{tokens_of};
-ghost use Rattle.script_reader.specs.Statements.{is_live, is_skipped, is_text_line, kind_of, kind_of_one, kind_of_two, command_line_of};
+ghost use Rattle.script_reader.specs.Statements.{are_form_words, is_groups, is_live, is_skipped, is_text_line, kind_of, kind_of_one, kind_of_two, command_line_of, mark_of};
 
 use crate::command::Place;
 use crate::words::{name, number, place};
@@ -10,6 +10,8 @@ use edit_journal::BlockName;
 use knitout_reader::{is_blank_text, next_token};
 
 const LIVE: &[u8] = b"live";
+
+const GROUPS: &[u8] = b"groups";
 
 const FORM: &[u8] = b"1";
 
@@ -29,6 +31,12 @@ const VERDICT: &[u8] = b"verdict";
 
 const HEADER: &[u8] = b"head";
 
+const GROUP: &[u8] = b"group";
+
+const END: &[u8] = b"end";
+
+const UNDO: &[u8] = b"undo";
+
 /// A command without its text.
 #[derive(Clone, Copy, Debug, PartialEq, Eq)]
 pub(crate) enum CommandLine {
@@ -40,6 +48,14 @@ pub(crate) enum CommandLine {
     Verdict,
     LookHead,
     PutHead,
+}
+
+/// A word that stands alone in its line, in scripts of groups.
+#[derive(Clone, Copy, Debug, PartialEq, Eq)]
+pub(crate) enum Mark {
+    Group,
+    End,
+    Undo,
 }
 
 /// What a line is.
@@ -55,13 +71,29 @@ pub(crate) enum Kind {
     Command(CommandLine),
     /// It is `put head`, which reads the text behind it.
     Header,
+    /// It is `group`, `end` or `undo`.
+    Mark(Mark),
     /// It is none of these.
     Other,
 }
 
-/// Whether a first line is that of a script.
+/// Whether a first line is `live 1`.
 pub(crate) fn is_live(line: &[u8]) -> bool
     ensures { result ≡ is_live line.now }
+{
+    names_form(line, LIVE)
+}
+
+/// Whether a first line is `groups 1`.
+pub(crate) fn is_groups(line: &[u8]) -> bool
+    ensures { result ≡ is_groups line.now }
+{
+    names_form(line, GROUPS)
+}
+
+// Whether the line is this word and `1`.
+fn names_form(line: &[u8], name: &[u8]) -> bool
+    ensures { result ≡ are_form_words name.now (tokens_of line.now) }
 {
     let Some((word, rest)) = next_token(line) else {
         return false;
@@ -69,7 +101,7 @@ pub(crate) fn is_live(line: &[u8]) -> bool
     let Some((form, rest)) = next_token(rest) else {
         return false;
     };
-    word == LIVE && form == FORM && next_token(rest).is_none()
+    word == name && form == FORM && next_token(rest).is_none()
 }
 
 /// What a line behind the first one is.
@@ -111,7 +143,8 @@ pub(crate) fn text_of(line: &str) -> &str
     &line[1..]
 }
 
-fn is_skipped(line: &[u8]) -> bool
+/// Whether the line is as if it weren't there.
+pub(crate) fn is_skipped(line: &[u8]) -> bool
     ensures { result ≡ is_skipped line.now }
 {
     line.starts_with(b"#") || is_blank_text(line)
@@ -126,7 +159,25 @@ fn one_word(word: &[u8]) -> Kind
     if word == VERDICT {
         return Kind::Command(CommandLine::Verdict);
     }
-    Kind::Other
+    match mark_of(word) {
+        Some(mark) => Kind::Mark(mark),
+        None => Kind::Other,
+    }
+}
+
+fn mark_of(word: &[u8]) -> Option<Mark>
+    ensures { result ≡ mark_of word.now }
+{
+    if word == GROUP {
+        return Some(Mark::Group);
+    }
+    if word == END {
+        return Some(Mark::End);
+    }
+    if word == UNDO {
+        return Some(Mark::Undo);
+    }
+    None
 }
 
 fn two_words(word: &[u8], operand: &[u8]) -> Kind

@@ -1,43 +1,41 @@
-use Rattle.std.proofs.Common.{arith, ap, sym, ◌∙◌, ◌≡◌, get_or, [], ⊎_elim}
-use Rattle.script_reader.specs.Statements.{kind_of}
-use Rattle.script_reader.specs.declared.line.Kind.TheVariants as kind
+use Rattle.std.proofs.Common.{◌≡◌, arith, ap, sym, ◌∙◌, get_or, [], refl, true}
 use Rattle.std.proofs.lemmas.Result.{err_from_is_err_and}
-use Rattle.script_reader.proofs.Sessions.{command_more, header_more, header_refused, other_stops, text_stops, unknown_stops}
+use Rattle.script_reader.specs.Reading.{commands_parts}
+use Rattle.script_reader.specs.Script.{adds_of, command_line_in}
+use Rattle.script_reader.specs.Statements.{kind_of}
+use Rattle.script_reader.specs.declared.line.Kind.TheVariants as kinds
+use Rattle.script_reader.proofs.Commands.{command_grows}
+use Rattle.script_reader.proofs.Ends.{adds_one}
+use Rattle.script_reader.proofs.LiveSessions.{commands_known, commands_stop}
+use Rattle.script_reader.proofs.Parts.{command_part, parts_more, parts_skipped}
 use Rattle.script_reader.proofs.reader.read_commands.Goals as goal
 
-pub returns-then-not-names_known-clause-fault : goal.returns-then-not-names_known-clause-fault
-returns-then-not-names_known-clause-fault c =
-    unknown_stops c.args.lines.now c.loop-at.at (omega arith) c.args.start c.loop-at.commands c.loop-at.adds c.loop-at.invariant c.in-Command.command_line (cc) (cc)
+pub returns-in-Session-clause-known : goal.returns-in-Session-clause-known
+returns-in-Session-clause-known c = commands_known c.args.lines.now c.args.start c.loop-at.at c.loop-at.commands c.loop-at.adds c.loop-at.invariant
 
-pub push-requires : goal.push-requires
-push-requires c = let short = c.loop-at.invariant.short in omega arith
+pub returns-clause-known : goal.returns-clause-known
+returns-clause-known c = commands_known c.args.lines.now c.args.start c.loop-at.at c.loop-at.commands c.loop-at.adds c.loop-at.invariant
+
+pub returns-in_err-command-in_default-clause-fault : goal.returns-in_err-command-in_default-clause-fault
+returns-in_err-command-in_default-clause-fault c =
+    let p = err_from_is_err_and c.from_residual.result c.from_residual.ensures.1 in
+    let is : kind_of (get_or c.args.lines.now c.loop-at.at []) ≡ c.kind_of.result = sym (c.kind_of.ensures ∙ ap kind_of (c.as_bytes.ensures.value ∙ c.nth_line.ensures.text)) in
+    rw (p.1, p.2)
+    (commands_stop c.args.lines.now c.args.start c.loop-at.at c.loop-at.commands c.loop-at.adds (omega arith) c.loop-at.invariant c.in_err-command-in_default.field-0.0 (λ e. c.in_default.not-Skipped (sym is ∙ e)) (λ e. c.in_default.not-Session (sym is ∙ e)) c.in_err-command-in_default.ensures.fault)
+
+pub loop-at-smaller : goal.loop-at-smaller
+loop-at-smaller c =
+    let high = c.in_ok-command-in_default.ensures.command.says.high in
+    let low = command_grows c.args.lines.now c.loop-at.at c.loop-at.adds c.in_ok-command-in_default.next c.in_ok-command-in_default.command c.in_ok-command-in_default.ensures.command in
+    omega arith
 
 pub loop-at-preserved : goal.loop-at-preserved
 loop-at-preserved c =
-    let is : kind_of (get_or c.args.lines.now c.loop-at.at []) ≡ kind.Command c.in-Command.command_line = sym (c.in-Command.ensures ∙ ap kind_of (c.as_bytes.ensures.value ∙ c.nth_line.ensures.text)) in
-    let read = c.in_ok-command-in-Command.ensures in
-    rw (c.in_ok-push-in-Command.ensures.ok, c.adds_of-adds.ensures)
-    (command_more c.args.lines.now c.loop-at.at (omega arith) c.args.start c.loop-at.commands c.loop-at.adds c.loop-at.invariant c.in-Command.command_line c.in_ok-command-in-Command.command c.in_ok-command-in-Command.next is (cc)
-    read.command read.behind read.within.0 read.within.1)
+    rw (c.in_ok-push-in_default.ensures.ok, c.adds_of-adds.ensures)
+    (parts_more commands_parts c.args.lines.now c.args.start c.loop-at.at c.loop-at.commands 0 c.loop-at.adds c.in_ok-command-in_default.command c.in_ok-command-in_default.next (adds_of (command_line_in c.in_ok-command-in_default.command)) c.loop-at.invariant
+    (command_part (λ command. true) c.args.lines.now c.loop-at.at c.loop-at.adds c.in_ok-command-in_default.command c.in_ok-command-in_default.next refl c.in_ok-command-in_default.ensures.command) (sym (adds_one c.in_ok-command-in_default.command)))
 
-pub returns-in-Text-clause-fault : goal.returns-in-Text-clause-fault
-returns-in-Text-clause-fault c =
-    let here : kind_of (get_or c.args.lines.now c.loop-at.at []) ≡ c.kind_of.result = sym (c.kind_of.ensures ∙ ap kind_of (c.as_bytes.ensures.value ∙ c.nth_line.ensures.text)) in
-    ⊎_elim
-    (λ is. text_stops c.args.lines.now c.loop-at.at (omega arith) c.args.start c.loop-at.commands c.loop-at.adds c.loop-at.invariant (here ∙ is))
-    (λ is. other_stops c.args.lines.now c.loop-at.at (omega arith) c.args.start c.loop-at.commands c.loop-at.adds c.loop-at.invariant (here ∙ is))
-    c.in-Text.is
-
-pub returns-in_err-declared-in-Header-clause-fault : goal.returns-in_err-declared-in-Header-clause-fault
-returns-in_err-declared-in-Header-clause-fault c =
-    let p = err_from_is_err_and c.from_residual.result c.from_residual.ensures.1 in
-    let is : kind_of (get_or c.args.lines.now c.loop-at.at []) ≡ kind.Header = sym (c.in-Header.ensures ∙ ap kind_of (c.as_bytes.ensures.value ∙ c.nth_line.ensures.text)) in
-    rw (p.1, p.2)
-    (header_refused c.args.lines.now c.loop-at.at (omega arith) c.args.start c.loop-at.commands c.loop-at.adds c.loop-at.invariant is c.in_err-declared-in-Header.field-0.0 c.in_err-declared-in-Header.ensures.fault)
-
-pub loop-at-preserved-in-Header : goal.loop-at-preserved-in-Header
-loop-at-preserved-in-Header c =
-    let is : kind_of (get_or c.args.lines.now c.loop-at.at []) ≡ kind.Header = sym (c.in-Header.ensures ∙ ap kind_of (c.as_bytes.ensures.value ∙ c.nth_line.ensures.text)) in
-    let read = c.in_ok-declared-in-Header.ensures in
-    rw (c.in_ok-push-in-Header.ensures.ok)
-    (header_more c.args.lines.now c.loop-at.at (omega arith) c.args.start c.loop-at.commands c.loop-at.adds c.loop-at.invariant is c.in_ok-declared-in-Header.declared c.in_ok-declared-in-Header.next read.names read.within.0 read.within.1)
+pub loop-at-preserved-in-Skipped : goal.loop-at-preserved-in-Skipped
+loop-at-preserved-in-Skipped c =
+    let is : kind_of (get_or c.args.lines.now c.loop-at.at []) ≡ kinds.Skipped = sym (c.in-Skipped.ensures ∙ ap kind_of (c.as_bytes.ensures.value ∙ c.nth_line.ensures.text)) in
+    parts_skipped commands_parts c.args.lines.now c.args.start c.loop-at.at c.loop-at.commands 0 c.loop-at.adds (omega arith) is c.loop-at.invariant

@@ -1,8 +1,8 @@
 use Rattle.std.proofs.Common.{◌∙◌, ap, sym, subst, arith}
 use Rattle.knit_base.specs.Lines.{IsLine}
 use Rattle.script_reader.specs.Statements.{is_text_line}
-use Rattle.script_reader.proofs.Steps.{run_more}
-use Rattle.script_reader.proofs.reader.run_end.Goals as goal
+use Rattle.script_reader.proofs.TextLines.{run_more}
+use Rattle.script_reader.proofs.text.run_end.Goals as goal
 
 pub loop-i-preserved : goal.loop-i-preserved
 loop-i-preserved c =

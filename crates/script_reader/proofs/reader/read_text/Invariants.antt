@@ -1,5 +1,0 @@
-use Rattle.script_reader.proofs.Steps.{TextSoFar}
-use Rattle.script_reader.proofs.reader.read_text.Given as goal
-
-abbrev pub invariant-loop-i : goal.invariant-loop-i
-invariant-loop-i l = TextSoFar l.lines l.start l.i l.text
