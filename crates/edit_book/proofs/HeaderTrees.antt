@@ -13,7 +13,7 @@ use Rattle.edit_book.specs.Verdicts.{setting_of}
 use Rattle.edit_book.specs.Work.{header_limit, lines_anew, needles_in, with_names}
 use Rattle.edit_book.proofs.HandedOver.{left_anew, own_leaves}
 use Rattle.edit_book.proofs.Trees.{zip_count, zip_good, zip_lines}
-use Rattle.edit_book.proofs.Work.{leaves_known, lines_known}
+use Rattle.edit_book.proofs.Work.{leaves_work}
 use Rattle.summary_tree.specs.Leaves.{AreGoodFor, AreSound, Leaf}
 
 -- How far the leaves are made: those of so many blocks are there, what was taken for the other blocks is left, and no more steps were taken than there are lines to read.
@@ -109,12 +109,8 @@ header_work : (setting : Setting) (leaves : List Leaf) (d : Document) (again : L
     → ((carriers limit : ℕ) (known : List Needle) → AreGoodFor carriers limit known leaves → now ≤ read + 3 * most_items carriers limit (length known) * length leaves)
     → now ≤ before + header_limit setting d again
 header_work setting leaves d again before read now h less steps =
-    let known : List Needle = needles_in setting (body d) in
-    let most : ℕ = most_items (length setting.declared) setting.profile.hold (length known) in
-    let made : now ≤ read + 3 * most * length leaves =
-    steps (length setting.declared) setting.profile.hold known (leaves_known setting known leaves d.blocks h (lines_known setting (body d))) in
-    let many : 3 * most * length leaves ≡ 3 * most * length d.blocks = ap (λ (n : ℕ). 3 * most * n) (zip_count (λ (l : Leaf) (b : Block). IsLeafOf setting l b.lines) leaves d.blocks h) in
-    within before read now most (length d.blocks) (lines_anew again d.blocks) less (omega (arith, made, many))
+    let most : ℕ = most_items (length setting.declared) setting.profile.hold (length (needles_in setting (body d))) in
+    within before read now most (length d.blocks) (lines_anew again d.blocks) less (leaves_work setting leaves d.blocks read now h steps)
   where
     within : (before read now most blocks anew : ℕ) → read ≤ before + anew → now ≤ read + 3 * most * blocks → now ≤ before + (4 * (blocks + 1) * (most + 1) + 2 * anew)
     within before read now most blocks anew h k = omega arith

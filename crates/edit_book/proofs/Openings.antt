@@ -21,13 +21,13 @@ use Rattle.edit_book.specs.Books.{AreDistinct, Each, HasText, IsLawfulSetting, I
 use Rattle.edit_book.specs.Headers.{HasHeader}
 use Rattle.edit_book.specs.Opened.{HasKept, IsAdded, leaves_of, states_at_start, texts_in}
 use Rattle.edit_book.specs.Replies.{block_limit, cut_number, line_limit}
-use Rattle.edit_book.specs.Work.{needles_in, start_limit}
+use Rattle.edit_book.specs.Work.{start_limit}
 use Rattle.summary_tree.specs.Leaves.{AreGoodFor, AreSound, Leaf}
 use Rattle.edit_book.proofs.Trees.{sound_of}
 use Rattle.tree_shape.specs.Building.{numbers_from}
 use Rattle.tree_shape.specs.Changes.{numbers_below}
 use Rattle.tree_shape.proofs.Halves.{below_from}
-use Rattle.edit_book.proofs.Work.{KnowsLine, leaves_known, lines_known}
+use Rattle.edit_book.proofs.Work.{leaves_work}
 
 -- the ids of an opening's blocks
 opened_from_ids : (n : ℕ) (texts : List (List (List ℕ))) → ids_of (opened_from n texts) ≡ numbers_from n (length texts)
@@ -178,14 +178,11 @@ pub opened_work : (setting : Setting) (blocks : List Prepared) (kept : Kept) (be
     → ((carriers limit : ℕ) (known : List Needle) → AreGoodFor carriers limit known kept.leaves.items → now ≤ before + 3 * most_items carriers limit (length known) * length kept.leaves.items)
     → now ≤ before + start_limit setting (length blocks) (flat_map (λ (block : Prepared). block.text) blocks)
 opened_work setting blocks kept before now all h steps =
-    let lines : List (List ℕ) = flat_map (λ (b : Prepared). b.text) blocks in
-    let known : List Needle = needles_in setting lines in
-    let good : AreGoodFor (length setting.declared) setting.profile.hold known (leaves_of blocks) =
-    leaves_known setting known (leaves_of blocks) (opened_from 0 (texts_in blocks)) (opened_leaves setting 0 blocks all)
-    (subst (Each (KnowsLine setting known)) (sym (opened_lines 0 blocks)) (lines_known setting lines)) in
-    subst (λ (n : ℕ). now ≤ before + 3 * most_items (length setting.declared) setting.profile.hold (length known) * n)
-    (ap length h.leaves ∙ length-map blocks (λ (b : Prepared). let leaf : Leaf = (b.face, b.loops) in leaf))
-    (steps (length setting.declared) setting.profile.hold known (subst (AreGoodFor (length setting.declared) setting.profile.hold known) (sym h.leaves) good))
+    let bs : List Block = opened_from 0 (texts_in blocks) in
+    let many : length bs ≡ length blocks = opened_count 0 (texts_in blocks) ∙ length-map blocks (λ (b : Prepared). b.text) in
+    subst (λ (p : ℕ × List (List ℕ)). now ≤ before + start_limit setting p.0 p.1) (λ i. (many i, opened_lines 0 blocks i))
+    (leaves_work setting (leaves_of blocks) bs before now (opened_leaves setting 0 blocks all)
+    (subst (λ (l : List Leaf). (carriers limit : ℕ) (known : List Needle) → AreGoodFor carriers limit known l → now ≤ before + 3 * most_items carriers limit (length known) * length l) h.leaves steps))
 
 pub nothing_left : {X : Type 0} (l : List X) → length l ≡ 0 → l ≡ []
 nothing_left [] h = refl

@@ -207,14 +207,14 @@ removed_ids ns at f g k = gathered_removed f at ns (kept_there ns f g k) ∙ ap 
 
 -- The first ids.
 
-below_times : (n count : ℕ) → 1 ≤ times_in n (numbers_below count) → n < count
+pub below_times : (n count : ℕ) → 1 ≤ times_in n (numbers_below count) → n < count
 below_times n zero h = absurd (omega (arith, h))
 below_times n (suc count) h = elim (one n count) [
   | inl w ↦ omega (arith, w.0)
   | inr w ↦ let earlier = below_times n count (omega (arith, h, w.1, times_in-append n (numbers_below count) (count ∷ []))) in omega (arith, earlier)
 ]
 
-times_below : (n count : ℕ) → n < count → 1 ≤ times_in n (numbers_below count)
+pub times_below : (n count : ℕ) → n < count → 1 ≤ times_in n (numbers_below count)
 times_below n zero h = absurd (omega (arith, h))
 times_below n (suc count) h = elim (one n count) [
   | inl w ↦ omega (arith, w.1, times_in-append n (numbers_below count) (count ∷ []))

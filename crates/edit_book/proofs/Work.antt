@@ -26,10 +26,10 @@ use Rattle.edit_journal.specs.Documents.{Block, Document, after, body, document_
 use Rattle.edit_book.specs.Books.{BookView, Each, IsLawful, IsLeafOf}
 use Rattle.edit_book.specs.Replies.{Request}
 use Rattle.edit_book.specs.Headers.{changes_header}
-use Rattle.edit_book.specs.Work.{edit_limit, limit_at, needles_in, once, work_limit}
+use Rattle.edit_book.specs.Work.{edit_limit, limit_at, needles_in, once, start_limit, work_limit}
 use Rattle.edit_book.proofs.KeptHeaders.{setting_stays}
 use Rattle.edit_book.proofs.Puts.{doc_snoc}
-use Rattle.edit_book.proofs.Trees.{setting_at}
+use Rattle.edit_book.proofs.Trees.{setting_at, zip_count}
 use Rattle.summary_tree.specs.Leaves.{AreGoodFor, Leaf}
 use Rattle.summary_tree.specs.Trees.{TreeView, change_steps}
 
@@ -154,6 +154,15 @@ leaves_known setting known (l ∷ leaves) (b ∷ bs) h all =
     let both = each_split (KnowsLine setting known) b.lines (lines_in bs) all in
     let own = readings_known setting known b.lines both.0 in
     ((h.0.made own.readings own.read).good known own.knows, leaves_known setting known leaves bs h.1 both.1)
+
+-- A tree that is made of the leaves of blocks takes no more steps than it may at a book's opening.
+pub leaves_work : (setting : Setting) (leaves : List Leaf) (bs : List Block) (before now : ℕ) → AllZip (λ (l : Leaf) (b : Block). IsLeafOf setting l b.lines) leaves bs
+    → ((carriers limit : ℕ) (known : List Needle) → AreGoodFor carriers limit known leaves → now ≤ before + 3 * most_items carriers limit (length known) * length leaves)
+    → now ≤ before + start_limit setting (length bs) (lines_in bs)
+leaves_work setting leaves bs before now h steps =
+    let known : List Needle = needles_in setting (lines_in bs) in
+    subst (λ (n : ℕ). now ≤ before + 3 * most_items (length setting.declared) setting.profile.hold (length known) * n) (zip_count (λ (l : Leaf) (b : Block). IsLeafOf setting l b.lines) leaves bs h)
+    (steps (length setting.declared) setting.profile.hold known (leaves_known setting known leaves bs h (lines_known setting (lines_in bs))))
 
 within_limit : (high most : ℕ) → 9 * (high + 2) * most ≤ 16 * (high + 2) * (most + 1)
 within_limit high most = mul-le (9 * (high + 2)) most (16 * (high + 2)) (most + 1) (omega arith) (omega arith)

@@ -1,11 +1,14 @@
+pub mod Asking
 pub mod Books
 pub mod Entered
 pub mod Fitting
 pub mod HeaderTrees
 pub mod Headers
+pub mod Memory
 pub mod Opened
 pub mod Orders
 pub mod Replies
+pub mod Session
 pub mod Turns
 pub mod Verdicts
 pub mod Work

@@ -35,6 +35,10 @@ edit_limit setting blocks lines = 16 * (highest blocks + 2) * (most_items (lengt
 abbrev pub start_limit : Setting → ℕ → List (List ℕ) → ℕ
 start_limit setting blocks lines = 3 * most_items (length setting.declared) setting.profile.hold (length (needles_in setting lines)) * blocks
 
+-- for a copy of a book with this document: the faces are composed anew, as at its opening
+abbrev pub copy_limit : Setting → Document → ℕ
+copy_limit setting d = start_limit setting (length d.blocks) (body d)
+
 -- a setting with other names
 abbrev pub with_names : List (List ℕ) → Setting → Setting
 with_names names setting = record { profile = setting.profile; declared = names; first = setting.first }

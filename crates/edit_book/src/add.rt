@@ -35,24 +35,35 @@ impl Book {
         ensures turned { IsTurn self.old.opening self.old.entries session (request.Add anchor head prepared.text) result self.new.entries }
         ensures steps { steps.new ≤ steps.old + work_limit self.old.opening self.old.entries (request.Add anchor head prepared.text) }
     {
-        if let Some(refusal) = self.refused_anchor(anchor) {
+        if let Some(refusal) = self.refused_add(anchor, head, &prepared) {
             return refusal;
+        }
+        self.add_fitting(session, anchor, self.ids(), head, prepared, steps)
+    }
+
+    /// The refusal of an add, if it is refused.
+    pub(crate) fn refused_add(
+        &self,
+        anchor: Anchor,
+        head: u32,
+        prepared: &Prepared,
+    ) -> Option<Reply>
+        requires { IsPreparedUnder self.now.opening self.now.entries head prepared.now }
+        ensures { result ≡ refusal_of (document self.now) self.now.entries (request.Add anchor head prepared.now.text) }
+    {
+        if let Some(refusal) = self.refused_anchor(anchor) {
+            return Some(refusal);
         }
         if let Some(refusal) = self.refused_head(head) {
-            return refusal;
+            return Some(refusal);
         }
         if let Some(refusal) = self.refused_entries() {
-            return refusal;
+            return Some(refusal);
         }
         if let Some(refusal) = self.refused_blocks() {
-            return refusal;
+            return Some(refusal);
         }
-        let id = self.ids();
-        let lines = self.lines_after_add(anchor, id, &prepared.text);
-        if let Some(refusal) = self.refused_count(lines) {
-            return refusal;
-        }
-        self.add_fitting(session, anchor, id, head, prepared, steps)
+        self.refused_count(self.lines_after_add(anchor, self.ids(), &prepared.text))
     }
 
     // An add that nothing refuses, apart from the others, since a call pays for all values that it may have.

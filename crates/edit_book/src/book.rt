@@ -1,6 +1,7 @@
 //! The book: what it began with, the journal of what was done to it, and the document that follows.
 ghost use Rattle.std.specs.Prelude.{◌≡◌, ◌≢◌, ℕ, ◌+◌, ◌<◌, ◌≤◌, Some, None, IfSome, length, option_map, nat_lt, if◌then◌else◌};
 ghost use Rattle.std.specs.Option.{option_copied};
+ghost use Rattle.knit_base.specs.Limits.{IsLawfulProfile};
 ghost use Rattle.edit_journal.specs.Documents.{block_of, stamp_at, after, body, names_at as names_given_at, text_at as text_given};
 ghost use Rattle.edit_journal.specs.declared.edit.Edit.TheVariants as edit;
 ghost use Rattle.edit_book.specs.Books.{document, state_of, IsLawfulBook};
@@ -71,9 +72,17 @@ impl Book {
 
     /// What the document is read by at its version: the opening's setting, with the names that the header now has.
     pub fn setting(&self) -> &Setting
-        ensures { result.now ≡ setting_of self.now.opening (document self.now) }
+        ensures setting { result.now ≡ setting_of self.now.opening (document self.now) }
+        ensures lawful { IsLawfulProfile result.now.profile }
     {
         &self.header.setting
+    }
+
+    /// The header's stamp: the number of the entry that changed it last, or 0.
+    pub fn header_stamp(&self) -> u32
+        ensures { result ≡ (document self.now).header.stamp }
+    {
+        self.head
     }
 
     /// The header's names at a version; those of now for one that is still to come. Takes no memory.
@@ -136,9 +145,9 @@ impl Book {
         self.journal.get(stamp)?.text_for(block)
     }
 
-    /// How many ids were drawn.
+    /// How many ids were drawn: each block's id is below it.
     #[tactic(auto, using(crate::proofs::Blocks::lawful))]
-    pub(crate) fn ids(&self) -> u32
+    pub fn ids(&self) -> u32
         ensures ids { result ≡ (document self.now).drawn }
         ensures lawful { IsLawfulBook self.now }
         ensures below_head { (document self.now).drawn < head_id }

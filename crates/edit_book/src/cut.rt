@@ -27,16 +27,23 @@ impl Book {
         ensures turned { IsTurn self.old.opening self.old.entries session (request.Cut block seen) result self.new.entries }
         ensures steps { steps.new ≤ steps.old + work_limit self.old.opening self.old.entries (request.Cut block seen) }
     {
-        if let Some(refusal) = self.refused_name(block) {
-            return refusal;
-        }
-        if let Some(refusal) = self.refused_stamp(block, seen) {
-            return refusal;
-        }
-        if let Some(refusal) = self.refused_entries() {
+        if let Some(refusal) = self.refused_cut(block, seen) {
             return refusal;
         }
         self.cut_fitting(session, block, seen, steps)
+    }
+
+    /// The refusal of a cut, if it is refused.
+    pub(crate) fn refused_cut(&self, block: u32, seen: u32) -> Option<Reply>
+        ensures { result ≡ refusal_of (document self.now) self.now.entries (request.Cut block seen) }
+    {
+        if let Some(refusal) = self.refused_name(block) {
+            return Some(refusal);
+        }
+        if let Some(refusal) = self.refused_stamp(block, seen) {
+            return Some(refusal);
+        }
+        self.refused_entries()
     }
 
     // A cut that nothing refuses, apart from the others, since a call pays for all values that it may have.

@@ -7,20 +7,27 @@
 //! the height of the tree, whatever the number of lines, and the loop of a line 14. Sessions share a book by turns, each of which is
 //! right (`specs/Turns`).
 //!
-//! Other names of the header are read into a new tree, which is made first.
+//! Other names of the header are read into a new tree, which is made first. A copy has the same opening and journal, and so answers
+//! the same.
+//!
+//! Beside the book stands what a session remembers of its replies (`sessions`): what its command asks of the book, or the reply that it has
+//! without it, and what it has learned afterwards. The crates above run sessions with it.
 //!
 //! Definitions: `specs/Replies` (what is asked, and the one reply), `specs/Verdicts` (the verdict in short, and the loop of a line; the
 //! verdict itself is defined in `block_summary`, `specs/Verdicts`), `specs/Headers` (the names under which a text was prepared, and what
 //! is kept of the header), `specs/Turns` and `specs/Fitting` (what a turn needs, and that it stays so), `specs/Work` (how many steps a
 //! request may take), `specs/Orders` and `specs/Books` (what contracts see of a book, and what always holds of one), `specs/Opened` (what
 //! is kept of the first blocks), `specs/HeaderTrees` (what is taken of summaries that are handed over) and `specs/Entered` (the state in
-//! which a block begins). Below it stand std, `knit_base`, `carriage_model`, `knitout_reader`, `face_data`, `loop_history`,
-//! `block_summary`, `edit_journal`, `turn_book` and the tree of faces.
+//! which a block begins); `specs/Memory` (what a session remembers, and the answer to its command), `specs/Session` (what it keeps of
+//! that) and `specs/Asking` (what it asks of the header, and is told of it). Below it stand std, `knit_base`, `carriage_model`,
+//! `knitout_reader`, `face_data`, `loop_history`, `block_summary`, `check_workers` (texts that are read anew), `edit_journal`,
+//! `script_reader` (a session's commands), `turn_book` and the tree of faces.
 #![tactic(auto)]
 
 mod add;
 mod block_state;
 mod book;
+mod copy;
 mod cut;
 mod header;
 mod look;
@@ -30,9 +37,11 @@ mod now;
 mod order;
 mod put;
 mod put_head;
+mod refusal;
 mod replies;
 mod reply;
 mod room;
+pub mod sessions;
 mod start;
 mod texts;
 mod turns;

@@ -48,13 +48,55 @@ impl Order {
         self.shape.len()
     }
 
+    /// An order of the same ids. Fails where memory runs out.
+    pub fn try_clone(&self) -> Result<Self, NoMemory>
+        ensures { IfOk result (λ order. order.ids ≡ self.now.ids) }
+    {
+        let shape = Shape::build(*self.ids.allocator(), self.shape.len())?;
+        let ids = self.ids_by_place()?;
+        let leaves = self.places_by_id()?;
+        Ok(Order { shape, ids, leaves })
+    }
+
+    // A table of the ids by their places.
+    fn ids_by_place(&self) -> Result<Vec<Option<u32>>, NoMemory>
+        ensures { IfOk result (λ table. (k : ℕ) → number_at table.items k ≡ slice_get self.now.ids k) }
+    {
+        let mut table = Vec::with_capacity(*self.ids.allocator(), self.len() as usize)?;
+        for at in 0..self.len() {
+            table.push(self.get(at))?;
+        }
+        Ok(table)
+    }
+
+    // A table of the places by the ids.
+    fn places_by_id(&self) -> Result<Vec<Option<u32>>, NoMemory>
+        ensures { IfOk result (λ table. (id : ℕ) → number_at table.items id ≡ position (is_id id) self.now.ids) }
+    {
+        let mut table = Vec::with_capacity(*self.leaves.allocator(), self.leaves.len())?;
+        for id in 0..self.leaves.len() {
+            table.push(self.place(id))?;
+        }
+        Ok(table)
+    }
+
     /// The place of the block with this id.
     pub fn position(&self, id: u32) -> Option<usize>
         ensures { result ≡ position (is_id id) self.now.ids }
     {
+        match self.place(id as usize) {
+            Some(at) => Some(at as usize),
+            None => None,
+        }
+    }
+
+    // The same of any number.
+    fn place(&self, id: usize) -> Option<u32>
+        ensures { result ≡ position (is_id id) self.now.ids }
+    {
         let _len = self.shape.len();
         match found(self.leaves.as_slice(), id) {
-            Some(leaf) => Some(self.shape.position(leaf) as usize),
+            Some(leaf) => Some(self.shape.position(leaf)),
             None => None,
         }
     }
@@ -64,7 +106,7 @@ impl Order {
         ensures { result ≡ slice_get self.now.ids at }
     {
         if at < self.shape.len() {
-            return found(self.ids.as_slice(), self.shape.leaf(at));
+            return found(self.ids.as_slice(), self.shape.leaf(at) as usize);
         }
         None
     }
@@ -102,7 +144,7 @@ impl Order {
     {
         let _len = self.shape.len();
         let leaf = self.shape.remove(at as u32, &mut Dirty::new());
-        if let Some(id) = found(self.ids.as_slice(), leaf) {
+        if let Some(id) = found(self.ids.as_slice(), leaf as usize) {
             set(&mut self.leaves, id, None);
         }
     }
@@ -121,10 +163,10 @@ fn all_below(alloc: Global, count: u32) -> Result<Vec<Option<u32>>, NoMemory>
 }
 
 // What a table has for a number, if anything.
-fn found(table: &[Option<u32>], at: u32) -> Option<u32>
+fn found(table: &[Option<u32>], at: usize) -> Option<u32>
     ensures { result ≡ number_at table.now at }
 {
-    match table.get(at as usize) {
+    match table.get(at) {
         Some(slot) => *slot,
         None => None,
     }

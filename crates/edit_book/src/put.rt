@@ -35,23 +35,36 @@ impl Book {
         ensures steps { steps.new ≤ steps.old + work_limit self.old.opening self.old.entries (request.Put block seen head prepared.text) }
         ensures ready { IsReady self.old block prepared.face → result ≢ Reply.NoMemory }
     {
-        if let Some(refusal) = self.refused_name(block) {
-            return refusal;
-        }
-        if let Some(refusal) = self.refused_stamp(block, seen) {
-            return refusal;
-        }
-        if let Some(refusal) = self.refused_head(head) {
-            return refusal;
-        }
-        if let Some(refusal) = self.refused_entries() {
-            return refusal;
-        }
-        let lines = self.lines_after_put(block, seen, &prepared.text);
-        if let Some(refusal) = self.refused_count(lines) {
+        if let Some(refusal) = self.refused_put(block, seen, head, &prepared) {
             return refusal;
         }
         self.put_fitting(session, block, seen, head, prepared, steps)
+    }
+
+    /// The refusal of a put, if it is refused.
+    pub(crate) fn refused_put(
+        &self,
+        block: u32,
+        seen: u32,
+        head: u32,
+        prepared: &Prepared,
+    ) -> Option<Reply>
+        requires { IsPreparedUnder self.now.opening self.now.entries head prepared.now }
+        ensures { result ≡ refusal_of (document self.now) self.now.entries (request.Put block seen head prepared.now.text) }
+    {
+        if let Some(refusal) = self.refused_name(block) {
+            return Some(refusal);
+        }
+        if let Some(refusal) = self.refused_stamp(block, seen) {
+            return Some(refusal);
+        }
+        if let Some(refusal) = self.refused_head(head) {
+            return Some(refusal);
+        }
+        if let Some(refusal) = self.refused_entries() {
+            return Some(refusal);
+        }
+        self.refused_count(self.lines_after_put(block, seen, &prepared.text))
     }
 
     // A put that nothing refuses, apart from the others, since a call pays for all values that it may have.

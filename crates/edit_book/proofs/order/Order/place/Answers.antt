@@ -2,7 +2,7 @@ use Rattle.std.proofs.Common.{ℕ, List, Option, ap, sym, ◌∙◌, position}
 use Rattle.tree_shape.specs.View.{leaves_of_tree}
 use Rattle.edit_book.specs.Orders.{OrderView, is_id, number_at}
 use Rattle.edit_book.proofs.Orders.{leaves_once, placed, times_place, unplaced}
-use Rattle.edit_book.proofs.order.Order.position.Goals as goal
+use Rattle.edit_book.proofs.order.Order.place.Goals as goal
 
 pub position-requires : goal.position-requires
 position-requires c =
