@@ -1,15 +1,4 @@
 pub mod CoreLaws
-pub mod Entries
-pub mod Histories
-pub mod Orders
-pub mod Longer
-pub mod Made
-pub mod Merge
-pub mod Played
-pub mod Sessions
-pub mod Stamps
-pub mod Asks
 pub mod Takes
-pub mod Names
-pub mod GivenTexts
+pub mod Turns
 pub mod Talked

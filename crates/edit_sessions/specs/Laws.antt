@@ -4,9 +4,10 @@ use Rattle.edit_journal.specs.declared.edit.Entry.{Entry}
 use Rattle.edit_journal.specs.declared.opening.Opening.{Opening}
 use Rattle.script_reader.specs.declared.command.Command.{Command}
 use Rattle.edit_book.specs.declared.reply.Reply.{Reply}
-use Rattle.edit_sessions.specs.Legal as legal
-use Rattle.edit_sessions.specs.Memory.{core, first_memory}
-use Rattle.edit_sessions.specs.Play as play
+use Rattle.turn_book.specs.Legal as legal
+use Rattle.edit_book.specs.Memory.{first_memory}
+use Rattle.edit_sessions.specs.Core.{core}
+use Rattle.turn_book.specs.Interleavings as play
 
 -- the journal and the replies are one legal history of these scripts
 abbrev pub IsLegal : Opening → List (List Command) → List Entry → List (List Reply) → Type 0

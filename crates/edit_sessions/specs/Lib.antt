@@ -1,12 +1,4 @@
 pub mod Core
-pub mod Headers
-pub mod Histories
 pub mod Laws
-pub mod Legal
-pub mod Memory
-pub mod Play
-pub mod Session
 pub mod Shared
-pub mod Taken
 pub mod Talks
-pub mod Walk

@@ -1,9 +1,9 @@
--- Sessions that haven't begun.
-use Rattle.std.specs.Prelude.{◌≡◌, ℕ, ◌+◌, ◌≤◌, List, [], ◌∷◌, length, vec_capacity}
+-- A session that hasn't begun, and the replies of one.
+use Rattle.std.specs.Prelude.{◌≡◌, ℕ, ◌≤◌, List, [], length, vec_capacity}
 use Rattle.edit_journal.specs.declared.opening.Opening.{Opening}
 use Rattle.script_reader.specs.declared.command.Command.{Command}
-use Rattle.edit_sessions.specs.Memory.{first_memory}
-use Rattle.edit_sessions.specs.Session.{HasNames, Remembers}
+use Rattle.edit_book.specs.Memory.{first_memory}
+use Rattle.edit_book.specs.Session.{HasNames, Remembers}
 use Rattle.edit_sessions.specs.declared.talk.Talk.{Talk}
 use Rattle.edit_book.specs.declared.reply.Reply.{Reply}
 
@@ -15,12 +15,6 @@ pub record IsReady (opening : Opening) (n : ℕ) (script : List Command) (talk :
   pub empty : talk.replies.items ≡ []
   pub room : length script ≤ vec_capacity talk.replies
 
--- the same of each of the sessions n, n + 1 and so on
-abbrev pub AreReady : Opening → ℕ → List (List Command) → List Talk → Type 0
-AreReady opening n [] [] = Unit {0}
-AreReady opening n [] (t ∷ ts) = ⊥
-AreReady opening n (c ∷ cs) [] = ⊥
-AreReady opening n (c ∷ cs) (t ∷ ts) = IsReady opening n c t × AreReady opening (n + 1) cs ts
-
+-- the replies that it has had
 abbrev pub replies_of : Talk → List Reply
 replies_of talk = talk.replies.items

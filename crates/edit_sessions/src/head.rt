@@ -1,19 +1,18 @@
 //! The header, as a session's commands read it and give it other names.
-ghost use Rattle.std.specs.Prelude.{◌≡◌, ◌<◌, ◌≤◌, ℕ, List, Some, IfSome};
+ghost use Rattle.std.specs.Prelude.{◌≡◌, ◌<◌, ◌≤◌, ℕ, Some, IfSome};
 ghost use Rattle.knit_base.specs.Limits.{IsLawfulProfile};
 ghost use Rattle.edit_journal.specs.Documents.{names_given};
+ghost use Rattle.edit_book.specs.Memory.{Memory, head_of, head_told, told_by};
 ghost use Rattle.edit_book.specs.Turns.{AreGiven, IsRight};
-ghost use Rattle.edit_sessions.specs.Headers.{ShowsNames};
-ghost use Rattle.edit_sessions.specs.Memory.{Memory, head_of, head_told, told_by};
-ghost use Rattle.edit_sessions.specs.Shared.{opening_of};
-ghost use Rattle.edit_sessions.specs.Taken.{IsTaken, SeesMore};
+ghost use Rattle.edit_sessions.specs.Core.{core};
+ghost use Rattle.edit_sessions.specs.Shared.{opening_of, session_of};
 ghost use Rattle.turn_book.specs.Passes.{IsPassOf, view_of};
+ghost use Rattle.turn_book.specs.Taken.{IsTaken, SeesMore};
 
-use crate::again::summarised;
+use edit_book::sessions::{names_shown, summarised};
 use edit_book::{Book, BookCommand, Reply};
 use edit_journal::TextList;
 use knit_base::{Declared, Setting, Steps};
-use knitout_reader::declared_in;
 use script_reader::Command;
 use std::alloc::Global;
 use std::sync::Wait;
@@ -38,7 +37,7 @@ pub(crate) fn look_head<L: Ledger, R: Threads + Wait>(
     ensures profile { header.new.profile ≡ header.old.profile }
     ensures names { (head : ℕ) → names_given (opening_of shared.now) (view_of pass.old).seen head ≡ Some header.old.declared
         → names_given (opening_of shared.now) (view_of pass.new).seen (head_told (told_by Command.LookHead result) head) ≡ Some header.new.declared }
-    ensures taken { (m : Memory) → IsTaken (opening_of shared.now) number m Command.LookHead result (view_of pass.old) (view_of pass.new) }
+    ensures taken { (m : Memory) → IsTaken (core (opening_of shared.now)) number m Command.LookHead result (view_of pass.old) (view_of pass.new) }
 {
     let reply = shared.turn(rt, pass, number, BookCommand::LookHead, steps);
     match names_shown(alloc, &reply) {
@@ -47,26 +46,6 @@ pub(crate) fn look_head<L: Ledger, R: Threads + Wait>(
             reply
         }
         None => Reply::NoMemory,
-    }
-}
-
-// The names of a header that is shown, if there is memory for them.
-fn names_shown(alloc: Global, reply: &Reply) -> Option<Declared>
-    ensures { IfSome result (λ names. ShowsNames reply.now names) }
-{
-    let Reply::Shown { text, .. } = reply else {
-        return None;
-    };
-    let Some(line) = text.get(0) else {
-        return None;
-    };
-    // A line of 65,535 bytes, which names of a script never make, can't be read. That is told as want of memory, too.
-    if line.len() >= 65_535 {
-        return None;
-    }
-    match declared_in(alloc, line) {
-        Ok(names) => names,
-        Err(_) => None,
     }
 }
 
@@ -92,7 +71,7 @@ pub(crate) fn put_head<L: Ledger, R: Threads + Wait + Sync>(
     ensures profile { header.new.profile ≡ header.old.profile }
     ensures names { names_given (opening_of shared.now) (view_of pass.old).seen seen ≡ Some header.old.declared
         → names_given (opening_of shared.now) (view_of pass.new).seen (head_told (told_by (Command.PutHead declared.now) result) seen) ≡ Some header.new.declared }
-    ensures taken { (m : Memory) → head_of m ≡ seen → IsTaken (opening_of shared.now) number m (Command.PutHead declared.now) result (view_of pass.old) (view_of pass.new) }
+    ensures taken { (m : Memory) → head_of m ≡ seen → IsTaken (core (opening_of shared.now)) number m (Command.PutHead declared.now) result (view_of pass.old) (view_of pass.new) }
 {
     let Ok(names) = declared.try_clone() else {
         return Reply::NoMemory;
@@ -134,7 +113,7 @@ fn all_texts<L: Ledger, R: Wait>(
     requires of_this { IsPassOf shared.now pass.old }
     requires number { ((view_of pass.old).first ≤ number) × (number < (view_of pass.old).past) }
     ensures of_this { IsPassOf shared.now pass.new }
-    ensures more { SeesMore (view_of pass.old) (view_of pass.new) }
+    ensures more { SeesMore session_of (view_of pass.old) (view_of pass.new) }
     ensures given { IfSome result (λ blocks. AreGiven (opening_of shared.now) (view_of pass.new).seen blocks) }
 {
     match shared.turn(rt, pass, number, BookCommand::Texts, steps) {

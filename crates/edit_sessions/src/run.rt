@@ -3,17 +3,19 @@ ghost use Rattle.std.specs.Prelude.{◌≡◌, ◌+◌, ◌<◌, ◌≤◌, ◌^
 ghost use Rattle.std.specs.Thread.{IsSync};
 ghost use Rattle.knit_base.specs.Limits.{IsLawfulProfile};
 ghost use Rattle.edit_journal.specs.declared.opening.Opening.{Opening};
-ghost use Rattle.edit_sessions.specs.Histories.{AreHistories, IsHistory};
+ghost use Rattle.edit_book.specs.Memory.{first_memory};
+ghost use Rattle.edit_sessions.specs.Core.{core};
 ghost use Rattle.edit_sessions.specs.Laws.{IsLegal};
-ghost use Rattle.edit_sessions.specs.Memory.{core, first_memory};
 ghost use Rattle.edit_sessions.specs.Shared.{opening_of, session_of};
-ghost use Rattle.edit_sessions.specs.Talks.{AreReady, IsReady, replies_of};
+ghost use Rattle.edit_sessions.specs.Talks.{IsReady, replies_of};
+ghost use Rattle.turn_book.specs.Histories.{AreHistories, IsHistory};
 ghost use Rattle.turn_book.specs.Journal.{Each, Foreign};
 ghost use Rattle.turn_book.specs.Passes.{IsPassOf, view_of};
+ghost use Rattle.turn_book.specs.Ready.{AreReady};
 
-use crate::session::Session;
 use crate::take::do_command;
 use crate::talk::Talk;
+use edit_book::sessions::Session;
 use edit_book::{Book, Replies, Reply};
 use knit_base::{Declared, NoMemory, Setting};
 use knit_ports::Gate;
@@ -91,7 +93,7 @@ fn begin(
     scripts: &[CommandList],
 ) -> Result<Vec<Talk>, NoMemory>
     requires few { first + length scripts.now ≤ 64 }
-    ensures ready { IfOk result (λ talks. (opening : Opening) → length opening.texts ≡ blocks → opening.setting.declared ≡ declared.now → AreReady opening first scripts.now talks.items) }
+    ensures ready { IfOk result (λ talks. (opening : Opening) → length opening.texts ≡ blocks → opening.setting.declared ≡ declared.now → AreReady (IsReady opening) first scripts.now talks.items) }
     ensures count { IfOk result (λ talks. length talks.items ≡ length scripts.now) }
 {
     let mut talks = Vec::with_capacity(alloc, scripts.len())?;
@@ -153,7 +155,7 @@ pub(crate) fn run<G: Gate + Sync, R: Threads + Wait + Sync>(
     requires setting { (opening_of shared.now).setting ≡ setting.now }
     requires profile { IsLawfulProfile setting.now.profile }
     requires same { length talks.old ≡ length scripts.now }
-    requires ready { AreReady (opening_of shared.now) (view_of pass.old).first scripts.now talks.old }
+    requires ready { AreReady (IsReady (opening_of shared.now)) (view_of pass.old).first scripts.now talks.old }
     ensures of_this { IsPassOf shared.now pass.new }
     ensures range { ((view_of pass.new).first ≡ (view_of pass.old).first) × ((view_of pass.new).past ≡ (view_of pass.old).past) }
     ensures histories { Foreign session_of (view_of pass.old).first (view_of pass.old).past (view_of pass.old).seen → AreHistories (core (opening_of shared.now)) (view_of pass.old).first (view_of pass.new).seen (first_memory (opening_of shared.now)) scripts.now (map replies_of talks.new) }
@@ -178,11 +180,11 @@ pub(crate) fn run<G: Gate + Sync, R: Threads + Wait + Sync>(
     join_mut(
         rt,
         &mut ||
-            requires { IsSync R.row × IsSync G.row × ((opening_of shared.now).setting ≡ setting.now) × IsLawfulProfile setting.now.profile × IsPassOf shared.now right × ((view_of right).first + length others.now ≡ (view_of right).past) × (0 < length others.now) × (length back.now ≡ length others.now) × AreReady (opening_of shared.now) (view_of right).first others.now back.now }
+            requires { IsSync R.row × IsSync G.row × ((opening_of shared.now).setting ≡ setting.now) × IsLawfulProfile setting.now.profile × IsPassOf shared.now right × ((view_of right).first + length others.now ≡ (view_of right).past) × (0 < length others.now) × (length back.now ≡ length others.now) × AreReady (IsReady (opening_of shared.now)) (view_of right).first others.now back.now }
             ensures { IsPassOf shared.entry.now right.exit × ((view_of right.exit).first ≡ (view_of right.entry).first) × ((view_of right.exit).past ≡ (view_of right.entry).past) × (Foreign session_of (view_of right.entry).first (view_of right.entry).past (view_of right.entry).seen → AreHistories (core (opening_of shared.entry.now)) (view_of right.entry).first (view_of right.exit).seen (first_memory (opening_of shared.entry.now)) others.entry.now (map replies_of back.exit.now)) }
         { run(rt, alloc, gate, shared, setting, others, &mut right, back) },
         &mut ||
-            requires { IsSync R.row × IsSync G.row × ((opening_of shared.now).setting ≡ setting.now) × IsLawfulProfile setting.now.profile × IsPassOf shared.now pass.now × ((view_of pass.now).first + length own.now ≡ (view_of pass.now).past) × (0 < length own.now) × (length front.now ≡ length own.now) × AreReady (opening_of shared.now) (view_of pass.now).first own.now front.now }
+            requires { IsSync R.row × IsSync G.row × ((opening_of shared.now).setting ≡ setting.now) × IsLawfulProfile setting.now.profile × IsPassOf shared.now pass.now × ((view_of pass.now).first + length own.now ≡ (view_of pass.now).past) × (0 < length own.now) × (length front.now ≡ length own.now) × AreReady (IsReady (opening_of shared.now)) (view_of pass.now).first own.now front.now }
             ensures { IsPassOf shared.entry.now pass.exit.now × ((view_of pass.exit.now).first ≡ (view_of pass.entry.now).first) × ((view_of pass.exit.now).past ≡ (view_of pass.entry.now).past) × (Foreign session_of (view_of pass.entry.now).first (view_of pass.entry.now).past (view_of pass.entry.now).seen → AreHistories (core (opening_of shared.entry.now)) (view_of pass.entry.now).first (view_of pass.exit.now).seen (first_memory (opening_of shared.entry.now)) own.entry.now (map replies_of front.exit.now)) }
         { run(rt, alloc, gate, shared, setting, own, pass, front) },
     );

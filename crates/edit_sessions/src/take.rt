@@ -1,18 +1,18 @@
 //! One command of a session, carried out on the shared book.
 ghost use Rattle.std.specs.Prelude.{◌≡◌, ◌<◌, ◌≤◌, Some};
-ghost use Rattle.edit_book.specs.Turns.{IsRight};
 ghost use Rattle.knit_base.specs.Limits.{IsLawfulProfile};
 ghost use Rattle.edit_journal.specs.Documents.{names_given};
-ghost use Rattle.edit_sessions.specs.Memory.{Memory, head_told, memory_after, told_by};
-ghost use Rattle.edit_sessions.specs.Session.{HasLearned, HasNames, Remembers};
+ghost use Rattle.edit_book.specs.Memory.{Memory, head_told, memory_after, told_by};
+ghost use Rattle.edit_book.specs.Session.{HasLearned, HasNames, Remembers};
+ghost use Rattle.edit_book.specs.Turns.{IsRight};
+ghost use Rattle.edit_sessions.specs.Core.{core};
 ghost use Rattle.edit_sessions.specs.Shared.{opening_of};
-ghost use Rattle.edit_sessions.specs.Taken.{IsTaken};
 ghost use Rattle.turn_book.specs.Passes.{IsPassOf, view_of};
+ghost use Rattle.turn_book.specs.Taken.{IsTaken};
 
-use crate::ask::ask;
 use crate::head::{look_head, put_head};
-use crate::session::{Learned, Session};
 use block_summary::Draft;
+use edit_book::sessions::{Learned, Session, ask};
 use edit_book::{Book, Reply};
 use knit_base::{Setting, Steps};
 use script_reader::Command;
@@ -46,7 +46,7 @@ pub fn do_command<R: Threads + Wait + Sync>(
     ensures of_this { IsPassOf shared.now pass.new }
     ensures number { session.new.number ≡ session.old.number }
     ensures names { HasNames (opening_of shared.now) (view_of pass.new).seen session.new }
-    ensures taken { (m : Memory) → Remembers session.old m → IsTaken (opening_of shared.now) session.old.number m command.now result (view_of pass.old) (view_of pass.new) }
+    ensures taken { (m : Memory) → Remembers session.old m → IsTaken (core (opening_of shared.now)) session.old.number m command.now result (view_of pass.old) (view_of pass.new) }
     ensures learned { (m : Memory) → Remembers session.old m → Remembers session.new (memory_after m command.now result) }
 {
     let Session {
@@ -56,7 +56,7 @@ pub fn do_command<R: Threads + Wait + Sync>(
         draft,
     } = session;
     header.profile = setting.profile;
-    let reply = if learned.make_room() {
+    let reply = if learned.make_room(1) {
         take::<Brand, R>(
             rt,
             alloc,
@@ -99,7 +99,7 @@ fn take<L: Ledger, R: Threads + Wait + Sync>(
     ensures of_this { IsPassOf shared.now pass.new }
     ensures profile { header.new.profile ≡ header.old.profile }
     ensures names { names_given (opening_of shared.now) (view_of pass.new).seen (head_told (told_by command.now result) learned.now.head) ≡ Some header.new.declared }
-    ensures taken { (m : Memory) → HasLearned learned.now m → IsTaken (opening_of shared.now) number m command.now result (view_of pass.old) (view_of pass.new) }
+    ensures taken { (m : Memory) → HasLearned learned.now m → IsTaken (core (opening_of shared.now)) number m command.now result (view_of pass.old) (view_of pass.new) }
 {
     let mut steps = Steps::<L>::start(rt, blank);
     match command {

@@ -1,6 +1,6 @@
 //! A session and its replies.
-use crate::session::Session;
 use edit_book::Reply;
+use edit_book::sessions::Session;
 
 /// A session with the replies that it has had.
 #[derive(Drop)]

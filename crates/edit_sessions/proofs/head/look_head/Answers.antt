@@ -1,5 +1,5 @@
 use Rattle.edit_book.specs.declared.reply.BookCommand.TheVariants.{LookHead}
-use Rattle.edit_sessions.proofs.Names.{names_later, names_looked}
+use Rattle.edit_sessions.proofs.Turns.{names_later, names_looked}
 use Rattle.edit_sessions.specs.Shared.{opening_of}
 use Rattle.turn_book.specs.Passes.{view_of}
 use Rattle.edit_sessions.proofs.head.look_head.Goals as goal

@@ -5,8 +5,10 @@ use Rattle.edit_book.specs.declared.reply.BookCommand.TheVariants as ask
 use Rattle.edit_book.specs.Replies.{PutHead}
 use Rattle.edit_book.specs.Turns.{AreFitAgain}
 use Rattle.edit_sessions.specs.Shared.{opening_of}
-use Rattle.edit_sessions.proofs.Names.{names_put, names_refused, names_seen}
-use Rattle.edit_sessions.proofs.Takes.{taken_behind, taken_turn}
+use Rattle.edit_sessions.proofs.Turns.{names_put, names_refused, names_seen}
+use Rattle.edit_sessions.specs.Core.{core}
+use Rattle.edit_sessions.proofs.Takes.{taken_turn}
+use Rattle.turn_book.proofs.Takes.{taken_behind}
 use Rattle.turn_book.specs.Passes.{view_of}
 use Rattle.edit_sessions.proofs.head.put_head.Goals as goal
 use Rattle.edit_sessions.proofs.head.put_head.Goals.{in-Accepted, in_default-reply}
@@ -14,7 +16,7 @@ use Rattle.edit_sessions.proofs.head.put_head.Goals.{in-Accepted, in_default-rep
 pub turn-reply-requires-clause-fits : goal.turn-reply-requires-clause-fits
 turn-reply-requires-clause-fits g c = let o = opening_of c.args.shared.now in let seen = (view_of c.all_texts.new.pass).seen in
     subst (λ (names : List (List ℕ)). AreFitAgain o seen names c.in-Ok-summarised.again) (c.in-Ok.ensures ∙ sym c.in-Ok-try_clone.ensures)
-    (c.in-Ok-summarised.ensures o seen c.requires.setting c.in-Some.ensures.given)
+    (c.in-Ok-summarised.ensures.fits o seen c.requires.setting c.in-Some.ensures.given)
 
 pub returns-clause-names : goal.returns-clause-names
 returns-clause-names g c = λ had.
@@ -33,5 +35,5 @@ pub returns-clause-taken : goal.returns-clause-taken
 returns-clause-taken g c = λ m head.
     let o = opening_of c.args.shared.now in let u = view_of c.all_texts.new.pass in let w = view_of c.turn-reply.new.pass in
     let put = command.PutHead c.args.declared.now in
-    taken_behind o c.args.number m put c.turn-reply.result (view_of c.args.pass.now) u w c.all_texts.ensures.more
+    taken_behind (core o) c.args.number m put c.turn-reply.result (view_of c.args.pass.now) u w c.all_texts.ensures.more
     (taken_turn o c.args.number m put c.turn-reply.result u w (ask.PutHead c.args.seen c.in-Ok-try_clone.declared c.in-Ok-summarised.again) _ (λ i. Ok (PutHead (head i) (sym c.in-Ok-try_clone.ensures i))) c.turn-reply.ensures.turned)

@@ -1,5 +1,6 @@
-use Rattle.edit_sessions.proofs.Orders.{legal_has_order}
-use Rattle.edit_sessions.specs.Memory.{core, first_memory}
+use Rattle.turn_book.proofs.Orders.{legal_has_order}
+use Rattle.edit_book.specs.Memory.{first_memory}
+use Rattle.edit_sessions.specs.Core.{core}
 use Rattle.edit_sessions.proofs.CoreLaws.{is_core}
 use Rattle.edit_sessions.proofs.laws.legal_pairs_are_played.Goals as goal
 

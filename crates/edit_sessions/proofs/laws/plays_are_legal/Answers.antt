@@ -1,6 +1,7 @@
 use Rattle.std.specs.Prelude.{⊤}
-use Rattle.edit_sessions.proofs.Orders.{play_is_legal}
-use Rattle.edit_sessions.specs.Memory.{core, first_memory}
+use Rattle.turn_book.proofs.Orders.{play_is_legal}
+use Rattle.edit_book.specs.Memory.{first_memory}
+use Rattle.edit_sessions.specs.Core.{core}
 use Rattle.edit_sessions.proofs.CoreLaws.{is_core}
 use Rattle.edit_sessions.proofs.laws.plays_are_legal.Goals as goal
 

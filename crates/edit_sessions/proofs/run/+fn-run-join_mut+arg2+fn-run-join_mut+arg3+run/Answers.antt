@@ -2,18 +2,21 @@ use Rattle.std.proofs.Common.{rules, ◌≡◌, ◌+◌, ◌<◌, ◌∙◌, ap,
 use Rattle.std.proofs.lemmas.List.{map-append}
 use Rattle.script_reader.specs.declared.command.Command.{Command}
 use Rattle.edit_book.specs.declared.reply.Reply.{Reply}
-use Rattle.edit_sessions.specs.Histories.{AreHistories}
-use Rattle.edit_sessions.specs.Memory.{core, first_memory}
+use Rattle.turn_book.specs.Histories.{AreHistories}
+use Rattle.edit_book.specs.Memory.{first_memory}
+use Rattle.edit_sessions.specs.Core.{core}
 use Rattle.edit_sessions.specs.Shared.{opening_of, session_of}
-use Rattle.edit_sessions.specs.Talks.{AreReady, replies_of}
+use Rattle.edit_sessions.specs.Talks.{IsReady, replies_of}
 use Rattle.turn_book.specs.Journal.{Foreign}
 use Rattle.turn_book.specs.Passes.{view_of}
-use Rattle.edit_sessions.proofs.Talked.{parts_join, ready_split}
+use Rattle.turn_book.specs.Ready.{AreReady}
+use Rattle.turn_book.proofs.Talked.{parts_fresh, parts_join, ready_split}
+use Rattle.edit_sessions.proofs.CoreLaws.{is_core}
 use Rattle.edit_sessions.proofs.run.+fn-run-join_mut+arg2+fn-run-join_mut+arg3+run.Goals as goal
 
 pub join_mut-requires-after_bounds : goal.join_mut-requires-after_bounds
 join_mut-requires-after_bounds g t c κs within = let m : ℕ = 1 in
-    let ready = ready_split (opening_of c.args.shared.now) m (view_of c.args.pass.now).first c.args.scripts.now c.args.talks.now c.requires.ready in
+    let ready = ready_split (IsReady (opening_of c.args.shared.now)) m (view_of c.args.pass.now).first c.args.scripts.now c.args.talks.now c.requires.ready in
     let low = c.split-right.ensures.lower in let up = c.split-right.ensures.upper in let of_this = c.split-right.ensures.of_this in let s = c.split_at.ensures in let r = c.split_at_mut-front.ensures in
     let some : 0 < m = omega arith in
     let less : m < length c.args.scripts.now = search rules in (
@@ -33,7 +36,7 @@ join_mut-requires-after_bounds g t c κs within = let m : ℕ = 1 in
                 rw up (let x = s.back_len in let y = c.requires.range in let z = c.first-at.ensures in omega arith),
                 (let x = s.back_len in omega arith),
                 (let x = s.back_len in let y = r.back_len in let z = c.requires.same in omega arith),
-                rw (s.back, r.back, up) (subst (λ (k : ℕ). AreReady (opening_of c.args.shared.now) (k + m) (drop m c.args.scripts.now) (drop m c.args.talks.now)) (sym c.first-at.ensures) ready.1),
+                rw (s.back, r.back, up) (subst (λ (k : ℕ). AreReady (IsReady (opening_of c.args.shared.now)) (k + m) (drop m c.args.scripts.now) (drop m c.args.talks.now)) (sym c.first-at.ensures) ready.1),
               ),
               search rules,
             ),
@@ -78,7 +81,10 @@ returns-clause-histories g t c = λ fresh. let m : ℕ = 1 in let v = view_of c.
     let rp : r'.past ≡ r.past = search rules in
     let all = (view_of c.newest.new.pass).seen in
     let whole : a ++ b ≡ c.args.scripts.now = rw (s.front, s.back) (take-append-drop m c.args.scripts.now) in
+    let parts = parts_fresh session_of at v l r (let z = c.first-at.ensures in omega arith) (let x = s.back_len in let y = c.requires.range in let z = c.first-at.ensures in omega arith)
+    c.split-right.ensures.lower c.split-right.ensures.upper fresh in
     let d : map replies_of p ++ map replies_of q ≡ map replies_of (p ++ q) = sym (map-append replies_of p q) in
     subst (λ (z : List (List Command) × List (List Reply)). AreHistories (core o) v.first all (first_memory o) z.0 z.1) (λ i. (whole i, d i))
-    (parts_join o m at v l r l' r' (view_of c.join.new.pass) all a b (map replies_of p) (map replies_of q) (ap (λ k. k + m) c.first-at.ensures) c.split-right.ensures.lower c.split-right.ensures.upper s.front_len
-    (let x = s.back_len in let y = c.requires.range in let z = c.first-at.ensures in omega arith) lf lp rf rp left right c.join.ensures.united c.newest.ensures.catches fresh)
+    (parts_join (core o) (is_core o) (first_memory o) at v l r l' r' (view_of c.join.new.pass) all a b (map replies_of p) (map replies_of q) c.split-right.ensures.lower c.split-right.ensures.upper
+    (let x = s.front_len in let z = c.first-at.ensures in omega arith) (let x = s.back_len in let y = c.requires.range in let z = c.first-at.ensures in omega arith) lf lp rf rp
+    (left parts.0) (right parts.1) c.join.ensures.united c.newest.ensures.catches)

@@ -1,10 +1,11 @@
 use Rattle.std.proofs.Common.{rules, ap, sym, subst, ◌≡◌, ◌∙◌, ◌+◌, ◌++◌, ◌∷◌, [], List, take, length}
 use Rattle.std.proofs.lemmas.List.{take_more, length-take}
 use Rattle.script_reader.specs.declared.command.Command.{Command}
-use Rattle.edit_sessions.specs.Talks.{AreReady, IsReady}
+use Rattle.edit_sessions.specs.Talks.{IsReady}
 use Rattle.edit_sessions.specs.declared.talk.Talk.{Talk}
-use Rattle.edit_sessions.proofs.Names.{names_at_start}
-use Rattle.edit_sessions.proofs.Talked.{ready_more}
+use Rattle.edit_book.proofs.NamesKept.{names_at_start}
+use Rattle.turn_book.specs.Ready.{AreReady}
+use Rattle.turn_book.proofs.Talked.{ready_more}
 use Rattle.edit_sessions.proofs.run.begin.Goals as goal
 
 pub loop-i-preserved : goal.loop-i-preserved
@@ -23,6 +24,6 @@ loop-i-preserved c = record {
         room = search rules;
       } in
       let more : take (i + 1) scripts ≡ take i scripts ++ c.index-scripts-i.result ∷ [] = take_more scripts i c.index-scripts-i.result c.loop-i-test.true ∙ ap (λ x. take i scripts ++ x ∷ []) (sym c.index-scripts-i.is) in
-      subst (λ (p : List (List Command) × List Talk). AreReady opening c.args.first p.0 p.1) (λ k. (sym more k, sym c.in_ok-push.ensures.items k))
-      (ready_more opening c.args.first (take i scripts) c.loop-i.talks.items c.index-scripts-i.result made (c.loop-i.invariant.ready opening blocks names) one);
+      subst (λ (p : List (List Command) × List Talk). AreReady (IsReady opening) c.args.first p.0 p.1) (λ k. (sym more k, sym c.in_ok-push.ensures.items k))
+      (ready_more (IsReady opening) c.args.first (take i scripts) c.loop-i.talks.items c.index-scripts-i.result made (c.loop-i.invariant.ready opening blocks names) one);
 }
