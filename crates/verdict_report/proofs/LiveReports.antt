@@ -8,27 +8,39 @@ use Rattle.edit_book.specs.declared.reply.Reply.{Reply}
 use Rattle.block_summary.specs.Verdicts.{broken_line}
 use Rattle.edit_book.specs.Verdicts.{HasVerdict, setting_of}
 use Rattle.verdict_report.specs.VerdictText.{Text}
-use Rattle.verdict_report.specs.LiveText.{IsLiveReport, final_text, journal_text, sessions_text}
-use Rattle.verdict_report.proofs.Chain.{after_three}
+use Rattle.verdict_report.specs.LiveText.{IsEnd, IsLiveReport, final_text, journal_text, sessions_text}
+use Rattle.verdict_report.proofs.Chain.{after_two}
 
--- the replies, the journal and the end were appended in turn, with the verdict on the document and its broken line
-pub told : (opening : Opening) (entries journal : List Entry) (replies sessions : List (List Reply)) (verdict : Verdict) (broken empty first second whole : Text)
+-- what was appended behind a text is the end of a report
+abbrev pub EndsWith : Opening → List Entry → Text → Text → Type 0
+EndsWith opening entries start whole = (end : Text) × (whole ≡ start ++ end) × IsEnd opening entries end
+
+-- the journal and the verdict on the document, with its broken line, were appended in turn
+pub ended : (opening : Opening) (entries journal : List Entry) (verdict : Verdict) (broken start second whole : Text)
     → (let d = document_of opening entries in HasVerdict (setting_of opening d) (body d) verdict)
     → (let d = document_of opening entries in broken ≡ broken_line (setting_of opening d).first (body d) verdict)
-    → empty ≡ [] → sessions ≡ replies → journal ≡ entries
-    → first ≡ empty ++ sessions_text (names_at opening entries) 0 sessions → second ≡ first ++ journal_text journal
-    → whole ≡ second ++ final_text (document_of opening entries).header.names (length entries) broken verdict → IsLiveReport opening entries replies whole
-told opening entries journal replies sessions verdict broken empty first second whole judged is_line none are_replies are_entries one two three =
+    → journal ≡ entries → second ≡ start ++ journal_text journal
+    → whole ≡ second ++ final_text (document_of opening entries).header.names (length entries) broken verdict → EndsWith opening entries start whole
+ended opening entries journal verdict broken start second whole judged is_line are_entries one two =
     let d : Document = document_of opening entries in
     let line : Text = broken_line (setting_of opening d).first (body d) verdict in
-    let a : Text = sessions_text (names_at opening entries) 0 replies in
-    let b : Text = journal_text entries in
-    let c : Text = final_text d.header.names (length entries) line verdict in (
-      b ++ c,
-      after_three empty first second whole a b c
-          (one ∙ ap (λ (rs : List (List Reply)). empty ++ sessions_text (names_at opening entries) 0 rs) are_replies)
-          (two ∙ ap (λ (es : List Entry). first ++ journal_text es) are_entries)
-          (three ∙ ap (λ (t : Text). second ++ final_text d.header.names (length entries) t verdict) is_line)
-          ∙ ap (λ (t : Text). t ++ (a ++ (b ++ c))) none,
+    let a : Text = journal_text entries in
+    let b : Text = final_text d.header.names (length entries) line verdict in (
+      a ++ b,
+      after_two start second whole a b (one ∙ ap (λ (es : List Entry). start ++ journal_text es) are_entries)
+          (two ∙ ap (λ (t : Text). second ++ final_text d.header.names (length entries) t verdict) is_line),
       record { verdict_given = verdict; judged = judged; ended = refl },
     )
+
+-- an end that stands in a text of its own
+pub ended_alone : (opening : Opening) (entries : List Entry) (empty text old new : Text) → empty ≡ [] → EndsWith opening entries empty text → new ≡ old ++ text → EndsWith opening entries old new
+ended_alone opening entries empty text old new none end appended =
+    (end.0, appended ∙ ap (λ (t : Text). old ++ t) (end.1 ∙ ap (λ (t : Text). t ++ end.0) none), end.2)
+
+-- the replies were appended, and behind them the end
+pub told : (opening : Opening) (entries : List Entry) (replies sessions : List (List Reply)) (empty first whole : Text) → empty ≡ [] → sessions ≡ replies
+    → first ≡ empty ++ sessions_text (names_at opening entries) 0 sessions → EndsWith opening entries first whole → IsLiveReport opening entries replies whole
+told opening entries replies sessions empty first whole none are_replies one end =
+    let a : Text = sessions_text (names_at opening entries) 0 replies in
+    let front : first ≡ a = one ∙ ap (λ (rs : List (List Reply)). empty ++ sessions_text (names_at opening entries) 0 rs) are_replies ∙ ap (λ (t : Text). t ++ a) none in
+    (end.0, end.1 ∙ ap (λ (t : Text). t ++ end.0) front, end.2)

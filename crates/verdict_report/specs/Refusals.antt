@@ -1,7 +1,7 @@
 -- The lines of the program's refusals.
 use Rattle.std.specs.Prelude.{ℕ, List, ◌++◌, codes, decimal}
 use Rattle.script_reader.specs.declared.fault.Cause.{Cause}
-use Rattle.script_reader.specs.declared.fault.Cause.TheVariants.{NoLive, BadLine, ManySessions, NoOwn}
+use Rattle.script_reader.specs.declared.fault.Cause.TheVariants.{NoLive, BadLine, ManySessions, NoOwn, NoGroups}
 use Rattle.verdict_report.specs.declared.refusal.Refusal.{Refusal}
 use Rattle.verdict_report.specs.declared.refusal.Refusal.TheVariants.{Usage, ReadFault, TooManyBytes, TooManyLines, TooManyBlocks, NotUtf8, LineLong, BadMagic, NoCarriers, TwoCarriers, CarrierNameTwice, ManyCarriers, BadScript}
 
@@ -19,6 +19,7 @@ cause_word NoLive = codes " NoLive\n"
 cause_word BadLine = codes " BadLine\n"
 cause_word ManySessions = codes " ManySessions\n"
 cause_word NoOwn = codes " NoOwn\n"
+cause_word NoGroups = codes " NoGroups\n"
 
 -- a line of a script that is outside its grammar
 abbrev pub bad_script_line : ℕ → List ℕ → List ℕ

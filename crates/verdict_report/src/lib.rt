@@ -10,6 +10,7 @@
 #![tactic(auto)]
 
 mod as_json;
+mod brief;
 mod carriers;
 mod entries;
 mod json_items;
@@ -20,13 +21,16 @@ mod made;
 mod passes;
 mod refusal;
 mod replies;
+mod sessions;
 mod text;
 
 pub use as_json::{json_of, report_json};
+pub use brief::report_brief;
 pub use entries::report_journal;
-pub use live::{live_of, report_live};
+pub use live::{live_of, report_end, report_live};
 pub use made::made_of;
 pub use passes::{passes_of, report_passes};
 pub use refusal::{Refusal, report_refusal};
 pub use replies::report_reply;
+pub use sessions::report_told;
 pub use text::{report_text, text_of};

@@ -3,10 +3,11 @@ ghost use Rattle.std.specs.Prelude.{◌≡◌, ◌++◌, ◌+◌, ◌≤◌, len
 ghost use Rattle.edit_journal.specs.Documents.{body, document_of};
 ghost use Rattle.block_summary.specs.Verdicts.{broken_line};
 ghost use Rattle.edit_book.specs.Verdicts.{HasVerdict, setting_of};
-ghost use Rattle.verdict_report.specs.LiveText.{IsLiveReport, final_text};
+ghost use Rattle.verdict_report.specs.LiveText.{IsEnd, IsLiveReport, final_text};
 
 use crate::entries::append_journal;
-use crate::replies::{append_sessions, append_verdict};
+use crate::replies::append_verdict;
+use crate::sessions::append_sessions;
 use carriage_model::Verdict;
 use edit_book::{Book, Replies, Reply};
 use knit_base::{NoMemory, Steps, Text};
@@ -81,6 +82,39 @@ fn append_final(
     )
 }
 
+// Appends the journal, and what the document comes to.
+fn append_ending<L: Ledger>(
+    alloc: Global,
+    book: &Book,
+    out: &mut Vec<u8>,
+    steps: &mut Steps<L>,
+) -> Result<(), NoMemory>
+    ensures ok { OnOk result ((text : List ℕ) × (out.new.items ≡ out.old.items ++ text) × IsEnd book.now.opening book.now.entries text) }
+    ensures steps { steps.new ≤ steps.old + 1 }
+{
+    let ending = ending_of(book, steps)?;
+    append_journal(book.journal(), out)?;
+    append_final(alloc, book, &ending, out)
+}
+
+/// Appends the entries of the journal, and the verdict on the document as it is: the end of what `report_live` appends, from the
+/// line that counts the entries on. After `NoMemory` the buffer is as before. It costs a step at most.
+pub fn report_end<L: Ledger>(
+    alloc: Global,
+    book: &Book,
+    out: &mut Vec<u8>,
+    steps: &mut Steps<L>,
+) -> Result<(), NoMemory>
+    ensures ok { OnOk result ((text : List ℕ) × (out.new.items ≡ out.old.items ++ text) × IsEnd book.now.opening book.now.entries text) }
+    ensures err { OnErr result (out.new.items ≡ out.old.items) }
+    ensures steps { steps.new ≤ steps.old + 1 }
+{
+    let mut end = Vec::new(alloc);
+    append_ending(alloc, book, &mut end, steps)?;
+    out.extend_from_slice(&end)?;
+    Ok(())
+}
+
 /// What each session was answered, the journal and the verdict, as `report_live` appends them.
 pub fn live_of<L: Ledger>(
     alloc: Global,
@@ -91,10 +125,8 @@ pub fn live_of<L: Ledger>(
     ensures text { IfOk result (λ text. IsLiveReport book.now.opening book.now.entries replies.now text.items) }
     ensures steps { steps.new ≤ steps.old + 1 }
 {
-    let ending = ending_of(book, steps)?;
     let mut text = Vec::new(alloc);
     append_sessions(alloc, replies.as_slice(), book, &mut text)?;
-    append_journal(book.journal(), &mut text)?;
-    append_final(alloc, book, &ending, &mut text)?;
+    append_ending(alloc, book, &mut text, steps)?;
     Ok(text)
 }

@@ -77,6 +77,7 @@ fn cause_word(cause: Cause) -> &'static str
         Cause::BadLine => " BadLine\n",
         Cause::ManySessions => " ManySessions\n",
         Cause::NoOwn => " NoOwn\n",
+        Cause::NoGroups => " NoGroups\n",
     }
 }
 

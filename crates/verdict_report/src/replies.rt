@@ -1,34 +1,17 @@
-//! The lines of what sessions were answered.
-ghost use Rattle.std.specs.Prelude.{◌≡◌, ◌+◌, ◌++◌, codes, drop, flat_map, length, map, OnOk, OnErr};
+//! The lines of a reply.
+ghost use Rattle.std.specs.Prelude.{◌≡◌, ◌+◌, ◌++◌, codes, drop, flat_map, length, OnOk, OnErr};
 ghost use Rattle.carriage_model.specs.FactList.{lent_fact};
-ghost use Rattle.edit_journal.specs.Documents.{names_at};
 ghost use Rattle.edit_book.specs.declared.reply.Reply.TheVariants as reply;
-ghost use Rattle.verdict_report.specs.VerdictText.{brief_text, end_text, labelled};
-ghost use Rattle.verdict_report.specs.LiveText.{accepted_text, at_block, barred, block_name_text, block_text, fact_text, full_text, numbered_reply, replies_text, reply_text, session_text, sessions_text, shown_text, stale_text, told_reply, version_named, which_word};
+ghost use Rattle.verdict_report.specs.VerdictText.{end_text, labelled};
+ghost use Rattle.verdict_report.specs.LiveText.{accepted_text, at_block, barred, block_name_text, block_text, fact_text, full_text, reply_text, shown_text, stale_text, which_word};
 
-use crate::text::{
-    append_broken_brief, append_end, append_labelled, append_loop, append_sound_brief,
-};
+use crate::brief::append_brief;
+use crate::text::{append_end, append_labelled, append_loop};
 use carriage_model::{Brief, FactRef, LoopFact, Verdict};
-use edit_book::{Book, Reply, Which};
+use edit_book::{Reply, Which};
 use edit_journal::{BlockName, HEAD};
 use knit_base::{Declared, Lines, NoMemory, append_number};
 use std::alloc::Global;
-
-// Appends a verdict in short.
-fn append_brief(brief: Brief, out: &mut Vec<u8>) -> Result<(), NoMemory>
-    ensures { OnOk result (out.new.items ≡ out.old.items ++ brief_text brief) }
-{
-    match brief {
-        Brief::Sound {
-            lines,
-            made,
-            held,
-            rack,
-        } => append_sound_brief(lines, made, u64::from(held), rack, out),
-        Brief::Broken(fault) => append_broken_brief(fault, out),
-    }
-}
 
 // Appends a block as a session names it.
 fn append_block_name(name: BlockName, out: &mut Vec<u8>) -> Result<(), NoMemory>
@@ -285,8 +268,8 @@ fn append_no_memory(out: &mut Vec<u8>) -> Result<(), NoMemory>
     Ok(())
 }
 
-// Appends a reply, with these names of carriers. A list of texts is no session's reply, and nothing is appended for it.
-fn append_reply(
+/// Appends a reply, with these names of carriers. A list of texts is no session's reply, and nothing is appended for it.
+pub(crate) fn append_reply(
     alloc: Global,
     reply: &Reply,
     declared: &Declared,
@@ -362,75 +345,5 @@ pub fn report_reply(
     let mut text = Vec::new(alloc);
     append_reply(alloc, reply, declared, &mut text)?;
     out.extend_from_slice(&text)?;
-    Ok(())
-}
-
-// The version whose names a reply is told with. One that names no carrier is told with any.
-fn version_named(reply: &Reply) -> u32
-    ensures { result ≡ version_named reply.now }
-{
-    match reply {
-        Reply::Loop { version, .. } | Reply::Now { version, .. } => *version,
-        _ => 0,
-    }
-}
-
-// Appends a reply with its number. Its carriers have the names that the header had at its version.
-fn append_numbered(
-    alloc: Global,
-    number: u64,
-    reply: &Reply,
-    book: &Book,
-    out: &mut Vec<u8>,
-) -> Result<(), NoMemory>
-    ensures { OnOk result (out.new.items ≡ out.old.items ++ numbered_reply (names_at book.now.opening book.now.entries) number reply.now) }
-{
-    append_number(number, out)?;
-    out.extend_from_slice(b" ")?;
-    append_reply(alloc, reply, book.names_at(version_named(reply)), out)
-}
-
-// Appends the replies to a session.
-fn append_replies(
-    alloc: Global,
-    replies: &[Reply],
-    book: &Book,
-    out: &mut Vec<u8>,
-) -> Result<(), NoMemory>
-    ensures { OnOk result (out.new.items ≡ out.old.items ++ replies_text (names_at book.now.opening book.now.entries) 1 replies.now) }
-{
-    for (i, reply) in replies.iter().enumerate() {
-        append_numbered(alloc, i as u64 + 1, reply, book, out)?;
-    }
-    Ok(())
-}
-
-// Appends a session's number and its replies.
-fn append_session(
-    alloc: Global,
-    session: u64,
-    replies: &[Reply],
-    book: &Book,
-    out: &mut Vec<u8>,
-) -> Result<(), NoMemory>
-    ensures { OnOk result (out.new.items ≡ out.old.items ++ session_text (names_at book.now.opening book.now.entries) session replies.now) }
-{
-    append_labelled("session ", session, out)?;
-    out.extend_from_slice(b"\n")?;
-    append_replies(alloc, replies, book, out)
-}
-
-/// Appends what each session was answered. The sessions are numbered from 0, the replies to each from 1.
-pub(crate) fn append_sessions(
-    alloc: Global,
-    sessions: &[Vec<Reply>],
-    book: &Book,
-    out: &mut Vec<u8>,
-) -> Result<(), NoMemory>
-    ensures { OnOk result (out.new.items ≡ out.old.items ++ sessions_text (names_at book.now.opening book.now.entries) 0 (map (λ list. list.items) sessions.now)) }
-{
-    for (session, replies) in sessions.iter().enumerate() {
-        append_session(alloc, session as u64, replies, book, out)?;
-    }
     Ok(())
 }

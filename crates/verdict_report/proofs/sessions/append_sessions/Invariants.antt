@@ -1,7 +1,7 @@
 use Rattle.std.proofs.Common.{◌≡◌, ◌++◌, drop, map}
 use Rattle.edit_journal.specs.Documents.{names_at}
 use Rattle.verdict_report.specs.LiveText.{sessions_text}
-use Rattle.verdict_report.proofs.replies.append_sessions.Given as goal
+use Rattle.verdict_report.proofs.sessions.append_sessions.Given as goal
 
 abbrev pub invariant-loop-session : goal.invariant-loop-session
 invariant-loop-session l =

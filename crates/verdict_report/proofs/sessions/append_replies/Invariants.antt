@@ -1,7 +1,7 @@
 use Rattle.std.proofs.Common.{◌≡◌, ◌+◌, ◌++◌, drop}
 use Rattle.edit_journal.specs.Documents.{names_at}
 use Rattle.verdict_report.specs.LiveText.{replies_text}
-use Rattle.verdict_report.proofs.replies.append_replies.Given as goal
+use Rattle.verdict_report.proofs.sessions.append_replies.Given as goal
 
 abbrev pub invariant-loop-i : goal.invariant-loop-i
 invariant-loop-i l = l.out.items ++ replies_text (names_at l.book.opening l.book.entries) (l.i + 1) (drop l.i l.replies) ≡ l.fn.out.items ++ replies_text (names_at l.book.opening l.book.entries) 1 l.replies
