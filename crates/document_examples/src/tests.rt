@@ -3,6 +3,9 @@ ghost use Rattle.std.specs.Prelude.{IsTrue};
 ghost use Rattle.knit_base.specs.Lines.{IsLine};
 
 mod book;
+mod copy;
+mod group_book;
+mod groups;
 mod journal;
 mod limit;
 mod opening;

@@ -1,5 +1,5 @@
 //! A book from its opening on, by worked examples.
-ghost use Rattle.std.specs.Prelude.{◌≡◌, ◌+◌, ◌<◌, ◌≤◌, IfOk, length};
+ghost use Rattle.std.specs.Prelude.{◌≡◌, ◌+◌, ◌<◌, ◌≤◌, [], IfOk, length};
 ghost use Rattle.knit_base.specs.Limits.{IsLawfulProfile};
 ghost use Rattle.block_summary.specs.Prepared.{IsPreparedFor};
 
@@ -85,9 +85,14 @@ fn setting(alloc: Global) -> Setting
 }
 
 // A book that begins with the first of these lines as its one block.
-fn opened<L: Ledger>(alloc: Global, to: u32, steps: &mut Steps<L>) -> Result<Book, NoMemory>
+pub(super) fn opened<L: Ledger>(
+    alloc: Global,
+    to: u32,
+    steps: &mut Steps<L>,
+) -> Result<Book, NoMemory>
     requires { to ≤ 6 }
-    ensures { IfOk result (λ book. IsLawfulProfile book.opening.setting.profile) }
+    ensures profile { IfOk result (λ book. IsLawfulProfile book.opening.setting.profile) }
+    ensures entries { IfOk result (λ book. book.entries ≡ []) }
 {
     let setting = setting(alloc);
     let block = prepared(alloc, 0, to, &setting, steps)?;
@@ -96,7 +101,7 @@ fn opened<L: Ledger>(alloc: Global, to: u32, steps: &mut Steps<L>) -> Result<Boo
     Book::start(alloc, setting, blocks, steps)
 }
 
-fn sound(lines: u32, made: u32, held: u32) -> Brief {
+pub(super) fn sound(lines: u32, made: u32, held: u32) -> Brief {
     Brief::Sound {
         lines,
         made,
@@ -106,7 +111,7 @@ fn sound(lines: u32, made: u32, held: u32) -> Brief {
 }
 
 // Each reply is handed over, so that it is dropped where it is looked at.
-fn is_accepted(reply: Reply, at: u32, id: u32, verdict: Brief) -> bool {
+pub(super) fn is_accepted(reply: Reply, at: u32, id: u32, verdict: Brief) -> bool {
     match reply {
         Reply::Accepted {
             version,
@@ -118,7 +123,7 @@ fn is_accepted(reply: Reply, at: u32, id: u32, verdict: Brief) -> bool {
 }
 
 // Whether some of these lines are accepted as block 0, which makes this version, with this verdict.
-fn puts<L: Ledger>(
+pub(super) fn puts<L: Ledger>(
     alloc: Global,
     book: &mut Book,
     from: u32,
@@ -265,7 +270,7 @@ fn misses_anchor<L: Ledger>(alloc: Global, book: &mut Book, steps: &mut Steps<L>
 }
 
 // Whether one of these lines is accepted as a new block, with this version and id.
-fn adds<L: Ledger>(
+pub(super) fn adds<L: Ledger>(
     alloc: Global,
     book: &mut Book,
     anchor: Anchor,
@@ -470,7 +475,7 @@ fn is_made(reply: Reply, at: u32, line: u32, through: &[u32]) -> bool {
 }
 
 // Whether the line makes a loop of the first carrier on the needle, at this version, drawn through those of these lines.
-fn tells_loop<L: Ledger>(
+pub(super) fn tells_loop<L: Ledger>(
     book: &Book,
     at: u32,
     line: u32,

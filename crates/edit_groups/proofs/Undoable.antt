@@ -1,0 +1,36 @@
+-- What can be undone, as steps are accepted.
+use Rattle.std.proofs.Common.{◌≡◌, ◌≢◌, ℕ, ◌+◌, ◌-◌, ◌<◌, ◌≤◌, Bool, true, false, cond, eqb, eq-eqb, ne_eqb, List, [], ◌∷◌, ◌++◌, length, map, Option, Some, None, sym, ap, ◌∙◌, refl, subst, arith, append-nil, length-append}
+use Rattle.std.proofs.lemmas.Grind.{flat_map-append}
+use Rattle.std.proofs.lemmas.List.{length-map}
+use Rattle.edit_journal.specs.declared.edit.Edit.{Edit}
+use Rattle.edit_journal.specs.declared.edit.Entry.{Entry}
+use Rattle.edit_groups.specs.Chunks.{Undoable, entries_by, entries_of, undoable, undoable_from, undoable_in}
+use Rattle.edit_groups.specs.declared.chunk.Chunk.{Chunk}
+
+-- the journal of steps and more steps
+pub entries_append : (xs ys : List Chunk) → entries_of (xs ++ ys) ≡ entries_of xs ++ entries_of ys
+entries_append xs ys = flat_map-append (λ (c : Chunk). entries_by c.session c.edits) xs ys
+
+pub entries_push : (xs : List Chunk) (c : Chunk) → entries_of (xs ++ c ∷ []) ≡ entries_of xs ++ entries_by c.session c.edits
+entries_push xs c = entries_append xs (c ∷ []) ∙ ap (λ (l : List Entry). entries_of xs ++ l) (append-nil (entries_by c.session c.edits))
+
+pub length_by : (session : ℕ) (edits : List Edit) → length (entries_by session edits) ≡ length edits
+length_by session edits = let entry : Edit → Entry = λ e. record { session = session; edit = e } in length-map edits entry
+
+-- what can be undone behind one more step
+undoable_behind : (session number : ℕ) (found : Option Undoable) (xs : List Chunk) (c : Chunk)
+    → undoable_from session number found (xs ++ c ∷ []) ≡ cond (eqb c.session session) (undoable_in (number + length (entries_of xs)) c.edits) (undoable_from session number found xs)
+undoable_behind session number found [] c = ap (λ (n : ℕ). cond (eqb c.session session) (undoable_in n c.edits) found) (omega arith)
+undoable_behind session number found (x ∷ xs) c =
+    undoable_behind session (number + length x.edits) (cond (eqb x.session session) (undoable_in number x.edits) found) xs c
+    ∙ ap (λ (n : ℕ). cond (eqb c.session session) (undoable_in n c.edits) (undoable_from session number found (x ∷ xs)))
+    (omega (arith, length-append (entries_by x.session x.edits) (entries_of xs), length_by x.session x.edits))
+
+pub undoable_push : (session : ℕ) (xs : List Chunk) (c : Chunk) → undoable session (xs ++ c ∷ []) ≡ cond (eqb c.session session) (undoable_in (length (entries_of xs) + 1) c.edits) (undoable session xs)
+undoable_push session xs c = undoable_behind session 1 None xs c ∙ ap (λ (n : ℕ). cond (eqb c.session session) (undoable_in n c.edits) (undoable session xs)) (omega arith)
+
+pub undoable_own : (session : ℕ) (xs : List Chunk) (c : Chunk) → c.session ≡ session → undoable session (xs ++ c ∷ []) ≡ undoable_in (length (entries_of xs) + 1) c.edits
+undoable_own session xs c is = undoable_push session xs c ∙ ap (λ (b : Bool). cond b (undoable_in (length (entries_of xs) + 1) c.edits) (undoable session xs)) (eq-eqb c.session session is)
+
+pub undoable_other : (session : ℕ) (xs : List Chunk) (c : Chunk) → c.session ≢ session → undoable session (xs ++ c ∷ []) ≡ undoable session xs
+undoable_other session xs c isnt = undoable_push session xs c ∙ ap (λ (b : Bool). cond b (undoable_in (length (entries_of xs) + 1) c.edits) (undoable session xs)) (ne_eqb c.session session isnt)

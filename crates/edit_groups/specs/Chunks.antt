@@ -1,0 +1,46 @@
+-- Accepted steps, and the journal that they make.
+use Rattle.std.specs.Prelude.{ℕ, ◌+◌, ◌==◌, if◌then◌else◌, List, [], ◌∷◌, length, map, flat_map, Option, Some, None}
+use Rattle.edit_journal.specs.declared.edit.Edit.{Edit}
+use Rattle.edit_journal.specs.declared.edit.Edit.TheVariants as edit
+use Rattle.edit_journal.specs.declared.edit.Entry.{Entry}
+use Rattle.edit_groups.specs.declared.chunk.Chunk.{Chunk}
+
+-- the entries that these edits of a session leave
+abbrev pub entries_by : ℕ → List Edit → List Entry
+entries_by session edits = map (λ e. record { session = session; edit = e }) edits
+
+-- the journal of these steps: their edits in order
+abbrev pub entries_of : List Chunk → List Entry
+entries_of chunks = flat_map (λ c. entries_by c.session c.edits) chunks
+
+-- the step that leaves these edits, if there are some
+abbrev pub chunk_of : ℕ → List Edit → Option Chunk
+chunk_of session [] = None
+chunk_of session (e ∷ es) = Some (record { session = session; edits = e ∷ es })
+
+-- a put or an add that can be undone, and the number of its entry
+pub record Undoable : Type 0 where
+  pub number : ℕ
+  pub edit : Edit
+
+-- a put or an add, the entry with this number, can be undone
+abbrev pub undoable_edit : ℕ → Edit → Option Undoable
+undoable_edit number (edit.Put block seen text) = Some (record { number = number; edit = edit.Put block seen text })
+undoable_edit number (edit.Add anchor block text) = Some (record { number = number; edit = edit.Add anchor block text })
+undoable_edit number (edit.Cut block seen) = None
+undoable_edit number (edit.Head seen names) = None
+
+-- what can be undone of a step whose first entry has this number: its edit, where it is one alone
+abbrev pub undoable_in : ℕ → List Edit → Option Undoable
+undoable_in number [] = None
+undoable_in number (e ∷ []) = undoable_edit number e
+undoable_in number (e ∷ next ∷ more) = None
+
+-- what can be undone of the last of these steps that the session made, where the first entry of these steps has this number, or else what was found before
+abbrev pub undoable_from : ℕ → ℕ → Option Undoable → List Chunk → Option Undoable
+undoable_from session number found [] = found
+undoable_from session number found (c ∷ cs) = undoable_from session (number + length c.edits) (if c.session == session then undoable_in number c.edits else found) cs
+
+-- what can be undone of the session's last step
+abbrev pub undoable : ℕ → List Chunk → Option Undoable
+undoable session chunks = undoable_from session 1 None chunks

@@ -1,0 +1,10 @@
+pub mod Answers
+pub mod Carried
+pub mod Chunks
+pub mod Fitting
+pub mod Groups
+pub mod Laws
+pub mod Sessions
+pub mod Shared
+pub mod Talks
+pub mod Turns

@@ -1,0 +1,43 @@
+-- A session that hasn't begun, the replies of one, and what the replies of several say of the steps that are known after them.
+use Rattle.std.specs.Prelude.{◌≡◌, ℕ, ◌≤◌, true, false, List, [], length, map, vec_capacity}
+use Rattle.std.specs.List.{list_all}
+use Rattle.edit_journal.specs.declared.opening.Opening.{Opening}
+use Rattle.script_reader.specs.Groups.{is_lawful_step}
+use Rattle.script_reader.specs.declared.step.Step.{Step}
+use Rattle.edit_book.specs.Memory.{first_memory}
+use Rattle.edit_book.specs.Session.{HasNames, Remembers}
+use Rattle.edit_groups.specs.Sessions.{Heard, core}
+use Rattle.edit_groups.specs.declared.chunk.Chunk.{Chunk}
+use Rattle.edit_groups.specs.declared.reply.GroupReply.{GroupReply}
+use Rattle.edit_groups.specs.declared.talk.Talk.{Talk}
+use Rattle.turn_book.specs.Histories.{AreHistories, IsHistory}
+
+-- session n at its start, with no reply, and with room for one to each step of its script
+pub record IsReady (opening : Opening) (n : ℕ) (script : List Step) (talk : Talk) : Type 0 where
+  pub number : talk.session.session.number ≡ n
+  pub remembers : Remembers talk.session.session (first_memory opening)
+  pub names : HasNames opening [] talk.session.session
+  pub last : talk.session.last_put ≡ false
+  pub empty : talk.replies.items ≡ []
+  pub room : length script ≤ vec_capacity talk.replies
+  pub lawful : list_all is_lawful_step script ≡ true
+
+-- the replies that it has had
+abbrev pub replies_of : Talk → List GroupReply
+replies_of talk = talk.replies.items
+
+-- the replies alone
+abbrev pub replies_in : List Heard → List GroupReply
+replies_in heard = map (λ h. h.reply) heard
+
+-- session n has heard these replies to its steps; of the steps that are known after them just those are its own that they left
+pub record IsHeardAlong (opening : Opening) (n : ℕ) (known : List Chunk) (script : List Step) (replies : List GroupReply) : Type 0 where
+  pub heard : List Heard
+  pub replies_are : replies ≡ replies_in heard
+  pub history : IsHistory (core opening) n known (first_memory opening) script heard
+
+-- the same of each of the sessions n, n + 1 and so on
+pub record AreHeard (opening : Opening) (n : ℕ) (known : List Chunk) (scripts : List (List Step)) (replies : List (List GroupReply)) : Type 0 where
+  pub heard : List (List Heard)
+  pub replies_are : replies ≡ map replies_in heard
+  pub histories : AreHistories (core opening) n known (first_memory opening) scripts heard

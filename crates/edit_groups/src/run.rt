@@ -1,0 +1,199 @@
+//! The sessions of a script of groups, each in a thread of its own.
+ghost use Rattle.std.specs.Prelude.{◌≡◌, ◌+◌, ◌<◌, ◌≤◌, ◌^◌, [], true, IfOk, length, map, vec_capacity};
+ghost use Rattle.std.specs.List.{list_all};
+ghost use Rattle.std.specs.Thread.{IsSync};
+ghost use Rattle.knit_base.specs.Limits.{IsLawfulProfile};
+ghost use Rattle.edit_journal.specs.declared.opening.Opening.{Opening};
+ghost use Rattle.script_reader.specs.Groups.{is_lawful_step};
+ghost use Rattle.edit_groups.specs.Sessions.{IsLegalRun};
+ghost use Rattle.edit_groups.specs.Shared.{opening_of, session_of};
+ghost use Rattle.edit_groups.specs.Talks.{AreHeard, IsHeardAlong, IsReady, replies_of};
+ghost use Rattle.turn_book.specs.Journal.{Foreign};
+ghost use Rattle.turn_book.specs.Passes.{IsPassOf, view_of};
+ghost use Rattle.turn_book.specs.Ready.{AreReady};
+
+use crate::book::GroupBook;
+use crate::replies::GroupReplies;
+use crate::reply::GroupReply;
+use crate::session::{GroupSession, do_step};
+use crate::talk::Talk;
+use edit_book::sessions::Session;
+use knit_base::{Declared, NoMemory, Setting};
+use knit_ports::Gate;
+use script_reader::{Step, StepList};
+use std::alloc::Global;
+use std::sync::Wait;
+use std::thread::{Threads, join_mut};
+use turn_book::{Pass, Shared};
+
+/// Runs the sessions of a pass's numbers beside each other, one list of steps each, and gives the replies to each.
+///
+/// All sessions are started, and room for each reply is made, before the first step; want of memory is answered only until then, and the
+/// pass is then dropped. It may wait for as long as the gate, or other threads that hold the turn.
+pub fn run_groups<G: Gate + Sync, R: Threads + Wait + Sync>(
+    rt: &R,
+    alloc: Global,
+    gate: &G,
+    shared: &Shared<GroupBook>,
+    setting: &Setting,
+    blocks: u32,
+    scripts: &[StepList],
+    mut pass: Pass<GroupBook>,
+) -> Result<(Pass<GroupBook>, GroupReplies), NoMemory>
+    requires of_this { IsPassOf shared.now pass }
+    requires range { (view_of pass).first + length scripts.now ≡ (view_of pass).past }
+    requires setting { (opening_of shared.now).setting ≡ setting.now }
+    requires profile { IsLawfulProfile setting.now.profile }
+    requires blocks { length (opening_of shared.now).texts ≡ blocks }
+    requires steps { list_all (list_all is_lawful_step) scripts.now ≡ true }
+    ensures of_this { IfOk result (λ r. IsPassOf shared.now r.0) }
+    ensures range { IfOk result (λ r. ((view_of r.0).first ≡ (view_of pass).first) × ((view_of r.0).past ≡ (view_of pass).past)) }
+    ensures heard { Foreign session_of (view_of pass).first (view_of pass).past (view_of pass).seen → IfOk result (λ r. AreHeard (opening_of shared.now) (view_of pass).first (view_of r.0).seen scripts.now r.1) }
+    ensures legal { (view_of pass).first ≡ 0 → (view_of pass).past ≡ (view_of pass).count → (view_of pass).seen ≡ [] → IfOk result (λ r. IsLegalRun (opening_of shared.now) scripts.now (view_of r.0).seen r.1) }
+{
+    let mut talks = begin(alloc, pass.first(), blocks, &setting.declared, scripts)?;
+    let lists = Vec::with_capacity(alloc, scripts.len())?;
+    if scripts.is_empty() {
+        return Ok((pass, GroupReplies::of(lists)));
+    }
+    run(
+        rt,
+        alloc,
+        gate,
+        shared,
+        setting,
+        scripts,
+        &mut pass,
+        talks.as_mut_slice(),
+    );
+    shared.newest(&mut pass);
+    Ok((pass, GroupReplies::of(into_replies(talks, lists))))
+}
+
+// The replies of each session, in lists for which there is room.
+fn into_replies(talks: Vec<Talk>, mut lists: Vec<Vec<GroupReply>>) -> Vec<Vec<GroupReply>>
+    requires empty { lists.items ≡ [] }
+    requires room { length talks.items ≤ vec_capacity lists }
+    ensures { map (λ list. list.items) result.items ≡ map replies_of talks.items }
+{
+    for talk in talks {
+        let Talk {
+            session: _,
+            replies,
+        } = talk;
+        lists.push_reserved(replies);
+    }
+    lists
+}
+
+// The sessions at their start, with room for their replies.
+fn begin(
+    alloc: Global,
+    first: u32,
+    blocks: u32,
+    declared: &Declared,
+    scripts: &[StepList],
+) -> Result<Vec<Talk>, NoMemory>
+    requires few { first + length scripts.now ≤ 64 }
+    requires steps { list_all (list_all is_lawful_step) scripts.now ≡ true }
+    ensures ready { IfOk result (λ talks. (opening : Opening) → length opening.texts ≡ blocks → opening.setting.declared ≡ declared.now → AreReady (IsReady opening) first scripts.now talks.items) }
+    ensures count { IfOk result (λ talks. length talks.items ≡ length scripts.now) }
+{
+    let mut talks = Vec::with_capacity(alloc, scripts.len())?;
+    for i in 0..scripts.len() {
+        let session = GroupSession {
+            session: Session::start(alloc, first + i as u32, blocks, declared)?,
+            last_put: false,
+        };
+        let replies = Vec::with_capacity(alloc, scripts[i].len() as usize)?;
+        talks.push(Talk { session, replies })?;
+    }
+    Ok(talks)
+}
+
+// One session, step by step.
+fn talk<G: Gate, R: Threads + Wait + Sync>(
+    rt: &R,
+    alloc: Global,
+    gate: &G,
+    shared: &Shared<GroupBook>,
+    setting: &Setting,
+    script: &[Step],
+    pass: &mut Pass<GroupBook>,
+    talk: &mut Talk,
+)
+    requires of_this { IsPassOf shared.now pass.old }
+    requires range { (view_of pass.old).past ≡ (view_of pass.old).first + 1 }
+    requires setting { (opening_of shared.now).setting ≡ setting.now }
+    requires profile { IsLawfulProfile setting.now.profile }
+    requires short { length script.now < 2 ^ 32 }
+    requires ready { IsReady (opening_of shared.now) (view_of pass.old).first script.now talk.old }
+    ensures of_this { IsPassOf shared.now pass.new }
+    ensures range { ((view_of pass.new).first ≡ (view_of pass.old).first) × ((view_of pass.new).past ≡ (view_of pass.old).past) }
+    ensures heard { Foreign session_of (view_of pass.old).first (view_of pass.old).past (view_of pass.old).seen → IsHeardAlong (opening_of shared.now) (view_of pass.old).first (view_of pass.new).seen script.now (replies_of talk.new) }
+{
+    let Talk { session, replies } = talk;
+    let number = pass.first();
+    for i in 0..script.len() {
+        gate.before(rt, number, i as u32);
+        let reply = do_step(rt, alloc, shared, pass, setting, session, &script[i]);
+        gate.after(rt, number, i as u32);
+        replies.push_reserved(reply);
+    }
+    shared.rest();
+}
+
+// Each session in a thread of its own. Each thread starts that of the session behind it, and waits for its end: so the threads end one
+// after the other, when no session runs any more.
+pub(crate) fn run<G: Gate + Sync, R: Threads + Wait + Sync>(
+    rt: &R,
+    alloc: Global,
+    gate: &G,
+    shared: &Shared<GroupBook>,
+    setting: &Setting,
+    scripts: &[StepList],
+    pass: &mut Pass<GroupBook>,
+    talks: &mut [Talk],
+)
+    requires of_this { IsPassOf shared.now pass.old }
+    requires range { (view_of pass.old).first + length scripts.now ≡ (view_of pass.old).past }
+    requires some { 0 < length scripts.now }
+    requires setting { (opening_of shared.now).setting ≡ setting.now }
+    requires profile { IsLawfulProfile setting.now.profile }
+    requires same { length talks.old ≡ length scripts.now }
+    requires ready { AreReady (IsReady (opening_of shared.now)) (view_of pass.old).first scripts.now talks.old }
+    ensures of_this { IsPassOf shared.now pass.new }
+    ensures range { ((view_of pass.new).first ≡ (view_of pass.old).first) × ((view_of pass.new).past ≡ (view_of pass.old).past) }
+    ensures heard { Foreign session_of (view_of pass.old).first (view_of pass.old).past (view_of pass.old).seen → AreHeard (opening_of shared.now) (view_of pass.old).first (view_of pass.new).seen scripts.now (map replies_of talks.new) }
+{
+    if scripts.len() < 2 {
+        talk(
+            rt,
+            alloc,
+            gate,
+            shared,
+            setting,
+            scripts[0].as_slice(),
+            pass,
+            &mut talks[0],
+        );
+        return;
+    }
+    let at = pass.first() + 1;
+    let mut right = shared.split(pass, at);
+    let (own, others) = scripts.split_at(1);
+    let (front, back) = talks.split_at_mut(1);
+    join_mut(
+        rt,
+        &mut ||
+            requires { IsSync R.row × IsSync G.row × ((opening_of shared.now).setting ≡ setting.now) × IsLawfulProfile setting.now.profile × IsPassOf shared.now right × ((view_of right).first + length others.now ≡ (view_of right).past) × (0 < length others.now) × (length back.now ≡ length others.now) × AreReady (IsReady (opening_of shared.now)) (view_of right).first others.now back.now }
+            ensures { IsPassOf shared.entry.now right.exit × ((view_of right.exit).first ≡ (view_of right.entry).first) × ((view_of right.exit).past ≡ (view_of right.entry).past) × (Foreign session_of (view_of right.entry).first (view_of right.entry).past (view_of right.entry).seen → AreHeard (opening_of shared.entry.now) (view_of right.entry).first (view_of right.exit).seen others.entry.now (map replies_of back.exit.now)) }
+        { run(rt, alloc, gate, shared, setting, others, &mut right, back) },
+        &mut ||
+            requires { IsSync R.row × IsSync G.row × ((opening_of shared.now).setting ≡ setting.now) × IsLawfulProfile setting.now.profile × IsPassOf shared.now pass.now × ((view_of pass.now).first + length own.now ≡ (view_of pass.now).past) × (0 < length own.now) × (length front.now ≡ length own.now) × AreReady (IsReady (opening_of shared.now)) (view_of pass.now).first own.now front.now }
+            ensures { IsPassOf shared.entry.now pass.exit.now × ((view_of pass.exit.now).first ≡ (view_of pass.entry.now).first) × ((view_of pass.exit.now).past ≡ (view_of pass.entry.now).past) × (Foreign session_of (view_of pass.entry.now).first (view_of pass.entry.now).past (view_of pass.entry.now).seen → AreHeard (opening_of shared.entry.now) (view_of pass.entry.now).first (view_of pass.exit.now).seen own.entry.now (map replies_of front.exit.now)) }
+        { run(rt, alloc, gate, shared, setting, own, pass, front) },
+    );
+    shared.join(pass, right);
+    shared.newest(pass);
+}

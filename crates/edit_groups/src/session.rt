@@ -1,0 +1,102 @@
+//! A session of steps, and one step of it on the shared book.
+ghost use Rattle.std.specs.Prelude.{◌≡◌, ◌<◌, ◌≤◌, true};
+ghost use Rattle.knit_base.specs.Limits.{IsLawfulProfile};
+ghost use Rattle.script_reader.specs.Groups.{is_lawful_step};
+ghost use Rattle.edit_book.specs.Memory.{Memory};
+ghost use Rattle.edit_book.specs.Session.{HasNames, Remembers};
+ghost use Rattle.edit_groups.specs.Chunks.{entries_of};
+ghost use Rattle.edit_groups.specs.Shared.{opening_of};
+ghost use Rattle.edit_groups.specs.Turns.{IsDone};
+ghost use Rattle.turn_book.specs.Passes.{IsPassOf, view_of};
+
+mod group;
+mod header;
+mod learn;
+mod one;
+mod undo;
+
+use crate::book::GroupBook;
+use crate::reply::GroupReply;
+use crate::session::group::do_group;
+use crate::session::one::do_one;
+use crate::session::undo::do_undo;
+use edit_book::sessions::Session;
+use knit_base::{Setting, Steps};
+use script_reader::Step;
+use std::alloc::Global;
+use std::marker::Brand;
+use std::sync::Wait;
+use std::sync::ledger::{Blank, Ledger};
+use std::thread::Threads;
+use turn_book::{Pass, Shared};
+
+/// A session, and whether its last accepted step put a text into a block: then an undo of it puts the older text back.
+#[derive(Drop)]
+pub(crate) struct GroupSession {
+    pub session: Session,
+    pub last_put: bool,
+}
+
+/// Carries out one step of a session on a shared book, and remembers what the reply tells.
+///
+/// The texts of a step are prepared before the turn is taken, and room for what its reply can tell is made before that: where there is
+/// none, the reply is want of memory, and no turn is taken. It may wait for as long as other threads hold the turn.
+pub(crate) fn do_step<R: Threads + Wait + Sync>(
+    rt: &R,
+    alloc: Global,
+    shared: &Shared<GroupBook>,
+    pass: &mut Pass<GroupBook>,
+    setting: &Setting,
+    session: &mut GroupSession,
+    step: &Step,
+) -> GroupReply
+    requires of_this { IsPassOf shared.now pass.old }
+    requires number { ((view_of pass.old).first ≤ session.old.session.number) × (session.old.session.number < (view_of pass.old).past) }
+    requires setting { (opening_of shared.now).setting ≡ setting.now }
+    requires profile { IsLawfulProfile setting.now.profile }
+    requires step { is_lawful_step step.now ≡ true }
+    requires names { HasNames (opening_of shared.now) (entries_of (view_of pass.old).seen) session.old.session }
+    ensures of_this { IsPassOf shared.now pass.new }
+    ensures number { session.new.session.number ≡ session.old.session.number }
+    ensures done { (m : Memory) → Remembers session.old.session m → IsDone (opening_of shared.now) m step.now result (view_of pass.old) (view_of pass.new) session.old session.new }
+{
+    session.session.header.profile = setting.profile;
+    carry_out::<Brand, R>(rt, alloc, Blank::new(1), shared, pass, session, step)
+}
+
+// The steps are counted by nobody.
+fn carry_out<L: Ledger, R: Threads + Wait + Sync>(
+    rt: &R,
+    alloc: Global,
+    blank: Blank,
+    shared: &Shared<GroupBook>,
+    pass: &mut Pass<GroupBook>,
+    session: &mut GroupSession,
+    step: &Step,
+) -> GroupReply
+    requires blank { (blank.name ≡ L.name) × (blank.parts ≡ L.parts) × (0 < L.parts) }
+    requires of_this { IsPassOf shared.now pass.old }
+    requires number { ((view_of pass.old).first ≤ session.old.session.number) × (session.old.session.number < (view_of pass.old).past) }
+    requires setting { (opening_of shared.now).setting.profile ≡ session.old.session.header.profile }
+    requires profile { IsLawfulProfile session.old.session.header.profile }
+    requires step { is_lawful_step step.now ≡ true }
+    requires names { HasNames (opening_of shared.now) (entries_of (view_of pass.old).seen) session.old.session }
+    ensures of_this { IsPassOf shared.now pass.new }
+    ensures number { session.new.session.number ≡ session.old.session.number }
+    ensures done { (m : Memory) → Remembers session.old.session m → IsDone (opening_of shared.now) m step.now result (view_of pass.old) (view_of pass.new) session.old session.new }
+{
+    let mut steps = Steps::<L>::start(rt, blank);
+    match step {
+        Step::One(command) => do_one(rt, alloc, shared, pass, session, command, &mut steps),
+        Step::Group(commands) => do_group(
+            rt,
+            alloc,
+            shared,
+            pass,
+            session,
+            commands.as_slice(),
+            &mut steps,
+        ),
+        Step::Undo => do_undo(rt, shared, pass, session, &mut steps),
+    }
+}
