@@ -13,14 +13,17 @@ use Rattle.machine_profile.specs.declared.Chosen.{Chosen}
 use Rattle.machine_profile.specs.declared.Options.{Options}
 use Rattle.machine_profile.specs.Bounds.{IsChosen}
 use Rattle.command_words.specs.declared.command.Command.{Command}
-use Rattle.command_words.specs.declared.command.Command.TheVariants.{Check, Text, Passes, Live, Make}
+use Rattle.command_words.specs.declared.command.Command.TheVariants.{Check, Text, Passes, Live, Groups, Make}
 use Rattle.command_words.specs.Request.{request_of}
 use Rattle.script_reader.specs.declared.command.Command.TheVariants.{Verdict}
 use Rattle.script_reader.specs.declared.command.Script.{Script}
+use Rattle.script_reader.specs.declared.step.GroupScript.{GroupScript}
+use Rattle.script_reader.specs.declared.step.Step.TheVariants.{One, Undo}
+use Rattle.script_reader.specs.Groups.{IsGroupScript}
 use Rattle.script_reader.specs.Script.{IsScript}
-use Rattle.script_reader.proofs.LawfulScripts.{first_true, second_true}
+use Rattle.script_reader.proofs.Bools.{first_true, second_true}
 use Rattle.input_answers.specs.Asked.{Ask}
-use Rattle.check_main.specs.Complete.{Gives, IsFile, IsFileThatFits, IsScriptThatFits, IsUnhindered}
+use Rattle.check_main.specs.Complete.{Gives, IsFile, IsFileThatFits, IsGroupScriptThatFits, IsScriptThatFits, IsUnhindered}
 use Rattle.check_main.specs.Top.{SinkUse, SourceUse}
 
 abbrev no_options : Options
@@ -105,6 +108,37 @@ plays = record {
 
 free_live : (text : List ℕ) → IsUnhindered (codes "live" ∷ []) Live usual live_file (giving live_file) (taking text)
 free_live text = record { asked = asks _ _ refl; within = plays; given = λ reads. gives live_file (omega arith); no_fault = λ rose. omega (arith, rose) }
+
+-- one session asks for the verdict and for an undo
+abbrev groups_file : List ℕ
+groups_file = codes "groups 1\n|;!knitout-2\n|;;Carriers: 1\n|drop f1\nsession\nverdict\nundo\n"
+
+abbrev groups_lines : List (List ℕ)
+groups_lines = codes "groups 1" ∷ codes "|;!knitout-2" ∷ codes "|;;Carriers: 1" ∷ codes "|drop f1" ∷ codes "session" ∷ codes "verdict" ∷ codes "undo" ∷ []
+
+groups_cut : lines_of groups_file ≡ groups_lines
+groups_cut = refl
+
+abbrev groups_script : GroupScript
+groups_script = record { text = codes ";!knitout-2" ∷ codes ";;Carriers: 1" ∷ codes "drop f1" ∷ []; sessions = (One Verdict ∷ Undo ∷ []) ∷ [] }
+
+groups_spelt : IsGroupScript groups_lines groups_script
+groups_spelt = record { begun = refl; said = refl; few = omega arith; known = refl; groups = refl }
+
+groups_play : IsGroupScriptThatFits 64 groups_file
+groups_play = record {
+  script = groups_script;
+  head = record { lines = 2; declared = codes "1" ∷ [] };
+  has = record {
+    good = subst (All IsGoodLine) (sym groups_cut) (all_good groups_lines refl);
+    spelt = subst (λ (ls : List (List ℕ)). IsGroupScript ls groups_script) (sym groups_cut) groups_spelt;
+    head_is = record { len = refl; names = refl };
+  };
+  fits = record { lines = omega arith; blocks = omega arith };
+}
+
+free_groups : (text : List ℕ) → IsUnhindered (codes "groups" ∷ []) Groups usual groups_file (giving groups_file) (taking text)
+free_groups text = record { asked = asks _ _ refl; within = groups_play; given = λ reads. gives groups_file (omega arith); no_fault = λ rose. omega (arith, rose) }
 
 -- one row is made, and nothing is read
 free_make : (text : List ℕ) (source : SourceUse) → IsUnhindered (codes "make" ∷ codes "1" ∷ codes "0" ∷ []) (Make 1 0) usual [] source (taking text)

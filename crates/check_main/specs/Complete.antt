@@ -9,13 +9,15 @@ use Rattle.carriage_model.specs.declared.verdict.Verdict.{Verdict}
 use Rattle.carriage_model.specs.declared.verdict.LoopFact.{LoopFact}
 use Rattle.machine_profile.specs.declared.Chosen.{Chosen}
 use Rattle.command_words.specs.declared.command.Command.{Command}
-use Rattle.command_words.specs.declared.command.Command.TheVariants.{Check, Text, Passes, Live, Make}
+use Rattle.command_words.specs.declared.command.Command.TheVariants.{Check, Text, Passes, Live, Groups, Make}
 use Rattle.script_reader.specs.declared.command.Script.{Script}
+use Rattle.script_reader.specs.declared.step.GroupScript.{GroupScript}
 use Rattle.input_answers.specs.declared.outcome.Status.{Status}
 use Rattle.input_answers.specs.declared.outcome.Status.TheVariants.{Done, NoMemory}
 use Rattle.input_answers.specs.Asked.{Ask, reads_input}
 use Rattle.input_answers.specs.CheckReport.{IsJudged, body_of, status_of}
 use Rattle.input_answers.specs.Due.{Fits, HasHead}
+use Rattle.input_answers.specs.DueGroups.{HasGroupScript}
 use Rattle.input_answers.specs.DueLive.{HasScript}
 use Rattle.check_main.specs.Top.{SinkUse, SourceUse}
 
@@ -36,12 +38,20 @@ pub record IsScriptThatFits (size : ℕ) (input : List ℕ) : Type 0 where
   pub has : HasScript input script head
   pub fits : Fits size (length (body_of script.text))
 
+-- the same of a script of groups
+pub record IsGroupScriptThatFits (size : ℕ) (input : List ℕ) : Type 0 where
+  pub script : GroupScript
+  pub head : Head
+  pub has : HasGroupScript input script head
+  pub fits : Fits size (length (body_of script.text))
+
 -- what the command works on is within the grammars and limits: the input, or the program that is made
 abbrev pub IsWithinLimits : Command → Chosen → List ℕ → Type 0
 IsWithinLimits (Check loops json) chosen input = IsFileThatFits chosen.block input
 IsWithinLimits Text chosen input = IsFile input
 IsWithinLimits Passes chosen input = IsFileThatFits chosen.block input
 IsWithinLimits Live chosen input = IsScriptThatFits chosen.block input
+IsWithinLimits Groups chosen input = IsGroupScriptThatFits chosen.block input
 IsWithinLimits (Make rows start) chosen input = Fits chosen.block (length (body_of (made_lines rows start)))
 
 -- The source had this input left, and told it; the input has at most 16,777,216 bytes. No read failed: the count of faults didn't rise, and isn't
@@ -74,6 +84,7 @@ WasDone (Check loops json) chosen input result = IsStatusOf chosen input result
 WasDone Text chosen input result = result ≡ Done
 WasDone Passes chosen input result = IsStatusOf chosen input result
 WasDone Live chosen input result = result ≡ Done
+WasDone Groups chosen input result = result ≡ Done
 WasDone (Make rows start) chosen input result = result ≡ Done
 
 -- the run ended well: what was asked for was done, or memory ran out, which may always be

@@ -7,13 +7,14 @@ use Rattle.knit_ports.specs.Faults.{Rose}
 use Rattle.knit_ports.specs.Whole.{GaveAtMost, TookFront}
 use Rattle.machine_profile.specs.declared.Chosen.{Chosen}
 use Rattle.command_words.specs.declared.command.Command.{Command}
-use Rattle.command_words.specs.declared.command.Command.TheVariants.{Live, Make}
+use Rattle.command_words.specs.declared.command.Command.TheVariants.{Groups, Live, Make}
 use Rattle.verdict_report.specs.declared.refusal.Refusal.TheVariants as refusal
 use Rattle.verdict_report.specs.Refusals.{refusal_text}
 use Rattle.input_answers.specs.declared.outcome.Status.{Status}
 use Rattle.input_answers.specs.declared.outcome.Status.TheVariants.{Usage, ReadFault, TooLarge, WriteFault, NoMemory}
 use Rattle.input_answers.specs.Asked.{Ask, AreRefused, reads_file, reads_input}
 use Rattle.input_answers.specs.Due.{Due}
+use Rattle.input_answers.specs.DueGroups.{DueGroups}
 use Rattle.input_answers.specs.DueLive.{DueLive}
 use Rattle.input_answers.specs.DueMade.{DueMade}
 use Rattle.input_answers.specs.Played.{Played, nothing_played}
@@ -60,6 +61,10 @@ pub data Called (words : List (List ℕ)) (source : SourceUse) : Played → List
   live : (chosen : Chosen) (input : List ℕ) (played : Played) (text : List ℕ) (status : Status) → Ask words Live chosen
       → Consumes source.left_before source.left_after input → IsAtEnd source.left_after → length input ≤ INPUT_LIMIT
       → DueLive chosen input played text status → Called words source played text status
+  -- a script of groups was read to its end
+  groups : (chosen : Chosen) (input : List ℕ) (played : Played) (text : List ℕ) (status : Status) → Ask words Groups chosen
+      → Consumes source.left_before source.left_after input → IsAtEnd source.left_after → length input ≤ INPUT_LIMIT
+      → DueGroups chosen input played text status → Called words source played text status
   -- the source was read to one byte past the limit
   large : (command : Command) (chosen : Chosen) (input : List ℕ) → Ask words command chosen → reads_input command ≡ true
       → Consumes source.left_before source.left_after input → length input ≡ INPUT_LIMIT + 1

@@ -15,14 +15,25 @@ pub(crate) struct Told {
     pub text: Vec<u8>,
 }
 
-/// The program on a script, over a sink that takes all.
+/// The program on a script of edits, over a sink that takes all.
 pub(crate) fn run_script<R: Threads + Wait + Sync, G: Gate + Sync>(
     rt: &R,
     alloc: Global,
     script: &str,
     gate: &G,
 ) -> Result<Told, Fail> {
-    let words = texts(alloc, &["live"])?;
+    run_words(rt, alloc, &["live"], script, gate)
+}
+
+/// The program with these words on a script, over a sink that takes all.
+pub(crate) fn run_words<R: Threads + Wait + Sync, G: Gate + Sync>(
+    rt: &R,
+    alloc: Global,
+    words: &[&str],
+    script: &str,
+    gate: &G,
+) -> Result<Told, Fail> {
+    let words = texts(alloc, words)?;
     let mut source = CalmSource::of(Vec::from_slice(alloc, script.as_bytes())?);
     let mut sink = MemorySink::of(alloc, 65_536, 65_536, Vec::new(alloc))?;
     let outcome = top(rt, alloc, &words, &mut source, &mut sink, gate);

@@ -13,6 +13,8 @@ mod device_tests;
 #[cfg(test)]
 mod example_tests;
 #[cfg(test)]
+mod group_tests;
+#[cfg(test)]
 mod header_tests;
 #[cfg(test)]
 mod large_tests;

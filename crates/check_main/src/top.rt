@@ -11,7 +11,8 @@ ghost use Rattle.check_main.specs.Top.{Ran, SourceUse, sink_use, source_use};
 
 use command_words::Command;
 use input_answers::{
-    Answer, Outcome, Plan, PlanFault, Status, answer, answer_live, answer_made, plan_of,
+    Answer, Outcome, Plan, PlanFault, Status, answer, answer_groups, answer_live, answer_made,
+    plan_of,
 };
 use knit_base::NoMemory;
 use knit_ports::{Gate, INPUT_LIMIT, InputFault, Sink, Source, read_input, write_report};
@@ -99,7 +100,7 @@ fn carry_out<R: Threads + Wait + Sync, S: Source, G: Gate + Sync>(
         Command::Check { .. } | Command::Text | Command::Passes => {
             answer_source(rt, alloc, plan, source, gate)
         }
-        Command::Live => {
+        Command::Live | Command::Groups => {
             keep_large_pieces(alloc);
             answer_source(rt, alloc, plan, source, gate)
         }
@@ -158,6 +159,7 @@ fn answer_input<R: Threads + Wait + Sync, G: Gate + Sync>(
 {
     match plan.command {
         Command::Live => answer_live(rt, alloc, plan, input, gate),
+        Command::Groups => answer_groups(rt, alloc, plan, input, gate),
         Command::Check { .. } | Command::Text | Command::Passes => {
             let ending = answer(rt, alloc, plan, input)?;
             Ok(Answer::without_sessions(alloc, ending))

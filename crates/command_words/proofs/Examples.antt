@@ -3,7 +3,7 @@ use Rattle.std.proofs.Common.{◌≡◌, refl, [], ◌∷◌, Option, Some, None
 use Rattle.std.specs.Prelude.{negsuc}
 use Rattle.machine_profile.specs.declared.Options.{Options}
 use Rattle.command_words.specs.declared.command.Command.{Command}
-use Rattle.command_words.specs.declared.command.Command.TheVariants.{Check, Live, Make}
+use Rattle.command_words.specs.declared.command.Command.TheVariants.{Check, Live, Groups, Make}
 use Rattle.command_words.specs.declared.command.Request.{Request}
 use Rattle.command_words.specs.Grammar.{Flag, Json, Low, Place, Setting, items_of}
 use Rattle.command_words.specs.Request.{request_of}
@@ -83,6 +83,9 @@ make_late_start = refl
 
 make_hold : request_of (codes "make" ∷ codes "2" ∷ codes "5" ∷ codes "--hold" ∷ codes "3" ∷ []) ≡ None
 make_hold = refl
+
+groups_block : request_of (codes "groups" ∷ codes "--block" ∷ codes "1" ∷ []) ≡ asks Groups (record usual { block = Some (pos 1) })
+groups_block = refl
 
 live_json : request_of (codes "live" ∷ codes "--json" ∷ []) ≡ None
 live_json = refl

@@ -5,7 +5,7 @@ use Rattle.std.specs.List.{list_all, list_any}
 use Rattle.std.specs.Str.{bytes_eq}
 use Rattle.machine_profile.specs.declared.Options.{Options}
 use Rattle.command_words.specs.declared.command.Command.{Command}
-use Rattle.command_words.specs.declared.command.Command.TheVariants.{Check, Text, Passes, Live, Make}
+use Rattle.command_words.specs.declared.command.Command.TheVariants.{Check, Text, Passes, Live, Groups, Make}
 use Rattle.command_words.specs.declared.command.Request.{Request}
 use Rattle.command_words.specs.Grammar.{Item, Name, Low, High, Rack, Hold, Block, Float, Loops, Json, all_names}
 use Rattle.command_words.specs.Grammar.{are_distinct, begins_with_hyphen, items_of, names_in, places_in, value_in}
@@ -68,6 +68,7 @@ is_allowed (Check loops json) name = true
 is_allowed Text name = is_limit name
 is_allowed Passes name = is_limit name || is_block name
 is_allowed Live name = is_limit name || is_block name
+is_allowed Groups name = is_limit name || is_block name
 is_allowed (Make rows start) name = is_block name
 
 -- each option and flag that stands goes with the command
@@ -80,7 +81,8 @@ command_of_word loops json word =
     if bytes_eq word (codes "check") then Some (Check loops json) else
     if bytes_eq word (codes "text") then Some Text else
     if bytes_eq word (codes "passes") then Some Passes else
-    if bytes_eq word (codes "live") then Some Live else None
+    if bytes_eq word (codes "live") then Some Live else
+    if bytes_eq word (codes "groups") then Some Groups else None
 
 -- the command of three words, `make` with 1 to 20,000 rows and a start from 0 to 2,147,483,647
 abbrev pub make_of_words : List ℕ → List ℕ → List ℕ → Option Command
@@ -102,6 +104,7 @@ IsLawfulCommand (Check loops json) = ⊤
 IsLawfulCommand Text = ⊤
 IsLawfulCommand Passes = ⊤
 IsLawfulCommand Live = ⊤
+IsLawfulCommand Groups = ⊤
 
 -- the command that the positional words name
 abbrev pub command_of_words : Bool → Bool → List (List ℕ) → Option Command

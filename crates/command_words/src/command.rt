@@ -12,6 +12,8 @@ pub enum Command {
     Passes,
     /// Runs a script of edits.
     Live,
+    /// Runs a script of edits, of groups of edits and of undos.
+    Groups,
     /// Makes a program of 1 to 20,000 rows, from the start that its transfers are drawn from (0 to 2,147,483,647).
     Make { rows: u32, start: u32 },
 }

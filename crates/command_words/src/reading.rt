@@ -31,6 +31,8 @@ fn plain_command(word: &str, loops: bool, json: bool) -> Option<Command>
         Some(Command::Passes)
     } else if word == "live" {
         Some(Command::Live)
+    } else if word == "groups" {
+        Some(Command::Groups)
     } else {
         None
     }
@@ -105,7 +107,7 @@ fn is_allowed(command: Command, given: &Given<'_>) -> bool
     match command {
         Command::Check { .. } => true,
         Command::Text => given.block.is_none() && !has_flag,
-        Command::Passes | Command::Live => !has_flag,
+        Command::Passes | Command::Live | Command::Groups => !has_flag,
         Command::Make { .. } => !has_limit(given) && !has_flag,
     }
 }

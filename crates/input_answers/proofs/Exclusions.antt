@@ -1,5 +1,5 @@
 -- What is refused of an input excludes what is lawful.
-use Rattle.std.proofs.Common.{◌≡◌, inl, inr, ⊎_elim, ℕ, ◌∷◌, ◌++◌, List, [], length, Some, Ok, Err, All, sym, subst, ◌∙◌, arith, append_assoc, length-append}
+use Rattle.std.proofs.Common.{◌≡◌, inl, inr, ℕ, ◌∷◌, ◌++◌, List, [], length, Some, Ok, Err, All, sym, subst, ◌∙◌, arith, length-append}
 use Rattle.std.proofs.lemmas.Bool.{false≢true}
 use Rattle.std.proofs.Math.Seq.{get_or-append_seam}
 use Rattle.line_cutter.specs.declared.fault.CutFault.{CutFault}
@@ -9,12 +9,6 @@ use Rattle.knitout_reader.specs.declared.head.Head.{Head}
 use Rattle.knitout_reader.specs.declared.head.HeadFault.{HeadFault}
 use Rattle.knitout_reader.specs.declared.head.HeadFault.TheVariants as head
 use Rattle.knitout_reader.specs.Head.{IsHead, IsHeadFault}
-use Rattle.script_reader.specs.declared.command.Script.{Script}
-use Rattle.script_reader.specs.declared.fault.Cause.{Cause}
-use Rattle.script_reader.specs.declared.fault.ScriptFault.TheVariants.{At}
-use Rattle.script_reader.specs.Script.{BeginNoScript, IsRefusal, IsScript, LacksHeader}
-use Rattle.script_reader.proofs.Said.{lacks_not_read}
-use Rattle.script_reader.proofs.Scripts.{is_read, only_script}
 use Rattle.verdict_report.specs.declared.refusal.Refusal.{Refusal}
 use Rattle.input_answers.specs.Due.{Fits, IsSizeRefusal, cut_refusal, head_refusal}
 
@@ -45,19 +39,3 @@ head-not_bad lines is_head head.NoMemory said is bad tells = cc
 pub fits-not_large : (size count : ℕ) (said : Refusal) → Fits size count → IsSizeRefusal size count said → ⊥
 fits-not_large size count said fits (inl lines) = omega (arith, fits.lines, lines.1)
 fits-not_large size count said fits (inr blocks) = omega (arith, fits.blocks, blocks.2)
-
--- lines that spell a script are refused for none
-pub script-not_bad : (lines : List (List ℕ)) (script : Script) (line : ℕ) (cause : Cause) → IsScript lines script → IsRefusal lines (At line cause) → ⊥
-script-not_bad lines script line cause is (inl bad) = bad.none script is
-script-not_bad lines script line cause is (inr bad) =
-    let here : IsScript (bad.first ∷ bad.before ++ bad.line ∷ bad.after) script = subst (λ (ls : List (List ℕ)). IsScript ls script) bad.lines_are is in
-    ⊎_elim
-    (λ (ends : BeginNoScript (bad.first ∷ bad.before ++ bad.line ∷ [])).
-    ends bad.after script (subst (λ (ls : List (List ℕ)). IsScript ls script) (sym (append_assoc (bad.first ∷ bad.before) (bad.line ∷ []) bad.after)) here))
-    (λ (lacks : LacksHeader bad.line bad.after).
-    lacks_not_read bad.first bad.before bad.line bad.after script lacks (is_read (bad.first ∷ bad.before ++ bad.line ∷ bad.after) script here))
-    bad.ends
-
--- they spell no other
-pub script-only : (lines : List (List ℕ)) (script other : Script) → IsScript lines script → IsScript lines other → other ≡ script
-script-only lines script other is also = only_script lines script other (is_read lines script is) also

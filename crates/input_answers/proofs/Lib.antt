@@ -1,11 +1,13 @@
 pub mod Asks
 pub mod BlockCounts
-pub mod BookLoops
 pub mod BodyListings
 pub mod BodyRuns
+pub mod BookLoops
 pub mod Dues
 pub mod Exclusions
 pub mod Fronts
+pub mod GroupDues
+pub mod GroupScripts
 pub mod ListedRuns
 pub mod LiveDues
 pub mod MadeDues

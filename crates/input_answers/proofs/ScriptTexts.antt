@@ -8,17 +8,17 @@ use Rattle.script_reader.specs.Script.{IsScript, says_something, session_stateme
 use Rattle.script_reader.specs.Statements.{Statement, Text, statements_of}
 use Rattle.script_reader.proofs.Said.{short_statements, text_len}
 
-abbrev IsShort : Statement → Type 0
+abbrev pub IsShort : Statement → Type 0
 IsShort statement = text_len statement < 65535
 
-abbrev IsShortLine : List ℕ → Type 0
+abbrev pub IsShortLine : List ℕ → Type 0
 IsShortLine line = length line < 65535
 
-short_line : (line : List ℕ) → IsGoodLine line → IsShortLine line
+pub short_line : (line : List ℕ) → IsGoodLine line → IsShortLine line
 short_line line good = omega (arith, good.short)
 
 -- the texts in front
-in_front : (texts : List (List ℕ)) (more : List Statement) → All IsShort (map Text texts ++ more) → All (λ (line : List ℕ). length line < 65535) texts
+pub in_front : (texts : List (List ℕ)) (more : List Statement) → All IsShort (map Text texts ++ more) → All (λ (line : List ℕ). length line < 65535) texts
 in_front [] more all = All-nil (λ (line : List ℕ). length line < 65535)
 in_front (t ∷ ts) more all =
     All-cons (λ (line : List ℕ). length line < 65535) t ts (All-head IsShort (Text t) (map Text ts ++ more) all) (in_front ts more (All-tail IsShort (Text t) (map Text ts ++ more) all))

@@ -5,6 +5,7 @@ use Rattle.verdict_report.specs.declared.refusal.Refusal.{Refusal}
 use Rattle.verdict_report.specs.Refusals.{refusal_text}
 use Rattle.input_answers.specs.declared.ending.Answer.{Answer}
 use Rattle.input_answers.specs.declared.outcome.Status.{Status}
+use Rattle.input_answers.specs.DueGroups.{DueGroups}
 use Rattle.input_answers.specs.DueLive.{DueLive}
 use Rattle.input_answers.specs.Played.{nothing_played, played_by}
 
@@ -17,3 +18,7 @@ pub record Refuses (said : Refusal) (status : Status) (answer : Answer) : Type 0
 -- the answer is due for this script, with these limits
 abbrev pub IsDueLive : Chosen → List ℕ → Answer → Type 0
 IsDueLive chosen input answer = DueLive chosen input (played_by answer.outcome) answer.text.items answer.outcome.status
+
+-- the same for a script of groups
+abbrev pub IsDueGroups : Chosen → List ℕ → Answer → Type 0
+IsDueGroups chosen input answer = DueGroups chosen input (played_by answer.outcome) answer.text.items answer.outcome.status

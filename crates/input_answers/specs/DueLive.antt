@@ -1,5 +1,5 @@
 -- What is due for a script that was read whole: what its sessions did, the text and the status.
-use Rattle.std.specs.Prelude.{◌≡◌, ◌<◌, ◌≤◌, ℕ, List, [], ◌∷◌, length, All, Some}
+use Rattle.std.specs.Prelude.{◌≡◌, ◌<◌, ◌≤◌, ℕ, List, [], ◌∷◌, length, All, None, Some}
 use Rattle.std.specs.List.{flat_map}
 use Rattle.knit_base.specs.Lines.{lines_of}
 use Rattle.line_cutter.specs.declared.fault.CutFault.{CutFault}
@@ -62,5 +62,5 @@ pub data DueLive (chosen : Chosen) (input : List ℕ) : Played → List ℕ → 
   -- on the document at its end.
   edited : (head : Head) (opening : Opening) (played : Played) (text : List ℕ) → HasScript input played.script head
       → Fits chosen.block (length (body_of played.script.text)) → IsOpening chosen head played.script.text opening
-      → IsLegal opening played.script.sessions played.entries played.replies → IsLiveReport opening played.entries played.replies text
+      → IsLegal opening played.script.sessions played.entries played.replies → played.groups ≡ None → IsLiveReport opening played.entries played.replies text
       → DueLive chosen input played text status.Done

@@ -4,8 +4,10 @@ pub mod BodyRun
 pub mod CheckReport
 pub mod Codes
 pub mod Due
+pub mod DueGroups
 pub mod DueLive
 pub mod DueMade
+pub mod GroupsText
 pub mod ListingRun
 pub mod Openings
 pub mod PassesReport

@@ -2,7 +2,7 @@
 //!
 //! Promises that the text and the status of an answer are those that are due: for a file whose verdict, canonical text or passes are
 //! asked for (`specs/Due`), for a made program (`specs/DueMade`), and for a script, whose sessions edit one document, each in a thread of
-//! its own (`specs/DueLive`). What the words ask for is in `specs/Asked`. No source is touched here, and no sink. Below it stand all
+//! its own (`specs/DueLive`, and `specs/DueGroups` where it has groups of edits and undos). What the words ask for is in `specs/Asked`. No source is touched here, and no sink. Below it stand all
 //! crates of the project but `check_main`.
 #![tactic(auto)]
 
@@ -11,6 +11,8 @@ mod body;
 mod by_book;
 mod ending;
 mod front;
+mod group_report;
+mod groups;
 mod judge;
 mod listed_run;
 mod live;
@@ -29,10 +31,11 @@ mod usual;
 
 pub use answers::{answer, answer_by_lines};
 pub use ending::{Answer, Ending};
+pub use groups::answer_groups;
 pub use judge::Style;
 pub use live::answer_live;
 pub use made::answer_made;
 pub use one_pass::check_in_one_pass;
-pub use outcome::{Outcome, Status};
+pub use outcome::{GroupOutcome, Outcome, Status};
 pub use plan::{Plan, PlanFault, plan_of, reads_file};
 pub use text_pass::text_in_one_pass;

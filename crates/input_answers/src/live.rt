@@ -116,8 +116,8 @@ fn answer_headed<R: Threads + Wait + Sync, G: Gate + Sync>(
     }
 }
 
-// How many lines stand behind the head.
-fn body_len(text: &Lines, head: &Head) -> u32
+/// How many lines stand behind the head.
+pub(crate) fn body_len(text: &Lines, head: &Head) -> u32
     requires { IsHead text.now head.now }
     ensures { result ≡ length (body_of text.now) }
 {
@@ -151,6 +151,7 @@ fn carry_out<L: Ledger, R: Threads + Wait + Sync, G: Gate + Sync>(
         script,
         journal: book.leave_journal(),
         replies,
+        groups: None,
     };
     Ok(Answer { text, outcome })
 }

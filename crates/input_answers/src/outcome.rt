@@ -3,9 +3,10 @@ ghost use Rattle.std.specs.Prelude.{◌≡◌};
 ghost use Rattle.input_answers.specs.Played.{nothing_played, played_by};
 
 use edit_book::Replies;
+use edit_groups::{ChunkList, GroupReplies};
 use edit_journal::Journal;
 use knit_base::{Lines, ListOf};
-use script_reader::Script;
+use script_reader::{GroupScript, Script};
 use std::alloc::Global;
 
 /// How the program ends. Each status has an exit status of its own.
@@ -50,13 +51,23 @@ impl Status {
 }
 
 /// What a run of the program gives: how it ended, and of a script that was carried out the script, the entries of the journal in
-/// which its sessions' edits stand, and the replies to each session. Else these are empty.
+/// which its sessions' edits stand, and the replies to each session. Else these are empty. Of a script of groups that was carried out
+/// `groups` has the like.
 #[derive(Drop)]
 pub struct Outcome {
     pub status: Status,
     pub script: Script,
     pub journal: Journal,
     pub replies: Replies,
+    pub groups: Option<GroupOutcome>,
+}
+
+/// Of a script of groups that was carried out the script, the edits of each step that was accepted, and the replies to each session.
+#[derive(Drop)]
+pub struct GroupOutcome {
+    pub script: GroupScript,
+    pub chunks: ChunkList,
+    pub replies: GroupReplies,
 }
 
 impl Outcome {
@@ -74,6 +85,7 @@ impl Outcome {
             script,
             journal: Journal::new(alloc),
             replies: Replies::of(Vec::new(alloc)),
+            groups: None,
         }
     }
 }

@@ -59,6 +59,6 @@ pub fn reads_file(command: Command) -> bool
 {
     match command {
         Command::Check { .. } | Command::Text | Command::Passes => true,
-        Command::Live | Command::Make { .. } => false,
+        Command::Live | Command::Groups | Command::Make { .. } => false,
     }
 }

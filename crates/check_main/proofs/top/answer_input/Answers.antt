@@ -3,7 +3,7 @@ use Rattle.std.proofs.lemmas.Result.{IfOk-weaker}
 use Rattle.command_words.specs.declared.command.Command.{Command}
 use Rattle.input_answers.specs.Asked.{Ask, reads_file}
 use Rattle.input_answers.specs.Played.{nothing_played, played_by}
-use Rattle.check_main.specs.Top.{live, whole}
+use Rattle.check_main.specs.Top.{groups, live, whole}
 use Rattle.check_main.proofs.Calls.{called-as}
 use Rattle.check_main.proofs.top.answer_input.Goals as goal
 
@@ -14,6 +14,14 @@ returns-in-Live g c =
     live c.args.plan.now.chosen c.args.input.items (played_by answer.outcome) answer.text.items answer.outcome.status
     (subst (λ (x : Command). Ask words x c.args.plan.now.chosen) c.in-Live.is ask) bytes end c.requires.size due)
     c.answer_live.ensures
+
+pub returns-in-Groups : goal.returns-in-Groups
+returns-in-Groups g c =
+    IfOk-weaker c.answer_groups.result _ _
+    (λ answer due words source ask bytes end.
+    groups c.args.plan.now.chosen c.args.input.items (played_by answer.outcome) answer.text.items answer.outcome.status
+    (subst (λ (x : Command). Ask words x c.args.plan.now.chosen) c.in-Groups.is ask) bytes end c.requires.size due)
+    c.answer_groups.ensures
 
 pub returns-in_ok-ending-in-Check : goal.returns-in_ok-ending-in-Check
 returns-in_ok-ending-in-Check g c = λ words source ask bytes end.

@@ -9,7 +9,7 @@ use Rattle.input_answers.proofs.by_book.loops_of.Goals as goal
 pub loop-i-init : goal.loop-i-init
 loop-i-init g c = λ made are.
     asked_none (setting_of c.args.book.now.opening (document c.args.book.now)) (document_lines (document c.args.book.now)) c.setting.result.now.first c.args.count c.new-loops.result made c.new-loops.ensures
-    (ap (λ (s : Setting). s.first) c.setting.ensures) c.requires.count are
+    (ap (λ (s : Setting). s.first) c.setting.ensures.setting) c.requires.count are
 
 pub loop-i-preserved : goal.loop-i-preserved
 loop-i-preserved g c = λ made are.

@@ -1,0 +1,9 @@
+use Rattle.std.proofs.Common.{◌≡◌, ◌++◌, drop, map}
+use Rattle.edit_journal.specs.Documents.{names_at}
+use Rattle.input_answers.specs.GroupsText.{steps_sessions}
+use Rattle.input_answers.proofs.group_report.append_sessions.Given as goal
+
+abbrev pub invariant-loop-session : goal.invariant-loop-session
+invariant-loop-session l =
+    l.out.items ++ steps_sessions (names_at l.book.opening l.book.entries) l.session (drop l.session (map (λ list. list.items) l.sessions))
+    ≡ l.fn.out.items ++ steps_sessions (names_at l.book.opening l.book.entries) 0 (map (λ list. list.items) l.sessions)
