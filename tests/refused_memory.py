@@ -1,13 +1,13 @@
 #!/usr/bin/env python3
 """Refuses each request for memory of the program check_main in turn, and looks at what it answers.
 
-`python3 tests/refused_memory.py [RUN ..]` tries all five commands, or the runs named, on files of examples/ and on a short script, with the check_main
+`python3 tests/refused_memory.py [RUN ..]` tries all six commands, or the runs named, on files of examples/ and on a short script, with the check_main
 that TEKHVUMO_PROGRAM names or that is found; then the put of a text for which room was made, by the tests of `document_examples` that the gate built, if they are
 there. It wants a C compiler (`cc`), for the few lines that stand before the system's `malloc`
 and `realloc`.
 
 A run in which the Nth request was refused has to end in one of three ways. It tells of the want of memory by the status 6 alone, and has written
-nothing. Or it does without, and ends and writes as if nothing had been refused. Or, of `live` alone, the replies of some commands say
+nothing. Or it does without, and ends and writes as if nothing had been refused. Or, of `live` and `groups` alone, the replies of some commands say
 `nomemory`, and what stands in the journal, carried out anew as a script of one session, ends in the same verdict.
 """
 from __future__ import annotations
@@ -92,6 +92,7 @@ RUNS = {
     "puts": (["live"], TWO_PUTS),
     "live": (["live"], example("mended-transfer.live")),
     "header": (["live"], example("another-yarn.live")),
+    "groups": (["groups", "--block", "4"], example("another-carrier.groups")),
 }
 
 
@@ -118,15 +119,17 @@ def run(words: list[str], given: bytes, library: str, request: int) -> tuple[int
 
 
 def commands_of(script: str) -> tuple[list[str], list[tuple[str, list[str]]]]:
-    """The lines of a script of one session up to its first command, and its commands, each with its lines of text."""
+    """The lines of a script of one session up to its first command, and its commands, each with its lines of text; a group is one, up to its end."""
     lines = [line for line in script.splitlines() if line.strip() and not line.startswith("#")]
     begin = lines.index("session") + 1
     commands: list[tuple[str, list[str]]] = []
+    in_group = False
     for line in lines[begin:]:
-        if line.startswith("|"):
+        if line.startswith("|") or in_group:
             commands[-1][1].append(line)
         else:
             commands.append((line, []))
+        in_group = (in_group or line == "group") and line != "end"
     return lines[:begin], commands
 
 
@@ -145,7 +148,7 @@ def accepted_alone(script: str, report: str) -> str:
     for number, (command, text) in enumerate(commands, 1):
         word = command.split()[0]
         adds += word == "add"
-        accepted = re.match(r"accepted version \d+ block (\w+)", replies[number])
+        accepted = re.match(r"(?:accepted version \d+ block|group version) (\w+)", replies[number])
         if not accepted:
             continue
         if word == "add":
@@ -160,7 +163,7 @@ def end_of(report: str) -> str:
 
 
 def fault_of(script: str | None, whole: bytes, status: int, written: bytes, again) -> str | None:
-    """What is wrong with a run in which a request was refused, if anything is. `script` is that of `live`, and `again` is what the program writes of one."""
+    """What is wrong with a run in which a request was refused, if anything is. `script` is that of `live` or `groups`, and `again` is what the program writes of one."""
     if status == NO_MEMORY:
         return "it wrote something" if written else None
     if status != 0:
@@ -178,9 +181,9 @@ def fault_of(script: str | None, whole: bytes, status: int, written: bytes, agai
 def try_run(name: str, program: str, library: str) -> bool:
     """Refuses each request of this run in turn, says what came of it, and answers whether all was well."""
     words, given = RUNS[name]
-    script = given.decode() if words == ["live"] else None
+    script = given.decode() if words[0] in ("live", "groups") else None
     whole = subprocess.run([program, *words], input=given, capture_output=True).stdout
-    again = lambda script: subprocess.run([program, "live"], input=script.encode(), capture_output=True).stdout.decode()
+    again = lambda script: subprocess.run([program, *words], input=script.encode(), capture_output=True).stdout.decode()
     request, well, silent, without = 0, True, 0, 0
     while True:
         request += 1
