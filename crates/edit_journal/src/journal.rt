@@ -78,6 +78,13 @@ impl Journal {
         self.entries.get(number as usize - 1)
     }
 
+    /// The entries alone, the oldest first.
+    pub fn into_entries(self) -> Vec<Entry>
+        ensures { result.items ≡ self.entries }
+    {
+        self.entries
+    }
+
     /// A journal with equal entries. Fails where memory runs out.
     pub fn try_clone(&self) -> Result<Self, NoMemory>
         ensures { IfOk result (λ journal. journal.entries ≡ self.now.entries) }

@@ -1,4 +1,5 @@
 pub mod Buffers
+pub mod Chain
 pub mod Copied
 pub mod FirstLine
 pub mod Masks
@@ -7,4 +8,5 @@ pub mod Needles
 pub mod Places
 pub mod Ranges
 pub mod Reasons
+pub mod Rests
 pub mod Shares

@@ -1,4 +1,4 @@
--- How needles, racks, directions and rules are spelt.
+-- How numbers behind a label, needles, racks, directions and rules are spelt.
 use Rattle.std.specs.Prelude.{ℕ, suc, ◌/◌, ◌%◌, ◌==◌, if◌then◌else◌, ℤ, pos, negsuc, List, [], ◌++◌, codes, decimal}
 use Rattle.std.specs.Fmt.{signed_decimal}
 use Rattle.knit_base.specs.declared.needle.Bed.{Bed}
@@ -8,6 +8,10 @@ use Rattle.knit_base.specs.declared.needle.Dir.TheVariants.{Right, Left}
 use Rattle.knit_base.specs.declared.needle.Needle.{Needle}
 use Rattle.knit_base.specs.declared.rule.Rule.{Rule}
 use Rattle.knit_base.specs.declared.rule.Rule.TheVariants.{Unreadable, OffBed, SliderForm, SameBed, TwoSliders, NoCarrier, CarrierTwice, RackStep, RackLimit, CarrierIsOut, CarrierIsIn, HookBusy, HookOther, CarrierHooked, NotAligned, SliderHolds, TooManyLoops, FloatTooLong}
+
+-- a label and a number behind it
+abbrev pub labelled : List ℕ → ℕ → List ℕ
+labelled label number = label ++ decimal number
 
 abbrev pub bed_word : Bed → List ℕ
 bed_word Front = codes "f"

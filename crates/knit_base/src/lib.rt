@@ -39,7 +39,7 @@ pub use needle::{Bed, Dir, Needle, needle_order};
 pub use profile::Profile;
 pub use rule::{Fault, Reason, Rule};
 pub use setting::Setting;
-pub use spelling::{append_needle, append_number, append_rack};
+pub use spelling::{append_labelled, append_needle, append_number, append_rack};
 pub use steps::Steps;
 pub use text::Text;
 pub use usual::Usual;

@@ -89,13 +89,15 @@ pub fn read_head(alloc: Global, lines: &Lines) -> Result<Head, HeadFault>
     })
 }
 
-fn is_magic(line: &[u8]) -> bool
+/// Whether the line is `;!knitout-2` with blanks behind it, with which a file begins.
+pub fn is_magic(line: &[u8]) -> bool
     ensures { result ≡ is_magic line.now }
 {
     line.starts_with(MAGIC) && is_blank_text(&line[MAGIC.len()..])
 }
 
-fn is_head_line(line: &[u8]) -> bool
+/// Whether the line goes on with a head: it is blank, or its first byte is a `;`.
+pub fn is_head_line(line: &[u8]) -> bool
     ensures { result ≡ is_head_line line.now }
 {
     line.starts_with(b";") || is_blank_text(line)

@@ -32,7 +32,7 @@ mod words;
 
 pub use body::{nth_line, read_body};
 pub use byte_names::ByteNames;
-pub use head::{Head, HeadFault, declared_in, read_head};
+pub use head::{Head, HeadFault, declared_in, is_head_line, is_magic, read_head};
 pub use read::read_line;
 pub use readings::usual_reading;
 pub use shortest::is_shortest_spelling;

@@ -1,8 +1,6 @@
-pub mod Chain
 pub mod CompactText
 pub mod EntryPlaces
 pub mod LiveReports
 pub mod Names
 pub mod PassLines
 pub mod PlainText
-pub mod Rests

@@ -8,8 +8,8 @@ use Rattle.edit_book.specs.declared.reply.Reply.{Reply}
 use Rattle.block_summary.specs.Verdicts.{broken_line}
 use Rattle.edit_book.specs.Verdicts.{HasVerdict, setting_of}
 use Rattle.verdict_report.specs.VerdictText.{Text}
-use Rattle.verdict_report.specs.LiveText.{IsEnd, IsLiveReport, final_text, journal_text, sessions_text}
-use Rattle.verdict_report.proofs.Chain.{after_two}
+use Rattle.verdict_report.specs.LiveText.{IsEnd, IsFinalReport, IsLiveReport, final_text, journal_text, sessions_text}
+use Rattle.knit_base.proofs.Chain.{after_two}
 
 -- what was appended behind a text is the end of a report
 abbrev pub EndsWith : Opening → List Entry → Text → Text → Type 0
@@ -29,8 +29,21 @@ ended opening entries journal verdict broken start second whole judged is_line a
       a ++ b,
       after_two start second whole a b (one ∙ ap (λ (es : List Entry). start ++ journal_text es) are_entries)
           (two ∙ ap (λ (t : Text). second ++ final_text d.header.names (length entries) t verdict) is_line),
-      record { verdict_given = verdict; judged = judged; ended = refl },
+      (b, refl, record { verdict_given = verdict; judged = judged; ended = refl }),
     )
+
+-- the version at the end and the verdict on its document, with its broken line, were appended to nothing
+pub final_alone : (opening : Opening) (entries : List Entry) (verdict : Verdict) (broken empty whole : Text)
+    → (let d = document_of opening entries in HasVerdict (setting_of opening d) (body d) verdict)
+    → (let d = document_of opening entries in broken ≡ broken_line (setting_of opening d).first (body d) verdict)
+    → empty ≡ [] → whole ≡ empty ++ final_text (document_of opening entries).header.names (length entries) broken verdict → IsFinalReport opening entries whole
+final_alone opening entries verdict broken empty whole judged is_line none is =
+    let d : Document = document_of opening entries in record {
+      verdict_given = verdict;
+      judged = judged;
+      ended = is ∙ ap (λ (t : Text). t ++ final_text d.header.names (length entries) broken verdict) none
+          ∙ ap (λ (t : Text). final_text d.header.names (length entries) t verdict) is_line;
+    }
 
 -- an end that stands in a text of its own
 pub ended_alone : (opening : Opening) (entries : List Entry) (empty text old new : Text) → empty ≡ [] → EndsWith opening entries empty text → new ≡ old ++ text → EndsWith opening entries old new

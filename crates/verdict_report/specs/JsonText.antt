@@ -1,7 +1,7 @@
 -- The text of a verdict's value piece by piece, for private clauses. `proofs/CompactText` shows that it is the value's compact text.
 use Rattle.std.specs.Prelude.{ℕ, Option, None, Some, List, [], ◌∷◌, ◌++◌, length, flat_map, codes, decimal, unwrap_or, slice_get}
 use Rattle.json.specs.Print.{quoted}
-use Rattle.knit_base.specs.Spelling.{dir_word, needle_text, rack_text, rule_name}
+use Rattle.knit_base.specs.Spelling.{dir_word, labelled, needle_text, rack_text, rule_name}
 use Rattle.knit_base.specs.declared.needle.Dir.{Dir}
 use Rattle.knit_base.specs.declared.needle.Needle.{Needle}
 use Rattle.knit_base.specs.declared.rule.Fault.{Fault}
@@ -14,7 +14,7 @@ use Rattle.carriage_model.specs.declared.verdict.Verdict.{Verdict}
 use Rattle.carriage_model.specs.declared.verdict.Verdict.TheVariants.{Sound, Broken}
 use Rattle.carriage_model.specs.Verdict.{held_on}
 use Rattle.verdict_report.specs.Carriers.{carriers_in}
-use Rattle.verdict_report.specs.VerdictText.{Text, labelled}
+use Rattle.verdict_report.specs.VerdictText.{Text}
 
 -- a comma and the text of the item
 abbrev pub next_text : {A : Type 0} → (A → Text) → A → Text

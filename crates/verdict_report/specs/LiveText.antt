@@ -3,24 +3,21 @@ use Rattle.std.specs.Prelude.{◌≡◌, ℕ, ◌+◌, Option, None, Some, List,
 use Rattle.carriage_model.specs.declared.verdict.Brief.{Brief}
 use Rattle.carriage_model.specs.declared.verdict.LoopFact.{LoopFact}
 use Rattle.carriage_model.specs.declared.verdict.Verdict.{Verdict}
-use Rattle.edit_journal.specs.declared.edit.Anchor.{Anchor}
-use Rattle.edit_journal.specs.declared.edit.Anchor.TheVariants as anchor
 use Rattle.edit_journal.specs.declared.edit.BlockName.{BlockName}
 use Rattle.edit_journal.specs.declared.edit.BlockName.TheVariants as name
-use Rattle.edit_journal.specs.declared.edit.Edit.{Edit}
-use Rattle.edit_journal.specs.declared.edit.Edit.TheVariants as edit
 use Rattle.edit_journal.specs.declared.edit.Entry.{Entry}
 use Rattle.edit_journal.specs.declared.opening.Opening.{Opening}
 use Rattle.edit_journal.specs.Documents.{body, document_of, names_at}
 use Rattle.edit_journal.specs.Entries.{head_id}
-use Rattle.knit_base.specs.Names.{spaced_names}
+use Rattle.edit_journal.specs.EntryLine.{entry_line}
+use Rattle.knit_base.specs.Spelling.{labelled}
 use Rattle.edit_book.specs.declared.reply.Reply.{Reply}
 use Rattle.edit_book.specs.declared.reply.Reply.TheVariants as reply
 use Rattle.edit_book.specs.declared.reply.Which.{Which}
 use Rattle.edit_book.specs.declared.reply.Which.TheVariants as which
 use Rattle.block_summary.specs.Verdicts.{broken_line}
 use Rattle.edit_book.specs.Verdicts.{HasVerdict, setting_of}
-use Rattle.verdict_report.specs.VerdictText.{Text, brief_text, end_text, labelled, loop_text}
+use Rattle.verdict_report.specs.VerdictText.{Text, brief_text, end_text, loop_text}
 
 -- a block as a session names it
 abbrev pub block_name_text : BlockName → Text
@@ -107,33 +104,9 @@ abbrev pub sessions_text : (ℕ → List Text) → ℕ → List (List Reply) →
 sessions_text names s [] = []
 sessions_text names s (rs ∷ more) = session_text names s rs ++ sessions_text names (s + 1) more
 
--- where a new block stands
-abbrev pub anchor_text : Anchor → Text
-anchor_text anchor.Start = codes "start"
-anchor_text (anchor.After id) = decimal id
-
-abbrev pub put_text : ℕ → ℕ → ℕ → Text
-put_text block seen lines = labelled (codes " put ") block ++ (labelled (codes " seen ") seen ++ labelled (codes " lines ") lines)
-
-abbrev pub add_text : Anchor → ℕ → ℕ → Text
-add_text where_ block lines = codes " add " ++ (anchor_text where_ ++ (labelled (codes " block ") block ++ labelled (codes " lines ") lines))
-
-abbrev pub cut_text : ℕ → ℕ → Text
-cut_text block seen = labelled (codes " cut ") block ++ labelled (codes " seen ") seen
-
-abbrev pub head_text : ℕ → List Text → Text
-head_text seen names = labelled (codes " put head seen ") seen ++ (codes " carriers" ++ spaced_names names)
-
--- an edit that was accepted; of a text the number of lines is told, of a header the names
-abbrev pub edit_text : Edit → Text
-edit_text (edit.Put block seen text) = put_text block seen (length text)
-edit_text (edit.Add where_ block text) = add_text where_ block (length text)
-edit_text (edit.Cut block seen) = cut_text block seen
-edit_text (edit.Head seen names) = head_text seen names
-
 -- an entry with its number
 abbrev pub entry_text : ℕ → Entry → Text
-entry_text n e = decimal n ++ (labelled (codes " session ") e.session ++ (edit_text e.edit ++ codes "\n"))
+entry_text n e = decimal n ++ (codes " " ++ (entry_line e ++ codes "\n"))
 
 -- the entries of the journal, numbered from here on
 abbrev pub entries_text : ℕ → List Entry → Text
@@ -148,11 +121,15 @@ journal_text entries = labelled (codes "journal ") (length entries) ++ (codes "\
 abbrev pub final_text : List Text → ℕ → Text → Verdict → Text
 final_text names version line verdict = labelled (codes "final version ") version ++ (codes "\n" ++ end_text names line verdict)
 
--- the end of a report: the journal, and the verdict on the document that it gives, which is what one carriage makes of its lines
-pub record IsEnd (opening : Opening) (entries : List Entry) (text : Text) : Type 0 where
+-- the version at the end, and the verdict on its document, which is what one carriage makes of its lines
+pub record IsFinalReport (opening : Opening) (entries : List Entry) (text : Text) : Type 0 where
   pub verdict_given : Verdict
   pub judged : let d = document_of opening entries in HasVerdict (setting_of opening d) (body d) verdict_given
-  pub ended : text ≡ journal_text entries ++ final_text (document_of opening entries).header.names (length entries) (let d = document_of opening entries in broken_line (setting_of opening d).first (body d) verdict_given) verdict_given
+  pub ended : text ≡ final_text (document_of opening entries).header.names (length entries) (let d = document_of opening entries in broken_line (setting_of opening d).first (body d) verdict_given) verdict_given
+
+-- the end of a report: the journal, and the version at its end with its verdict
+abbrev pub IsEnd : Opening → List Entry → Text → Type 0
+IsEnd opening entries text = (final : Text) × (text ≡ journal_text entries ++ final) × IsFinalReport opening entries final
 
 -- the whole report: these replies, this journal, and the verdict on the document that it gives
 abbrev pub IsLiveReport : Opening → List Entry → List (List Reply) → Text → Type 0

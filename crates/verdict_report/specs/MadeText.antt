@@ -3,7 +3,8 @@ use Rattle.std.specs.Prelude.{ℕ, ◌++◌, codes}
 use Rattle.carriage_model.specs.declared.verdict.Verdict.{Verdict}
 use Rattle.carriage_model.specs.Verdict.{brief_of}
 use Rattle.verdict_report.specs.PassesText.{counts_text}
-use Rattle.verdict_report.specs.VerdictText.{Text, brief_text, labelled}
+use Rattle.knit_base.specs.Spelling.{labelled}
+use Rattle.verdict_report.specs.VerdictText.{Text, brief_text}
 
 -- how many lines and blocks were made
 abbrev pub sizes_text : ℕ → ℕ → Text

@@ -1,6 +1,6 @@
 -- The lines of the passes of a program.
 use Rattle.std.specs.Prelude.{ℕ, ℤ, int_lt, Option, None, Some, List, [], ◌∷◌, ◌++◌, length, flat_map, option_map, unwrap_or, slice_get, codes, if◌then◌else◌}
-use Rattle.knit_base.specs.Spelling.{dir_word}
+use Rattle.knit_base.specs.Spelling.{dir_word, labelled}
 use Rattle.knit_base.specs.declared.needle.Dir.{Dir}
 use Rattle.knit_base.specs.declared.needle.Dir.TheVariants.{Right, Left}
 use Rattle.knit_base.specs.declared.yarns.CarrierNo.{CarrierNo}
@@ -9,7 +9,7 @@ use Rattle.pass_grouping.specs.declared.operation.Class.TheVariants.{Form, Split
 use Rattle.pass_grouping.specs.declared.operation.PassOp.{PassOp}
 use Rattle.pass_grouping.specs.declared.certificate.Window.{Window}
 use Rattle.pass_grouping.specs.Groupings.{passes_from}
-use Rattle.verdict_report.specs.VerdictText.{Text, labelled, names_text}
+use Rattle.verdict_report.specs.VerdictText.{Text, names_text}
 
 -- the name of a class
 abbrev pub class_word : Class → Text

@@ -3,7 +3,7 @@ use Rattle.std.specs.Prelude.{ℕ, List, ◌++◌, codes, decimal}
 use Rattle.script_reader.specs.declared.fault.Cause.{Cause}
 use Rattle.script_reader.specs.declared.fault.Cause.TheVariants.{NoLive, BadLine, ManySessions, NoOwn, NoGroups}
 use Rattle.verdict_report.specs.declared.refusal.Refusal.{Refusal}
-use Rattle.verdict_report.specs.declared.refusal.Refusal.TheVariants.{Usage, ReadFault, TooManyBytes, TooManyLines, TooManyBlocks, NotUtf8, LineLong, BadMagic, NoCarriers, TwoCarriers, CarrierNameTwice, ManyCarriers, BadScript}
+use Rattle.verdict_report.specs.declared.refusal.Refusal.TheVariants.{Usage, ReadFault, TooManyBytes, TooManyLines, TooManyBlocks, NotUtf8, LineLong, BadMagic, NoCarriers, TwoCarriers, CarrierNameTwice, ManyCarriers, BadScript, BadJournal, NoFit}
 
 -- a line of the file that can't be read
 abbrev pub bad_line : ℕ → List ℕ → List ℕ
@@ -25,6 +25,10 @@ cause_word NoGroups = codes " NoGroups\n"
 abbrev pub bad_script_line : ℕ → List ℕ → List ℕ
 bad_script_line line cause = codes "bad input: script line " ++ (decimal line ++ cause)
 
+-- a line of a saved text that is outside its form, or whose entry doesn't fit
+abbrev pub bad_journal_line : ℕ → List ℕ → List ℕ
+bad_journal_line line cause = codes "bad input: journal line " ++ (decimal line ++ cause)
+
 -- the line of a refusal
 abbrev pub refusal_text : Refusal → List ℕ
 refusal_text Usage = codes "usage: check_main check|text|passes|live|make N START [options]\n"
@@ -40,3 +44,5 @@ refusal_text (TwoCarriers line) = bad_head_line line (codes " TwoCarriers\n")
 refusal_text (CarrierNameTwice line) = bad_head_line line (codes " CarrierNameTwice\n")
 refusal_text (ManyCarriers line) = bad_head_line line (codes " ManyCarriers\n")
 refusal_text (BadScript line cause) = bad_script_line line (cause_word cause)
+refusal_text (BadJournal line) = bad_journal_line line (codes " BadLine\n")
+refusal_text (NoFit line) = bad_journal_line line (codes " NoFit\n")

@@ -1,6 +1,6 @@
 -- The lines of a verdict as text.
 use Rattle.std.specs.Prelude.{ℕ, ℤ, Option, None, Some, List, ◌++◌, length, flat_map, codes, decimal}
-use Rattle.knit_base.specs.Spelling.{dir_word, needle_text, rack_text, rule_name}
+use Rattle.knit_base.specs.Spelling.{dir_word, labelled, needle_text, rack_text, rule_name}
 use Rattle.knit_base.specs.declared.rule.Fault.{Fault}
 use Rattle.knit_base.specs.declared.rule.Rule.{Rule}
 use Rattle.knit_base.specs.declared.yarns.CarrierNo.{CarrierNo}
@@ -33,10 +33,6 @@ line_word line = codes " " ++ decimal line
 -- a space and the number of each line
 abbrev pub lines_text : List ℕ → Text
 lines_text lines = flat_map line_word lines
-
--- a label and a number
-abbrev pub labelled : Text → ℕ → Text
-labelled label number = label ++ decimal number
 
 -- what a sound program leaves, in short: its lines, the loops made and held, and the rack in quarters
 abbrev pub sound_brief : ℕ → ℕ → ℕ → ℤ → Text

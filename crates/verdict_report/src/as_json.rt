@@ -10,9 +10,9 @@ ghost use Rattle.verdict_report.specs.VerdictJson.{verdict_json};
 use crate::json_items::append_set;
 use crate::json_list::append_list_member;
 use crate::json_loops::append_loops_member;
-use crate::text::{append_labelled, held};
+use crate::text::held;
 use carriage_model::{Facts, Final, Verdict};
-use knit_base::{CarrierNo, Declared, Fault, NoMemory, Rule, append_rack};
+use knit_base::{CarrierNo, Declared, Fault, NoMemory, Rule, append_labelled, append_rack};
 use serde_json::Value;
 use std::alloc::Global;
 

@@ -5,9 +5,8 @@ ghost use Rattle.verdict_report.specs.JsonText.{dir_member, list_member, list_te
 
 use crate::json_items::append_needle_member;
 use crate::json_list::append_list_member;
-use crate::text::append_labelled;
 use carriage_model::{FactRef, Facts};
-use knit_base::{Dir, NoMemory};
+use knit_base::{Dir, NoMemory, append_labelled};
 
 // Appends a direction, behind its key.
 fn append_dir(dir: Dir, out: &mut Vec<u8>) -> Result<(), NoMemory>

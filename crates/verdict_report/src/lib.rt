@@ -27,7 +27,7 @@ mod text;
 pub use as_json::{json_of, report_json};
 pub use brief::report_brief;
 pub use entries::report_journal;
-pub use live::{live_of, report_end, report_live};
+pub use live::{final_of, live_of, report_end, report_live};
 pub use made::made_of;
 pub use passes::{passes_of, report_passes};
 pub use refusal::{Refusal, report_refusal};

@@ -3,7 +3,7 @@ ghost use Rattle.std.specs.Prelude.{◌≡◌, ◌++◌, ◌+◌, ◌≤◌, len
 ghost use Rattle.edit_journal.specs.Documents.{body, document_of};
 ghost use Rattle.block_summary.specs.Verdicts.{broken_line};
 ghost use Rattle.edit_book.specs.Verdicts.{HasVerdict, setting_of};
-ghost use Rattle.verdict_report.specs.LiveText.{IsEnd, IsLiveReport, final_text};
+ghost use Rattle.verdict_report.specs.LiveText.{IsEnd, IsFinalReport, IsLiveReport, final_text};
 
 use crate::entries::append_journal;
 use crate::replies::append_verdict;
@@ -113,6 +113,21 @@ pub fn report_end<L: Ledger>(
     append_ending(alloc, book, &mut end, steps)?;
     out.extend_from_slice(&end)?;
     Ok(())
+}
+
+/// The version of the document as it is, and its verdict: the end of what `report_end` appends. It costs a step at most.
+pub fn final_of<L: Ledger>(
+    alloc: Global,
+    book: &Book,
+    steps: &mut Steps<L>,
+) -> Result<Vec<u8>, NoMemory>
+    ensures text { IfOk result (λ text. IsFinalReport book.now.opening book.now.entries text.items) }
+    ensures steps { steps.new ≤ steps.old + 1 }
+{
+    let mut text = Vec::new(alloc);
+    let ending = ending_of(book, steps)?;
+    append_final(alloc, book, &ending, &mut text)?;
+    Ok(text)
 }
 
 /// What each session was answered, the journal and the verdict, as `report_live` appends them.

@@ -5,9 +5,9 @@ ghost use Rattle.verdict_report.specs.MadeText.{made_text, sizes_text};
 ghost use Rattle.verdict_report.specs.VerdictText.{brief_text};
 
 use crate::passes::append_counts;
-use crate::text::{append_broken_brief, append_labelled, append_sound_brief, held};
+use crate::text::{append_broken_brief, append_sound_brief, held};
 use carriage_model::Verdict;
-use knit_base::NoMemory;
+use knit_base::{NoMemory, append_labelled};
 use pass_grouping::Counts;
 use std::alloc::Global;
 

@@ -3,8 +3,8 @@ ghost use Rattle.std.specs.Prelude.{◌≡◌, ◌++◌, ◌∷◌, [], length, 
 ghost use Rattle.pass_grouping.specs.Groupings.{IsCertificate, IsGrouping, passes_from};
 ghost use Rattle.verdict_report.specs.PassesText.{carriers_text, counts_text, ends_text, kind_text, kind_words, last_of, line_at, pass_text, passes_text, range_text, way_of, window_text};
 
-use crate::text::{append_labelled, append_names};
-use knit_base::{CarrierNo, Declared, Dir, NoMemory};
+use crate::text::append_names;
+use knit_base::{CarrierNo, Declared, Dir, NoMemory, append_labelled};
 use pass_grouping::{Class, Grouping, PassOp, PassOps, Window, pass_at};
 use std::alloc::Global;
 

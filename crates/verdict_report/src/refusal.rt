@@ -1,6 +1,6 @@
 //! What the program says where it refuses its words or its input.
 ghost use Rattle.std.specs.Prelude.{◌≡◌, ◌++◌, decimal, OnOk, OnErr};
-ghost use Rattle.verdict_report.specs.Refusals.{bad_head_line, bad_line, bad_script_line, cause_word, refusal_text};
+ghost use Rattle.verdict_report.specs.Refusals.{bad_head_line, bad_journal_line, bad_line, bad_script_line, cause_word, refusal_text};
 
 use knit_base::{NoMemory, append_number};
 use script_reader::Cause;
@@ -35,6 +35,10 @@ pub enum Refusal {
     ManyCarriers(u32),
     /// The first line of the script that is outside its grammar, and why.
     BadScript(u32, Cause),
+    /// The first line with which no saved text goes on.
+    BadJournal(u32),
+    /// The first line of a saved text whose entry doesn't fit the document before it, or passes a limit.
+    NoFit(u32),
 }
 
 // Appends a label, the number of a line, and what is wrong with it.
@@ -66,6 +70,13 @@ fn append_bad_script_line(line: u32, cause: &str, out: &mut Vec<u8>) -> Result<(
     ensures { OnOk result (out.new.items ≡ out.old.items ++ bad_script_line line cause.now) }
 {
     append_at_line("bad input: script line ", line, cause, out)
+}
+
+// Appends the line that names a bad line of a saved text.
+fn append_bad_journal_line(line: u32, cause: &str, out: &mut Vec<u8>) -> Result<(), NoMemory>
+    ensures { OnOk result (out.new.items ≡ out.old.items ++ bad_journal_line line cause.now) }
+{
+    append_at_line("bad input: journal line ", line, cause, out)
 }
 
 // What is wrong with a line of a script.
@@ -109,6 +120,8 @@ fn append_refusal(refusal: Refusal, out: &mut Vec<u8>) -> Result<(), NoMemory>
         Refusal::CarrierNameTwice(line) => append_bad_head_line(line, " CarrierNameTwice\n", out),
         Refusal::ManyCarriers(line) => append_bad_head_line(line, " ManyCarriers\n", out),
         Refusal::BadScript(line, cause) => append_bad_script_line(line, cause_word(cause), out),
+        Refusal::BadJournal(line) => append_bad_journal_line(line, " BadLine\n", out),
+        Refusal::NoFit(line) => append_bad_journal_line(line, " NoFit\n", out),
     }
 }
 

@@ -2,15 +2,16 @@
 ghost use Rattle.std.specs.Prelude.{◌≡◌, ◌+◌, ◌++◌, codes, drop, flat_map, length, OnOk, OnErr};
 ghost use Rattle.carriage_model.specs.FactList.{lent_fact};
 ghost use Rattle.edit_book.specs.declared.reply.Reply.TheVariants as reply;
-ghost use Rattle.verdict_report.specs.VerdictText.{end_text, labelled};
+ghost use Rattle.knit_base.specs.Spelling.{labelled};
+ghost use Rattle.verdict_report.specs.VerdictText.{end_text};
 ghost use Rattle.verdict_report.specs.LiveText.{accepted_text, at_block, barred, block_name_text, block_text, fact_text, full_text, reply_text, shown_text, stale_text, which_word};
 
 use crate::brief::append_brief;
-use crate::text::{append_end, append_labelled, append_loop};
+use crate::text::{append_end, append_loop};
 use carriage_model::{Brief, FactRef, LoopFact, Verdict};
 use edit_book::{Reply, Which};
 use edit_journal::{BlockName, HEAD};
-use knit_base::{Declared, Lines, NoMemory, append_number};
+use knit_base::{Declared, Lines, NoMemory, append_labelled, append_number};
 use std::alloc::Global;
 
 // Appends a block as a session names it.

@@ -4,9 +4,8 @@ ghost use Rattle.edit_journal.specs.Documents.{names_at};
 ghost use Rattle.verdict_report.specs.LiveText.{numbered_reply, replies_text, session_text, sessions_text, told_reply, version_named};
 
 use crate::replies::append_reply;
-use crate::text::append_labelled;
 use edit_book::{Book, Reply};
-use knit_base::{NoMemory, append_number};
+use knit_base::{NoMemory, append_labelled, append_number};
 use std::alloc::Global;
 
 // The version whose names a reply is told with. One that names no carrier is told with any.

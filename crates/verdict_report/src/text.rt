@@ -3,12 +3,13 @@ ghost use Rattle.std.specs.Prelude.{◌≡◌, ◌+◌, ◌++◌, ◌<◌, ◌^�
 ghost use Rattle.std.specs.Option.{option_copied};
 ghost use Rattle.carriage_model.specs.FactList.{lent_fact};
 ghost use Rattle.carriage_model.specs.Verdict.{held_on};
-ghost use Rattle.verdict_report.specs.VerdictText.{broken_brief, broken_text, end_text, labelled, line_word, lines_text, loop_text, loops_text, name_word, names_text, place_text, rule_word, set_text, sound_brief, sound_text, stack_text, verdict_text};
+ghost use Rattle.verdict_report.specs.VerdictText.{broken_brief, broken_text, end_text, line_word, lines_text, loop_text, loops_text, name_word, names_text, place_text, rule_word, set_text, sound_brief, sound_text, stack_text, verdict_text};
 
 use crate::carriers::carriers_of;
 use carriage_model::{FactRef, Facts, Final, Stack, Verdict};
 use knit_base::{
-    CarrierNo, Declared, Fault, NoMemory, Quarter, Rule, append_needle, append_number, append_rack,
+    CarrierNo, Declared, Fault, NoMemory, Quarter, Rule, append_labelled, append_needle,
+    append_number, append_rack,
 };
 use std::alloc::Global;
 
@@ -64,14 +65,6 @@ pub(crate) fn held(stacks: &[Stack]) -> u64
         held += u64::from(stack.loops.len());
     }
     held
-}
-
-/// Appends a label and a number.
-pub(crate) fn append_labelled(label: &str, number: u64, out: &mut Vec<u8>) -> Result<(), NoMemory>
-    ensures { OnOk result (out.new.items ≡ out.old.items ++ labelled label.now number) }
-{
-    out.extend_from_slice(label.as_bytes())?;
-    append_number(number, out)
 }
 
 /// Appends in short what a sound program leaves.

@@ -1,7 +1,7 @@
 use Rattle.std.proofs.Common.{rules, ◌≡◌, ◌∙◌, ◌++◌, ap, codes}
 use Rattle.knit_base.specs.Spelling.{rack_text}
 use Rattle.verdict_report.specs.JsonText.{list_member, stack_json}
-use Rattle.verdict_report.proofs.Chain.{after_four}
+use Rattle.knit_base.proofs.Chain.{after_four}
 use Rattle.verdict_report.proofs.as_json.append_sound_back.Goals as goal
 
 pub returns : goal.returns

@@ -3,7 +3,7 @@ use Rattle.std.specs.Option.{option_copied}
 use Rattle.std.proofs.lemmas.Result.{on_ok_weaker}
 use Rattle.verdict_report.specs.LiveText.{entries_text, entry_text}
 use Rattle.verdict_report.proofs.EntryPlaces.{entry-behind}
-use Rattle.verdict_report.proofs.Rests.{item-there, numbered-one}
+use Rattle.knit_base.proofs.Rests.{item-there, numbered-one}
 use Rattle.verdict_report.proofs.entries.append_entry_behind.Goals as goal
 
 pub unreachable-requires : goal.unreachable-requires

@@ -1,7 +1,7 @@
 use Rattle.std.proofs.Common.{rules, ◌≡◌, ◌++◌, codes, decimal, map, string_bytes}
 use Rattle.carriage_model.specs.FactList.{lent_fact}
 use Rattle.verdict_report.specs.JsonText.{list_member, loop_json, loop_place, string_of}
-use Rattle.verdict_report.proofs.Chain.{after_four}
+use Rattle.knit_base.proofs.Chain.{after_four}
 use Rattle.verdict_report.proofs.json_loops.append_loop.Goals as goal
 
 pub returns : goal.returns

@@ -3,7 +3,7 @@ use Rattle.std.specs.Option.{option_map}
 use Rattle.std.proofs.lemmas.Result.{on_ok_weaker}
 use Rattle.carriage_model.specs.FactList.{lent_fact}
 use Rattle.verdict_report.specs.JsonText.{loop_json, next_text}
-use Rattle.verdict_report.proofs.Rests.{written-none, written-one}
+use Rattle.knit_base.proofs.Rests.{written-none, written-one}
 use Rattle.verdict_report.proofs.json_loops.append_next_at.Goals as goal
 
 pub returns-in-Some : goal.returns-in-Some

@@ -4,7 +4,7 @@ use Rattle.carriage_model.specs.Verdict.{brief_of}
 use Rattle.verdict_report.specs.MadeText.{sizes_text}
 use Rattle.verdict_report.specs.PassesText.{counts_text}
 use Rattle.verdict_report.specs.VerdictText.{brief_text}
-use Rattle.verdict_report.proofs.Chain.{after_three}
+use Rattle.knit_base.proofs.Chain.{after_three}
 use Rattle.verdict_report.proofs.made.made_of.Goals as goal
 
 pub returns : goal.returns

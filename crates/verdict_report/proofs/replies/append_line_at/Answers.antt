@@ -2,7 +2,7 @@ use Rattle.std.proofs.Common.{◌∙◌, ap, sym}
 use Rattle.std.specs.Option.{option_copied}
 use Rattle.std.proofs.lemmas.Result.{on_ok_weaker}
 use Rattle.verdict_report.specs.LiveText.{barred}
-use Rattle.verdict_report.proofs.Rests.{written-none, written-one}
+use Rattle.knit_base.proofs.Rests.{written-none, written-one}
 use Rattle.verdict_report.proofs.replies.append_line_at.Goals as goal
 
 pub returns-in-Some : goal.returns-in-Some

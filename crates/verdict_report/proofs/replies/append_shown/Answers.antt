@@ -1,8 +1,8 @@
 use Rattle.std.proofs.Common.{rules, codes, ◌≡◌, ◌++◌, length, flat_map}
 use Rattle.std.proofs.lemmas.Result.{on_ok_weaker}
 use Rattle.verdict_report.specs.LiveText.{at_block, barred}
-use Rattle.verdict_report.specs.VerdictText.{labelled}
-use Rattle.verdict_report.proofs.Chain.{after_three}
+use Rattle.knit_base.specs.Spelling.{labelled}
+use Rattle.knit_base.proofs.Chain.{after_three}
 use Rattle.verdict_report.proofs.replies.append_shown.Goals as goal
 
 pub returns : goal.returns

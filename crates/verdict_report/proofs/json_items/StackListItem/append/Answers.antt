@@ -1,6 +1,6 @@
 use Rattle.std.proofs.Common.{rules, ◌≡◌, ◌∙◌, ◌++◌, ap, codes, decimal}
 use Rattle.verdict_report.specs.JsonText.{list_member, needle_member, stack_json}
-use Rattle.verdict_report.proofs.Chain.{after_three}
+use Rattle.knit_base.proofs.Chain.{after_three}
 use Rattle.verdict_report.proofs.json_items.StackListItem.append.Goals as goal
 
 pub returns : goal.returns

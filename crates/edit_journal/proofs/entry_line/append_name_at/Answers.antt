@@ -2,8 +2,8 @@ use Rattle.std.proofs.Common.{◌∙◌, ap, sym}
 use Rattle.std.specs.Option.{option_copied}
 use Rattle.std.proofs.lemmas.Result.{on_ok_weaker}
 use Rattle.knit_base.specs.Names.{spaced}
-use Rattle.verdict_report.proofs.Rests.{written-none, written-one}
-use Rattle.verdict_report.proofs.entries.append_name_at.Goals as goal
+use Rattle.knit_base.proofs.Rests.{written-none, written-one}
+use Rattle.edit_journal.proofs.entry_line.append_name_at.Goals as goal
 
 pub returns-in-Some : goal.returns-in-Some
 returns-in-Some c =

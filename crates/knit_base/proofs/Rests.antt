@@ -2,7 +2,6 @@
 use Rattle.std.proofs.Common.{◌≡◌, ◌∙◌, ℕ, zero, suc, ◌+◌, ◌<◌, ◌≤◌, None, Some, List, [], ◌∷◌, ◌++◌, length, drop, flat_map, slice_get, ap, sym, arith, append_assoc, append-nil}
 use Rattle.std.proofs.lemmas.List.{drop_more, drop_all}
 use Rattle.std.proofs.lemmas.Option.{slice_get_within, get_or_from_slice_get, none-some}
-use Rattle.verdict_report.specs.VerdictText.{Text}
 
 -- the list from a place on begins with the item there
 pub rest-at : {A : Type 0} (xs : List A) (i : ℕ) (x : A) → slice_get xs i ≡ Some x → drop i xs ≡ x ∷ drop (i + 1) xs
@@ -17,7 +16,7 @@ rest-past (x ∷ xs) (suc i) none =
     ap (λ n. drop n (x ∷ xs)) next ∙ rest-past xs i none
 
 -- an item's text was written
-pub written-one : {A : Type 0} (text : A → Text) (xs : List A) (i : ℕ) (x : A) (start end : Text) → slice_get xs i ≡ Some x → end ≡ start ++ text x
+pub written-one : {A : Type 0} (text : A → List ℕ) (xs : List A) (i : ℕ) (x : A) (start end : List ℕ) → slice_get xs i ≡ Some x → end ≡ start ++ text x
     → end ++ flat_map text (drop (i + 1) xs) ≡ start ++ flat_map text (drop i xs)
 written-one text xs i x start end is written =
     ap (λ t. t ++ flat_map text (drop (i + 1) xs)) written
@@ -25,17 +24,17 @@ written-one text xs i x start end is written =
     ∙ ap (λ rest. start ++ flat_map text rest) (sym (rest-at xs i x is))
 
 -- nothing was written
-pub written-none : {A : Type 0} (text : A → Text) (xs : List A) (i : ℕ) (start : Text) → slice_get xs i ≡ None
+pub written-none : {A : Type 0} (text : A → List ℕ) (xs : List A) (i : ℕ) (start : List ℕ) → slice_get xs i ≡ None
     → start ++ flat_map text (drop (i + 1) xs) ≡ start ++ flat_map text (drop i xs)
 written-none text xs i start none = ap (λ rest. start ++ flat_map text rest) (rest-past xs i none)
 
 -- all was written
-pub written-all : {A : Type 0} (text : A → Text) (xs : List A) (i : ℕ) (whole end : Text) → length xs ≤ i → end ++ flat_map text (drop i xs) ≡ whole → end ≡ whole
+pub written-all : {A : Type 0} (text : A → List ℕ) (xs : List A) (i : ℕ) (whole end : List ℕ) → length xs ≤ i → end ++ flat_map text (drop i xs) ≡ whole → end ≡ whole
 written-all text xs i whole end past is = sym (append-nil end) ∙ ap (λ rest. end ++ flat_map text rest) (sym (drop_all i xs past)) ∙ is
 
 -- an item's text was written behind its number
-pub numbered-one : {A : Type 0} (rest : ℕ → List A → Text) (text : ℕ → A → Text) → ((n : ℕ) (x : A) (xs : List A) → rest n (x ∷ xs) ≡ text n x ++ rest (n + 1) xs)
-    → (xs : List A) (i n : ℕ) (x : A) (start end : Text) → slice_get xs i ≡ Some x → end ≡ start ++ text n x
+pub numbered-one : {A : Type 0} (rest : ℕ → List A → List ℕ) (text : ℕ → A → List ℕ) → ((n : ℕ) (x : A) (xs : List A) → rest n (x ∷ xs) ≡ text n x ++ rest (n + 1) xs)
+    → (xs : List A) (i n : ℕ) (x : A) (start end : List ℕ) → slice_get xs i ≡ Some x → end ≡ start ++ text n x
     → end ++ rest (n + 1) (drop (i + 1) xs) ≡ start ++ rest n (drop i xs)
 numbered-one rest text step xs i n x start end is written =
     ap (λ t. t ++ rest (n + 1) (drop (i + 1) xs)) written
@@ -44,7 +43,7 @@ numbered-one rest text step xs i n x start end is written =
     ∙ ap (λ ys. start ++ rest n ys) (sym (rest-at xs i x is))
 
 -- all numbered texts were written
-pub numbered-all : {A : Type 0} (rest : ℕ → List A → Text) → ((n : ℕ) → rest n [] ≡ []) → (xs : List A) (i n : ℕ) (whole end : Text) → length xs ≤ i
+pub numbered-all : {A : Type 0} (rest : ℕ → List A → List ℕ) → ((n : ℕ) → rest n [] ≡ []) → (xs : List A) (i n : ℕ) (whole end : List ℕ) → length xs ≤ i
     → end ++ rest n (drop i xs) ≡ whole → end ≡ whole
 numbered-all rest none xs i n whole end past is = sym (append-nil end) ∙ ap (λ t. end ++ t) (sym (none n) ∙ ap (rest n) (sym (drop_all i xs past))) ∙ is
 
