@@ -1,5 +1,5 @@
 -- What an add does to what the book keeps.
-use Rattle.std.proofs.Common.{◌≡◌, ◌≢◌, ℕ, suc, ◌+◌, ◌<◌, ◌≤◌, Bool, true, false, cond, not, eq-eqb, ne_eqb, ◌==◌, List, [], ◌∷◌, ◌++◌, length, find, Option, Some, None, IfSome, sym, subst, ap, ◌∙◌, refl, length-append, one-add, add-one, arith}
+use Rattle.std.proofs.Common.{◌≡◌, ◌≢◌, ℕ, suc, ◌+◌, ◌<◌, ◌≤◌, Bool, true, false, cond, not, eq-eqb, ne_eqb, ◌==◌, List, [], ◌∷◌, ◌++◌, length, find, Option, Some, None, IfSome, IsSome, sym, subst, ap, ◌∙◌, refl, length-append, one-add, add-one, arith}
 use Rattle.std.specs.Prelude.{insert}
 use Rattle.std.specs.List.{AllZip, position_or_len, slice_get}
 use Rattle.std.specs.Option.{option_map_or}
@@ -10,15 +10,16 @@ use Rattle.edit_journal.specs.declared.edit.Edit.TheVariants as edit
 use Rattle.edit_journal.specs.declared.edit.Entry.{Entry}
 use Rattle.edit_journal.specs.declared.opening.Opening.{Opening}
 use Rattle.edit_journal.specs.Entries.{text_for}
-use Rattle.edit_journal.specs.Documents.{Block, Document, block_of, with_after, with_new, after, document_of, body, lines_in}
+use Rattle.edit_journal.specs.Documents.{Block, Document, HasAnchor, block_of, with_after, with_new, after, document_of, body, lines_in}
 use Rattle.edit_book.specs.declared.block_state.BlockState.{BlockState}
 use Rattle.edit_book.specs.declared.block_state.BlockState.TheVariants.{There, CutBy}
-use Rattle.edit_book.specs.Books.{AreDistinct, Each, ids_of, state_of, HasIds, HasText, HasLeaves, Fits, IsLawfulSetting, Stands, IsLeafOf}
+use Rattle.edit_book.specs.Books.{AreDistinct, Each, ids_of, state_of, HasIds, HasText, HasLeaves, Fits, IsLawful, IsLawfulSetting, Stands, IsLeafOf}
+use Rattle.edit_book.specs.Outlines.{MayCome}
 use Rattle.edit_book.specs.Orders.{is_id, place_of}
 use Rattle.edit_book.specs.Replies.{Add, cut_number, or_else, refused_anchor, refused_head, refused_entries, refused_blocks, refused_lines, refusal_of}
 use Rattle.edit_book.specs.Verdicts.{setting_of}
 use Rattle.edit_book.specs.declared.reply.Reply.{Reply}
-use Rattle.edit_book.proofs.Puts.{cut_number_snoc, doc_snoc, got_before, got_last, ids_count, named_there, place_there, or_else_none, short_after, text_last, texts_before, under}
+use Rattle.edit_book.proofs.Puts.{cut_number_snoc, doc_snoc, got_before, got_last, ids_count, named_there, place_there, or_else_none, short_after, text_last, texts_before}
 use Rattle.summary_tree.specs.Leaves.{Leaf}
 
 after_ids : (bs : List Block) (id : ℕ) (new : Block) → (b : Block) × (block_of bs id ≡ Some b) → ids_of (with_after id new bs) ≡ insert (ids_of bs) (position_or_len (is_id id) (ids_of bs) + 1) new.id
@@ -144,7 +145,7 @@ add_zip : (R : Leaf → List (List ℕ) → Type 0) (anchor : Anchor) (leaves : 
 add_zip R Start leaves bs leaf new p there h = (p, h)
 add_zip R (After id) leaves bs leaf new p there h = after_zip R leaves bs id leaf new p (there id refl) h
 
-add_count : (anchor : Anchor) (bs : List Block) (new : Block) → length (with_new anchor new bs) ≤ length bs + 1
+pub add_count : (anchor : Anchor) (bs : List Block) (new : Block) → length (with_new anchor new bs) ≤ length bs + 1
 add_count Start bs new = omega arith
 add_count (After id) bs new = count bs
   where
@@ -156,6 +157,14 @@ add_count (After id) bs new = count bs
         go true ih = omega arith
         go false ih = omega (arith, ih)
 
+after_longer : (bs : List Block) (id : ℕ) (new : Block) → (b : Block) × (block_of bs id ≡ Some b) → length (with_after id new bs) ≡ length bs + 1
+after_longer [] id new there = absurd (cc (there.1))
+after_longer (x ∷ bs) id new there = go (x.id == id) (λ h. after_longer bs id new (there.0, h)) there.1
+  where
+    go : (t : Bool) → (block_of bs id ≡ Some there.0 → length (with_after id new bs) ≡ length bs + 1) → cond t (Some x) (block_of bs id) ≡ Some there.0 → length (cond t (x ∷ new ∷ bs) (x ∷ with_after id new bs)) ≡ suc (length bs) + 1
+    go true ih h = omega arith
+    go false ih h = omega (arith, ih h)
+
 after_lines : (bs : List Block) (id : ℕ) (new : Block) → (b : Block) × (block_of bs id ≡ Some b) → length (lines_in (with_after id new bs)) ≡ length (lines_in bs) + length new.lines
 after_lines [] id new there = absurd (cc (there.1))
 after_lines (x ∷ bs) id new there = go (x.id == id) (λ h. after_lines bs id new (there.0, h)) there.1
@@ -166,16 +175,31 @@ after_lines (x ∷ bs) id new there = go (x.id == id) (λ h. after_lines bs id n
     go false ih h = omega (arith, ih h, length-append x.lines (lines_in bs), length-append x.lines (lines_in (with_after id new bs)))
 
 -- an anchor that nothing refuses is there
-pub anchor_there : (d : Document) (es : List Entry) (anchor : Anchor) → refused_anchor d es anchor ≡ None → (id : ℕ) → anchor ≡ After id → (b : Block) × (block_of d.blocks id ≡ Some b)
-anchor_there d es Start free id is = absurd (cc)
-anchor_there d es (After k) free id is =
-    let same : k ≡ id = cc in
-    let b = named_there d es k free in
-    (b.0, ap (block_of d.blocks) (sym same) ∙ b.1)
+pub has_anchor : (d : Document) (es : List Entry) (anchor : Anchor) → refused_anchor d es anchor ≡ None → HasAnchor d anchor
+has_anchor d es Start free = tt
+has_anchor d es (After k) free = let b = named_there d es k free in subst (λ (o : Option Block). IsSome o) (sym b.1) refl
+
+pub anchor_there : (d : Document) (anchor : Anchor) → HasAnchor d anchor → (id : ℕ) → anchor ≡ After id → (b : Block) × (block_of d.blocks id ≡ Some b)
+anchor_there d Start has id is = absurd (cc)
+anchor_there d (After k) has id is = go (block_of d.blocks k) refl has
+  where
+    same : k ≡ id
+    same = cc
+
+    go : (o : Option Block) → block_of d.blocks k ≡ o → IsSome o → (b : Block) × (block_of d.blocks id ≡ Some b)
+    go None there has = absurd (cc)
+    go (Some b) there has = (b, ap (block_of d.blocks) (sym same) ∙ there)
+
+pub add_longer : (d : Document) (anchor : Anchor) (new : Block) → HasAnchor d anchor → length (with_new anchor new d.blocks) ≡ length d.blocks + 1
+add_longer d Start new has = omega arith
+add_longer d (After k) new has = after_longer d.blocks k new (anchor_there d (After k) has k refl)
+
+pub lines_more : (d : Document) (anchor : Anchor) (i id : ℕ) (text : List (List ℕ)) → HasAnchor d anchor → length (body (after d i (edit.Add anchor id text))) ≡ length (body d) + length text
+lines_more d Start i id text has = omega (arith, length-append text (lines_in d.blocks))
+lines_more d (After k) i id text has = after_lines d.blocks k (record { id = id; stamp = i; lines = text }) (anchor_there d (After k) has k refl)
 
 pub lines_added : (d : Document) (es : List Entry) (anchor : Anchor) (i : ℕ) (text : List (List ℕ)) → refused_anchor d es anchor ≡ None → length (body (after d i (edit.Add anchor d.drawn text))) ≡ length (body d) + length text
-lines_added d es Start i text free = omega (arith, length-append text (lines_in d.blocks))
-lines_added d es (After id) i text free = after_lines d.blocks id (record { id = d.drawn; stamp = i; lines = text }) (anchor_there d es (After id) free id refl)
+lines_added d es anchor i text free = lines_more d anchor i d.drawn text (has_anchor d es anchor free)
 
 pub ruleset added = (lines_added)
 
@@ -197,14 +221,14 @@ add_free d es anchor head text h =
     record { anchored = a.0; headed = b.0; entries = c.0; blocks = e.0; lines = e.1 }
 
 -- the place lies within the list or at its end
-pub place_within : (d : Document) (es : List Entry) (anchor : Anchor) → refused_anchor d es anchor ≡ None → place_of anchor (ids_of d.blocks) ≤ length d.blocks
-place_within d es Start free = omega arith
-place_within d es (After id) free = let b = anchor_there d es (After id) free id refl in omega (arith, place_there d.blocks id b.0 b.1, ids_count d.blocks)
+pub place_within : (d : Document) (anchor : Anchor) → HasAnchor d anchor → place_of anchor (ids_of d.blocks) ≤ length d.blocks
+place_within d Start has = omega arith
+place_within d (After id) has = let b = anchor_there d (After id) has id refl in omega (arith, place_there d.blocks id b.0 b.1, ids_count d.blocks)
 
-add_states : (d : Document) (es : List Entry) (states : List BlockState) (anchor : Anchor) (session : ℕ) (text : List (List ℕ)) → length states ≡ d.drawn → Each (λ k. k < d.drawn) (ids_of d.blocks) → refused_anchor d es anchor ≡ None
+add_states : (d : Document) (es : List Entry) (states : List BlockState) (anchor : Anchor) (session : ℕ) (text : List (List ℕ)) → length states ≡ d.drawn → Each (λ k. k < d.drawn) (ids_of d.blocks) → HasAnchor d anchor
     → ((k : ℕ) → k < d.drawn → slice_get states k ≡ Some (state_of d es k))
     → (k : ℕ) → k < d.drawn + 1 → slice_get (states ++ There (length es + 1) ∷ []) k ≡ Some (state_of (after d (length es + 1) (edit.Add anchor d.drawn text)) (es ++ record { session = session; edit = edit.Add anchor d.drawn text } ∷ []) k)
-add_states d es states anchor session text many below free all k lt = go (k == d.drawn) refl
+add_states d es states anchor session text many below has all k lt = go (k == d.drawn) refl
   where
     go : (t : Bool) → (k == d.drawn) ≡ t → slice_get (states ++ There (length es + 1) ∷ []) k ≡ Some (state_of (after d (length es + 1) (edit.Add anchor d.drawn text)) (es ++ record { session = session; edit = edit.Add anchor d.drawn text } ∷ []) k)
     go true is =
@@ -212,7 +236,7 @@ add_states d es states anchor session text many below free all k lt = go (k == d
         subst (λ (n : ℕ). slice_get (states ++ There (length es + 1) ∷ []) n ≡ Some (state_of (after d (length es + 1) (edit.Add anchor d.drawn text)) (es ++ record { session = session; edit = edit.Add anchor d.drawn text } ∷ []) n)) (sym same)
         (ap (slice_get (states ++ There (length es + 1) ∷ [])) (sym many) ∙ (got_last states (There (length es + 1))
         ∙ ap (λ (o : Option Block). Some (option_map_or (λ x. There x.stamp) o (CutBy (cut_number (es ++ record { session = session; edit = edit.Add anchor d.drawn text } ∷ []) d.drawn))))
-        (sym (add_new anchor d.blocks (record { id = d.drawn; stamp = length es + 1; lines = text }) below (anchor_there d es anchor free)))))
+        (sym (add_new anchor d.blocks (record { id = d.drawn; stamp = length es + 1; lines = text }) below (anchor_there d anchor has)))))
     go false is =
         let ne : k ≢ d.drawn = eqb-false k d.drawn is in
         got_before states (There (length es + 1)) (state_of d es k) k (all k (omega (arith, lt, ne)))
@@ -226,20 +250,19 @@ add_short anchor id session k text h = go (id == k)
     go true = h
     go false = tt
 
-pub add_stands : (o : Opening) (es : List Entry) (leaves : List Leaf) (states : List BlockState) (ids : List ℕ) (had session : ℕ) (anchor : Anchor) (head lines : ℕ) (text : List (List ℕ)) (leaf : Leaf)
-    → Stands o es leaves states ids had → refusal_of (document_of o es) es (Add anchor head text) ≡ None
-    → lines ≡ length (body (after (document_of o es) (length es + 1) (edit.Add anchor (document_of o es).drawn text))) → length text ≤ 4096 → IsLeafOf (setting_of o (document_of o es)) leaf text
-    → Stands o (es ++ record { session = session; edit = edit.Add anchor (document_of o es).drawn text } ∷ []) (insert leaves (place_of anchor (ids_of (document_of o es).blocks)) leaf) (states ++ There (length es + 1) ∷ [])
+pub add_stands : (o : Opening) (es : List Entry) (states : List BlockState) (ids : List ℕ) (had session : ℕ) (anchor : Anchor) (lines : ℕ) (text : List (List ℕ))
+    → Stands o es states ids had → MayCome o es (edit.Add anchor (document_of o es).drawn text)
+    → lines ≡ length (body (after (document_of o es) (length es + 1) (edit.Add anchor (document_of o es).drawn text))) → length text ≤ 4096
+    → Stands o (es ++ record { session = session; edit = edit.Add anchor (document_of o es).drawn text } ∷ []) (states ++ There (length es + 1) ∷ [])
     (insert ids (place_of anchor (ids_of (document_of o es).blocks)) (document_of o es).drawn) lines
-add_stands o es leaves states ids had session anchor head lines text leaf s free lines_is short leaf_is =
+add_stands o es states ids had session anchor lines text s comes lines_is short =
     let d : Document = document_of o es in
     let e : Entry = record { session = session; edit = edit.Add anchor d.drawn text } in
     let i : ℕ = length es + 1 in
     let new : Block = record { id = d.drawn; stamp = i; lines = text } in
     let at : ℕ = place_of anchor (ids_of d.blocks) in
     let next : document_of o (es ++ e ∷ []) ≡ after d i (edit.Add anchor d.drawn text) = doc_snoc o es e in
-    let f = add_free d es anchor head text free in
-    let there = anchor_there d es anchor f.anchored in
+    let there = anchor_there d anchor comes.fits.1 in
     let long : length (es ++ e ∷ []) ≡ length es + 1 = length-append es (e ∷ []) in
     record {
       lawful = record {
@@ -248,20 +271,29 @@ add_stands o es leaves states ids had session anchor head lines text leaf s free
           drawn = add_each_id (λ k. k < d.drawn + 1) anchor d.blocks new (omega arith) (more_drawn (ids_of d.blocks) d.drawn s.lawful.has_ids.drawn);
         });
         fits = subst (λ (x : Document). Fits x (es ++ e ∷ [])) (sym next) (record {
-          entries_fit = omega (arith, long, under _ _ _ _ f.entries);
-          blocks_fit = omega (arith, add_count anchor d.blocks new, under _ _ _ _ f.blocks);
-          lines_fit = under _ _ _ _ f.lines;
+          entries_fit = omega (arith, long, comes.room);
+          blocks_fit = comes.blocks;
+          lines_fit = comes.lines;
           ids_fit = omega (arith, long, s.lawful.fits.ids_fit);
         });
         texts = subst (λ (x : Document). Each (HasText o (es ++ e ∷ [])) x.blocks) (sym next)
             (add_each (HasText o (es ++ e ∷ [])) anchor d.blocks new (text_last o es e d.drawn ∙ ap (λ (t : Bool). cond t (Some text) None) (eq-eqb d.drawn d.drawn refl)) (texts_before o es e d.blocks s.lawful.texts));
         short = short_after o es e s.lawful.short (λ k. add_short anchor d.drawn session k text short);
-        leaves_are = subst (λ (x : Document). HasLeaves o x (insert leaves at leaf)) (sym next) (add_zip (IsLeafOf (setting_of o d)) anchor leaves d.blocks leaf new leaf_is there s.lawful.leaves_are);
         setting = subst (λ (x : Document). IsLawfulSetting (setting_of o x)) (sym next) s.lawful.setting;
       };
       drawn = length-append states (There i ∷ []) ∙ (ap (λ (n : ℕ). n + 1) s.drawn ∙ ap (λ (x : Document). x.drawn) (sym next));
       states_are = subst (λ (x : Document). (k : ℕ) → k < x.drawn → slice_get (states ++ There i ∷ []) k ≡ Some (state_of x (es ++ e ∷ []) k)) (sym next)
-          (add_states d es states anchor session text s.drawn s.lawful.has_ids.drawn f.anchored s.states_are);
+          (add_states d es states anchor session text s.drawn s.lawful.has_ids.drawn comes.fits.1 s.states_are);
       order = ap (λ (l : List ℕ). insert l at d.drawn) s.order ∙ (sym (add_ids anchor d.blocks new there) ∙ ap (λ (x : Document). ids_of x.blocks) (sym next));
       lines = lines_is ∙ ap (λ (x : Document). length (body x)) (sym next);
     }
+
+-- and each leaf is made of the lines of its block
+pub add_leaves : (o : Opening) (es : List Entry) (leaves : List Leaf) (session id : ℕ) (anchor : Anchor) (text : List (List ℕ)) (leaf : Leaf) → IsLawful o es leaves → HasAnchor (document_of o es) anchor
+    → IsLeafOf (setting_of o (document_of o es)) leaf text
+    → HasLeaves o (document_of o (es ++ record { session = session; edit = edit.Add anchor id text } ∷ [])) (insert leaves (place_of anchor (ids_of (document_of o es).blocks)) leaf)
+add_leaves o es leaves session id anchor text leaf s has leaf_is =
+    let d : Document = document_of o es in
+    let new : Block = record { id = id; stamp = length es + 1; lines = text } in
+    subst (λ (x : Document). HasLeaves o x (insert leaves (place_of anchor (ids_of d.blocks)) leaf)) (sym (doc_snoc o es (record { session = session; edit = edit.Add anchor id text })))
+    (add_zip (IsLeafOf (setting_of o d)) anchor leaves d.blocks leaf new leaf_is (anchor_there d anchor has) s.leaves_are)

@@ -34,8 +34,7 @@ use Rattle.loop_history.specs.Entries.{AreEntriesOf}
 use Rattle.loop_history.specs.Rows.{fact_of_row}
 use Rattle.loop_history.specs.Tables.{IsRowOf, TableStandsFor}
 use Rattle.tree_shape.proofs.RowWalks.{all_get}
-use Rattle.edit_book.specs.declared.block_state.BlockState.{BlockState}
-use Rattle.edit_book.specs.Books.{BookView, Stands, document}
+use Rattle.edit_book.specs.Books.{BookView, IsLawful, document}
 use Rattle.edit_book.specs.Entered.{IsBehind, entries_held, stops_by}
 use Rattle.edit_book.specs.Verdicts.{IsLoopOn, setting_of}
 use Rattle.carriage_model.proofs.LoopOfLine.{later_lines}
@@ -79,10 +78,14 @@ stops_told leaves view first line fault root is = go (applied (summary_of view) 
     go (went_on s) h = absurd (cc)
     go (faulted f) h = let same : fault ≡ f = cc in ap (λ x. nat_le x.line line) same
 
-module _ (o : Opening) (es : List Entry) (states : List BlockState) (ids : List ℕ) (had line : ℕ) (v : BookView) (room : Bool) (tree : TreeView)
-    (s : Stands o es tree.leaves states ids had) (view : record { opening = o; entries = es; journal_room = room; tree = tree } ≡ v) where
+-- a line's place is reckoned from the first line, whatever names it
+pub placed : (leaves : List Leaf) (line first here : ℕ) (place : Option (ℕ × ℕ)) → first ≡ here → place_of_line leaves (line - first) ≡ place → place_of_line leaves (line - here) ≡ place
+placed leaves line first here place same found = ap (λ (n : ℕ). place_of_line leaves (line - n)) (sym same) ∙ found
+
+module _ (o : Opening) (es : List Entry) (line : ℕ) (v : BookView) (room : Bool) (tree : TreeView)
+    (s : IsLawful o es tree.leaves) (view : record { opening = o; entries = es; journal_room = room; tree = tree } ≡ v) where
   abbrev all : AllRead (setting_at o es) tree.leaves (document_of o es).blocks
-  all = all_read (setting_at o es) tree.leaves (document_of o es).blocks s.lawful.leaves_are
+  all = all_read (setting_at o es) tree.leaves (document_of o es).blocks s.leaves_are
 
   abbrev reads : List Read
   reads = all_lines all.blocks

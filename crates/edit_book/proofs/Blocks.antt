@@ -5,12 +5,14 @@ use Rattle.std.specs.Option.{option_copied, option_map_or}
 use Rattle.edit_journal.specs.declared.edit.Entry.{Entry}
 use Rattle.edit_journal.specs.declared.opening.Opening.{Opening}
 use Rattle.edit_journal.specs.Entries.{entry_at, text_for}
-use Rattle.edit_journal.specs.Documents.{Block, Document, block_of, stamp_at, text_at}
+use Rattle.edit_journal.specs.Documents.{Block, Document, block_of, document_of, stamp_at, text_at}
+use Rattle.summary_tree.specs.Leaves.{Leaf}
 use Rattle.summary_tree.specs.Trees.{TreeView}
 use Rattle.edit_book.specs.declared.block_state.BlockState.{BlockState}
 use Rattle.edit_book.specs.declared.block_state.BlockState.TheVariants.{There, CutBy}
 use Rattle.edit_book.specs.declared.reply.Reply.TheVariants.{Stale}
-use Rattle.edit_book.specs.Books.{BookView, document, state_of, Each, ids_of, HasText, HasShortTexts, IsLawfulBook, Stands}
+use Rattle.edit_book.specs.Books.{BookView, state_of, Each, ids_of, HasLeaves, HasText, HasShortTexts, IsLawful, IsLawfulBook, IsLawfulOutline, Stands}
+use Rattle.edit_book.specs.Outlines.{OutlineView, outlined}
 use Rattle.edit_book.specs.Replies.{cut_number, refused_stamp}
 
 -- a block that wasn't drawn isn't there
@@ -37,26 +39,26 @@ gone d entries id at h = go (block_of d.blocks id) h
     go None h = refl
     go (Some b) h = absurd (cc)
 
-pub stamp_there : (book : BookView) (id stamp : ℕ) → IsLawfulBook book → Some (There stamp) ≡ cond (ltb id (document book).drawn) (Some (state_of (document book) book.entries id)) None → stamp_at (document book).blocks id ≡ Some stamp
-stamp_there book id stamp lawful h = go (ltb id (document book).drawn) h
+pub stamp_there : (w : OutlineView) (id stamp : ℕ) → IsLawfulOutline w.opening w.entries → Some (There stamp) ≡ cond (ltb id (outlined w).drawn) (Some (state_of (outlined w) w.entries id)) None → stamp_at (outlined w).blocks id ≡ Some stamp
+stamp_there w id stamp lawful h = go (ltb id (outlined w).drawn) h
   where
-    go : (t : Bool) → Some (There stamp) ≡ cond t (Some (state_of (document book) book.entries id)) None → stamp_at (document book).blocks id ≡ Some stamp
-    go true h = let is : There stamp ≡ state_of (document book) book.entries id = cc in there (document book) book.entries id stamp (sym is)
+    go : (t : Bool) → Some (There stamp) ≡ cond t (Some (state_of (outlined w) w.entries id)) None → stamp_at (outlined w).blocks id ≡ Some stamp
+    go true h = let is : There stamp ≡ state_of (outlined w) w.entries id = cc in there (outlined w) w.entries id stamp (sym is)
     go false h = absurd (cc)
 
-pub stamp_cut : (book : BookView) (id at : ℕ) → IsLawfulBook book → Some (CutBy at) ≡ cond (ltb id (document book).drawn) (Some (state_of (document book) book.entries id)) None → stamp_at (document book).blocks id ≡ None
-stamp_cut book id at lawful h = go (ltb id (document book).drawn) h
+pub stamp_cut : (w : OutlineView) (id at : ℕ) → IsLawfulOutline w.opening w.entries → Some (CutBy at) ≡ cond (ltb id (outlined w).drawn) (Some (state_of (outlined w) w.entries id)) None → stamp_at (outlined w).blocks id ≡ None
+stamp_cut w id at lawful h = go (ltb id (outlined w).drawn) h
   where
-    go : (t : Bool) → Some (CutBy at) ≡ cond t (Some (state_of (document book) book.entries id)) None → stamp_at (document book).blocks id ≡ None
-    go true h = let is : CutBy at ≡ state_of (document book) book.entries id = cc in gone (document book) book.entries id at (sym is)
+    go : (t : Bool) → Some (CutBy at) ≡ cond t (Some (state_of (outlined w) w.entries id)) None → stamp_at (outlined w).blocks id ≡ None
+    go true h = let is : CutBy at ≡ state_of (outlined w) w.entries id = cc in gone (outlined w) w.entries id at (sym is)
     go false h = absurd (cc)
 
-pub stamp_undrawn : (book : BookView) (id : ℕ) → IsLawfulBook book → None ≡ cond (ltb id (document book).drawn) (Some (state_of (document book) book.entries id)) None → stamp_at (document book).blocks id ≡ None
-stamp_undrawn book id lawful h = go (ltb id (document book).drawn) refl h
+pub stamp_undrawn : (w : OutlineView) (id : ℕ) → IsLawfulOutline w.opening w.entries → None ≡ cond (ltb id (outlined w).drawn) (Some (state_of (outlined w) w.entries id)) None → stamp_at (outlined w).blocks id ≡ None
+stamp_undrawn w id lawful h = go (ltb id (outlined w).drawn) refl h
   where
-    go : (t : Bool) → ltb id (document book).drawn ≡ t → None ≡ cond t (Some (state_of (document book) book.entries id)) None → stamp_at (document book).blocks id ≡ None
+    go : (t : Bool) → ltb id (outlined w).drawn ≡ t → None ≡ cond t (Some (state_of (outlined w) w.entries id)) None → stamp_at (outlined w).blocks id ≡ None
     go true is h = absurd (cc)
-    go false is h = ap (option_map (λ b. b.stamp)) (undrawn (document book).blocks (document book).drawn id lawful.has_ids.drawn (ltb-false id (document book).drawn is))
+    go false is h = ap (option_map (λ b. b.stamp)) (undrawn (outlined w).blocks (outlined w).drawn id lawful.has_ids.drawn (ltb-false id (outlined w).drawn is))
 
 pub ruleset stamp_states = (stamp_there, stamp_cut, stamp_undrawn)
 
@@ -91,11 +93,11 @@ text_of_block opening entries (b ∷ bs) id stamp h is = go (b.id == id) refl (t
         ap (λ (k : ℕ). text_at opening entries k stamp) id_is ∙ (ap (λ (k : ℕ). text_at opening entries b.id k) stamp_is ∙ h.0)
     go false same rest is = rest is
 
-pub block_text : (book : BookView) (id stamp : ℕ) → IsLawfulBook book → Some stamp ≡ stamp_at (document book).blocks id → text_at book.opening book.entries id stamp ≡ option_map (λ b. b.lines) (block_of (document book).blocks id)
-block_text book id stamp lawful is = text_of_block book.opening book.entries (document book).blocks id stamp lawful.texts (sym is)
+pub block_text : (w : OutlineView) (id stamp : ℕ) → IsLawfulOutline w.opening w.entries → Some stamp ≡ stamp_at (outlined w).blocks id → text_at w.opening w.entries id stamp ≡ option_map (λ b. b.lines) (block_of (outlined w).blocks id)
+block_text w id stamp lawful is = text_of_block w.opening w.entries (outlined w).blocks id stamp lawful.texts (sym is)
 
-pub no_block_text : (book : BookView) (id : ℕ) → IsLawfulBook book → None ≡ stamp_at (document book).blocks id → option_map (λ b. b.lines) (block_of (document book).blocks id) ≡ None
-no_block_text book id lawful is = go (block_of (document book).blocks id) is
+pub no_block_text : (w : OutlineView) (id : ℕ) → IsLawfulOutline w.opening w.entries → None ≡ stamp_at (outlined w).blocks id → option_map (λ b. b.lines) (block_of (outlined w).blocks id) ≡ None
+no_block_text w id lawful is = go (block_of (outlined w).blocks id) is
   where
     go : (o : Option Block) → None ≡ option_map (λ b. b.stamp) o → option_map (λ b. b.lines) o ≡ None
     go None h = refl
@@ -108,10 +110,18 @@ pub short_text : (opening : Opening) (entries : List Entry) (id stamp : ℕ) (r 
 short_text opening entries id stamp None short is = tt
 short_text opening entries id stamp (Some r) short is = subst (λ (o : Option (List (List ℕ))). IfSome o (λ text. length text ≤ 4096)) (sym is) (short id stamp)
 
-pub lawful_of : (o : Opening) (es : List Entry) (tree : TreeView) (room : Bool) (w : BookView) (states : List BlockState) (ids : List ℕ) (count : ℕ) → Stands o es tree.leaves states ids count → record { opening = o; entries = es; journal_room = room; tree = tree } ≡ w → IsLawfulBook w
-lawful_of o es tree room w states ids count s is = subst IsLawfulBook is s.lawful
+pub outline_lawful : (o : Opening) (es : List Entry) (room : Bool) (w : OutlineView) (states : List BlockState) (ids : List ℕ) (count : ℕ) → Stands o es states ids count → record { opening = o; entries = es; journal_room = room } ≡ w
+    → IsLawfulOutline w.opening w.entries
+outline_lawful o es room w states ids count s is = subst (λ (v : OutlineView). IsLawfulOutline v.opening v.entries) is s.lawful
 
-pub ruleset lawful = (lawful_of)
+pub lawful_of : (o : Opening) (es : List Entry) (tree : TreeView) (room : Bool) (w : BookView) → IsLawful o es tree.leaves → record { opening = o; entries = es; journal_room = room; tree = tree } ≡ w → IsLawfulBook w
+lawful_of o es tree room w s is = subst IsLawfulBook is s
+
+pub ruleset lawful = (outline_lawful, lawful_of)
+
+-- what holds of a book is what holds of its outline, and its leaves
+pub with_leaves : (o : Opening) (es : List Entry) (leaves : List Leaf) → IsLawfulOutline o es → HasLeaves o (document_of o es) leaves → IsLawful o es leaves
+with_leaves o es leaves s leaves_are = record { has_ids = s.has_ids; fits = s.fits; texts = s.texts; short = s.short; leaves_are = leaves_are; setting = s.setting }
 
 -- the text that an entry gave a block
 pub text_later : (opening : Opening) (entries : List Entry) (id stamp : ℕ) (e : Entry) → stamp ≢ 0 → Some e ≡ entry_at entries stamp → text_at opening entries id stamp ≡ text_for id e

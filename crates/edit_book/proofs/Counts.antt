@@ -51,3 +51,11 @@ cut_keeps (b ∷ bs) id h = go (b.id == id) (cut_keeps bs id) h
     go false ih h = ap (λ (l : List Block). b ∷ l) (ih h)
 
 pub ruleset cut_counted = (lines_cut, cut_keeps, lines_had)
+
+pub cut_fewer : (bs : List Block) (id : ℕ) → length (lines_in (without id bs)) ≤ length (lines_in bs)
+cut_fewer [] id = omega arith
+cut_fewer (b ∷ bs) id = go (b.id == id) (cut_fewer bs id)
+  where
+    go : (t : Bool) → length (lines_in (without id bs)) ≤ length (lines_in bs) → length (lines_in (cond t bs (b ∷ without id bs))) ≤ length (b.lines ++ lines_in bs)
+    go true ih = omega (arith, length-append b.lines (lines_in bs))
+    go false ih = omega (arith, ih, length-append b.lines (lines_in bs), length-append b.lines (lines_in (without id bs)))

@@ -10,20 +10,14 @@ use Rattle.edit_journal.specs.declared.opening.Opening.{Opening}
 use Rattle.edit_journal.specs.Documents.{Block, Document, block_of, without, after, document_of, body}
 use Rattle.edit_book.specs.declared.block_state.BlockState.{BlockState}
 use Rattle.edit_book.specs.declared.block_state.BlockState.TheVariants.{There, CutBy}
-use Rattle.edit_book.specs.Books.{BookView, document, AreDistinct, Each, ids_of, state_of, HasIds, HasText, HasLeaves, Fits, IsLawfulSetting, Stands, IsLeafOf}
+use Rattle.edit_book.specs.Books.{AreDistinct, Each, ids_of, state_of, HasIds, HasText, HasLeaves, Fits, IsLawful, IsLawfulSetting, Stands, IsLeafOf}
 use Rattle.edit_book.specs.Orders.{is_id}
+use Rattle.edit_book.specs.Outlines.{MayCome}
 use Rattle.edit_book.specs.Replies.{Cut, cut_number, or_else, refused_name, refused_stamp, refused_entries, refusal_of}
-use Rattle.edit_book.proofs.Puts.{cut_number_snoc, doc_snoc, has_place, named_there, or_else_none, place_is, set_other, set_there, short_after, texts_before, under}
-use Rattle.edit_book.proofs.Trees.{leaf_each}
-use Rattle.edit_book.proofs.Work.{KnowsLine, cut_lines, edit_work, lines_known}
+use Rattle.edit_book.proofs.Puts.{cut_number_snoc, doc_snoc, or_else_none, place_is, set_other, set_there, short_after, stamped_there, texts_before, there_drawn}
 use Rattle.edit_book.specs.Verdicts.{setting_of}
-use Rattle.edit_book.specs.Work.{needles_in, work_limit}
-use Rattle.knit_base.specs.declared.needle.Needle.{Needle}
-use Rattle.knit_base.specs.declared.setting.Setting.{Setting}
-use Rattle.face_data.specs.Items.{most_items}
 use Rattle.tree_shape.specs.Fewest.{removed}
-use Rattle.summary_tree.specs.Leaves.{AreGoodFor, Leaf}
-use Rattle.summary_tree.specs.Trees.{TreeView, change_steps}
+use Rattle.summary_tree.specs.Leaves.{Leaf}
 
 -- a list without one item
 pub removed_is : {X : Type 0} (at : ℕ) (xs : List X) → removed at xs ≡ remove xs at
@@ -39,7 +33,7 @@ cut_ids (b ∷ bs) id = go (b.id == id) (cut_ids bs id)
     go true ih = refl
     go false ih = simp one-add (ap (λ (l : List ℕ). b.id ∷ l) ih)
 
-cut_count : (bs : List Block) (id : ℕ) → length (without id bs) ≤ length bs
+pub cut_count : (bs : List Block) (id : ℕ) → length (without id bs) ≤ length bs
 cut_count [] id = omega arith
 cut_count (b ∷ bs) id = go (b.id == id) (cut_count bs id)
   where
@@ -119,11 +113,11 @@ cut_zip R (l ∷ leaves) (b ∷ bs) id h = go (b.id == id) (cut_zip R leaves bs 
     go true rest = h.1
     go false rest = simp one-add (h.0, rest)
 
-pub cut_free : (d : Document) (entries : List Entry) (id seen : ℕ) → refusal_of d entries (Cut id seen) ≡ None → (refused_name d entries id ≡ None) × (refused_entries entries ≡ None)
+pub cut_free : (d : Document) (entries : List Entry) (id seen : ℕ) → refusal_of d entries (Cut id seen) ≡ None → (refused_name d entries id ≡ None) × (refused_stamp d entries id seen ≡ None) × (refused_entries entries ≡ None)
 cut_free d entries id seen h =
     let a = or_else_none (refused_name d entries id) (or_else (refused_stamp d entries id seen) (refused_entries entries)) h in
     let b = or_else_none (refused_stamp d entries id seen) (refused_entries entries) a.1 in
-    (a.0, b.1)
+    (a.0, b.0, b.1)
 
 cut_states : (d : Document) (es : List Entry) (states : List BlockState) (id seen session : ℕ) → AreDistinct (ids_of d.blocks) → id < length states
     → ((k : ℕ) → k < d.drawn → slice_get states k ≡ Some (state_of d es k))
@@ -148,17 +142,17 @@ cut_states d es states id seen session distinct fits all k drawn = go (k == id) 
         ∙ (ap (λ (o : Option Block). Some (option_map_or (λ x. There x.stamp) o (CutBy (cut_number es k)))) (sym (cut_other d.blocks id k ne))
         ∙ ap (λ (n : ℕ). Some (option_map_or (λ x. There x.stamp) (block_of (without id d.blocks) k) (CutBy n))) (sym number)))
 
-pub cut_stands : (o : Opening) (es : List Entry) (leaves : List Leaf) (states : List BlockState) (ids : List ℕ) (had session id seen at lines : ℕ)
-    → Stands o es leaves states ids had → refusal_of (document_of o es) es (Cut id seen) ≡ None → position (is_id id) ids ≡ Some at
-    → lines ≡ length (body (after (document_of o es) (length es + 1) (edit.Cut id seen))) → lines ≤ length (body (document_of o es))
-    → Stands o (es ++ record { session = session; edit = edit.Cut id seen } ∷ []) (remove leaves at) (set states id (CutBy (length es + 1))) (remove ids at) lines
-cut_stands o es leaves states ids had session id seen at lines s free place lines_is fewer =
+pub cut_stands : (o : Opening) (es : List Entry) (states : List BlockState) (ids : List ℕ) (had session id seen at lines : ℕ)
+    → Stands o es states ids had → MayCome o es (edit.Cut id seen) → position (is_id id) ids ≡ Some at
+    → lines ≡ length (body (after (document_of o es) (length es + 1) (edit.Cut id seen)))
+    → Stands o (es ++ record { session = session; edit = edit.Cut id seen } ∷ []) (set states id (CutBy (length es + 1))) (remove ids at) lines
+cut_stands o es states ids had session id seen at lines s comes place lines_is =
     let e : Entry = record { session = session; edit = edit.Cut id seen } in
     let d : Document = document_of o es in
     let i : ℕ = length es + 1 in
     let next : document_of o (es ++ e ∷ []) ≡ after d i (edit.Cut id seen) = doc_snoc o es e in
-    let f = cut_free d es id seen free in
-    let b = named_there d es id f.0 in
+    let b = stamped_there d.blocks id seen comes.fits in
+    let drawn = there_drawn d.blocks d.drawn id b.0 s.lawful.has_ids.drawn b.1 in
     let long : length (es ++ e ∷ []) ≡ length es + 1 = length-append es (e ∷ []) in
     let at_is : at ≡ position_or_len (is_id id) (ids_of d.blocks) = (place_is ids id at place).0 ∙ ap (position_or_len (is_id id)) s.order in
     record {
@@ -168,58 +162,27 @@ cut_stands o es leaves states ids had session id seen at lines s free place line
           drawn = cut_each_id (λ k. k < d.drawn) d.blocks id s.lawful.has_ids.drawn;
         });
         fits = subst (λ (x : Document). Fits x (es ++ e ∷ [])) (sym next) (record {
-          entries_fit = omega (arith, long, under _ _ _ _ f.1);
-          blocks_fit = omega (arith, cut_count d.blocks id, s.lawful.fits.blocks_fit);
-          lines_fit = omega (arith, lines_is, fewer, s.lawful.fits.lines_fit);
+          entries_fit = omega (arith, long, comes.room);
+          blocks_fit = comes.blocks;
+          lines_fit = comes.lines;
           ids_fit = omega (arith, long, s.lawful.fits.ids_fit);
         });
         texts = subst (λ (x : Document). Each (HasText o (es ++ e ∷ [])) x.blocks) (sym next) (cut_each (HasText o (es ++ e ∷ [])) d.blocks id (texts_before o es e d.blocks s.lawful.texts));
         short = short_after o es e s.lawful.short (λ k. tt);
-        leaves_are = subst (λ (x : Document). HasLeaves o x (remove leaves at)) (sym next)
-            (subst (λ (n : ℕ). AllZip (λ (l : Leaf) (y : Block). IsLeafOf (setting_of o d) l y.lines) (remove leaves n) (without id d.blocks)) (sym at_is)
-            (cut_zip (IsLeafOf (setting_of o d)) leaves d.blocks id s.lawful.leaves_are));
         setting = subst (λ (x : Document). IsLawfulSetting (setting_of o x)) (sym next) s.lawful.setting;
       };
       drawn = length-set states id (CutBy i) ∙ (s.drawn ∙ ap (λ (x : Document). x.drawn) (sym next));
       states_are = subst (λ (x : Document). (k : ℕ) → k < x.drawn → slice_get (set states id (CutBy i)) k ≡ Some (state_of x (es ++ e ∷ []) k)) (sym next)
-          (cut_states d es states id seen session s.lawful.has_ids.differ (omega (arith, b.2, s.drawn)) s.states_are);
+          (cut_states d es states id seen session s.lawful.has_ids.differ (omega (arith, drawn, s.drawn)) s.states_are);
       order = ap (λ (n : ℕ). remove ids n) at_is ∙ (ap (λ (l : List ℕ). remove l (position_or_len (is_id id) (ids_of d.blocks))) s.order ∙ (sym (cut_ids d.blocks id) ∙ ap (λ (x : Document). ids_of x.blocks) (sym next)));
       lines = lines_is ∙ ap (λ (x : Document). length (body x)) (sym next);
     }
 
-module _ (o : Opening) (es : List Entry) (states : List BlockState) (ids : List ℕ) (had session id seen : ℕ) (v : BookView) (room : Bool) (tree : TreeView)
-    (s : Stands o es tree.leaves states ids had) (view : record { opening = o; entries = es; journal_room = room; tree = tree } ≡ v)
-    (free : refusal_of (document v) v.entries (Cut id seen) ≡ None) where
-  cut_free_here : refusal_of (document_of o es) es (Cut id seen) ≡ None
-  cut_free_here = subst (λ (w : BookView). refusal_of (document w) w.entries (Cut id seen) ≡ None) (sym view) free
-
-  pub cut_unplaced : position (is_id id) ids ≡ None → ⊥
-  cut_unplaced none =
-      let b = named_there (document_of o es) es id (cut_free (document_of o es) es id seen cut_free_here).0 in
-      has_place (document_of o es).blocks id b.0 ids b.1 s.order none
-
-  pub cut_made : (at lines version : ℕ) (longer : List Entry) (leaves now : List Leaf) (left : List ℕ) → position (is_id id) ids ≡ Some at
-      → lines ≡ length (body (after (document v) (length v.entries + 1) (edit.Cut id seen))) → lines ≤ length (body (document v)) → version ≡ length v.entries
-      → longer ≡ es ++ record { session = session; edit = edit.Cut id seen } ∷ [] → leaves ≡ tree.leaves → now ≡ removed at leaves → left ≡ remove ids at
-      → Stands o longer now (set states id (CutBy (version + 1))) left lines
-  cut_made at lines version longer leaves now left place lines_is fewer version_is longer_is leaves_are now_is left_is =
-      let lines_here : lines ≡ length (body (after (document_of o es) (length es + 1) (edit.Cut id seen))) = subst (λ (w : BookView). lines ≡ length (body (after (document w) (length w.entries + 1) (edit.Cut id seen)))) (sym view) lines_is in
-      let fewer_here : lines ≤ length (body (document_of o es)) = subst (λ (w : BookView). lines ≤ length (body (document w))) (sym view) fewer in
-      let next : length es + 1 ≡ version + 1 = ap (λ (w : BookView). length w.entries + 1) view ∙ ap (λ (k : ℕ). k + 1) (sym version_is) in
-      let all : remove tree.leaves at ≡ now = ap (λ (l : List Leaf). remove l at) (sym leaves_are) ∙ sym (removed_is at leaves) ∙ sym now_is in
-      subst (λ (p : List Entry × List Leaf × ℕ × List ℕ). Stands o p.0 p.1 (set states id (CutBy p.2)) p.3 lines) (λ i. (sym longer_is i, all i, next i, sym left_is i))
-      (cut_stands o es tree.leaves states ids had session id seen at lines s cut_free_here place lines_here fewer_here)
-
-  pub cut_work : (at lines version : ℕ) (longer : List Entry) (leaves now : List Leaf) (left : List ℕ) (before later : ℕ) → position (is_id id) ids ≡ Some at
-      → lines ≡ length (body (after (document v) (length v.entries + 1) (edit.Cut id seen))) → lines ≤ length (body (document v)) → version ≡ length v.entries
-      → longer ≡ es ++ record { session = session; edit = edit.Cut id seen } ∷ [] → leaves ≡ tree.leaves → now ≡ removed at leaves → left ≡ remove ids at
-      → ((carriers limit : ℕ) (known : List Needle) → AreGoodFor carriers limit known now → later ≤ before + change_steps (length leaves) (most_items carriers limit (length known)))
-      → later ≤ before + work_limit v.opening v.entries (Cut id seen)
-  cut_work at lines version longer leaves now left before later place lines_is fewer version_is longer_is leaves_are now_is left_is steps =
-      let d : Document = document_of o es in
-      let stands = cut_made at lines version longer leaves now left place lines_is fewer version_is longer_is leaves_are now_is left_is in
-      let setting : Setting = setting_of o d in
-      let P : List ℕ → Type 0 = KnowsLine setting (needles_in setting (body d)) in
-      let count : length leaves ≡ length d.blocks = ap length leaves_are ∙ leaf_each o es tree.leaves s.lawful in
-      edit_work o es session (length leaves) (length d.blocks) before later (Cut id seen) (edit.Cut id seen) (body d) v room tree longer now view longer_is refl stands.lawful refl count
-      (cut_lines P d.blocks id (lines_known setting (body d))) steps
+-- and each leaf is made of the lines of its block
+pub cut_leaves : (o : Opening) (es : List Entry) (leaves : List Leaf) (session id seen at : ℕ) → IsLawful o es leaves → position (is_id id) (ids_of (document_of o es).blocks) ≡ Some at
+    → HasLeaves o (document_of o (es ++ record { session = session; edit = edit.Cut id seen } ∷ [])) (remove leaves at)
+cut_leaves o es leaves session id seen at s place =
+    let d : Document = document_of o es in
+    subst (λ (x : Document). HasLeaves o x (remove leaves at)) (sym (doc_snoc o es (record { session = session; edit = edit.Cut id seen })))
+    (subst (λ (n : ℕ). AllZip (λ (l : Leaf) (y : Block). IsLeafOf (setting_of o d) l y.lines) (remove leaves n) (without id d.blocks)) (sym (place_is (ids_of d.blocks) id at place).0)
+    (cut_zip (IsLeafOf (setting_of o d)) leaves d.blocks id s.leaves_are))

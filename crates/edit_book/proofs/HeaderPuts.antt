@@ -9,27 +9,25 @@ use Rattle.edit_journal.specs.Documents.{Block, Document, after, block_of, body,
 use Rattle.edit_journal.specs.Entries.{entry_limit}
 use Rattle.edit_book.specs.declared.block_state.BlockState.{BlockState}
 use Rattle.edit_book.specs.declared.block_state.BlockState.TheVariants.{There, CutBy}
-use Rattle.edit_book.specs.Books.{BookView, Each, Fits, HasIds, HasLeaves, HasText, IsLawfulSetting, Stands, document, ids_of, state_of}
+use Rattle.edit_book.specs.Books.{BookView, Each, Fits, HasIds, HasLeaves, HasText, IsLawful, IsLawfulOutline, IsLawfulSetting, Stands, document, ids_of, state_of}
+use Rattle.edit_book.specs.Outlines.{MayCome, OutlineView, outlined}
 use Rattle.edit_book.specs.declared.header.Header.{Header}
 use Rattle.edit_book.specs.Headers.{HasHeader}
 use Rattle.edit_book.specs.HeaderTrees.{AreLeavesOf}
-use Rattle.edit_book.specs.Replies.{PutHead, refusal_of, refused_entries, refused_head}
+use Rattle.edit_book.specs.Replies.{PutHead, refusal_of}
 use Rattle.edit_book.specs.Verdicts.{setting_of}
 use Rattle.edit_book.specs.Work.{with_names}
+use Rattle.edit_book.proofs.Blocks.{with_leaves}
+use Rattle.edit_book.proofs.Comings.{head_may}
 use Rattle.edit_book.proofs.KeptHeaders.{takes_header}
-use Rattle.edit_book.proofs.Puts.{cut_number_snoc, doc_snoc, or_else_none, short_after, texts_before, under}
+use Rattle.edit_book.proofs.Puts.{cut_number_snoc, doc_snoc, short_after, texts_before}
 use Rattle.summary_tree.specs.Leaves.{Leaf}
 use Rattle.summary_tree.specs.Trees.{TreeView}
 
--- other names that nothing refuses have room for their entry
-head_room : (d : Document) (es : List Entry) (seen : ℕ) (names : List (List ℕ)) → refusal_of d es (PutHead seen names) ≡ None → length es < entry_limit
-head_room d es seen names free = omega (arith, under (length es) entry_limit (length es + 1) _ (or_else_none (refused_head d es seen) (refused_entries es) free).1)
-
--- the blocks stay, and the leaves are those under the new names
-head_stands : (o : Opening) (es : List Entry) (leaves now : List Leaf) (states : List BlockState) (ids : List ℕ) (had session seen : ℕ) (names : List (List ℕ))
-    → Stands o es leaves states ids had → length es < entry_limit → length names ≤ 64 → AreLeavesOf (with_names names (setting_of o (document_of o es))) now (document_of o es).blocks
-    → Stands o (es ++ record { session = session; edit = edit.Head seen names } ∷ []) now states ids had
-head_stands o es leaves now states ids had session seen names s room few now_are =
+-- the blocks stay
+pub head_stands : (o : Opening) (es : List Entry) (states : List BlockState) (ids : List ℕ) (had session seen : ℕ) (names : List (List ℕ))
+    → Stands o es states ids had → length es < entry_limit → length names ≤ 64 → Stands o (es ++ record { session = session; edit = edit.Head seen names } ∷ []) states ids had
+head_stands o es states ids had session seen names s room few =
     let e : Entry = record { session = session; edit = edit.Head seen names } in
     let d : Document = document_of o es in
     let next : document_of o (es ++ e ∷ []) ≡ after d (length es + 1) (edit.Head seen names) = doc_snoc o es e in
@@ -45,7 +43,6 @@ head_stands o es leaves now states ids had session seen names s room few now_are
         });
         texts = subst (λ (x : Document). Each (HasText o (es ++ e ∷ [])) x.blocks) (sym next) (texts_before o es e d.blocks s.lawful.texts);
         short = short_after o es e s.lawful.short (λ k. tt);
-        leaves_are = subst (λ (x : Document). HasLeaves o x now) (sym next) now_are;
         setting = subst (λ (x : Document). IsLawfulSetting (setting_of o x)) (sym next) (record { profile = s.lawful.setting.profile; carriers = few; first = s.lawful.setting.first });
       };
       drawn = s.drawn ∙ ap (λ (x : Document). x.drawn) (sym next);
@@ -55,23 +52,26 @@ head_stands o es leaves now states ids had session seen names s room few now_are
       lines = s.lines ∙ ap (λ (x : Document). length (body x)) (sym next);
     }
 
-module _ (o : Opening) (es : List Entry) (states : List BlockState) (ids : List ℕ) (had session seen : ℕ) (names : List (List ℕ)) (v : BookView) (room : Bool) (tree : TreeView)
-    (s : Stands o es tree.leaves states ids had) (view : record { opening = o; entries = es; journal_room = room; tree = tree } ≡ v)
+-- what an outline then keeps of its header
+pub head_kept : (o : Opening) (es : List Entry) (session seen : ℕ) (names : List (List ℕ)) (v : OutlineView) (room : Bool) (head version : ℕ) (old new : Header) (longer : List Entry)
+    → record { opening = o; entries = es; journal_room = room } ≡ v → HasHeader o es head old → version ≡ length v.entries → longer ≡ es ++ record { session = session; edit = edit.Head seen names } ∷ []
+    → new.setting ≡ with_names names (setting_of v.opening (outlined v)) → new.entries.items ≡ old.entries.items ++ (version + 1) ∷ [] → HasHeader o longer (version + 1) new
+head_kept o es session seen names v room head version old new longer view h version_is longer_is setting_is entries_are =
+    let number : version + 1 ≡ length es + 1 = ap (λ (n : ℕ). n + 1) (version_is ∙ ap (λ (w : OutlineView). length w.entries) (sym view)) in
+    subst (λ (p : List Entry × ℕ). HasHeader o p.0 p.1 new) (λ i. (sym longer_is i, sym number i))
+    (takes_header o es session seen names head old new h (setting_is ∙ ap (λ (w : OutlineView). with_names names (setting_of w.opening (outlined w))) (sym view))
+    (entries_are ∙ ap (λ (n : ℕ). old.entries.items ++ n ∷ []) number))
+
+module _ (o : Opening) (es : List Entry) (session seen : ℕ) (names : List (List ℕ)) (v : BookView) (room : Bool) (tree : TreeView)
+    (s : IsLawful o es tree.leaves) (view : record { opening = o; entries = es; journal_room = room; tree = tree } ≡ v)
     (free : refusal_of (document v) v.entries (PutHead seen names) ≡ None) where
-  pub head_fits : length es < entry_limit
-  head_fits = subst (λ (w : BookView). length w.entries < entry_limit) (sym view) (head_room (document v) v.entries seen names free)
+  pub head_comes : MayCome o es (edit.Head seen names)
+  head_comes = head_may o es s.fits seen names (subst (λ (w : BookView). refusal_of (document w) w.entries (PutHead seen names) ≡ None) (sym view) free)
 
-  pub head_made : (longer : List Entry) (now : List Leaf) → longer ≡ es ++ record { session = session; edit = edit.Head seen names } ∷ [] → length names ≤ 64
-      → AreLeavesOf (with_names names (setting_of v.opening (document v))) now (document v).blocks → Stands o longer now states ids had
-  head_made longer now longer_is few now_are =
-      subst (λ (l : List Entry). Stands o l now states ids had) (sym longer_is)
-      (head_stands o es tree.leaves now states ids had session seen names s head_fits few
+  -- the leaves are those under the new names
+  pub head_made : (longer : List Entry) (now : List Leaf) → longer ≡ es ++ record { session = session; edit = edit.Head seen names } ∷ [] → IsLawfulOutline o longer
+      → AreLeavesOf (with_names names (setting_of v.opening (document v))) now (document v).blocks → IsLawful o longer now
+  head_made longer now longer_is outlined now_are =
+      with_leaves o longer now outlined
+      (subst (λ (x : Document). HasLeaves o x now) (sym (ap (document_of o) longer_is ∙ doc_snoc o es (record { session = session; edit = edit.Head seen names })))
       (subst (λ (w : BookView). AreLeavesOf (with_names names (setting_of w.opening (document w))) now (document w).blocks) (sym view) now_are))
-
-  pub head_kept : (head version : ℕ) (old new : Header) (longer : List Entry) → HasHeader o es head old → version ≡ length v.entries → longer ≡ es ++ record { session = session; edit = edit.Head seen names } ∷ []
-      → new.setting ≡ with_names names (setting_of v.opening (document v)) → new.entries.items ≡ old.entries.items ++ (version + 1) ∷ [] → HasHeader o longer (version + 1) new
-  head_kept head version old new longer h version_is longer_is setting_is entries_are =
-      let number : version + 1 ≡ length es + 1 = ap (λ (n : ℕ). n + 1) (version_is ∙ ap (λ (w : BookView). length w.entries) (sym view)) in
-      subst (λ (p : List Entry × ℕ). HasHeader o p.0 p.1 new) (λ i. (sym longer_is i, sym number i))
-      (takes_header o es session seen names head old new h (setting_is ∙ ap (λ (w : BookView). with_names names (setting_of w.opening (document w))) (sym view))
-      (entries_are ∙ ap (λ (n : ℕ). old.entries.items ++ n ∷ []) number))

@@ -1,13 +1,12 @@
 -- The blocks of a book with their texts.
-use Rattle.std.proofs.Common.{◌≡◌, ℕ, Bool, List, length, Option, Some, None, option_map, sym, subst, ap, ◌∙◌, refl}
+use Rattle.std.proofs.Common.{◌≡◌, ℕ, Bool, List, length, map, Option, Some, None, option_map, sym, subst, ap, ◌∙◌, refl}
 use Rattle.std.specs.List.{slice_get}
 use Rattle.std.proofs.lemmas.Option.{slice_get-map}
 use Rattle.edit_journal.specs.declared.edit.BlockAt.{BlockAt}
 use Rattle.edit_journal.specs.declared.edit.Entry.{Entry}
 use Rattle.edit_journal.specs.declared.opening.Opening.{Opening}
-use Rattle.edit_journal.specs.Documents.{Block, block_of, stamp_at}
-use Rattle.edit_book.specs.declared.block_state.BlockState.{BlockState}
-use Rattle.edit_book.specs.Books.{AreDistinct, BookView, Stands, document, ids_of}
+use Rattle.edit_journal.specs.Documents.{Block, block_of, document_of, stamp_at}
+use Rattle.edit_book.specs.Books.{AreDistinct, BookView, IsLawful, document, ids_of}
 use Rattle.edit_book.specs.Headers.{blocks_at}
 use Rattle.edit_book.proofs.Blocks.{lawful_of}
 use Rattle.edit_book.proofs.LinePlaces.{block_at}
@@ -47,23 +46,29 @@ held_here bs at id stamp text h stamp_is text_is =
     let row : Block → BlockAt = λ b. record { block = b.id; stamp = b.stamp; text = b.lines } in
     slice_get-map row bs at ∙ (ap (option_map row) h.there ∙ (λ i. Some (record { block = h.own i; stamp = stamps i; text = texts i })))
 
+pub lines_here : (bs : List Block) (at id : ℕ) (text : List (List ℕ)) → BlockHere bs at id → option_map (λ (b : Block). b.lines) (block_of bs id) ≡ Some text → slice_get (map (λ (b : Block). b.lines) bs) at ≡ Some text
+lines_here bs at id text h text_is =
+    let two : Some h.block.lines ≡ Some text = sym (text_here bs at id h) ∙ text_is in
+    let texts : h.block.lines ≡ text = cc in
+    slice_get-map (λ (b : Block). b.lines) bs at ∙ (ap (option_map (λ (b : Block). b.lines)) h.there ∙ ap Some texts)
+
 -- the text is that of the block at a place of the book
 abbrev pub IsTextAt : BookView → ℕ → List (List ℕ) → Type 0
 IsTextAt v at text = (b : Block) → slice_get (document v).blocks at ≡ Some b → text ≡ b.lines
 
-module _ (o : Opening) (es : List Entry) (states : List BlockState) (ids : List ℕ) (had : ℕ) (v : BookView) (room : Bool) (tree : TreeView)
-    (s : Stands o es tree.leaves states ids had) (view : record { opening = o; entries = es; journal_room = room; tree = tree } ≡ v) where
-  -- the ids that are kept are those of the blocks
-  pub ids_are : ids ≡ ids_of (document v).blocks
-  ids_are = s.order ∙ ap (λ (w : BookView). ids_of (document w).blocks) view
+module _ (o : Opening) (es : List Entry) (v : BookView) (room : Bool) (tree : TreeView)
+    (s : IsLawful o es tree.leaves) (view : record { opening = o; entries = es; journal_room = room; tree = tree } ≡ v) where
+  -- the (ids_of (document_of o es).blocks) that are kept are those of the blocks
+  pub ids_are : (ids_of (document_of o es).blocks) ≡ ids_of (document v).blocks
+  ids_are = ap (λ (w : BookView). ids_of (document w).blocks) view
 
-  pub ids_kept : length ids ≡ length (document v).blocks
+  pub ids_kept : length (ids_of (document_of o es).blocks) ≡ length (document v).blocks
   ids_kept = ap length ids_are ∙ ids_count (document v).blocks
 
-  pub held : (at id : ℕ) → slice_get ids at ≡ Some id → BlockHere (document v).blocks at id
-  held at id is = block_here (document v).blocks at id (lawful_of o es tree room v states ids had s view).has_ids.differ (ap (λ (l : List ℕ). slice_get l at) (sym ids_are) ∙ is)
+  pub held : (at id : ℕ) → slice_get (ids_of (document_of o es).blocks) at ≡ Some id → BlockHere (document v).blocks at id
+  held at id is = block_here (document v).blocks at id (lawful_of o es tree room v s view).has_ids.differ (ap (λ (l : List ℕ). slice_get l at) (sym ids_are) ∙ is)
 
-  pub held_text : (at id : ℕ) (text again : List (List ℕ)) → slice_get ids at ≡ Some id → option_map (λ (b : Block). b.lines) (block_of (document v).blocks id) ≡ Some text → again ≡ text → IsTextAt v at again
+  pub held_text : (at id : ℕ) (text again : List (List ℕ)) → slice_get (ids_of (document_of o es).blocks) at ≡ Some id → option_map (λ (b : Block). b.lines) (block_of (document v).blocks id) ≡ Some text → again ≡ text → IsTextAt v at again
   held_text at id text again is text_is same b there =
       let h = held at id is in
       let one : Some h.block.lines ≡ Some text = sym (text_here (document v).blocks at id h) ∙ text_is in

@@ -7,10 +7,12 @@ pub mod Asks
 pub mod Blocks
 pub mod Boxes
 pub mod Carried
+pub mod Comings
 pub mod CopiedOrders
 pub mod Copies
 pub mod Counts
 pub mod Cuts
+pub mod Entering
 pub mod GivenTexts
 pub mod HandedOver
 pub mod HeaderNames
@@ -30,6 +32,7 @@ pub mod OwnBlocks
 pub mod PreparedTexts
 pub mod Puts
 pub mod Refusals
+pub mod Removed
 pub mod Rising
 pub mod Rooms
 pub mod Stamps

@@ -4,10 +4,9 @@ use Rattle.std.specs.List.{position_or_len, slice_get}
 use Rattle.edit_journal.specs.declared.edit.Entry.{Entry}
 use Rattle.edit_journal.specs.declared.opening.Opening.{Opening}
 use Rattle.edit_journal.specs.Documents.{Block, Document, block_of, body, document_of, stamp_at}
-use Rattle.edit_book.specs.declared.block_state.BlockState.{BlockState}
 use Rattle.edit_book.specs.declared.reply.Reply.{Reply}
 use Rattle.edit_book.specs.declared.reply.Reply.TheVariants.{Shown}
-use Rattle.edit_book.specs.Books.{BookView, Stands, document, ids_of}
+use Rattle.edit_book.specs.Books.{BookView, IsLawful, document, ids_of}
 use Rattle.edit_book.specs.Orders.{is_id}
 use Rattle.edit_book.specs.Replies.{Look, Request, IsAnswer, IsDue, IsGranted, lines_before, refusal_of, refused_name}
 use Rattle.edit_book.proofs.LinePlaces.{StandsIn, block_at, id_at, line_none, line_there, lines_at, lines_taken}
@@ -56,60 +55,60 @@ text_count d id text is = go (block_of d.blocks id) refl is
     go None there is = absurd (cc)
     go (Some b) there is = let same : b.lines ≡ text = cc in (b, there, same)
 
-module _ (o : Opening) (es : List Entry) (states : List BlockState) (ids : List ℕ) (had id : ℕ) (v : BookView) (room : Bool) (tree : TreeView)
-    (s : Stands o es tree.leaves states ids had) (view : record { opening = o; entries = es; journal_room = room; tree = tree } ≡ v) (free : refused_name (document v) v.entries id ≡ None) where
+module _ (o : Opening) (es : List Entry) (id : ℕ) (v : BookView) (room : Bool) (tree : TreeView)
+    (s : IsLawful o es tree.leaves) (view : record { opening = o; entries = es; journal_room = room; tree = tree } ≡ v) (free : refused_name (document v) v.entries id ≡ None) where
   free_here : refused_name (document_of o es) es id ≡ None
   free_here = subst (λ (w : BookView). refused_name (document w) w.entries id ≡ None) (sym view) free
 
-  pub look_unplaced : position (is_id id) ids ≡ None → ⊥
-  look_unplaced none = let b = named_there (document_of o es) es id free_here in has_place (document_of o es).blocks id b.0 ids b.1 s.order none
+  pub look_unplaced : position (is_id id) (ids_of (document_of o es).blocks) ≡ None → ⊥
+  look_unplaced none = let b = named_there (document_of o es) es id free_here in has_place (document_of o es).blocks id b.0 (ids_of (document_of o es).blocks) b.1 refl none
 
   -- the number of the block's first line
-  pub look_first : (at before : ℕ) → position (is_id id) ids ≡ Some at → before ≡ lines_of (take at tree.leaves) → (o.setting.first + before ≡ v.opening.setting.first + lines_before id (document v).blocks) × (o.setting.first + before < 2 ^ 32)
+  pub look_first : (at before : ℕ) → position (is_id id) (ids_of (document_of o es).blocks) ≡ Some at → before ≡ lines_of (take at tree.leaves) → (o.setting.first + before ≡ v.opening.setting.first + lines_before id (document v).blocks) × (o.setting.first + before < 2 ^ 32)
   look_first at before place is =
       let b = named_there (document_of o es) es id free_here in
-      let at_is : at ≡ position_or_len (is_id id) (ids_of (document_of o es).blocks) = (place_is ids id at place).0 ∙ ap (position_or_len (is_id id)) s.order in
+      let at_is : at ≡ position_or_len (is_id id) (ids_of (document_of o es).blocks) = (place_is (ids_of (document_of o es).blocks) id at place).0 in
       let told : before ≡ lines_before id (document_of o es).blocks =
-      is ∙ ap (λ (n : ℕ). lines_of (take n tree.leaves)) at_is ∙ lines_at (setting_at o es) tree.leaves (document_of o es).blocks id b.0 s.lawful.leaves_are b.1 in
-      let all : lines_of tree.leaves ≤ 1048576 = omega (arith, zip_lines (setting_at o es) tree.leaves (document_of o es).blocks s.lawful.leaves_are, s.lawful.fits.lines_fit) in (
+      is ∙ ap (λ (n : ℕ). lines_of (take n tree.leaves)) at_is ∙ lines_at (setting_at o es) tree.leaves (document_of o es).blocks id b.0 s.leaves_are b.1 in
+      let all : lines_of tree.leaves ≤ 1048576 = omega (arith, zip_lines (setting_at o es) tree.leaves (document_of o es).blocks s.leaves_are, s.fits.lines_fit) in (
         ap (λ (n : ℕ). o.setting.first + n) told ∙ ap (λ (w : BookView). w.opening.setting.first + lines_before id (document w).blocks) view,
-        omega (arith, is, lines_taken at tree.leaves, all, s.lawful.setting.first),
+        omega (arith, is, lines_taken at tree.leaves, all, s.setting.first),
       )
 
 -- a line that stands in a block
-module _ (o : Opening) (es : List Entry) (states : List BlockState) (ids : List ℕ) (had offset at within : ℕ) (v : BookView) (room : Bool) (tree : TreeView)
-    (s : Stands o es tree.leaves states ids had) (view : record { opening = o; entries = es; journal_room = room; tree = tree } ≡ v) (found : place_of_line tree.leaves offset ≡ Some (at, within)) where
+module _ (o : Opening) (es : List Entry) (offset at within : ℕ) (v : BookView) (room : Bool) (tree : TreeView)
+    (s : IsLawful o es tree.leaves) (view : record { opening = o; entries = es; journal_room = room; tree = tree } ≡ v) (found : place_of_line tree.leaves offset ≡ Some (at, within)) where
   here : StandsIn (document_of o es).blocks offset at within
-  here = line_there (setting_at o es) tree.leaves (document_of o es).blocks offset at within s.lawful.leaves_are found
+  here = line_there (setting_at o es) tree.leaves (document_of o es).blocks offset at within s.leaves_are found
 
-  id_there : slice_get ids at ≡ Some here.block.id
-  id_there = ap (λ (l : List ℕ). slice_get l at) s.order ∙ id_at (document_of o es).blocks at here.block here.there
+  id_there : slice_get (ids_of (document_of o es).blocks) at ≡ Some here.block.id
+  id_there = id_at (document_of o es).blocks at here.block here.there
 
-  pub no_id : slice_get ids at ≡ None → ⊥
+  pub no_id : slice_get (ids_of (document_of o es).blocks) at ≡ None → ⊥
   no_id none = let e : Some here.block.id ≡ None = sym id_there ∙ none in absurd (cc)
 
-  block_is : (id : ℕ) → slice_get ids at ≡ Some id → block_of (document v).blocks id ≡ Some here.block
+  block_is : (id : ℕ) → slice_get (ids_of (document_of o es).blocks) at ≡ Some id → block_of (document v).blocks id ≡ Some here.block
   block_is id there =
       let same : here.block.id ≡ id = let e : Some here.block.id ≡ Some id = sym id_there ∙ there in cc in
       subst (λ (w : BookView). block_of (document w).blocks id ≡ Some here.block) view
-      (subst (λ (k : ℕ). block_of (document_of o es).blocks k ≡ Some here.block) same (block_at (document_of o es).blocks at here.block s.lawful.has_ids.differ here.there))
+      (subst (λ (k : ℕ). block_of (document_of o es).blocks k ≡ Some here.block) same (block_at (document_of o es).blocks at here.block s.has_ids.differ here.there))
 
-  pub no_text : (id : ℕ) → slice_get ids at ≡ Some id → option_map (λ b. b.lines) (block_of (document v).blocks id) ≡ None → ⊥
+  pub no_text : (id : ℕ) → slice_get (ids_of (document_of o es).blocks) at ≡ Some id → option_map (λ b. b.lines) (block_of (document v).blocks id) ≡ None → ⊥
   no_text id there none = let e : Some here.block.lines ≡ None = sym (ap (option_map (λ b. b.lines)) (block_is id there)) ∙ none in absurd (cc)
 
-  text_is : (id : ℕ) (text : List (List ℕ)) → slice_get ids at ≡ Some id → Some text ≡ option_map (λ b. b.lines) (block_of (document v).blocks id) → text ≡ here.block.lines
+  text_is : (id : ℕ) (text : List (List ℕ)) → slice_get (ids_of (document_of o es).blocks) at ≡ Some id → Some text ≡ option_map (λ b. b.lines) (block_of (document v).blocks id) → text ≡ here.block.lines
   text_is id text there is = let e : Some text ≡ Some here.block.lines = is ∙ ap (option_map (λ b. b.lines)) (block_is id there) in cc
 
-  pub line_inside : (id : ℕ) (text : List (List ℕ)) → slice_get ids at ≡ Some id → Some text ≡ option_map (λ b. b.lines) (block_of (document v).blocks id) → within < length text
+  pub line_inside : (id : ℕ) (text : List (List ℕ)) → slice_get (ids_of (document_of o es).blocks) at ≡ Some id → Some text ≡ option_map (λ b. b.lines) (block_of (document v).blocks id) → within < length text
   line_inside id text there is = subst (λ (t : List (List ℕ)). within < length t) (sym (text_is id text there is)) here.inside
 
-  pub line_is : (id : ℕ) (text : List (List ℕ)) (line : List ℕ) → slice_get ids at ≡ Some id → Some text ≡ option_map (λ b. b.lines) (block_of (document v).blocks id) → slice_get text within ≡ Some line
+  pub line_is : (id : ℕ) (text : List (List ℕ)) (line : List ℕ) → slice_get (ids_of (document_of o es).blocks) at ≡ Some id → Some text ≡ option_map (λ b. b.lines) (block_of (document v).blocks id) → slice_get text within ≡ Some line
       → slice_get (body (document v)) offset ≡ Some line
   line_is id text line there is got =
       subst (λ (w : BookView). slice_get (body (document w)) offset ≡ Some line) view (here.line ∙ ap (λ (t : List (List ℕ)). slice_get t within) (sym (text_is id text there is)) ∙ got)
 
 -- a line that stands in none
-pub no_line : (o : Opening) (es : List Entry) (states : List BlockState) (ids : List ℕ) (had offset : ℕ) (v : BookView) (room : Bool) (tree : TreeView) → Stands o es tree.leaves states ids had
+pub no_line : (o : Opening) (es : List Entry) (offset : ℕ) (v : BookView) (room : Bool) (tree : TreeView) → IsLawful o es tree.leaves
     → record { opening = o; entries = es; journal_room = room; tree = tree } ≡ v → place_of_line tree.leaves offset ≡ None → slice_get (body (document v)) offset ≡ None
-no_line o es states ids had offset v room tree s view none =
-    subst (λ (w : BookView). slice_get (body (document w)) offset ≡ None) view (line_none (setting_at o es) tree.leaves (document_of o es).blocks offset s.lawful.leaves_are none)
+no_line o es offset v room tree s view none =
+    subst (λ (w : BookView). slice_get (body (document w)) offset ≡ None) view (line_none (setting_at o es) tree.leaves (document_of o es).blocks offset s.leaves_are none)

@@ -15,7 +15,7 @@ use Rattle.edit_book.specs.declared.reply.Again.{Again}
 use Rattle.edit_book.specs.declared.reply.Reply.TheVariants.{Stale}
 
 -- a stamp that nothing refuses is the header's
-head_seen : (d : Document) (es : List Entry) (head : ℕ) → refused_head d es head ≡ None → d.header.stamp ≡ head
+pub head_seen : (d : Document) (es : List Entry) (head : ℕ) → refused_head d es head ≡ None → d.header.stamp ≡ head
 head_seen d es head free = go (d.header.stamp == head) refl free
   where
     go : (t : Bool) → (d.header.stamp == head) ≡ t → cond t None (Some (Stale (length es) head_id head d.header.stamp)) ≡ None → d.header.stamp ≡ head

@@ -1,23 +1,25 @@
 -- What a put does to what the book keeps.
-use Rattle.std.proofs.Common.{◌≡◌, ◌≢◌, ℕ, zero, suc, ◌+◌, ◌<◌, ◌≤◌, Bool, true, false, cond, not, nat_lt, nat_le, eq-eqb, ne_eqb, lt-ltb, ◌==◌, List, [], ◌∷◌, ◌++◌, length, set, position, Option, Some, None, IfSome, option_and_then, sym, subst, ap, ◌∙◌, refl, length-append, length-set, one-add, add-one, arith}
+use Rattle.std.proofs.Common.{◌≡◌, ◌≢◌, ℕ, zero, suc, ◌+◌, ◌<◌, ◌≤◌, Bool, true, false, cond, not, nat_lt, nat_le, eq-eqb, ne_eqb, lt-ltb, ◌==◌, List, [], ◌∷◌, ◌++◌, length, set, position, Option, Some, None, IfSome, option_and_then, option_map, sym, subst, ap, ◌∙◌, refl, length-append, length-set, one-add, add-one, arith}
 use Rattle.std.specs.List.{AllZip, position_or_len, slice_get}
 use Rattle.std.specs.Option.{option_map_or}
-use Rattle.std.proofs.lemmas.Bool.{eqb-true, eqb-false, leb-true, ltb-true}
+use Rattle.std.proofs.lemmas.Bool.{eqb-true, eqb-false, leb-false, leb-true, ltb-true}
 use Rattle.edit_journal.specs.declared.edit.Edit.TheVariants as edit
 use Rattle.edit_journal.specs.declared.edit.Entry.{Entry}
 use Rattle.edit_journal.specs.declared.opening.Opening.{Opening}
 use Rattle.edit_journal.specs.Entries.{text_for}
-use Rattle.edit_journal.specs.Documents.{Block, Document, block_of, with_text, after, after_all, document_of, body, opened, text_at}
+use Rattle.edit_journal.specs.Documents.{Block, Document, block_of, stamp_at, with_text, after, after_all, document_of, body, opened, text_at}
 use Rattle.edit_journal.proofs.Known.{text_longer}
 use Rattle.edit_book.specs.declared.block_state.BlockState.{BlockState}
 use Rattle.edit_book.specs.declared.block_state.BlockState.TheVariants.{There, CutBy}
 use Rattle.edit_book.specs.declared.reply.Reply.{Reply}
 use Rattle.edit_book.specs.declared.reply.Reply.TheVariants.{Gone, NoBlock, Full}
 use Rattle.edit_book.specs.declared.reply.Which.{Which}
-use Rattle.edit_book.specs.Books.{Each, AreDistinct, ids_of, state_of, HasIds, HasText, HasShortTexts, HasLeaves, Fits, IsLawfulSetting, Stands, IsLeafOf}
+use Rattle.edit_book.specs.Books.{Each, AreDistinct, ids_of, state_of, HasIds, HasText, HasShortTexts, HasLeaves, Fits, IsLawful, IsLawfulSetting, Stands, IsLeafOf}
+use Rattle.edit_book.specs.Outlines.{MayCome}
 use Rattle.edit_book.specs.Orders.{is_id}
 use Rattle.edit_book.specs.Replies.{Put, or_else, cuts_block, cut_from, cut_number, refused_name, refused_stamp, refused_head, refused_over, refused_entries, refused_lines, refusal_of}
 use Rattle.edit_book.specs.Verdicts.{setting_of}
+use Rattle.edit_book.proofs.Blocks.{undrawn}
 use Rattle.summary_tree.specs.Leaves.{Leaf}
 
 -- one more entry
@@ -129,15 +131,21 @@ or_else_none None b h = (refl, h)
 or_else_none (Some a) b h = absurd (cc)
 
 -- what it says that nothing refuses a put
-pub put_free : (d : Document) (entries : List Entry) (id seen head : ℕ) (text : List (List ℕ)) → refusal_of d entries (Put id seen head text) ≡ None
-    → (refused_name d entries id ≡ None) × (refused_head d entries head ≡ None) × (refused_entries entries ≡ None) × (refused_lines d entries (edit.Put id seen text) ≡ None)
+pub record IsFreePut (d : Document) (entries : List Entry) (id seen head : ℕ) (text : List (List ℕ)) : Type 0 where
+  pub named : refused_name d entries id ≡ None
+  pub stamped : refused_stamp d entries id seen ≡ None
+  pub headed : refused_head d entries head ≡ None
+  pub room : refused_entries entries ≡ None
+  pub lines : refused_lines d entries (edit.Put id seen text) ≡ None
+
+pub put_free : (d : Document) (entries : List Entry) (id seen head : ℕ) (text : List (List ℕ)) → refusal_of d entries (Put id seen head text) ≡ None → IsFreePut d entries id seen head text
 put_free d entries id seen head text h =
     let lines : Option Reply = refused_lines d entries (edit.Put id seen text) in
     let a = or_else_none (refused_name d entries id) (or_else (refused_stamp d entries id seen) (or_else (refused_head d entries head) (or_else (refused_entries entries) lines))) h in
     let b = or_else_none (refused_stamp d entries id seen) (or_else (refused_head d entries head) (or_else (refused_entries entries) lines)) a.1 in
     let c = or_else_none (refused_head d entries head) (or_else (refused_entries entries) lines) b.1 in
     let e = or_else_none (refused_entries entries) lines c.1 in
-    (a.0, c.0, e.0, e.1)
+    record { named = a.0; stamped = b.0; headed = c.0; room = e.0; lines = e.1 }
 
 pub under : (v limit count : ℕ) (what : Which) → refused_over v what limit count ≡ None → count ≤ limit
 under v limit count what h = go (nat_le count limit) refl h
@@ -223,19 +231,34 @@ put_states d es states id seen session i text b there fits all k drawn = go (k =
         ∙ (ap (λ (o : Option Block). Some (option_map_or (λ x. There x.stamp) o (CutBy (cut_number es k)))) (sym (put_other d.blocks id i text k ne))
         ∙ ap (λ (n : ℕ). Some (option_map_or (λ x. There x.stamp) (block_of (with_text id i text d.blocks) k) (CutBy n))) (sym (cut_number_snoc es (record { session = session; edit = edit.Put id seen text }) k))))
 
-pub put_stands : (o : Opening) (es : List Entry) (leaves : List Leaf) (states : List BlockState) (ids : List ℕ) (had session id seen head at lines : ℕ) (text : List (List ℕ)) (leaf : Leaf)
-    → Stands o es leaves states ids had → refusal_of (document_of o es) es (Put id seen head text) ≡ None → position (is_id id) ids ≡ Some at
-    → lines ≡ length (body (after (document_of o es) (length es + 1) (edit.Put id seen text))) → length text ≤ 4096 → IsLeafOf (setting_of o (document_of o es)) leaf text
-    → Stands o (es ++ record { session = session; edit = edit.Put id seen text } ∷ []) (set leaves at leaf) (set states id (There (length es + 1))) ids lines
-put_stands o es leaves states ids had session id seen head at lines text leaf s free place lines_is short leaf_is =
+-- a stamp is that of a block that is there
+pub stamped_there : (bs : List Block) (id stamp : ℕ) → stamp_at bs id ≡ Some stamp → (b : Block) × (block_of bs id ≡ Some b) × (b.stamp ≡ stamp)
+stamped_there bs id stamp is = go (block_of bs id) refl is
+  where
+    go : (o : Option Block) → block_of bs id ≡ o → option_map (λ b. b.stamp) o ≡ Some stamp → (b : Block) × (block_of bs id ≡ Some b) × (b.stamp ≡ stamp)
+    go None there is = absurd (cc)
+    go (Some b) there is = let same : b.stamp ≡ stamp = cc in (b, there, same)
+
+-- a block that is there was drawn
+pub there_drawn : (bs : List Block) (drawn id : ℕ) (b : Block) → Each (λ i. i < drawn) (ids_of bs) → block_of bs id ≡ Some b → id < drawn
+there_drawn bs drawn id b below there = go (nat_le drawn id) refl
+  where
+    go : (t : Bool) → nat_le drawn id ≡ t → id < drawn
+    go true is = let none : block_of bs id ≡ None = undrawn bs drawn id below (leb-true drawn id is) in absurd (cc)
+    go false is = leb-false drawn id is
+
+pub put_stands : (o : Opening) (es : List Entry) (states : List BlockState) (ids : List ℕ) (had session id seen lines : ℕ) (text : List (List ℕ))
+    → Stands o es states ids had → MayCome o es (edit.Put id seen text)
+    → lines ≡ length (body (after (document_of o es) (length es + 1) (edit.Put id seen text))) → length text ≤ 4096
+    → Stands o (es ++ record { session = session; edit = edit.Put id seen text } ∷ []) (set states id (There (length es + 1))) ids lines
+put_stands o es states ids had session id seen lines text s comes lines_is short =
     let e : Entry = record { session = session; edit = edit.Put id seen text } in
     let d : Document = document_of o es in
     let i : ℕ = length es + 1 in
     let next : document_of o (es ++ e ∷ []) ≡ after d i (edit.Put id seen text) = doc_snoc o es e in
-    let f = put_free d es id seen head text free in
-    let b = named_there d es id f.0 in
+    let b = stamped_there d.blocks id seen comes.fits in
+    let drawn = there_drawn d.blocks d.drawn id b.0 s.lawful.has_ids.drawn b.1 in
     let long : length (es ++ e ∷ []) ≡ length es + 1 = length-append es (e ∷ []) in
-    let at_is : at ≡ position_or_len (is_id id) (ids_of d.blocks) = (place_is ids id at place).0 ∙ ap (position_or_len (is_id id)) s.order in
     let same_ids = put_ids d.blocks id i text in
     record {
       lawful = record {
@@ -244,22 +267,30 @@ put_stands o es leaves states ids had session id seen head at lines text leaf s 
           drawn = subst (Each (λ k. k < d.drawn)) (sym same_ids) s.lawful.has_ids.drawn;
         });
         fits = subst (λ (x : Document). Fits x (es ++ e ∷ [])) (sym next) (record {
-          entries_fit = omega (arith, long, under _ _ _ _ f.2);
-          blocks_fit = omega (arith, put_count d.blocks id i text, s.lawful.fits.blocks_fit);
-          lines_fit = under _ _ _ _ f.3;
+          entries_fit = omega (arith, long, comes.room);
+          blocks_fit = comes.blocks;
+          lines_fit = comes.lines;
           ids_fit = omega (arith, long, s.lawful.fits.ids_fit);
         });
         texts = subst (λ (x : Document). Each (HasText o (es ++ e ∷ [])) x.blocks) (sym next)
             (put_each (HasText o (es ++ e ∷ [])) d.blocks id i text (text_last o es e id ∙ own_text id seen session text) (texts_before o es e d.blocks s.lawful.texts));
         short = short_after o es e s.lawful.short (λ k. put_short id seen session k text short);
-        leaves_are = subst (λ (x : Document). HasLeaves o x (set leaves at leaf)) (sym next)
-            (subst (λ (n : ℕ). AllZip (λ (l : Leaf) (y : Block). IsLeafOf (setting_of o d) l y.lines) (set leaves n leaf) (with_text id i text d.blocks)) (sym at_is)
-            (put_zip (IsLeafOf (setting_of o d)) leaves d.blocks id i text leaf leaf_is s.lawful.leaves_are));
         setting = subst (λ (x : Document). IsLawfulSetting (setting_of o x)) (sym next) s.lawful.setting;
       };
       drawn = length-set states id (There i) ∙ (s.drawn ∙ ap (λ (x : Document). x.drawn) (sym next));
       states_are = subst (λ (x : Document). (k : ℕ) → k < x.drawn → slice_get (set states id (There i)) k ≡ Some (state_of x (es ++ e ∷ []) k)) (sym next)
-          (put_states d es states id seen session i text b.0 b.1 (omega (arith, b.2, s.drawn)) s.states_are);
+          (put_states d es states id seen session i text b.0 b.1 (omega (arith, drawn, s.drawn)) s.states_are);
       order = s.order ∙ (sym same_ids ∙ ap (λ (x : Document). ids_of x.blocks) (sym next));
       lines = lines_is ∙ ap (λ (x : Document). length (body x)) (sym next);
     }
+
+-- and each leaf is made of the lines of its block
+pub put_leaves : (o : Opening) (es : List Entry) (leaves : List Leaf) (session id seen at : ℕ) (text : List (List ℕ)) (leaf : Leaf) → IsLawful o es leaves → position (is_id id) (ids_of (document_of o es).blocks) ≡ Some at
+    → IsLeafOf (setting_of o (document_of o es)) leaf text → HasLeaves o (document_of o (es ++ record { session = session; edit = edit.Put id seen text } ∷ [])) (set leaves at leaf)
+put_leaves o es leaves session id seen at text leaf s place leaf_is =
+    let e : Entry = record { session = session; edit = edit.Put id seen text } in
+    let d : Document = document_of o es in
+    let i : ℕ = length es + 1 in
+    subst (λ (x : Document). HasLeaves o x (set leaves at leaf)) (sym (doc_snoc o es e))
+    (subst (λ (n : ℕ). AllZip (λ (l : Leaf) (y : Block). IsLeafOf (setting_of o d) l y.lines) (set leaves n leaf) (with_text id i text d.blocks)) (sym (place_is (ids_of d.blocks) id at place).0)
+    (put_zip (IsLeafOf (setting_of o d)) leaves d.blocks id i text leaf leaf_is s.leaves_are))

@@ -1,5 +1,5 @@
 -- The verdict that the root of a book's tree tells is the one on the document's lines.
-use Rattle.std.proofs.Common.{◌≡◌, ℕ, List, length, refl, sym, subst}
+use Rattle.std.proofs.Common.{◌≡◌, ℕ, List, length, refl, sym, subst, ap, ◌∙◌}
 use Rattle.knit_base.specs.declared.instr.Read.{Read}
 use Rattle.knitout_reader.specs.Reading.{ReadsAs}
 use Rattle.carriage_model.specs.declared.verdict.Brief.{Brief}
@@ -42,3 +42,10 @@ pub root_brief : (o : Opening) (es : List Entry) (leaves : List Leaf) (view : Fa
     → brief ≡ brief_of (verdict_of (summary_of view) o.setting.first) → IsBriefOn (setting_at o es) (body (document_of o es)) brief
 root_brief o es leaves view brief s root is =
     (verdict_of (summary_of view) o.setting.first, root_verdict o es leaves view (verdict_of (summary_of view) o.setting.first) s root refl, is)
+
+-- a verdict whose first line is told by another name
+pub told_at : (view : FaceView) (first here : ℕ) (told : Verdict) → first ≡ here → told ≡ verdict_of (summary_of view) first → told ≡ verdict_of (summary_of view) here
+told_at view first here told same is = is ∙ ap (verdict_of (summary_of view)) same
+
+pub brief_at : (view : FaceView) (first here : ℕ) (brief : Brief) → first ≡ here → brief ≡ brief_of (verdict_of (summary_of view) first) → brief ≡ brief_of (verdict_of (summary_of view) here)
+brief_at view first here brief same is = is ∙ ap (λ (n : ℕ). brief_of (verdict_of (summary_of view) n)) same

@@ -8,13 +8,13 @@ use Rattle.face_data.specs.Summaries.{Summary}
 use Rattle.block_summary.specs.Prepared.{IsPreparedFor}
 use Rattle.edit_journal.specs.declared.edit.Entry.{Entry}
 use Rattle.edit_journal.specs.declared.opening.Opening.{Opening}
-use Rattle.edit_journal.specs.Entries.{JournalView}
 use Rattle.edit_journal.specs.Documents.{Block, Document, block_of, document_of, body, text_at}
 use Rattle.summary_tree.specs.Leaves.{Leaf}
 use Rattle.summary_tree.specs.Trees.{TreeView, CanReplace}
 use Rattle.edit_book.specs.declared.block_state.BlockState.{BlockState}
 use Rattle.edit_book.specs.declared.block_state.BlockState.TheVariants.{There, CutBy}
 use Rattle.edit_book.specs.Orders.{is_id}
+use Rattle.edit_book.specs.Outlines.{OutlineView}
 use Rattle.edit_journal.specs.Entries.{entry_limit}
 use Rattle.edit_book.specs.Replies.{block_limit, line_limit, cut_number}
 use Rattle.edit_book.specs.Verdicts.{setting_of}
@@ -26,9 +26,9 @@ pub record BookView : Type 0 where
   pub journal_room : Bool
   pub tree : TreeView
 
--- the same of what a book keeps
-abbrev pub book_view : Opening → JournalView → TreeView → BookView
-book_view opening journal tree = record { opening = opening; entries = journal.entries; journal_room = journal.room; tree = tree }
+-- the same of a book's outline and its tree
+abbrev pub book_view : OutlineView → TreeView → BookView
+book_view outline tree = record { opening = outline.opening; entries = outline.entries; journal_room = outline.journal_room; tree = tree }
 
 -- the document of the book's version
 abbrev pub document : BookView → Document
@@ -85,6 +85,14 @@ IsLeafOf setting leaf lines = IsPreparedFor setting.profile setting.declared (re
 abbrev pub HasLeaves : Opening → Document → List Leaf → Type 0
 HasLeaves opening d leaves = AllZip (λ (leaf : Leaf) (b : Block). IsLeafOf (setting_of opening d) leaf b.lines) leaves d.blocks
 
+-- what always holds of an outline
+pub record IsLawfulOutline (opening : Opening) (entries : List Entry) : Type 0 where
+  pub has_ids : HasIds (document_of opening entries)
+  pub fits : Fits (document_of opening entries) entries
+  pub texts : Each (HasText opening entries) (document_of opening entries).blocks
+  pub short : HasShortTexts opening entries
+  pub setting : IsLawfulSetting (setting_of opening (document_of opening entries))
+
 -- what always holds of a book with these leaves
 pub record IsLawful (opening : Opening) (entries : List Entry) (leaves : List Leaf) : Type 0 where
   pub has_ids : HasIds (document_of opening entries)
@@ -94,10 +102,10 @@ pub record IsLawful (opening : Opening) (entries : List Entry) (leaves : List Le
   pub leaves_are : HasLeaves opening (document_of opening entries) leaves
   pub setting : IsLawfulSetting (setting_of opening (document_of opening entries))
 
--- what a book keeps beside its opening, its journal and its tree stands for the document: the states of the blocks drawn, the
--- ids in their order, and the count of lines
-pub record Stands (opening : Opening) (entries : List Entry) (leaves : List Leaf) (states : List BlockState) (ids : List ℕ) (count : ℕ) : Type 0 where
-  pub lawful : IsLawful opening entries leaves
+-- what an outline keeps beside its opening and its journal stands for the document: the states of the blocks drawn, the ids in their
+-- order, and the count of lines
+pub record Stands (opening : Opening) (entries : List Entry) (states : List BlockState) (ids : List ℕ) (count : ℕ) : Type 0 where
+  pub lawful : IsLawfulOutline opening entries
   pub drawn : length states ≡ (document_of opening entries).drawn
   pub states_are : (id : ℕ) → id < (document_of opening entries).drawn → slice_get states id ≡ Some (state_of (document_of opening entries) entries id)
   pub order : ids ≡ ids_of (document_of opening entries).blocks

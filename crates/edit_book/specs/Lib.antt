@@ -7,6 +7,7 @@ pub mod Headers
 pub mod Memory
 pub mod Opened
 pub mod Orders
+pub mod Outlines
 pub mod Replies
 pub mod Session
 pub mod Turns

@@ -1,16 +1,19 @@
 //! A block is taken out.
-ghost use Rattle.std.specs.Prelude.{◌≡◌, ◌+◌, ◌<◌, ◌≤◌, None};
-ghost use Rattle.edit_book.specs.Books.{document};
+ghost use Rattle.std.specs.Prelude.{◌≡◌, ◌+◌, ◌<◌, ◌≤◌, ◌++◌, ◌∷◌, [], None, OnErr, OnOk, length};
+ghost use Rattle.edit_journal.specs.Documents.{after, body};
+ghost use Rattle.edit_journal.specs.declared.edit.Edit.TheVariants as edit;
+ghost use Rattle.edit_book.specs.Books.{document, IsLawfulOutline};
+ghost use Rattle.edit_book.specs.Outlines.{MayCome, outlined};
 ghost use Rattle.edit_book.specs.Replies as request;
 ghost use Rattle.edit_book.specs.Replies.{refusal_of, IsTurn};
 ghost use Rattle.edit_book.specs.Work.{work_limit};
 
 use crate::block_state::BlockState;
 use crate::room::room_for_entry;
-use crate::{Book, Reply};
+use crate::{Book, Outline, Reply};
 use edit_journal::{Edit, Entry};
 use face_data::brief_of;
-use knit_base::Steps;
+use knit_base::{NoMemory, Steps};
 use std::sync::ledger::Ledger;
 
 impl Book {
@@ -27,23 +30,10 @@ impl Book {
         ensures turned { IsTurn self.old.opening self.old.entries session (request.Cut block seen) result self.new.entries }
         ensures steps { steps.new ≤ steps.old + work_limit self.old.opening self.old.entries (request.Cut block seen) }
     {
-        if let Some(refusal) = self.refused_cut(block, seen) {
+        if let Some(refusal) = self.outline.refused_cut(block, seen) {
             return refusal;
         }
         self.cut_fitting(session, block, seen, steps)
-    }
-
-    /// The refusal of a cut, if it is refused.
-    pub(crate) fn refused_cut(&self, block: u32, seen: u32) -> Option<Reply>
-        ensures { result ≡ refusal_of (document self.now) self.now.entries (request.Cut block seen) }
-    {
-        if let Some(refusal) = self.refused_name(block) {
-            return Some(refusal);
-        }
-        if let Some(refusal) = self.refused_stamp(block, seen) {
-            return Some(refusal);
-        }
-        self.refused_entries()
     }
 
     // A cut that nothing refuses, apart from the others, since a call pays for all values that it may have.
@@ -60,31 +50,75 @@ impl Book {
         ensures turned { IsTurn self.old.opening self.old.entries session (request.Cut id seen) result self.new.entries }
         ensures steps { steps.new ≤ steps.old + work_limit self.old.opening self.old.entries (request.Cut id seen) }
     {
-        let lines = self.lines_after_cut(id, seen);
         let version = self.version() + 1;
-        let Some(at) = self.order.position(id) else {
+        let Some(at) = self.outline.place(id) else {
             unreachable!();
         };
-        if room_for_entry(&mut self.journal).is_err() {
-            return Reply::NoMemory;
-        }
         let need = self.tree.need_remove(at as u32);
         if self.tree.reserve(&need).is_err() {
             return Reply::NoMemory;
         }
+        if self.outline.enter_cut(session, id, seen).is_err() {
+            return Reply::NoMemory;
+        }
+        self.tree.remove(at as u32, steps);
+        let brief = brief_of(&self.tree.root(), self.outline.first());
+        Reply::Accepted {
+            version,
+            block: id,
+            brief,
+        }
+    }
+}
+
+impl Outline {
+    /// The refusal of a cut, if it is refused.
+    pub(crate) fn refused_cut(&self, block: u32, seen: u32) -> Option<Reply>
+        ensures { result ≡ refusal_of (outlined self.now) self.now.entries (request.Cut block seen) }
+    {
+        if let Some(refusal) = self.refused_name(block) {
+            return Some(refusal);
+        }
+        if let Some(refusal) = self.refused_stamp(block, seen) {
+            return Some(refusal);
+        }
+        self.refused_entries()
+    }
+
+    /// Enters a cut that may come. Where memory runs out all is as before.
+    pub(crate) fn enter_cut(&mut self, session: u32, id: u32, seen: u32) -> Result<(), NoMemory>
+        requires { MayCome self.old.opening self.old.entries (edit.Cut id seen) }
+        ensures opening { self.new.opening ≡ self.old.opening }
+        ensures ok { OnOk result (self.new.entries ≡ self.old.entries ++ (record { session = session; edit = edit.Cut id seen }) ∷ []) }
+        ensures err { OnErr result (self.new.entries ≡ self.old.entries) }
+        ensures lawful { IsLawfulOutline self.new.opening self.new.entries }
+    {
+        let lines = self.lines_after_cut(id, seen);
+        let version = self.version() + 1;
+        let _ids = self.ids();
+        let Some(at) = self.order.position(id) else {
+            unreachable!();
+        };
+        room_for_entry(&mut self.journal)?;
         self.journal.push(Entry {
             session,
             edit: Edit::Cut { block: id, seen },
         });
         self.states[id as usize] = BlockState::CutBy(version);
         self.order.remove(at);
-        self.tree.remove(at as u32, steps);
         self.lines = lines;
-        let brief = brief_of(&self.tree.root(), self.opening.setting.first);
-        Reply::Accepted {
-            version,
-            block: id,
-            brief,
+        Ok(())
+    }
+
+    // The lines of the body after a cut.
+    #[tactic(auto, using(crate::proofs::Counts::cut_counted))]
+    fn lines_after_cut(&self, id: u32, seen: u32) -> u32
+        ensures fewer { result ≤ length (body (outlined self.now)) }
+        ensures lines { result ≡ length (body (after (outlined self.now) (length self.now.entries + 1) (edit.Cut id seen))) }
+    {
+        match self.lines_of(id) {
+            Some(had) => self.lines - had,
+            None => self.lines,
         }
     }
 }

@@ -16,7 +16,7 @@ impl Book {
         ensures reply { IsAnswer self.now.opening self.now.entries (request.Look block) result }
         ensures steps { steps.new ≤ steps.old + work_limit self.now.opening self.now.entries (request.Look block) }
     {
-        if let Some(refusal) = self.refused_name(block) {
+        if let Some(refusal) = self.outline.refused_name(block) {
             return refusal;
         }
         match self.shown(block, steps) {
@@ -43,7 +43,7 @@ impl Book {
             block,
             stamp,
             first,
-            text: copied(self.alloc, text, steps)?,
+            text: copied(self.outline.alloc(), text, steps)?,
         })
     }
 
@@ -52,10 +52,10 @@ impl Book {
         requires { refused_name (document self.now) self.now.entries block ≡ None }
         ensures { result ≡ self.now.opening.setting.first + lines_before block (document self.now).blocks }
     {
-        let Some(at) = self.order.position(block) else {
+        let Some(at) = self.outline.place(block) else {
             unreachable!();
         };
-        self.opening.setting.first + self.tree.lines_before(at as u32)
+        self.outline.first() + self.tree.lines_before(at as u32)
     }
 }
 

@@ -20,7 +20,7 @@ impl Book {
             Ok(text) => Reply::Shown {
                 version: self.version(),
                 block: HEAD,
-                stamp: self.head,
+                stamp: self.header_stamp(),
                 first: 1,
                 text,
             },
@@ -33,8 +33,8 @@ impl Book {
         ensures lines { IfOk result (λ lines. lines ≡ header_line (document self.now).header.names ∷ []) }
         ensures names { let names = (document self.now).header.names in IfOk result (λ lines. names_in_line (header_line names) ≡ Some names) }
     {
-        let line = self.setting().declared.header_line(self.alloc)?;
-        let mut lines = Lines::new(self.alloc);
+        let line = self.setting().declared.header_line(self.outline.alloc())?;
+        let mut lines = Lines::new(self.outline.alloc());
         lines.push(line.as_str())?;
         Ok(lines)
     }

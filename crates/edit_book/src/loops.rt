@@ -42,7 +42,7 @@ impl Book {
         ensures fact { IfOk result (IsLoopOn (setting_of self.now.opening (document self.now)) (body (document self.now)) line) }
         ensures steps { steps.new ≤ steps.old + 14 }
     {
-        let first = self.opening.setting.first;
+        let first = self.outline.first();
         if line < first {
             return Ok(None);
         }
@@ -58,14 +58,14 @@ impl Book {
         };
         let row = table.row(place, steps);
         let entries = self.entries_at(at, row.through.as_slice())?;
-        Ok(Some(resolve(self.alloc, row, line - within, &entries)?))
+        Ok(Some(resolve(self.outline.alloc(), row, line - within, &entries)?))
     }
 
     // Whether the document stops at a fault of this line or of one before it.
     fn stops_before(&self, line: u32) -> bool
         ensures { result ≡ stops_by line (applied_each self.now.tree.leaves empty_state self.now.opening.setting.first) }
     {
-        match brief_of(&self.tree.root(), self.opening.setting.first) {
+        match brief_of(&self.tree.root(), self.outline.first()) {
             Brief::Sound { .. } => false,
             Brief::Broken(fault) => fault.line <= line,
         }
@@ -76,7 +76,7 @@ impl Book {
         requires { at < length self.now.tree.leaves }
         ensures { IfOk result (λ entries. (s : State) → IsBehind self.now at s → entries ≡ entries_held s (entries_of through.now)) }
     {
-        let mut entries = Entries::new(self.alloc);
+        let mut entries = Entries::new(self.outline.alloc());
         for seg in through {
             self.add_entry(at, *seg, &mut entries)?;
         }
@@ -95,7 +95,7 @@ impl Book {
         }
         let held = self
             .tree
-            .entry_contents(self.alloc, at, n, self.opening.setting.first)?;
+            .entry_contents(self.outline.alloc(), at, n, self.outline.first())?;
         entries.push((n, held))
     }
 }

@@ -42,7 +42,11 @@ impl Book {
     pub fn whole_verdict(&self) -> Result<Verdict, NoMemory>
         ensures { IfOk result (HasVerdict (setting_of self.now.opening (document self.now)) (body (document self.now))) }
     {
-        verdict_of(self.alloc, &self.tree.root(), self.opening.setting.first)
+        verdict_of(
+            self.outline.alloc(),
+            &self.tree.root(),
+            self.outline.first(),
+        )
     }
 
     // The text of the line at which the verdict is broken, or no text.
@@ -55,9 +59,9 @@ impl Book {
         ensures steps { steps.new ≤ steps.old + 1 }
     {
         match verdict {
-            Verdict::Sound(_) => Text::of(self.alloc, ""),
+            Verdict::Sound(_) => Text::of(self.outline.alloc(), ""),
             Verdict::Broken(fault) => {
-                self.line_text(fault.line.saturating_sub(self.opening.setting.first), steps)
+                self.line_text(fault.line.saturating_sub(self.outline.first()), steps)
             }
         }
     }
@@ -68,14 +72,14 @@ impl Book {
         ensures steps { steps.new ≤ steps.old + 1 }
     {
         let Some((at, within)) = self.tree.leaf_of_line(offset) else {
-            return Text::of(self.alloc, "");
+            return Text::of(self.outline.alloc(), "");
         };
-        let Some(id) = self.order.get(at) else {
+        let Some(id) = self.outline.id_at(at) else {
             unreachable!();
         };
         let Some(text) = self.text_of(id) else {
             unreachable!();
         };
-        Text::of(self.alloc, text.line(within, steps))
+        Text::of(self.outline.alloc(), text.line(within, steps))
     }
 }

@@ -1,7 +1,10 @@
 //! A block gets another text.
-ghost use Rattle.std.specs.Prelude.{◌≡◌, ◌≢◌, ◌+◌, ◌<◌, ◌≤◌, None};
+ghost use Rattle.std.specs.Prelude.{◌≡◌, ◌≢◌, ℕ, List, ◌+◌, ◌<◌, ◌≤◌, ◌++◌, ◌∷◌, [], true, None, IsOk, OnErr, OnOk, length, option_map};
+ghost use Rattle.edit_journal.specs.Documents.{after, block_of, body};
+ghost use Rattle.edit_journal.specs.declared.edit.Edit.TheVariants as edit;
 ghost use Rattle.edit_book.specs.Headers.{IsPreparedUnder};
-ghost use Rattle.edit_book.specs.Books.{document, IsReady};
+ghost use Rattle.edit_book.specs.Books.{document, IsLawfulOutline, IsReady};
+ghost use Rattle.edit_book.specs.Outlines.{MayCome, outlined};
 ghost use Rattle.edit_book.specs.Replies as request;
 ghost use Rattle.edit_book.specs.Replies.{refusal_of, IsTurn};
 ghost use Rattle.edit_book.specs.Work.{work_limit};
@@ -9,11 +12,11 @@ ghost use Rattle.edit_book.specs.declared.reply.Reply.TheVariants as Reply;
 
 use crate::block_state::BlockState;
 use crate::room::room_for_entry;
-use crate::{Book, Reply};
+use crate::{Book, Outline, Reply};
 use block_summary::Prepared;
 use edit_journal::{Edit, Entry};
 use face_data::brief_of;
-use knit_base::Steps;
+use knit_base::{BlockText, NoMemory, Steps};
 use std::sync::ledger::Ledger;
 
 impl Book {
@@ -35,36 +38,10 @@ impl Book {
         ensures steps { steps.new ≤ steps.old + work_limit self.old.opening self.old.entries (request.Put block seen head prepared.text) }
         ensures ready { IsReady self.old block prepared.face → result ≢ Reply.NoMemory }
     {
-        if let Some(refusal) = self.refused_put(block, seen, head, &prepared) {
+        if let Some(refusal) = self.outline.refused_put(block, seen, head, &prepared) {
             return refusal;
         }
         self.put_fitting(session, block, seen, head, prepared, steps)
-    }
-
-    /// The refusal of a put, if it is refused.
-    pub(crate) fn refused_put(
-        &self,
-        block: u32,
-        seen: u32,
-        head: u32,
-        prepared: &Prepared,
-    ) -> Option<Reply>
-        requires { IsPreparedUnder self.now.opening self.now.entries head prepared.now }
-        ensures { result ≡ refusal_of (document self.now) self.now.entries (request.Put block seen head prepared.now.text) }
-    {
-        if let Some(refusal) = self.refused_name(block) {
-            return Some(refusal);
-        }
-        if let Some(refusal) = self.refused_stamp(block, seen) {
-            return Some(refusal);
-        }
-        if let Some(refusal) = self.refused_head(head) {
-            return Some(refusal);
-        }
-        if let Some(refusal) = self.refused_entries() {
-            return Some(refusal);
-        }
-        self.refused_count(self.lines_after_put(block, seen, &prepared.text))
     }
 
     // A put that nothing refuses, apart from the others, since a call pays for all values that it may have.
@@ -85,18 +62,74 @@ impl Book {
         ensures steps { steps.new ≤ steps.old + work_limit self.old.opening self.old.entries (request.Put id seen head prepared.text) }
         ensures ready { IsReady self.old id prepared.face → result ≢ Reply.NoMemory }
     {
-        let lines = self.lines_after_put(id, seen, &prepared.text);
         let version = self.version() + 1;
         let Prepared { text, face, loops } = prepared;
-        let Some(at) = self.order.position(id) else {
+        let Some(at) = self.outline.place(id) else {
             unreachable!();
         };
-        if room_for_entry(&mut self.journal).is_err() {
-            return Reply::NoMemory;
-        }
         if self.tree.reserve_replace(at as u32, &face.view()).is_err() {
             return Reply::NoMemory;
         }
+        if self.outline.enter_put(session, id, seen, text).is_err() {
+            return Reply::NoMemory;
+        }
+        self.tree.replace(at as u32, &face.view(), loops, steps);
+        let brief = brief_of(&self.tree.root(), self.outline.first());
+        Reply::Accepted {
+            version,
+            block: id,
+            brief,
+        }
+    }
+}
+
+impl Outline {
+    /// The refusal of a put, if it is refused.
+    pub(crate) fn refused_put(
+        &self,
+        block: u32,
+        seen: u32,
+        head: u32,
+        prepared: &Prepared,
+    ) -> Option<Reply>
+        requires { IsPreparedUnder self.now.opening self.now.entries head prepared.now }
+        ensures { result ≡ refusal_of (outlined self.now) self.now.entries (request.Put block seen head prepared.now.text) }
+    {
+        if let Some(refusal) = self.refused_name(block) {
+            return Some(refusal);
+        }
+        if let Some(refusal) = self.refused_stamp(block, seen) {
+            return Some(refusal);
+        }
+        if let Some(refusal) = self.refused_head(head) {
+            return Some(refusal);
+        }
+        if let Some(refusal) = self.refused_entries() {
+            return Some(refusal);
+        }
+        self.refused_count(self.lines_after_put(block, seen, &prepared.text))
+    }
+
+    /// Enters a put that may come. Where memory runs out all is as before.
+    pub(crate) fn enter_put(
+        &mut self,
+        session: u32,
+        id: u32,
+        seen: u32,
+        text: BlockText,
+    ) -> Result<(), NoMemory>
+        requires short { length text ≤ 4096 }
+        requires comes { MayCome self.old.opening self.old.entries (edit.Put id seen text) }
+        ensures opening { self.new.opening ≡ self.old.opening }
+        ensures ok { OnOk result (self.new.entries ≡ self.old.entries ++ (record { session = session; edit = edit.Put id seen text }) ∷ []) }
+        ensures err { OnErr result (self.new.entries ≡ self.old.entries) }
+        ensures lawful { IsLawfulOutline self.new.opening self.new.entries }
+        ensures ready { self.old.journal_room ≡ true → IsOk result }
+    {
+        let lines = self.lines_after_put(id, seen, &text);
+        let version = self.version() + 1;
+        let _ids = self.ids();
+        room_for_entry(&mut self.journal)?;
         self.journal.push(Entry {
             session,
             edit: Edit::Put {
@@ -106,13 +139,37 @@ impl Book {
             },
         });
         self.states[id as usize] = BlockState::There(version);
-        self.tree.replace(at as u32, &face.view(), loops, steps);
         self.lines = lines;
-        let brief = brief_of(&self.tree.root(), self.opening.setting.first);
-        Reply::Accepted {
-            version,
-            block: id,
-            brief,
+        Ok(())
+    }
+
+    // The lines of the body after a put.
+    fn lines_after_put(&self, id: u32, seen: u32, text: &BlockText) -> u32
+        requires { length text.now ≤ 4096 }
+        ensures { result ≡ length (body (after (outlined self.now) (length self.now.entries + 1) (edit.Put id seen text.now))) }
+    {
+        self.lines_with(id, text.len())
+    }
+
+    /// The lines of the body after a put of a text with so many lines.
+    #[tactic(auto, using(crate::proofs::Counts::put_counted))]
+    pub(crate) fn lines_with(&self, id: u32, lines: u32) -> u32
+        requires { lines ≤ 4096 }
+        ensures { (seen : ℕ) → (text : List (List ℕ)) → length text ≡ lines → result ≡ length (body (after (outlined self.now) (length self.now.entries + 1) (edit.Put id seen text))) }
+    {
+        match self.lines_of(id) {
+            Some(had) => self.lines - had + lines,
+            None => self.lines,
+        }
+    }
+
+    /// How many lines a block has, if it is there.
+    pub(crate) fn lines_of(&self, id: u32) -> Option<u32>
+        ensures { result ≡ option_map (λ b. length b.lines) (block_of (outlined self.now).blocks id) }
+    {
+        match self.text_of(id) {
+            Some(text) => Some(text.len()),
+            None => None,
         }
     }
 }

@@ -1,9 +1,11 @@
 //! The header gets other names.
-ghost use Rattle.std.specs.Prelude.{◌≡◌, ◌+◌, ◌<◌, ◌≤◌, ◌++◌, ◌∷◌, [], ℕ, List, Some, None, IfOk, length, replicate, slice_get};
+ghost use Rattle.std.specs.Prelude.{◌≡◌, ◌+◌, ◌<◌, ◌≤◌, ◌++◌, ◌∷◌, [], List, Some, None, IfOk, OnErr, OnOk, length, replicate, slice_get};
 ghost use Rattle.knit_base.specs.Limits.{IsLawfulProfile};
 ghost use Rattle.edit_journal.specs.Documents.{Block};
 ghost use Rattle.edit_book.specs.declared.reply.Again.{Again};
-ghost use Rattle.edit_book.specs.Books.{document, IsLeafOf};
+ghost use Rattle.edit_journal.specs.declared.edit.Edit.TheVariants as edit;
+ghost use Rattle.edit_book.specs.Books.{document, IsLawfulOutline, IsLeafOf};
+ghost use Rattle.edit_book.specs.Outlines.{MayCome};
 ghost use Rattle.edit_book.specs.Headers.{ArePreparedAgain};
 ghost use Rattle.edit_book.specs.HeaderTrees.{AreLeavesOf, AreTaken, FitBlocks, FitsBlock, lines_for, lines_left};
 ghost use Rattle.edit_book.specs.Replies as request;
@@ -13,7 +15,7 @@ ghost use Rattle.edit_book.specs.Work.{header_limit, with_names};
 
 use crate::reply::{Again, AgainList};
 use crate::room::room_for_entry;
-use crate::{Book, Reply};
+use crate::{Book, Outline, Reply};
 use block_summary::{Draft, Prepared, prepare_with};
 use edit_journal::{Edit, Entry, HEAD};
 use face_data::{Face, brief_of};
@@ -41,10 +43,10 @@ impl Book {
         ensures turned { IsTurn self.old.opening self.old.entries session (request.PutHead seen declared) result self.new.entries }
         ensures steps { steps.new ≤ steps.old + header_limit (with_names declared (setting_of self.old.opening (document self.old))) (document self.old) again }
     {
-        if let Some(refusal) = self.refused_head(seen) {
+        if let Some(refusal) = self.outline.refused_head(seen) {
             return refusal;
         }
-        if let Some(refusal) = self.refused_entries() {
+        if let Some(refusal) = self.outline.refused_entries() {
             return refusal;
         }
         let Ok(tree) = self.tree_under(&declared, again, steps) else {
@@ -61,42 +63,17 @@ impl Book {
         ensures opening { self.new.opening ≡ self.old.opening }
         ensures turned { IsTurn self.old.opening self.old.entries session (request.PutHead seen declared) result self.new.entries }
     {
-        let _carriers = declared.len();
         let version = self.version() + 1;
-        let Ok(setting) = self.setting_under(&declared) else {
-            return Reply::NoMemory;
-        };
-        if room_for_entry(&mut self.journal).is_err() {
+        if self.outline.enter_head(session, seen, declared).is_err() {
             return Reply::NoMemory;
         }
-        if self.header.entries.reserve(1).is_err() {
-            return Reply::NoMemory;
-        }
-        self.journal.push(Entry {
-            session,
-            edit: Edit::Head { seen, declared },
-        });
-        self.head = version;
-        self.header.entries.push_reserved(version);
-        self.header.setting = setting;
         *self.tree = tree;
-        let brief = brief_of(&self.tree.root(), self.opening.setting.first);
+        let brief = brief_of(&self.tree.root(), self.outline.first());
         Reply::Accepted {
             version,
             block: HEAD,
             brief,
         }
-    }
-
-    // What the document is read by under these names.
-    fn setting_under(&self, declared: &Declared) -> Result<Setting, NoMemory>
-        ensures { IfOk result (λ setting. setting ≡ with_names declared.now (setting_of self.now.opening (document self.now))) }
-    {
-        Ok(Setting {
-            profile: self.opening.setting.profile,
-            declared: declared.try_clone()?,
-            first: self.opening.setting.first,
-        })
     }
 
     // The tree of the blocks as they are read under these names.
@@ -111,18 +88,18 @@ impl Book {
         ensures steps { steps.new ≤ steps.old + header_limit (with_names declared.now (setting_of self.now.opening (document self.now))) (document self.now) again }
     {
         let _carriers = declared.len();
-        let setting = self.setting_under(declared)?;
+        let setting = self.outline.setting_under(declared)?;
         let taken = self.taken_leaves(again)?;
-        let mut draft = Draft::new(self.alloc);
+        let mut draft = Draft::new(self.outline.alloc());
         let leaves = self.leaves_under(taken, &setting, &mut draft, steps)?;
-        Tree::start(self.alloc, leaves, steps)
+        Tree::start(self.outline.alloc(), leaves, steps)
     }
 
     // What is handed over of each block, by its place.
     fn taken_leaves(&self, again: AgainList) -> Result<Vec<Option<(Face, LoopTable)>>, NoMemory>
         ensures { IfOk result (λ taken. AreTaken again taken.items (document self.now).blocks) }
     {
-        let mut taken = no_leaves(self.alloc, self.order.len())?;
+        let mut taken = no_leaves(self.outline.alloc(), self.outline.len())?;
         for item in again.into_vec() {
             self.take_leaf(item, &mut taken);
         }
@@ -143,7 +120,7 @@ impl Book {
         if self.stamp(block) != Some(stamp) {
             return;
         }
-        let Some(at) = self.order.position(block) else {
+        let Some(at) = self.outline.place(block) else {
             unreachable!();
         };
         let Prepared {
@@ -167,7 +144,7 @@ impl Book {
         ensures leaves { IfOk result (λ leaves. AreLeavesOf setting.now leaves.items (document self.now).blocks) }
         ensures steps { steps.new ≤ steps.old + lines_left taken.items (document self.now).blocks }
     {
-        let mut leaves = Vec::with_capacity(self.alloc, taken.len())?;
+        let mut leaves = Vec::with_capacity(self.outline.alloc(), taken.len())?;
         let mut at = 0;
         for leaf in taken {
             leaves.push(self.leaf_at(at, leaf, setting, draft, steps)?)?;
@@ -210,7 +187,7 @@ impl Book {
         ensures leaf { IfOk result (λ leaf. (b : Block) → slice_get (document self.now).blocks at ≡ Some b → IsLeafOf setting.now leaf b.lines) }
         ensures steps { (b : Block) → slice_get (document self.now).blocks at ≡ Some b → steps.new ≤ steps.old + length b.lines }
     {
-        let Some(id) = self.order.get(at) else {
+        let Some(id) = self.outline.id_at(at) else {
             unreachable!();
         };
         let Some(text) = self.text_of(id) else {
@@ -227,6 +204,36 @@ impl Book {
             // No text is too long.
             Err(_) => Err(NoMemory),
         }
+    }
+}
+
+impl Outline {
+    /// Enters other names of the header. Where memory runs out all is as before.
+    pub(crate) fn enter_head(
+        &mut self,
+        session: u32,
+        seen: u32,
+        declared: Declared,
+    ) -> Result<(), NoMemory>
+        requires { MayCome self.old.opening self.old.entries (edit.Head seen declared) }
+        ensures opening { self.new.opening ≡ self.old.opening }
+        ensures ok { OnOk result (self.new.entries ≡ self.old.entries ++ (record { session = session; edit = edit.Head seen declared }) ∷ []) }
+        ensures err { OnErr result (self.new.entries ≡ self.old.entries) }
+        ensures lawful { IsLawfulOutline self.new.opening self.new.entries }
+    {
+        let _carriers = declared.len();
+        let version = self.version() + 1;
+        let setting = self.setting_under(&declared)?;
+        room_for_entry(&mut self.journal)?;
+        self.header.entries.reserve(1)?;
+        self.journal.push(Entry {
+            session,
+            edit: Edit::Head { seen, declared },
+        });
+        self.head = version;
+        self.header.entries.push_reserved(version);
+        self.header.setting = setting;
+        Ok(())
     }
 }
 

@@ -12,11 +12,11 @@ impl Book {
     pub fn ready(&self, block: u32, prepared: &Prepared) -> bool
         ensures { (result ≡ true) ↔ IsReady self.now block prepared.now.face }
     {
-        let Some(at) = self.order.position(block) else {
+        let Some(at) = self.outline.place(block) else {
             return true;
         };
         let need = self.tree.need_replace(at as u32, &prepared.face.view());
-        self.journal.has_room() && self.tree.meets(&need)
+        self.outline.has_room() && self.tree.meets(&need)
     }
 
     /// Makes room for a put of this text at the block, and changes nothing else that contracts see.
@@ -25,10 +25,10 @@ impl Book {
         ensures opening { self.new.opening ≡ self.old.opening }
         ensures entries { self.new.entries ≡ self.old.entries }
     {
-        let Some(at) = self.order.position(block) else {
+        let Some(at) = self.outline.place(block) else {
             return Ok(());
         };
-        room_for_entry(&mut self.journal)?;
+        self.outline.reserve_entry()?;
         self.tree.reserve_replace(at as u32, &prepared.face.view())
     }
 }

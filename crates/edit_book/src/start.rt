@@ -1,19 +1,18 @@
-//! The book of an opening.
-ghost use Rattle.std.specs.Prelude.{◌≡◌, ◌+◌, ◌*◌, ◌<◌, ◌≤◌, ◌^◌, ◌∷◌, [], ◌++◌, ℕ, List, All, IfOk, OnOk, flat_map, length, map};
-ghost use Rattle.knit_base.specs.declared.needle.Needle.{Needle};
+//! The book of an opening, and that of an outline.
+ghost use Rattle.std.specs.Prelude.{◌≡◌, ◌+◌, ◌<◌, ◌≤◌, ◌^◌, [], All, IfOk, OnOk, flat_map, length, map};
 ghost use Rattle.knit_base.specs.Limits.{IsLawfulProfile};
 ghost use Rattle.block_summary.specs.Prepared.{IsPreparedFor};
 ghost use Rattle.block_summary.specs.declared.prepared.Prepared.{Prepared};
+ghost use Rattle.edit_journal.specs.Documents.{Block, body};
+ghost use Rattle.edit_book.specs.HeaderTrees.{AreLeavesOf};
 ghost use Rattle.edit_book.specs.Opened.{HasKept, IsAdded};
+ghost use Rattle.edit_book.specs.Outlines.{outlined};
 ghost use Rattle.edit_book.specs.Replies.{block_limit, line_limit};
+ghost use Rattle.edit_book.specs.Verdicts.{setting_of};
 ghost use Rattle.edit_book.specs.Work.{start_limit};
 
-use crate::Book;
-use crate::block_state::BlockState;
-use crate::header::Header;
-use crate::order::Order;
+use crate::{Book, Outline};
 use block_summary::Prepared;
-use edit_journal::{Journal, Opening};
 use face_data::Face;
 use knit_base::{BlockText, ListOf, NoMemory, Setting, Steps};
 use loop_history::LoopTable;
@@ -26,8 +25,6 @@ use summary_tree::Tree;
 pub(crate) struct Kept {
     texts: ListOf<BlockText>,
     leaves: Vec<(Face, LoopTable)>,
-    states: Vec<BlockState>,
-    lines: u32,
 }
 
 impl Kept {
@@ -37,28 +34,22 @@ impl Kept {
         Kept {
             texts: ListOf::new(alloc),
             leaves: Vec::new(alloc),
-            states: Vec::new(alloc),
-            lines: 0,
         }
     }
 
     // One block more.
     fn add(&mut self, block: Prepared) -> Result<(), NoMemory>
-        requires few { length self.old.texts < block_limit }
-        requires lines { self.old.lines + length block.text ≤ line_limit }
+        requires { length self.old.texts < block_limit }
         ensures { OnOk result (IsAdded self.old self.new block) }
     {
         let Prepared { text, face, loops } = block;
-        self.lines += text.len();
         self.texts.push(text)?;
         self.leaves.push((face, loops))?;
-        self.states.push(BlockState::There(0))?;
         Ok(())
     }
 
     fn of(alloc: Global, blocks: Vec<Prepared>) -> Result<Kept, NoMemory>
-        requires few { length blocks.items ≤ block_limit }
-        requires lines { length (flat_map (λ (block : Prepared). block.text) blocks.items) ≤ line_limit }
+        requires { length blocks.items ≤ block_limit }
         ensures { IfOk result (HasKept blocks.items) }
     {
         let mut kept = Kept::new(alloc);
@@ -88,28 +79,43 @@ impl Book {
         ensures entries { IfOk result (λ book. book.entries ≡ []) }
         ensures steps { steps.new ≤ steps.old + start_limit setting (length blocks.items) (flat_map (λ (block : Prepared). block.text) blocks.items) }
     {
-        let _carriers = setting.declared.len();
-        let header = Header {
-            setting: setting.try_clone()?,
-            entries: Vec::new(alloc),
-        };
-        let order = Order::start(alloc, blocks.len() as u32)?;
-        let Kept {
-            texts,
-            leaves,
-            states,
-            lines,
-        } = Kept::of(alloc, blocks)?;
-        Ok(Book {
-            opening: Opening { setting, texts },
-            journal: Journal::new(alloc),
-            head: 0,
-            header: Box::new(alloc, header)?,
-            states,
-            order,
-            lines,
-            tree: Box::new(alloc, Tree::start(alloc, leaves, steps)?)?,
-            alloc,
-        })
+        let Kept { texts, leaves } = Kept::of(alloc, blocks)?;
+        let outline = Outline::start(alloc, setting, texts)?;
+        Book::of_leaves(outline, leaves, steps)
+    }
+
+    /// The book of an outline, with the blocks that are there: of their texts, each prepared for the names that the header now has. It
+    /// composes their faces once. The only error is want of memory.
+    pub fn of_outline<L: Ledger>(
+        outline: Outline,
+        blocks: Vec<Prepared>,
+        steps: &mut Steps<L>,
+    ) -> Result<Book, NoMemory>
+        requires texts { map (λ (block : Prepared). block.text) blocks.items ≡ map (λ (b : Block). b.lines) (outlined outline).blocks }
+        requires prepared { All (IsPreparedFor outline.opening.setting.profile (outlined outline).header.names) blocks.items }
+        ensures opening { IfOk result (λ book. book.opening ≡ outline.opening) }
+        ensures entries { IfOk result (λ book. book.entries ≡ outline.entries) }
+        ensures steps { steps.new ≤ steps.old + start_limit (setting_of outline.opening (outlined outline)) (length blocks.items) (flat_map (λ (block : Prepared). block.text) blocks.items) }
+    {
+        let _ids = outline.ids();
+        let Kept { texts: _, leaves } = Kept::of(outline.alloc(), blocks)?;
+        Book::of_leaves(outline, leaves, steps)
+    }
+
+    // The book of an outline with the leaves of its blocks.
+    fn of_leaves<L: Ledger>(
+        outline: Outline,
+        leaves: Vec<(Face, LoopTable)>,
+        steps: &mut Steps<L>,
+    ) -> Result<Book, NoMemory>
+        requires { AreLeavesOf (setting_of outline.opening (outlined outline)) leaves.items (outlined outline).blocks }
+        ensures opening { IfOk result (λ book. book.opening ≡ outline.opening) }
+        ensures entries { IfOk result (λ book. book.entries ≡ outline.entries) }
+        ensures steps { steps.new ≤ steps.old + start_limit (setting_of outline.opening (outlined outline)) (length (outlined outline).blocks) (body (outlined outline)) }
+    {
+        let _ids = outline.ids();
+        let tree = Tree::start(outline.alloc(), leaves, steps)?;
+        let tree = Box::new(outline.alloc(), tree)?;
+        Ok(Book { outline, tree })
     }
 }

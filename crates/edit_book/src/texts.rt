@@ -28,8 +28,8 @@ impl Book {
     fn blocks_at(&self) -> Result<TextList, NoMemory>
         ensures { IfOk result (λ blocks. blocks ≡ blocks_at (document self.now).blocks) }
     {
-        let mut blocks = ListOf::with_capacity(self.alloc, self.order.len())?;
-        for at in 0..self.order.len() {
+        let mut blocks = ListOf::with_capacity(self.outline.alloc(), self.outline.len())?;
+        for at in 0..self.outline.len() {
             blocks.push(self.block_at(at)?)?;
         }
         Ok(blocks)
@@ -40,7 +40,7 @@ impl Book {
         requires { at < length (document self.now).blocks }
         ensures { IfOk result (λ block. slice_get (blocks_at (document self.now).blocks) at ≡ Some block) }
     {
-        let Some(block) = self.order.get(at) else {
+        let Some(block) = self.outline.id_at(at) else {
             unreachable!();
         };
         let Some(stamp) = self.stamp(block) else {

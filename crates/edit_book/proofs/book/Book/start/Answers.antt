@@ -1,42 +1,24 @@
-use Rattle.std.proofs.Common.{◌≡◌, ℕ, List, length, ap, subst, sym, ◌∙◌, arith}
-use Rattle.std.proofs.lemmas.Grind.{common_steps}
-use Rattle.edit_journal.specs.declared.edit.Entry.{Entry}
-use Rattle.tree_shape.specs.Values.{gathered}
-use Rattle.tree_shape.specs.View.{leaves_of_tree}
-use Rattle.edit_book.specs.Orders.{OrderView, number_at}
-use Rattle.edit_book.specs.Books.{IsLawfulSetting, Stands}
-use Rattle.edit_book.proofs.Boxes.{leaves_of}
-use Rattle.edit_book.proofs.Openings.{opened_header, opened_sound, opened_stands, opened_work}
-use Rattle.tree_shape.specs.Changes.{numbers_below}
-use Rattle.summary_tree.specs.Leaves.{Leaf}
+use Rattle.std.proofs.Common.{ℕ, List, length, flat_map, All, ◌≤◌, ap, sym, subst, ◌∙◌, arith}
+use Rattle.std.proofs.lemmas.List.{length-map}
+use Rattle.block_summary.specs.declared.prepared.Prepared.{Prepared}
+use Rattle.edit_book.proofs.Openings.{lines_of_texts, opened_made, opened_work, prepared_short}
 use Rattle.edit_book.proofs.book.Book.start.Goals as goal
 
-pub start-requires-2 : goal.start-requires-2
-start-requires-2 g c =
-    let lawful : IsLawfulSetting c.args.setting = record { profile = c.requires.profile; carriers = c.len-carriers.ensures.few; first = c.requires.first } in
-    opened_sound c.args.setting c.args.blocks.items c.in_ok-texts.field-0 lawful c.requires.prepared c.requires.few c.requires.lines c.in_ok-texts.ensures
+pub start-requires-clause-few : goal.start-requires-clause-few
+start-requires-clause-few g c = omega (arith, ap length c.in_ok-texts.ensures.texts, length-map c.args.blocks.items (λ (b : Prepared). b.text), c.requires.few)
 
-pub invariant_of-result-2 : goal.invariant_of-result-2
-invariant_of-result-2 g c =
-    let lawful : IsLawfulSetting c.args.setting = record { profile = c.requires.profile; carriers = c.len-carriers.ensures.few; first = c.requires.first } in
-    let kept = c.in_ok-texts.field-0 in
-    let many : c.len.result ≡ length c.args.blocks.items = grind (arith, common_steps) in
-    let ids : List ℕ = gathered (number_at c.order.inside.ids.items) (leaves_of_tree c.order.inside.shape.tree) in
-    let ids_are : ids ≡ numbers_below (length c.args.blocks.items) = ap (λ (v : OrderView). v.ids) c.order.view_is ∙ (c.in_ok-order.ensures ∙ ap numbers_below many) in (
-      subst (λ (p : List Entry × List Leaf). Stands (record { setting = c.args.setting; texts = kept.texts }) p.0 p.1 kept.states.items ids kept.lines)
-          (λ i. (sym c.new-2.ensures i, sym (leaves_of _ _ c.in_ok-new-2.ensures.ok) i))
-          (opened_stands c.args.setting c.args.blocks.items kept c.in_ok-start.field-0.leaves ids lawful c.requires.prepared c.requires.few c.requires.lines c.in_ok-texts.ensures c.in_ok-start.ensures.leaves ids_are),
-      opened_header _ _ _ _ c.new-2.ensures c.in_ok-new.ensures.ok c.in_ok-try_clone.ensures c.new.ensures.items,
-    )
+pub start-requires-clause-lines : goal.start-requires-clause-lines
+start-requires-clause-lines g c =
+    let same = ap (λ (l : List (List (List ℕ))). length (flat_map (λ (text : List (List ℕ)). text) l)) c.in_ok-texts.ensures.texts ∙ ap length (lines_of_texts c.args.blocks.items) in omega (arith, same, c.requires.lines)
 
-pub returns-in_err-start-clause-steps : goal.returns-in_err-start-clause-steps
-returns-in_err-start-clause-steps g c =
-    opened_work c.args.setting c.args.blocks.items c.in_ok-texts.field-0 c.args.steps.now c.start-2.new.steps c.requires.prepared c.in_ok-texts.ensures c.start-2.ensures.steps
+pub start-requires-clause-short : goal.start-requires-clause-short
+start-requires-clause-short g c = subst (All (λ (text : List (List ℕ)). length text ≤ 4096)) (sym c.in_ok-texts.ensures.texts) (prepared_short c.args.setting c.args.blocks.items c.requires.prepared)
 
-pub returns-in_err-new-2-clause-steps : goal.returns-in_err-new-2-clause-steps
-returns-in_err-new-2-clause-steps g c =
-    opened_work c.args.setting c.args.blocks.items c.in_ok-texts.field-0 c.args.steps.now c.start-2.new.steps c.requires.prepared c.in_ok-texts.ensures c.start-2.ensures.steps
+pub of_leaves-requires : goal.of_leaves-requires
+of_leaves-requires g c =
+    opened_made c.in_ok-outline.outline c.args.setting c.args.blocks.items c.in_ok-texts.field-0 c.requires.prepared c.in_ok-texts.ensures c.in_ok-outline.ensures.setting c.in_ok-outline.ensures.texts c.in_ok-outline.ensures.entries
 
 pub returns-clause-steps : goal.returns-clause-steps
 returns-clause-steps g c =
-    opened_work c.args.setting c.args.blocks.items c.in_ok-texts.field-0 c.args.steps.now c.start-2.new.steps c.requires.prepared c.in_ok-texts.ensures c.start-2.ensures.steps
+    opened_work c.in_ok-outline.outline c.args.setting c.args.blocks.items c.in_ok-texts.field-0 c.args.steps.now c.of_leaves.new.steps c.in_ok-texts.ensures c.in_ok-outline.ensures.setting c.in_ok-outline.ensures.texts
+    c.in_ok-outline.ensures.entries c.of_leaves.ensures.steps

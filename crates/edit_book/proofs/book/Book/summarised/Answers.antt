@@ -8,7 +8,7 @@ use Rattle.edit_book.proofs.book.Book.summarised.Goals.{In_ok-try_clone}
 
 pub unreachable-requires-in_default-text_of : goal.unreachable-requires-in_default-text_of
 unreachable-requires-in_default-text_of g c =
-    let here = held _ _ _ _ _ c.args.self.now _ _ c.self.invariant.0 c.self.view_is c.args.at c.in-Some.id (sym c.get.ensures ∙ c.in-Some.is) in
+    let here = held _ _ c.args.self.now _ _ c.self.invariant c.self.view_is c.args.at c.in-Some.id (sym c.id_at.ensures ∙ c.in-Some.is) in
     let there = text_here _ _ _ here in
     let none = sym c.text_of.ensures.text ∙ ap option_copied c.in_default-text_of.is in
     cc
@@ -16,7 +16,7 @@ unreachable-requires-in_default-text_of g c =
 -- the text that is summarised is that of the block
 text_is : (g : Over) (c : In_ok-try_clone g) → IsTextAt c.args.self.now c.args.at c.in_ok-try_clone.field-0
 text_is g c =
-    held_text _ _ _ _ _ c.args.self.now _ _ c.self.invariant.0 c.self.view_is c.args.at c.in-Some.id c.in-Some-text_of.text.now _ (sym c.get.ensures ∙ c.in-Some.is)
+    held_text _ _ c.args.self.now _ _ c.self.invariant c.self.view_is c.args.at c.in-Some.id c.in-Some-text_of.text.now _ (sym c.id_at.ensures ∙ c.in-Some.is)
     (sym c.text_of.ensures.text ∙ ap option_copied c.in-Some-text_of.is) c.in_ok-try_clone.ensures
 
 pub returns-in-Ok-clause-leaf : goal.returns-in-Ok-clause-leaf

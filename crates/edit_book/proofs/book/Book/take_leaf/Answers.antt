@@ -1,4 +1,6 @@
 use Rattle.std.proofs.Common.{sym, ◌∙◌}
+use Rattle.edit_book.specs.Books.{ids_of}
+use Rattle.edit_book.specs.Outlines.{outlined}
 use Rattle.edit_book.proofs.HandedOver.{no_stamp, same_stamp, stale, stamp_placed, taken_at, taken_past}
 use Rattle.edit_book.proofs.HeldTexts.{ids_are}
 use Rattle.edit_book.proofs.book.Book.take_leaf.Goals as goal
@@ -9,10 +11,10 @@ returns-then-ne c = λ again h.
 
 pub unreachable-requires : goal.unreachable-requires
 unreachable-requires c =
-    stamp_placed _ c.args.item.block c.args.item.stamp c.self.inside.order.ids (ids_are _ _ _ _ _ c.args.self.now _ _ c.self.invariant.0 c.self.view_is)
-    (sym c.stamp.ensures ∙ same_stamp c.stamp.result c.args.item.stamp c.if-ne.ensures) (sym c.position.ensures ∙ c.in_default.is)
+    stamp_placed _ c.args.item.block c.args.item.stamp (ids_of (outlined c.self.inside.outline).blocks) (ids_are _ _ c.args.self.now _ _ c.self.invariant c.self.view_is)
+    (sym c.stamp.ensures ∙ same_stamp c.stamp.result c.args.item.stamp c.if-ne.ensures) (sym c.place.ensures ∙ c.in_default.is)
 
 pub returns : goal.returns
 returns c = λ again h.
-    taken_at again c.args.item _ _ c.self.inside.order.ids c.in-Some.at (ids_are _ _ _ _ _ c.args.self.now _ _ c.self.invariant.0 c.self.view_is) c.ids-ids.ensures.lawful.has_ids.differ
-    (sym c.stamp.ensures ∙ same_stamp c.stamp.result c.args.item.stamp c.if-ne.ensures) (sym c.position.ensures ∙ c.in-Some.is) h
+    taken_at again c.args.item _ _ (ids_of (outlined c.self.inside.outline).blocks) c.in-Some.at (ids_are _ _ c.args.self.now _ _ c.self.invariant c.self.view_is) c.ids-ids.ensures.lawful.has_ids.differ
+    (sym c.stamp.ensures ∙ same_stamp c.stamp.result c.args.item.stamp c.if-ne.ensures) (sym c.place.ensures ∙ c.in-Some.is) h

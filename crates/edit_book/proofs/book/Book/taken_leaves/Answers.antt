@@ -2,10 +2,9 @@ use Rattle.std.proofs.Common.{◌≡◌, ◌∷◌, [], List, length, refl, ap, 
 use Rattle.std.proofs.lemmas.Grind.{common_steps}
 use Rattle.std.specs.Vec.Iter.{into_iter_items}
 use Rattle.edit_book.specs.declared.reply.Again.{Again}
-use Rattle.edit_book.specs.Books.{document}
+use Rattle.edit_book.specs.Books.{BookView, document}
 use Rattle.edit_book.specs.HeaderTrees.{AreTaken, IsTaken}
 use Rattle.edit_book.proofs.HandedOver.{taken_first}
-use Rattle.edit_book.proofs.HeldTexts.{ids_kept}
 use Rattle.edit_book.proofs.Openings.{nothing_left}
 use Rattle.edit_book.proofs.Trees.{zip_count}
 use Rattle.edit_book.proofs.book.Book.taken_leaves.Goals as goal
@@ -14,7 +13,7 @@ pub loop-item-init : goal.loop-item-init
 loop-item-init c = record {
   all = refl;
   left = let gives = c.into_iter-item-iterator.ensures.into_iter_gives in grind (arith, common_steps);
-  taken = taken_first _ c.len.result _ c.in_ok-taken.ensures (c.len.ensures ∙ ids_kept _ _ _ _ _ c.args.self.now _ _ c.self.invariant.0 c.self.view_is);
+  taken = taken_first _ c.len.result _ c.in_ok-taken.ensures (c.len.ensures ∙ ap (λ (w : BookView). length (document w).blocks) c.self.view_is);
 }
 
 pub take_leaf-requires : goal.take_leaf-requires

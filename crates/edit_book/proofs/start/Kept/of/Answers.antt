@@ -5,17 +5,11 @@ use Rattle.edit_book.specs.Opened.{HasKept}
 use Rattle.edit_book.proofs.Openings.{kept_more, nothing_left, room_left}
 use Rattle.edit_book.proofs.start.Kept.of.Goals as goal
 
-pub add-requires-clause-few : goal.add-requires-clause-few
-add-requires-clause-few c =
+pub add-requires : goal.add-requires
+add-requires c =
     let at = c.loop-block in
-    (room_left at.yielded _ _ c.in-Some.block at.kept (ap (λ (l : List Prepared). at.yielded ++ l) (sym c.in-Some.ensures.steps.0) ∙ at.invariant.all ∙ c.into_iter-block-iterator.ensures.into_iter_gives.0)
-    at.invariant.kept c.requires.few c.requires.lines).0
-
-pub add-requires-clause-lines : goal.add-requires-clause-lines
-add-requires-clause-lines c =
-    let at = c.loop-block in
-    (room_left at.yielded _ _ c.in-Some.block at.kept (ap (λ (l : List Prepared). at.yielded ++ l) (sym c.in-Some.ensures.steps.0) ∙ at.invariant.all ∙ c.into_iter-block-iterator.ensures.into_iter_gives.0)
-    at.invariant.kept c.requires.few c.requires.lines).1
+    room_left at.yielded _ _ c.in-Some.block at.kept (ap (λ (l : List Prepared). at.yielded ++ l) (sym c.in-Some.ensures.steps.0) ∙ at.invariant.all ∙ c.into_iter-block-iterator.ensures.into_iter_gives.0)
+    at.invariant.kept c.requires
 
 pub loop-block-preserved : goal.loop-block-preserved
 loop-block-preserved c =

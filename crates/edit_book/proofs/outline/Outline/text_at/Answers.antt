@@ -1,7 +1,7 @@
 use Rattle.std.proofs.Common.{ap, sym, ◌∙◌}
 use Rattle.std.specs.Option.{option_copied}
 use Rattle.edit_book.proofs.Blocks.{short_text, text_later}
-use Rattle.edit_book.proofs.book.Book.text_at.Goals as goal
+use Rattle.edit_book.proofs.outline.Outline.text_at.Goals as goal
 
 pub returns-then-stamp-eq0-clause-short : goal.returns-then-stamp-eq0-clause-short
 returns-then-stamp-eq0-clause-short c = short_text c.self.inside.opening c.self.inside.journal.entries c.args.block 0 c.get.result c.self.invariant.0.lawful.short c.get.ensures

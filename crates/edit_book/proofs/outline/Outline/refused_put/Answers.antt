@@ -1,6 +1,6 @@
 use Rattle.std.proofs.Common.{sym, ◌∙◌}
 use Rattle.edit_book.proofs.PreparedTexts.{short_now}
-use Rattle.edit_book.proofs.book.Book.refused_put.Goals as goal
+use Rattle.edit_book.proofs.outline.Outline.refused_put.Goals as goal
 
 pub lines_after_put-requires : goal.lines_after_put-requires
 lines_after_put-requires c = short_now c.args.self.now.opening c.args.self.now.entries c.args.head c.args.prepared.now (sym c.refused_head.ensures ∙ c.in_default-refused_head.is) c.requires

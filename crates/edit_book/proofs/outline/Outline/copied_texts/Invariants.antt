@@ -1,5 +1,5 @@
 use Rattle.std.proofs.Common.{◌≡◌, take}
-use Rattle.edit_book.proofs.book.Book.copied_texts.Given as goal
+use Rattle.edit_book.proofs.outline.Outline.copied_texts.Given as goal
 
 abbrev pub invariant-loop-text : goal.invariant-loop-text
 invariant-loop-text l = l.texts ≡ take l.text-index l.text-items
