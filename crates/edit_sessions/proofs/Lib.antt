@@ -1,3 +1,6 @@
+pub mod AskedEdits
+pub mod AskedEntries
+pub mod Comings
 pub mod CoreLaws
 pub mod Takes
 pub mod Turns

@@ -1,5 +1,5 @@
 //! Laws on histories. The functions do nothing when they run: their contracts are the laws.
-ghost use Rattle.edit_sessions.specs.Laws.{EachLegalPairIsPlayed, EachPlayIsLegal};
+ghost use Rattle.edit_sessions.specs.Laws.{EachEntryComes, EachLegalPairIsPlayed, EachPlayIsLegal};
 
 /// Whatever the order of the sessions' turns, the journal and the replies are legal.
 pub fn plays_are_legal()
@@ -10,4 +10,9 @@ pub fn plays_are_legal()
 /// were given, an accepted one last at its version.
 pub fn legal_pairs_are_played()
     ensures { EachLegalPairIsPlayed }
+{}
+
+/// Each entry of a legal history may come behind those before it, and does what a command of its session asks.
+pub fn entries_come()
+    ensures { EachEntryComes }
 {}
