@@ -1,0 +1,8 @@
+use Rattle.std.proofs.lemmas.Str.{IsUtf8-from_is_utf8, is_utf8-from_IsUtf8}
+use Rattle.journal_file.proofs.scan.short_text.Goals as goal
+
+pub returns-in-Ok : goal.returns-in-Ok
+returns-in-Ok c = let h = c.in-Ok.ensures.cases in (h.0, record { utf8 = is_utf8-from_IsUtf8 c.args.text.now h.1; short = c.if-text-gt-TEXT_LIMIT.false })
+
+pub returns-in-Err : goal.returns-in-Err
+returns-in-Err c = λ short. c.in-Err.ensures.cases.0 (IsUtf8-from_is_utf8 c.args.text.now short.utf8)
