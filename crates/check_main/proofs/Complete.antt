@@ -8,14 +8,15 @@ use Rattle.knitout_reader.specs.declared.head.Head.{Head}
 use Rattle.knitout_reader.specs.Head.{IsHead}
 use Rattle.machine_profile.specs.declared.Chosen.{Chosen}
 use Rattle.command_words.specs.declared.command.Command.{Command}
-use Rattle.command_words.specs.declared.command.Command.TheVariants.{Check, Text, Passes, Live, Groups, Make}
+use Rattle.command_words.specs.declared.command.Command.TheVariants.{Check, Text, Passes, Live, Save, Groups, Replay, Make}
 use Rattle.script_reader.specs.declared.command.Script.{Script}
 use Rattle.script_reader.specs.declared.step.GroupScript.{GroupScript}
 use Rattle.script_reader.proofs.GroupRuns as group_runs
 use Rattle.script_reader.proofs.LiveRuns.{only_script, refused_none}
+use Rattle.input_answers.specs.declared.live_text.LiveOutput.{LiveOutput}
 use Rattle.input_answers.specs.declared.outcome.Status.{Status}
 use Rattle.input_answers.specs.declared.outcome.Status.TheVariants.{Done}
-use Rattle.input_answers.specs.Asked.{reads_file, reads_input}
+use Rattle.input_answers.specs.Asked.{reads_file, reads_input, reads_script}
 use Rattle.input_answers.specs.CheckReport.{IsCheckReport, body_of}
 use Rattle.input_answers.specs.Due as due
 use Rattle.input_answers.specs.Due.{Due, Fits, HasHead, checks_body}
@@ -25,12 +26,15 @@ use Rattle.input_answers.specs.DueLive as due_live
 use Rattle.input_answers.specs.DueLive.{DueLive, HasScript}
 use Rattle.input_answers.specs.DueMade as due_made
 use Rattle.input_answers.specs.DueMade.{DueMade}
+use Rattle.input_answers.specs.DueReplay as due_replay
+use Rattle.input_answers.specs.DueReplay.{DueReplay}
+use Rattle.input_answers.specs.LiveText.{output_of}
 use Rattle.input_answers.specs.Played.{Played}
 use Rattle.input_answers.proofs.Asks.{asked-chosen, asked-command, asked-lawful}
 use Rattle.input_answers.proofs.Exclusions.{fits-not_large, good-not_bad, head-not_bad}
 use Rattle.check_main.specs.Top as top
 use Rattle.check_main.specs.Top.{Called, Ran, SinkUse, SourceUse}
-use Rattle.check_main.specs.Complete.{EndsWell, Gives, IsFile, IsGroupScriptThatFits, IsScriptThatFits, IsStatusOf, IsUnhindered, IsWithinLimits, WasDone}
+use Rattle.check_main.specs.Complete.{EndsWell, Gives, IsFile, IsGroupScriptThatFits, IsSavedText, IsScriptThatFits, IsStatusOf, IsUnhindered, IsWithinLimits, WasDone}
 
 -- a source at its end gave all that it had
 gave_all : (had : List ℕ) (left : Option (List ℕ)) (input : List ℕ) → Consumes (Some had) left input → IsAtEnd left → input ≡ had
@@ -48,7 +52,9 @@ file_input (Check loops json) reads = refl
 file_input Text reads = refl
 file_input Passes reads = refl
 file_input Live reads = absurd (cc)
+file_input Save reads = absurd (cc)
 file_input Groups reads = absurd (cc)
+file_input Replay reads = absurd (cc)
 file_input (Make rows start) reads = absurd (cc)
 
 -- a file within the limits has a head
@@ -57,7 +63,9 @@ file_head (Check loops json) chosen input reads within = within.file
 file_head Text chosen input reads within = within
 file_head Passes chosen input reads within = within.file
 file_head Live chosen input reads within = absurd (cc)
+file_head Save chosen input reads within = absurd (cc)
 file_head Groups chosen input reads within = absurd (cc)
+file_head Replay chosen input reads within = absurd (cc)
 file_head (Make rows start) chosen input reads within = absurd (cc)
 
 -- and a body that fits where it is checked
@@ -67,12 +75,46 @@ file_fits (Check loops json) chosen input checks within = within.fits
 file_fits Text chosen input checks within = absurd (cc)
 file_fits Passes chosen input checks within = within.fits
 file_fits Live chosen input checks within = absurd (cc)
+file_fits Save chosen input checks within = absurd (cc)
 file_fits Groups chosen input checks within = absurd (cc)
+file_fits Replay chosen input checks within = absurd (cc)
 file_fits (Make rows start) chosen input checks within = absurd (cc)
 
 -- a script within the limits has a text that fits
-script_fits : (command : Command) (chosen : Chosen) (input : List ℕ) → command ≡ Live → IsWithinLimits command chosen input → IsScriptThatFits chosen.block input
-script_fits command chosen input is within = subst (λ (x : Command). IsWithinLimits x chosen input) is within
+script_fits : (command : Command) (chosen : Chosen) (input : List ℕ) → reads_script command ≡ true → IsWithinLimits command chosen input → IsScriptThatFits chosen.block input
+script_fits (Check loops json) chosen input reads within = absurd (cc)
+script_fits Text chosen input reads within = absurd (cc)
+script_fits Passes chosen input reads within = absurd (cc)
+script_fits Live chosen input reads within = within
+script_fits Save chosen input reads within = within
+script_fits Groups chosen input reads within = absurd (cc)
+script_fits Replay chosen input reads within = absurd (cc)
+script_fits (Make rows start) chosen input reads within = absurd (cc)
+
+-- it is an input
+script_input : (command : Command) → reads_script command ≡ true → reads_input command ≡ true
+script_input (Check loops json) reads = refl
+script_input Text reads = refl
+script_input Passes reads = refl
+script_input Live reads = refl
+script_input Save reads = refl
+script_input Groups reads = refl
+script_input Replay reads = absurd (cc)
+script_input (Make rows start) reads = absurd (cc)
+
+-- and what was asked for is done where the status says so
+script_done : (command : Command) (chosen : Chosen) (input : List ℕ) (result : Status) → reads_script command ≡ true → result ≡ Done → WasDone command chosen input result
+script_done (Check loops json) chosen input result reads is = absurd (cc)
+script_done Text chosen input result reads is = absurd (cc)
+script_done Passes chosen input result reads is = absurd (cc)
+script_done Live chosen input result reads is = is
+script_done Save chosen input result reads is = is
+script_done Groups chosen input result reads is = absurd (cc)
+script_done Replay chosen input result reads is = absurd (cc)
+script_done (Make rows start) chosen input result reads is = absurd (cc)
+
+saved_fits : (command : Command) (chosen : Chosen) (input : List ℕ) → command ≡ Replay → IsWithinLimits command chosen input → IsSavedText input
+saved_fits command chosen input is within = subst (λ (x : Command). IsWithinLimits x chosen input) is within
 
 groups_fit : (command : Command) (chosen : Chosen) (input : List ℕ) → command ≡ Groups → IsWithinLimits command chosen input → IsGroupScriptThatFits chosen.block input
 groups_fit command chosen input is within = subst (λ (x : Command). IsWithinLimits x chosen input) is within
@@ -107,16 +149,16 @@ file_done command chosen input text result reads within (due.grouped head told i
     (record { head = head; has = has; verdict_given = report.verdict_given; made = report.made; judged = report.judged; ended = sym report.sound })
 
 -- of a script
-live_done : (chosen : Chosen) (input : List ℕ) (played : Played) (text : List ℕ) (result : Status) → IsScriptThatFits chosen.block input → DueLive chosen input played text result → result ≡ Done
-live_done chosen input played text result within (due_live.bad_line fault said bad tells) = absurd (good-not_bad (lines_of input) fault said within.has.good bad tells)
-live_done chosen input played text result within (due_live.bad_script line cause good bad) = absurd (refused_none (lines_of input) line cause within.script within.has.spelt bad)
-live_done chosen input played text result within (due_live.bad_head script fault said good spelt bad tells) =
+live_done : (output : LiveOutput) (chosen : Chosen) (input : List ℕ) (played : Played) (text : List ℕ) (result : Status) → IsScriptThatFits chosen.block input → DueLive output chosen input played text result → result ≡ Done
+live_done output chosen input played text result within (due_live.bad_line fault said bad tells) = absurd (good-not_bad (lines_of input) fault said within.has.good bad tells)
+live_done output chosen input played text result within (due_live.bad_script line cause good bad) = absurd (refused_none (lines_of input) line cause within.script within.has.spelt bad)
+live_done output chosen input played text result within (due_live.bad_head script fault said good spelt bad tells) =
     let same = only_script (lines_of input) script within.script spelt within.has.spelt in
     absurd (head-not_bad script.text within.head fault said (subst (λ (s : Script). IsHead s.text within.head) same within.has.head_is) bad tells)
-live_done chosen input played text result within (due_live.too_large script head said has large) =
+live_done output chosen input played text result within (due_live.too_large script head said has large) =
     let same = only_script (lines_of input) script within.script has.spelt within.has.spelt in
     absurd (fits-not_large chosen.block (length (body_of script.text)) said (subst (λ (s : Script). Fits chosen.block (length (body_of s.text))) same within.fits) large)
-live_done chosen input played text result within (due_live.edited head opening _ _ has fits opens legal alone report) = refl
+live_done output chosen input played text result within (due_live.edited head opening _ _ has fits opens legal alone report) = refl
 
 groups_done : (chosen : Chosen) (input : List ℕ) (played : Played) (text : List ℕ) (result : Status) → IsGroupScriptThatFits chosen.block input → DueGroups chosen input played text result → result ≡ Done
 groups_done chosen input played text result within (due_groups.bad_line fault said bad tells) = absurd (good-not_bad (lines_of input) fault said within.has.good bad tells)
@@ -128,6 +170,11 @@ groups_done chosen input played text result within (due_groups.too_large script 
     let same = group_runs.only_groups (lines_of input) script within.script has.spelt within.has.spelt in
     absurd (fits-not_large chosen.block (length (body_of script.text)) said (subst (λ (s : GroupScript). Fits chosen.block (length (body_of s.text))) same within.fits) large)
 groups_done chosen input played text result within (due_groups.edited head opening did _ has fits opens legal report) = refl
+
+-- of a saved text
+replay_done : (input text : List ℕ) (result : Status) → IsSavedText input → DueReplay input text result → result ≡ Done
+replay_done input text result within (due_replay.bad_journal line cause bad none) = absurd (none within.head within.profile within.blocks within.entries within.saved.lawful within.saved.spelt)
+replay_done input text result within (due_replay.replayed head profile blocks entries _ saved report) = refl
 
 -- of a made program
 made_done : (chosen : Chosen) (rows start : ℕ) (text : List ℕ) (result : Status) → Fits chosen.block (length (body_of (made_lines rows start))) → DueMade chosen rows start text result → result ≡ Done
@@ -162,13 +209,14 @@ due_done words command chosen input source sink played text result free (top.who
     file_done command chosen input told ends reads_it free.within
     (subst (λ (x : Command). Due x chosen input told ends) same
     (subst (λ (c : Chosen). Due other c input told ends) limits_same (subst (λ (l : List ℕ). Due other limits l told ends) all is_due)))
-due_done words command chosen input source sink played text result free (top.live limits read did told ends ask consumed end few is_due) =
-    let same = asked-command words command Live chosen limits free.asked ask in
-    let limits_same = asked-chosen words command Live chosen limits free.asked ask in
-    let all = whole_input source input read (free.given (sym (ap reads_input same))) consumed end in
-    done_for command Live chosen input ends (sym same)
-    (live_done chosen input did told ends (script_fits command chosen input (sym same) free.within)
-    (subst (λ (c : Chosen). DueLive c input did told ends) limits_same (subst (λ (l : List ℕ). DueLive limits l did told ends) all is_due)))
+due_done words command chosen input source sink played text result free (top.live other limits read did told ends ask reads consumed end few is_due) =
+    let same = asked-command words command other chosen limits free.asked ask in
+    let limits_same = asked-chosen words command other chosen limits free.asked ask in
+    let reads_it = sym (ap reads_script same) ∙ reads in
+    let all = whole_input source input read (free.given (script_input command reads_it)) consumed end in
+    script_done command chosen input ends reads_it
+    (live_done (output_of other) chosen input did told ends (script_fits command chosen input reads_it free.within)
+    (subst (λ (c : Chosen). DueLive (output_of other) c input did told ends) limits_same (subst (λ (l : List ℕ). DueLive (output_of other) limits l did told ends) all is_due)))
 due_done words command chosen input source sink played text result free (top.groups limits read did told ends ask consumed end few is_due) =
     let same = asked-command words command Groups chosen limits free.asked ask in
     let limits_same = asked-chosen words command Groups chosen limits free.asked ask in
@@ -176,6 +224,11 @@ due_done words command chosen input source sink played text result free (top.gro
     done_for command Groups chosen input ends (sym same)
     (groups_done chosen input did told ends (groups_fit command chosen input (sym same) free.within)
     (subst (λ (c : Chosen). DueGroups c input did told ends) limits_same (subst (λ (l : List ℕ). DueGroups limits l did told ends) all is_due)))
+due_done words command chosen input source sink played text result free (top.replay limits read told ends ask consumed end few is_due) =
+    let same = asked-command words command Replay chosen limits free.asked ask in
+    let all = whole_input source input read (free.given (sym (ap reads_input same))) consumed end in
+    done_for command Replay chosen input ends (sym same)
+    (replay_done input told ends (saved_fits command chosen input (sym same) free.within) (subst (λ (l : List ℕ). DueReplay l told ends) all is_due))
 due_done words command chosen input source sink played text result free (top.large other limits read ask reads consumed past) =
     let same = asked-command words command other chosen limits free.asked ask in
     absurd (not_past source input read (free.given (sym (ap reads_input same) ∙ reads)) consumed past)

@@ -3,8 +3,10 @@ use Rattle.std.proofs.Common.{◌≡◌, ℕ, ◌≤◌, true, false, ◌&&◌, 
 use Rattle.std.specs.Prelude.{◌-ℤ◌}
 use Rattle.std.specs.List.{list_all}
 use Rattle.std.proofs.lemmas.Bool.{ltb-true}
+use Rattle.std.proofs.lemmas.Int.{ints}
 use Rattle.std.proofs.lemmas.List.Elements.{All-cons, All-nil}
 use Rattle.std.proofs.lemmas.Str.{is_utf8-from_IsUtf8}
+use Rattle.knit_base.specs.Limits.{IsLawfulProfile}
 use Rattle.knit_base.specs.Lines.{lines_of}
 use Rattle.knit_maker.proofs.PlainLines.{is_printed, plain-text, plain-utf8}
 use Rattle.knit_ports.specs.declared.limit.TheConstants.{INPUT_LIMIT}
@@ -13,8 +15,11 @@ use Rattle.machine_profile.specs.declared.Chosen.{Chosen}
 use Rattle.machine_profile.specs.declared.Options.{Options}
 use Rattle.machine_profile.specs.Bounds.{IsChosen}
 use Rattle.command_words.specs.declared.command.Command.{Command}
-use Rattle.command_words.specs.declared.command.Command.TheVariants.{Check, Text, Passes, Live, Groups, Make}
+use Rattle.command_words.specs.declared.command.Command.TheVariants.{Check, Text, Passes, Live, Save, Groups, Replay, Make}
 use Rattle.command_words.specs.Request.{request_of}
+use Rattle.journal_file.proofs.PlainLines.{has_none, no_feed}
+use Rattle.journal_file.specs.SavedParts.{IsFirstText, IsShortLine, IsWritten}
+use Rattle.journal_file.specs.Spelling.{spelling}
 use Rattle.script_reader.specs.declared.command.Command.TheVariants.{Verdict}
 use Rattle.script_reader.specs.declared.command.Script.{Script}
 use Rattle.script_reader.specs.declared.step.GroupScript.{GroupScript}
@@ -23,7 +28,7 @@ use Rattle.script_reader.specs.Groups.{IsGroupScript}
 use Rattle.script_reader.specs.Script.{IsScript}
 use Rattle.script_reader.proofs.Bools.{first_true, second_true}
 use Rattle.input_answers.specs.Asked.{Ask}
-use Rattle.check_main.specs.Complete.{Gives, IsFile, IsFileThatFits, IsGroupScriptThatFits, IsScriptThatFits, IsUnhindered}
+use Rattle.check_main.specs.Complete.{Gives, IsFile, IsFileThatFits, IsGroupScriptThatFits, IsSavedText, IsScriptThatFits, IsUnhindered}
 use Rattle.check_main.specs.Top.{SinkUse, SourceUse}
 
 abbrev no_options : Options
@@ -109,6 +114,9 @@ plays = record {
 free_live : (text : List ℕ) → IsUnhindered (codes "live" ∷ []) Live usual live_file (giving live_file) (taking text)
 free_live text = record { asked = asks _ _ refl; within = plays; given = λ reads. gives live_file (omega arith); no_fault = λ rose. omega (arith, rose) }
 
+free_save : (text : List ℕ) → IsUnhindered (codes "save" ∷ []) Save usual live_file (giving live_file) (taking text)
+free_save text = record { asked = asks _ _ refl; within = plays; given = λ reads. gives live_file (omega arith); no_fault = λ rose. omega (arith, rose) }
+
 -- one session asks for the verdict and for an undo
 abbrev groups_file : List ℕ
 groups_file = codes "groups 1\n|;!knitout-2\n|;;Carriers: 1\n|drop f1\nsession\nverdict\nundo\n"
@@ -139,6 +147,63 @@ groups_play = record {
 
 free_groups : (text : List ℕ) → IsUnhindered (codes "groups" ∷ []) Groups usual groups_file (giving groups_file) (taking text)
 free_groups text = record { asked = asks _ _ refl; within = groups_play; given = λ reads. gives groups_file (omega arith); no_fault = λ rose. omega (arith, rose) }
+
+-- lines of printed characters may stand in a saved text
+all_short : (lines : List (List ℕ)) → list_all (λ (line : List ℕ). (list_all is_printed line && nat_lt (length line) 4097) && has_none line) lines ≡ true → All IsShortLine lines
+all_short [] are = All-nil IsShortLine
+all_short (line ∷ lines) are =
+    let here : ((list_all is_printed line && nat_lt (length line) 4097) && has_none line) ≡ true = first_true _ _ are in
+    let printed : (list_all is_printed line && nat_lt (length line) 4097) ≡ true = first_true (list_all is_printed line && nat_lt (length line) 4097) (has_none line) here in
+    let short : length line ≤ 4096 = omega (arith, ltb-true (length line) 4097 (second_true (list_all is_printed line) (nat_lt (length line) 4097) printed)) in
+    let plain = plain-text 4096 line (first_true (list_all is_printed line) (nat_lt (length line) 4097) printed) short in
+    All-cons IsShortLine line lines (record {
+      utf8 = is_utf8-from_IsUtf8 line (plain-utf8 4096 line plain);
+      one = no_feed line (second_true (list_all is_printed line && nat_lt (length line) 4097) (has_none line) here);
+      short = short;
+    })
+    (all_short lines (second_true ((list_all is_printed line && nat_lt (length line) 4097) && has_none line) _ are))
+
+abbrev saved_head : List (List ℕ)
+saved_head = codes ";!knitout-2" ∷ codes ";;Carriers: 1" ∷ []
+
+abbrev saved_body : List (List ℕ)
+saved_body = codes "drop f1" ∷ []
+
+-- the beginning of that program, with no entry, as it is saved
+abbrev saved_file : List ℕ
+saved_file = spelling saved_head usual.profile (record { block = 0; stamp = 0; text = saved_body } ∷ []) []
+
+usual_lawful : IsLawfulProfile usual.profile
+usual_lawful = record { lowest = omega (arith, ints); ordered = omega (arith, ints); highest = omega (arith, ints); rack = omega arith; some = omega arith; hold = omega arith; float = tt }
+
+saved_text : IsSavedText saved_file
+saved_text = record {
+  head = saved_head;
+  profile = usual.profile;
+  blocks = record { block = 0; stamp = 0; text = saved_body } ∷ [];
+  entries = [];
+  saved = record {
+    spelt = refl;
+    lawful = record {
+      bounds = record {
+        limits = usual_lawful;
+        whole = record { whole = refl; declared = refl };
+        head_few = omega arith;
+        head_lines = all_short saved_head refl;
+        numbered = refl;
+        blocks_few = omega arith;
+        lines_few = omega arith;
+        texts = All-cons IsFirstText saved_body [] (record { some = omega arith; few = omega arith; lines = all_short saved_body refl }) (All-nil IsFirstText);
+        written = All-nil IsWritten;
+      };
+      come = tt;
+    };
+  };
+}
+
+-- it is followed to its end, where it isn't too large
+free_replay : (text : List ℕ) → length saved_file ≤ INPUT_LIMIT → IsUnhindered (codes "replay" ∷ []) Replay usual saved_file (giving saved_file) (taking text)
+free_replay text few = record { asked = asks _ _ refl; within = saved_text; given = λ reads. gives saved_file few; no_fault = λ rose. omega (arith, rose) }
 
 -- one row is made, and nothing is read
 free_make : (text : List ℕ) (source : SourceUse) → IsUnhindered (codes "make" ∷ codes "1" ∷ codes "0" ∷ []) (Make 1 0) usual [] source (taking text)

@@ -1,6 +1,9 @@
 -- Where nothing hinders a run of the program, it ends well.
 use Rattle.std.specs.Prelude.{◌≡◌, ◌⊎◌, ℕ, ◌≤◌, true, List, length, Some}
+use Rattle.knit_base.specs.declared.profile.Profile.{Profile}
 use Rattle.knit_base.specs.Lines.{lines_of}
+use Rattle.edit_journal.specs.declared.edit.BlockAt.{BlockAt}
+use Rattle.edit_journal.specs.declared.edit.Entry.{Entry}
 use Rattle.knit_maker.specs.Made.{made_lines}
 use Rattle.knit_ports.specs.declared.limit.TheConstants.{INPUT_LIMIT}
 use Rattle.knit_ports.specs.Faults.{Rose}
@@ -9,7 +12,7 @@ use Rattle.carriage_model.specs.declared.verdict.Verdict.{Verdict}
 use Rattle.carriage_model.specs.declared.verdict.LoopFact.{LoopFact}
 use Rattle.machine_profile.specs.declared.Chosen.{Chosen}
 use Rattle.command_words.specs.declared.command.Command.{Command}
-use Rattle.command_words.specs.declared.command.Command.TheVariants.{Check, Text, Passes, Live, Groups, Make}
+use Rattle.command_words.specs.declared.command.Command.TheVariants.{Check, Text, Passes, Live, Save, Groups, Replay, Make}
 use Rattle.script_reader.specs.declared.command.Script.{Script}
 use Rattle.script_reader.specs.declared.step.GroupScript.{GroupScript}
 use Rattle.input_answers.specs.declared.outcome.Status.{Status}
@@ -19,6 +22,7 @@ use Rattle.input_answers.specs.CheckReport.{IsJudged, body_of, status_of}
 use Rattle.input_answers.specs.Due.{Fits, HasHead}
 use Rattle.input_answers.specs.DueGroups.{HasGroupScript}
 use Rattle.input_answers.specs.DueLive.{HasScript}
+use Rattle.input_answers.specs.DueReplay.{IsSaved}
 use Rattle.check_main.specs.Top.{SinkUse, SourceUse}
 
 -- the input is a file: its lines are good, and it has a head
@@ -45,13 +49,23 @@ pub record IsGroupScriptThatFits (size : ℕ) (input : List ℕ) : Type 0 where
   pub has : HasGroupScript input script head
   pub fits : Fits size (length (body_of script.text))
 
+-- the input is a saved text
+pub record IsSavedText (input : List ℕ) : Type 0 where
+  pub head : List (List ℕ)
+  pub profile : Profile
+  pub blocks : List BlockAt
+  pub entries : List Entry
+  pub saved : IsSaved input head profile blocks entries
+
 -- what the command works on is within the grammars and limits: the input, or the program that is made
 abbrev pub IsWithinLimits : Command → Chosen → List ℕ → Type 0
 IsWithinLimits (Check loops json) chosen input = IsFileThatFits chosen.block input
 IsWithinLimits Text chosen input = IsFile input
 IsWithinLimits Passes chosen input = IsFileThatFits chosen.block input
 IsWithinLimits Live chosen input = IsScriptThatFits chosen.block input
+IsWithinLimits Save chosen input = IsScriptThatFits chosen.block input
 IsWithinLimits Groups chosen input = IsGroupScriptThatFits chosen.block input
+IsWithinLimits Replay chosen input = IsSavedText input
 IsWithinLimits (Make rows start) chosen input = Fits chosen.block (length (body_of (made_lines rows start)))
 
 -- The source had this input left, and told it; the input has at most 16,777,216 bytes. No read failed: the count of faults didn't rise, and isn't
@@ -84,7 +98,9 @@ WasDone (Check loops json) chosen input result = IsStatusOf chosen input result
 WasDone Text chosen input result = result ≡ Done
 WasDone Passes chosen input result = IsStatusOf chosen input result
 WasDone Live chosen input result = result ≡ Done
+WasDone Save chosen input result = result ≡ Done
 WasDone Groups chosen input result = result ≡ Done
+WasDone Replay chosen input result = result ≡ Done
 WasDone (Make rows start) chosen input result = result ≡ Done
 
 -- the run ended well: what was asked for was done, or memory ran out, which may always be

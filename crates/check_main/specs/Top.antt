@@ -7,16 +7,18 @@ use Rattle.knit_ports.specs.Faults.{Rose}
 use Rattle.knit_ports.specs.Whole.{GaveAtMost, TookFront}
 use Rattle.machine_profile.specs.declared.Chosen.{Chosen}
 use Rattle.command_words.specs.declared.command.Command.{Command}
-use Rattle.command_words.specs.declared.command.Command.TheVariants.{Groups, Live, Make}
+use Rattle.command_words.specs.declared.command.Command.TheVariants.{Groups, Make, Replay}
 use Rattle.verdict_report.specs.declared.refusal.Refusal.TheVariants as refusal
 use Rattle.verdict_report.specs.Refusals.{refusal_text}
 use Rattle.input_answers.specs.declared.outcome.Status.{Status}
 use Rattle.input_answers.specs.declared.outcome.Status.TheVariants.{Usage, ReadFault, TooLarge, WriteFault, NoMemory}
-use Rattle.input_answers.specs.Asked.{Ask, AreRefused, reads_file, reads_input}
+use Rattle.input_answers.specs.Asked.{Ask, AreRefused, reads_file, reads_input, reads_script}
 use Rattle.input_answers.specs.Due.{Due}
 use Rattle.input_answers.specs.DueGroups.{DueGroups}
 use Rattle.input_answers.specs.DueLive.{DueLive}
 use Rattle.input_answers.specs.DueMade.{DueMade}
+use Rattle.input_answers.specs.DueReplay.{DueReplay}
+use Rattle.input_answers.specs.LiveText.{output_of}
 use Rattle.input_answers.specs.Played.{Played, nothing_played}
 
 -- the source before and after a run: the bytes that it has left, where it tells them, and how many of its reads have failed
@@ -58,13 +60,17 @@ pub data Called (words : List (List ℕ)) (source : SourceUse) : Played → List
       → Consumes source.left_before source.left_after input → IsAtEnd source.left_after → length input ≤ INPUT_LIMIT
       → Due command chosen input text status → Called words source nothing_played text status
   -- a script was read to its end
-  live : (chosen : Chosen) (input : List ℕ) (played : Played) (text : List ℕ) (status : Status) → Ask words Live chosen
+  live : (command : Command) (chosen : Chosen) (input : List ℕ) (played : Played) (text : List ℕ) (status : Status) → Ask words command chosen → reads_script command ≡ true
       → Consumes source.left_before source.left_after input → IsAtEnd source.left_after → length input ≤ INPUT_LIMIT
-      → DueLive chosen input played text status → Called words source played text status
+      → DueLive (output_of command) chosen input played text status → Called words source played text status
   -- a script of groups was read to its end
   groups : (chosen : Chosen) (input : List ℕ) (played : Played) (text : List ℕ) (status : Status) → Ask words Groups chosen
       → Consumes source.left_before source.left_after input → IsAtEnd source.left_after → length input ≤ INPUT_LIMIT
       → DueGroups chosen input played text status → Called words source played text status
+  -- a saved text was read to its end
+  replay : (chosen : Chosen) (input text : List ℕ) (status : Status) → Ask words Replay chosen
+      → Consumes source.left_before source.left_after input → IsAtEnd source.left_after → length input ≤ INPUT_LIMIT
+      → DueReplay input text status → Called words source nothing_played text status
   -- the source was read to one byte past the limit
   large : (command : Command) (chosen : Chosen) (input : List ℕ) → Ask words command chosen → reads_input command ≡ true
       → Consumes source.left_before source.left_after input → length input ≡ INPUT_LIMIT + 1

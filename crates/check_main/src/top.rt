@@ -12,7 +12,7 @@ ghost use Rattle.check_main.specs.Top.{Ran, SourceUse, sink_use, source_use};
 use command_words::Command;
 use input_answers::{
     Answer, Outcome, Plan, PlanFault, Status, answer, answer_groups, answer_live, answer_made,
-    plan_of,
+    answer_replay, plan_of,
 };
 use knit_base::NoMemory;
 use knit_ports::{Gate, INPUT_LIMIT, InputFault, Sink, Source, read_input, write_report};
@@ -28,19 +28,20 @@ use verdict_report::Refusal;
 /// for these very bytes, and the sink takes nothing else. Of a source that tells nothing, as standard input, the report
 /// is due for some bytes. An input has at most 16,777,216 bytes; one byte more is read to see that it has not.
 ///
-/// `live` carries out the sessions of a script, each in a thread of its own, and may wait for other threads and for the gate;
-/// nothing is claimed of how long. What its sessions did is in the outcome, and the report tells it.
+/// `live`, `save` and `groups` carry out the sessions of a script, each in a thread of its own, and may wait for other threads and for
+/// the gate; nothing is claimed of how long. What the sessions did is in the outcome, and the report tells it; the text of `save` keeps
+/// what the document began with, and the journal. `replay` reads such a text, and tells the version at its end and its verdict.
 ///
 /// The statuses are decided in this order:
 /// - `Usage`: exactly where the words are outside the grammar or an option is out of its bounds.
 /// - `ReadFault`: only where a read failed before the input was whole.
 /// - `TooLarge`: exactly where the source gave a byte past the limit.
-/// - `BadInput`: exactly where a line isn't UTF-8 or has more than 4,096 bytes, or else, for `live`, where the lines spell no
-///   script, or else where the head is refused.
-/// - `TooLarge`: exactly where the body that `check`, `passes`, `live` or `make` begins with has more than 1,048,576 lines, or more
+/// - `BadInput`: exactly where a line isn't UTF-8 or has more than 4,096 bytes, or else, for a script, where the lines spell none, or
+///   else where the head is refused; for `replay` exactly where the bytes are no saved text, of which the first bad line is named.
+/// - `TooLarge`: exactly where the body that `check`, `passes`, `make` or a script begins with has more than 1,048,576 lines, or more
 ///   than 65,536 blocks.
 /// - `Broken`: for `check` and `passes`, exactly where a line of the body breaks a rule.
-/// - `Done` otherwise. So it is for `live`, whatever the verdict on the document at its end.
+/// - `Done` otherwise. So it is for a script and a saved text, whatever the verdict on the document at its end.
 ///
 /// `WriteFault` takes the place of any of these, only where a write failed; the sink then took a front of the report.
 /// `NoMemory` may take it at any time before the first write, and the sink then took nothing.
@@ -100,7 +101,7 @@ fn carry_out<R: Threads + Wait + Sync, S: Source, G: Gate + Sync>(
         Command::Check { .. } | Command::Text | Command::Passes => {
             answer_source(rt, alloc, plan, source, gate)
         }
-        Command::Live | Command::Groups => {
+        Command::Live | Command::Save | Command::Groups | Command::Replay => {
             keep_large_pieces(alloc);
             answer_source(rt, alloc, plan, source, gate)
         }
@@ -158,8 +159,12 @@ fn answer_input<R: Threads + Wait + Sync, G: Gate + Sync>(
         → Consumes source.left_before source.left_after input.items → IsAtEnd source.left_after → IsCalled words source answer) }
 {
     match plan.command {
-        Command::Live => answer_live(rt, alloc, plan, input, gate),
+        Command::Live | Command::Save => answer_live(rt, alloc, plan, input, gate),
         Command::Groups => answer_groups(rt, alloc, plan, input, gate),
+        Command::Replay => {
+            let ending = answer_replay(rt, alloc, input)?;
+            Ok(Answer::without_sessions(alloc, ending))
+        }
         Command::Check { .. } | Command::Text | Command::Passes => {
             let ending = answer(rt, alloc, plan, input)?;
             Ok(Answer::without_sessions(alloc, ending))

@@ -3,7 +3,7 @@ use Rattle.std.proofs.Common.{◌≡◌, refl, [], ◌∷◌, Option, Some, None
 use Rattle.std.specs.Prelude.{negsuc}
 use Rattle.machine_profile.specs.declared.Options.{Options}
 use Rattle.command_words.specs.declared.command.Command.{Command}
-use Rattle.command_words.specs.declared.command.Command.TheVariants.{Check, Live, Groups, Make}
+use Rattle.command_words.specs.declared.command.Command.TheVariants.{Check, Live, Save, Groups, Replay, Make}
 use Rattle.command_words.specs.declared.command.Request.{Request}
 use Rattle.command_words.specs.Grammar.{Flag, Json, Low, Place, Setting, items_of}
 use Rattle.command_words.specs.Request.{request_of}
@@ -83,6 +83,15 @@ make_late_start = refl
 
 make_hold : request_of (codes "make" ∷ codes "2" ∷ codes "5" ∷ codes "--hold" ∷ codes "3" ∷ []) ≡ None
 make_hold = refl
+
+save_limits : request_of (codes "save" ∷ codes "--float=3" ∷ codes "--block" ∷ codes "2" ∷ []) ≡ asks Save (record usual { float = Some (pos 3); block = Some (pos 2) })
+save_limits = refl
+
+replay_alone : request_of (codes "replay" ∷ []) ≡ asks Replay usual
+replay_alone = refl
+
+replay_hold : request_of (codes "replay" ∷ codes "--hold=3" ∷ []) ≡ None
+replay_hold = refl
 
 groups_block : request_of (codes "groups" ∷ codes "--block" ∷ codes "1" ∷ []) ≡ asks Groups (record usual { block = Some (pos 1) })
 groups_block = refl

@@ -5,7 +5,7 @@ use Rattle.std.specs.List.{list_all, list_any}
 use Rattle.std.specs.Str.{bytes_eq}
 use Rattle.machine_profile.specs.declared.Options.{Options}
 use Rattle.command_words.specs.declared.command.Command.{Command}
-use Rattle.command_words.specs.declared.command.Command.TheVariants.{Check, Text, Passes, Live, Groups, Make}
+use Rattle.command_words.specs.declared.command.Command.TheVariants.{Check, Text, Passes, Live, Save, Groups, Replay, Make}
 use Rattle.command_words.specs.declared.command.Request.{Request}
 use Rattle.command_words.specs.Grammar.{Item, Name, Low, High, Rack, Hold, Block, Float, Loops, Json, all_names}
 use Rattle.command_words.specs.Grammar.{are_distinct, begins_with_hyphen, items_of, names_in, places_in, value_in}
@@ -68,7 +68,9 @@ is_allowed (Check loops json) name = true
 is_allowed Text name = is_limit name
 is_allowed Passes name = is_limit name || is_block name
 is_allowed Live name = is_limit name || is_block name
+is_allowed Save name = is_limit name || is_block name
 is_allowed Groups name = is_limit name || is_block name
+is_allowed Replay name = false
 is_allowed (Make rows start) name = is_block name
 
 -- each option and flag that stands goes with the command
@@ -82,7 +84,9 @@ command_of_word loops json word =
     if bytes_eq word (codes "text") then Some Text else
     if bytes_eq word (codes "passes") then Some Passes else
     if bytes_eq word (codes "live") then Some Live else
-    if bytes_eq word (codes "groups") then Some Groups else None
+    if bytes_eq word (codes "save") then Some Save else
+    if bytes_eq word (codes "groups") then Some Groups else
+    if bytes_eq word (codes "replay") then Some Replay else None
 
 -- the command of three words, `make` with 1 to 20,000 rows and a start from 0 to 2,147,483,647
 abbrev pub make_of_words : List ℕ → List ℕ → List ℕ → Option Command
@@ -104,7 +108,9 @@ IsLawfulCommand (Check loops json) = ⊤
 IsLawfulCommand Text = ⊤
 IsLawfulCommand Passes = ⊤
 IsLawfulCommand Live = ⊤
+IsLawfulCommand Save = ⊤
 IsLawfulCommand Groups = ⊤
+IsLawfulCommand Replay = ⊤
 
 -- the command that the positional words name
 abbrev pub command_of_words : Bool → Bool → List (List ℕ) → Option Command

@@ -12,8 +12,12 @@ pub enum Command {
     Passes,
     /// Runs a script of edits.
     Live,
+    /// Runs a script of edits, and writes the document that it began with and the journal, to be kept.
+    Save,
     /// Runs a script of edits, of groups of edits and of undos.
     Groups,
+    /// Follows a journal that was kept, and writes the verdict at its end.
+    Replay,
     /// Makes a program of 1 to 20,000 rows, from the start that its transfers are drawn from (0 to 2,147,483,647).
     Make { rows: u32, start: u32 },
 }

@@ -31,8 +31,12 @@ fn plain_command(word: &str, loops: bool, json: bool) -> Option<Command>
         Some(Command::Passes)
     } else if word == "live" {
         Some(Command::Live)
+    } else if word == "save" {
+        Some(Command::Save)
     } else if word == "groups" {
         Some(Command::Groups)
+    } else if word == "replay" {
+        Some(Command::Replay)
     } else {
         None
     }
@@ -107,7 +111,8 @@ fn is_allowed(command: Command, given: &Given<'_>) -> bool
     match command {
         Command::Check { .. } => true,
         Command::Text => given.block.is_none() && !has_flag,
-        Command::Passes | Command::Live | Command::Groups => !has_flag,
+        Command::Passes | Command::Live | Command::Save | Command::Groups => !has_flag,
+        Command::Replay => !has_limit(given) && given.block.is_none() && !has_flag,
         Command::Make { .. } => !has_limit(given) && !has_flag,
     }
 }

@@ -4,8 +4,11 @@ pub mod BodyListings
 pub mod BodyRuns
 pub mod BookLoops
 pub mod Dues
+pub mod EntryNumbers
 pub mod Exclusions
+pub mod FirstBlocks
 pub mod Fronts
+pub mod GivenNames
 pub mod GroupDues
 pub mod GroupScripts
 pub mod ListedRuns
@@ -14,6 +17,11 @@ pub mod MadeDues
 pub mod MadeTexts
 pub mod Openings
 pub mod PassesReports
+pub mod PlainTexts
+pub mod SaidParts
+pub mod SavedOpenings
+pub mod SavedScripts
+pub mod Saves
 pub mod ScriptTexts
 pub mod StoppedRuns
 pub mod TextRuns

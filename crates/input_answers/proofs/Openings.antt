@@ -36,7 +36,7 @@ blocks-times size (b ∷ []) are = omega (arith, are.0, length-append b [])
 blocks-times size (b ∷ c ∷ bs) are = omega (arith, are.0, blocks-times size (c ∷ bs) are.1, length-append b (flat_map (λ block. block) (c ∷ bs)))
 
 -- so there are no more blocks than so many lines make
-blocks-count : (size : ℕ) (blocks : List (List (List ℕ))) → 0 < size → AreBlocks size blocks → length blocks ≤ blocks_of size (length (flat_map (λ block. block) blocks))
+pub blocks-count : (size : ℕ) (blocks : List (List (List ℕ))) → 0 < size → AreBlocks size blocks → length blocks ≤ blocks_of size (length (flat_map (λ block. block) blocks))
 blocks-count size blocks some are =
     (le-div_iff_mul-le {k = size} {x = length blocks} {y = length (flat_map (λ block. block) blocks) + (size - 1)} some).1 (blocks-times size blocks are)
 

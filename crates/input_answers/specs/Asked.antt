@@ -5,7 +5,7 @@ use Rattle.machine_profile.specs.declared.Chosen.{Chosen}
 use Rattle.machine_profile.specs.declared.Which.{Which}
 use Rattle.machine_profile.specs.Bounds.{refused, IsBlockSize, IsChosen}
 use Rattle.command_words.specs.declared.command.Command.{Command}
-use Rattle.command_words.specs.declared.command.Command.TheVariants.{Check, Text, Passes, Live, Groups, Make}
+use Rattle.command_words.specs.declared.command.Command.TheVariants.{Check, Text, Passes, Live, Save, Groups, Replay, Make}
 use Rattle.command_words.specs.declared.command.Request.{Request}
 use Rattle.command_words.specs.Request.{request_of}
 
@@ -23,16 +23,31 @@ reads_file (Check loops json) = true
 reads_file Text = true
 reads_file Passes = true
 reads_file Live = false
+reads_file Save = false
 reads_file Groups = false
+reads_file Replay = false
 reads_file (Make rows start) = false
 
--- the commands that read an input: a file or a script
+-- the commands that read a script, whose sessions edit a document
+abbrev pub reads_script : Command → Bool
+reads_script (Check loops json) = false
+reads_script Text = false
+reads_script Passes = false
+reads_script Live = true
+reads_script Save = true
+reads_script Groups = false
+reads_script Replay = false
+reads_script (Make rows start) = false
+
+-- the commands that read an input: a file, a script or a saved text
 abbrev pub reads_input : Command → Bool
 reads_input (Check loops json) = true
 reads_input Text = true
 reads_input Passes = true
 reads_input Live = true
+reads_input Save = true
 reads_input Groups = true
+reads_input Replay = true
 reads_input (Make rows start) = false
 
 -- the words are outside the grammar, or one of their options is outside its bounds

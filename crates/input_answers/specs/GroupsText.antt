@@ -8,7 +8,8 @@ use Rattle.edit_journal.specs.Documents.{names_at}
 use Rattle.edit_groups.specs.declared.reply.GroupReply.{GroupReply}
 use Rattle.edit_groups.specs.declared.reply.GroupReply.TheVariants as group
 use Rattle.verdict_report.specs.LiveText.{IsEnd, told_reply}
-use Rattle.verdict_report.specs.VerdictText.{Text, brief_text, labelled}
+use Rattle.knit_base.specs.Spelling.{labelled}
+use Rattle.verdict_report.specs.VerdictText.{Text, brief_text}
 
 -- a group that was done
 abbrev pub done_text : ℕ → ℕ → Brief → Text

@@ -7,8 +7,11 @@ pub mod Due
 pub mod DueGroups
 pub mod DueLive
 pub mod DueMade
+pub mod DueReplay
 pub mod GroupsText
 pub mod ListingRun
+pub mod LiveText
 pub mod Openings
 pub mod PassesReport
 pub mod Played
+pub mod SavedLaws

@@ -67,7 +67,8 @@ fn answer_in_one_pass(alloc: Global, plan: &Plan, input: &[u8]) -> Result<Option
             }
             passes_in_one_pass(alloc, plan, input)
         }
-        Command::Live | Command::Groups | Command::Make { .. } => Ok(None),
+        Command::Live | Command::Save | Command::Groups | Command::Replay | Command::Make { .. } =>
+            { Ok(None) },
     }
 }
 
@@ -122,7 +123,8 @@ fn answer_body<R: Threads + Sync>(
         Command::Check { loops, json } => check(rt, alloc, Style { loops, json }, plan, body),
         Command::Text => normalise(alloc, plan, body),
         Command::Passes => passes(rt, alloc, plan, body),
-        Command::Live | Command::Groups | Command::Make { .. } => unreachable!(),
+        Command::Live | Command::Save | Command::Groups | Command::Replay | Command::Make { .. } =>
+            { unreachable!() },
     }
 }
 

@@ -1,13 +1,12 @@
 //! The report of a script of groups.
 ghost use Rattle.std.specs.Prelude.{◌≡◌, ◌≤◌, ◌+◌, ◌++◌, map, IfOk, OnOk};
 ghost use Rattle.edit_journal.specs.Documents.{names_at};
-ghost use Rattle.verdict_report.specs.VerdictText.{labelled};
 ghost use Rattle.input_answers.specs.GroupsText.{IsGroupsReport, done_text, numbered_step, refused_text, step_text, steps_session, steps_sessions, steps_text};
 
 use carriage_model::Brief;
 use edit_book::{Book, Reply};
 use edit_groups::{GroupReplies, GroupReply};
-use knit_base::{NoMemory, Steps, append_number};
+use knit_base::{NoMemory, Steps, append_labelled, append_number};
 use std::alloc::Global;
 use std::sync::ledger::Ledger;
 use verdict_report::{report_brief, report_end, report_told};
@@ -145,12 +144,4 @@ fn append_refused(
     append_labelled(" at ", u64::from(at), out)?;
     out.extend_from_slice(b" ")?;
     report_told(alloc, reply, book, out)
-}
-
-// Appends a label and a number.
-fn append_labelled(label: &str, number: u64, out: &mut Vec<u8>) -> Result<(), NoMemory>
-    ensures { OnOk result (out.new.items ≡ out.old.items ++ labelled label.now number) }
-{
-    out.extend_from_slice(label.as_bytes())?;
-    append_number(number, out)
 }

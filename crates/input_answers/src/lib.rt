@@ -1,9 +1,10 @@
 //! What the program answers: to a file, to a script, and where a program is to be made.
 //!
 //! Promises that the text and the status of an answer are those that are due: for a file whose verdict, canonical text or passes are
-//! asked for (`specs/Due`), for a made program (`specs/DueMade`), and for a script, whose sessions edit one document, each in a thread of
-//! its own (`specs/DueLive`, and `specs/DueGroups` where it has groups of edits and undos). What the words ask for is in `specs/Asked`. No source is touched here, and no sink. Below it stand all
-//! crates of the project but `check_main`.
+//! asked for (`specs/Due`), for a made program (`specs/DueMade`), for a script, whose sessions edit one document, each in a thread of
+//! its own (`specs/DueLive`, and `specs/DueGroups` where it has groups of edits and undos), and for a saved text (`specs/DueReplay`).
+//! What is saved can be replayed, to the verdict at its end (`specs/SavedLaws`). What the words ask for is in `specs/Asked`. No source
+//! is touched here, and no sink. Below it stand all crates of the project but `check_main`.
 #![tactic(auto)]
 
 mod answers;
@@ -14,8 +15,10 @@ mod front;
 mod group_report;
 mod groups;
 mod judge;
+pub mod laws;
 mod listed_run;
 mod live;
+mod live_text;
 mod made;
 mod one_pass;
 mod opening;
@@ -23,6 +26,7 @@ mod operation_list;
 mod outcome;
 mod passes;
 mod plan;
+mod replay;
 mod taken_run;
 mod taker;
 mod tallied_run;
@@ -34,8 +38,10 @@ pub use ending::{Answer, Ending};
 pub use groups::answer_groups;
 pub use judge::Style;
 pub use live::answer_live;
+pub use live_text::LiveOutput;
 pub use made::answer_made;
 pub use one_pass::check_in_one_pass;
 pub use outcome::{GroupOutcome, Outcome, Status};
 pub use plan::{Plan, PlanFault, plan_of, reads_file};
+pub use replay::answer_replay;
 pub use text_pass::text_in_one_pass;

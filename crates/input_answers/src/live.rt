@@ -1,5 +1,5 @@
-//! What is due for a script that was read whole: its sessions edit one document, each in a thread of its own, and the report tells the replies, the
-//! journal, and the verdict on the document at its end.
+//! What is due for a script that was read whole: its sessions edit one document, each in a thread of its own. What is then written tells
+//! what they did, or keeps the document.
 ghost use Rattle.std.specs.Prelude.{◌≡◌, ◌<◌, ◌≤◌, ◌^◌, [], All, ℕ, List, length, IfErr, IfOk};
 ghost use Rattle.knit_base.specs.Limits.{IsLawfulProfile};
 ghost use Rattle.knit_base.specs.Lines.{lines_of};
@@ -11,9 +11,11 @@ ghost use Rattle.input_answers.specs.Answers.{IsDueLive};
 ghost use Rattle.input_answers.specs.CheckReport.{body_of};
 ghost use Rattle.input_answers.specs.Due.{Fits};
 ghost use Rattle.input_answers.specs.DueLive.{HasScript};
+ghost use Rattle.input_answers.specs.LiveText.{output_of};
 
 use crate::answers::{refusal_of_head, refusal_of_lines, refusal_of_size};
 use crate::ending::Answer;
+use crate::live_text::{output_of, told_of};
 use crate::opening::{Opened, open};
 use crate::outcome::{Outcome, Status};
 use crate::plan::Plan;
@@ -30,7 +32,7 @@ use std::sync::Wait;
 use std::sync::ledger::{Blank, Ledger};
 use std::thread::Threads;
 use turn_book::Shared;
-use verdict_report::{Refusal, live_of};
+use verdict_report::Refusal;
 
 /// What is due for a script that was read whole. It may wait for other threads, and for the gate.
 pub fn answer_live<R: Threads + Wait + Sync, G: Gate + Sync>(
@@ -41,7 +43,7 @@ pub fn answer_live<R: Threads + Wait + Sync, G: Gate + Sync>(
     gate: &G,
 ) -> Result<Answer, NoMemory>
     requires { length input.items ≤ 16777216 }
-    ensures { IfOk result (IsDueLive plan.now.chosen input.items) }
+    ensures { IfOk result (IsDueLive (output_of plan.now.command) plan.now.chosen input.items) }
 {
     match cut_buffer(alloc, input) {
         Ok(lines) => answer_lines(rt, alloc, plan, lines, gate),
@@ -58,7 +60,7 @@ fn answer_lines<R: Threads + Wait + Sync, G: Gate + Sync>(
     gate: &G,
 ) -> Result<Answer, NoMemory>
     requires { All IsGoodLine lines }
-    ensures { IfOk result (λ answer. (input : List ℕ) → lines ≡ lines_of input → IsDueLive plan.now.chosen input answer) }
+    ensures { IfOk result (λ answer. (input : List ℕ) → lines ≡ lines_of input → IsDueLive (output_of plan.now.command) plan.now.chosen input answer) }
 {
     match script_of(alloc, lines) {
         Ok(script) => answer_script(rt, alloc, plan, script, gate),
@@ -88,7 +90,7 @@ fn answer_script<R: Threads + Wait + Sync, G: Gate + Sync>(
 ) -> Result<Answer, NoMemory>
     requires short { All (λ line. length line < 65535) script.text }
     requires few { length script.sessions ≤ 64 }
-    ensures { IfOk result (λ answer. (input : List ℕ) → All IsGoodLine (lines_of input) → IsScript (lines_of input) script → IsDueLive plan.now.chosen input answer) }
+    ensures { IfOk result (λ answer. (input : List ℕ) → All IsGoodLine (lines_of input) → IsScript (lines_of input) script → IsDueLive (output_of plan.now.command) plan.now.chosen input answer) }
 {
     match read_head(alloc, &script.text) {
         Ok(head) => answer_headed(rt, alloc, plan, script, &head, gate),
@@ -107,7 +109,7 @@ fn answer_headed<R: Threads + Wait + Sync, G: Gate + Sync>(
 ) -> Result<Answer, NoMemory>
     requires head { IsHead script.text head.now }
     requires few { length script.sessions ≤ 64 }
-    ensures { IfOk result (λ answer. (input : List ℕ) → HasScript input script head.now → IsDueLive plan.now.chosen input answer) }
+    ensures { IfOk result (λ answer. (input : List ℕ) → HasScript input script head.now → IsDueLive (output_of plan.now.command) plan.now.chosen input answer) }
 {
     let lines = body_len(&script.text, head);
     match refusal_of_size(lines, plan.chosen.block) {
@@ -140,16 +142,23 @@ fn carry_out<L: Ledger, R: Threads + Wait + Sync, G: Gate + Sync>(
     requires head { IsHead script.text head.now }
     requires fits { Fits plan.now.chosen.block (length (body_of script.text)) }
     requires few { length script.sessions ≤ 64 }
-    ensures { IfOk result (λ answer. (input : List ℕ) → HasScript input script head.now → IsDueLive plan.now.chosen input answer) }
+    ensures { IfOk result (λ answer. (input : List ℕ) → HasScript input script head.now → IsDueLive (output_of plan.now.command) plan.now.chosen input answer) }
 {
     let mut steps = Steps::<L>::start(rt, blank);
     let opened = open(rt, alloc, plan, &script.text, head, &mut steps)?;
     let (book, replies) = play(rt, alloc, &script.sessions, opened, gate)?;
-    let text = live_of(alloc, &book, &replies, &mut steps)?;
+    let (text, journal) = told_of(
+        alloc,
+        output_of(plan.command),
+        &script.text,
+        book,
+        &replies,
+        &mut steps,
+    )?;
     let outcome = Outcome {
         status: Status::Done,
         script,
-        journal: book.leave_journal(),
+        journal,
         replies,
         groups: None,
     };

@@ -59,6 +59,7 @@ pub fn reads_file(command: Command) -> bool
 {
     match command {
         Command::Check { .. } | Command::Text | Command::Passes => true,
-        Command::Live | Command::Groups | Command::Make { .. } => false,
+        Command::Live | Command::Save | Command::Groups | Command::Replay | Command::Make { .. } =>
+            { false },
     }
 }

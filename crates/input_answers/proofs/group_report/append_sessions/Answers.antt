@@ -3,7 +3,7 @@ use Rattle.std.specs.Option.{option_map}
 use Rattle.std.proofs.lemmas.Option.{slice_get-map, slice_get_read}
 use Rattle.edit_journal.specs.Documents.{names_at}
 use Rattle.input_answers.specs.GroupsText.{steps_session, steps_sessions}
-use Rattle.verdict_report.proofs.Rests.{numbered-one}
+use Rattle.knit_base.proofs.Rests.{numbered-one}
 use Rattle.input_answers.proofs.group_report.append_sessions.Goals as goal
 
 pub loop-session-preserved : goal.loop-session-preserved

@@ -1,6 +1,7 @@
 use Rattle.std.proofs.Common.{subst}
 use Rattle.std.proofs.lemmas.Result.{IfOk-weaker}
 use Rattle.input_answers.specs.Due.{Fits}
+use Rattle.input_answers.specs.LiveText.{output_of}
 use Rattle.input_answers.proofs.LiveDues.{live-too_large}
 use Rattle.input_answers.proofs.live.answer_headed.Goals as goal
 
@@ -10,5 +11,5 @@ carry_out-requires-clause-fits g c = λ κs live. subst (Fits c.args.plan.now.ch
 pub returns-in-Some : goal.returns-in-Some
 returns-in-Some g c =
     IfOk-weaker c.refusal.result _ _
-    (λ answer is input has. live-too_large c.args.plan.now.chosen input answer c.args.script c.args.head.now c.body_len-lines.result c.in-Some.refusal has c.body_len-lines.ensures c.in-Some.ensures is)
+    (λ answer is input has. live-too_large (output_of c.args.plan.now.command) c.args.plan.now.chosen input answer c.args.script c.args.head.now c.body_len-lines.result c.in-Some.refusal has c.body_len-lines.ensures c.in-Some.ensures is)
     c.refusal.ensures

@@ -1,0 +1,97 @@
+//! What is written when the sessions of a script have ended: the report, or the document's beginning and its journal, to be kept.
+ghost use Rattle.std.specs.Prelude.{◌≡◌, ◌+◌, ◌≤◌, ◌-◌, length, take, IfOk};
+ghost use Rattle.journal_file.specs.Spelling.{spelling};
+ghost use Rattle.input_answers.specs.LiveText.{IsTold, first_blocks, output_of};
+
+use command_words::Command;
+use edit_book::{Book, Replies};
+use edit_journal::{BlockAt, Journal, TextList};
+use journal_file::{Saved, saved_text};
+use knit_base::{Lines, NoMemory, Steps};
+use std::alloc::Global;
+use std::sync::ledger::Ledger;
+use verdict_report::live_of;
+
+/// What is written when the sessions of a script have ended.
+#[derive(Clone, Copy, Debug, PartialEq, Eq)]
+pub enum LiveOutput {
+    /// The replies, the journal, and the verdict on the document at its end.
+    Report,
+    /// The document's beginning and the journal, as a text that can be read again.
+    SavedText,
+}
+
+/// What is written for the command.
+pub(crate) fn output_of(command: Command) -> LiveOutput
+    ensures { result ≡ output_of command }
+{
+    match command {
+        Command::Save => LiveOutput::SavedText,
+        _ => LiveOutput::Report,
+    }
+}
+
+/// The text that is written, where the document began with this text, and the journal.
+pub(crate) fn told_of<L: Ledger>(
+    alloc: Global,
+    output: LiveOutput,
+    text: &Lines,
+    book: Book,
+    replies: &Replies,
+    steps: &mut Steps<L>,
+) -> Result<(Vec<u8>, Journal), NoMemory>
+    requires first { 1 ≤ book.opening.setting.first }
+    requires head { book.opening.setting.first ≤ length text.now + 1 }
+    ensures text { IfOk result (λ told. IsTold output (take (book.opening.setting.first - 1) text.now) book.opening book.entries replies.now told.0.items) }
+    ensures entries { IfOk result (λ told. told.1.entries ≡ book.entries) }
+{
+    match output {
+        LiveOutput::Report => {
+            let told = live_of(alloc, &book, replies, steps)?;
+            Ok((told, book.leave_journal()))
+        }
+        LiveOutput::SavedText => saved_of(alloc, text, book, steps),
+    }
+}
+
+// The saved text of the book, which began with the body of this text, and the journal.
+fn saved_of<L: Ledger>(
+    alloc: Global,
+    text: &Lines,
+    book: Book,
+    steps: &mut Steps<L>,
+) -> Result<(Vec<u8>, Journal), NoMemory>
+    requires first { 1 ≤ book.opening.setting.first }
+    requires head { book.opening.setting.first ≤ length text.now + 1 }
+    ensures text { IfOk result (λ told. told.0.items ≡ spelling (take (book.opening.setting.first - 1) text.now) book.opening.setting.profile (first_blocks book.opening) book.entries) }
+    ensures entries { IfOk result (λ told. told.1.entries ≡ book.entries) }
+{
+    let setting = book.setting();
+    let saved = Saved {
+        head: Lines::range(alloc, text, 0, setting.first - 1)?,
+        profile: setting.profile,
+        blocks: blocks_of(alloc, &book)?,
+        journal: book.leave_journal(),
+    };
+    let told = saved_text(alloc, &saved, steps)?;
+    let Saved { journal, .. } = saved;
+    Ok((told, journal))
+}
+
+// The blocks with which the document began.
+fn blocks_of(alloc: Global, book: &Book) -> Result<TextList, NoMemory>
+    ensures { IfOk result (λ blocks. blocks ≡ first_blocks book.now.opening) }
+{
+    let _few = book.ids();
+    let mut blocks = TextList::new(alloc);
+    while let Some(text) = book.text_at(blocks.len(), 0) {
+        let block = blocks.len();
+        let text = text.try_clone()?;
+        blocks.push(BlockAt {
+            block,
+            stamp: 0,
+            text,
+        })?;
+    }
+    Ok(blocks)
+}
