@@ -1,14 +1,15 @@
 #!/usr/bin/env python3
 """Refuses each request for memory of the program check_main in turn, and looks at what it answers.
 
-`python3 tests/refused_memory.py [RUN ..]` tries all six commands, or the runs named, on files of examples/ and on a short script, with the check_main
+`python3 tests/refused_memory.py [RUN ..]` tries all commands, or the runs named, on files of examples/ and on a short script, with the check_main
 that TEKHVUMO_PROGRAM names or that is found; then the put of a text for which room was made, by the tests of `document_examples` that the gate built, if they are
 there. It wants a C compiler (`cc`), for the few lines that stand before the system's `malloc`
 and `realloc`.
 
 A run in which the Nth request was refused has to end in one of three ways. It tells of the want of memory by the status 6 alone, and has written
 nothing. Or it does without, and ends and writes as if nothing had been refused. Or, of `live` and `groups` alone, the replies of some commands say
-`nomemory`, and what stands in the journal, carried out anew as a script of one session, ends in the same verdict.
+`nomemory`, and what stands in the journal, carried out anew as a script of one session, ends in the same verdict; and what `save` writes is
+a saved text, of fewer entries.
 """
 from __future__ import annotations
 
@@ -20,6 +21,7 @@ import tempfile
 from pathlib import Path
 
 from program import EXAMPLES, TOP, find_program
+from saved_texts import SAVED, Bad, document_of
 
 BOOK_TESTS = TOP / "crates" / "document_examples" / "out" / "document_examples_tests"
 NO_MEMORY = 6
@@ -93,6 +95,8 @@ RUNS = {
     "live": (["live"], example("mended-transfer.live")),
     "header": (["live"], example("another-yarn.live")),
     "groups": (["groups", "--block", "4"], example("another-carrier.groups")),
+    "save": (["save", "--block", "4"], TWO_PUTS),
+    "replay": (["replay"], SAVED),
 }
 
 
@@ -162,6 +166,14 @@ def end_of(report: str) -> str:
     return report[report.index("final version") :]
 
 
+def has_fewer_entries(written: bytes, whole: bytes) -> bool:
+    """Whether what was written is a saved text with fewer entries."""
+    try:
+        return document_of(written).version < document_of(whole).version
+    except Bad:
+        return False
+
+
 def fault_of(script: str | None, whole: bytes, status: int, written: bytes, again) -> str | None:
     """What is wrong with a run in which a request was refused, if anything is. `script` is that of `live` or `groups`, and `again` is what the program writes of one."""
     if status == NO_MEMORY:
@@ -170,6 +182,8 @@ def fault_of(script: str | None, whole: bytes, status: int, written: bytes, agai
         return f"its status is {status}"
     if written == whole:
         return None
+    if whole.startswith(SAVED[:10]):
+        return None if has_fewer_entries(written, whole) else "it wrote no such saved text"
     report = written.decode()
     if script is None or "nomemory" not in replies_of(report).values():
         return "it wrote something else"
