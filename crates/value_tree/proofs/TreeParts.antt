@@ -127,7 +127,7 @@ module _ {V : Type 0} (join : V → V → V) (fits : V → V → Type 0) (cost :
   keeps_of t None p k = absurd p
   keeps_of t (Some whole) p k = keeps_part t whole p k
 
-  parts_stand : (o : Option Tree) (children : List Child) (numbers rest : List ℕ) → KeepsAll join leaf_at node_at o → AreParts o children numbers → AreThere leaf_at (numbers ++ rest) → sound (gathered leaf_at (numbers ++ rest))
+  pub parts_stand : (o : Option Tree) (children : List Child) (numbers rest : List ℕ) → KeepsAll join leaf_at node_at o → AreParts o children numbers → AreThere leaf_at (numbers ++ rest) → sound (gathered leaf_at (numbers ++ rest))
       → StandFor stands (part leaf_at node_at) children (gathered leaf_at numbers)
   parts_stand o [] numbers rest k e there s = ap (gathered leaf_at) e
   parts_stand o (child ∷ children) numbers rest k h there s =

@@ -1,5 +1,5 @@
 //! The tree: its shape, and the values at its leaves and inner nodes.
-ghost use Rattle.std.specs.Prelude.{◌≡◌, ℕ, ◌+◌, ◌*◌, ◌<◌, ◌≤◌, List, [], ◌∷◌, length, take, Option, Some, true, slice_index, slice_set, OnOk, IfOk, IsOk, IfSome, IsNone, ◌↔◌};
+ghost use Rattle.std.specs.Prelude.{◌≡◌, ℕ, ◌+◌, ◌*◌, ◌<◌, ◌≤◌, List, [], ◌∷◌, length, take, slice_range, Option, Some, true, slice_index, slice_set, OnOk, IfOk, IsOk, IfSome, IsNone, ◌↔◌};
 ghost use Rattle.std.specs.List.{slice_get};
 ghost use Rattle.std.specs.Option.{option_map};
 ghost use Rattle.tree_shape.specs.Fewest.{highest, inserted, removed};
@@ -13,6 +13,7 @@ ghost use Rattle.value_tree.specs.Kept.{HasLeafPlace, IsKept, IsReplaceNeed, IsI
 ghost use Rattle.value_tree.specs.Parts.{StandFor};
 
 use crate::before::{Descent, descend};
+use crate::between::parts_between;
 use crate::find::{Counts, Walk, step};
 use crate::need::{NewLeaf, fill_need, need_of};
 use crate::parts::parts_before;
@@ -329,6 +330,17 @@ impl<S: Values> ValueTree<S> {
         ensures { IfOk result (λ parts. StandFor S.stands (part (S.leaf_at self.now.store) (S.node_at self.now.store)) parts.items (take at (leaf_values (S.leaf_at self.now.store) self.now.shape.tree))) }
     {
         parts_before(alloc, &self.shape, at)
+    }
+
+    /// The children that lie whole from one position to another, which isn't counted, from the first on, no more than two a level:
+    /// what they have stands for the leaves there, one child after the other. Fails where memory runs out.
+    pub fn parts_between(&self, alloc: Global, from: u32, to: u32) -> Result<Vec<Child>, NoMemory>
+        requires kept { IsKept S.join S.sound (S.leaf_at self.now.store) (S.node_at self.now.store) (S.slots self.now.store) self.now.shape }
+        requires place { to ≤ count_of self.now.shape.tree }
+        ensures stand { IfOk result (λ parts. StandFor S.stands (part (S.leaf_at self.now.store) (S.node_at self.now.store)) parts.items (slice_range (leaf_values (S.leaf_at self.now.store) self.now.shape.tree) from to)) }
+        ensures few { IfOk result (λ parts. length parts.items ≤ 2 * highest (count_of self.now.shape.tree) + 1) }
+    {
+        parts_between(alloc, &self.shape, from, to)
     }
 
     /// The number of the leaf at a position.
