@@ -10,13 +10,13 @@ use Rattle.edit_journal.specs.declared.opening.Opening.{Opening}
 use Rattle.edit_journal.specs.Documents.{HasAnchor, document_of, body, Document}
 use Rattle.face_data.specs.Summaries.{Summary}
 use Rattle.edit_book.specs.declared.block_state.BlockState.{BlockState}
-use Rattle.edit_book.specs.Books.{BookView, HasLeaves, IsLawful, IsLawfulOutline, document, ids_of, Stands}
+use Rattle.edit_book.specs.Books.{BookView, HasLeaves, IsLawful, IsLawfulOutline, IsLeafOf, document, ids_of, Stands}
 use Rattle.edit_book.specs.Headers.{IsPreparedUnder}
 use Rattle.edit_book.specs.Orders.{is_id, place_of}
 use Rattle.edit_book.specs.Outlines.{MayCome, OutlineView, outlined}
 use Rattle.edit_book.specs.Replies.{Add, IsAccepted, IsGranted, refusal_of}
 use Rattle.edit_book.specs.declared.reply.Reply.{Reply}
-use Rattle.edit_book.proofs.Adds.{add_free, add_leaves, anchor_there, has_anchor, place_within}
+use Rattle.edit_book.proofs.Adds.{add_free, add_items, anchor_there, has_anchor, place_within}
 use Rattle.edit_book.proofs.Blocks.{with_leaves}
 use Rattle.edit_book.proofs.Comings.{add_may}
 use Rattle.edit_book.proofs.PreparedTexts.{prepared_now}
@@ -82,7 +82,7 @@ module _ (o : Opening) (es : List Entry) (session id at : ℕ) (anchor : Anchor)
       add_keeps =
           with_leaves o longer (insert tree.leaves at (prepared.face, prepared.loops)) outlined
           (subst (λ (p : List Entry × ℕ). HasLeaves o (document_of o p.0) (insert tree.leaves p.1 (prepared.face, prepared.loops))) (λ i. (sym longer_is i, sym at_is i))
-          (add_leaves o es tree.leaves session id anchor prepared.text (prepared.face, prepared.loops) s add_anchored fits_here))
+          (add_items IsLeafOf o es tree.leaves session id anchor prepared.text (prepared.face, prepared.loops) s.leaves_are add_anchored fits_here))
 
       module _ (leaves : List Leaf) (summary : Summary) (leaves_are : leaves ≡ tree.leaves) (summary_is : summary ≡ prepared.face) where
         pub add_sound : AreSound (insert leaves at (summary, prepared.loops))

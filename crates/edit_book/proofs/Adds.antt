@@ -4,6 +4,7 @@ use Rattle.std.specs.Prelude.{insert}
 use Rattle.std.specs.List.{AllZip, position_or_len, slice_get}
 use Rattle.std.specs.Option.{option_map_or}
 use Rattle.std.proofs.lemmas.Bool.{eqb-true, eqb-false}
+use Rattle.knit_base.specs.declared.setting.Setting.{Setting}
 use Rattle.edit_journal.specs.declared.edit.Anchor.{Anchor}
 use Rattle.edit_journal.specs.declared.edit.Anchor.TheVariants.{Start, After}
 use Rattle.edit_journal.specs.declared.edit.Edit.TheVariants as edit
@@ -13,14 +14,13 @@ use Rattle.edit_journal.specs.Entries.{text_for}
 use Rattle.edit_journal.specs.Documents.{Block, Document, HasAnchor, block_of, with_after, with_new, after, document_of, body, lines_in}
 use Rattle.edit_book.specs.declared.block_state.BlockState.{BlockState}
 use Rattle.edit_book.specs.declared.block_state.BlockState.TheVariants.{There, CutBy}
-use Rattle.edit_book.specs.Books.{AreDistinct, Each, ids_of, state_of, HasIds, HasText, HasLeaves, Fits, IsLawful, IsLawfulSetting, Stands, IsLeafOf}
+use Rattle.edit_book.specs.Books.{AreBlockwise, AreDistinct, Each, ids_of, state_of, HasIds, HasText, Fits, IsLawfulSetting, Stands}
 use Rattle.edit_book.specs.Outlines.{MayCome}
 use Rattle.edit_book.specs.Orders.{is_id, place_of}
 use Rattle.edit_book.specs.Replies.{Add, cut_number, or_else, refused_anchor, refused_head, refused_entries, refused_blocks, refused_lines, refusal_of}
 use Rattle.edit_book.specs.Verdicts.{setting_of}
 use Rattle.edit_book.specs.declared.reply.Reply.{Reply}
 use Rattle.edit_book.proofs.Puts.{cut_number_snoc, doc_snoc, got_before, got_last, ids_count, named_there, place_there, or_else_none, short_after, text_last, texts_before}
-use Rattle.summary_tree.specs.Leaves.{Leaf}
 
 after_ids : (bs : List Block) (id : ℕ) (new : Block) → (b : Block) × (block_of bs id ≡ Some b) → ids_of (with_after id new bs) ≡ insert (ids_of bs) (position_or_len (is_id id) (ids_of bs) + 1) new.id
 after_ids [] id new there = absurd (cc (there.1))
@@ -127,23 +127,23 @@ add_new : (anchor : Anchor) (bs : List Block) (new : Block) → Each (λ k. k < 
 add_new Start bs new below there = ap (λ (u : Bool). cond u (Some new) (block_of bs new.id)) (eq-eqb new.id new.id refl)
 add_new (After id) bs new below there = after_new bs id new below (there id refl)
 
-after_zip : (R : Leaf → List (List ℕ) → Type 0) (leaves : List Leaf) (bs : List Block) (id : ℕ) (leaf : Leaf) (new : Block) → R leaf new.lines → (b : Block) × (block_of bs id ≡ Some b)
-    → AllZip (λ (l : Leaf) (y : Block). R l y.lines) leaves bs → AllZip (λ (l : Leaf) (y : Block). R l y.lines) (insert leaves (position_or_len (is_id id) (ids_of bs) + 1) leaf) (with_after id new bs)
-after_zip R [] [] id leaf new p there h = absurd (cc (there.1))
-after_zip R [] (b ∷ bs) id leaf new p there h = absurd h
-after_zip R (l ∷ leaves) [] id leaf new p there h = absurd h
-after_zip R (l ∷ leaves) (x ∷ bs) id leaf new p there h = go (x.id == id) (λ e. after_zip R leaves bs id leaf new p (there.0, e) h.1) there.1
+after_zip : {X : Type 0} (R : X → List (List ℕ) → Type 0) (items : List X) (bs : List Block) (id : ℕ) (item : X) (new : Block) → R item new.lines → (b : Block) × (block_of bs id ≡ Some b)
+    → AllZip (λ (x : X) (y : Block). R x y.lines) items bs → AllZip (λ (x : X) (y : Block). R x y.lines) (insert items (position_or_len (is_id id) (ids_of bs) + 1) item) (with_after id new bs)
+after_zip R [] [] id item new p there h = absurd (cc (there.1))
+after_zip R [] (b ∷ bs) id item new p there h = absurd h
+after_zip R (l ∷ items) [] id item new p there h = absurd h
+after_zip {X} R (l ∷ items) (b ∷ bs) id item new p there h = go (b.id == id) (λ e. after_zip R items bs id item new p (there.0, e) h.1) there.1
   where
-    go : (t : Bool) → (block_of bs id ≡ Some there.0 → AllZip (λ (l : Leaf) (y : Block). R l y.lines) (insert leaves (position_or_len (is_id id) (ids_of bs) + 1) leaf) (with_after id new bs))
-        → cond t (Some x) (block_of bs id) ≡ Some there.0
-        → AllZip (λ (l : Leaf) (y : Block). R l y.lines) (insert (l ∷ leaves) (cond (not t) (1 + position_or_len (is_id id) (ids_of bs)) 0 + 1) leaf) (cond t (x ∷ new ∷ bs) (x ∷ with_after id new bs))
+    go : (t : Bool) → (block_of bs id ≡ Some there.0 → AllZip (λ (x : X) (y : Block). R x y.lines) (insert items (position_or_len (is_id id) (ids_of bs) + 1) item) (with_after id new bs))
+        → cond t (Some b) (block_of bs id) ≡ Some there.0
+        → AllZip (λ (x : X) (y : Block). R x y.lines) (insert (l ∷ items) (cond (not t) (1 + position_or_len (is_id id) (ids_of bs)) 0 + 1) item) (cond t (b ∷ new ∷ bs) (b ∷ with_after id new bs))
     go true ih e = (h.0, (p, h.1))
     go false ih e = simp (one-add, add-one) (h.0, simp (one-add, add-one) at (ih e))
 
-add_zip : (R : Leaf → List (List ℕ) → Type 0) (anchor : Anchor) (leaves : List Leaf) (bs : List Block) (leaf : Leaf) (new : Block) → R leaf new.lines → ((id : ℕ) → anchor ≡ After id → (b : Block) × (block_of bs id ≡ Some b))
-    → AllZip (λ (l : Leaf) (y : Block). R l y.lines) leaves bs → AllZip (λ (l : Leaf) (y : Block). R l y.lines) (insert leaves (place_of anchor (ids_of bs)) leaf) (with_new anchor new bs)
-add_zip R Start leaves bs leaf new p there h = (p, h)
-add_zip R (After id) leaves bs leaf new p there h = after_zip R leaves bs id leaf new p (there id refl) h
+add_zip : {X : Type 0} (R : X → List (List ℕ) → Type 0) (anchor : Anchor) (items : List X) (bs : List Block) (item : X) (new : Block) → R item new.lines → ((id : ℕ) → anchor ≡ After id → (b : Block) × (block_of bs id ≡ Some b))
+    → AllZip (λ (x : X) (y : Block). R x y.lines) items bs → AllZip (λ (x : X) (y : Block). R x y.lines) (insert items (place_of anchor (ids_of bs)) item) (with_new anchor new bs)
+add_zip R Start items bs item new p there h = (p, h)
+add_zip R (After id) items bs item new p there h = after_zip R items bs id item new p (there id refl) h
 
 pub add_count : (anchor : Anchor) (bs : List Block) (new : Block) → length (with_new anchor new bs) ≤ length bs + 1
 add_count Start bs new = omega arith
@@ -288,12 +288,12 @@ add_stands o es states ids had session anchor lines text s comes lines_is short 
       lines = lines_is ∙ ap (λ (x : Document). length (body x)) (sym next);
     }
 
--- and each leaf is made of the lines of its block
-pub add_leaves : (o : Opening) (es : List Entry) (leaves : List Leaf) (session id : ℕ) (anchor : Anchor) (text : List (List ℕ)) (leaf : Leaf) → IsLawful o es leaves → HasAnchor (document_of o es) anchor
-    → IsLeafOf (setting_of o (document_of o es)) leaf text
-    → HasLeaves o (document_of o (es ++ record { session = session; edit = edit.Add anchor id text } ∷ [])) (insert leaves (place_of anchor (ids_of (document_of o es).blocks)) leaf)
-add_leaves o es leaves session id anchor text leaf s has leaf_is =
+-- and each item is made of the lines of its block
+pub add_items : {X : Type 0} (R : Setting → X → List (List ℕ) → Type 0) (o : Opening) (es : List Entry) (items : List X) (session id : ℕ) (anchor : Anchor) (text : List (List ℕ)) (item : X)
+    → AreBlockwise R o (document_of o es) items → HasAnchor (document_of o es) anchor → R (setting_of o (document_of o es)) item text
+    → AreBlockwise R o (document_of o (es ++ record { session = session; edit = edit.Add anchor id text } ∷ [])) (insert items (place_of anchor (ids_of (document_of o es).blocks)) item)
+add_items R o es items session id anchor text item are has item_is =
     let d : Document = document_of o es in
     let new : Block = record { id = id; stamp = length es + 1; lines = text } in
-    subst (λ (x : Document). HasLeaves o x (insert leaves (place_of anchor (ids_of d.blocks)) leaf)) (sym (doc_snoc o es (record { session = session; edit = edit.Add anchor id text })))
-    (add_zip (IsLeafOf (setting_of o d)) anchor leaves d.blocks leaf new leaf_is (anchor_there d anchor has) s.leaves_are)
+    subst (λ (x : Document). AreBlockwise R o x (insert items (place_of anchor (ids_of d.blocks)) item)) (sym (doc_snoc o es (record { session = session; edit = edit.Add anchor id text })))
+    (add_zip (R (setting_of o d)) anchor items d.blocks item new item_is (anchor_there d anchor has) are)

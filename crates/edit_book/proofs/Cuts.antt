@@ -4,20 +4,20 @@ use Rattle.std.specs.Prelude.{remove}
 use Rattle.std.specs.List.{AllZip, position_or_len, slice_get}
 use Rattle.std.specs.Option.{option_map_or}
 use Rattle.std.proofs.lemmas.Bool.{eqb-true, eqb-false}
+use Rattle.knit_base.specs.declared.setting.Setting.{Setting}
 use Rattle.edit_journal.specs.declared.edit.Edit.TheVariants as edit
 use Rattle.edit_journal.specs.declared.edit.Entry.{Entry}
 use Rattle.edit_journal.specs.declared.opening.Opening.{Opening}
 use Rattle.edit_journal.specs.Documents.{Block, Document, block_of, without, after, document_of, body}
 use Rattle.edit_book.specs.declared.block_state.BlockState.{BlockState}
 use Rattle.edit_book.specs.declared.block_state.BlockState.TheVariants.{There, CutBy}
-use Rattle.edit_book.specs.Books.{AreDistinct, Each, ids_of, state_of, HasIds, HasText, HasLeaves, Fits, IsLawful, IsLawfulSetting, Stands, IsLeafOf}
+use Rattle.edit_book.specs.Books.{AreBlockwise, AreDistinct, Each, ids_of, state_of, HasIds, HasText, Fits, IsLawfulSetting, Stands}
 use Rattle.edit_book.specs.Orders.{is_id}
 use Rattle.edit_book.specs.Outlines.{MayCome}
 use Rattle.edit_book.specs.Replies.{Cut, cut_number, or_else, refused_name, refused_stamp, refused_entries, refusal_of}
 use Rattle.edit_book.proofs.Puts.{cut_number_snoc, doc_snoc, or_else_none, place_is, set_other, set_there, short_after, stamped_there, texts_before, there_drawn}
 use Rattle.edit_book.specs.Verdicts.{setting_of}
 use Rattle.tree_shape.specs.Fewest.{removed}
-use Rattle.summary_tree.specs.Leaves.{Leaf}
 
 -- a list without one item
 pub removed_is : {X : Type 0} (at : ℕ) (xs : List X) → removed at xs ≡ remove xs at
@@ -100,16 +100,16 @@ cut_other (b ∷ bs) id k ne = go (b.id == id) refl (cut_other bs id k ne)
     go true is rest = sym (ap (λ (u : Bool). cond u (Some b) (block_of bs k)) (ne_eqb b.id k (λ e. ne (sym e ∙ eqb-true b.id id is))))
     go false is rest = ap (λ (r : Option Block). cond (b.id == k) (Some b) r) rest
 
--- the leaves that are left
-cut_zip : (R : Leaf → List (List ℕ) → Type 0) (leaves : List Leaf) (bs : List Block) (id : ℕ) → AllZip (λ (l : Leaf) (b : Block). R l b.lines) leaves bs
-    → AllZip (λ (l : Leaf) (b : Block). R l b.lines) (remove leaves (position_or_len (is_id id) (ids_of bs))) (without id bs)
+-- the items that are left
+cut_zip : {X : Type 0} (R : X → List (List ℕ) → Type 0) (items : List X) (bs : List Block) (id : ℕ) → AllZip (λ (x : X) (b : Block). R x b.lines) items bs
+    → AllZip (λ (x : X) (b : Block). R x b.lines) (remove items (position_or_len (is_id id) (ids_of bs))) (without id bs)
 cut_zip R [] [] id h = h
 cut_zip R [] (b ∷ bs) id h = absurd h
-cut_zip R (l ∷ leaves) [] id h = absurd h
-cut_zip R (l ∷ leaves) (b ∷ bs) id h = go (b.id == id) (cut_zip R leaves bs id h.1)
+cut_zip {X} R (l ∷ items) [] id h = absurd h
+cut_zip {X} R (l ∷ items) (b ∷ bs) id h = go (b.id == id) (cut_zip R items bs id h.1)
   where
-    go : (t : Bool) → AllZip (λ (x : Leaf) (y : Block). R x y.lines) (remove leaves (position_or_len (is_id id) (ids_of bs))) (without id bs)
-        → AllZip (λ (x : Leaf) (y : Block). R x y.lines) (remove (l ∷ leaves) (cond (not t) (1 + position_or_len (is_id id) (ids_of bs)) 0)) (cond t bs (b ∷ without id bs))
+    go : (t : Bool) → AllZip (λ (x : X) (y : Block). R x y.lines) (remove items (position_or_len (is_id id) (ids_of bs))) (without id bs)
+        → AllZip (λ (x : X) (y : Block). R x y.lines) (remove (l ∷ items) (cond (not t) (1 + position_or_len (is_id id) (ids_of bs)) 0)) (cond t bs (b ∷ without id bs))
     go true rest = h.1
     go false rest = simp one-add (h.0, rest)
 
@@ -178,11 +178,12 @@ cut_stands o es states ids had session id seen at lines s comes place lines_is =
       lines = lines_is ∙ ap (λ (x : Document). length (body x)) (sym next);
     }
 
--- and each leaf is made of the lines of its block
-pub cut_leaves : (o : Opening) (es : List Entry) (leaves : List Leaf) (session id seen at : ℕ) → IsLawful o es leaves → position (is_id id) (ids_of (document_of o es).blocks) ≡ Some at
-    → HasLeaves o (document_of o (es ++ record { session = session; edit = edit.Cut id seen } ∷ [])) (remove leaves at)
-cut_leaves o es leaves session id seen at s place =
+-- and each item is made of the lines of its block
+pub cut_items : {X : Type 0} (R : Setting → X → List (List ℕ) → Type 0) (o : Opening) (es : List Entry) (items : List X) (session id seen at : ℕ)
+    → AreBlockwise R o (document_of o es) items → position (is_id id) (ids_of (document_of o es).blocks) ≡ Some at
+    → AreBlockwise R o (document_of o (es ++ record { session = session; edit = edit.Cut id seen } ∷ [])) (remove items at)
+cut_items {X} R o es items session id seen at are place =
     let d : Document = document_of o es in
-    subst (λ (x : Document). HasLeaves o x (remove leaves at)) (sym (doc_snoc o es (record { session = session; edit = edit.Cut id seen })))
-    (subst (λ (n : ℕ). AllZip (λ (l : Leaf) (y : Block). IsLeafOf (setting_of o d) l y.lines) (remove leaves n) (without id d.blocks)) (sym (place_is (ids_of d.blocks) id at place).0)
-    (cut_zip (IsLeafOf (setting_of o d)) leaves d.blocks id s.leaves_are))
+    subst (λ (x : Document). AreBlockwise R o x (remove items at)) (sym (doc_snoc o es (record { session = session; edit = edit.Cut id seen })))
+    (subst (λ (n : ℕ). AllZip (λ (x : X) (y : Block). R (setting_of o d) x y.lines) (remove items n) (without id d.blocks)) (sym (place_is (ids_of d.blocks) id at place).0)
+    (cut_zip (R (setting_of o d)) items d.blocks id are))

@@ -28,6 +28,7 @@ pub mod Made
 pub mod NamesKept
 pub mod Openings
 pub mod Orders
+pub mod OutlineTexts
 pub mod OwnBlocks
 pub mod PreparedTexts
 pub mod Puts

@@ -14,7 +14,7 @@ use Rattle.face_data.specs.declared.face.FaceView.{FaceView}
 use Rattle.face_data.specs.Summaries.{Summary}
 use Rattle.face_data.specs.Verdicts.{verdict_of}
 use Rattle.face_data.specs.View.{summary_of}
-use Rattle.edit_book.specs.Books.{BookView, document, HasLeaves, IsLawful, IsLawfulOutline, ids_of}
+use Rattle.edit_book.specs.Books.{BookView, document, HasLeaves, IsLawful, IsLawfulOutline, IsLeafOf, ids_of}
 use Rattle.edit_book.specs.Outlines.{MayCome}
 use Rattle.edit_book.specs.Headers.{IsPreparedUnder}
 use Rattle.edit_book.specs.Orders.{is_id}
@@ -26,7 +26,7 @@ use Rattle.edit_book.specs.Work.{needles_in, work_limit}
 use Rattle.edit_book.proofs.Blocks.{with_leaves}
 use Rattle.edit_book.proofs.Comings.{put_may}
 use Rattle.edit_book.proofs.PreparedTexts.{prepared_now}
-use Rattle.edit_book.proofs.Puts.{doc_snoc, has_place, ids_count, named_there, place_is, put_free, put_leaves}
+use Rattle.edit_book.proofs.Puts.{doc_snoc, has_place, ids_count, named_there, place_is, put_free, put_items}
 use Rattle.edit_book.proofs.Trees.{leaf_each, setting_at, sound_of}
 use Rattle.edit_book.proofs.Verdicts.{root_brief}
 use Rattle.edit_book.proofs.Work.{KnowsLine, each_split, edit_work, lines_known, put_lines}
@@ -71,7 +71,7 @@ module _ (o : Opening) (es : List Entry) (session id seen head : ℕ) (prepared 
       put_keeps =
           with_leaves o longer (set tree.leaves at (prepared.face, prepared.loops)) outlined
           (subst (λ (l : List Entry). HasLeaves o (document_of o l) (set tree.leaves at (prepared.face, prepared.loops))) (sym longer_is)
-          (put_leaves o es tree.leaves session id seen at prepared.text (prepared.face, prepared.loops) s place fits_here))
+          (put_items IsLeafOf o es tree.leaves session id seen at prepared.text (prepared.face, prepared.loops) s.leaves_are place fits_here))
 
       module _ (leaves : List Leaf) (summary : Summary) (leaves_are : leaves ≡ tree.leaves) (summary_is : summary ≡ prepared.face) where
         pub put_sound : AreSound (set leaves at (summary, prepared.loops))

@@ -3,6 +3,7 @@ use Rattle.std.proofs.Common.{◌≡◌, ◌≢◌, ℕ, zero, suc, ◌+◌, ◌
 use Rattle.std.specs.List.{AllZip, position_or_len, slice_get}
 use Rattle.std.specs.Option.{option_map_or}
 use Rattle.std.proofs.lemmas.Bool.{eqb-true, eqb-false, leb-false, leb-true, ltb-true}
+use Rattle.knit_base.specs.declared.setting.Setting.{Setting}
 use Rattle.edit_journal.specs.declared.edit.Edit.TheVariants as edit
 use Rattle.edit_journal.specs.declared.edit.Entry.{Entry}
 use Rattle.edit_journal.specs.declared.opening.Opening.{Opening}
@@ -14,13 +15,12 @@ use Rattle.edit_book.specs.declared.block_state.BlockState.TheVariants.{There, C
 use Rattle.edit_book.specs.declared.reply.Reply.{Reply}
 use Rattle.edit_book.specs.declared.reply.Reply.TheVariants.{Gone, NoBlock, Full}
 use Rattle.edit_book.specs.declared.reply.Which.{Which}
-use Rattle.edit_book.specs.Books.{Each, AreDistinct, ids_of, state_of, HasIds, HasText, HasShortTexts, HasLeaves, Fits, IsLawful, IsLawfulSetting, Stands, IsLeafOf}
+use Rattle.edit_book.specs.Books.{AreBlockwise, Each, AreDistinct, ids_of, state_of, HasIds, HasText, HasShortTexts, Fits, IsLawfulSetting, Stands}
 use Rattle.edit_book.specs.Outlines.{MayCome}
 use Rattle.edit_book.specs.Orders.{is_id}
 use Rattle.edit_book.specs.Replies.{Put, or_else, cuts_block, cut_from, cut_number, refused_name, refused_stamp, refused_head, refused_over, refused_entries, refused_lines, refusal_of}
 use Rattle.edit_book.specs.Verdicts.{setting_of}
 use Rattle.edit_book.proofs.Blocks.{undrawn}
-use Rattle.summary_tree.specs.Leaves.{Leaf}
 
 -- one more entry
 after_all_snoc : (d : Document) (i : ℕ) (es : List Entry) (e : Entry) → after_all d i (es ++ e ∷ []) ≡ after (after_all d i es) (i + length es) e.edit
@@ -113,16 +113,16 @@ set_other (y ∷ xs) zero x (suc k) ne = refl
 set_other (y ∷ xs) (suc i) x zero ne = refl
 set_other (y ∷ xs) (suc i) x (suc k) ne = set_other xs i x k (λ e. ne (ap suc e))
 
--- the leaf of the block that was put
-pub put_zip : (R : Leaf → List (List ℕ) → Type 0) (leaves : List Leaf) (bs : List Block) (id i : ℕ) (text : List (List ℕ)) (leaf : Leaf) → R leaf text
-    → AllZip (λ (l : Leaf) (b : Block). R l b.lines) leaves bs → AllZip (λ (l : Leaf) (b : Block). R l b.lines) (set leaves (position_or_len (is_id id) (ids_of bs)) leaf) (with_text id i text bs)
-put_zip R [] [] id i text leaf new h = h
-put_zip R [] (b ∷ bs) id i text leaf new h = absurd h
-put_zip R (l ∷ leaves) [] id i text leaf new h = absurd h
-put_zip R (l ∷ leaves) (b ∷ bs) id i text leaf new h = go (b.id == id) (put_zip R leaves bs id i text leaf new h.1)
+-- the item of the block that was put
+put_zip : {X : Type 0} (R : X → List (List ℕ) → Type 0) (items : List X) (bs : List Block) (id i : ℕ) (text : List (List ℕ)) (item : X) → R item text
+    → AllZip (λ (x : X) (b : Block). R x b.lines) items bs → AllZip (λ (x : X) (b : Block). R x b.lines) (set items (position_or_len (is_id id) (ids_of bs)) item) (with_text id i text bs)
+put_zip R [] [] id i text item new h = h
+put_zip R [] (b ∷ bs) id i text item new h = absurd h
+put_zip R (x ∷ items) [] id i text item new h = absurd h
+put_zip {X} R (x ∷ items) (b ∷ bs) id i text item new h = go (b.id == id) (put_zip R items bs id i text item new h.1)
   where
-    go : (t : Bool) → AllZip (λ (x : Leaf) (y : Block). R x y.lines) (set leaves (position_or_len (is_id id) (ids_of bs)) leaf) (with_text id i text bs)
-        → AllZip (λ (x : Leaf) (y : Block). R x y.lines) (set (l ∷ leaves) (cond (not t) (1 + position_or_len (is_id id) (ids_of bs)) 0) leaf) (cond t (record { id = id; stamp = i; lines = text } ∷ bs) (b ∷ with_text id i text bs))
+    go : (t : Bool) → AllZip (λ (x : X) (y : Block). R x y.lines) (set items (position_or_len (is_id id) (ids_of bs)) item) (with_text id i text bs)
+        → AllZip (λ (x : X) (y : Block). R x y.lines) (set (x ∷ items) (cond (not t) (1 + position_or_len (is_id id) (ids_of bs)) 0) item) (cond t (record { id = id; stamp = i; lines = text } ∷ bs) (b ∷ with_text id i text bs))
     go true rest = (new, h.1)
     go false rest = simp one-add (h.0, rest)
 
@@ -284,13 +284,14 @@ put_stands o es states ids had session id seen lines text s comes lines_is short
       lines = lines_is ∙ ap (λ (x : Document). length (body x)) (sym next);
     }
 
--- and each leaf is made of the lines of its block
-pub put_leaves : (o : Opening) (es : List Entry) (leaves : List Leaf) (session id seen at : ℕ) (text : List (List ℕ)) (leaf : Leaf) → IsLawful o es leaves → position (is_id id) (ids_of (document_of o es).blocks) ≡ Some at
-    → IsLeafOf (setting_of o (document_of o es)) leaf text → HasLeaves o (document_of o (es ++ record { session = session; edit = edit.Put id seen text } ∷ [])) (set leaves at leaf)
-put_leaves o es leaves session id seen at text leaf s place leaf_is =
+-- and each item is made of the lines of its block
+pub put_items : {X : Type 0} (R : Setting → X → List (List ℕ) → Type 0) (o : Opening) (es : List Entry) (items : List X) (session id seen at : ℕ) (text : List (List ℕ)) (item : X)
+    → AreBlockwise R o (document_of o es) items → position (is_id id) (ids_of (document_of o es).blocks) ≡ Some at → R (setting_of o (document_of o es)) item text
+    → AreBlockwise R o (document_of o (es ++ record { session = session; edit = edit.Put id seen text } ∷ [])) (set items at item)
+put_items {X} R o es items session id seen at text item are place item_is =
     let e : Entry = record { session = session; edit = edit.Put id seen text } in
     let d : Document = document_of o es in
     let i : ℕ = length es + 1 in
-    subst (λ (x : Document). HasLeaves o x (set leaves at leaf)) (sym (doc_snoc o es e))
-    (subst (λ (n : ℕ). AllZip (λ (l : Leaf) (y : Block). IsLeafOf (setting_of o d) l y.lines) (set leaves n leaf) (with_text id i text d.blocks)) (sym (place_is (ids_of d.blocks) id at place).0)
-    (put_zip (IsLeafOf (setting_of o d)) leaves d.blocks id i text leaf leaf_is s.leaves_are))
+    subst (λ (x : Document). AreBlockwise R o x (set items at item)) (sym (doc_snoc o es e))
+    (subst (λ (n : ℕ). AllZip (λ (x : X) (y : Block). R (setting_of o d) x y.lines) (set items n item) (with_text id i text d.blocks)) (sym (place_is (ids_of d.blocks) id at place).0)
+    (put_zip (R (setting_of o d)) items d.blocks id i text item item_is are))

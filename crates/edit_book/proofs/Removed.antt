@@ -9,7 +9,7 @@ use Rattle.edit_journal.specs.declared.edit.Edit.TheVariants as edit
 use Rattle.edit_journal.specs.declared.edit.Entry.{Entry}
 use Rattle.edit_journal.specs.declared.opening.Opening.{Opening}
 use Rattle.edit_journal.specs.Documents.{Document, body, document_of}
-use Rattle.edit_book.specs.Books.{BookView, HasLeaves, IsLawful, IsLawfulOutline, document, ids_of}
+use Rattle.edit_book.specs.Books.{BookView, HasLeaves, IsLawful, IsLawfulOutline, IsLeafOf, document, ids_of}
 use Rattle.edit_book.specs.Orders.{is_id}
 use Rattle.edit_book.specs.Outlines.{MayCome}
 use Rattle.edit_book.specs.Replies.{Cut, refusal_of}
@@ -17,7 +17,7 @@ use Rattle.edit_book.specs.Verdicts.{setting_of}
 use Rattle.edit_book.specs.Work.{needles_in, work_limit}
 use Rattle.edit_book.proofs.Blocks.{with_leaves}
 use Rattle.edit_book.proofs.Comings.{cut_may}
-use Rattle.edit_book.proofs.Cuts.{cut_free, cut_leaves, removed_is}
+use Rattle.edit_book.proofs.Cuts.{cut_free, cut_items, removed_is}
 use Rattle.edit_book.proofs.Puts.{has_place, named_there}
 use Rattle.edit_book.proofs.Trees.{leaf_each}
 use Rattle.edit_book.proofs.Work.{KnowsLine, cut_lines, edit_work, lines_known}
@@ -45,7 +45,7 @@ module _ (o : Opening) (es : List Entry) (session id seen : ℕ) (v : BookView) 
         let all : remove tree.leaves at ≡ now = ap (λ (l : List Leaf). remove l at) (sym leaves_are) ∙ sym (removed_is at leaves) ∙ sym now_is in
         subst (IsLawful o longer) all
         (with_leaves o longer (remove tree.leaves at) outlined
-        (subst (λ (l : List Entry). HasLeaves o (document_of o l) (remove tree.leaves at)) (sym longer_is) (cut_leaves o es tree.leaves session id seen at s place)))
+        (subst (λ (l : List Entry). HasLeaves o (document_of o l) (remove tree.leaves at)) (sym longer_is) (cut_items IsLeafOf o es tree.leaves session id seen at s.leaves_are place)))
 
     pub cut_work : (before later : ℕ) → ((carriers limit : ℕ) (known : List Needle) → AreGoodFor carriers limit known now → later ≤ before + change_steps (length leaves) (most_items carriers limit (length known)))
         → later ≤ before + work_limit v.opening v.entries (Cut id seen)

@@ -77,13 +77,17 @@ HasText opening entries b = text_at opening entries b.id b.stamp ≡ Some b.line
 abbrev pub HasShortTexts : Opening → List Entry → Type 0
 HasShortTexts opening entries = (id stamp : ℕ) → IfSome (text_at opening entries id stamp) (λ text. length text ≤ 4096)
 
+-- each item is so made of the lines of the block at its place, read by the document's setting
+abbrev pub AreBlockwise : {X : Type 0} → (Setting → X → List (List ℕ) → Type 0) → Opening → Document → List X → Type 0
+AreBlockwise {X} IsOf opening d items = AllZip (λ (item : X) (b : Block). IsOf (setting_of opening d) item b.lines) items d.blocks
+
 -- the leaf is made of these lines: they are those of a block that was prepared for the setting
 abbrev pub IsLeafOf : Setting → Leaf → List (List ℕ) → Type 0
 IsLeafOf setting leaf lines = IsPreparedFor setting.profile setting.declared (record { text = lines; face = leaf.0; loops = leaf.1 })
 
 -- each leaf is made of the lines of its block
 abbrev pub HasLeaves : Opening → Document → List Leaf → Type 0
-HasLeaves opening d leaves = AllZip (λ (leaf : Leaf) (b : Block). IsLeafOf (setting_of opening d) leaf b.lines) leaves d.blocks
+HasLeaves opening d leaves = AreBlockwise IsLeafOf opening d leaves
 
 -- what always holds of an outline
 pub record IsLawfulOutline (opening : Opening) (entries : List Entry) : Type 0 where

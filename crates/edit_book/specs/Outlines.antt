@@ -1,5 +1,6 @@
 -- What contracts see of an outline, and which edit may come next.
-use Rattle.std.specs.Prelude.{◌+◌, ◌<◌, ◌≤◌, Bool, List, length}
+use Rattle.std.specs.Prelude.{ℕ, ◌+◌, ◌<◌, ◌≤◌, Bool, List, length, map}
+use Rattle.edit_journal.specs.declared.edit.BlockAt.{BlockAt}
 use Rattle.edit_journal.specs.declared.edit.Edit.{Edit}
 use Rattle.edit_journal.specs.declared.edit.Edit.TheVariants as edit
 use Rattle.edit_journal.specs.declared.edit.Entry.{Entry}
@@ -7,6 +8,10 @@ use Rattle.edit_journal.specs.declared.opening.Opening.{Opening}
 use Rattle.edit_journal.specs.Documents.{Document, Fits, after, body, document_of}
 use Rattle.edit_journal.specs.Entries.{JournalView, entry_limit}
 use Rattle.edit_book.specs.Replies.{block_limit, line_limit}
+
+-- the texts of these blocks
+abbrev pub texts_of : List BlockAt → List (List (List ℕ))
+texts_of blocks = map (λ (block : BlockAt). block.text) blocks
 
 -- what the outline began with and the entries since, and whether there is room for one more entry
 pub record OutlineView : Type 0 where

@@ -154,7 +154,7 @@ impl Outline {
     }
 
     /// The place of a new block.
-    pub(crate) fn place_after(&self, anchor: Anchor) -> usize
+    pub fn place_after(&self, anchor: Anchor) -> usize
         requires { HasAnchor (outlined self.now) anchor }
         ensures place { result ≡ place_of anchor (ids_of (outlined self.now).blocks) }
         ensures few { result ≤ 65536 }

@@ -1,5 +1,6 @@
 //! An outline follows a journal by itself.
 ghost use Rattle.std.specs.Prelude.{◌≡◌, ◌++◌, ◌∷◌, [], OnErr, OnOk};
+ghost use Rattle.edit_book.specs.Books.{IsLawfulOutline};
 ghost use Rattle.edit_book.specs.Outlines.{HasShortText, MayCome};
 
 use crate::Outline;
@@ -14,6 +15,7 @@ impl Outline {
         ensures opening { self.new.opening ≡ self.old.opening }
         ensures ok { OnOk result (self.new.entries ≡ self.old.entries ++ entry ∷ []) }
         ensures err { OnErr result (self.new.entries ≡ self.old.entries) }
+        ensures lawful { IsLawfulOutline self.new.opening self.new.entries }
     {
         let Entry { session, edit } = entry;
         match edit {

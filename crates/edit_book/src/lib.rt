@@ -57,6 +57,7 @@ mod turns;
 
 pub use book::Book;
 pub use edit_journal::HEAD;
+pub use open::block_texts;
 pub use outline::Outline;
 pub use replies::Replies;
 pub use reply::{Again, AgainList, BookCommand, Reply, Which};

@@ -1,8 +1,9 @@
 //! Which edit may come next, and the texts that are there.
-ghost use Rattle.std.specs.Prelude.{◌≡◌, ℕ, ◌≤◌, ◌<◌, List, Some, true, false, IfOk, length, map, slice_get};
+ghost use Rattle.std.specs.Prelude.{◌≡◌, ℕ, ◌≤◌, ◌<◌, All, List, Some, true, false, IfOk, flat_map, length, map, slice_get};
 ghost use Rattle.edit_journal.specs.Documents.{HasAnchor};
 ghost use Rattle.edit_journal.specs.declared.edit.Edit.TheVariants as edit;
 ghost use Rattle.edit_book.specs.Outlines.{MayCome, outlined};
+ghost use Rattle.edit_book.specs.Replies.{block_limit, line_limit};
 
 use crate::Outline;
 use edit_journal::Anchor;
@@ -81,11 +82,15 @@ impl Outline {
         }
     }
 
-    /// The texts of the blocks that are there, in their order.
+    /// The texts of the blocks that are there, in their order. They keep the limits of a document.
     #[tactic(auto, using(crate::proofs::Looks::take_next))]
     pub fn texts(&self) -> Result<Vec<BlockText>, NoMemory>
-        ensures { IfOk result (λ texts. texts.items ≡ map (λ b. b.lines) (outlined self.now).blocks) }
+        ensures texts { IfOk result (λ texts. texts.items ≡ map (λ b. b.lines) (outlined self.now).blocks) }
+        ensures few { IfOk result (λ texts. length texts.items ≤ block_limit) }
+        ensures short { IfOk result (λ texts. All (λ (text : List (List ℕ)). length text ≤ 4096) texts.items) }
+        ensures lines { IfOk result (λ texts. length (flat_map (λ (text : List (List ℕ)). text) texts.items) ≤ line_limit) }
     {
+        let _ids = self.ids();
         let mut texts = Vec::with_capacity(self.alloc, self.len() as usize)?;
         for at in 0..self.len() {
             texts.push(self.copied_text(at)?)?;

@@ -1,6 +1,7 @@
 //! The outline of an opening.
 ghost use Rattle.std.specs.Prelude.{◌≡◌, ℕ, ◌+◌, ◌<◌, ◌≤◌, ◌^◌, [], List, All, IfOk, flat_map, length, replicate};
 ghost use Rattle.knit_base.specs.Limits.{IsLawfulProfile};
+ghost use Rattle.edit_book.specs.Outlines.{texts_of};
 ghost use Rattle.edit_book.specs.Replies.{block_limit, line_limit};
 ghost use Rattle.edit_book.specs.declared.block_state.BlockState.TheVariants as state;
 
@@ -8,7 +9,7 @@ use crate::Outline;
 use crate::block_state::BlockState;
 use crate::header::Header;
 use crate::order::Order;
-use edit_journal::{Journal, Opening};
+use edit_journal::{Journal, Opening, TextList};
 use knit_base::{BlockText, ListOf, NoMemory, Setting};
 use std::alloc::Global;
 
@@ -49,6 +50,17 @@ impl Outline {
             alloc,
         })
     }
+}
+
+/// The texts of these blocks, which share their lines where they are shared. The only error is want of memory.
+pub fn block_texts(alloc: Global, blocks: &TextList) -> Result<ListOf<BlockText>, NoMemory>
+    ensures { IfOk result (λ texts. texts ≡ texts_of blocks.now) }
+{
+    let mut texts = ListOf::with_capacity(alloc, blocks.len())?;
+    for block in blocks.as_slice() {
+        texts.push(block.text.try_clone()?)?;
+    }
+    Ok(texts)
 }
 
 // How many lines these texts have.

@@ -112,7 +112,7 @@ impl Outline {
     }
 
     /// Where memory is asked for.
-    pub(crate) fn alloc(&self) -> Global {
+    pub fn alloc(&self) -> Global {
         self.alloc
     }
 
@@ -137,7 +137,7 @@ impl Outline {
     }
 
     /// What the document is read by under these names.
-    pub(crate) fn setting_under(&self, declared: &Declared) -> Result<Setting, NoMemory>
+    pub fn setting_under(&self, declared: &Declared) -> Result<Setting, NoMemory>
         ensures { IfOk result (λ setting. setting ≡ with_names declared.now (setting_of self.now.opening (outlined self.now))) }
     {
         Ok(Setting {
@@ -202,7 +202,7 @@ impl Outline {
     }
 
     /// The place of the block with this id.
-    pub(crate) fn place(&self, id: u32) -> Option<usize>
+    pub fn place(&self, id: u32) -> Option<usize>
         ensures { result ≡ position (is_id id) (ids_of (outlined self.now).blocks) }
     {
         self.order.position(id)

@@ -16,7 +16,8 @@ use Rattle.edit_journal.specs.declared.opening.Opening.{Opening}
 use Rattle.edit_journal.specs.Documents.{lines_in, opened_from}
 use Rattle.edit_sessions.specs.Laws.{KeepsLimits}
 use Rattle.journal_file.specs.Heads.{IsWholeHead, names_in_head}
-use Rattle.journal_file.specs.SavedParts.{IsFirstText, IsShortLine, numbered_from, opening_of, texts_of}
+use Rattle.edit_book.specs.Outlines.{texts_of}
+use Rattle.journal_file.specs.SavedParts.{IsFirstText, IsShortLine, numbered_from, opening_of}
 use Rattle.journal_file.proofs.HeadLaws.{names_known}
 use Rattle.input_answers.specs.Asked.{IsLawfulChosen}
 use Rattle.input_answers.specs.CheckReport.{body_of}

@@ -15,7 +15,8 @@ use Rattle.journal_file.specs.Grammars.{Lines, OneLine, Chain}
 use Rattle.journal_file.specs.HeadForms.{IsHeadLine, head_form, no_line_yet, with_line}
 use Rattle.journal_file.specs.Lines.{IsTextLine}
 use Rattle.journal_file.specs.SavedForms.{EntrySaid, IsOpening, OpeningSaid, SavedForm, blocks_said, blocks_told, count_said, edit_said, entry_said, head_said, profile_said}
-use Rattle.journal_file.specs.SavedParts.{IsFirstText, IsShortLine, IsWritable, IsWritten, KeepsBounds, numbered_from, texts_of}
+use Rattle.edit_book.specs.Outlines.{texts_of}
+use Rattle.journal_file.specs.SavedParts.{IsFirstText, IsShortLine, IsWritable, IsWritten, KeepsBounds, numbered_from}
 use Rattle.journal_file.specs.Texts.{AreTexts, same_state}
 use Rattle.journal_file.proofs.EntryReadings.{few_lines}
 use Rattle.journal_file.proofs.FormReadings.{chain_length}

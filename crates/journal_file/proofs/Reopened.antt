@@ -6,8 +6,8 @@ use Rattle.edit_journal.specs.declared.edit.BlockAt.{BlockAt}
 use Rattle.edit_journal.specs.declared.edit.Edit.{Edit}
 use Rattle.edit_journal.specs.declared.edit.Edit.TheVariants as edit
 use Rattle.edit_journal.specs.declared.edit.Entry.{Entry}
-use Rattle.edit_book.specs.Outlines.{HasShortText}
-use Rattle.journal_file.specs.SavedParts.{IsWritable, IsWritten, KeepsBounds, numbered_from, texts_of}
+use Rattle.edit_book.specs.Outlines.{HasShortText, texts_of}
+use Rattle.journal_file.specs.SavedParts.{IsWritable, IsWritten, KeepsBounds, numbered_from}
 
 -- what an edit that has a spelling gives is short
 pub short_given : (e : Edit) → IsWritable e → HasShortText e

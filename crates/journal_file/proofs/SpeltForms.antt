@@ -22,7 +22,8 @@ use Rattle.journal_file.specs.EntryForms.{AreEntries, IsEntryLine, IsEntryText, 
 use Rattle.journal_file.specs.Grammars.{Lines, Chain}
 use Rattle.journal_file.specs.Lines.{IsShort}
 use Rattle.journal_file.specs.SavedForms.{EntrySaid, OpeningSaid, SavedForm, block_words, blocks_told, entry_said, head_said, profile_said}
-use Rattle.journal_file.specs.SavedParts.{IsFirstText, IsShortLine, IsWritable, IsWritten, KeepsBounds, numbered_from, texts_of}
+use Rattle.edit_book.specs.Outlines.{texts_of}
+use Rattle.journal_file.specs.SavedParts.{IsFirstText, IsShortLine, IsWritable, IsWritten, KeepsBounds, numbered_from}
 use Rattle.journal_file.specs.Spelling.{profile_text}
 use Rattle.journal_file.specs.Texts.{AreTexts}
 use Rattle.journal_file.proofs.HeadLaws.{barred, head_again}

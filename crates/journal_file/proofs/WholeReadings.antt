@@ -9,7 +9,8 @@ use Rattle.journal_file.specs.Faults.{AreEntriesFault, IsBadJournal, IsOneSpelli
 use Rattle.journal_file.specs.Openings.{said_of}
 use Rattle.journal_file.specs.Reading.{HasRead}
 use Rattle.journal_file.specs.SavedForms.{EntrySaid, IsOpening, blocks_told, entry_said}
-use Rattle.journal_file.specs.SavedParts.{IsLawfulSaved, KeepsBounds, MayAllCome, numbered_from, opening_with, texts_of}
+use Rattle.edit_book.specs.Outlines.{texts_of}
+use Rattle.journal_file.specs.SavedParts.{IsLawfulSaved, KeepsBounds, MayAllCome, numbered_from, opening_with}
 use Rattle.journal_file.specs.Spelling.{spelling}
 use Rattle.journal_file.proofs.FormBounds.{all_first, opening_keeps, texts_numbered}
 use Rattle.journal_file.proofs.JournalReadings.{entries_bad, one_spelling, whole_read}

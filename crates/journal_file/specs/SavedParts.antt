@@ -1,5 +1,5 @@
 -- The parts of a document that a saved text tells, and what these must keep.
-use Rattle.std.specs.Prelude.{◌≡◌, ℕ, ◌+◌, ◌<◌, ◌≤◌, ◌^◌, true, List, [], ◌∷◌, ◌++◌, length, map, flat_map, All}
+use Rattle.std.specs.Prelude.{◌≡◌, ℕ, ◌+◌, ◌<◌, ◌≤◌, ◌^◌, true, List, [], ◌∷◌, ◌++◌, length, flat_map, All}
 use Rattle.std.specs.Str.{is_utf8}
 use Rattle.knit_base.specs.Limits.{IsLawfulProfile}
 use Rattle.knit_base.specs.Lines.{HasNoLineEnd}
@@ -10,7 +10,7 @@ use Rattle.edit_journal.specs.declared.edit.Edit.{Edit}
 use Rattle.edit_journal.specs.declared.edit.Edit.TheVariants as edit
 use Rattle.edit_journal.specs.declared.edit.Entry.{Entry}
 use Rattle.edit_journal.specs.declared.opening.Opening.{Opening}
-use Rattle.edit_book.specs.Outlines.{MayCome}
+use Rattle.edit_book.specs.Outlines.{MayCome, texts_of}
 use Rattle.journal_file.specs.Entries.{IsLawfulAnchor}
 use Rattle.journal_file.specs.Heads.{IsWholeHead, names_in_head}
 
@@ -30,9 +30,6 @@ pub record IsFirstText (text : List (List ℕ)) : Type 0 where
 abbrev pub numbered_from : ℕ → List (List (List ℕ)) → List BlockAt
 numbered_from id [] = []
 numbered_from id (text ∷ texts) = record { block = id; stamp = 0; text = text } ∷ numbered_from (id + 1) texts
-
-abbrev pub texts_of : List BlockAt → List (List (List ℕ))
-texts_of blocks = map (λ (block : BlockAt). block.text) blocks
 
 -- the text that an edit gives to a block
 pub record IsGivenText (text : List (List ℕ)) : Type 0 where

@@ -1,13 +1,13 @@
 //! The book of a saved text.
-ghost use Rattle.std.specs.Prelude.{◌≡◌, ◌<◌, [], All, IfOk, OnOk, map};
-ghost use Rattle.journal_file.specs.SavedParts.{IsLawfulSaved, IsWritten, MayAllCome, opening_of, texts_of};
+ghost use Rattle.std.specs.Prelude.{◌≡◌, ◌<◌, [], All, IfOk, OnOk};
+ghost use Rattle.journal_file.specs.SavedParts.{IsLawfulSaved, IsWritten, MayAllCome, opening_of};
 
 use crate::Saved;
 use crate::read::open;
 use check_workers::prepare_all;
-use edit_book::{Book, Outline};
-use edit_journal::{Entry, TextList};
-use knit_base::{BlockText, ListOf, NoMemory, Steps};
+use edit_book::{Book, Outline, block_texts};
+use edit_journal::Entry;
+use knit_base::{NoMemory, Steps};
 use std::alloc::Global;
 use std::marker::Brand;
 use std::sync::ledger::{Blank, Ledger};
@@ -47,8 +47,8 @@ fn reopen_counted<L: Ledger, R: Threads + Sync>(
     }
 }
 
-// What the document of a saved text comes to, without the faces of its blocks.
-fn outline_of(alloc: Global, saved: Saved) -> Result<Outline, NoMemory>
+/// The document of a saved text at its last version, without the faces of its blocks. The only error is want of memory.
+pub fn outline_of(alloc: Global, saved: Saved) -> Result<Outline, NoMemory>
     requires { IsLawfulSaved saved.head saved.profile saved.blocks saved.journal.entries }
     ensures opening { IfOk result (λ outline. outline.opening ≡ opening_of saved.head saved.profile saved.blocks) }
     ensures entries { IfOk result (λ outline. outline.entries ≡ saved.journal.entries) }
@@ -63,17 +63,6 @@ fn outline_of(alloc: Global, saved: Saved) -> Result<Outline, NoMemory>
     let mut outline = open(alloc, profile, &head, texts)?;
     follow_all(journal.into_entries(), &mut outline)?;
     Ok(outline)
-}
-
-// The texts of the blocks, which are shared.
-fn block_texts(alloc: Global, blocks: &TextList) -> Result<ListOf<BlockText>, NoMemory>
-    ensures { IfOk result (λ texts. texts ≡ texts_of blocks.now) }
-{
-    let mut texts = ListOf::with_capacity(alloc, blocks.len())?;
-    for block in blocks.as_slice() {
-        texts.push(block.text.try_clone()?)?;
-    }
-    Ok(texts)
 }
 
 // Follows the entries, one after the other.

@@ -35,7 +35,7 @@ mod text;
 mod words;
 mod write;
 
-pub use book::reopen;
+pub use book::{outline_of, reopen};
 pub use fault::{JournalCause, JournalFault};
 pub use read::read_journal;
 pub use saved::Saved;

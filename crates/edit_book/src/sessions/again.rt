@@ -8,11 +8,11 @@ ghost use Rattle.edit_journal.specs.declared.opening.Opening.{Opening};
 ghost use Rattle.edit_book.specs.Turns.{AreFitAgain, AreGiven};
 ghost use Rattle.edit_book.specs.declared.reply.Again.{Again};
 
-use crate::{Again, AgainList};
+use crate::{Again, AgainList, block_texts};
 use block_summary::Prepared;
 use check_workers::prepare_all;
 use edit_journal::TextList;
-use knit_base::{BlockText, ListOf, NoMemory, Setting};
+use knit_base::{ListOf, NoMemory, Setting};
 use std::alloc::Global;
 use std::thread::Threads;
 
@@ -27,22 +27,11 @@ pub fn summarised<R: Threads + Sync>(
     ensures texts { IfOk result (λ again. map (λ (one : Again). one.prepared.text) again ≡ map (λ block. block.text) blocks.now) }
     ensures fits { IfOk result (λ again. (opening : Opening) (journal : List Entry) → opening.setting.profile ≡ setting.now.profile → AreGiven opening journal blocks.now → AreFitAgain opening journal setting.now.declared again) }
 {
-    let texts = block_texts(alloc, blocks)?;
+    let texts = block_texts(alloc, blocks)?.into_vec();
     match prepare_all(rt, alloc, texts, setting) {
         Ok(summaries) => blocks_again(alloc, blocks, summaries),
         Err(_) => Err(NoMemory),
     }
-}
-
-// The texts of the blocks, which are shared.
-fn block_texts(alloc: Global, blocks: &TextList) -> Result<Vec<BlockText>, NoMemory>
-    ensures { IfOk result (λ texts. texts.items ≡ map (λ block. block.text) blocks.now) }
-{
-    let mut texts = Vec::with_capacity(alloc, blocks.len() as usize)?;
-    for block in blocks.as_slice() {
-        texts.push(block.text.try_clone()?)?;
-    }
-    Ok(texts)
 }
 
 // Each block with the summary of its text, where these are the summaries of the blocks' texts in their order.

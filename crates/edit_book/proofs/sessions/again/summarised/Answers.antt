@@ -10,5 +10,5 @@ texts_in (a ∷ again) = ap (λ (l : List (List (List ℕ))). a.prepared.text �
 
 pub returns-in-Ok-clause-texts : goal.returns-in-Ok-clause-texts
 returns-in-Ok-clause-texts g c = IfOk-weaker c.blocks_again.result _ _
-    (λ again is. texts_in again ∙ ap (map (λ (p : Prepared). p.text)) is ∙ c.in-Ok.ensures.texts ∙ c.in_ok-texts.ensures)
+    (λ again is. texts_in again ∙ ap (map (λ (p : Prepared). p.text)) is ∙ c.in-Ok.ensures.texts ∙ c.into_vec-texts.ensures.items ∙ c.in_ok-block_texts.ensures)
     c.blocks_again.ensures.summaries
