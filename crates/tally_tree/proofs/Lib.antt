@@ -1,0 +1,14 @@
+pub mod Adding
+pub mod BlockRanges
+pub mod Carriers
+pub mod Counting
+pub mod DocRanges
+pub mod DocTrees
+pub mod FewerNeedles
+pub mod Kept
+pub mod Merging
+pub mod MetRooms
+pub mod OnBeds
+pub mod Order
+pub mod PartSums
+pub mod StoredLeaves

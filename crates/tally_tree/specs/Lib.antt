@@ -1,0 +1,11 @@
+pub mod Counting
+pub mod Docs
+pub mod Laws
+pub mod Leaves
+pub mod Merging
+pub mod NeedleLimit
+pub mod Needles
+pub mod Rooms
+pub mod Sums
+pub mod Tallies
+pub mod Trees

@@ -1,0 +1,73 @@
+//! Empty tallies, in which those to come are joined.
+ghost use Rattle.std.specs.Prelude.{◌≡◌, ◌≤◌, ◌<◌, ◌+◌, ◌↔◌, true, length, OnOk};
+ghost use Rattle.tally_tree.specs.Rooms.{AreMet, IsSpare};
+
+use crate::rooms::Rooms;
+use crate::tally::Tally;
+use knit_base::NoMemory;
+use std::alloc::Global;
+use std::marker::Model;
+
+/// Empty tallies, each with room for so many needles.
+#[derive(Drop)]
+pub(crate) struct Spares {
+    tallies: Vec<Tally>,
+    room: usize,
+    alloc: Global,
+}
+
+impl Model for Spares {
+    ghost use Rattle.std.specs.Prelude.{All, length};
+    ghost use Rattle.tally_tree.specs.Rooms.{IsSpare, SparesView};
+
+    ghost Value = { SparesView };
+
+    ghost view = { λ s. record { many = length s.tallies.items; room = s.room } };
+
+    ghost invariant = { λ s. All (IsSpare s.room) s.tallies.items };
+}
+
+impl Spares {
+    pub fn new(alloc: Global) -> Spares
+        ensures { result ≡ record { many = 0; room = 0 } }
+    {
+        Spares {
+            tallies: Vec::new(alloc),
+            room: 0,
+            alloc,
+        }
+    }
+
+    /// Makes an empty tally for each room. Fails where memory runs out.
+    pub fn reserve(&mut self, need: &Rooms) -> Result<(), NoMemory>
+        ensures { OnOk result (AreMet self.new need.now) }
+    {
+        self.tallies.clear();
+        self.room = need.most();
+        for _i in 0..need.len() {
+            let spare = Tally::with_room(self.alloc, self.room)?;
+            self.tallies.push(spare)?;
+        }
+        Ok(())
+    }
+
+    /// Whether there is an empty tally for each room.
+    pub fn meets(&self, need: &Rooms) -> bool
+        ensures { (result ≡ true) ↔ AreMet self.now need.now }
+    {
+        need.len() <= self.tallies.len() && need.most() <= self.room
+    }
+
+    /// Takes one of them.
+    pub fn take(&mut self) -> Tally
+        requires { 1 ≤ self.old.many }
+        ensures spare { IsSpare self.old.room result }
+        ensures many { self.new.many + 1 ≡ self.old.many }
+        ensures room { self.new.room ≡ self.old.room }
+    {
+        let Some(spare) = self.tallies.pop() else {
+            unreachable!();
+        };
+        spare
+    }
+}
