@@ -8,7 +8,8 @@ use Rattle.knitout_reader.specs.declared.head.Head.{Head}
 use Rattle.knitout_reader.specs.Head.{IsHead}
 use Rattle.machine_profile.specs.declared.Chosen.{Chosen}
 use Rattle.command_words.specs.declared.command.Command.{Command}
-use Rattle.command_words.specs.declared.command.Command.TheVariants.{Check, Text, Passes, Live, Save, Groups, Replay, Make}
+use Rattle.command_words.specs.declared.command.Command.TheVariants.{Check, Text, Passes, Live, Save, Groups, Replay, Tally, Make}
+use Rattle.journal_file.proofs.JournalReadings.{one_spelling}
 use Rattle.script_reader.specs.declared.command.Script.{Script}
 use Rattle.script_reader.specs.declared.step.GroupScript.{GroupScript}
 use Rattle.script_reader.proofs.GroupRuns as group_runs
@@ -28,13 +29,16 @@ use Rattle.input_answers.specs.DueMade as due_made
 use Rattle.input_answers.specs.DueMade.{DueMade}
 use Rattle.input_answers.specs.DueReplay as due_replay
 use Rattle.input_answers.specs.DueReplay.{DueReplay}
+use Rattle.input_answers.specs.DueTally as due_tally
+use Rattle.input_answers.specs.DueTally.{DueTally, IsDueRange, saved_doc}
 use Rattle.input_answers.specs.LiveText.{output_of}
 use Rattle.input_answers.specs.Played.{Played}
 use Rattle.input_answers.proofs.Asks.{asked-chosen, asked-command, asked-lawful}
 use Rattle.input_answers.proofs.Exclusions.{fits-not_large, good-not_bad, head-not_bad}
+use Rattle.tally_tree.specs.Docs.{DocView, HasBlocks}
 use Rattle.check_main.specs.Top as top
 use Rattle.check_main.specs.Top.{Called, Ran, SinkUse, SourceUse}
-use Rattle.check_main.specs.Complete.{EndsWell, Gives, IsFile, IsGroupScriptThatFits, IsSavedText, IsScriptThatFits, IsStatusOf, IsUnhindered, IsWithinLimits, WasDone}
+use Rattle.check_main.specs.Complete.{EndsWell, Gives, IsFile, IsGroupScriptThatFits, IsSavedText, IsSavedTextWith, IsScriptThatFits, IsStatusOf, IsUnhindered, IsWithinLimits, WasDone}
 
 -- a source at its end gave all that it had
 gave_all : (had : List ℕ) (left : Option (List ℕ)) (input : List ℕ) → Consumes (Some had) left input → IsAtEnd left → input ≡ had
@@ -55,6 +59,7 @@ file_input Live reads = absurd (cc)
 file_input Save reads = absurd (cc)
 file_input Groups reads = absurd (cc)
 file_input Replay reads = absurd (cc)
+file_input (Tally from to) reads = absurd (cc)
 file_input (Make rows start) reads = absurd (cc)
 
 -- a file within the limits has a head
@@ -66,6 +71,7 @@ file_head Live chosen input reads within = absurd (cc)
 file_head Save chosen input reads within = absurd (cc)
 file_head Groups chosen input reads within = absurd (cc)
 file_head Replay chosen input reads within = absurd (cc)
+file_head (Tally from to) chosen input reads within = absurd (cc)
 file_head (Make rows start) chosen input reads within = absurd (cc)
 
 -- and a body that fits where it is checked
@@ -78,6 +84,7 @@ file_fits Live chosen input checks within = absurd (cc)
 file_fits Save chosen input checks within = absurd (cc)
 file_fits Groups chosen input checks within = absurd (cc)
 file_fits Replay chosen input checks within = absurd (cc)
+file_fits (Tally from to) chosen input checks within = absurd (cc)
 file_fits (Make rows start) chosen input checks within = absurd (cc)
 
 -- a script within the limits has a text that fits
@@ -89,6 +96,7 @@ script_fits Live chosen input reads within = within
 script_fits Save chosen input reads within = within
 script_fits Groups chosen input reads within = absurd (cc)
 script_fits Replay chosen input reads within = absurd (cc)
+script_fits (Tally from to) chosen input reads within = absurd (cc)
 script_fits (Make rows start) chosen input reads within = absurd (cc)
 
 -- it is an input
@@ -100,6 +108,7 @@ script_input Live reads = refl
 script_input Save reads = refl
 script_input Groups reads = refl
 script_input Replay reads = absurd (cc)
+script_input (Tally from to) reads = absurd (cc)
 script_input (Make rows start) reads = absurd (cc)
 
 -- and what was asked for is done where the status says so
@@ -111,10 +120,14 @@ script_done Live chosen input result reads is = is
 script_done Save chosen input result reads is = is
 script_done Groups chosen input result reads is = absurd (cc)
 script_done Replay chosen input result reads is = absurd (cc)
+script_done (Tally from to) chosen input result reads is = absurd (cc)
 script_done (Make rows start) chosen input result reads is = absurd (cc)
 
 saved_fits : (command : Command) (chosen : Chosen) (input : List ℕ) → command ≡ Replay → IsWithinLimits command chosen input → IsSavedText input
 saved_fits command chosen input is within = subst (λ (x : Command). IsWithinLimits x chosen input) is within
+
+tally_fits : (command : Command) (from to : ℕ) (chosen : Chosen) (input : List ℕ) → command ≡ Tally from to → IsWithinLimits command chosen input → IsSavedTextWith from to input
+tally_fits command from to chosen input is within = subst (λ (x : Command). IsWithinLimits x chosen input) is within
 
 groups_fit : (command : Command) (chosen : Chosen) (input : List ℕ) → command ≡ Groups → IsWithinLimits command chosen input → IsGroupScriptThatFits chosen.block input
 groups_fit command chosen input is within = subst (λ (x : Command). IsWithinLimits x chosen input) is within
@@ -176,6 +189,21 @@ replay_done : (input text : List ℕ) (result : Status) → IsSavedText input �
 replay_done input text result within (due_replay.bad_journal line cause bad none) = absurd (none within.head within.profile within.blocks within.entries within.saved.lawful within.saved.spelt)
 replay_done input text result within (due_replay.replayed head profile blocks entries _ saved report) = refl
 
+-- of blocks that are there
+range_done : (doc : DocView) (from to : ℕ) (text : List ℕ) (result : Status) → HasBlocks doc from to → IsDueRange doc from to text result → result ≡ Done
+range_done doc from to text result has (due_tally.bad_range none) = absurd (none has)
+range_done doc from to text result has (due_tally.tallied v there is) = refl
+
+tally_done : (from to : ℕ) (input text : List ℕ) (result : Status) → IsSavedTextWith from to input → DueTally from to input text result → result ≡ Done
+tally_done from to input text result within (due_tally.bad_journal line cause bad none) =
+    let t = within.text in
+    absurd (none t.head t.profile t.blocks t.entries t.saved.lawful t.saved.spelt)
+tally_done from to input text result within (due_tally.ended head profile blocks entries said end saved due_here) =
+    let t = within.text in
+    let same = one_spelling input t.head t.profile t.blocks t.entries t.saved.lawful t.saved.spelt head profile blocks entries saved.lawful saved.spelt in
+    range_done (saved_doc head profile blocks entries) from to said end
+    (subst (λ (d : DocView). HasBlocks d from to) (λ i. saved_doc (same.0 i) (same.1 i) (same.2 i) (same.3 i)) within.has) due_here
+
 -- of a made program
 made_done : (chosen : Chosen) (rows start : ℕ) (text : List ℕ) (result : Status) → Fits chosen.block (length (body_of (made_lines rows start))) → DueMade chosen rows start text result → result ≡ Done
 made_done chosen rows start text result fits (due_made.too_large said large) = absurd (fits-not_large chosen.block (length (body_of (made_lines rows start))) said fits large)
@@ -229,6 +257,11 @@ due_done words command chosen input source sink played text result free (top.rep
     let all = whole_input source input read (free.given (sym (ap reads_input same))) consumed end in
     done_for command Replay chosen input ends (sym same)
     (replay_done input told ends (saved_fits command chosen input (sym same) free.within) (subst (λ (l : List ℕ). DueReplay l told ends) all is_due))
+due_done words command chosen input source sink played text result free (top.tally from to limits read told ends ask consumed end few is_due) =
+    let same = asked-command words command (Tally from to) chosen limits free.asked ask in
+    let all = whole_input source input read (free.given (sym (ap reads_input same))) consumed end in
+    done_for command (Tally from to) chosen input ends (sym same)
+    (tally_done from to input told ends (tally_fits command from to chosen input (sym same) free.within) (subst (λ (l : List ℕ). DueTally from to l told ends) all is_due))
 due_done words command chosen input source sink played text result free (top.large other limits read ask reads consumed past) =
     let same = asked-command words command other chosen limits free.asked ask in
     absurd (not_past source input read (free.given (sym (ap reads_input same) ∙ reads)) consumed past)

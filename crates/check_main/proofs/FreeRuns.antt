@@ -1,13 +1,16 @@
 -- Runs that nothing hinders: for each command there are such.
-use Rattle.std.proofs.Common.{◌≡◌, ℕ, ◌≤◌, true, false, ◌&&◌, nat_lt, List, [], ◌∷◌, Some, None, All, codes, refl, sym, subst, arith, length, pos}
+use Rattle.std.proofs.Common.{◌≡◌, ℕ, ◌+◌, ◌<◌, ◌≤◌, ◌^◌, ◌++◌, true, false, ◌&&◌, nat_lt, List, [], ◌∷◌, Some, None, All, codes, refl, sym, subst, arith, length, length-append, pos, decimal, flat_map}
 use Rattle.std.specs.Prelude.{◌-ℤ◌}
 use Rattle.std.specs.List.{list_all}
 use Rattle.std.proofs.lemmas.Bool.{ltb-true}
+use Rattle.std.proofs.lemmas.Fmt.{length-decimal-le}
 use Rattle.std.proofs.lemmas.Int.{ints}
 use Rattle.std.proofs.lemmas.List.Elements.{All-cons, All-nil}
 use Rattle.std.proofs.lemmas.Str.{is_utf8-from_IsUtf8}
 use Rattle.knit_base.specs.Limits.{IsLawfulProfile}
 use Rattle.knit_base.specs.Lines.{lines_of}
+use Rattle.knit_base.specs.Spelling.{labelled}
+use Rattle.edit_journal.specs.declared.edit.BlockAt.{BlockAt}
 use Rattle.knit_maker.proofs.PlainLines.{is_printed, plain-text, plain-utf8}
 use Rattle.knit_ports.specs.declared.limit.TheConstants.{INPUT_LIMIT}
 use Rattle.line_cutter.specs.Cut.{IsGoodLine}
@@ -15,11 +18,11 @@ use Rattle.machine_profile.specs.declared.Chosen.{Chosen}
 use Rattle.machine_profile.specs.declared.Options.{Options}
 use Rattle.machine_profile.specs.Bounds.{IsChosen}
 use Rattle.command_words.specs.declared.command.Command.{Command}
-use Rattle.command_words.specs.declared.command.Command.TheVariants.{Check, Text, Passes, Live, Save, Groups, Replay, Make}
+use Rattle.command_words.specs.declared.command.Command.TheVariants.{Check, Text, Passes, Live, Save, Groups, Replay, Tally, Make}
 use Rattle.command_words.specs.Request.{request_of}
 use Rattle.journal_file.proofs.PlainLines.{has_none, no_feed}
 use Rattle.journal_file.specs.SavedParts.{IsFirstText, IsShortLine, IsWritten}
-use Rattle.journal_file.specs.Spelling.{spelling}
+use Rattle.journal_file.specs.Spelling.{block_lines, blocks_lines, counted, entries_lines, head_lines, needle_limits, other_limits, profile_line, profile_text, spelling, text_lines}
 use Rattle.script_reader.specs.declared.command.Command.TheVariants.{Verdict}
 use Rattle.script_reader.specs.declared.command.Script.{Script}
 use Rattle.script_reader.specs.declared.step.GroupScript.{GroupScript}
@@ -201,9 +204,71 @@ saved_text = record {
   };
 }
 
--- it is followed to its end, where it isn't too large
-free_replay : (text : List ℕ) → length saved_file ≤ INPUT_LIMIT → IsUnhindered (codes "replay" ∷ []) Replay usual saved_file (giving saved_file) (taking text)
-free_replay text few = record { asked = asks _ _ refl; within = saved_text; given = λ reads. gives saved_file few; no_fault = λ rose. omega (arith, rose) }
+-- it has few bytes: none of its numbers has more than 20 digits
+both_few : (a b : List ℕ) (m n : ℕ) → length a ≤ m → length b ≤ n → length (a ++ b) ≤ m + n
+both_few a b m n first second = omega (arith, first, second, length-append a b)
+
+decimal_few : (n : ℕ) → n < 2 ^ 64 → length (decimal n) ≤ 20
+decimal_few n fits = length-decimal-le 20 n (omega arith) (omega (arith, fits)) fits
+
+labelled_few : (label : List ℕ) (n : ℕ) → length label ≤ 20 → n < 2 ^ 64 → length (labelled label n) ≤ 20 + 20
+labelled_few label n short fits = both_few label (decimal n) 20 20 short (decimal_few n fits)
+
+counted_few : (label : List ℕ) (n : ℕ) → length label ≤ 20 → n < 2 ^ 64 → length (counted label n) ≤ 20 + 20 + 1
+counted_few label n short fits = both_few (labelled label n) (codes "\n") (20 + 20) 1 (labelled_few label n short fits) (omega arith)
+
+needles_few : length (needle_limits usual.profile) ≤ 21 + 21
+needles_few = both_few (codes "-" ++ decimal 1024) (codes " " ++ decimal 1023) 21 21 (both_few (codes "-") (decimal 1024) 1 20 (omega arith) (decimal_few 1024 (omega arith)))
+    (both_few (codes " ") (decimal 1023) 1 20 (omega arith) (decimal_few 1023 (omega arith)))
+
+others_few : length (other_limits usual.profile) ≤ 40 + (40 + 40)
+others_few = both_few (labelled (codes " ") 8) (labelled (codes " ") 16 ++ labelled (codes " ") 0) 40 (40 + 40) (labelled_few (codes " ") 8 (omega arith) (omega arith))
+    (both_few (labelled (codes " ") 16) (labelled (codes " ") 0) 40 40 (labelled_few (codes " ") 16 (omega arith) (omega arith)) (labelled_few (codes " ") 0 (omega arith) (omega arith)))
+
+abbrev saved_blocks : List BlockAt
+saved_blocks = record { block = 0; stamp = 0; text = saved_body } ∷ []
+
+profile_few : length (profile_line usual.profile) ≤ 8 + (42 + 120) + 1
+profile_few = both_few (profile_text usual.profile) (codes "\n") (8 + (42 + 120)) 1
+    (both_few (codes "profile ") (needle_limits usual.profile ++ other_limits usual.profile) 8 (42 + 120) (omega arith) (both_few (needle_limits usual.profile) (other_limits usual.profile) 42 120 needles_few others_few))
+    (omega arith)
+
+head_few : length (head_lines saved_head) ≤ 41 + 100
+head_few = both_few (counted (codes "head ") 2) (text_lines saved_head) 41 100 (counted_few (codes "head ") 2 (omega arith) (omega arith)) (omega arith)
+
+blocks_few : length (blocks_lines saved_blocks) ≤ 41 + (41 + 100)
+blocks_few = both_few (counted (codes "blocks ") 1) (flat_map block_lines saved_blocks) 41 (41 + 100) (counted_few (codes "blocks ") 1 (omega arith) (omega arith))
+    (omega (arith, both_few (counted (codes "block ") 1) (text_lines saved_body) 41 50 (counted_few (codes "block ") 1 (omega arith) (omega arith)) (omega arith), length-append (block_lines (record { block = 0; stamp = 0; text = saved_body })) []))
+
+entries_few : length (entries_lines []) ≤ 41 + 0
+entries_few = both_few (counted (codes "entries ") 0) [] 41 0 (counted_few (codes "entries ") 0 (omega arith) (omega arith)) (omega arith)
+
+saved_few : length saved_file ≤ INPUT_LIMIT
+saved_few =
+    let p : List ℕ = profile_line usual.profile in
+    let h : List ℕ = head_lines saved_head in
+    let b : List ℕ = blocks_lines saved_blocks in
+    let e : List ℕ = entries_lines [] in
+    omega (
+      arith,
+      both_few (codes "journal 1\n") (p ++ (h ++ (b ++ e))) 10 1000 (omega arith)
+          (omega (arith, profile_few, head_few, blocks_few, entries_few, length-append p (h ++ (b ++ e)), length-append h (b ++ e), length-append b e)),
+    )
+
+free_replay : (text : List ℕ) → IsUnhindered (codes "replay" ∷ []) Replay usual saved_file (giving saved_file) (taking text)
+free_replay text = record { asked = asks _ _ refl; within = saved_text; given = λ reads. gives saved_file saved_few; no_fault = λ rose. omega (arith, rose) }
+
+-- what its one block comes to is told
+free_tally : (text : List ℕ) → IsUnhindered (codes "tally" ∷ codes "0" ∷ codes "1" ∷ []) (Tally 0 1) usual saved_file (giving saved_file) (taking text)
+unfolding saved_text
+free_tally text =
+    let some : 1 ≤ 1 = omega arith in
+    record {
+      asked = asks _ _ refl;
+      within = record { text = saved_text; has = record { ordered = omega arith; there = some } };
+      given = λ reads. gives saved_file saved_few;
+      no_fault = λ rose. omega (arith, rose);
+    }
 
 -- one row is made, and nothing is read
 free_make : (text : List ℕ) (source : SourceUse) → IsUnhindered (codes "make" ∷ codes "1" ∷ codes "0" ∷ []) (Make 1 0) usual [] source (taking text)

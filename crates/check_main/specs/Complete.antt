@@ -12,7 +12,7 @@ use Rattle.carriage_model.specs.declared.verdict.Verdict.{Verdict}
 use Rattle.carriage_model.specs.declared.verdict.LoopFact.{LoopFact}
 use Rattle.machine_profile.specs.declared.Chosen.{Chosen}
 use Rattle.command_words.specs.declared.command.Command.{Command}
-use Rattle.command_words.specs.declared.command.Command.TheVariants.{Check, Text, Passes, Live, Save, Groups, Replay, Make}
+use Rattle.command_words.specs.declared.command.Command.TheVariants.{Check, Text, Passes, Live, Save, Groups, Replay, Tally, Make}
 use Rattle.script_reader.specs.declared.command.Script.{Script}
 use Rattle.script_reader.specs.declared.step.GroupScript.{GroupScript}
 use Rattle.input_answers.specs.declared.outcome.Status.{Status}
@@ -23,6 +23,8 @@ use Rattle.input_answers.specs.Due.{Fits, HasHead}
 use Rattle.input_answers.specs.DueGroups.{HasGroupScript}
 use Rattle.input_answers.specs.DueLive.{HasScript}
 use Rattle.input_answers.specs.DueReplay.{IsSaved}
+use Rattle.input_answers.specs.DueTally.{saved_doc}
+use Rattle.tally_tree.specs.Docs.{HasBlocks}
 use Rattle.check_main.specs.Top.{SinkUse, SourceUse}
 
 -- the input is a file: its lines are good, and it has a head
@@ -57,6 +59,11 @@ pub record IsSavedText (input : List ℕ) : Type 0 where
   pub entries : List Entry
   pub saved : IsSaved input head profile blocks entries
 
+-- the input is a saved text whose last version has blocks from one place to another
+pub record IsSavedTextWith (from to : ℕ) (input : List ℕ) : Type 0 where
+  pub text : IsSavedText input
+  pub has : HasBlocks (saved_doc text.head text.profile text.blocks text.entries) from to
+
 -- what the command works on is within the grammars and limits: the input, or the program that is made
 abbrev pub IsWithinLimits : Command → Chosen → List ℕ → Type 0
 IsWithinLimits (Check loops json) chosen input = IsFileThatFits chosen.block input
@@ -66,6 +73,7 @@ IsWithinLimits Live chosen input = IsScriptThatFits chosen.block input
 IsWithinLimits Save chosen input = IsScriptThatFits chosen.block input
 IsWithinLimits Groups chosen input = IsGroupScriptThatFits chosen.block input
 IsWithinLimits Replay chosen input = IsSavedText input
+IsWithinLimits (Tally from to) chosen input = IsSavedTextWith from to input
 IsWithinLimits (Make rows start) chosen input = Fits chosen.block (length (body_of (made_lines rows start)))
 
 -- The source had this input left, and told it; the input has at most 16,777,216 bytes. No read failed: the count of faults didn't rise, and isn't
@@ -101,6 +109,7 @@ WasDone Live chosen input result = result ≡ Done
 WasDone Save chosen input result = result ≡ Done
 WasDone Groups chosen input result = result ≡ Done
 WasDone Replay chosen input result = result ≡ Done
+WasDone (Tally from to) chosen input result = result ≡ Done
 WasDone (Make rows start) chosen input result = result ≡ Done
 
 -- the run ended well: what was asked for was done, or memory ran out, which may always be

@@ -7,7 +7,7 @@ use Rattle.knit_ports.specs.Faults.{Rose}
 use Rattle.knit_ports.specs.Whole.{GaveAtMost, TookFront}
 use Rattle.machine_profile.specs.declared.Chosen.{Chosen}
 use Rattle.command_words.specs.declared.command.Command.{Command}
-use Rattle.command_words.specs.declared.command.Command.TheVariants.{Groups, Make, Replay}
+use Rattle.command_words.specs.declared.command.Command.TheVariants.{Groups, Make, Replay, Tally}
 use Rattle.verdict_report.specs.declared.refusal.Refusal.TheVariants as refusal
 use Rattle.verdict_report.specs.Refusals.{refusal_text}
 use Rattle.input_answers.specs.declared.outcome.Status.{Status}
@@ -18,6 +18,7 @@ use Rattle.input_answers.specs.DueGroups.{DueGroups}
 use Rattle.input_answers.specs.DueLive.{DueLive}
 use Rattle.input_answers.specs.DueMade.{DueMade}
 use Rattle.input_answers.specs.DueReplay.{DueReplay}
+use Rattle.input_answers.specs.DueTally.{DueTally}
 use Rattle.input_answers.specs.LiveText.{output_of}
 use Rattle.input_answers.specs.Played.{Played, nothing_played}
 
@@ -71,6 +72,10 @@ pub data Called (words : List (List ℕ)) (source : SourceUse) : Played → List
   replay : (chosen : Chosen) (input text : List ℕ) (status : Status) → Ask words Replay chosen
       → Consumes source.left_before source.left_after input → IsAtEnd source.left_after → length input ≤ INPUT_LIMIT
       → DueReplay input text status → Called words source nothing_played text status
+  -- a saved text was read to its end, of which a tally is asked
+  tally : (from to : ℕ) (chosen : Chosen) (input text : List ℕ) (status : Status) → Ask words (Tally from to) chosen
+      → Consumes source.left_before source.left_after input → IsAtEnd source.left_after → length input ≤ INPUT_LIMIT
+      → DueTally from to input text status → Called words source nothing_played text status
   -- the source was read to one byte past the limit
   large : (command : Command) (chosen : Chosen) (input : List ℕ) → Ask words command chosen → reads_input command ≡ true
       → Consumes source.left_before source.left_after input → length input ≡ INPUT_LIMIT + 1

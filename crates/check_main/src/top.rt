@@ -12,7 +12,7 @@ ghost use Rattle.check_main.specs.Top.{Ran, SourceUse, sink_use, source_use};
 use command_words::Command;
 use input_answers::{
     Answer, Outcome, Plan, PlanFault, Status, answer, answer_groups, answer_live, answer_made,
-    answer_replay, plan_of,
+    answer_replay, answer_tally, plan_of,
 };
 use knit_base::NoMemory;
 use knit_ports::{Gate, INPUT_LIMIT, InputFault, Sink, Source, read_input, write_report};
@@ -30,14 +30,16 @@ use verdict_report::Refusal;
 ///
 /// `live`, `save` and `groups` carry out the sessions of a script, each in a thread of its own, and may wait for other threads and for
 /// the gate; nothing is claimed of how long. What the sessions did is in the outcome, and the report tells it; the text of `save` keeps
-/// what the document began with, and the journal. `replay` reads such a text, and tells the version at its end and its verdict.
+/// what the document began with, and the journal. `replay` reads such a text, and tells the version at its end and its verdict; `tally`
+/// what blocks of that version come to.
 ///
 /// The statuses are decided in this order:
 /// - `Usage`: exactly where the words are outside the grammar or an option is out of its bounds.
 /// - `ReadFault`: only where a read failed before the input was whole.
 /// - `TooLarge`: exactly where the source gave a byte past the limit.
 /// - `BadInput`: exactly where a line isn't UTF-8 or has more than 4,096 bytes, or else, for a script, where the lines spell none, or
-///   else where the head is refused; for `replay` exactly where the bytes are no saved text, of which the first bad line is named.
+///   else where the head is refused; for `replay` and `tally` exactly where the bytes are no saved text, of which the first bad line is
+///   named, or else where `tally` is asked for blocks that aren't there.
 /// - `TooLarge`: exactly where the body that `check`, `passes`, `make` or a script begins with has more than 1,048,576 lines, or more
 ///   than 65,536 blocks.
 /// - `Broken`: for `check` and `passes`, exactly where a line of the body breaks a rule.
@@ -101,10 +103,11 @@ fn carry_out<R: Threads + Wait + Sync, S: Source, G: Gate + Sync>(
         Command::Check { .. } | Command::Text | Command::Passes => {
             answer_source(rt, alloc, plan, source, gate)
         }
-        Command::Live | Command::Save | Command::Groups | Command::Replay => {
-            keep_large_pieces(alloc);
-            answer_source(rt, alloc, plan, source, gate)
-        }
+        Command::Live | Command::Save | Command::Groups | Command::Replay | Command::Tally { .. } =>
+            {
+                keep_large_pieces(alloc);
+                answer_source(rt, alloc, plan, source, gate)
+            }
         Command::Make { rows, start } => {
             let ending = answer_made(rt, alloc, plan, rows, start)?;
             Ok(Answer::without_sessions(alloc, ending))
@@ -163,6 +166,10 @@ fn answer_input<R: Threads + Wait + Sync, G: Gate + Sync>(
         Command::Groups => answer_groups(rt, alloc, plan, input, gate),
         Command::Replay => {
             let ending = answer_replay(rt, alloc, input)?;
+            Ok(Answer::without_sessions(alloc, ending))
+        }
+        Command::Tally { from, to } => {
+            let ending = answer_tally(rt, alloc, from, to, input)?;
             Ok(Answer::without_sessions(alloc, ending))
         }
         Command::Check { .. } | Command::Text | Command::Passes => {

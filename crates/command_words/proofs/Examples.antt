@@ -3,7 +3,7 @@ use Rattle.std.proofs.Common.{◌≡◌, refl, [], ◌∷◌, Option, Some, None
 use Rattle.std.specs.Prelude.{negsuc}
 use Rattle.machine_profile.specs.declared.Options.{Options}
 use Rattle.command_words.specs.declared.command.Command.{Command}
-use Rattle.command_words.specs.declared.command.Command.TheVariants.{Check, Live, Save, Groups, Replay, Make}
+use Rattle.command_words.specs.declared.command.Command.TheVariants.{Check, Live, Save, Groups, Replay, Tally, Make}
 use Rattle.command_words.specs.declared.command.Request.{Request}
 use Rattle.command_words.specs.Grammar.{Flag, Json, Low, Place, Setting, items_of}
 use Rattle.command_words.specs.Request.{request_of}
@@ -92,6 +92,18 @@ replay_alone = refl
 
 replay_hold : request_of (codes "replay" ∷ codes "--hold=3" ∷ []) ≡ None
 replay_hold = refl
+
+tally_places : request_of (codes "tally" ∷ codes "00" ∷ codes "4294967295" ∷ []) ≡ asks (Tally 0 4294967295) usual
+tally_places = refl
+
+tally_one : request_of (codes "tally" ∷ codes "0" ∷ []) ≡ None
+tally_one = refl
+
+tally_far : request_of (codes "tally" ∷ codes "0" ∷ codes "4294967296" ∷ []) ≡ None
+tally_far = refl
+
+tally_block : request_of (codes "tally" ∷ codes "0" ∷ codes "1" ∷ codes "--block=2" ∷ []) ≡ None
+tally_block = refl
 
 groups_block : request_of (codes "groups" ∷ codes "--block" ∷ codes "1" ∷ []) ≡ asks Groups (record usual { block = Some (pos 1) })
 groups_block = refl

@@ -5,7 +5,7 @@ use Rattle.std.specs.List.{list_all, list_any}
 use Rattle.std.specs.Str.{bytes_eq}
 use Rattle.machine_profile.specs.declared.Options.{Options}
 use Rattle.command_words.specs.declared.command.Command.{Command}
-use Rattle.command_words.specs.declared.command.Command.TheVariants.{Check, Text, Passes, Live, Save, Groups, Replay, Make}
+use Rattle.command_words.specs.declared.command.Command.TheVariants.{Check, Text, Passes, Live, Save, Groups, Replay, Tally, Make}
 use Rattle.command_words.specs.declared.command.Request.{Request}
 use Rattle.command_words.specs.Grammar.{Item, Name, Low, High, Rack, Hold, Block, Float, Loops, Json, all_names}
 use Rattle.command_words.specs.Grammar.{are_distinct, begins_with_hyphen, items_of, names_in, places_in, value_in}
@@ -71,6 +71,7 @@ is_allowed Live name = is_limit name || is_block name
 is_allowed Save name = is_limit name || is_block name
 is_allowed Groups name = is_limit name || is_block name
 is_allowed Replay name = false
+is_allowed (Tally from to) name = false
 is_allowed (Make rows start) name = is_block name
 
 -- each option and flag that stands goes with the command
@@ -88,12 +89,19 @@ command_of_word loops json word =
     if bytes_eq word (codes "groups") then Some Groups else
     if bytes_eq word (codes "replay") then Some Replay else None
 
--- the command of three words, `make` with 1 to 20,000 rows and a start from 0 to 2,147,483,647
-abbrev pub make_of_words : List ℕ → List ℕ → List ℕ → Option Command
-make_of_words word rows start =
-    if bytes_eq word (codes "make")
-    then option_and_then (λ r. option_map (λ s. Make r s) (count_of 0 2147483647 start)) (count_of 1 20000 rows)
-    else None
+-- `make` with 1 to 20,000 rows and a start from 0 to 2,147,483,647
+abbrev pub make_of : List ℕ → List ℕ → Option Command
+make_of rows start = option_and_then (λ r. option_map (λ s. Make r s) (count_of 0 2147483647 start)) (count_of 1 20000 rows)
+
+-- `tally` with two places, each of which is at most 4,294,967,295
+abbrev pub tally_of : List ℕ → List ℕ → Option Command
+tally_of from to = option_and_then (λ f. option_map (λ t. Tally f t) (count_of 0 4294967295 to)) (count_of 0 4294967295 from)
+
+-- the command of three words, the first of which is followed by two numbers
+abbrev pub command_of_numbers : List ℕ → List ℕ → List ℕ → Option Command
+command_of_numbers word first second =
+    if bytes_eq word (codes "make") then make_of first second else
+    if bytes_eq word (codes "tally") then tally_of first second else None
 
 -- 1 to 20,000 rows, and a start from 0 to 2,147,483,647
 pub record IsMake (rows first : ℕ) : Type 0 where
@@ -111,14 +119,15 @@ IsLawfulCommand Live = ⊤
 IsLawfulCommand Save = ⊤
 IsLawfulCommand Groups = ⊤
 IsLawfulCommand Replay = ⊤
+IsLawfulCommand (Tally from to) = ⊤
 
 -- the command that the positional words name
 abbrev pub command_of_words : Bool → Bool → List (List ℕ) → Option Command
 command_of_words loops json [] = None
 command_of_words loops json (word ∷ []) = command_of_word loops json word
-command_of_words loops json (word ∷ rows ∷ []) = None
-command_of_words loops json (word ∷ rows ∷ start ∷ []) = make_of_words word rows start
-command_of_words loops json (word ∷ rows ∷ start ∷ next ∷ more) = None
+command_of_words loops json (word ∷ first ∷ []) = None
+command_of_words loops json (word ∷ first ∷ second ∷ []) = command_of_numbers word first second
+command_of_words loops json (word ∷ first ∷ second ∷ third ∷ more) = None
 
 -- the command that the parts name
 abbrev pub command_of : Parts → Option Command

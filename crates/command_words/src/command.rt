@@ -18,6 +18,9 @@ pub enum Command {
     Groups,
     /// Follows a journal that was kept, and writes the verdict at its end.
     Replay,
+    /// Follows a journal that was kept, and writes what its last blocks come to, from one place to another, the places from 0 and the
+    /// other not counted.
+    Tally { from: u32, to: u32 },
     /// Makes a program of 1 to 20,000 rows, from the start that its transfers are drawn from (0 to 2,147,483,647).
     Make { rows: u32, start: u32 },
 }

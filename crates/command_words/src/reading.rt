@@ -2,7 +2,7 @@
 ghost use Rattle.std.specs.Prelude.{◌≡◌, IfOk, IfSome, IsErrOf, None, Some, map, option_and_then, string_bytes};
 ghost use Rattle.command_words.specs.Given.{has_limits, now_of, parts_given};
 ghost use Rattle.command_words.specs.Numbers.{number_of};
-ghost use Rattle.command_words.specs.Request.{IsLawfulCommand, command_of, command_of_word, goes_with, make_of_words, options_of, request_from_parts, request_of};
+ghost use Rattle.command_words.specs.Request.{IsLawfulCommand, command_of, command_of_numbers, command_of_word, goes_with, make_of, options_of, request_from_parts, request_of, tally_of};
 
 use crate::given::{Given, read_words};
 use crate::numbers::{count, number};
@@ -17,6 +17,10 @@ const MAX_ROWS: u32 = 20_000;
 const MIN_START: u32 = 0;
 
 const MAX_START: u32 = 2_147_483_647;
+
+const FIRST_PLACE: u32 = 0;
+
+const LAST_PLACE: u32 = 4_294_967_295;
 
 /// The command of one word.
 fn plain_command(word: &str, loops: bool, json: bool) -> Option<Command>
@@ -43,16 +47,35 @@ fn plain_command(word: &str, loops: bool, json: bool) -> Option<Command>
 }
 
 /// The command of three words.
-fn make_command(word: &str, rows: &str, start: &str) -> Option<Command>
-    ensures value { result ≡ make_of_words word.now rows.now start.now }
+fn numbered_command(word: &str, first: &str, second: &str) -> Option<Command>
+    ensures value { result ≡ command_of_numbers word.now first.now second.now }
     ensures lawful { IfSome result IsLawfulCommand }
 {
-    if word != "make" {
-        return None;
+    if word == "make" {
+        return make_command(first, second);
     }
+    if word == "tally" {
+        return tally_command(first, second);
+    }
+    None
+}
+
+fn make_command(rows: &str, start: &str) -> Option<Command>
+    ensures value { result ≡ make_of rows.now start.now }
+    ensures lawful { IfSome result IsLawfulCommand }
+{
     let rows = count(rows, MIN_ROWS, MAX_ROWS)?;
     let start = count(start, MIN_START, MAX_START)?;
     Some(Command::Make { rows, start })
+}
+
+fn tally_command(from: &str, to: &str) -> Option<Command>
+    ensures value { result ≡ tally_of from.now to.now }
+    ensures lawful { IfSome result IsLawfulCommand }
+{
+    let from = count(from, FIRST_PLACE, LAST_PLACE)?;
+    let to = count(to, FIRST_PLACE, LAST_PLACE)?;
+    Some(Command::Tally { from, to })
 }
 
 /// The command that the positional words name.
@@ -63,7 +86,7 @@ fn command_in(given: &Given<'_>) -> Option<Command>
     let word = given.first?;
     match (given.second, given.third) {
         (None, None) => plain_command(word, given.loops, given.json),
-        (Some(rows), Some(start)) => make_command(word, rows, start),
+        (Some(first), Some(second)) => numbered_command(word, first, second),
         _ => None,
     }
 }
@@ -112,7 +135,9 @@ fn is_allowed(command: Command, given: &Given<'_>) -> bool
         Command::Check { .. } => true,
         Command::Text => given.block.is_none() && !has_flag,
         Command::Passes | Command::Live | Command::Save | Command::Groups => !has_flag,
-        Command::Replay => !has_limit(given) && given.block.is_none() && !has_flag,
+        Command::Replay | Command::Tally { .. } => {
+            !has_limit(given) && given.block.is_none() && !has_flag
+        }
         Command::Make { .. } => !has_limit(given) && !has_flag,
     }
 }

@@ -5,7 +5,7 @@ use Rattle.machine_profile.specs.declared.Chosen.{Chosen}
 use Rattle.machine_profile.specs.declared.Which.{Which}
 use Rattle.machine_profile.specs.Bounds.{refused, IsBlockSize, IsChosen}
 use Rattle.command_words.specs.declared.command.Command.{Command}
-use Rattle.command_words.specs.declared.command.Command.TheVariants.{Check, Text, Passes, Live, Save, Groups, Replay, Make}
+use Rattle.command_words.specs.declared.command.Command.TheVariants.{Check, Text, Passes, Live, Save, Groups, Replay, Tally, Make}
 use Rattle.command_words.specs.declared.command.Request.{Request}
 use Rattle.command_words.specs.Request.{request_of}
 
@@ -26,6 +26,7 @@ reads_file Live = false
 reads_file Save = false
 reads_file Groups = false
 reads_file Replay = false
+reads_file (Tally from to) = false
 reads_file (Make rows start) = false
 
 -- the commands that read a script, whose sessions edit a document
@@ -37,6 +38,7 @@ reads_script Live = true
 reads_script Save = true
 reads_script Groups = false
 reads_script Replay = false
+reads_script (Tally from to) = false
 reads_script (Make rows start) = false
 
 -- the commands that read an input: a file, a script or a saved text
@@ -48,6 +50,7 @@ reads_input Live = true
 reads_input Save = true
 reads_input Groups = true
 reads_input Replay = true
+reads_input (Tally from to) = true
 reads_input (Make rows start) = false
 
 -- the words are outside the grammar, or one of their options is outside its bounds

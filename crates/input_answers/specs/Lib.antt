@@ -8,6 +8,7 @@ pub mod DueGroups
 pub mod DueLive
 pub mod DueMade
 pub mod DueReplay
+pub mod DueTally
 pub mod GroupsText
 pub mod ListingRun
 pub mod LiveText
@@ -15,3 +16,4 @@ pub mod Openings
 pub mod PassesReport
 pub mod Played
 pub mod SavedLaws
+pub mod TallyText

@@ -67,8 +67,12 @@ fn answer_in_one_pass(alloc: Global, plan: &Plan, input: &[u8]) -> Result<Option
             }
             passes_in_one_pass(alloc, plan, input)
         }
-        Command::Live | Command::Save | Command::Groups | Command::Replay | Command::Make { .. } =>
-            { Ok(None) },
+        Command::Live
+        | Command::Save
+        | Command::Groups
+        | Command::Replay
+        | Command::Tally { .. }
+        | Command::Make { .. } => Ok(None),
     }
 }
 
@@ -123,8 +127,12 @@ fn answer_body<R: Threads + Sync>(
         Command::Check { loops, json } => check(rt, alloc, Style { loops, json }, plan, body),
         Command::Text => normalise(alloc, plan, body),
         Command::Passes => passes(rt, alloc, plan, body),
-        Command::Live | Command::Save | Command::Groups | Command::Replay | Command::Make { .. } =>
-            { unreachable!() },
+        Command::Live
+        | Command::Save
+        | Command::Groups
+        | Command::Replay
+        | Command::Tally { .. }
+        | Command::Make { .. } => unreachable!(),
     }
 }
 

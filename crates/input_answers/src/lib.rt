@@ -2,7 +2,8 @@
 //!
 //! Promises that the text and the status of an answer are those that are due: for a file whose verdict, canonical text or passes are
 //! asked for (`specs/Due`), for a made program (`specs/DueMade`), for a script, whose sessions edit one document, each in a thread of
-//! its own (`specs/DueLive`, and `specs/DueGroups` where it has groups of edits and undos), and for a saved text (`specs/DueReplay`).
+//! its own (`specs/DueLive`, and `specs/DueGroups` where it has groups of edits and undos), and for a saved text, of which the verdict at its end is asked for
+//! (`specs/DueReplay`), or what some of its blocks come to (`specs/DueTally`).
 //! What is saved can be replayed, to the verdict at its end (`specs/SavedLaws`). What the words ask for is in `specs/Asked`. No source
 //! is touched here, and no sink. Below it stand all crates of the project but `check_main`.
 #![tactic(auto)]
@@ -30,6 +31,8 @@ mod replay;
 mod taken_run;
 mod taker;
 mod tallied_run;
+mod tally;
+mod tally_report;
 mod text_pass;
 mod usual;
 
@@ -44,4 +47,5 @@ pub use one_pass::check_in_one_pass;
 pub use outcome::{GroupOutcome, Outcome, Status};
 pub use plan::{Plan, PlanFault, plan_of, reads_file};
 pub use replay::answer_replay;
+pub use tally::answer_tally;
 pub use text_pass::text_in_one_pass;

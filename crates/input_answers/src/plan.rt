@@ -59,7 +59,11 @@ pub fn reads_file(command: Command) -> bool
 {
     match command {
         Command::Check { .. } | Command::Text | Command::Passes => true,
-        Command::Live | Command::Save | Command::Groups | Command::Replay | Command::Make { .. } =>
-            { false },
+        Command::Live
+        | Command::Save
+        | Command::Groups
+        | Command::Replay
+        | Command::Tally { .. }
+        | Command::Make { .. } => false,
     }
 }

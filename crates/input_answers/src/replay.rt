@@ -42,8 +42,8 @@ pub fn answer_replay<R: Threads + Wait + Sync>(
     }
 }
 
-// The saved text that the bytes are, which are then let go.
-fn saved_in(alloc: Global, input: Vec<u8>) -> Result<Saved, JournalFault>
+/// The saved text that the bytes are, which are then let go.
+pub(crate) fn saved_in(alloc: Global, input: Vec<u8>) -> Result<Saved, JournalFault>
     requires { length input.items ≤ 16777216 }
     ensures spelt { IfOk result (λ saved. input.items ≡ spelling saved.head saved.profile saved.blocks saved.journal.entries) }
     ensures lawful { IfOk result (λ saved. IsLawfulSaved saved.head saved.profile saved.blocks saved.journal.entries) }
@@ -53,8 +53,8 @@ fn saved_in(alloc: Global, input: Vec<u8>) -> Result<Saved, JournalFault>
     read_journal(alloc, &input)
 }
 
-// What is said of a bad line.
-fn refusal_of_journal(line: u32, cause: JournalCause) -> Refusal
+/// What is said of a bad line.
+pub(crate) fn refusal_of_journal(line: u32, cause: JournalCause) -> Refusal
     ensures { result ≡ journal_refusal line cause }
 {
     match cause {

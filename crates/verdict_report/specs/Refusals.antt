@@ -3,7 +3,7 @@ use Rattle.std.specs.Prelude.{ℕ, List, ◌++◌, codes, decimal}
 use Rattle.script_reader.specs.declared.fault.Cause.{Cause}
 use Rattle.script_reader.specs.declared.fault.Cause.TheVariants.{NoLive, BadLine, ManySessions, NoOwn, NoGroups}
 use Rattle.verdict_report.specs.declared.refusal.Refusal.{Refusal}
-use Rattle.verdict_report.specs.declared.refusal.Refusal.TheVariants.{Usage, ReadFault, TooManyBytes, TooManyLines, TooManyBlocks, NotUtf8, LineLong, BadMagic, NoCarriers, TwoCarriers, CarrierNameTwice, ManyCarriers, BadScript, BadJournal, NoFit}
+use Rattle.verdict_report.specs.declared.refusal.Refusal.TheVariants.{Usage, ReadFault, TooManyBytes, TooManyLines, TooManyBlocks, NotUtf8, LineLong, BadMagic, NoCarriers, TwoCarriers, CarrierNameTwice, ManyCarriers, BadScript, BadJournal, NoFit, BadRange}
 
 -- a line of the file that can't be read
 abbrev pub bad_line : ℕ → List ℕ → List ℕ
@@ -46,3 +46,4 @@ refusal_text (ManyCarriers line) = bad_head_line line (codes " ManyCarriers\n")
 refusal_text (BadScript line cause) = bad_script_line line (cause_word cause)
 refusal_text (BadJournal line) = bad_journal_line line (codes " BadLine\n")
 refusal_text (NoFit line) = bad_journal_line line (codes " NoFit\n")
+refusal_text BadRange = codes "bad input: range\n"

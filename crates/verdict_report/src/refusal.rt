@@ -39,6 +39,8 @@ pub enum Refusal {
     BadJournal(u32),
     /// The first line of a saved text whose entry doesn't fit the document before it, or passes a limit.
     NoFit(u32),
+    /// The places that a tally is asked for aren't those of blocks, or stand in the wrong order.
+    BadRange,
 }
 
 // Appends a label, the number of a line, and what is wrong with it.
@@ -122,6 +124,7 @@ fn append_refusal(refusal: Refusal, out: &mut Vec<u8>) -> Result<(), NoMemory>
         Refusal::BadScript(line, cause) => append_bad_script_line(line, cause_word(cause), out),
         Refusal::BadJournal(line) => append_bad_journal_line(line, " BadLine\n", out),
         Refusal::NoFit(line) => append_bad_journal_line(line, " NoFit\n", out),
+        Refusal::BadRange => append("bad input: range\n", out),
     }
 }
 

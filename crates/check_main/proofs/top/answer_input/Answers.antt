@@ -3,7 +3,7 @@ use Rattle.std.proofs.lemmas.Result.{IfOk-weaker}
 use Rattle.command_words.specs.declared.command.Command.{Command}
 use Rattle.input_answers.specs.Asked.{Ask, reads_file, reads_script}
 use Rattle.input_answers.specs.Played.{nothing_played, played_by}
-use Rattle.check_main.specs.Top.{groups, live, replay, whole}
+use Rattle.check_main.specs.Top.{groups, live, replay, tally, whole}
 use Rattle.check_main.proofs.Calls.{called-as}
 use Rattle.check_main.proofs.top.answer_input.Goals as goal
 
@@ -39,3 +39,11 @@ returns-in_ok-ending-in-Replay g c = λ words source ask bytes end.
     (replay c.args.plan.now.chosen c.args.input.items ending.text.items ending.status (subst (λ (x : Command). Ask words x c.args.plan.now.chosen) c.in-Replay.is ask)
     bytes end c.requires.size c.in_ok-ending-in-Replay.ensures)
     c.without_sessions.ensures.text c.without_sessions.ensures.status c.without_sessions.ensures.played
+
+pub returns-in_ok-ending-in-Tally : goal.returns-in_ok-ending-in-Tally
+returns-in_ok-ending-in-Tally g c = λ words source ask bytes end.
+    let ending = c.in_ok-ending-in-Tally.ending in
+    called-as words source c.without_sessions-in-Tally.result ending.text.items ending.status nothing_played
+    (tally c.in-Tally.from c.in-Tally.to c.args.plan.now.chosen c.args.input.items ending.text.items ending.status (subst (λ (x : Command). Ask words x c.args.plan.now.chosen) c.in-Tally.is ask)
+    bytes end c.requires.size c.in_ok-ending-in-Tally.ensures)
+    c.without_sessions-in-Tally.ensures.text c.without_sessions-in-Tally.ensures.status c.without_sessions-in-Tally.ensures.played
