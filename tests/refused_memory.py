@@ -97,6 +97,7 @@ RUNS = {
     "groups": (["groups", "--block", "4"], example("another-carrier.groups")),
     "save": (["save", "--block", "4"], TWO_PUTS),
     "replay": (["replay"], SAVED),
+    "tally": (["tally", "0", "1"], SAVED),
 }
 
 
