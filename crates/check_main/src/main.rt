@@ -6,6 +6,9 @@
 //! hinders ends well (`specs/Complete`). What is due is told by `input_answers`. Below it stand all crates of the project.
 #![tactic(auto)]
 
+ghost use Rattle.std.specs.Prelude.{◌≡◌};
+ghost use Rattle.input_answers.specs.Codes.{code_of};
+
 #[cfg(test)]
 mod by_blocks_tests;
 #[cfg(test)]
@@ -52,10 +55,16 @@ fn main(rt: HostRuntime) -> ExitCode {
         // Words that aren't text are outside the grammar, as no words are.
         Err(_) => top(&rt, rt.alloc(), &[], &mut source, &mut sink, &IdleGate),
     };
+    ExitCode::from(exit_code(outcome))
+}
+
+// The exit status of a run that ended so. The system takes back at once what a script, its journal and its replies take.
+fn exit_code(outcome: Outcome) -> u8
+    ensures { result ≡ code_of outcome.status }
+{
     let status = outcome.status;
-    // The system takes back at once what a script, its journal and its replies take.
     mem::forget(outcome);
-    ExitCode::from(status.code())
+    status.code()
 }
 
 // The words behind the program's name.
