@@ -64,7 +64,7 @@ class Document:
         return sum(len(block.lines) for block in self.blocks)
 
     def text(self) -> bytes:
-        """The file at the version, which `check` takes: a carriage return at the end of a line is one of two there, since `check` drops one."""
+        """The file at the version, which `check` takes: with one carriage return more where a line ends in one, since `check` drops one."""
         head = [carriers_line(self.names) if is_carriers(line) and self.names is not None else line for line in self.head]
         lines = [*head, *[line for block in self.blocks for line in block.lines]]
         return b"".join(line + (b"\r\n" if line.endswith(b"\r") else b"\n") for line in lines)

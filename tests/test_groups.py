@@ -1,5 +1,5 @@
-"""Tests of the command `groups`: every reply, every step and the journal of random scripts, judged by a document that is kept here, and by the
-verdicts of `check` on its text.
+"""Tests of the command `groups`: every reply, every step and the journal of random scripts, judged by a document that is kept here, and by
+the verdicts of `check` on its text.
 
 `python3 -m unittest discover tests` runs them, on the check_main that TEKHVUMO_PROGRAM names or that is found.
 """

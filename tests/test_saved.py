@@ -1,5 +1,5 @@
-"""Tests of the commands `save` and `replay`: each line of saved texts dropped, doubled and changed, judged by a reader that is kept here, and what was
-saved followed again.
+"""Tests of the commands `save` and `replay`: each line of saved texts dropped, doubled and changed, judged by a reader that is kept here,
+and what was saved followed again.
 
 `python3 -m unittest discover tests` runs them, on the check_main that TEKHVUMO_PROGRAM names or that is found.
 """
@@ -83,7 +83,8 @@ def numbers_changed(line: bytes) -> list[bytes]:
     """The line with each of its numbers one more, one less, and with an idle zero."""
     changed = []
     for found in re.finditer(rb"\d+", line):
-        for number in [b"%d" % (int(found[0]) + 1), b"%d" % max(0, int(found[0]) - 1), b"0" + found[0], b"4294967295", b"4294967296", b"65"]:
+        near = [b"%d" % (int(found[0]) + 1), b"%d" % max(0, int(found[0]) - 1), b"0" + found[0]]
+        for number in [*near, b"4294967295", b"4294967296", b"65"]:
             changed.append(line[: found.start()] + number + line[found.end() :])
     return changed
 

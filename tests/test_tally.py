@@ -13,15 +13,19 @@ from tallies import tally_of
 
 FIRST = SAVED.replace(b"entries 2", b"entries 1").split(b"session 0 put 0 seen 1")[0]
 HEAD = "journal 1\nprofile -1024 1023 8 16 0\nhead 2\n|;!knitout-2\n|;;Carriers: A B C\n"
-WORDS = """knit + {n} A|knit - {n} A B|knit + {n} C A|knit + {n}|tuck - {n} B|tuck + {n}|miss + {n} A|miss - {n}|split + {n} {m} A|split - {n} {m} B C
-split - {n} {m}|xfer {n} {m}|drop {n}|amiss {n}|in A|out A|inhook B|releasehook B|outhook B|rack 1|rack 0.25|stitch 20 3|pause|x-speed-number 100|; knit + f1 A
-|knit + {n} A A|knit + {n} D|knit + f1025 A|xfer {n}|split + {n} A|knit {n} A|drop {n} A|knit + {n} A ; again|tuck + {s} A|xfer {s} {s}|xfer {n} {n}"""
+WORDS = """knit + {n} A|knit - {n} A B|knit + {n} C A|knit + {n}|tuck - {n} B|tuck + {n}|miss + {n} A|miss - {n}
+split + {n} {m} A|split - {n} {m} B C
+split - {n} {m}|xfer {n} {m}|drop {n}|amiss {n}|in A|out A|inhook B|releasehook B|outhook B
+rack 1|rack 0.25|stitch 20 3|pause|x-speed-number 100|; knit + f1 A
+|knit + {n} A A|knit + {n} D|knit + f1025 A|xfer {n}|split + {n} A|knit {n} A
+drop {n} A|knit + {n} A ; again|tuck + {s} A|xfer {s} {s}|xfer {n} {n}"""
 FORMS = WORDS.replace("\n", "|").split("|")
 
 
 def some_line(rng: random.Random) -> str:
     near, far = rng.choice([("f", "b"), ("b", "f"), ("f", "bs"), ("fs", "b"), ("b", "fs"), ("bs", "f")])
-    return rng.choice(FORMS).format(n=f"{near}{rng.randint(-3, 9)}", m=f"{far}{rng.randint(-3, 9)}", s=f"{rng.choice(['fs', 'bs'])}{rng.randint(0, 4)}")
+    needle, facing = f"{near}{rng.randint(-3, 9)}", f"{far}{rng.randint(-3, 9)}"
+    return rng.choice(FORMS).format(n=needle, m=facing, s=f"{rng.choice(['fs', 'bs'])}{rng.randint(0, 4)}")
 
 
 def some_text(rng: random.Random, least: int = 0) -> list[str]:
@@ -88,7 +92,9 @@ class Rows(unittest.TestCase):
         self.assertEqual(answer_of("tally", "5", "1", given=given), (3, b"bad input: journal line 15 NoFit\n"))
 
     def test_words_that_are_refused(self) -> None:
-        for words in [[], ["0"], ["0", "1", "2"], ["0", "4294967296"], ["0", "00000000001"], ["0", "-1"], ["0", "x"], ["0", "1", "--block=2"], ["0", "1", "--low=1"], ["0", "1", "--json"]]:
+        places = [[], ["0"], ["0", "1", "2"], ["0", "4294967296"], ["0", "00000000001"], ["0", "-1"], ["0", "x"]]
+        options = [["0", "1", option] for option in ["--block=2", "--low=1", "--json"]]
+        for words in places + options:
             self.assertEqual(answer_of("tally", *words, given=FIRST).status, 2, words)
 
     def test_idle_zeros(self) -> None:
@@ -96,7 +102,8 @@ class Rows(unittest.TestCase):
 
     def test_classes_are_those_of_the_carriage(self) -> None:
         """Each kind of line once: `knit` without carriers drops, `split` without them moves, and `miss` with them forms no loop."""
-        lines = ["knit + f1 A", "tuck + f1", "miss + f3 A", "miss + f4", "split + f5 b5 A", "split + f6 b6", "xfer b7 f7", "drop f1", "amiss bs8", "knit + f9 Z"]
+        with_needles = ["knit + f1 A", "tuck + f1", "miss + f3 A", "miss + f4", "split + f5 b5 A", "split + f6 b6"]
+        lines = [*with_needles, "xfer b7 f7", "drop f1", "amiss bs8", "knit + f9 Z"]
         given = f"{HEAD}blocks 1\nblock {len(lines)}\n{barred(lines)}entries 0\n".encode()
         told = b"tally 0-1 lines 10 form 2 split 1 move 2 drop 3\nwith A: 2\nwith B: 0\nwith C: 0\nneedles f1 f3 f5 f6 f7 b5 b6 b7 bs8\n"
         self.assertEqual(answer_of("tally", "0", "1", given=given), (0, told))
@@ -108,7 +115,8 @@ class Ranges(unittest.TestCase):
         many = len(document.blocks)
         for start in range(many + 1):
             for end in range(start, many + 1):
-                self.assertEqual(tuple(answer_of("tally", str(start), str(end), given=given)), due(document, start, end), (start, end, given))
+                told = tuple(answer_of("tally", str(start), str(end), given=given))
+                self.assertEqual(told, due(document, start, end), (start, end, given))
 
     def test_each_range_after_each_entry(self) -> None:
         journal = Journal(random.Random(37), 20)
