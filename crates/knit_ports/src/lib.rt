@@ -1,8 +1,8 @@
 //! What the program reads from, writes to and waits at.
 //!
 //! Promises that a `Source` gives the bytes that are left to it and a `Sink` takes the bytes that it is handed, where they
-//! tell their bytes, and that a call fails only where the object's count of faults rose. `read_input` reads a whole input,
-//! and `write_report` writes a whole report over them.
+//! tell their bytes, that a call fails only where the object's count of faults rose, and that no other call changes it.
+//! `read_input` reads a whole input, and `write_report` writes a whole report over them.
 //! Definitions: `specs/Faults` (counts of faults), `specs/Whole` (a whole input and a whole report), `specs/Memory` (what
 //! the sources and sinks in memory hold) and `specs/Edge` (the adapters of std's readers and writers). Below it stand std
 //! and `knit_base`.

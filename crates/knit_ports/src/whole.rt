@@ -49,6 +49,7 @@ pub fn read_input<S: Source>(
     ensures bytes { IfOk result (λ bytes. Consumes (S.left source.old) (S.left source.new) bytes.items) }
     ensures within { IfOk result (λ bytes. length bytes.items ≤ limit + 1) }
     ensures whole { IfOk result (λ bytes. length bytes.items ≤ limit → IsAtEnd (S.left source.new)) }
+    ensures calm { OnOk result (S.faults source.new ≡ S.faults source.old) }
     ensures failed { IsErrOf result InputFault.Failed → Rose (S.faults source.old) (S.faults source.new) }
     ensures gave { IsErrOf result InputFault.Failed → GaveAtMost limit (S.left source.old) (S.left source.new) }
     ensures lost { IsErrOf result InputFault.NoMemory → GaveAtMost (limit + 1) (S.left source.old) (S.left source.new) }
@@ -70,10 +71,10 @@ fn read_on<S: Source>(
     ensures more { OnOk result (HasMore (S.left source.old) (S.left source.new) bytes.old.items bytes.new.items) }
     ensures within { OnOk result (length bytes.new.items ≤ limit + 1) }
     ensures whole { OnOk result (length bytes.new.items ≤ limit → IsAtEnd (S.left source.new)) }
+    ensures calm { OnOk result (S.faults source.new ≡ S.faults source.old) }
     ensures failed { IsErrOf result InputFault.Failed → Rose (S.faults source.old) (S.faults source.new) }
     ensures gave { IsErrOf result InputFault.Failed → GaveAtMost (limit - length bytes.old.items) (S.left source.old) (S.left source.new) }
     ensures lost { IsErrOf result InputFault.NoMemory → GaveAtMost (limit + 1 - length bytes.old.items) (S.left source.old) (S.left source.new) }
-    ensures later { S.faults source.old ≤ S.faults source.new }
 {
     let mut piece = zeros(alloc, PIECE)?;
     'reading: while bytes.len() <= limit {
@@ -111,10 +112,10 @@ fn read_piece<S: Source>(
     bytes: &mut Vec<u8>,
 ) -> Result<usize, InputFault>
     ensures ok { IfOk result (λ n. GavePiece (S.left source.old) (S.left source.new) bytes.old.items bytes.new.items (length piece.old) n) }
+    ensures calm { OnOk result (S.faults source.new ≡ S.faults source.old) }
     ensures failed { IsErrOf result InputFault.Failed → Rose (S.faults source.old) (S.faults source.new) }
     ensures kept { IsErrOf result InputFault.Failed → Keeps (S.left source.old) (S.left source.new) }
     ensures lost { IsErrOf result InputFault.NoMemory → GaveAtMost (length piece.old) (S.left source.old) (S.left source.new) }
-    ensures later { S.faults source.old ≤ S.faults source.new }
 {
     let given = source.read(piece)?;
     bytes.extend_from_slice(&piece[..given])?;
@@ -125,6 +126,7 @@ fn read_piece<S: Source>(
 /// the report.
 pub fn write_report<K: Sink>(sink: &mut K, report: &[u8]) -> Result<(), Failed>
     ensures ok { OnOk result (Appends (K.taken sink.old) (K.taken sink.new) report.now) }
+    ensures calm { OnOk result (K.faults sink.new ≡ K.faults sink.old) }
     ensures err { OnErr result (TookFront (K.taken sink.old) (K.taken sink.new) report.now) }
     ensures cause { OnErr result (Rose (K.faults sink.old) (K.faults sink.new)) }
 {
