@@ -1,5 +1,5 @@
 //! The journal of a document's edits.
-ghost use Rattle.std.specs.Prelude.{◌≡◌, ◌<◌, ◌≤◌, [], ◌∷◌, ◌++◌, true, length, OnOk, IfOk};
+ghost use Rattle.std.specs.Prelude.{◌≡◌, ◌<◌, ◌≤◌, [], ◌∷◌, ◌++◌, true, length, IsOk, OnOk, IfOk};
 ghost use Rattle.std.specs.Option.{option_copied};
 ghost use Rattle.edit_journal.specs.Entries.{entry_limit, entry_at};
 
@@ -35,11 +35,16 @@ impl Journal {
         }
     }
 
-    /// Makes room for one more entry. Fails where memory runs out, with the journal as before.
+    /// Makes room for one more entry, where it isn't there. Fails where memory runs out, with the journal as before.
     pub fn reserve_one(&mut self) -> Result<(), NoMemory>
         ensures ok { OnOk result (self.new.room ≡ true) }
         ensures entries { self.new.entries ≡ self.old.entries }
+        ensures ready { self.old.room ≡ true → IsOk result }
+        ensures keeps { self.old.room ≡ true → self.new.room ≡ true }
     {
+        if self.has_room() {
+            return Ok(());
+        }
         self.entries.reserve(1)?;
         Ok(())
     }

@@ -203,7 +203,11 @@ impl Shape {
     pub fn reserve_one(&mut self) -> Result<(), NoMemory>
         ensures ok { OnOk result (self.new.room ≡ true) }
         ensures same { IsSameShape self.old self.new }
+        ensures keeps { self.old.room ≡ true → self.new.room ≡ true }
     {
+        if self.has_room() {
+            return Ok(());
+        }
         self.leaves.reserve_one()?;
         self.inners.reserve_one()?;
         self.nodes.reserve(1)?;

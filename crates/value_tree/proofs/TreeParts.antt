@@ -1,5 +1,5 @@
 -- The parts of a tree, and those that lie whole before a position.
-use Rattle.std.proofs.Common.{◌≡◌, ℕ, zero, suc, ◌+◌, ◌-◌, ◌<◌, ◌≤◌, List, [], ◌∷◌, ◌++◌, length, take, drop, Option, Some, None, refl, sym, ◌∙◌, ap, subst, arith, inl, inr}
+use Rattle.std.proofs.Common.{◌≡◌, ℕ, zero, suc, ◌+◌, ◌-◌, ◌<◌, ◌≤◌, List, [], ◌∷◌, ◌++◌, length, take, drop, Option, Some, None, refl, sym, ◌∙◌, ap, subst, arith, length-append, inl, inr}
 use Rattle.std.specs.Option.{option_map}
 use Rattle.std.proofs.lemmas.List.{append_assoc, append-nil, take-append-le, take-append-drop}
 use Rattle.tree_shape.specs.declared.node.Child.{Child}
@@ -8,8 +8,10 @@ use Rattle.tree_shape.specs.Tree.{Tree, leaf, inner, name, leaves, count}
 use Rattle.tree_shape.specs.Changes.{IsPart, IsPartOf}
 use Rattle.tree_shape.specs.Composing.{StandLaws, Costs}
 use Rattle.tree_shape.specs.Values.{part, gathered, AreThere, Keeps, KeepsAll, leaf_values}
-use Rattle.tree_shape.specs.View.{count_of, leaves_of_tree, height_of_tree}
+use Rattle.tree_shape.specs.Fewest.{highest}
+use Rattle.tree_shape.specs.View.{IsBalancedTree, count_of, leaves_of_tree, height_of_tree}
 use Rattle.tree_shape.proofs.ArenaTrees.{length_leaves}
+use Rattle.tree_shape.proofs.HeightBounds.{highest_bounds}
 use Rattle.tree_shape.proofs.NodeValues.{value_of_child}
 use Rattle.tree_shape.proofs.PlanSteps.{standing, gathered-append, gathered_take, there_front, there_back}
 use Rattle.value_tree.specs.Parts.{AreParts, StandFor, IsPartingAt, IsParting}
@@ -72,6 +74,7 @@ module _ (tree : Option Tree) (before : List ℕ) (done high : ℕ) (parting : P
     parts_are = w.parts_are;
     whole = w.whole ∙ ap (λ v. w.numbers ++ v) (take-append-le parting.at (leaves l) (leaves r) (omega (arith, h, length_leaves l)));
     low = omega (arith, w.low);
+    few = omega (arith, w.few);
   }
 
   pub go_far : (near child : Child) (below : ℕ) → near ≡ name l → child ≡ name r → below ≡ count l → below ≤ parting.at → done < high → IsPartingAt tree before (done + 1) high (record { child = child; at = parting.at - below }) (parts ++ near ∷ []) r
@@ -87,6 +90,7 @@ module _ (tree : Option Tree) (before : List ℕ) (done high : ℕ) (parting : P
             ∙ (ap (λ v. w.numbers ++ v) (take_past (leaves l) (leaves r) parting.at (omega (arith, h, many)) ∙ ap (λ k. leaves l ++ take (parting.at - k) (leaves r)) many)
             ∙ sym (append_assoc w.numbers (leaves l) (take (parting.at - below) (leaves r))));
         low = omega (arith, w.low);
+        few = omega (arith, w.few, length-append parts (near ∷ []));
       }
 
 -- a walk that has come to its end
@@ -105,7 +109,7 @@ pub begins : (o : Option Tree) (root : Child) (at : ℕ) → Some root ≡ optio
 begins None root at e place = cc (e)
 begins (Some t) root at e place =
     let is : root ≡ name t = cc (e) in
-    (t, record { named = is; part = part_self t; inside = place; numbers = []; parts_are = refl; whole = refl; low = omega arith })
+    (t, record { named = is; part = part_self t; inside = place; numbers = []; parts_are = refl; whole = refl; low = omega arith; few = omega arith })
 
 -- the last of some children has a value that stands for the last leaves, and the others stand for those before
 pub last_stands : {V : Type 0} (stands : List V → V → Type 0) (value_of : Child → Option V) (children : List Child) (child : Child) (all : List V) → StandFor stands value_of (children ++ child ∷ []) all
@@ -160,3 +164,9 @@ module _ {V : Type 0} (join : V → V → V) (fits : V → V → Type 0) (cost :
       values : (o : Option Tree) → gathered leaf_at (leaves_of_tree o) ≡ leaf_values leaf_at o
       values None = refl
       values (Some t) = refl
+
+-- no more parts than the tree is high
+pub few_parts : (o : Option Tree) (before : List ℕ) (done : ℕ) (parting : Parting) (parts : List Child) → IsBalancedTree o → IsParting o before done (height_of_tree o) parting parts → done ≤ height_of_tree o
+    → length parts ≤ highest (count_of o)
+few_parts None before done parting parts b w h = omega (arith, w.1.few, h)
+few_parts (Some t) before done parting parts b w h = omega (arith, w.1.few, h, highest_bounds (count t) t b refl)

@@ -1,5 +1,5 @@
 -- Parts of a tree that lie whole before a position, and a walk down that gathers them.
-use Rattle.std.specs.Prelude.{◌≡◌, ℕ, ◌+◌, ◌<◌, ◌≤◌, take, List, [], ◌∷◌, ◌++◌, Option, Some}
+use Rattle.std.specs.Prelude.{◌≡◌, ℕ, ◌+◌, ◌<◌, ◌≤◌, take, List, [], ◌∷◌, ◌++◌, length, Option, Some}
 use Rattle.tree_shape.specs.declared.node.Child.{Child}
 use Rattle.tree_shape.specs.Tree.{Tree, name, leaves, height, count}
 use Rattle.tree_shape.specs.Changes.{IsPartOf}
@@ -25,6 +25,7 @@ pub record IsPartingAt (tree : Option Tree) (before : List ℕ) (done high : ℕ
   pub parts_are : AreParts tree parts numbers
   pub whole : before ≡ numbers ++ take parting.at (leaves t)
   pub low : height t + done ≤ high
+  pub few : length parts ≤ done
 
 abbrev pub IsParting : Option Tree → List ℕ → ℕ → ℕ → Parting → List Child → Type 0
 IsParting tree before done high parting parts = (t : Tree) × IsPartingAt tree before done high parting parts t

@@ -169,6 +169,8 @@ impl<S: Values> ValueTree<S> {
         ensures needs { KeepsNeeds S.room S.after (S.leaf_at self.old.store) (S.node_at self.old.store) self.old.shape (S.leaf_at self.new.store) (S.node_at self.new.store) self.new.shape }
         ensures met { OnOk result (S.meets self.new.store (S.rooms need.now)) }
         ensures ready { S.meets self.old.store (S.rooms need.now) → IsOk result }
+        ensures memory { (needed : List S.Room) → S.meets self.old.store needed → S.meets self.new.store needed }
+        ensures slots { S.slots self.old.store ≤ S.slots self.new.store }
     {
         if self.store.meets(need) {
             return Ok(());
@@ -186,6 +188,8 @@ impl<S: Values> ValueTree<S> {
         ensures shape { IsSameShape self.old.shape self.new.shape }
         ensures needs { KeepsNeeds S.room S.after (S.leaf_at self.old.store) (S.node_at self.old.store) self.old.shape (S.leaf_at self.new.store) (S.node_at self.new.store) self.new.shape }
         ensures met { OnOk result (S.meets self.new.store (S.rooms need.now)) }
+        ensures memory { (needed : List S.Room) → S.meets self.old.store needed → S.meets self.new.store needed }
+        ensures place { HasLeafPlace (S.slots self.old.store) self.old.shape → HasLeafPlace (S.slots self.new.store) self.new.shape }
         ensures room { OnOk result (self.new.shape.room ≡ true) }
         ensures leaf_slot { OnOk result (self.new.shape.leaf_numbers.drawn < S.slots self.new.store) }
         ensures inner_slot { OnOk result (self.new.shape.inner_numbers.drawn < S.slots self.new.store) }
@@ -327,7 +331,8 @@ impl<S: Values> ValueTree<S> {
     pub fn parts_before(&self, alloc: Global, at: u32) -> Result<Vec<Child>, NoMemory>
         requires kept { IsKept S.join S.sound (S.leaf_at self.now.store) (S.node_at self.now.store) (S.slots self.now.store) self.now.shape }
         requires place { at < count_of self.now.shape.tree }
-        ensures { IfOk result (λ parts. StandFor S.stands (part (S.leaf_at self.now.store) (S.node_at self.now.store)) parts.items (take at (leaf_values (S.leaf_at self.now.store) self.now.shape.tree))) }
+        ensures stand { IfOk result (λ parts. StandFor S.stands (part (S.leaf_at self.now.store) (S.node_at self.now.store)) parts.items (take at (leaf_values (S.leaf_at self.now.store) self.now.shape.tree))) }
+        ensures few { IfOk result (λ parts. length parts.items ≤ highest (count_of self.now.shape.tree)) }
     {
         parts_before(alloc, &self.shape, at)
     }

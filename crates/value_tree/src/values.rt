@@ -86,12 +86,13 @@ pub trait Values: Drop {
         requires { i < length (rooms need.now) }
         ensures { slice_get (rooms need.now) i ≡ Some result };
 
-    /// Makes the memory that a need asks for. Fails where memory runs out, with the same values.
+    /// Makes the memory that a need asks for, and keeps what is there for others. Fails where memory runs out, with the same values.
     fn reserve(&mut self, need: &Self::Need) -> Result<(), NoMemory>
         ensures ok { OnOk result (meets self.new (rooms need.now)) }
         ensures leaves { (k : ℕ) → leaf_at self.new k ≡ leaf_at self.old k }
         ensures nodes { (k : ℕ) → node_at self.new k ≡ node_at self.old k }
-        ensures slots { slots self.old ≤ slots self.new };
+        ensures slots { slots self.old ≤ slots self.new }
+        ensures memory { (needed : List Self.Room) → meets self.old needed → meets self.new needed };
 
     /// Whether the memory that a need asks for is there.
     fn meets(&self, need: &Self::Need) -> bool
