@@ -1,5 +1,5 @@
 //! The passes of a text, counted as its readings come, with no list of its operations.
-ghost use Rattle.std.specs.Prelude.{◌≡◌, ◌+◌, ◌-◌, ◌<◌, ◌≤◌, ◌^◌, ℕ, List, [], ◌∷◌, ◌++◌, length, OnOk};
+ghost use Rattle.std.specs.Prelude.{◌≡◌, ◌+◌, ◌-◌, ◌<◌, ◌≤◌, ◌^◌, ℕ, List, [], ◌∷◌, ◌++◌, length, OnOk, OnErr};
 ghost use Rattle.std.specs.Option.{option_to_list};
 ghost use Rattle.knit_base.specs.declared.instr.Read.{Read};
 ghost use Rattle.knit_base.specs.declared.profile.Profile.{Profile};
@@ -57,7 +57,8 @@ impl Tally {
         requires tally { IsTallying self.old }
         requires lines { next_line self.old + 1 < 2 ^ 32 }
         requires rack { IsRackWithin read.now }
-        ensures { OnOk result ((first : ℕ) (reads : List Read) → HasTallied first reads self.old → HasTallied first (reads ++ read.now ∷ []) self.new) }
+        ensures ok { OnOk result ((first : ℕ) (reads : List Read) → HasTallied first reads self.old → HasTallied first (reads ++ read.now ∷ []) self.new) }
+        ensures err { OnErr result (self.new ≡ self.old) }
     {
         let op = operation_of(alloc, self.line, self.stretch, self.rack, read)?;
         self.add_any(op);
@@ -73,7 +74,8 @@ impl Tally {
         requires tally { IsTallying self.old }
         requires lines { next_line self.old + 1 < 2 ^ 32 }
         requires lawful { (profile : Profile) × (carriers : ℕ) × (carriers ≤ 64) × IsLawfulRead profile carriers (usual_read usual) }
-        ensures { OnOk result ((first : ℕ) (reads : List Read) → HasTallied first reads self.old → HasTallied first (reads ++ usual_read usual ∷ []) self.new) }
+        ensures ok { OnOk result ((first : ℕ) (reads : List Read) → HasTallied first reads self.old → HasTallied first (reads ++ usual_read usual ∷ []) self.new) }
+        ensures err { OnErr result (self.new ≡ self.old) }
     {
         let op = usual_operation(alloc, self.line, self.stretch, self.rack, usual)?;
         self.add(op);

@@ -7,8 +7,8 @@ use Rattle.pass_grouping.proofs.tally.Tally.take.Goals as goal
 pub add_any-requires-clause-passes : goal.add_any-requires-clause-passes
 add_any-requires-clause-passes c = tallied-few c.requires.tally.0 c.requires.tally.1 c.args.self.now c.requires.tally.2
 
-pub returns : goal.returns
-returns c = λ first reads has.
+pub returns-clause-ok : goal.returns-clause-ok
+returns-clause-ok c = λ first reads has.
     let set : to_z w32 (of_z w32 c.rack_behind-self.result) ≡ c.rack_behind-self.result = omega (arith, ints) in
     let rack : to_z w32 (of_z w32 c.args.self.now.rack) ≡ c.args.self.now.rack = omega (arith, ints, has.listed.within.0, has.listed.within.1) in
     tallied-more first reads c.args.read.now c.in_ok-op.op c.args.self.now _ has c.requires.rack
