@@ -24,7 +24,7 @@ use Rattle.knitout_reader.specs.Tokens.{before_comment, has_comment, tokens_of}
 use Rattle.knitout_reader.proofs.OneShape.{Fits, FitsNone}
 use Rattle.knitout_reader.proofs.Rules.{neither, unbroken}
 use Rattle.face_data.specs.Spots.{IsNumbered, number_place}
-use Rattle.block_summary.proofs.Blocks.{line_needles, named}
+use Rattle.block_summary.specs.NamedNeedles.{line_needles, named}
 
 -- the needles of an instruction lie on the bed
 abbrev IsOnBeds : Profile → Read → Type 0

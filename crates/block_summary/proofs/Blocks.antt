@@ -44,6 +44,7 @@ use Rattle.block_summary.specs.DraftKnowledge.{stopped_at}
 use Rattle.block_summary.specs.declared.line.LineEnd.TheVariants.{GoesOn, Stops as StopsAt}
 use Rattle.block_summary.specs.LineEnds.{EndsAs, loop_of_line}
 use Rattle.block_summary.specs.LineSummaries.{NeedlesKnownInLine, SliderKnown, block_summary_of, line_summary}
+use Rattle.block_summary.specs.NamedNeedles.{line_needles, named}
 use Rattle.block_summary.specs.Prepared.{AddsLine, AreKnown, AreRowsOf, HasRead, IsMadeOf, row_of}
 use Rattle.block_summary.proofs.FormedLoops.{loop-formed}
 use Rattle.block_summary.proofs.LineGoodness.{block_good, block_stands}
@@ -54,16 +55,6 @@ zip_at R [] ys i x d all found = absurd (cc)
 zip_at R (a ∷ xs) [] i x d all found = absurd all
 zip_at R (a ∷ xs) (y ∷ ys) zero x d all found = subst (λ z. R z y) (let same : a ≡ x = cc in same) all.0
 zip_at R (a ∷ xs) (y ∷ ys) (suc i) x d all found = zip_at R xs ys i x d all.1 found
-
--- the needles that a line names, and the own slider of one on which it forms a loop
-unfoldable pub line_needles : Read → List Needle
-line_needles (read.Instr i) = needles_of i ++ option_to_list (option_map own_slider (forming_needle i))
-line_needles r = []
-
--- all that the lines name so
-unfoldable pub named : List Read → List Needle
-named [] = []
-named (r ∷ rs) = line_needles r ++ named rs
 
 slider_known : (on : Option Needle) (known : List Needle) → IsWithin (option_to_list (option_map own_slider on)) known → SliderKnown known on
 slider_known None known within = tt

@@ -16,7 +16,8 @@ use Rattle.knit_base.specs.Limits.{IsLawfulProfile}
 use Rattle.knit_base.specs.Needle.{own_slider}
 use Rattle.face_data.specs.Spots.{IsNumbered, number_place}
 use Rattle.block_summary.specs.Prepared.{AreKnown}
-use Rattle.block_summary.proofs.Blocks.{line_needles, named, named_known}
+use Rattle.block_summary.specs.NamedNeedles.{line_needles, named}
+use Rattle.block_summary.proofs.Blocks.{named_known}
 
 number_small : (at : ℤ) → (pos 0 -ℤ pos 4096) ≤ℤ at → at ≤ℤ pos 4096 → number_place at < 2 ^ 16
 number_small (pos n) above below = let few : n ≤ 4096 = omega (arith, ints, below) in omega (arith, few)

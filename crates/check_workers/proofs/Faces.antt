@@ -15,7 +15,8 @@ use Rattle.face_data.specs.Summaries.{Summary}
 use Rattle.face_data.proofs.Goodness.{composed_good, good_within}
 use Rattle.face_data.proofs.Stands.{stands_both}
 use Rattle.block_summary.specs.Prepared.{AreKnown, AreReadings}
-use Rattle.block_summary.proofs.Blocks.{named, named_known}
+use Rattle.block_summary.specs.NamedNeedles.{named}
+use Rattle.block_summary.proofs.Blocks.{named_known}
 use Rattle.check_workers.specs.Faces.{IsFaceOf}
 
 -- readings of two texts, one behind the other, and which of them are of the first

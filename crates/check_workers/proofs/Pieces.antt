@@ -22,7 +22,8 @@ use Rattle.loop_history.proofs.TableLines.{rows_few}
 use Rattle.loop_history.proofs.TextTables.{table_both}
 use Rattle.block_summary.specs.Prepared.{IsMadeOf}
 use Rattle.block_summary.proofs.BedNeedles.{named_numbered}
-use Rattle.block_summary.proofs.Blocks.{held_earlier, named, named_known}
+use Rattle.block_summary.specs.NamedNeedles.{named}
+use Rattle.block_summary.proofs.Blocks.{held_earlier, named_known}
 use Rattle.block_summary.proofs.LinePlaces.{part_all, part_len}
 use Rattle.check_workers.specs.Faces.{IsFaceOf}
 use Rattle.check_workers.specs.Pieces.{CanCut, CanJoin, IsOfBoth, IsPartOf, Part, lines_of_pieces, place_of}
