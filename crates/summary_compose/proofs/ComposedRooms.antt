@@ -1,8 +1,9 @@
 -- The composition of two faces has the room that was made for it.
-use Rattle.std.proofs.Common.{◌≡◌, ◌^◌, Bool, true, false, ℕ, ◌+◌, ◌*◌, ◌≤◌, inl, inr, List, [], ◌∷◌, ◌++◌, Option, Some, None, length, refl, sym, ap, ◌∙◌, subst, arith, length-append}
+use Rattle.std.proofs.Common.{◌≡◌, ◌^◌, Bool, true, false, ℕ, ◌+◌, ◌*◌, ◌≤◌, max, min, inl, inr, List, [], ◌∷◌, ◌++◌, Option, Some, None, length, refl, sym, ap, ◌∙◌, subst, arith, length-append}
 use Rattle.std.specs.List.{Contains}
 use Rattle.std.specs.Prelude.{nat_lt, if◌then◌else◌}
 use Rattle.std.proofs.Math.Path.{ap₂}
+use Rattle.std.proofs.Math.Nat.{mul-le-mul}
 use Rattle.face_data.specs.declared.face.FaceView.{FaceView}
 use Rattle.face_data.specs.View.{IsPacked, asked_of, changed_of, summary_of}
 use Rattle.std.proofs.lemmas.List.Elements.{Contains-append_left, Contains-append_right}
@@ -30,12 +31,13 @@ use Rattle.face_data.proofs.Owners.{OwnsOnce-both, from_through, entries_on-both
 use Rattle.std.proofs.lemmas.List.{length-map}
 use Rattle.summary_compose.specs.Changes.{changes_in, segs_in}
 use Rattle.summary_compose.specs.Composing.{IsNoGreater}
-use Rattle.summary_compose.specs.Rooms.{CanBeMade, capped, room_of, room_of_both}
+use Rattle.summary_compose.specs.Rooms.{CanBeMade, capped, room_of, room_of_both, widest_of}
 use Rattle.summary_compose.specs.declared.room.Room.{Room}
 use Rattle.summary_compose.proofs.Checks.{named_size}
 use Rattle.summary_compose.proofs.Parts.{packed_size}
 use Rattle.summary_compose.specs.Known.{AreGood, checks_in, names_count, names_read_count}
-use Rattle.summary_compose.proofs.Rooms.{all_entries_flat, capped_is, finds_room, from_both, in_all, names_read_bound, merged_length, merged_segs, named_or_none, own_none}
+use Rattle.summary_compose.proofs.Rooms.{all_entries_flat, capped_is, capped_is_min, finds_room, from_both, in_all, names_read_bound, merged_length, merged_segs, named_or_none, own_none}
+use Rattle.summary_compose.proofs.Widths.{names_read_wide, widest_all, widest_merged, widest_some}
 use Rattle.face_data.proofs.KnownAnswers.{AskFits-distinct}
 
 -- how many conditions are kept, and how many needles they name
@@ -108,44 +110,52 @@ merged_entries a b lines order_a order_b oa ob =
     ]
 
 -- the lists of a summary are no longer than these numbers
-pub record Sizes (summary : Summary) (checks names changes segs entries lasts : ℕ) : Type 0 where
+pub record Sizes (summary : Summary) (checks names changes segs entries widest lasts : ℕ) : Type 0 where
   pub few_checks : length summary.checks ≤ checks
   pub few_names : names_count summary.checks ≤ names
   pub few_changes : length summary.changes ≤ changes
   pub few_segs : segs_in summary.changes ≤ segs
   pub few_entries : length (all_entries summary.changes) ≤ entries
+  pub few_held : widest_of summary.changes ≤ widest
   pub few_lasts : length summary.lasts ≤ lasts
 
 -- no longer than those of both summaries together
 abbrev pub SizesOfBoth : Summary → Summary → Summary → Type 0
 SizesOfBoth s a b =
     Sizes s (length a.checks + length b.checks) (names_count a.checks + names_read_count a.changes b.checks) (length a.changes + length b.changes)
-    (segs_in a.changes + segs_in b.changes) (length (all_entries a.changes) + length (all_entries b.changes)) (length a.lasts + length b.lasts)
+    (segs_in a.changes + segs_in b.changes) (length (all_entries a.changes) + length (all_entries b.changes)) (widest_of a.changes * widest_of b.changes) (length a.lasts + length b.lasts)
+
+-- where nothing is changed each needle holds its own entry
+widest_of_both : (a b : Summary) → 1 ≤ widest_of a.changes * widest_of b.changes
+widest_of_both a b =
+    let both : 1 * 1 ≤ widest_of a.changes * widest_of b.changes = mul-le-mul (widest_some a.changes) (widest_some b.changes) in
+    omega (arith, both)
 
 merged_sizes : (a b : Summary) (e : Ending) → IsInOrder a.changes → IsInOrder b.changes → OwnsOnce a.changes → OwnsOnce b.changes → (checks : List Asked) → ReadSizes a.changes a.checks b.checks checks →
     SizesOfBoth (record { lines = a.lines + b.lines; made = made_with e (a.made + b.made); checks = checks; changes = changes_with e (merged a.changes (changes_through a.changes a.lines b.changes)); lasts = lasts_with e (lasts_of_both a.lasts b.lasts); ending = e }) a b
 merged_sizes a b (Broken fault) order_a order_b oa ob checks h =
-    record { few_checks = h.few; few_names = h.names; few_changes = omega arith; few_segs = omega arith; few_entries = omega arith; few_lasts = omega arith }
+    record { few_checks = h.few; few_names = h.names; few_changes = omega arith; few_segs = omega arith; few_entries = omega arith; few_held = widest_of_both a b; few_lasts = omega arith }
 merged_sizes a b (Through effect) order_a order_b oa ob checks h = record {
   few_checks = h.few;
   few_names = h.names;
   few_changes = omega (arith, merged_length a.changes (changes_through a.changes a.lines b.changes), length-map b.changes (change_through a.changes a.lines));
   few_segs = merged_segs a.changes b.changes a.lines order_a order_b ob;
   few_entries = merged_entries a.changes b.changes a.lines order_a order_b oa ob;
+  few_held = widest_merged a.changes b.changes a.lines order_a order_b;
   few_lasts = length_both a.lasts b.lasts;
 }
 
 closed_sizes : (a b : Summary) (e : Effect) (stop : Option Fault) → IsInOrder a.changes → IsInOrder b.changes → OwnsOnce a.changes → OwnsOnce b.changes → (checks : List Asked) → ReadSizes a.changes a.checks b.checks checks →
     SizesOfBoth (closed_at stop checks e a b) a b
 closed_sizes a b e (Some fault) order_a order_b oa ob checks h =
-    record { few_checks = h.few; few_names = h.names; few_changes = omega arith; few_segs = omega arith; few_entries = omega arith; few_lasts = omega arith }
+    record { few_checks = h.few; few_names = h.names; few_changes = omega arith; few_segs = omega arith; few_entries = omega arith; few_held = widest_of_both a b; few_lasts = omega arith }
 closed_sizes a b e None order_a order_b oa ob checks h =
     let m = merged_sizes a b b.ending order_a order_b oa ob checks h in
-    record { few_checks = m.few_checks; few_names = m.few_names; few_changes = m.few_changes; few_segs = m.few_segs; few_entries = m.few_entries; few_lasts = m.few_lasts }
+    record { few_checks = m.few_checks; few_names = m.few_names; few_changes = m.few_changes; few_segs = m.few_segs; few_entries = m.few_entries; few_held = m.few_held; few_lasts = m.few_lasts }
 
 composed_sizes_at : (a b : Summary) (e : Ending) → IsInOrder a.changes → IsInOrder b.changes → OwnsOnce a.changes → OwnsOnce b.changes → SizesOfBoth (composed_at e a b) a b
 composed_sizes_at a b (Broken fault) order_a order_b oa ob =
-    record { few_checks = omega arith; few_names = omega arith; few_changes = omega arith; few_segs = omega arith; few_entries = omega arith; few_lasts = omega arith }
+    record { few_checks = omega arith; few_names = omega arith; few_changes = omega arith; few_segs = omega arith; few_entries = omega arith; few_held = widest_of_both a b; few_lasts = omega arith }
 composed_sizes_at a b (Through e) order_a order_b oa ob =
     closed_sizes a b e (reads e a.lasts a.changes a.lines a.checks b.checks).stop order_a order_b oa ob (reads e a.lasts a.changes a.lines a.checks b.checks).checks (reads_sizes e a.lasts a.changes a.lines a.checks b.checks)
 
@@ -161,11 +171,14 @@ fits_if n m false h small = h
 fits : (n m : ℕ) → n ≤ m → n ≤ 2 ^ 62 → n ≤ capped m
 fits n m h small = fits_if n m (nat_lt (2 ^ 62) m) h small
 
-fits_both_if : (n x y : ℕ) (b c : Bool) → n ≤ x + y → n ≤ 2 ^ 62 → n ≤ (if b then 2 ^ 62 + 1 else x) + (if c then 2 ^ 62 + 1 else y)
-fits_both_if n x y true true h small = omega (arith, small)
-fits_both_if n x y true false h small = omega (arith, small)
-fits_both_if n x y false true h small = omega (arith, small)
-fits_both_if n x y false false h small = h
+-- so do the needles of conditions, within both of their bounds
+names_fit : (n own_a each own_b more : ℕ) → n ≤ own_a + each → n ≤ own_a + (own_b + more) → n ≤ 2 ^ 62 → n ≤ capped (own_a + min (capped each) (capped (own_b + capped more)))
+names_fit n own_a each own_b more h k small =
+    omega (arith, h, k, small, capped_is_min each, capped_is_min more, capped_is_min (own_b + capped more), capped_is_min (own_a + min (capped each) (capped (own_b + capped more))))
+
+-- and the entries of one needle
+widest_fits : (n product sum : ℕ) → n ≤ product → n ≤ max 1 sum → n ≤ 2 ^ 62 → n ≤ min (capped product) (max 1 (capped sum))
+widest_fits n product sum h k small = omega (arith, h, k, small, capped_is_min product, capped_is_min sum)
 
 entries_in_packed : (face : FaceView) → IsPacked face → length (all_entries (changes_in face)) ≡ length (entries_of face.segs.now)
 entries_in_packed face p = ap length (sym (all_entries_flat face.segs.now face.changes.now) ∙ ap entries_of p.segs)
@@ -192,15 +205,19 @@ composed_room a b f g pa pb pf is made =
     let ef = entries_in_packed f pf in
     let asked : length (checks_in b) * length (all_entries (changes_in a)) ≡ length b.checks.now * length (entries_of a.segs.now) = ap₂ (λ (x y : ℕ). x * y) cb ea in
     let read = names_read_bound (changes_in a) (checks_in b) g.first.fair.owns (λ c there. AskFits-distinct g.carriers g.limit g.second_known c.ask (g.second.fair.asks_fit c there)) in
-    let both = length a.names.now + length b.names.now in
-    let through = length b.checks.now * length (entries_of a.segs.now) in
-    let names = fits_both_if (length f.names.now) both through (nat_lt (2 ^ 62) both) (nat_lt (2 ^ 62) through) (omega (arith, s.few_names, na, nb, nf, read, asked)) made.names in
+    let wide : names_read_count (changes_in a) (checks_in b) ≤ length b.names.now * widest_of (changes_in a)
+    = subst (λ n. names_read_count (changes_in a) (checks_in b) ≤ n * widest_of (changes_in a)) (sym nb) (names_read_wide (changes_in a) (checks_in b)) in
+    let held = widest_all (changes_in f) in
+    let few = length-segs f.segs.now in
     record {
       checks = fits (length f.checks.now) (length a.checks.now + length b.checks.now) (omega (arith, s.few_checks, ca, cb, cf)) made.checks;
-      names = fits (length f.names.now) (capped both + capped through) names made.names;
+      names = names_fit (length f.names.now) (length a.names.now) (length b.names.now * widest_of (changes_in a)) (length b.names.now) (length b.checks.now * length (entries_of a.segs.now))
+          (omega (arith, s.few_names, na, nf, wide)) (omega (arith, s.few_names, na, nb, nf, read, asked)) made.names;
       changes = fits (length f.changes.now) (length a.changes.now + length b.changes.now) (omega (arith, s.few_changes, ha, hb, hf)) made.changes;
       segs = fits (length f.segs.now) (length a.segs.now + length b.segs.now) (omega (arith, s.few_segs, sa, sb, sf)) made.segs;
-      entries = fits (length (entries_of f.segs.now)) (length (entries_of a.segs.now) + length (entries_of b.segs.now)) (omega (arith, s.few_entries, ea, eb, ef)) (omega (arith, length-segs f.segs.now, made.segs));
+      entries = fits (length (entries_of f.segs.now)) (length (entries_of a.segs.now) + length (entries_of b.segs.now)) (omega (arith, s.few_entries, ea, eb, ef)) (omega (arith, few, made.segs));
+      widest = widest_fits (widest_of (changes_in f)) (widest_of (changes_in a) * widest_of (changes_in b)) (length (entries_of a.segs.now) + length (entries_of b.segs.now))
+          s.few_held (omega (arith, held, s.few_entries, ea, eb)) (omega (arith, held, ef, few, made.segs));
       lasts = fits (length f.lasts.now) (length a.lasts.now + length b.lasts.now) (omega (arith, s.few_lasts)) made.lasts;
     }
 

@@ -3,7 +3,7 @@ use Rattle.std.proofs.Common.{◌≡◌, ℕ, ◌+◌, ◌*◌, ◌≤◌, ◌<�
 use Rattle.std.specs.Prelude.{All}
 use Rattle.std.specs.List.{Contains}
 use Rattle.std.proofs.Math.Nat.{mul-le-mul_right}
-use Rattle.std.proofs.lemmas.List.Elements.{All-contains, All-append, Contains-append_right}
+use Rattle.std.proofs.lemmas.List.Elements.{All-contains, All-append, Contains-append_cases, Contains-append_right}
 use Rattle.std.proofs.lemmas.List.Sums.{sum_by-le}
 use Rattle.knit_base.specs.declared.needle.Needle.{Needle}
 use Rattle.face_data.specs.declared.face.Check.{Check}
@@ -22,7 +22,8 @@ use Rattle.face_data.specs.Sets.{IsDistinct, IsWithin}
 use Rattle.face_data.specs.Summaries.{Summary}
 use Rattle.face_data.specs.View.{IsPacked, asked_of, names_of, summary_of}
 use Rattle.face_data.proofs.Goodness.{composed_good, good_within, within_known}
-use Rattle.face_data.proofs.Items.{change_items_bound, new_on_at_most}
+use Rattle.face_data.specs.Items.{items, most_items}
+use Rattle.face_data.proofs.Items.{change_items_bound, items_bound, new_on_at_most}
 use Rattle.face_data.proofs.Members.{Contains-head, Contains-tail, Contains-cons_cases, contains_mapped}
 use Rattle.face_data.proofs.Owners.{distinct_through, member_cases}
 use Rattle.face_data.proofs.FaceOffsets.{offsets_fit}
@@ -171,3 +172,12 @@ composed_good_face a b g = record {
   numbers = All-append IsNumbered g.first_known g.second_known g.first_numbers g.second_numbers;
   good = composed_good g.carriers g.limit g.first_known g.second_known (summary_of a) (summary_of b) g.first g.second;
 }
+
+-- needles named twice are no more needles
+pub twice_within : (known : List Needle) → IsWithin (known ++ known) known
+twice_within known n h = elim (Contains-append_cases known known n h) [ inl w ↦ w | inr w ↦ w ]
+
+-- The composition of two summaries that are good for these needles has no more items than a good one can have.
+pub composed_items : (carriers limit : ℕ) (known : List Needle) (a b : Summary) → IsGood carriers limit known a → IsGood carriers limit known b → items (composed a b) ≤ most_items carriers limit (length known)
+composed_items carriers limit known a b ga gb =
+    items_bound carriers limit known (composed a b) (good_within carriers limit (known ++ known) known (composed a b) (twice_within known) (composed_good carriers limit known known a b ga gb))

@@ -16,3 +16,4 @@ pub mod SegmentPlaces
 pub mod Steps
 pub mod Tables
 pub mod Turns
+pub mod Widths

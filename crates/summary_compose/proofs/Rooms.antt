@@ -1,5 +1,5 @@
 -- How much room the composition of two faces takes.
-use Rattle.std.proofs.Common.{suc, Bool, true, false, ◌^◌, ◌≡◌, ℕ, ◌+◌, ◌*◌, ◌≤◌, ◌⊎◌, inl, inr, List, [], ◌∷◌, ◌++◌, Option, Some, None, length, map, refl, sym, ap, ◌∙◌, subst, arith, length-append}
+use Rattle.std.proofs.Common.{suc, Bool, true, false, ◌^◌, ◌≡◌, ℕ, ◌+◌, ◌*◌, ◌≤◌, min, ◌⊎◌, inl, inr, List, [], ◌∷◌, ◌++◌, Option, Some, None, length, map, refl, sym, ap, ◌∙◌, subst, arith, length-append}
 use Rattle.std.specs.Prelude.{nat_lt, if◌then◌else◌}
 use Rattle.std.proofs.Math.Path.{ap₂}
 use Rattle.std.specs.List.{Contains, flat_map, sum_by}
@@ -34,10 +34,11 @@ use Rattle.face_data.proofs.Parts.{change_absent}
 use Rattle.summary_compose.specs.Changes.{changes_in, segs_in}
 use Rattle.summary_compose.specs.Composing.{FindsRoom, IsNoGreater}
 use Rattle.summary_compose.specs.Known.{AreGood, checks_in, names_count, names_read_count}
-use Rattle.summary_compose.specs.Rooms.{CanBeMade, capped, room_after, room_of_both}
+use Rattle.summary_compose.specs.Rooms.{CanBeMade, capped, names_after, room_after, room_of, room_of_both, widest_of}
 use Rattle.summary_compose.specs.declared.room.Room.{Room}
 use Rattle.summary_compose.proofs.Checks.{named_size}
 use Rattle.summary_compose.proofs.Parts.{packed_size}
+use Rattle.summary_compose.proofs.Widths.{names_read_wide, widest_some}
 use Rattle.face_data.proofs.KnownAnswers.{AskFits-distinct}
 
 -- an entry of a change is one of all
@@ -279,6 +280,14 @@ merged_segs a b lines order_a order_b o =
       new_sum b b order_b (λ c h. h),
     )
 
+capped_at : (n : ℕ) (b : Bool) → nat_lt (2 ^ 62) n ≡ b → (if b then 2 ^ 62 + 1 else n) ≡ min n (2 ^ 62 + 1)
+capped_at n true e = omega (arith, ltb-true (2 ^ 62) n e)
+capped_at n false e = omega (arith, ltb-false (2 ^ 62) n e)
+
+-- a capped number is the lesser of it and one past all room
+pub capped_is_min : (n : ℕ) → capped n ≡ min n (2 ^ 62 + 1)
+capped_is_min n = capped_at n (nat_lt (2 ^ 62) n) refl
+
 -- a number that isn't past all room
 capped_if : (n : ℕ) (b : Bool) → nat_lt (2 ^ 62) n ≡ b → (if b then 2 ^ 62 + 1 else n) ≤ 2 ^ 62 → n ≡ (if b then 2 ^ 62 + 1 else n)
 capped_if n true e h = absurd (omega (arith, h))
@@ -289,6 +298,11 @@ pub capped_is : (n most : ℕ) → capped n ≤ most → most ≤ 2 ^ 62 → n �
 capped_is n most h small =
     let is = capped_if n (nat_lt (2 ^ 62) n) refl (omega (arith, h, small)) in
     omega (arith, is, h)
+
+-- what the needles of conditions are read to is within both bounds, where these aren't past all room
+names_there : (read each own more : ℕ) → read ≤ each → read ≤ own + more → min (capped each) (capped (own + capped more)) ≤ 2 ^ 62 → read ≤ min (capped each) (capped (own + capped more))
+names_there read each own more h k small =
+    omega (arith, h, k, small, capped_is_min each, capped_is_min more, capped_is_min (own + capped more))
 
 -- Room for both faces by their lists is room for their composition.
 pub finds_room : (a b : FaceView) → AreGood a b → IsPacked a → IsPacked b → (room : Room) → CanBeMade room → IsNoGreater (room_of_both a b) room → FindsRoom a b room
@@ -307,14 +321,17 @@ finds_room a b g pa pb room made h =
     let asked : length (checks_in b) * length (all_entries ca) ≡ length b.checks.now * length (entries_of a.segs.now)
     = ap₂ (λ (x y : ℕ). x * y) (length-map b.checks.now (asked_of b.names.now)) entries in
     let read = names_read_bound ca (checks_in b) g.first.fair.owns (λ c there. AskFits-distinct g.carriers g.limit g.second_known c.ask (g.second.fair.asks_fit c there)) in
-    let names = capped_is (capped (length a.names.now + length b.names.now) + capped (length b.checks.now * length (entries_of a.segs.now))) room.names h.names made.names in
-    let own = capped_is (length a.names.now + length b.names.now) (capped (length a.names.now + length b.names.now)) (omega arith) (omega (arith, names, made.names)) in
-    let other = capped_is (length b.checks.now * length (entries_of a.segs.now)) (capped (length b.checks.now * length (entries_of a.segs.now))) (omega arith) (omega (arith, names, made.names)) in
+    let wide_some : 1 * 1 ≤ widest_of ca * widest_of cb = mul-le-mul (widest_some ca) (widest_some cb) in
+    let wide : names_read_count ca (checks_in b) ≤ length b.names.now * widest_of ca
+    = subst (λ n. names_read_count ca (checks_in b) ≤ n * widest_of ca) (sym nb) (names_read_wide ca (checks_in b)) in
+    let names = capped_is (length a.names.now + names_after (room_of a) (room_of b)) room.names h.names made.names in
+    let through = names_there (names_read_count ca (checks_in b)) (length b.names.now * widest_of ca) (length b.names.now) (length b.checks.now * length (entries_of a.segs.now)) wide (omega (arith, read, asked, nb)) (omega (arith, names, made.names)) in
     record {
       checks = capped_is (length a.checks.now + length b.checks.now) room.checks h.checks made.checks;
-      names = omega (arith, na, nb, read, asked, names, own, other);
+      names = omega (arith, na, names, through);
       changes = omega (arith, merged_length ca (changes_through ca a.lines cb), lines_a, lines_b, lines_t, capped_is (length a.changes.now + length b.changes.now) room.changes h.changes made.changes);
       segs = omega (arith, merged_segs ca cb a.lines g.first.fair.in_order g.second.fair.in_order g.second.fair.owns, sa, sb, capped_is (length a.segs.now + length b.segs.now) room.segs h.segs made.segs);
+      some = omega (arith, h.widest, wide_some, capped_is_min (widest_of ca * widest_of cb), capped_is_min (length (entries_of a.segs.now) + length (entries_of b.segs.now)));
       lasts = capped_is (length a.lasts.now + length b.lasts.now) room.lasts h.lasts made.lasts;
     }
 
@@ -330,17 +347,17 @@ capped_grows n m h = capped_more n m (nat_lt (2 ^ 62) n) (nat_lt (2 ^ 62) m) ref
 -- Greater rooms leave no less room for the composition.
 pub after_grows : (room more next later : Room) → IsNoGreater room more → IsNoGreater next later → IsNoGreater (room_after room next) (room_after more later)
 after_grows room more next later h k =
-    let read : next.checks * room.entries ≤ later.checks * more.entries = mul-le-mul k.checks h.entries in
+    let read = capped_grows (next.checks * room.entries) (later.checks * more.entries) (mul-le-mul k.checks h.entries) in
+    let each = capped_grows (next.names * room.widest) (later.names * more.widest) (mul-le-mul k.names h.widest) in
+    let all = capped_grows (next.names + capped (next.checks * room.entries)) (later.names + capped (later.checks * more.entries)) (omega (arith, read, k.names)) in
+    let entries = capped_grows (room.entries + next.entries) (more.entries + later.entries) (omega (arith, h.entries, k.entries)) in
+    let widest = capped_grows (room.widest * next.widest) (more.widest * later.widest) (mul-le-mul h.widest k.widest) in
     record {
       checks = capped_grows (room.checks + next.checks) (more.checks + later.checks) (omega (arith, h.checks, k.checks));
-      names = capped_grows (capped (room.names + next.names) + capped (next.checks * room.entries)) (capped (more.names + later.names) + capped (later.checks * more.entries))
-          (omega (
-            arith,
-            capped_grows (room.names + next.names) (more.names + later.names) (omega (arith, h.names, k.names)),
-            capped_grows (next.checks * room.entries) (later.checks * more.entries) read,
-          ));
+      names = capped_grows (room.names + names_after room next) (more.names + names_after more later) (omega (arith, h.names, each, all));
       changes = capped_grows (room.changes + next.changes) (more.changes + later.changes) (omega (arith, h.changes, k.changes));
       segs = capped_grows (room.segs + next.segs) (more.segs + later.segs) (omega (arith, h.segs, k.segs));
-      entries = capped_grows (room.entries + next.entries) (more.entries + later.entries) (omega (arith, h.entries, k.entries));
+      entries = entries;
+      widest = omega (arith, widest, entries);
       lasts = capped_grows (room.lasts + next.lasts) (more.lasts + later.lasts) (omega (arith, h.lasts, k.lasts));
     }

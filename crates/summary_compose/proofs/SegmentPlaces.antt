@@ -1,6 +1,6 @@
 -- What a table of places tells of changes.
 use Prim.Native.Nat.{zero}
-use Rattle.std.proofs.Common.{suc, ◌≡◌, ℕ, ◌+◌, ◌<◌, ◌≤◌, Bool, true, false, cond, List, [], ◌∷◌, ◌++◌, Option, Some, None, length, take, map, refl, sym, ap, ◌∙◌, subst, arith, get_or, set}
+use Rattle.std.proofs.Common.{suc, ◌≡◌, ℕ, ◌+◌, ◌<◌, ◌≤◌, Bool, true, false, cond, List, [], ◌∷◌, ◌++◌, Option, Some, None, length, take, map, refl, sym, ap, ◌∙◌, subst, arith, get_or}
 use Rattle.std.specs.Prelude.{unwrap_or}
 use Rattle.std.specs.List.{AllByRecursion}
 use Rattle.std.specs.List.Sorted.{IsStrictlySortedBy}
@@ -18,9 +18,8 @@ use Rattle.face_data.specs.Goodness.{IsInOrder}
 use Rattle.face_data.specs.Segments.{Changed, change_at, segments_on}
 use Rattle.face_data.specs.View.{changed_of, PartsFit}
 use Rattle.summary_compose.specs.Changes.{changed_needles}
-use Rattle.face_data.specs.Spots.{spot_of}
-use Rattle.summary_compose.specs.Tables.{Leads, IsTableOf}
-use Rattle.summary_compose.proofs.Tables.{leads_take_same, leads_take_other, leads_nowhere, tells_push}
+use Rattle.summary_compose.specs.Tables.{Leads, IsTableOf, IsWritten}
+use Rattle.summary_compose.proofs.Tables.{leads_nowhere, tells_push}
 use Rattle.knit_base.proofs.Needles.{same_needle-same, needle_cmp-refl, same_needle-false}
 use Rattle.face_data.proofs.ChangeLists.{not_less_and_equal}
 
@@ -30,30 +29,8 @@ needle_at [] i d n within = absurd (omega arith)
 needle_at (c ∷ cs) zero d n within = refl
 needle_at (c ∷ cs) (suc i) d n within = needle_at cs i d n (omega arith)
 
--- a needle that stands at the next place was last seen there
-pub seek_same : (changes : List Change) (i : ℕ) (d : Change) (n : Needle) (last : ℕ) → i < length changes → (get_or changes i d).needle ≡ n → last ≡ i →
-    Leads (take (i + 1) (changed_needles changes)) n last
-seek_same changes i d n last within same is =
-    let len = length-map changes (λ (c : Change). c.needle) in
-    subst (λ p. Leads (take (i + 1) (changed_needles changes)) n p) (sym is)
-    (leads_take_same (changed_needles changes) i n (omega arith) (needle_at changes i d n within ∙ same))
-
--- and else where it was seen before
-pub seek_other : (changes : List Change) (i : ℕ) (d : Change) (n : Needle) (last old : ℕ) → i < length changes → ((get_or changes i d).needle ≡ n → ⊥) → last ≡ old →
-    Leads (take i (changed_needles changes)) n old → Leads (take (i + 1) (changed_needles changes)) n last
-seek_other changes i d n last old within differ is h =
-    let len = length-map changes (λ (c : Change). c.needle) in
-    subst (λ p. Leads (take (i + 1) (changed_needles changes)) n p) (sym is)
-    (leads_take_other (changed_needles changes) i n old (omega arith) (λ same. differ (sym (needle_at changes i d n within) ∙ same)) h)
-
--- after all places, where it was last seen
-pub seek_all : (changes : List Change) (i : ℕ) (n : Needle) (last : ℕ) → length changes ≤ i → Leads (take i (changed_needles changes)) n last → Leads (changed_needles changes) n last
-seek_all changes i n last all h =
-    let len = length-map changes (λ (c : Change). c.needle) in
-    subst (λ ns. Leads ns n last) (take_all i (changed_needles changes) (omega arith)) h
-
 -- the table with the places of one change more
-pub tells_more : (entries more : List ℕ) (changes : List Change) (i : ℕ) (d : Change) → i < length changes → more ≡ set entries (spot_of (get_or changes i d).needle) i →
+pub tells_more : (entries more : List ℕ) (changes : List Change) (i : ℕ) (d : Change) → i < length changes → IsWritten entries more (get_or changes i d).needle i →
     IsTableOf entries (changed_needles (take i changes)) → IsTableOf more (changed_needles (take (i + 1) changes))
 tells_more entries more changes i d within written h =
     let name : Change → Needle = λ (c : Change). c.needle in
@@ -61,9 +38,8 @@ tells_more entries more changes i d within written h =
     let len : length (changed_needles front) ≡ i = length-map front name ∙ length-take-le i changes (omega arith) in
     let now : changed_needles (take (i + 1) changes) ≡ changed_needles front ++ (get_or changes i d).needle ∷ [] =
     ap changed_needles (take_more changes i d within) ∙ map-append name front (get_or changes i d ∷ []) in
-    subst (λ es. IsTableOf es (changed_needles (take (i + 1) changes))) (sym (written ∙ ap (λ p. set entries (spot_of (get_or changes i d).needle) p) (sym len)))
-    (subst (λ ns. IsTableOf (set entries (spot_of (get_or changes i d).needle) (length (changed_needles front))) ns) (sym now)
-    (tells_push entries (changed_needles front) (get_or changes i d).needle h))
+    subst (λ ns. IsTableOf more ns) (sym now)
+    (tells_push entries more (changed_needles front) (get_or changes i d).needle h (subst (IsWritten entries more (get_or changes i d).needle) (sym len) written))
 
 -- all places were noted
 pub tells_all : (entries : List ℕ) (changes : List Change) (i : ℕ) → length changes ≤ i → IsTableOf entries (changed_needles (take i changes)) → IsTableOf entries (changed_needles changes)

@@ -1,15 +1,14 @@
 -- Tables of places by needle, and links from place to place.
 use Prim.Native.Nat.{zero}
-use Rattle.std.proofs.Common.{suc, ◌≡◌, ℕ, ◌+◌, ◌<◌, ◌≤◌, ◌≢◌, ◌⊎◌, inl, inr, Bool, true, false, List, [], ◌∷◌, ◌++◌, Some, length, take, map, refl, sym, ap, ◌∙◌, subst, arith, get_or, set}
-use Rattle.std.specs.Prelude.{slice_get, ◌&&◌, ◌||◌, nat_le}
+use Rattle.std.proofs.Common.{suc, ◌≡◌, ℕ, ◌+◌, ◌<◌, ◌≤◌, ◌^◌, ◌≢◌, ◌⊎◌, inl, inr, Bool, true, false, List, [], ◌∷◌, ◌++◌, length, take, map, refl, sym, ap, ◌∙◌, subst, arith, get_or}
+use Rattle.std.specs.Prelude.{◌&&◌, ◌||◌, nat_le, if◌then◌else◌}
 use Rattle.std.specs.List.{list_any}
-use Rattle.std.proofs.lemmas.List.{length_push, get_or_push, get_or_append_left, get_or-set_same, get_or-set_other, length-set, take-append-le, take_at, take_all, take-take, get_or-take, take_more, length-take-le, map-append, length-map}
-use Rattle.std.proofs.lemmas.Option.{slice_get_within, get_or_from_slice_get, slice_get-get_or}
-use Rattle.std.proofs.lemmas.Bool.{true≢false}
+use Rattle.std.proofs.lemmas.List.{length_push, get_or_push, get_or_append_left, take-append-le, take_at, take_all, take-take, get_or-take, length-take-le, map-append, length-map}
+use Rattle.std.proofs.lemmas.Bool.{leb-true, leb-false, true≢false}
 use Rattle.knit_base.specs.declared.needle.Needle.{Needle}
 use Rattle.knit_base.specs.Needle.{same_needle, same_needle-true}
 use Rattle.face_data.specs.Spots.{spot_of}
-use Rattle.summary_compose.specs.Tables.{Leads, IsTableOf, link_needles, AreLinked, note_of, suits}
+use Rattle.summary_compose.specs.Tables.{Leads, IsTableOf, IsWritten, link_needles, AreLinked, note_of, note_room, suits}
 use Rattle.summary_compose.specs.declared.index.Link.{Link}
 use Rattle.face_data.proofs.NeedleSpots.{spot_of-injective}
 use Rattle.knit_base.proofs.Needles.{same_needle-same}
@@ -45,30 +44,46 @@ leads_other names m n place differ h k within here = go (last_or_before k (lengt
         (at.0, room, get_or_append_left names (m ∷ []) n place at.1 ∙ at.2)
     go (inr last) = absurd (differ (sym (get_or_push names m n k (sym last)) ∙ here))
 
-tells_at : (entries : List ℕ) (names : List Needle) (m : Needle) → IsTableOf entries names → (n : Needle) (place : ℕ) →
-    slice_get (set entries (spot_of m) (length names)) (spot_of n) ≡ Some place → (m ≡ n) ⊎ (m ≡ n → ⊥) → Leads (names ++ m ∷ []) n place
-tells_at entries names m h n place found (inl same) =
-    let within = slice_get_within (set entries (spot_of m) (length names)) (spot_of n) place found in
-    let len = length-set entries (spot_of m) (length names) in
-    let spot : spot_of m ≡ spot_of n = ap spot_of same in
-    let read = get_or_from_slice_get (set entries (spot_of m) (length names)) (spot_of n) place 0 found in
-    let is : length names ≡ place = sym (get_or-set_same entries (spot_of m) (length names) 0 (omega arith)) ∙ ap (λ i. get_or (set entries (spot_of m) (length names)) i 0) spot ∙ read in
+tells_at : (entries more : List ℕ) (names : List Needle) (m : Needle) → IsTableOf entries names → IsWritten entries more m (length names) → (n : Needle) →
+    (m ≡ n) ⊎ (m ≡ n → ⊥) → Leads (names ++ m ∷ []) n (get_or more (spot_of n) 0)
+tells_at entries more names m h w n (inl same) =
+    let is : length names ≡ get_or more (spot_of n) 0 = sym w.here ∙ ap (λ (x : Needle). get_or more (spot_of x) 0) same in
     subst (λ p. Leads (names ++ m ∷ []) n p) is (leads_same names m n same)
-tells_at entries names m h n place found (inr differ) =
-    let within = slice_get_within (set entries (spot_of m) (length names)) (spot_of n) place found in
-    let len = length-set entries (spot_of m) (length names) in
-    let apart : spot_of n ≢ spot_of m = λ same. differ (sym (spot_of-injective n m same)) in
-    let read = get_or_from_slice_get (set entries (spot_of m) (length names)) (spot_of n) place 0 found in
-    let is : get_or entries (spot_of n) 0 ≡ place = sym (get_or-set_other entries (spot_of m) (spot_of n) (length names) 0 apart) ∙ read in
-    leads_other names m n place differ (h n place (slice_get-get_or entries (spot_of n) 0 (omega arith) ∙ ap Some is))
+tells_at entries more names m h w n (inr differ) =
+    let is : get_or more (spot_of n) 0 ≡ get_or entries (spot_of n) 0 = w.others (spot_of n) (λ same. differ (sym (spot_of-injective n m same))) in
+    subst (λ p. Leads (names ++ m ∷ []) n p) (sym is) (leads_other names m n (get_or entries (spot_of n) 0) differ (h n))
 
 -- a table with one more place noted
-pub tells_push : (entries : List ℕ) (names : List Needle) (m : Needle) → IsTableOf entries names → IsTableOf (set entries (spot_of m) (length names)) (names ++ m ∷ [])
-tells_push entries names m h n place found = tells_at entries names m h n place found (needle_cases m n)
+pub tells_push : (entries more : List ℕ) (names : List Needle) (m : Needle) → IsTableOf entries names → IsWritten entries more m (length names) → IsTableOf more (names ++ m ∷ [])
+tells_push entries more names m h w n = tells_at entries more names m h w n (needle_cases m n)
 
 -- no needle, no place
 pub tells_none : (entries : List ℕ) → IsTableOf entries []
-tells_none entries n place found k within here = absurd (omega arith)
+tells_none entries n k within here = absurd (omega arith)
+
+-- for so many notes there is room, so that each needle has a place
+pub room_there : (n spots links : ℕ) → n < note_room spots links → (2 ^ 18 ≤ spots) × (n < links)
+room_there n spots links = go (nat_le (2 ^ 18) spots) refl
+  where
+    go : (b : Bool) → nat_le (2 ^ 18) spots ≡ b → n < (if b then links else 0) → (2 ^ 18 ≤ spots) × (n < links)
+    go true e h = (leb-true (2 ^ 18) spots e, h)
+    go false e h = absurd (omega (arith, h))
+
+-- the room is that of the links where each needle has a place
+pub room_is : (spots links : ℕ) → 2 ^ 18 ≤ spots → note_room spots links ≡ links
+room_is spots links h = go (nat_le (2 ^ 18) spots) refl
+  where
+    go : (b : Bool) → nat_le (2 ^ 18) spots ≡ b → (if b then links else 0) ≡ links
+    go true e = refl
+    go false e = absurd (omega (arith, h, leb-false (2 ^ 18) spots e))
+
+-- and more of both is more room
+pub room_more : (spots links places more : ℕ) → spots ≤ places → links ≤ more → note_room spots links ≤ note_room places more
+room_more spots links places more h k = go (nat_le (2 ^ 18) spots) refl
+  where
+    go : (b : Bool) → nat_le (2 ^ 18) spots ≡ b → (if b then links else 0) ≤ note_room places more
+    go true e = omega (arith, k, room_is places more (omega (arith, h, leb-true (2 ^ 18) spots e)))
+    go false e = omega arith
 
 -- no link
 pub linked_none : AreLinked []
@@ -144,55 +159,20 @@ suits_at n len most (l ∷ links) zero d within so = ap (λ b. b || list_any (su
 suits_at n len most (l ∷ links) (suc place) d within so =
     or_something (suits n len most (note_of l)) (list_any (suits n len most) (map note_of links)) (suits_at n len most links place d (omega arith) so)
 
--- the walk over a list, one step on
-pub leads_take_same : (names : List Needle) (i : ℕ) (n : Needle) → i < length names → get_or names i n ≡ n → Leads (take (i + 1) names) n i
-leads_take_same names i n within here =
-    subst (λ xs. Leads xs n i) (sym (take_more names i n within))
-    (subst (λ j. Leads (take i names ++ get_or names i n ∷ []) n j) (length-take-le i names (omega arith)) (leads_same (take i names) (get_or names i n) n here))
-
--- another needle does not change where this one stands
-pub leads_take_other : (names : List Needle) (i : ℕ) (n : Needle) (place : ℕ) → i < length names → (get_or names i n ≡ n → ⊥) → Leads (take i names) n place →
-    Leads (take (i + 1) names) n place
-leads_take_other names i n place within differ h =
-    subst (λ xs. Leads xs n place) (sym (take_more names i n within)) (leads_other (take i names) (get_or names i n) n place differ h)
-
 -- the needle of the link at a place
 pub needle_of-get_or : (links : List Link) (i : ℕ) (d : Link) (n : Needle) → i < length links → get_or (link_needles links) i n ≡ (get_or links i d).needle
 needle_of-get_or [] i d n within = absurd (omega arith)
 needle_of-get_or (l ∷ links) zero d n within = refl
 needle_of-get_or (l ∷ links) (suc i) d n within = needle_of-get_or links i d n (omega arith)
 
--- what the walks over links need, with what the code gives as premises
-pub seek_same : (links : List Link) (i : ℕ) (d : Link) (n : Needle) (last : ℕ) → i < length links → (get_or links i d).needle ≡ n → last ≡ i →
-    Leads (take (i + 1) (link_needles links)) n last
-seek_same links i d n last within same is =
-    let len = length-map links (λ (l : Link). l.needle) in
-    subst (λ p. Leads (take (i + 1) (link_needles links)) n p) (sym is)
-    (leads_take_same (link_needles links) i n (omega arith) (needle_of-get_or links i d n within ∙ same))
-
--- a needle that does not stand at the next place
-pub seek_other : (links : List Link) (i : ℕ) (d : Link) (n : Needle) (last old : ℕ) → i < length links → ((get_or links i d).needle ≡ n → ⊥) → last ≡ old →
-    Leads (take i (link_needles links)) n old → Leads (take (i + 1) (link_needles links)) n last
-seek_other links i d n last old within differ is h =
-    let len = length-map links (λ (l : Link). l.needle) in
-    subst (λ p. Leads (take (i + 1) (link_needles links)) n p) (sym is)
-    (leads_take_other (link_needles links) i n old (omega arith) (λ same. differ (sym (needle_of-get_or links i d n within) ∙ same)) h)
-
--- the same links, the same places
-pub tells_links : (entries : List ℕ) (links xs : List Link) → xs ≡ links → IsTableOf entries (link_needles links) → IsTableOf entries (link_needles xs)
-tells_links entries links xs e h = subst (λ ys. IsTableOf entries (link_needles ys)) (sym e) h
-
 -- one link more is in the table
-pub tells_more : (entries more : List ℕ) (links now : List Link) (l : Link) (place : ℕ) → place ≡ length links → more ≡ set entries (spot_of l.needle) place →
+pub tells_more : (entries more : List ℕ) (links now : List Link) (l : Link) (place : ℕ) → place ≡ length links → IsWritten entries more l.needle place →
     now ≡ links ++ l ∷ [] → IsTableOf entries (link_needles links) → IsTableOf more (link_needles now)
 tells_more entries more links now l place here written e h =
     let name : Link → Needle = λ (x : Link). x.needle in
-    let len = length-map links name in
-    let at : place ≡ length (link_needles links) = here ∙ sym len in
+    let at : place ≡ length (link_needles links) = here ∙ sym (length-map links name) in
     let now_is : link_needles now ≡ link_needles links ++ l.needle ∷ [] = ap link_needles e ∙ map-append name links (l ∷ []) in
-    let more_is : more ≡ set entries (spot_of l.needle) (length (link_needles links)) = written ∙ ap (λ p. set entries (spot_of l.needle) p) at in
-    subst (λ es. IsTableOf es (link_needles now)) (sym more_is)
-    (subst (λ ns. IsTableOf (set entries (spot_of l.needle) (length (link_needles links))) ns) (sym now_is) (tells_push entries (link_needles links) l.needle h))
+    subst (λ ns. IsTableOf more ns) (sym now_is) (tells_push entries more (link_needles links) l.needle h (subst (IsWritten entries more l.needle) at written))
 
 -- one link more leads on
 pub linked_more : (links xs now : List Link) (l : Link) → xs ≡ links → now ≡ links ++ l ∷ [] → AreLinked links → Leads (link_needles xs) l.needle l.next → AreLinked now
@@ -270,9 +250,3 @@ walk_ends_at links n len most limit place whole x w before is differ =
     let few = length-take-le limit links within in
     walk_ends links n len most limit place whole w
     (λ small here. differ (ap (λ (l : Link). l.needle) (sym (at_read links limit place x before is)) ∙ sym (needle_of-get_or (take limit links) place x n (omega arith)) ∙ here))
-
--- after all places, where it was last seen
-pub seek_all : (links : List Link) (i : ℕ) (n : Needle) (last : ℕ) → length links ≤ i → Leads (take i (link_needles links)) n last → Leads (link_needles links) n last
-seek_all links i n last all h =
-    let len = length-map links (λ (l : Link). l.needle) in
-    subst (λ ns. Leads ns n last) (take_all i (link_needles links) (omega arith)) h

@@ -13,6 +13,7 @@ use Rattle.face_data.specs.Summaries.{Summary}
 use Rattle.face_data.specs.View.{names_of, AreNamed, ArePacked, PartsFit}
 use Rattle.summary_compose.specs.Changes.{changes_in, merged_of, segs_in, HaveOffsets}
 use Rattle.summary_compose.specs.Known.{AreGood, IsReadable, checks_in, names_count, names_read_count}
+use Rattle.summary_compose.specs.Tables.{HasPlaces}
 use Rattle.summary_compose.specs.declared.making.Making.{Making}
 use Rattle.summary_compose.specs.declared.room.Room.{Room}
 
@@ -47,13 +48,15 @@ pub record FindsRoom (a b : FaceView) (room : Room) : Type 0 where
   pub names : names_count (checks_in a) + names_read_count (changes_in a) (checks_in b) ≤ room.names
   pub changes : length (merged_of a b) ≤ room.changes
   pub segs : segs_in (merged_of a b) ≤ room.segs
+  pub some : 1 ≤ room.widest
   pub lasts : length a.lasts.now + length b.lasts.now ≤ room.lasts
 
--- so many items find room
+-- so many items find room, and, unless the room is none, each needle has a place
 pub record Holds (making : Making) (room : Room) : Type 0 where
   pub checks : room.checks ≤ making.kept.check_room
   pub names : room.names ≤ making.kept.name_room
   pub index : room.names ≤ making.index.room
+  pub places : 1 ≤ room.widest → HasPlaces making.places
   pub changes : room.changes ≤ making.laid.change_room
   pub segs : room.segs ≤ making.laid.seg_room
   pub lasts : room.lasts ≤ making.lasts.room
@@ -69,6 +72,7 @@ pub record IsNoGreater (room other : Room) : Type 0 where
   pub changes : room.changes ≤ other.changes
   pub segs : room.segs ≤ other.segs
   pub entries : room.entries ≤ other.entries
+  pub widest : room.widest ≤ other.widest
   pub lasts : room.lasts ≤ other.lasts
 
 -- the summary that was made

@@ -1,16 +1,34 @@
 -- Room for faces, and for one of two texts.
-use Rattle.std.specs.Prelude.{ℕ, ◌+◌, ◌*◌, ◌^◌, ◌≤◌, max, nat_lt, length, if◌then◌else◌}
+use Rattle.std.specs.Prelude.{ℕ, ◌+◌, ◌*◌, ◌^◌, ◌≤◌, List, [], ◌∷◌, max, min, nat_lt, length, if◌then◌else◌}
 use Rattle.face_data.specs.declared.face.FaceView.{FaceView}
-use Rattle.face_data.specs.Segments.{entries_of}
+use Rattle.face_data.specs.Segments.{Changed, entries_of}
+use Rattle.summary_compose.specs.Changes.{changes_in}
 use Rattle.summary_compose.specs.declared.room.Room.{Room}
 
 -- the number, where there can be so much room, and one past all room where there can't
 abbrev pub capped : ℕ → ℕ
 capped n = if nat_lt (2 ^ 62) n then 2 ^ 62 + 1 else n
 
--- no room
+-- the most entries that one needle holds behind the changes: one that isn't changed holds its own
+abbrev pub widest_of : List Changed → ℕ
+widest_of [] = 1
+widest_of (c ∷ changes) = max (length (entries_of c.1)) (widest_of changes)
+
+-- no room, not even for the face of no line
 abbrev pub no_room : Room
-no_room = record { checks = 0; names = 0; changes = 0; segs = 0; entries = 0; lasts = 0 }
+no_room = record { checks = 0; names = 0; changes = 0; segs = 0; entries = 0; widest = 0; lasts = 0 }
+
+-- the same room, its numbers capped
+abbrev pub kept_of : Room → Room
+kept_of room = record {
+  checks = capped room.checks;
+  names = capped room.names;
+  changes = capped room.changes;
+  segs = capped room.segs;
+  entries = capped room.entries;
+  widest = capped room.widest;
+  lasts = capped room.lasts;
+}
 
 -- the greater of both in each field
 abbrev pub greater : Room → Room → Room
@@ -20,10 +38,11 @@ greater a b = record {
   changes = max a.changes b.changes;
   segs = max a.segs b.segs;
   entries = max a.entries b.entries;
+  widest = max a.widest b.widest;
   lasts = max a.lasts b.lasts;
 }
 
--- the items of a face's lists
+-- the items of a face's lists, and the entries of the needle that holds most of them
 abbrev pub room_of : FaceView → Room
 room_of face = record {
   checks = length face.checks.now;
@@ -31,18 +50,24 @@ room_of face = record {
   changes = length face.changes.now;
   segs = length face.segs.now;
   entries = length (entries_of face.segs.now);
+  widest = widest_of (changes_in face);
   lasts = length face.lasts.now;
 }
 
--- Room for the composition of a face with this room and one with the next: a condition of the second may name, beside its own
--- needles, each needle whose entry stands in the first one's segments.
+-- How many needles the conditions of a second face may name when they are read through the first: each needle may hold as many entries
+-- as any does, and each condition may name, beside its own needles, each entry that stands in the first one's segments.
+abbrev pub names_after : Room → Room → ℕ
+names_after room next = min (capped (next.names * room.widest)) (capped (next.names + capped (next.checks * room.entries)))
+
+-- room for the composition of a face with this room and one with the next
 abbrev pub room_after : Room → Room → Room
 room_after room next = record {
   checks = capped (room.checks + next.checks);
-  names = capped (capped (room.names + next.names) + capped (next.checks * room.entries));
+  names = capped (room.names + names_after room next);
   changes = capped (room.changes + next.changes);
   segs = capped (room.segs + next.segs);
   entries = capped (room.entries + next.entries);
+  widest = min (capped (room.widest * next.widest)) (max 1 (capped (room.entries + next.entries)));
   lasts = capped (room.lasts + next.lasts);
 }
 

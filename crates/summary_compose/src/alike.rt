@@ -14,7 +14,7 @@ ghost use Rattle.face_data.specs.Segments.{names_through, new_through};
 ghost use Rattle.face_data.specs.View.{CondFits, PartsFit};
 ghost use Rattle.summary_compose.specs.Changes.{SpareSliders, changed_needles, changes_in};
 ghost use Rattle.summary_compose.specs.Known.{AreAlike, AreGood, IsPlainCond, IsReadable, checks_in, noted_answer, notes_of};
-ghost use Rattle.summary_compose.specs.Tables.{IsTableOf, Note, suits};
+ghost use Rattle.summary_compose.specs.Tables.{HasPlaces, IsTableOf, Note, suits};
 
 use crate::laid::count_new;
 use crate::names::{names_at, one_name};
@@ -248,6 +248,7 @@ fn size_holds(
 ) -> bool
     requires spared { spared ≡ true → SpareSliders a.now.changes.now }
     requires noted { noted.old ≡ true → IsTableOf places.old.table.entries.items (changed_needles a.now.changes.now) }
+    requires places { HasPlaces places.old }
     requires fits { All (λ (c : Check). CondFits a.now.names.now c.cond) a.now.checks.now }
     requires part { part.start + part.len ≤ length names.now }
     requires few { new_through (changes_in a.now) (part_of names.now part) < 2 ^ 64 }
@@ -255,6 +256,7 @@ fn size_holds(
     requires order { IsInOrder (changes_in a.now) }
     ensures holds { result ≡ true → noted_answer (notes_of (checks_in a.now)) (names_through (changes_in a.now) (part_of names.now part)) (new_through (changes_in a.now) (part_of names.now part)) most ≡ yes_it_does }
     ensures noted { noted.new ≡ true → IsTableOf places.new.table.entries.items (changed_needles a.now.changes.now) }
+    ensures places { HasPlaces places.new }
 {
     if spared {
         if slider_implied(a, names, part, most, walk) {
@@ -284,12 +286,14 @@ fn implied(
     requires there { at < length b.now.checks.now }
     requires spared { spared ≡ true → SpareSliders a.now.changes.now }
     requires noted { noted.old ≡ true → IsTableOf places.old.table.entries.items (changed_needles a.now.changes.now) }
+    requires places { HasPlaces places.old }
     requires fits { All (λ (c : Check). CondFits a.now.names.now c.cond) a.now.checks.now }
     requires readable { All (λ (c : Check). IsReadable a.now b.now.names.now c.cond) b.now.checks.now }
     requires fit { PartsFit a.now.segs.now a.now.changes.now }
     requires order { IsInOrder (changes_in a.now) }
     ensures alike { result ≡ true → AreAlike a.now b.now effect.now (at + 1) }
     ensures noted { noted.new ≡ true → IsTableOf places.new.table.entries.items (changed_needles a.now.changes.now) }
+    ensures places { HasPlaces places.new }
 {
     if let Cond::SizeAtMost(part, most) = b.checks[at].cond {
         return size_holds(spared, noted, places, a, b.names, part, most, walk);
@@ -323,8 +327,10 @@ pub fn count_alike(
     requires readable { All (λ (c : Check). IsReadable a.now b.now.names.now c.cond) b.now.checks.now }
     requires fit { PartsFit a.now.segs.now a.now.changes.now }
     requires order { IsInOrder (changes_in a.now) }
+    requires places { HasPlaces places.old }
     ensures alike { AreAlike a.now b.now effect.now result.0 }
     ensures noted { result.1 ≡ true → IsTableOf places.new.table.entries.items (changed_needles a.now.changes.now) }
+    ensures places { HasPlaces places.new }
 {
     let spared = are_spared(a, b);
     let mut noted = false;

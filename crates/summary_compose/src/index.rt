@@ -38,11 +38,11 @@ pub struct Index {
 
 impl Model for Index {
     ghost use Rattle.std.specs.Prelude.{map, vec_capacity};
-    ghost use Rattle.summary_compose.specs.Tables.{IndexView, note_of, link_needles, IsTableOf, AreLinked};
+    ghost use Rattle.summary_compose.specs.Tables.{IndexView, note_of, note_room, link_needles, IsTableOf, AreLinked};
 
     ghost Value = { IndexView };
 
-    ghost view = { λ i. record { notes = map note_of i.links.items; room = vec_capacity i.links } };
+    ghost view = { λ i. record { notes = map note_of i.links.items; room = note_room (vec_capacity i.table.entries) (vec_capacity i.links) } };
 
     ghost invariant = { λ i. IsTableOf i.table.entries.items (link_needles i.links.items) × AreLinked i.links.items };
 }
@@ -85,7 +85,7 @@ impl Index {
         ensures notes { self.new.notes ≡ self.old.notes ++ record { needle = needle; len = len; most = most } ∷ [] }
         ensures room { self.new.room ≡ self.old.room }
     {
-        let next = last_of(&self.table, &self.links, needle);
+        let next = self.table.get(needle);
         let place = self.links.len();
         self.table.set(needle, place);
         self.links.push_reserved(Link {
@@ -102,7 +102,7 @@ impl Index {
         ensures { result ≡ list_any (suits n len most) self.now.notes }
     {
         let mut limit = self.links.len();
-        let mut place = last_of(&self.table, &self.links, n);
+        let mut place = self.table.get(n);
         while place < limit {
             let link = self.links[place];
             if !is_same(link.needle, n) {
@@ -116,30 +116,4 @@ impl Index {
         }
         false
     }
-}
-
-// Where the needle stands last, if it does.
-#[inline(always)]
-fn last_of(table: &Table, links: &[Link], n: Needle) -> usize
-    requires { IsTableOf table.now.entries.items (link_needles links.now) }
-    ensures { Leads (link_needles links.now) n result }
-{
-    match table.get(n) {
-        Some(place) => place,
-        None => seek(links, n),
-    }
-}
-
-// The same without a table.
-#[cold]
-fn seek(links: &[Link], n: Needle) -> usize
-    ensures { Leads (link_needles links.now) n result }
-{
-    let mut last = 0;
-    for (place, link) in links.iter().enumerate() {
-        if is_same(link.needle, n) {
-            last = place;
-        }
-    }
-    last
 }

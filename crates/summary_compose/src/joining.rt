@@ -6,7 +6,7 @@ ghost use Rattle.face_data.specs.View.{summary_of};
 ghost use Rattle.summary_compose.specs.Changes.{changed_needles, changes_in, merged_of, segs_in};
 ghost use Rattle.summary_compose.specs.Composing.{Composes, FindsRoom, Holds, KeepsRooms, made_in};
 ghost use Rattle.summary_compose.specs.Known.{AreAlike, checks_in, names_count, names_read_count};
-ghost use Rattle.summary_compose.specs.Tables.{IsTableOf};
+ghost use Rattle.summary_compose.specs.Tables.{HasPlaces, IsTableOf};
 ghost use Rattle.summary_compose.specs.declared.room.Room.{Room};
 
 use crate::alike::count_alike;
@@ -35,8 +35,10 @@ fn gather(
     requires check_room { length a.now.checks.now + length b.now.checks.now ≤ kept.old.check_room }
     requires name_room { names_count (checks_in a.now) + names_read_count (changes_in a.now) (checks_in b.now) ≤ kept.old.name_room }
     requires index_room { names_count (checks_in a.now) + names_read_count (changes_in a.now) (checks_in b.now) ≤ index.old.room }
+    requires places { HasPlaces places.old }
     ensures read { reads effect.now a.now.lasts.now (changes_in a.now) a.now.lines (checks_in a.now) (checks_in b.now) ≡ record { checks = kept.new.checks; stop = result.0 } }
     ensures noted { result.1 ≡ true → IsTableOf places.new.table.entries.items (changed_needles a.now.changes.now) }
+    ensures places { HasPlaces places.new }
     ensures check_room { kept.new.check_room ≡ kept.old.check_room }
     ensures name_room { kept.new.name_room ≡ kept.old.name_room }
     ensures index_room { index.new.room ≡ index.old.room }

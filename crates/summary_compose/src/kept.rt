@@ -65,18 +65,23 @@ impl Kept {
         }
     }
 
-    /// Makes room, and takes all conditions out.
+    /// Makes room. The conditions stay.
     pub fn reserve(&mut self, checks: u64, names: u64) -> Result<(), NoMemory>
-        ensures checks { self.new.checks ≡ [] }
+        ensures checks { self.new.checks ≡ self.old.checks }
         ensures check_room { OnOk result (checks ≤ self.new.check_room) }
         ensures name_room { OnOk result (names ≤ self.new.name_room) }
         ensures keeps { (self.old.check_room ≤ self.new.check_room) × (self.old.name_room ≤ self.new.name_room) }
     {
-        self.checks.clear();
-        self.names.clear();
-        self.checks.reserve(checks as usize)?;
-        self.names.reserve(names as usize)?;
+        let more_checks = (checks as usize).saturating_sub(self.checks.len());
+        self.checks.reserve(more_checks)?;
+        let more_names = (names as usize).saturating_sub(self.names.len());
+        self.names.reserve(more_names)?;
         Ok(())
+    }
+
+    /// Where its memory comes from.
+    pub fn allocator(&self) -> Global {
+        *self.checks.allocator()
     }
 
     /// Keeps the conditions of this face, and no others.

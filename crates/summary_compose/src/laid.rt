@@ -57,17 +57,17 @@ impl Laid {
         self.segs.clear();
     }
 
-    /// Makes room, and takes all changes out.
+    /// Makes room. The changes stay.
     pub fn reserve(&mut self, changes: u64, segs: u64) -> Result<(), NoMemory>
-        ensures changes { self.new.changes ≡ [] }
+        ensures changes { self.new.changes ≡ self.old.changes }
         ensures change_room { OnOk result (changes ≤ self.new.change_room) }
         ensures seg_room { OnOk result (segs ≤ self.new.seg_room) }
         ensures keeps { (self.old.change_room ≤ self.new.change_room) × (self.old.seg_room ≤ self.new.seg_room) }
     {
-        self.changes.clear();
-        self.segs.clear();
-        self.changes.reserve(changes as usize)?;
-        self.segs.reserve(segs as usize)?;
+        let more_changes = (changes as usize).saturating_sub(self.changes.len());
+        self.changes.reserve(more_changes)?;
+        let more_segs = (segs as usize).saturating_sub(self.segs.len());
+        self.segs.reserve(more_segs)?;
         Ok(())
     }
 

@@ -1,7 +1,8 @@
 //! A face in the making.
-ghost use Rattle.std.specs.Prelude.{◌≡◌, OnOk};
+ghost use Rattle.std.specs.Prelude.{◌≡◌, ◌≤◌, OnOk, OnErr};
 ghost use Rattle.face_data.specs.View.{IsPacked, summary_of};
-ghost use Rattle.summary_compose.specs.Composing.{made_in, Holds, KeepsRooms};
+ghost use Rattle.summary_compose.specs.Composing.{made_in, Holds, IsNoGreater};
+ghost use Rattle.summary_compose.specs.declared.room.Room.{Room};
 
 use crate::index::Index;
 use crate::kept::Kept;
@@ -45,14 +46,16 @@ impl Making {
         }
     }
 
-    /// Makes room. What was made before is gone.
+    /// Makes so much room, beside what there is. The face that was made last stays.
     pub fn reserve(&mut self, room: &Room) -> Result<(), NoMemory>
         ensures has { OnOk result (Holds self.new room.now) }
-        ensures keeps { KeepsRooms self.old self.new }
+        ensures keeps { (had : Room) → IsNoGreater had room.now → Holds self.old had → Holds self.new had }
+        ensures face { made_in self.new ≡ made_in self.old }
     {
+        let alloc = self.kept.allocator();
         self.kept.reserve(room.checks, room.names)?;
         self.laid.reserve(room.changes, room.segs)?;
-        self.lasts.reserve(room.lasts)?;
+        lengthen_lasts(alloc, &mut self.lasts, room.lasts)?;
         self.index.reserve(room.names)?;
         self.places.reserve()
     }
@@ -75,4 +78,20 @@ impl Making {
             ending: self.ending,
         }
     }
+}
+
+// Makes room for so many last needles, and keeps those that there are.
+fn lengthen_lasts(alloc: Global, lasts: &mut Lasts, room: u64) -> Result<(), NoMemory>
+    ensures lasts { lasts.new.lasts ≡ lasts.old.lasts }
+    ensures room { OnOk result (room ≤ lasts.new.room) }
+    ensures refused { OnErr result (lasts.old.room ≤ lasts.new.room) }
+{
+    if lasts.as_slice().is_empty() {
+        return lasts.reserve(room);
+    }
+    let mut more = Lasts::new(alloc);
+    more.reserve(room.max(lasts.as_slice().len() as u64))?;
+    more.begin(lasts.as_slice());
+    *lasts = more;
+    Ok(())
 }

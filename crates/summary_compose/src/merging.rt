@@ -9,7 +9,7 @@ ghost use Rattle.face_data.specs.Goodness.{IsInOrder};
 ghost use Rattle.face_data.specs.Segments.{entries_of};
 ghost use Rattle.face_data.specs.View.{changed_of, ArePacked, PartsFit};
 ghost use Rattle.summary_compose.specs.Changes.{changed_needles, HaveOffsets, segs_in, changes_in, merged_of};
-ghost use Rattle.summary_compose.specs.Tables.{IsTableOf};
+ghost use Rattle.summary_compose.specs.Tables.{HasPlaces, IsTableOf};
 
 use crate::laid::{Laid, count_new, new_in};
 use crate::places::Places;
@@ -137,6 +137,7 @@ pub fn merge(laid: &mut Laid, a: &FaceView, b: &FaceView, places: &mut Places, n
     requires seg_room { segs_in (merged_of a.now b.now) ≤ laid.old.seg_room }
     requires few { segs_in (merged_of a.now b.now) < 2 ^ 32 }
     requires noted { noted ≡ true → IsTableOf places.old.table.entries.items (changed_needles a.now.changes.now) }
+    requires places { HasPlaces places.old }
     requires fit { PartsFit a.now.segs.now a.now.changes.now }
     requires order { IsInOrder (map (changed_of a.now.segs.now) a.now.changes.now) }
     requires second_packed { ArePacked b.now.segs.now b.now.changes.now }
@@ -144,6 +145,7 @@ pub fn merge(laid: &mut Laid, a: &FaceView, b: &FaceView, places: &mut Places, n
     ensures changes { laid.new.changes ≡ merged_of a.now b.now }
     ensures change_room { laid.old.change_room ≤ laid.new.change_room }
     ensures seg_room { laid.old.seg_room ≤ laid.new.seg_room }
+    ensures places { HasPlaces places.new }
 {
     if change_same(a, b) {
         if are_new(b.segs) {

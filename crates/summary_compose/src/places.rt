@@ -1,12 +1,12 @@
 //! What needles hold after a face.
-ghost use Rattle.std.specs.Prelude.{◌≡◌, ◌<◌, ◌+◌, ◌^◌, true, [], ◌∷◌, length, map, IfNone, IfSome};
+ghost use Rattle.std.specs.Prelude.{◌≡◌, true, [], ◌∷◌, length, map, OnOk, IfNone, IfSome};
 ghost use Rattle.face_data.specs.declared.face.Change.{Change};
 ghost use Rattle.face_data.specs.declared.face.Seg.TheVariants.{Entry};
 ghost use Rattle.face_data.specs.Goodness.{IsInOrder};
 ghost use Rattle.face_data.specs.Segments.{segments_on};
 ghost use Rattle.face_data.specs.View.{changed_of, PartsFit};
 ghost use Rattle.summary_compose.specs.Changes.{changed_needles};
-ghost use Rattle.summary_compose.specs.Tables.{Leads, IsTableOf};
+ghost use Rattle.summary_compose.specs.Tables.{HasPlaces, IsTableOf};
 
 use crate::spots::{Table, is_same};
 use face_data::{Change, FaceView, Seg};
@@ -27,14 +27,19 @@ impl Places {
         }
     }
 
-    /// Makes the table.
-    pub fn reserve(&mut self) -> Result<(), NoMemory> {
+    /// Makes room for all needles.
+    pub fn reserve(&mut self) -> Result<(), NoMemory>
+        ensures room { OnOk result (HasPlaces self.new) }
+        ensures keeps { HasPlaces self.old → HasPlaces self.new }
+    {
         self.table.reserve()
     }
 
     /// Notes the places of all changes.
     pub fn note(&mut self, changes: &[Change])
-        ensures { IsTableOf self.new.table.entries.items (changed_needles changes.now) }
+        requires { HasPlaces self.old }
+        ensures table { IsTableOf self.new.table.entries.items (changed_needles changes.now) }
+        ensures room { HasPlaces self.new }
     {
         for (place, change) in changes.iter().enumerate() {
             self.table.set(change.needle, place);
@@ -43,8 +48,10 @@ impl Places {
 
     /// Notes the places of all changes, unless they are noted already.
     pub fn note_once(&mut self, changes: &[Change], noted: bool)
-        requires { noted ≡ true → IsTableOf self.old.table.entries.items (changed_needles changes.now) }
-        ensures { IsTableOf self.new.table.entries.items (changed_needles changes.now) }
+        requires noted { noted ≡ true → IsTableOf self.old.table.entries.items (changed_needles changes.now) }
+        requires room { HasPlaces self.old }
+        ensures table { IsTableOf self.new.table.entries.items (changed_needles changes.now) }
+        ensures room { HasPlaces self.new }
     {
         if !noted {
             self.note(changes);
@@ -61,7 +68,7 @@ impl Places {
         ensures some { IfSome result (λ held. held.now ≡ segments_on (map (changed_of face.now.segs.now) face.now.changes.now) n) }
     {
         let changes = face.changes;
-        let place = place_of(&self.table, changes, n);
+        let place = self.table.get(n);
         if place >= changes.len() {
             return None;
         }
@@ -73,30 +80,4 @@ impl Places {
         let end = start + change.part.len as usize;
         Some(&face.segs[start..end])
     }
-}
-
-// Where the needle's change stands, if there is one.
-#[inline(always)]
-fn place_of(table: &Table, changes: &[Change], n: Needle) -> usize
-    requires { IsTableOf table.now.entries.items (changed_needles changes.now) }
-    ensures { Leads (changed_needles changes.now) n result }
-{
-    match table.get(n) {
-        Some(place) => place,
-        None => seek(changes, n),
-    }
-}
-
-// The same without a table.
-#[cold]
-fn seek(changes: &[Change], n: Needle) -> usize
-    ensures { Leads (changed_needles changes.now) n result }
-{
-    let mut last = 0;
-    for (place, change) in changes.iter().enumerate() {
-        if is_same(change.needle, n) {
-            last = place;
-        }
-    }
-    last
 }

@@ -1,13 +1,15 @@
 //! Room for faces, as numbers of items.
-ghost use Rattle.std.specs.Prelude.{◌≡◌, ◌↔◌, ◌+◌, ◌*◌, IsTrue, length, false};
+ghost use Rattle.std.specs.Prelude.{◌≡◌, ◌↔◌, ◌+◌, ◌*◌, IsTrue, length, map, false};
+ghost use Rattle.face_data.specs.Conditions.{part_of};
 ghost use Rattle.face_data.specs.Segments.{entries_of};
+ghost use Rattle.face_data.specs.View.{changed_of};
 ghost use Rattle.summary_compose.specs.Composing.{IsNoGreater};
-ghost use Rattle.summary_compose.specs.Rooms.{CanBeMade, capped, greater, room_after, room_of, room_of_both};
+ghost use Rattle.summary_compose.specs.Rooms.{CanBeMade, capped, greater, kept_of, room_after, room_of, room_of_both, widest_of};
 
-use face_data::{FaceView, Seg};
+use face_data::{Change, FaceView, Part, Seg};
 
-/// How many items the lists of a face may have, and how many of its segments may be entries. A number that would pass 2 ^ 62
-/// stands as 2 ^ 62 + 1, for which no scratch has room.
+/// How many items the lists of a face may have, and how many of its segments may be entries, in all and on one needle. A number that would
+/// pass 2 ^ 62 stands as 2 ^ 62 + 1, for which no scratch has room.
 #[derive(Clone, Copy, Debug, PartialEq, Eq)]
 pub struct Room {
     pub checks: u64,
@@ -15,6 +17,7 @@ pub struct Room {
     pub changes: u64,
     pub segs: u64,
     pub entries: u64,
+    pub widest: u64,
     pub lasts: u64,
 }
 
@@ -41,13 +44,14 @@ fn product(a: u64, b: u64) -> u64
 }
 
 impl Room {
-    /// No room.
+    /// No room, not even for the face of no line.
     pub const NONE: Room = Room {
         checks: 0,
         names: 0,
         changes: 0,
         segs: 0,
         entries: 0,
+        widest: 0,
         lasts: 0,
     };
 
@@ -60,6 +64,7 @@ impl Room {
             && self.changes <= other.changes
             && self.segs <= other.segs
             && self.entries <= other.entries
+            && self.widest <= other.widest
             && self.lasts <= other.lasts
     }
 
@@ -75,6 +80,7 @@ impl Room {
             changes: self.changes.max(other.changes),
             segs: self.segs.max(other.segs),
             entries: self.entries.max(other.entries),
+            widest: self.widest.max(other.widest),
             lasts: self.lasts.max(other.lasts),
         }
     }
@@ -90,34 +96,52 @@ impl Room {
             || self.lasts > GREATEST
     }
 
+    /// The same where no number passes 2 ^ 62 + 1.
+    pub fn kept(&self) -> Room
+        ensures { result ≡ kept_of self.now }
+    {
+        Room {
+            checks: kept(self.checks),
+            names: kept(self.names),
+            changes: kept(self.changes),
+            segs: kept(self.segs),
+            entries: kept(self.entries),
+            widest: kept(self.widest),
+            lasts: kept(self.lasts),
+        }
+    }
+
     /// The room that the face takes.
     pub fn of(face: &FaceView) -> Room
         ensures { result ≡ room_of face.now }
     {
+        let entries = entries_in(face.segs);
         Room {
             checks: face.checks.len() as u64,
             names: face.names.len() as u64,
             changes: face.changes.len() as u64,
             segs: face.segs.len() as u64,
-            entries: entries_in(face.segs),
+            entries,
+            widest: widest_in(face.segs, face.changes),
             lasts: face.lasts.len() as u64,
         }
     }
 
-    /// Room for the composition of a face with this room and one with the next. It grows with the product of the second one's
-    /// checks and this one's entries, since a check may come to name each of them.
+    /// Room for the composition of a face with this room and one with the next. A needle that a check of the second names may hold as many
+    /// entries as any after the first, and a check may name each of the first one's entries.
     pub fn after(&self, next: &Room) -> Room
         ensures { result ≡ room_after self.now next.now }
     {
+        let each = product(next.names, self.widest);
+        let all = sum(next.names, product(next.checks, self.entries));
+        let entries = sum(self.entries, next.entries);
         Room {
             checks: sum(self.checks, next.checks),
-            names: sum(
-                sum(self.names, next.names),
-                product(next.checks, self.entries),
-            ),
+            names: sum(self.names, each.min(all)),
             changes: sum(self.changes, next.changes),
             segs: sum(self.segs, next.segs),
-            entries: sum(self.entries, next.entries),
+            entries,
+            widest: product(self.widest, next.widest).min(entries.max(1)),
             lasts: sum(self.lasts, next.lasts),
         }
     }
@@ -133,6 +157,29 @@ fn entries_in(segs: &[Seg]) -> u64
         }
     }
     entries
+}
+
+// The segments of a part, as far as they are there.
+#[inline(always)]
+fn part_in(segs: &[Seg], part: Part) -> &[Seg]
+    ensures { result.now ≡ part_of segs.now part }
+{
+    let start = (part.start as usize).min(segs.len());
+    let end = start + (part.len as usize).min(segs.len() - start);
+    &segs[start..end]
+}
+
+// The most entries that a needle holds. A change of fewer segments than that isn't read.
+fn widest_in(segs: &[Seg], changes: &[Change]) -> u64
+    ensures { result ≡ widest_of (map (changed_of segs.now) changes.now) }
+{
+    let mut widest = 1u64;
+    for change in changes {
+        if u64::from(change.part.len) > widest {
+            widest = widest.max(entries_in(part_in(segs, change.part)));
+        }
+    }
+    widest
 }
 
 /// Room for the composition of the two faces. Takes no memory.

@@ -1,11 +1,11 @@
 //! Composition, and where a face is made.
-ghost use Rattle.std.specs.Prelude.{◌≡◌, ◌↔◌, ℕ, ◌<◌, ◌≤◌, ◌+◌, ◌^◌, List, ◌++◌, IfOk, IsTrue, OnErr, OnOk};
+ghost use Rattle.std.specs.Prelude.{◌≡◌, ◌↔◌, ℕ, ◌<◌, ◌≤◌, ◌+◌, ◌^◌, List, ◌++◌, length, IfOk, IsOk, IsTrue, OnErr, OnOk};
 ghost use Rattle.carriage_model.specs.State.{State};
 ghost use Rattle.knit_base.specs.declared.needle.Needle.{Needle};
 ghost use Rattle.face_data.specs.declared.face.FaceView.{FaceView};
 ghost use Rattle.face_data.specs.Composition.{and_then, composed};
 ghost use Rattle.face_data.specs.Goodness.{IsGood};
-ghost use Rattle.face_data.specs.Items.{items};
+ghost use Rattle.face_data.specs.Items.{items, most_items};
 ghost use Rattle.face_data.specs.Summaries.{applied};
 ghost use Rattle.face_data.specs.View.{IsPacked, summary_of};
 ghost use Rattle.summary_compose.specs.Composing.{IsNoGreater};
@@ -51,12 +51,18 @@ impl Scratch {
         }
     }
 
-    /// Makes so much room, beside what there is. What was composed before is gone, also after `NoMemory`.
+    /// Makes so much room, beside what there is. The face last composed stays, also after `NoMemory`. Where there is so much room
+    /// already, it takes no memory.
     pub fn reserve(&mut self, room: &Room) -> Result<(), NoMemory>
         ensures has { OnOk result (IsNoGreater room.now self.new.room) }
         ensures keeps { IsNoGreater self.old.room self.new.room }
         ensures refused { OnErr result (self.new.room ≡ self.old.room) }
+        ensures face { self.new.summary ≡ self.old.summary }
+        ensures ready { IsNoGreater room.now self.old.room → IsOk result }
     {
+        if self.meets(room) {
+            return Ok(());
+        }
         let more = self.room.max(room);
         if more.is_past_all() {
             return Err(NoMemory);
@@ -73,7 +79,7 @@ impl Scratch {
         room.is_within(&self.room)
     }
 
-    /// The face last composed; after `reserve` it is of no use until the next is. Takes no memory.
+    /// The face last composed, or that of no line. Takes no memory.
     pub fn view(&self) -> FaceView<'_>
         ensures summary { summary_of result ≡ self.now.summary }
         ensures packed { IsPacked result }
@@ -98,6 +104,7 @@ pub fn compose_into<L: Ledger>(
     ensures composed { scratch.new.summary ≡ composed (summary_of a.now) (summary_of b.now) }
     ensures runs_both { (s : State) (first : ℕ) → applied (scratch.new.summary) s first ≡ and_then (applied (summary_of a.now) s first) (λ t. applied (summary_of b.now) t (first + a.now.lines)) }
     ensures good { (carriers limit : ℕ) (first second : List Needle) → IsGood carriers limit first (summary_of a.now) → IsGood carriers limit second (summary_of b.now) → IsGood carriers limit (first ++ second) (scratch.new.summary) }
+    ensures bound { (carriers limit : ℕ) (known : List Needle) → IsGood carriers limit known (summary_of a.now) → IsGood carriers limit known (summary_of b.now) → items (scratch.new.summary) ≤ most_items carriers limit (length known) }
     ensures room { scratch.new.room ≡ scratch.old.room }
     ensures fits { (face : FaceView) → IsPacked face → summary_of face ≡ scratch.new.summary → IsNoGreater (room_of face) (room_of_both a.now b.now) }
     ensures steps { steps.new ≡ steps.old + items (summary_of a.now) + items (summary_of b.now) + items (scratch.new.summary) }
@@ -123,6 +130,7 @@ pub fn compose<L: Ledger>(
     ensures composed { IfOk result (λ face. face ≡ composed (summary_of a.now) (summary_of b.now)) }
     ensures runs_both { IfOk result (λ face. (s : State) (first : ℕ) → applied face s first ≡ and_then (applied (summary_of a.now) s first) (λ t. applied (summary_of b.now) t (first + a.now.lines))) }
     ensures good { IfOk result (λ face. (carriers limit : ℕ) (first second : List Needle) → IsGood carriers limit first (summary_of a.now) → IsGood carriers limit second (summary_of b.now) → IsGood carriers limit (first ++ second) face) }
+    ensures bound { IfOk result (λ face. (carriers limit : ℕ) (known : List Needle) → IsGood carriers limit known (summary_of a.now) → IsGood carriers limit known (summary_of b.now) → items face ≤ most_items carriers limit (length known)) }
     ensures steps { IfOk result (λ face. steps.new ≡ steps.old + items (summary_of a.now) + items (summary_of b.now) + items face) }
     ensures refused { OnErr result (steps.new ≤ steps.old + items (summary_of a.now) + items (summary_of b.now) + items (composed (summary_of a.now) (summary_of b.now))) }
 {

@@ -17,5 +17,6 @@ returns-in-Through-clause-keeps c = λ room h.
       index = h.index;
       changes = omega (arith, h.changes, c.clear.ensures.change_room);
       segs = omega (arith, h.segs, c.clear.ensures.seg_room);
+      places = h.places;
       lasts = omega (arith, h.lasts, c.clear-2.ensures.room);
     })

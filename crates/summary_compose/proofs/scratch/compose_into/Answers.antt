@@ -2,14 +2,15 @@
 use Rattle.std.proofs.Common.{sym, subst, ◌∙◌}
 use Rattle.face_data.specs.Composition.{and_then}
 use Rattle.face_data.specs.Goodness.{IsGood}
+use Rattle.face_data.specs.Items.{items, most_items}
 use Rattle.face_data.specs.Summaries.{Summary, applied}
 use Rattle.face_data.specs.View.{summary_of}
-use Rattle.std.specs.Prelude.{◌≡◌, ◌+◌, ◌++◌}
+use Rattle.std.specs.Prelude.{◌≡◌, ◌+◌, ◌≤◌, ◌++◌, length}
 use Rattle.face_data.proofs.Goodness.{composed_good, composed_runs_both}
 use Rattle.summary_compose.specs.Composing.{IsNoGreater, ScratchView}
 use Rattle.summary_compose.specs.Rooms.{room_of_both}
 use Rattle.summary_compose.proofs.ComposedRooms.{composed_fits}
-use Rattle.summary_compose.proofs.GoodFaces.{composable}
+use Rattle.summary_compose.proofs.GoodFaces.{composable, composed_items}
 use Rattle.summary_compose.proofs.Rooms.{finds_room}
 use Rattle.summary_compose.proofs.scratch.compose_into.Goals as goal
 
@@ -25,6 +26,10 @@ returns-clause-runs_both g c = λ s first.
 pub returns-clause-good : goal.returns-clause-good
 returns-clause-good g c = λ carriers limit first second ga gb.
     subst (IsGood carriers limit (first ++ second)) (sym c.put_together.ensures.made) (composed_good carriers limit first second (summary_of c.args.a.now) (summary_of c.args.b.now) ga gb)
+
+pub returns-clause-bound : goal.returns-clause-bound
+returns-clause-bound g c = λ carriers limit known ga gb.
+    subst (λ (m : Summary). items m ≤ most_items carriers limit (length known)) (sym c.put_together.ensures.made) (composed_items carriers limit known (summary_of c.args.a.now) (summary_of c.args.b.now) ga gb)
 
 pub returns-clause-fits : goal.returns-clause-fits
 returns-clause-fits g c = λ face packed is.

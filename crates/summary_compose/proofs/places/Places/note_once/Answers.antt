@@ -1,5 +1,5 @@
 -- They are noted already.
 use Rattle.summary_compose.proofs.places.Places.note_once.Goals as goal
 
-pub returns-else-not-noted : goal.returns-else-not-noted
-returns-else-not-noted c = c.requires c.if-not-noted.false
+pub returns-else-not-noted-clause-table : goal.returns-else-not-noted-clause-table
+returns-else-not-noted-clause-table c = c.requires.noted c.if-not-noted.false
