@@ -8,8 +8,7 @@ use Rattle.std.proofs.lemmas.Bool.Decides.{eqb_tells}
 use Rattle.std.proofs.lemmas.List.{get_or_past, get_or_default, get_or-set_same, get_or-set_other}
 use Rattle.std.proofs.lemmas.List.Sums.{sum_by-append, sum_by-cons, sum_by-set}
 use Rattle.std.proofs.Math.ListN.{get_or-map}
-use Rattle.face_data.specs.Segments.{entries_of}
-use Rattle.face_data.specs.View.{AreNamed, ArePacked, IsPacked}
+use Rattle.face_data.specs.View.{asked_of, changed_of, summary_of, AreNamed, ArePacked, IsPacked}
 use Rattle.face_data.specs.declared.face.FaceView.{FaceView}
 use Rattle.span_pool.specs.Pool.{OneFewer, OneMore, PoolView, out_of, spare_of}
 use Rattle.summary_compose.specs.declared.room.Room.{Room}
@@ -19,6 +18,8 @@ use Rattle.summary_tree.specs.declared.faces.FaceList.{FaceList}
 use Rattle.summary_tree.specs.declared.faces.FaceList.TheVariants.{Checks, Names, Changes, Segs, Lasts}
 use Rattle.summary_tree.specs.Faces.{IsPackedEntry, IsTable, KeepsSpares, TookSpans, class_in, length_in, pool_in, spans_at, spare_in, spares_of, summary_in, table_view}
 use Rattle.summary_tree.specs.Lists.{Exchanged, TookSpan}
+use Rattle.summary_tree.specs.Rooms.{kept_room}
+use Rattle.summary_tree.specs.declared.faces.Head.{Head}
 use Rattle.summary_tree.proofs.SpanCounts.{fewer, more}
 
 -- the summary at a place
@@ -26,12 +27,23 @@ pub seen_at : (entries : List (Option Entry)) (at : ℕ) → slice_index_or (map
 seen_at entries at = get_or-map (option_map summary_in) entries at None
 
 -- an entry with the lists of a face is packed as this is
-pub packed_as : (e : Entry) (face : FaceView) → e.checks.items ≡ face.checks.now → e.names.items ≡ face.names.now → e.changes.items ≡ face.changes.now → e.segs.items ≡ face.segs.now → e.head.entries ≡ length (entries_of face.segs.now) → IsPacked face → IsPackedEntry e
-packed_as e face checks names changes segs entries p = record {
+pub packed_as : (e : Entry) (face : FaceView) → e.checks.items ≡ face.checks.now → e.names.items ≡ face.names.now → e.changes.items ≡ face.changes.now → e.segs.items ≡ face.segs.now
+    → e.lasts.items ≡ face.lasts.now → e.head ≡ record { lines = face.lines; made = face.made; room = kept_room (summary_of face); ending = face.ending } → IsPacked face → IsPackedEntry e
+packed_as e face checks names changes segs lasts head p = record {
   named = subst (λ ns. AreNamed ns e.checks.items) (sym names) (subst (AreNamed face.names.now) (sym checks) (record { fit = p.checks_fit; whole = p.names }));
   packed = subst (λ ss. ArePacked ss e.changes.items) (sym segs) (subst (ArePacked face.segs.now) (sym changes) (record { fit = p.changes_fit; whole = p.segs }));
-  counted = entries ∙ ap (λ ss. length (entries_of ss)) (sym segs);
+  noted = ap (λ (h : Head). h.room) head ∙ ap kept_room (sym same);
 }
+  where
+    same : summary_in e ≡ summary_of face
+    same = λ i. record {
+      lines = (head i).lines;
+      made = (head i).made;
+      checks = map (asked_of (names i)) (checks i);
+      changes = map (changed_of (segs i)) (changes i);
+      lasts = lasts i;
+      ending = (head i).ending;
+    }
 
 -- the spare spans of a class
 pub spare_is : (pool : PoolView) (class : ℕ) → slice_index_or (spares_of pool) class 0 ≡ spare_of pool class

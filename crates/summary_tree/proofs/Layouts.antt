@@ -8,11 +8,12 @@ use Rattle.tree_shape.specs.Fewest.{inserted, highest}
 use Rattle.tree_shape.specs.Values.{leaf_values}
 use Rattle.tree_shape.specs.View.{ShapeView, IsSameShape, count_of}
 use Rattle.value_tree.specs.Found.{total}
+use Rattle.value_tree.specs.Kept.{HasLeafPlace}
 use Rattle.value_tree.proofs.LeafLists.{count_values}
 use Rattle.summary_tree.specs.Faces.{FacesView}
 use Rattle.summary_tree.specs.Leaves.{Leaf, AreSound, leaf_lines, lines_of}
-use Rattle.summary_tree.specs.Store.{leaf_in, node_in}
-use Rattle.summary_tree.specs.Trees.{TreeView, IsTree, IsSameTree, laid_out, change_steps}
+use Rattle.summary_tree.specs.Store.{leaf_in, node_in, places_in, HasRooms}
+use Rattle.summary_tree.specs.Trees.{NeedView, TreeView, IsTree, IsSameTree, Meets, laid_out, change_steps}
 use Rattle.summary_tree.proofs.SoundLeaves.{sound_of}
 
 module _ (shape : ShapeView) (faces : FacesView) (tables : List (Option (List LoopRow))) (scratch : Room) (v : TreeView) (is : laid_out shape faces tables scratch ≡ v) (kept : IsTree shape faces tables) where
@@ -33,6 +34,22 @@ module _ (shape : ShapeView) (faces : FacesView) (tables : List (Option (List Lo
         leaves = λ i. leaf_values (λ n. leaf n i) (same.tree i);
         laid = record { shape = same; leaf = leaf; node = node };
       })
+
+  -- and one with as much room or more keeps it for each need
+  pub keeps_room : (other : ShapeView) (other_faces : FacesView) (other_tables : List (Option (List LoopRow))) (other_scratch : Room)
+      → ((needed : List Room) → HasRooms faces scratch needed → HasRooms other_faces other_scratch needed)
+      → (HasLeafPlace (places_in faces tables) shape → HasLeafPlace (places_in other_faces other_tables) other)
+      → (need : NeedView) → Meets v need → Meets (laid_out other other_faces other_tables other_scratch) need
+  keeps_room other other_faces other_tables other_scratch rooms leaf need =
+      subst (λ (w : TreeView). Meets w need → Meets (laid_out other other_faces other_tables other_scratch) need) is (λ m. record { rooms = rooms need.rooms m.rooms; leaf = λ one. leaf (m.leaf one) })
+
+-- a place for one more leaf stays where there are no fewer
+pub keeps_place : (slots more : ℕ) (old new : ShapeView) → slots ≤ more → new ≡ old → HasLeafPlace slots old → HasLeafPlace more new
+keeps_place slots more old new h same p = record {
+  room = ap (λ (s : ShapeView). s.room) same ∙ p.room;
+  leaf = omega (arith, h, p.leaf, ap (λ (s : ShapeView). s.leaf_numbers.drawn) same);
+  inner = omega (arith, h, p.inner, ap (λ (s : ShapeView). s.inner_numbers.drawn) same);
+}
 
 pub length_inserted : {X : Type 0} (at : ℕ) (x : X) (xs : List X) → length (inserted at x xs) ≡ length xs + 1
 length_inserted at x xs =

@@ -1,5 +1,5 @@
 -- Taking spans for a face that was reckoned with.
-use Rattle.std.proofs.Common.{◌≡◌, ◌≢◌, ℕ, zero, suc, ◌+◌, ◌*◌, ◌-◌, ◌^◌, ◌<◌, ◌≤◌, List, [], ◌∷◌, length, map, Option, Some, None, Bool, true, false, refl, sym, ◌∙◌, ap, subst, arith, inl, inr}
+use Rattle.std.proofs.Common.{◌≡◌, ◌≢◌, ℕ, zero, suc, ◌+◌, ◌*◌, ◌-◌, ◌^◌, ◌<◌, ◌≤◌, min, List, [], ◌∷◌, length, map, Option, Some, None, Bool, true, false, refl, sym, ◌∙◌, ap, subst, arith, inl, inr}
 use Rattle.std.specs.Prelude.{◌==◌, cond, count_by}
 use Rattle.std.specs.List.{All}
 use Rattle.std.proofs.lemmas.Bool.{cases_Bool, cases_lt}
@@ -15,25 +15,25 @@ use Rattle.loop_history.specs.declared.row.LoopRow.{LoopRow}
 use Rattle.tree_shape.specs.declared.node.Child.{Child}
 use Rattle.tree_shape.specs.declared.node.Child.TheVariants.{Leaf, Inner}
 use Rattle.tree_shape.specs.Values.{part}
-use Rattle.summary_tree.specs.Store.{place_of, leaf_from, leaf_in, node_in}
-use Rattle.std.proofs.Math.Path.{ap₂}
+use Rattle.summary_tree.specs.Store.{place_of, leaf_from, leaf_in, node_in, HasRooms}
 use Rattle.std.proofs.Math.Pow.{pow_mono}
 use Rattle.face_data.specs.declared.face.FaceView.{FaceView}
 use Rattle.face_data.specs.Summaries.{Summary}
 use Rattle.face_data.specs.View.{IsPacked, asked_of, changed_of, summary_of}
 use Rattle.face_data.proofs.Items.{all_entries}
 use Rattle.span_pool.specs.Class.{IsClassOf}
+use Rattle.summary_compose.specs.Changes.{changes_in}
 use Rattle.summary_compose.specs.Composing.{IsNoGreater}
-use Rattle.summary_compose.specs.Rooms.{capped, room_of, room_after, room_of_both}
+use Rattle.summary_compose.specs.Rooms.{capped, kept_of, names_after, room_of, room_after, room_of_both, widest_of}
 use Rattle.summary_compose.specs.declared.room.Room.{Room}
 use Rattle.summary_compose.proofs.Checks.{named_size}
-use Rattle.summary_compose.proofs.Rooms.{all_entries_flat}
+use Rattle.summary_compose.proofs.Rooms.{all_entries_flat, capped_is_min}
 use Rattle.face_data.specs.Segments.{entries_of}
 use Rattle.summary_compose.proofs.Parts.{packed_size}
 use Rattle.summary_tree.specs.declared.faces.FaceList.{FaceList}
 use Rattle.summary_tree.specs.declared.faces.FaceList.TheVariants.{Checks, Names, Changes, Segs, Lasts}
 use Rattle.summary_tree.specs.Faces.{FacesView, AreMet, TookSpans, KeepsSpares, spare_in, length_in, face_in}
-use Rattle.summary_tree.specs.Laws.{capped_is_min, product_kept, sum_kept, along_rooms, bounds}
+use Rattle.summary_tree.specs.Laws.{capped_product, names_kept, sum_kept, along_rooms, bounds}
 use Rattle.summary_tree.specs.Leaves.{LeavesFit}
 use Rattle.face_data.specs.Composition.{composed}
 use Rattle.summary_tree.specs.Meeting.{reaches, IsMet}
@@ -133,10 +133,6 @@ no_greater_in a b h Changes = h.changes
 no_greater_in a b h Segs = h.segs
 no_greater_in a b h Lasts = h.lasts
 
--- a room whose numbers are capped
-abbrev pub kept_of : Room → Room
-kept_of r = record { checks = capped r.checks; names = capped r.names; changes = capped r.changes; segs = capped r.segs; entries = capped r.entries; lasts = capped r.lasts }
-
 -- the room of a packed face's summary is that of its lists
 pub kept_is : (face : FaceView) → IsPacked face → kept_room (summary_of face) ≡ kept_of (room_of face)
 kept_is face p =
@@ -145,12 +141,15 @@ kept_is face p =
     let checks = length-map face.checks.now (asked_of face.names.now) in
     let changes = length-map face.changes.now (changed_of face.segs.now) in
     let entries : length (all_entries (map (changed_of face.segs.now) face.changes.now)) ≡ length (entries_of face.segs.now) = ap length (sym (all_entries_flat face.segs.now face.changes.now) ∙ ap entries_of p.segs) in
-    let s = summary_of face in
-    ap (λ n. record { checks = capped n; names = (kept_room s).names; changes = (kept_room s).changes; segs = (kept_room s).segs; entries = (kept_room s).entries; lasts = (kept_room s).lasts }) checks
-    ∙ (ap (λ n. record { checks = capped (length face.checks.now); names = capped n; changes = (kept_room s).changes; segs = (kept_room s).segs; entries = (kept_room s).entries; lasts = (kept_room s).lasts }) names
-    ∙ (ap (λ n. record { checks = capped (length face.checks.now); names = capped (length face.names.now); changes = capped n; segs = (kept_room s).segs; entries = (kept_room s).entries; lasts = (kept_room s).lasts }) changes
-    ∙ (ap (λ n. record { checks = capped (length face.checks.now); names = capped (length face.names.now); changes = capped (length face.changes.now); segs = capped n; entries = (kept_room s).entries; lasts = (kept_room s).lasts }) segs
-    ∙ ap (λ n. record { checks = capped (length face.checks.now); names = capped (length face.names.now); changes = capped (length face.changes.now); segs = capped (length face.segs.now); entries = capped n; lasts = (kept_room s).lasts }) entries)))
+    λ i. record {
+      checks = capped (checks i);
+      names = capped (names i);
+      changes = capped (changes i);
+      segs = capped (segs i);
+      entries = capped (entries i);
+      widest = capped (widest_of (changes_in face));
+      lasts = capped (length face.lasts.now);
+    }
 
 capped_in : (list : FaceList) (r : Room) → length_in list (kept_of r) ≡ capped (length_in list r)
 capped_in Checks r = refl
@@ -183,40 +182,30 @@ spans_left old new face r rest m p h t = λ list.
 pub spans_more : (old new : FacesView) (rooms : List Room) → KeepsSpares old new → AreMet old rooms → AreMet new rooms
 spans_more old new rooms more m = λ list. met_more (length_in list) (spare_in old list) (spare_in new list) rooms (more list) (m list)
 
+-- nor is more room of the scratch
+pub rooms_more : (old new : FacesView) (scratch more : Room) (rooms : List Room) → KeepsSpares old new → IsNoGreater scratch more → HasRooms old scratch rooms → HasRooms new more rooms
+rooms_more old new scratch more rooms spares wider h = record {
+  spans = spans_more old new rooms spares h.spans;
+  scratch_has = All-weaker (λ r. IsNoGreater r scratch) (λ r. IsNoGreater r more) (λ r within. along_rooms r scratch more within wider) rooms h.scratch_has;
+}
+
 -- the room for two faces by their lists is within the room by their kept rooms
 pub both_kept : (a b : FaceView) → IsPacked a → IsPacked b → IsNoGreater (room_of_both a b) (room_after (kept_room (summary_of a)) (kept_room (summary_of b)))
 both_kept a b p q = subst (λ x. IsNoGreater (room_of_both a b) (room_after x (kept_room (summary_of b)))) (sym (kept_is a p)) (subst (λ y. IsNoGreater (room_of_both a b) (room_after (kept_of (room_of a)) y)) (sym (kept_is b q)) (go (room_of a) (room_of b)))
   where
     go : (r s : Room) → IsNoGreater (room_after r s) (room_after (kept_of r) (kept_of s))
     go r s =
-        let through = product_kept s.checks r.entries in
+        let entries = sum_kept (r.entries + s.entries) r.entries s.entries (omega arith) in
         record {
           checks = sum_kept (r.checks + s.checks) r.checks s.checks (omega arith);
-          names = omega (arith, through, capped_is_min (r.names + s.names), capped_is_min (s.checks * r.entries), capped_is_min (capped (r.names + s.names) + capped (s.checks * r.entries)), capped_is_min r.names, capped_is_min s.names, capped_is_min (capped r.names + capped s.names), ap₂ (λ (x y : ℕ). x * y) (capped_is_min s.checks) (capped_is_min r.entries), capped_is_min (capped s.checks * capped r.entries), capped_is_min (capped (capped r.names + capped s.names) + capped (capped s.checks * capped r.entries)));
+          names = names_kept (r.names + names_after r s) r.names (min (s.names * r.widest) (s.names + s.checks * r.entries)) s.names s.checks r.entries r.widest
+              (omega (arith, capped_is_min (s.names * r.widest), capped_is_min (s.checks * r.entries), capped_is_min (s.names + capped (s.checks * r.entries)))) (omega arith) (omega arith);
           changes = sum_kept (r.changes + s.changes) r.changes s.changes (omega arith);
           segs = sum_kept (r.segs + s.segs) r.segs s.segs (omega arith);
-          entries = sum_kept (r.entries + s.entries) r.entries s.entries (omega arith);
+          entries = entries;
+          widest = omega (arith, entries, capped_product r.widest s.widest);
           lasts = sum_kept (r.lasts + s.lasts) r.lasts s.lasts (omega arith);
         }
-
--- nothing more than a face's own room
-pub after_none : (r none : Room) → none ≡ record { checks = 0; names = 0; changes = 0; segs = 0; entries = 0; lasts = 0 } → room_after r none ≡ kept_of r
-after_none r none e = ap (room_after r) e ∙ go
-  where
-    plus : (n : ℕ) → capped (n + 0) ≡ capped n
-    plus n = let same : n + 0 ≡ n = omega arith in ap capped same
-
-    both : (n e : ℕ) → capped (capped (n + 0) + capped (0 * e)) ≡ capped n
-    both n e = omega (arith, capped_is_min (n + 0), capped_is_min (0 * e), capped_is_min (capped (n + 0) + capped (0 * e)), capped_is_min n)
-
-    go : room_after r (record { checks = 0; names = 0; changes = 0; segs = 0; entries = 0; lasts = 0 }) ≡ kept_of r
-    go =
-        ap (λ n. record { checks = n; names = capped (capped (r.names + 0) + capped (0 * r.entries)); changes = capped (r.changes + 0); segs = capped (r.segs + 0); entries = capped (r.entries + 0); lasts = capped (r.lasts + 0) }) (plus r.checks)
-        ∙ (ap (λ n. record { checks = capped r.checks; names = n; changes = capped (r.changes + 0); segs = capped (r.segs + 0); entries = capped (r.entries + 0); lasts = capped (r.lasts + 0) }) (both r.names r.entries)
-        ∙ (ap (λ n. record { checks = capped r.checks; names = capped r.names; changes = n; segs = capped (r.segs + 0); entries = capped (r.entries + 0); lasts = capped (r.lasts + 0) }) (plus r.changes)
-        ∙ (ap (λ n. record { checks = capped r.checks; names = capped r.names; changes = capped r.changes; segs = n; entries = capped (r.entries + 0); lasts = capped (r.lasts + 0) }) (plus r.segs)
-        ∙ (ap (λ n. record { checks = capped r.checks; names = capped r.names; changes = capped r.changes; segs = capped r.segs; entries = n; lasts = capped (r.lasts + 0) }) (plus r.entries)
-        ∙ ap (λ n. record { checks = capped r.checks; names = capped r.names; changes = capped r.changes; segs = capped r.segs; entries = capped r.entries; lasts = n }) (plus r.lasts)))))
 
 -- what a child of the tree has is the face at its place
 pub part_face : (faces : FacesView) (tables : List (Option (List LoopRow))) (child : Child) (v : Summary × List LoopRow) → part (leaf_in faces tables) (node_in faces) child ≡ Some v → face_in faces (place_of child) ≡ Some v.0

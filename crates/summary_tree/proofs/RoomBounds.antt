@@ -11,7 +11,7 @@ use Rattle.summary_compose.specs.Rooms.{greater}
 use Rattle.summary_tree.specs.Rooms.{greatest_of}
 
 pub no_greater_same : (r : Room) → IsNoGreater r r
-no_greater_same r = record { checks = omega arith; names = omega arith; changes = omega arith; segs = omega arith; entries = omega arith; lasts = omega arith }
+no_greater_same r = record { checks = omega arith; names = omega arith; changes = omega arith; segs = omega arith; entries = omega arith; widest = omega arith; lasts = omega arith }
 
 max_swap : (n : ℕ) → max n 0 ≡ max 0 n
 max_swap n = omega arith
@@ -27,6 +27,7 @@ greatest_push [] r = λ i. record {
   changes = max_swap r.changes i;
   segs = max_swap r.segs i;
   entries = max_swap r.entries i;
+  widest = max_swap r.widest i;
   lasts = max_swap r.lasts i;
 }
 greatest_push (x ∷ rooms) r =
@@ -38,6 +39,7 @@ greatest_push (x ∷ rooms) r =
       changes = max_round x.changes g.changes r.changes i;
       segs = max_round x.segs g.segs r.segs i;
       entries = max_round x.entries g.entries r.entries i;
+      widest = max_round x.widest g.widest r.widest i;
       lasts = max_round x.lasts g.lasts r.lasts i;
     }
 
@@ -47,11 +49,11 @@ each_within [] bound h = All-nil (λ r. IsNoGreater r bound)
 each_within (x ∷ rooms) bound h =
     let g = greatest_of rooms in
     All-cons (λ r. IsNoGreater r bound) x rooms
-    (record { checks = omega (arith, h.checks); names = omega (arith, h.names); changes = omega (arith, h.changes); segs = omega (arith, h.segs); entries = omega (arith, h.entries); lasts = omega (arith, h.lasts) })
-    (each_within rooms bound (record { checks = omega (arith, h.checks); names = omega (arith, h.names); changes = omega (arith, h.changes); segs = omega (arith, h.segs); entries = omega (arith, h.entries); lasts = omega (arith, h.lasts) }))
+    (record { checks = omega (arith, h.checks); names = omega (arith, h.names); changes = omega (arith, h.changes); segs = omega (arith, h.segs); entries = omega (arith, h.entries); widest = omega (arith, h.widest); lasts = omega (arith, h.lasts) })
+    (each_within rooms bound (record { checks = omega (arith, h.checks); names = omega (arith, h.names); changes = omega (arith, h.changes); segs = omega (arith, h.segs); entries = omega (arith, h.entries); widest = omega (arith, h.widest); lasts = omega (arith, h.lasts) }))
 
 pub greatest_within : (rooms : List Room) (bound : Room) → All (λ r. IsNoGreater r bound) rooms → IsNoGreater (greatest_of rooms) bound
-greatest_within [] bound all = record { checks = omega arith; names = omega arith; changes = omega arith; segs = omega arith; entries = omega arith; lasts = omega arith }
+greatest_within [] bound all = record { checks = omega arith; names = omega arith; changes = omega arith; segs = omega arith; entries = omega arith; widest = omega arith; lasts = omega arith }
 greatest_within (x ∷ rooms) bound all =
     let h = All-head (λ r. IsNoGreater r bound) x rooms all in
     let g = greatest_within rooms bound (All-tail (λ r. IsNoGreater r bound) x rooms all) in
@@ -61,6 +63,7 @@ greatest_within (x ∷ rooms) bound all =
       changes = omega (arith, h.changes, g.changes);
       segs = omega (arith, h.segs, g.segs);
       entries = omega (arith, h.entries, g.entries);
+      widest = omega (arith, h.widest, g.widest);
       lasts = omega (arith, h.lasts, g.lasts);
     }
 

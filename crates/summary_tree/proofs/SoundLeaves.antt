@@ -5,6 +5,7 @@ use Rattle.std.proofs.lemmas.List.Elements.{All-nil, All-cons, All-head, All-tai
 use Rattle.knit_base.specs.declared.needle.Needle.{Needle}
 use Rattle.face_data.proofs.EmptyBeds.{few_new}
 use Rattle.face_data.proofs.Goodness.{good_within}
+use Rattle.face_data.proofs.Items.{items_bound}
 use Rattle.face_data.specs.declared.face.FaceView.{FaceView}
 use Rattle.face_data.specs.Sets.{IsWithin}
 use Rattle.face_data.specs.Spots.{IsNumbered}
@@ -96,6 +97,7 @@ pub root_is : (leaves : List Leaf) (view : FaceView) → StandTogether leaves �
 root_is leaves view s w packed = record {
   whole = w;
   good = λ carriers limit all. let g = good_together carriers limit leaves all in record { known = g.0; numbered = g.1; good = w.good carriers limit g.0 g.2 };
+  bound = λ carriers limit known g. items_bound carriers limit known (summary_of view) (w.good carriers limit known g);
   packed = packed;
   few = few_new (summary_of view) (record { carriers = s.carriers; limit = s.limit; known = s.known; few_loops = s.few_loops; numbers = s.numbered; good = w.good s.carriers s.limit s.known s.good });
 }

@@ -1,8 +1,7 @@
 -- A table of faces, each list in a span of its pool.
-use Rattle.std.specs.Prelude.{◌≡◌, ◌≢◌, ℕ, ◌+◌, ◌≤◌, ◌==◌, cond, List, Option, Some, None, length, map, slice_index_or}
+use Rattle.std.specs.Prelude.{◌≡◌, ◌≢◌, ℕ, ◌+◌, ◌≤◌, ◌==◌, cond, List, Option, Some, None, map, slice_index_or}
 use Rattle.std.specs.List.{sum_by}
 use Rattle.std.specs.Option.{option_map}
-use Rattle.face_data.specs.Segments.{entries_of}
 use Rattle.face_data.specs.Summaries.{Summary}
 use Rattle.face_data.specs.View.{asked_of, changed_of, AreNamed, ArePacked}
 use Rattle.span_pool.specs.Class.{IsClassOf}
@@ -14,6 +13,7 @@ use Rattle.summary_tree.specs.declared.faces.Pools.{Pools}
 use Rattle.summary_tree.specs.declared.faces.FaceList.{FaceList}
 use Rattle.summary_tree.specs.declared.faces.FaceList.TheVariants.{Checks, Names, Changes, Segs, Lasts}
 use Rattle.summary_tree.specs.Meeting.{IsMet}
+use Rattle.summary_tree.specs.Rooms.{kept_room}
 
 -- the summary that an entry shows
 abbrev pub summary_in : Entry → Summary
@@ -26,11 +26,11 @@ summary_in e = record {
   ending = e.head.ending;
 }
 
--- its names and segments are made up of the parts of its checks and changes, and the entries among its segments are counted
+-- its names and segments are made up of the parts of its checks and changes, and its room is noted
 pub record IsPackedEntry (e : Entry) : Type 0 where
   pub named : AreNamed e.names.items e.checks.items
   pub packed : ArePacked e.segs.items e.changes.items
-  pub counted : e.head.entries ≡ length (entries_of e.segs.items)
+  pub noted : e.head.room ≡ kept_room (summary_in e)
 
 -- the class of the span of one of the lists
 abbrev pub class_in : FaceList → Entry → ℕ

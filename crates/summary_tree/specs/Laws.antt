@@ -1,8 +1,8 @@
 -- The laws that leaves and their rooms obey.
-use Rattle.std.proofs.Common.{◌≡◌, ℕ, zero, suc, ◌+◌, ◌*◌, ◌^◌, ◌<◌, ◌≤◌, min, Bool, true, false, List, [], ◌∷◌, ◌++◌, length, refl, sym, ◌∙◌, ap, subst, arith, ◌⊎◌, inl, inr}
-use Rattle.std.specs.Prelude.{nat_lt, if◌then◌else◌, cond}
-use Rattle.std.specs.List.{All, Contains}
-use Rattle.std.proofs.lemmas.Bool.{ltb-true, ltb-false, cases_lt}
+use Rattle.std.proofs.Common.{◌≡◌, ℕ, zero, suc, ◌+◌, ◌*◌, ◌^◌, ◌<◌, ◌≤◌, min, List, [], ◌∷◌, ◌++◌, length, refl, sym, ◌∙◌, ap, subst, arith, inl, inr}
+use Rattle.std.specs.Prelude.{cond}
+use Rattle.std.specs.List.{All}
+use Rattle.std.proofs.lemmas.Bool.{cases_lt}
 use Rattle.std.proofs.lemmas.List.{append_assoc}
 use Rattle.std.proofs.lemmas.List.Elements.{All-head, All-tail, All-cons}
 use Rattle.std.proofs.lemmas.List.Sums.{sum_by-append, sum_by-cons}
@@ -13,23 +13,23 @@ use Rattle.knit_base.specs.declared.profile.Profile.{Profile}
 use Rattle.carriage_model.specs.State.{State}
 use Rattle.face_data.specs.Composition.{and_then, composed}
 use Rattle.face_data.specs.Items.{most_items}
-use Rattle.face_data.specs.Sets.{IsWithin}
 use Rattle.face_data.specs.Stands.{StandsFor}
 use Rattle.face_data.specs.Summaries.{Outcome, applied}
 use Rattle.face_data.specs.Summaries.Outcome.{went_on, faulted}
 use Rattle.face_data.proofs.Goodness.{composed_good, composed_runs_both, good_within}
 use Rattle.face_data.proofs.Items.{all_entries, items_bound}
-use Rattle.face_data.proofs.Members.{Contains-head, Contains-tail, Contains-cons_cases}
 use Rattle.std.proofs.Math.Path.{ap₂}
 use Rattle.face_data.proofs.KnownAnswers.{AskFits-distinct}
 use Rattle.face_data.proofs.Stands.{lines-composed, stands_both, and_then_same, and_then_twice}
 use Rattle.summary_compose.specs.Composing.{IsNoGreater}
-use Rattle.summary_compose.specs.Known.{names_count}
+use Rattle.summary_compose.specs.Known.{names_count, names_read_count}
 use Rattle.summary_compose.specs.Changes.{segs_in}
-use Rattle.summary_compose.specs.Rooms.{capped, room_after}
+use Rattle.summary_compose.specs.Rooms.{capped, room_after, widest_of}
 use Rattle.summary_compose.specs.declared.room.Room.{Room}
 use Rattle.summary_compose.proofs.ComposedRooms.{composed_sizes}
-use Rattle.summary_compose.proofs.Rooms.{names_read_bound, after_grows}
+use Rattle.summary_compose.proofs.GoodFaces.{twice_within}
+use Rattle.summary_compose.proofs.Rooms.{capped_is_min, names_read_bound, after_grows}
+use Rattle.summary_compose.proofs.Widths.{names_read_wide, widest_all}
 use Rattle.tree_shape.specs.Composing.{StandLaws, RoomLaws, Costs}
 use Rattle.summary_tree.specs.Faces.{FacesView, spare_in, length_in}
 use Rattle.summary_tree.specs.Meeting.{reaches, IsMet}
@@ -112,19 +112,6 @@ split_texts profile (x ∷ xs) ys (block ∷ blocks) e =
     let w = split_texts profile xs ys blocks e.1 in
     (block ∷ w.0, w.1, ap (λ v. block ++ v) w.2 ∙ sym (append_assoc block (all_lines w.0) (all_lines w.1)), (e.0, w.3), w.4)
 
-in_either : (xs ys : List Needle) (n : Needle) → Contains (xs ++ ys) n → Contains xs n ⊎ Contains ys n
-in_either [] ys n h = inr h
-in_either (x ∷ xs) ys n h = elim (Contains-cons_cases x (xs ++ ys) n h) [
-  | inl same ↦ inl (subst (Contains (x ∷ xs)) same (Contains-head x xs))
-  | inr later ↦ elim (in_either xs ys n later) [ inl w ↦ inl (Contains-tail x xs n w) | inr w ↦ inr w ]
-]
-
-twice_within : (known : List Needle) → IsWithin (known ++ known) known
-twice_within known = λ n h. go known known n h (λ m k. k) (λ m k. k)
-  where
-    go : (xs ys : List Needle) (n : Needle) → Contains (xs ++ ys) n → ((m : Needle) → Contains xs m → Contains known m) → ((m : Needle) → Contains ys m → Contains known m) → Contains known n
-    go xs ys n h f g = elim (in_either xs ys n h) [ inl w ↦ f n w | inr w ↦ g n w ]
-
 both_leaves : (xs ys : List Leaf) (a b : Leaf) → StandTogether (xs ++ ys) → WholeLeaf xs a → WholeLeaf ys b → LeavesFit a b × WholeLeaf (xs ++ ys) (joined_leaf a b)
 both_leaves xs ys a b s p q =
     let ga = p.good s.carriers s.limit s.known (good_front s.carriers s.limit s.known xs ys s.good) in
@@ -174,15 +161,8 @@ cost_law xs s = (most_items s.carriers s.limit (length s.known), items_law xs s.
 
 -- Rooms.
 
-capped_at : (n : ℕ) (b : Bool) → nat_lt (2 ^ 62) n ≡ b → (if b then 2 ^ 62 + 1 else n) ≡ min n (2 ^ 62 + 1)
-capped_at n true e = omega (arith, ltb-true (2 ^ 62) n e)
-capped_at n false e = omega (arith, ltb-false (2 ^ 62) n e)
-
-pub capped_is_min : (n : ℕ) → capped n ≡ min n (2 ^ 62 + 1)
-capped_is_min n = capped_at n (nat_lt (2 ^ 62) n) refl
-
 same_room : (a : Room) → IsNoGreater a a
-same_room a = record { checks = omega arith; names = omega arith; changes = omega arith; segs = omega arith; entries = omega arith; lasts = omega arith }
+same_room a = record { checks = omega arith; names = omega arith; changes = omega arith; segs = omega arith; entries = omega arith; widest = omega arith; lasts = omega arith }
 
 pub along_rooms : (a b c : Room) → IsNoGreater a b → IsNoGreater b c → IsNoGreater a c
 along_rooms a b c p q = record {
@@ -191,6 +171,7 @@ along_rooms a b c p q = record {
   changes = omega (arith, p.changes, q.changes);
   segs = omega (arith, p.segs, q.segs);
   entries = omega (arith, p.entries, q.entries);
+  widest = omega (arith, p.widest, q.widest);
   lasts = omega (arith, p.lasts, q.lasts);
 }
 
@@ -228,23 +209,38 @@ product_kept x y = elim (cases_lt (2 ^ 62) x) [
 pub sum_kept : (n a b : ℕ) → n ≤ a + b → capped n ≤ capped (capped a + capped b)
 sum_kept n a b h = omega (arith, h, capped_is_min n, capped_is_min a, capped_is_min b, capped_is_min (capped a + capped b))
 
+pub capped_product : (x y : ℕ) → capped (x * y) ≤ capped (capped x * capped y)
+capped_product x y =
+    omega (arith, product_kept x y, capped_is_min (x * y), ap₂ (λ (a b : ℕ). a * b) (capped_is_min x) (capped_is_min y), capped_is_min (capped x * capped y))
+
+-- as many names as are read of a second one's, within both bounds
+pub names_kept : (n own read next checks entries widest : ℕ) → n ≤ own + read → read ≤ next * widest → read ≤ next + checks * entries →
+    capped n ≤ capped (capped own + min (capped (capped next * capped widest)) (capped (capped next + capped (capped checks * capped entries))))
+names_kept n own read next checks entries widest h k l =
+    let each : capped read ≤ capped (capped next * capped widest) = omega (arith, k, capped_product next widest, capped_is_min read, capped_is_min (next * widest)) in
+    let more = capped_product checks entries in
+    let all : capped read ≤ capped (capped next + capped (capped checks * capped entries))
+    = omega (arith, l, more, capped_is_min read, capped_is_min next, capped_is_min (checks * entries), capped_is_min (capped next + capped (capped checks * capped entries))) in
+    omega (arith, h, each, all, capped_is_min n, capped_is_min own, capped_is_min read, capped_is_min (capped own + min (capped (capped next * capped widest)) (capped (capped next + capped (capped checks * capped entries)))))
+
 pub bounds : (a b : Leaf) → LeavesFit a b → IsNoGreater (leaf_room (joined_leaf a b)) (room_after (leaf_room a) (leaf_room b))
 bounds a b f =
+    let both = composed a.0 b.0 in
     let s = composed_sizes f.carriers f.limit f.known f.known a.0 b.0 f.first f.second in
     let read = names_read_bound a.0.changes b.0.checks f.first.fair.owns (λ c there. AskFits-distinct f.carriers f.limit f.known c.ask (f.second.fair.asks_fit c there)) in
-    let na = names_count a.0.checks in
-    let nb = names_count b.0.checks in
-    let cb = length b.0.checks in
     let ea = length (all_entries a.0.changes) in
-    let n = names_count (composed a.0 b.0).checks in
-    let through = product_kept cb ea in
+    let eb = length (all_entries b.0.changes) in
+    let entries = sum_kept (length (all_entries both.changes)) ea eb s.few_entries in
+    let wa = widest_of a.0.changes in
+    let wb = widest_of b.0.changes in
     record {
-      checks = sum_kept (length (composed a.0 b.0).checks) (length a.0.checks) cb s.few_checks;
-      names = omega (arith, s.few_names, read, through, capped_is_min n, capped_is_min na, capped_is_min nb, capped_is_min (capped na + capped nb), ap₂ (λ (x y : ℕ). x * y) (capped_is_min cb) (capped_is_min ea), capped_is_min (capped cb * capped ea), capped_is_min (capped (capped na + capped nb) + capped (capped cb * capped ea)));
-      changes = sum_kept (length (composed a.0 b.0).changes) (length a.0.changes) (length b.0.changes) s.few_changes;
-      segs = sum_kept (segs_in (composed a.0 b.0).changes) (segs_in a.0.changes) (segs_in b.0.changes) s.few_segs;
-      entries = sum_kept (length (all_entries (composed a.0 b.0).changes)) ea (length (all_entries b.0.changes)) s.few_entries;
-      lasts = sum_kept (length (composed a.0 b.0).lasts) (length a.0.lasts) (length b.0.lasts) s.few_lasts;
+      checks = sum_kept (length both.checks) (length a.0.checks) (length b.0.checks) s.few_checks;
+      names = names_kept (names_count both.checks) (names_count a.0.checks) (names_read_count a.0.changes b.0.checks) (names_count b.0.checks) (length b.0.checks) ea wa s.few_names (names_read_wide a.0.changes b.0.checks) read;
+      changes = sum_kept (length both.changes) (length a.0.changes) (length b.0.changes) s.few_changes;
+      segs = sum_kept (segs_in both.changes) (segs_in a.0.changes) (segs_in b.0.changes) s.few_segs;
+      entries = entries;
+      widest = omega (arith, s.few_held, entries, widest_all both.changes, capped_product wa wb, capped_is_min (widest_of both.changes), capped_is_min (wa * wb), capped_is_min (length (all_entries both.changes)));
+      lasts = sum_kept (length both.lasts) (length a.0.lasts) (length b.0.lasts) s.few_lasts;
     }
 
 pub room_laws : RoomLaws {V = Leaf} {R = Room} joined_leaf LeavesFit leaf_room room_after IsNoGreater

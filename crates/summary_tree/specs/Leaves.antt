@@ -8,7 +8,7 @@ use Rattle.carriage_model.specs.State.{State}
 use Rattle.face_data.specs.declared.face.FaceView.{FaceView}
 use Rattle.face_data.specs.Composition.{and_then, composed}
 use Rattle.face_data.specs.Goodness.{IsGood}
-use Rattle.face_data.specs.Items.{items}
+use Rattle.face_data.specs.Items.{items, most_items}
 use Rattle.face_data.specs.Segments.{Changed, new_of}
 use Rattle.face_data.specs.Stands.{StandsFor}
 use Rattle.face_data.specs.Summaries.{Summary, Outcome, applied}
@@ -87,10 +87,11 @@ abbrev pub new_loops : Summary → ℕ
 new_loops summary = sum_by (λ (c : Changed). new_of c.1) summary.changes
 
 -- The face at the root of a tree with these leaves: that of all of them, good for what they are good for, whichever needles that
--- is, with fewer new loops than 32 bits count.
+-- is, with no more items than a good one can have and fewer new loops than 32 bits count.
 pub record IsRootOf (leaves : List Leaf) (view : FaceView) : Type 0 where
   pub whole : IsWholeOf leaves (summary_of view)
   pub good : (carriers limit : ℕ) → All (λ (leaf : Leaf). IsGoodFor carriers limit leaf.0) leaves → IsGoodFor carriers limit (summary_of view)
+  pub bound : (carriers limit : ℕ) (known : List Needle) → AreGoodFor carriers limit known leaves → items (summary_of view) ≤ most_items carriers limit (length known)
   pub packed : IsPacked view
   pub few : new_loops (summary_of view) < 2 ^ 32
 

@@ -1,20 +1,22 @@
 -- The room that a face takes in a tree, and rooms for several.
 use Rattle.std.specs.Prelude.{◌≡◌, ℕ, ◌≤◌, List, [], ◌∷◌, length, take}
-use Rattle.face_data.proofs.Items.{all_entries}
+use Rattle.std.specs.List.{flat_map}
+use Rattle.face_data.specs.Segments.{Changed, entries_of}
 use Rattle.face_data.specs.Summaries.{Summary}
 use Rattle.summary_compose.specs.Changes.{segs_in}
 use Rattle.summary_compose.specs.Known.{names_count}
-use Rattle.summary_compose.specs.Rooms.{capped, greater, no_room}
+use Rattle.summary_compose.specs.Rooms.{capped, greater, no_room, widest_of}
 use Rattle.summary_compose.specs.declared.room.Room.{Room}
 
--- the items of its lists; a number for which there can't be room stands as one past all room
+-- the items of its lists, and the entries of all needles and of one; a number for which there can't be room stands as one past all room
 abbrev pub kept_room : Summary → Room
 kept_room s = record {
   checks = capped (length s.checks);
   names = capped (names_count s.checks);
   changes = capped (length s.changes);
   segs = capped (segs_in s.changes);
-  entries = capped (length (all_entries s.changes));
+  entries = capped (length (flat_map (λ (c : Changed). entries_of c.1) s.changes));
+  widest = capped (widest_of s.changes);
   lasts = capped (length s.lasts);
 }
 

@@ -1,7 +1,6 @@
 //! A table of faces whose lists lie in spans.
 ghost use Rattle.std.specs.Prelude.{◌≡◌, ◌≢◌, ℕ, ◌+◌, ◌<◌, ◌≤◌, ◌^◌, [], length, slice_index_or, slice_set, Some, None, IfSome, IsNone, OnOk};
 ghost use Rattle.std.specs.List.{sum_by};
-ghost use Rattle.face_data.specs.Segments.{entries_of};
 ghost use Rattle.face_data.specs.Summaries.{Summary};
 ghost use Rattle.face_data.specs.View.{IsPacked, summary_of};
 ghost use Rattle.span_pool.specs.Class.{IsClassOf};
@@ -19,12 +18,12 @@ use std::alloc::Global;
 use std::marker::Model;
 use summary_compose::Room;
 
-/// What a face has beside its lists, and how many of its segments are entries, so that its room is told without reading them.
+/// What a face has beside its lists, and the room that it takes, which is told without reading them.
 #[derive(Clone, Copy)]
 pub(crate) struct Head {
     pub lines: u32,
     pub made: u32,
-    pub entries: u64,
+    pub room: Room,
     pub ending: Ending,
 }
 
@@ -54,7 +53,6 @@ impl Entry {
         requires { IsPackedEntry self.now }
         ensures summary { summary_of result ≡ summary_in self.now }
         ensures packed { IsPacked result }
-        ensures segs { result.segs.now ≡ self.now.segs.items }
     {
         FaceView {
             lines: self.head.lines,
@@ -72,7 +70,7 @@ impl Entry {
         requires { IsPackedEntry self.now }
         ensures { result ≡ kept_room (summary_in self.now) }
     {
-        room_with(&self.view(), self.head.entries)
+        self.head.room
     }
 }
 
@@ -183,38 +181,22 @@ impl Pools {
     }
 }
 
-// The room that a face with so many entries takes.
-fn room_with(face: &FaceView, entries: u64) -> Room
-    requires packed { IsPacked face.now }
-    requires entries { entries ≡ length (entries_of face.now.segs.now) }
-    ensures { result ≡ kept_room (summary_of face.now) }
-{
-    let room = Room {
-        checks: face.checks.len() as u64,
-        names: face.names.len() as u64,
-        changes: face.changes.len() as u64,
-        segs: face.segs.len() as u64,
-        entries,
-        lasts: face.lasts.len() as u64,
-    };
-    room.after(&Room::NONE)
-}
-
 /// The room that a face takes.
 pub(crate) fn kept_room(face: &FaceView) -> Room
     requires { IsPacked face.now }
     ensures { result ≡ kept_room (summary_of face.now) }
 {
-    room_with(face, Room::of(face).entries)
+    Room::of(face).kept()
 }
 
 fn head_of(face: &FaceView) -> Head
-    ensures { result ≡ record { lines = face.now.lines; made = face.now.made; entries = length (entries_of face.now.segs.now); ending = face.now.ending } }
+    requires { IsPacked face.now }
+    ensures { result ≡ record { lines = face.now.lines; made = face.now.made; room = kept_room (summary_of face.now); ending = face.now.ending } }
 {
     Head {
         lines: face.lines,
         made: face.made,
-        entries: Room::of(face).entries,
+        room: kept_room(face),
         ending: face.ending,
     }
 }

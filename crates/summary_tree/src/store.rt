@@ -8,7 +8,7 @@ ghost use Rattle.loop_history.specs.declared.row.LoopRow.{LoopRow};
 ghost use Rattle.summary_compose.specs.Composing.{IsNoGreater};
 ghost use Rattle.summary_compose.specs.Rooms.{room_after};
 ghost use Rattle.tree_shape.specs.declared.node.Child.TheVariants.{Leaf, Inner};
-ghost use Rattle.summary_tree.specs.Faces.{face_in, spare_in, length_in, KeepsSpares};
+ghost use Rattle.summary_tree.specs.Faces.{face_in, spare_in, length_in, AreMet, KeepsSpares};
 ghost use Rattle.summary_tree.specs.Laws.{stand_laws, room_laws, cost_law, lines_law, rooms_any_order};
 ghost use Rattle.summary_tree.specs.Leaves.{StandTogether, WholeLeaf, joined_leaf, LeavesFit, leaf_items, leaf_room, leaf_lines};
 ghost use Rattle.summary_tree.specs.Meeting.{IsMet, reaches};
@@ -91,6 +91,19 @@ fn reserve_list(faces: &mut Faces, list: FaceList, need: &Rooms) -> Result<(), N
         faces.reserve(list, class, need.count(list, class))?;
     }
     Ok(())
+}
+
+// Makes spans for all lists of each room.
+fn reserve_lists(faces: &mut Faces, need: &Rooms) -> Result<(), NoMemory>
+    ensures ok { OnOk result (AreMet faces.new need.now) }
+    ensures faces { faces.new.faces ≡ faces.old.faces }
+    ensures spares { KeepsSpares faces.old faces.new }
+{
+    reserve_list(faces, FaceList::Checks, need)?;
+    reserve_list(faces, FaceList::Names, need)?;
+    reserve_list(faces, FaceList::Changes, need)?;
+    reserve_list(faces, FaceList::Segs, need)?;
+    reserve_list(faces, FaceList::Lasts, need)
 }
 
 // Composes the faces of two places in the scratch.
@@ -229,11 +242,7 @@ impl Values for FaceStore {
 
     fn reserve(&mut self, need: &Rooms) -> Result<(), NoMemory> {
         self.scratch.reserve(&need.greatest())?;
-        reserve_list(&mut self.faces, FaceList::Checks, need)?;
-        reserve_list(&mut self.faces, FaceList::Names, need)?;
-        reserve_list(&mut self.faces, FaceList::Changes, need)?;
-        reserve_list(&mut self.faces, FaceList::Segs, need)?;
-        reserve_list(&mut self.faces, FaceList::Lasts, need)
+        reserve_lists(&mut self.faces, need)
     }
 
     fn meets(&self, need: &Rooms) -> bool {

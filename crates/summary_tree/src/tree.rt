@@ -8,7 +8,7 @@ ghost use Rattle.face_data.specs.View.{IsPacked, summary_of};
 ghost use Rattle.knit_base.specs.declared.needle.Needle.{Needle};
 ghost use Rattle.tree_shape.specs.Fewest.{inserted, removed};
 ghost use Rattle.summary_tree.specs.Leaves.{AreSound, AreGoodFor, IsRootOf, applied_each, lines_of, place_of_line};
-ghost use Rattle.summary_tree.specs.Trees.{TreeView, IsSameTree, Meets, CanReplace, CanInsert, CanRemove, change_steps};
+ghost use Rattle.summary_tree.specs.Trees.{NeedView, TreeView, IsSameTree, Meets, CanReplace, CanInsert, CanRemove, change_steps};
 
 use crate::entry::loops_behind;
 use crate::faces::kept_room;
@@ -162,11 +162,12 @@ impl Tree {
         true
     }
 
-    /// Makes that room. Where it is there already, it takes no memory. Fails where memory runs out.
+    /// Makes that room, and keeps what is there for others. Where it is there already, it takes no memory. Fails where memory runs out.
     pub fn reserve(&mut self, need: &Need) -> Result<(), NoMemory>
         ensures ok { OnOk result (Meets self.new need.now) }
         ensures same { IsSameTree self.old self.new }
         ensures ready { Meets self.old need.now → IsOk result }
+        ensures keeps { (other : NeedView) → Meets self.old other → Meets self.new other }
     {
         if self.meets(need) {
             return Ok(());
@@ -178,14 +179,15 @@ impl Tree {
         }
     }
 
-    /// Makes the room that another face at a position needs. Where it is there already, it takes no memory. Fails where memory runs
-    /// out.
+    /// Makes the room that another face at a position needs, and keeps what is there for others. Where it is there already, it takes no
+    /// memory. Fails where memory runs out.
     pub fn reserve_replace(&mut self, at: u32, face: &FaceView) -> Result<(), NoMemory>
         requires place { at < length self.old.leaves }
         requires packed { IsPacked face.now }
         ensures ok { OnOk result (CanReplace self.new at (summary_of face.now)) }
         ensures same { IsSameTree self.old self.new }
         ensures ready { CanReplace self.old at (summary_of face.now) → IsOk result }
+        ensures keeps { (need : NeedView) → Meets self.old need → Meets self.new need }
     {
         let _len = self.whole.len();
         match &mut self.rooms {
@@ -205,6 +207,7 @@ impl Tree {
         ensures ok { OnOk result (CanReplace self.new at (summary_of face.now)) }
         ensures same { IsSameTree self.old self.new }
         ensures ready { CanReplace self.old at (summary_of face.now) → IsOk result }
+        ensures keeps { (need : NeedView) → Meets self.old need → Meets self.new need }
     {
         let need = self.need_replace(at, face);
         self.reserve(&need)

@@ -5,8 +5,13 @@ use Rattle.std.proofs.lemmas.List.{map-set}
 use Rattle.span_pool.specs.Pool.{spare_of}
 use Rattle.summary_tree.specs.Faces.{FacesView, IsTable, KeepsSpares, class_in, pool_in, summary_in, table_view}
 use Rattle.summary_tree.proofs.SpanCounts.{no_fewer}
-use Rattle.summary_tree.proofs.FaceTables.{emptied, keeps_spares, read_at}
+use Rattle.summary_tree.proofs.FaceTables.{are_out, emptied, keeps_spares, read_at}
 use Rattle.summary_tree.proofs.faces.Faces.clear.Goals as goal
+
+pub give-requires : goal.give-requires
+give-requires c =
+    let here : slice_index_or c.self.inside.entries.items c.args.at None ≡ Some c.in-Some.entry = read_at c.self.inside.entries.items c.args.at c.index_mut.result.now (Some c.in-Some.entry) c.index_mut.ensures.value (omega arith) (sym c.take.ensures.value ∙ c.in-Some.is) in
+    record { of_pools = are_out c.self.inside.entries.items c.self.inside.pools c.args.at c.in-Some.entry c.self.invariant here }
 
 pub invariant_of-self : goal.invariant_of-self
 invariant_of-self c =

@@ -1,5 +1,3 @@
-use Rattle.std.proofs.Common.{ap}
-use Rattle.summary_tree.specs.declared.faces.Head.{Head}
 use Rattle.summary_tree.specs.declared.faces.FaceList.TheVariants.{Checks, Names, Changes, Segs, Lasts}
 use Rattle.summary_tree.proofs.FaceTables.{packed_as}
 use Rattle.summary_tree.proofs.faces.Pools.refill.Goals as goal
@@ -35,7 +33,7 @@ pub refill-requires-5-clause-of_pool : goal.refill-requires-5-clause-of_pool
 refill-requires-5-clause-of_pool c = c.requires.of_pools Lasts
 
 pub returns-clause-packed : goal.returns-clause-packed
-returns-clause-packed c = packed_as _ c.args.face.now c.refill.ensures.here c.refill-2.ensures.here c.refill-3.ensures.here c.refill-4.ensures.here (ap (λ (h : Head). h.entries) c.head_of-entry.ensures) c.requires.packed
+returns-clause-packed c = packed_as _ c.args.face.now c.refill.ensures.here c.refill-2.ensures.here c.refill-3.ensures.here c.refill-4.ensures.here c.refill-5.ensures.here c.head_of-entry.ensures c.requires.packed
 
 pub returns-clause-back : goal.returns-clause-back
 returns-clause-back c Checks = c.refill.ensures.back

@@ -62,3 +62,9 @@ returns-clause-room g c = λ a b r rest of_left of_right enough h.
       spans = spans_left faces c.put.new.self c.view.result r rest h.spans c.view.ensures.packed within c.put.ensures.spares;
       scratch_has = subst (λ (room : Room). All (λ x. IsNoGreater x room) rest) (sym c.compose_both.ensures.room) (All-tail (λ x. IsNoGreater x c.args.self.now.scratch.room) r rest h.scratch_has);
     }
+
+pub returns-clause-cost : goal.returns-clause-cost
+returns-clause-cost g c = λ a b of_left of_right.
+    let faces = c.args.self.now.faces in
+    let tables = c.args.self.now.tables.items in
+    c.compose_both.ensures.steps a.0 b.0 (ap (face_in faces) c.place_of.ensures ∙ part_face faces tables c.args.row.left a of_left) (ap (face_in faces) c.place_of-2.ensures ∙ part_face faces tables c.args.row.right b of_right)

@@ -23,7 +23,7 @@ loops_behind-requires c =
     let first = take c.args.at (leaf_values (leaf_in here.store.faces here.store.tables.items) here.shape.tree) in (
       first,
       taken_together c.args.at (leaf_values (leaf_in here.store.faces here.store.tables.items) here.shape.tree) c.self.invariant.sound_leaves,
-      subst (λ (s : FaceStore). StandFor WholeLeaf (part (leaf_in s.faces s.tables.items) (node_in s.faces)) c.in_ok-parts.parts.items first) (sym c.store.ensures) c.in_ok-parts.ensures,
+      subst (λ (s : FaceStore). StandFor WholeLeaf (part (leaf_in s.faces s.tables.items) (node_in s.faces)) c.in_ok-parts.parts.items first) (sym c.store.ensures) c.in_ok-parts.ensures.stand,
       omega (arith, c.requires.lines, fewer_lines c.args.at (leaf_values (leaf_in here.store.faces here.store.tables.items) here.shape.tree), ap (λ (v : TreeView). lines_of v.leaves) c.self.view_is),
     )
 
@@ -32,7 +32,7 @@ returns c =
     let here = c.self.inside.whole in
     let first = take c.args.at (leaf_values (leaf_in here.store.faces here.store.tables.items) here.shape.tree) in
     let together = taken_together c.args.at (leaf_values (leaf_in here.store.faces here.store.tables.items) here.shape.tree) c.self.invariant.sound_leaves in
-    let stand = subst (λ (s : FaceStore). StandFor WholeLeaf (part (leaf_in s.faces s.tables.items) (node_in s.faces)) c.in_ok-parts.parts.items first) (sym c.store.ensures) c.in_ok-parts.ensures in
+    let stand = subst (λ (s : FaceStore). StandFor WholeLeaf (part (leaf_in s.faces s.tables.items) (node_in s.faces)) c.in_ok-parts.parts.items first) (sym c.store.ensures) c.in_ok-parts.ensures.stand in
     IfOk-weaker c.loops_behind.result _ _
     (λ loops h. subst (λ (v : TreeView). (s : State) → applied_each (take c.args.at v.leaves) empty_state c.args.first ≡ went_on s → loops ≡ s.stacks c.args.needle) c.self.view_is (h first together stand))
     c.loops_behind.ensures

@@ -6,9 +6,9 @@ use Rattle.tree_shape.specs.View.{ShapeView, IsSameShape}
 use Rattle.value_tree.specs.Kept.{IsReplaceNeed}
 use Rattle.summary_tree.specs.Leaves.{leaf_room}
 use Rattle.summary_tree.specs.Rooms.{kept_room}
-use Rattle.summary_tree.specs.Store.{leaf_in, node_in, HasRooms}
-use Rattle.summary_tree.specs.Trees.{TreeView, laid_out}
-use Rattle.summary_tree.proofs.Layouts.{count_is, is_same}
+use Rattle.summary_tree.specs.Store.{leaf_in, node_in, places_in, HasRooms}
+use Rattle.summary_tree.specs.Trees.{TreeView, Meets, laid_out}
+use Rattle.summary_tree.proofs.Layouts.{count_is, is_same, keeps_place, keeps_room}
 use Rattle.summary_tree.proofs.Needs.{replace_met, same_self}
 use Rattle.summary_tree.proofs.tree.Tree.reserve_replace.Goals as goal
 
@@ -50,3 +50,14 @@ returns-in-Some-clause-same c =
     let e = c.reserve.ensures in
     is_same here.shape here.store.faces here.store.tables.items here.store.scratch.room c.args.self.now c.self.view_is c.self.invariant then.shape then.store.faces then.store.tables.items then.store.scratch.room
     (record { tree = ap (λ (s : ShapeView). s.tree) e.shape; leaf_numbers = ap (λ (s : ShapeView). s.leaf_numbers) e.shape; inner_numbers = ap (λ (s : ShapeView). s.inner_numbers) e.shape }) e.leaves e.nodes
+
+pub returns-in-Some-clause-keeps : goal.returns-in-Some-clause-keeps
+returns-in-Some-clause-keeps c =
+    let here = c.self.inside.whole in
+    let then = c.reserve.new.self in
+    let e = c.reserve.ensures in
+    keeps_room here.shape here.store.faces here.store.tables.items here.store.scratch.room c.args.self.now c.self.view_is c.self.invariant then.shape then.store.faces then.store.tables.items then.store.scratch.room e.memory
+    (keeps_place (places_in here.store.faces here.store.tables.items) (places_in then.store.faces then.store.tables.items) here.shape then.shape e.slots e.shape)
+
+pub returns-in-None-clause-keeps : goal.returns-in-None-clause-keeps
+returns-in-None-clause-keeps c = λ need m. c.reserve_anew.ensures.keeps need (subst (λ (v : TreeView). Meets v need) (sym c.self.view_is) m)
