@@ -1,5 +1,5 @@
 //! Empty tallies, in which those to come are joined.
-ghost use Rattle.std.specs.Prelude.{◌≡◌, ◌≤◌, ◌<◌, ◌+◌, ◌↔◌, true, length, OnOk};
+ghost use Rattle.std.specs.Prelude.{◌≡◌, ℕ, ◌≤◌, ◌<◌, ◌+◌, ◌↔◌, All, List, true, length, IfOk, OnOk};
 ghost use Rattle.tally_tree.specs.Rooms.{AreMet, IsSpare};
 
 use crate::rooms::Rooms;
@@ -38,16 +38,18 @@ impl Spares {
         }
     }
 
-    /// Makes an empty tally for each room. Fails where memory runs out.
+    /// Makes an empty tally for each room, where there are fewer or smaller ones. Fails where memory runs out, with those that there were.
     pub fn reserve(&mut self, need: &Rooms) -> Result<(), NoMemory>
-        ensures { OnOk result (AreMet self.new need.now) }
+        ensures ok { OnOk result (AreMet self.new need.now) }
+        ensures keeps { (needed : List ℕ) → AreMet self.old needed → AreMet self.new needed }
     {
-        self.tallies.clear();
-        self.room = need.most();
-        for _i in 0..need.len() {
-            let spare = Tally::with_room(self.alloc, self.room)?;
-            self.tallies.push(spare)?;
+        if self.meets(need) {
+            return Ok(());
         }
+        let many = self.tallies.len().max(need.len());
+        let room = self.room.max(need.most());
+        self.tallies = made(self.alloc, many, room)?;
+        self.room = room;
         Ok(())
     }
 
@@ -70,4 +72,16 @@ impl Spares {
         };
         spare
     }
+}
+
+// So many empty tallies, each with room for so many needles.
+fn made(alloc: Global, many: usize, room: usize) -> Result<Vec<Tally>, NoMemory>
+    ensures spare { IfOk result (λ tallies. All (IsSpare room) tallies.items) }
+    ensures many { IfOk result (λ tallies. length tallies.items ≡ many) }
+{
+    let mut tallies = Vec::with_capacity(alloc, many)?;
+    for _i in 0..many {
+        tallies.push(Tally::with_room(alloc, room)?)?;
+    }
+    Ok(tallies)
 }
