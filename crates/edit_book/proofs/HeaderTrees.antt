@@ -10,7 +10,7 @@ use Rattle.edit_book.specs.Books.{BookView, IsLawfulBook, IsLawfulSetting, IsLea
 use Rattle.edit_book.specs.Headers.{ArePreparedAgain}
 use Rattle.edit_book.specs.HeaderTrees.{AreLeavesOf, AreTaken, FitBlocks, FitsBlock, lines_for, lines_left}
 use Rattle.edit_book.specs.Verdicts.{setting_of}
-use Rattle.edit_book.specs.Work.{header_limit, lines_anew, needles_in, with_names}
+use Rattle.edit_book.specs.Work.{header_limit, lines_anew, start_limit, with_names}
 use Rattle.edit_book.proofs.HandedOver.{left_anew, own_leaves}
 use Rattle.edit_book.proofs.Trees.{zip_count, zip_good, zip_lines}
 use Rattle.edit_book.proofs.Work.{leaves_work}
@@ -109,11 +109,10 @@ header_work : (setting : Setting) (leaves : List Leaf) (d : Document) (again : L
     → ((carriers limit : ℕ) (known : List Needle) → AreGoodFor carriers limit known leaves → now ≤ read + 3 * most_items carriers limit (length known) * length leaves)
     → now ≤ before + header_limit setting d again
 header_work setting leaves d again before read now h less steps =
-    let most : ℕ = most_items (length setting.declared) setting.profile.hold (length (needles_in setting (body d))) in
-    within before read now most (length d.blocks) (lines_anew again d.blocks) less (leaves_work setting leaves d.blocks read now h steps)
+    within before read now (start_limit setting (length d.blocks) (body d)) (lines_anew again d.blocks) less (leaves_work setting leaves d.blocks read now h steps)
   where
-    within : (before read now most blocks anew : ℕ) → read ≤ before + anew → now ≤ read + 3 * most * blocks → now ≤ before + (4 * (blocks + 1) * (most + 1) + 2 * anew)
-    within before read now most blocks anew h k = omega arith
+    within : (before read now most anew : ℕ) → read ≤ before + anew → now ≤ read + most → now ≤ before + (anew + most)
+    within before read now most anew h k = omega arith
 
 -- the tree that is made of the blocks of a book, under other names
 module _ (v : BookView) (lawful : IsLawfulBook v) (names : List (List ℕ)) (again : List Again) (setting : Setting) (setting_is : setting ≡ with_names names (setting_of v.opening (document v)))

@@ -16,7 +16,8 @@ use Rattle.face_data.specs.Goodness.{IsGoodFace}
 use Rattle.face_data.specs.View.{summary_of}
 use Rattle.loop_history.specs.Tables.{TableStandsFor}
 use Rattle.block_summary.specs.Prepared.{AreReadings, IsMadeOf}
-use Rattle.block_summary.proofs.Blocks.{named, named_known}
+use Rattle.block_summary.specs.NamedNeedles.{named}
+use Rattle.block_summary.proofs.Blocks.{named_known}
 use Rattle.edit_book.specs.Books.{IsLawful, IsLawfulSetting, IsLeafOf}
 use Rattle.edit_book.specs.Verdicts.{setting_of}
 use Rattle.block_summary.proofs.BedNeedles.{named_numbered}

@@ -1,22 +1,24 @@
 -- How much work an edit takes: the lines after it name no needle but those of the lines before it and of its text.
 use Rattle.std.proofs.Common.{◌≡◌, ⊎_elim, ℕ, ◌+◌, ◌*◌, ◌≤◌, Bool, true, false, cond, ◌||◌, ◌==◌, List, [], ◌∷◌, ◌++◌, length, Option, Some, None, sym, subst, ap, ◌∙◌, refl, arith}
 use Rattle.std.specs.List.{AllZip, Contains, list_any}
-use Rattle.std.proofs.lemmas.Nat.{mul-le}
 use Rattle.knit_base.specs.declared.instr.Read.{Read}
 use Rattle.knit_base.specs.declared.instr.Read.TheVariants as read
 use Rattle.knit_base.specs.declared.needle.Needle.{Needle}
 use Rattle.knit_base.specs.declared.setting.Setting.{Setting}
 use Rattle.knit_base.specs.Instr.{forming_needle}
 use Rattle.knit_base.specs.Needle.{own_slider, same_needle, same_needle-true}
-use Rattle.knitout_reader.specs.Reading.{ReadsAs}
+use Rattle.knit_base.specs.declared.profile.Profile.{Profile}
+use Rattle.knitout_reader.specs.Reading.{CodeReadsAs, ReadsAs}
+use Rattle.knitout_reader.specs.Tokens.{before_comment, has_comment, tokens_of}
+use Rattle.knitout_reader.proofs.OneShape.{one-reading}
 use Rattle.knitout_reader.proofs.SomeReading.{each-reads}
 use Rattle.face_data.specs.Items.{most_items}
 use Rattle.face_data.specs.Sets.{IsWithin}
 use Rattle.face_data.proofs.Members.{Contains-cons_cases, Contains-head, Contains-none, Contains-tail}
 use Rattle.block_summary.specs.LineSummaries.{NeedlesKnownInLine, SliderKnown}
 use Rattle.block_summary.specs.Prepared.{AreKnown, AreReadings}
-use Rattle.block_summary.proofs.Blocks.{named, named_known}
-use Rattle.tree_shape.specs.Fewest.{highest}
+use Rattle.block_summary.specs.NamedNeedles.{named}
+use Rattle.block_summary.proofs.Blocks.{named_known}
 use Rattle.edit_journal.specs.declared.edit.Anchor.{Anchor}
 use Rattle.edit_journal.specs.declared.edit.Anchor.TheVariants.{Start, After}
 use Rattle.edit_journal.specs.declared.edit.Edit.{Edit}
@@ -83,6 +85,30 @@ pub lines_known : (setting : Setting) (lines : List (List ℕ)) → Each (KnowsL
 lines_known setting lines =
     let rs = each-reads setting.profile setting.declared lines in
     zip_known setting (needles_in setting lines) lines rs.0 rs.1 (λ r there. known_wider r (named rs.0) (once (named rs.0)) (once_keeps (named rs.0)) (named_known rs.0 r there))
+
+-- a line has one reading
+line_once : (profile : Profile) (names : List (List ℕ)) (tokens : List (List ℕ)) (comment : Bool) (r other : Read) → CodeReadsAs profile names tokens comment r → CodeReadsAs profile names tokens comment other → other ≡ r
+line_once profile names [] false r other one two = two ∙ sym one
+line_once profile names [] true r other one two = two ∙ sym one
+line_once profile names (token ∷ tokens) comment r other one two = one-reading profile names token tokens r other one two
+
+-- and so have some lines
+read_once : (profile : Profile) (names lines : List (List ℕ)) (readings others : List Read) → AreReadings profile names lines readings → AreReadings profile names lines others → others ≡ readings
+read_once profile names [] [] [] one two = refl
+read_once profile names [] [] (r ∷ rs) one two = absurd two
+read_once profile names [] (r ∷ rs) others one two = absurd one
+read_once profile names (line ∷ lines) [] others one two = absurd one
+read_once profile names (line ∷ lines) (r ∷ rs) [] one two = absurd two
+read_once profile names (line ∷ lines) (r ∷ rs) (q ∷ qs) one two =
+    let first = line_once profile names (tokens_of (before_comment line)) (has_comment line) r q one.0 two.0 in
+    let later = read_once profile names lines rs qs one.1 two.1 in
+    λ i. first i ∷ later i
+
+-- The needles in lines are those of any readings.
+pub needles_are : (setting : Setting) (lines : List (List ℕ)) (readings : List Read) → AreReadings setting.profile setting.declared lines readings → needles_in setting lines ≡ once (named readings)
+needles_are setting lines readings reads =
+    let some = each-reads setting.profile setting.declared lines in
+    ap (λ (rs : List Read). once (named rs)) (read_once setting.profile setting.declared lines readings some.0 reads some.1)
 
 -- readings of lines that name these needles alone
 record Known (setting : Setting) (known : List Needle) (lines : List (List ℕ)) : Type 0 where
@@ -164,9 +190,6 @@ leaves_work setting leaves bs before now h steps =
     subst (λ (n : ℕ). now ≤ before + 3 * most_items (length setting.declared) setting.profile.hold (length known) * n) (zip_count (λ (l : Leaf) (b : Block). IsLeafOf setting l b.lines) leaves bs h)
     (steps (length setting.declared) setting.profile.hold known (leaves_known setting known leaves bs h (lines_known setting (lines_in bs))))
 
-within_limit : (high most : ℕ) → 9 * (high + 2) * most ≤ 16 * (high + 2) * (most + 1)
-within_limit high most = mul-le (9 * (high + 2)) most (16 * (high + 2)) (most + 1) (omega arith) (omega arith)
-
 -- An edit of a block takes no more steps than it may.
 pub edit_work : (o : Opening) (es : List Entry) (session count blocks before now : ℕ) (request : Request) (change : Edit) (lines : List (List ℕ)) (v : BookView) (room : Bool) (tree : TreeView) (longer : List Entry) (leaves : List Leaf)
     → record { opening = o; entries = es; journal_room = room; tree = tree } ≡ v → longer ≡ es ++ record { session = session; edit = change } ∷ [] → changes_header change ≡ false → IsLawful o longer leaves
@@ -185,6 +208,5 @@ edit_work o es session count blocks before now request change lines v room tree 
     let good = leaves_known setting known leaves (document_of o longer).blocks leaves_are (subst (λ (d : Document). Each (KnowsLine setting known) (body d)) (sym next) all) in
     let most : ℕ = most_items (length setting.declared) setting.profile.hold (length known) in
     let taken : now ≤ before + change_steps blocks most = subst (λ (n : ℕ). now ≤ before + change_steps n most) count_is (steps (length setting.declared) setting.profile.hold known good) in
-    let less : change_steps blocks most ≤ edit_limit setting blocks lines = within_limit (highest blocks) most in
-    let here : now ≤ before + limit_at setting (document_of o es) request = subst (λ (n : ℕ). now ≤ before + n) (sym limit_is) (omega (arith, taken, less)) in
+    let here : now ≤ before + limit_at setting (document_of o es) request = subst (λ (n : ℕ). now ≤ before + n) (sym limit_is) taken in
     subst (λ (w : BookView). now ≤ before + work_limit w.opening w.entries request) view here

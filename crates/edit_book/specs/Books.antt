@@ -10,7 +10,7 @@ use Rattle.edit_journal.specs.declared.edit.Entry.{Entry}
 use Rattle.edit_journal.specs.declared.opening.Opening.{Opening}
 use Rattle.edit_journal.specs.Documents.{Block, Document, block_of, document_of, body, text_at}
 use Rattle.summary_tree.specs.Leaves.{Leaf}
-use Rattle.summary_tree.specs.Trees.{TreeView, CanReplace}
+use Rattle.summary_tree.specs.Trees.{TreeView, IsSameTree, CanReplace}
 use Rattle.edit_book.specs.declared.block_state.BlockState.{BlockState}
 use Rattle.edit_book.specs.declared.block_state.BlockState.TheVariants.{There, CutBy}
 use Rattle.edit_book.specs.Orders.{is_id}
@@ -121,3 +121,12 @@ IsLawfulBook book = IsLawful book.opening book.entries book.tree.leaves
 -- a put of a text with this summary at the block takes no memory; where the block isn't there no room is needed
 abbrev pub IsReady : BookView → ℕ → Summary → Type 0
 IsReady book id summary = IfSome (position (is_id id) (ids_of (document book).blocks)) (λ at. (book.journal_room ≡ true) × CanReplace book.tree at summary)
+
+-- only room was added to a book: its blocks have the same faces, and what was ready for a put is ready
+pub record HasMoreRoom (old new : BookView) : Type 0 where
+  pub tree : IsSameTree old.tree new.tree
+  pub ready : (id : ℕ) (summary : Summary) → IsReady old id summary → IsReady new id summary
+
+-- a book whose journal stays has the room that it had, and more at most
+abbrev pub KeepsRoom : BookView → BookView → Type 0
+KeepsRoom old new = new.entries ≡ old.entries → HasMoreRoom old new

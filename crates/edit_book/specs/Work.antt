@@ -7,8 +7,8 @@ use Rattle.knit_base.specs.declared.setting.Setting.{Setting}
 use Rattle.knit_base.specs.Needle.{same_needle}
 use Rattle.knitout_reader.proofs.SomeReading.{each-reads}
 use Rattle.face_data.specs.Items.{most_items}
-use Rattle.block_summary.proofs.Blocks.{named}
-use Rattle.tree_shape.specs.Fewest.{highest}
+use Rattle.block_summary.specs.NamedNeedles.{named}
+use Rattle.summary_tree.specs.Trees.{change_steps}
 use Rattle.edit_journal.specs.declared.edit.Entry.{Entry}
 use Rattle.edit_journal.specs.declared.opening.Opening.{Opening}
 use Rattle.edit_journal.specs.Documents.{Block, Document, block_of, document_of, body}
@@ -23,17 +23,22 @@ abbrev pub once : List Needle → List Needle
 once [] = []
 once (n ∷ ns) = if list_any (same_needle n) ns then once ns else n ∷ once ns
 
--- the needles that the lines name, and the own sliders of those on which they form loops
+-- The needles that the lines name, and the own sliders of those on which they form loops. Lines have one reading each; `Book::setting` says
+-- that the needles are those of any readings.
 abbrev pub needles_in : Setting → List (List ℕ) → List Needle
 needles_in setting lines = once (named (each-reads setting.profile setting.declared lines).0)
 
--- for an edit: of so many blocks, where all lines before and after it are among these
+-- how many items a summary of these lines has at most
+abbrev pub most_of_lines : Setting → List (List ℕ) → ℕ
+most_of_lines setting lines = most_items (length setting.declared) setting.profile.hold (length (needles_in setting lines))
+
+-- for an edit: of so many blocks, where all lines before and after it are among these; so much as a change of the tree may take
 abbrev pub edit_limit : Setting → ℕ → List (List ℕ) → ℕ
-edit_limit setting blocks lines = 16 * (highest blocks + 2) * (most_items (length setting.declared) setting.profile.hold (length (needles_in setting lines)) + 1)
+edit_limit setting blocks lines = change_steps blocks (most_of_lines setting lines)
 
 -- for a book's opening: of so many blocks, with these lines
 abbrev pub start_limit : Setting → ℕ → List (List ℕ) → ℕ
-start_limit setting blocks lines = 3 * most_items (length setting.declared) setting.profile.hold (length (needles_in setting lines)) * blocks
+start_limit setting blocks lines = 3 * most_of_lines setting lines * blocks
 
 -- for a copy of a book with this document: the faces are composed anew, as at its opening
 abbrev pub copy_limit : Setting → Document → ℕ
@@ -56,10 +61,9 @@ abbrev pub lines_anew : List Again → List Block → ℕ
 lines_anew again [] = 0
 lines_anew again (b ∷ bs) = (if is_known again b then 0 else length b.lines) + lines_anew again bs
 
--- for other names of the header, where these summaries are handed over
+-- for other names of the header, where these summaries are handed over: other lines are read once, and the tree is made anew
 abbrev pub header_limit : Setting → Document → List Again → ℕ
-header_limit setting d again =
-    4 * (length d.blocks + 1) * (most_items (length setting.declared) setting.profile.hold (length (needles_in setting (body d))) + 1) + 2 * lines_anew again d.blocks
+header_limit setting d again = lines_anew again d.blocks + start_limit setting (length d.blocks) (body d)
 
 -- for a request of a document; other names of the header are reckoned as if no summary were handed over
 abbrev pub limit_at : Setting → Document → Request → ℕ

@@ -1,9 +1,9 @@
 //! A new block comes in.
-ghost use Rattle.std.specs.Prelude.{◌≡◌, ◌+◌, ◌<◌, ◌≤◌, ◌++◌, ◌∷◌, [], None, OnErr, OnOk, length};
+ghost use Rattle.std.specs.Prelude.{◌≡◌, ◌+◌, ◌<◌, ◌≤◌, ◌++◌, ◌∷◌, [], true, None, OnErr, OnOk, length};
 ghost use Rattle.edit_book.specs.Headers.{IsPreparedUnder};
 ghost use Rattle.edit_journal.specs.Documents.{HasAnchor, after, body};
 ghost use Rattle.edit_journal.specs.declared.edit.Edit.TheVariants as edit;
-ghost use Rattle.edit_book.specs.Books.{document, IsLawfulOutline, ids_of};
+ghost use Rattle.edit_book.specs.Books.{IsLawfulOutline, KeepsRoom, document, ids_of};
 ghost use Rattle.edit_book.specs.Orders.{place_of};
 ghost use Rattle.edit_book.specs.Outlines.{MayCome, outlined};
 ghost use Rattle.edit_book.specs.Replies as request;
@@ -11,7 +11,6 @@ ghost use Rattle.edit_book.specs.Replies.{refused_anchor, refusal_of, IsTurn};
 ghost use Rattle.edit_book.specs.Work.{work_limit};
 
 use crate::block_state::BlockState;
-use crate::room::room_for_entry;
 use crate::{Book, Outline, Reply};
 use block_summary::Prepared;
 use edit_journal::{Anchor, Edit, Entry};
@@ -22,6 +21,7 @@ use std::sync::ledger::Ledger;
 impl Book {
     /// Puts a new block first, or directly after another. Its id is the count of ids drawn, its stamp the new version. The text was
     /// prepared under the names that the header got from entry `head`; where the header has changed since, the add is stale.
+    #[tactic(auto, using(crate::proofs::Rooms::kept_all))]
     pub fn add<L: Ledger>(
         &mut self,
         session: u32,
@@ -34,6 +34,7 @@ impl Book {
         requires prepared { IsPreparedUnder self.old.opening self.old.entries head prepared }
         ensures opening { self.new.opening ≡ self.old.opening }
         ensures turned { IsTurn self.old.opening self.old.entries session (request.Add anchor head prepared.text) result self.new.entries }
+        ensures kept { KeepsRoom self.old self.new }
         ensures steps { steps.new ≤ steps.old + work_limit self.old.opening self.old.entries (request.Add anchor head prepared.text) }
     {
         if let Some(refusal) = self.outline.refused_add(anchor, head, &prepared) {
@@ -58,6 +59,7 @@ impl Book {
         requires free { refusal_of (document self.old) self.old.entries (request.Add anchor head prepared.text) ≡ None }
         ensures opening { self.new.opening ≡ self.old.opening }
         ensures turned { IsTurn self.old.opening self.old.entries session (request.Add anchor head prepared.text) result self.new.entries }
+        ensures kept { KeepsRoom self.old self.new }
         ensures steps { steps.new ≤ steps.old + work_limit self.old.opening self.old.entries (request.Add anchor head prepared.text) }
     {
         let version = self.version() + 1;
@@ -119,13 +121,14 @@ impl Outline {
         ensures opening { self.new.opening ≡ self.old.opening }
         ensures ok { OnOk result (self.new.entries ≡ self.old.entries ++ (record { session = session; edit = edit.Add anchor id text }) ∷ []) }
         ensures err { OnErr result (self.new.entries ≡ self.old.entries) }
+        ensures room { OnErr result (self.old.journal_room ≡ true → self.new.journal_room ≡ true) }
         ensures lawful { IsLawfulOutline self.new.opening self.new.entries }
     {
         let lines = self.lines + text.len();
         let version = self.version() + 1;
         let _ids = self.ids();
         let at = self.place_after(anchor);
-        room_for_entry(&mut self.journal)?;
+        self.journal.reserve_one()?;
         self.order.reserve_one(id)?;
         self.states.reserve(1)?;
         self.journal.push(Entry {

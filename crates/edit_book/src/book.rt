@@ -1,11 +1,15 @@
 //! The book: the outline of a document, and the faces of its blocks in a tree.
-ghost use Rattle.std.specs.Prelude.{◌≡◌, ◌<◌, ◌≤◌, IfSome, length, option_map};
+ghost use Rattle.std.specs.Prelude.{◌≡◌, ℕ, ◌<◌, ◌≤◌, List, IfSome, length, option_map};
 ghost use Rattle.std.specs.Option.{option_copied};
+ghost use Rattle.knit_base.specs.declared.instr.Read.{Read};
 ghost use Rattle.knit_base.specs.Limits.{IsLawfulProfile};
+ghost use Rattle.block_summary.specs.NamedNeedles.{named};
+ghost use Rattle.block_summary.specs.Prepared.{AreReadings};
 ghost use Rattle.edit_journal.specs.Documents.{block_of, body, stamp_at, names_at as names_given_at, text_at as text_given};
 ghost use Rattle.edit_book.specs.Books.{document, IsLawfulBook};
 ghost use Rattle.edit_journal.specs.Entries.{entry_limit, head_id};
 ghost use Rattle.edit_book.specs.Verdicts.{IsBriefOn, setting_of};
+ghost use Rattle.edit_book.specs.Work.{needles_in, once};
 
 use crate::Outline;
 use carriage_model::Brief;
@@ -54,10 +58,13 @@ impl Book {
         self.outline.journal()
     }
 
-    /// What the document is read by at its version: the opening's setting, with the names that the header now has.
+    /// What the document is read by at its version: the opening's setting, with the names that the header now has. The needles that lines
+    /// name, by which the limits on steps count, are those of any readings of these lines.
+    #[tactic(auto, using(crate::proofs::Work::needles_are))]
     pub fn setting(&self) -> &Setting
         ensures setting { result.now ≡ setting_of self.now.opening (document self.now) }
         ensures lawful { IsLawfulProfile result.now.profile }
+        ensures needles { (lines : List (List ℕ)) (readings : List Read) → AreReadings result.now.profile result.now.declared lines readings → needles_in result.now lines ≡ once (named readings) }
     {
         self.outline.setting()
     }

@@ -1,15 +1,14 @@
 //! A block is taken out.
-ghost use Rattle.std.specs.Prelude.{◌≡◌, ◌+◌, ◌<◌, ◌≤◌, ◌++◌, ◌∷◌, [], None, OnErr, OnOk, length};
+ghost use Rattle.std.specs.Prelude.{◌≡◌, ◌+◌, ◌<◌, ◌≤◌, ◌++◌, ◌∷◌, [], true, None, OnErr, OnOk, length};
 ghost use Rattle.edit_journal.specs.Documents.{after, body};
 ghost use Rattle.edit_journal.specs.declared.edit.Edit.TheVariants as edit;
-ghost use Rattle.edit_book.specs.Books.{document, IsLawfulOutline};
+ghost use Rattle.edit_book.specs.Books.{IsLawfulOutline, KeepsRoom, document};
 ghost use Rattle.edit_book.specs.Outlines.{MayCome, outlined};
 ghost use Rattle.edit_book.specs.Replies as request;
 ghost use Rattle.edit_book.specs.Replies.{refusal_of, IsTurn};
 ghost use Rattle.edit_book.specs.Work.{work_limit};
 
 use crate::block_state::BlockState;
-use crate::room::room_for_entry;
 use crate::{Book, Outline, Reply};
 use edit_journal::{Edit, Entry};
 use face_data::brief_of;
@@ -18,6 +17,7 @@ use std::sync::ledger::Ledger;
 
 impl Book {
     /// Takes a block out.
+    #[tactic(auto, using(crate::proofs::Rooms::kept_all))]
     pub fn cut<L: Ledger>(
         &mut self,
         session: u32,
@@ -28,6 +28,7 @@ impl Book {
         requires { session < 64 }
         ensures opening { self.new.opening ≡ self.old.opening }
         ensures turned { IsTurn self.old.opening self.old.entries session (request.Cut block seen) result self.new.entries }
+        ensures kept { KeepsRoom self.old self.new }
         ensures steps { steps.new ≤ steps.old + work_limit self.old.opening self.old.entries (request.Cut block seen) }
     {
         if let Some(refusal) = self.outline.refused_cut(block, seen) {
@@ -48,6 +49,7 @@ impl Book {
         requires { refusal_of (document self.old) self.old.entries (request.Cut id seen) ≡ None }
         ensures opening { self.new.opening ≡ self.old.opening }
         ensures turned { IsTurn self.old.opening self.old.entries session (request.Cut id seen) result self.new.entries }
+        ensures kept { KeepsRoom self.old self.new }
         ensures steps { steps.new ≤ steps.old + work_limit self.old.opening self.old.entries (request.Cut id seen) }
     {
         let version = self.version() + 1;
@@ -91,6 +93,7 @@ impl Outline {
         ensures opening { self.new.opening ≡ self.old.opening }
         ensures ok { OnOk result (self.new.entries ≡ self.old.entries ++ (record { session = session; edit = edit.Cut id seen }) ∷ []) }
         ensures err { OnErr result (self.new.entries ≡ self.old.entries) }
+        ensures room { OnErr result (self.old.journal_room ≡ true → self.new.journal_room ≡ true) }
         ensures lawful { IsLawfulOutline self.new.opening self.new.entries }
     {
         let lines = self.lines_after_cut(id, seen);
@@ -99,7 +102,7 @@ impl Outline {
         let Some(at) = self.order.position(id) else {
             unreachable!();
         };
-        room_for_entry(&mut self.journal)?;
+        self.journal.reserve_one()?;
         self.journal.push(Entry {
             session,
             edit: Edit::Cut { block: id, seen },

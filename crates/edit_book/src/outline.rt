@@ -1,5 +1,5 @@
 //! The outline of a book: what it began with, the journal of what was done to it, and what is kept of the document that follows.
-ghost use Rattle.std.specs.Prelude.{◌≡◌, ◌<◌, ◌≤◌, Some, None, IfOk, IfSome, OnOk, length, option_map, position, slice_get, nat_lt, true, if◌then◌else◌};
+ghost use Rattle.std.specs.Prelude.{◌≡◌, ◌<◌, ◌≤◌, Some, None, IfOk, IfSome, IsOk, OnOk, length, option_map, position, slice_get, nat_lt, true, if◌then◌else◌};
 ghost use Rattle.std.specs.Option.{option_copied};
 ghost use Rattle.knit_base.specs.Limits.{IsLawfulProfile};
 ghost use Rattle.edit_journal.specs.Documents.{block_of, stamp_at, names_at as names_given_at, text_at as text_given};
@@ -13,7 +13,6 @@ ghost use Rattle.edit_book.specs.Work.{with_names};
 use crate::block_state::BlockState;
 use crate::header::Header;
 use crate::order::Order;
-use crate::room::room_for_entry;
 use edit_journal::{Journal, Opening};
 use knit_base::{BlockText, Declared, NoMemory, Setting};
 use std::alloc::Global;
@@ -227,7 +226,9 @@ impl Outline {
         ensures ok { OnOk result (self.new.journal_room ≡ true) }
         ensures opening { self.new.opening ≡ self.old.opening }
         ensures entries { self.new.entries ≡ self.old.entries }
+        ensures ready { self.old.journal_room ≡ true → IsOk result }
+        ensures keeps { self.old.journal_room ≡ true → self.new.journal_room ≡ true }
     {
-        room_for_entry(&mut self.journal)
+        self.journal.reserve_one()
     }
 }

@@ -3,7 +3,7 @@ ghost use Rattle.std.specs.Prelude.{◌≡◌, ◌≢◌, ℕ, List, ◌+◌, �
 ghost use Rattle.edit_journal.specs.Documents.{after, block_of, body};
 ghost use Rattle.edit_journal.specs.declared.edit.Edit.TheVariants as edit;
 ghost use Rattle.edit_book.specs.Headers.{IsPreparedUnder};
-ghost use Rattle.edit_book.specs.Books.{document, IsLawfulOutline, IsReady};
+ghost use Rattle.edit_book.specs.Books.{IsLawfulOutline, IsReady, KeepsRoom, document};
 ghost use Rattle.edit_book.specs.Outlines.{MayCome, outlined};
 ghost use Rattle.edit_book.specs.Replies as request;
 ghost use Rattle.edit_book.specs.Replies.{refusal_of, IsTurn};
@@ -11,7 +11,6 @@ ghost use Rattle.edit_book.specs.Work.{work_limit};
 ghost use Rattle.edit_book.specs.declared.reply.Reply.TheVariants as Reply;
 
 use crate::block_state::BlockState;
-use crate::room::room_for_entry;
 use crate::{Book, Outline, Reply};
 use block_summary::Prepared;
 use edit_journal::{Edit, Entry};
@@ -22,6 +21,7 @@ use std::sync::ledger::Ledger;
 impl Book {
     /// Gives a block another text, and the stamp of the new version. The text was prepared under the names that the header got from
     /// entry `head`; where the header has changed since, the put is stale.
+    #[tactic(auto, using(crate::proofs::Rooms::kept_all))]
     pub fn put<L: Ledger>(
         &mut self,
         session: u32,
@@ -35,6 +35,7 @@ impl Book {
         requires prepared { IsPreparedUnder self.old.opening self.old.entries head prepared }
         ensures opening { self.new.opening ≡ self.old.opening }
         ensures turned { IsTurn self.old.opening self.old.entries session (request.Put block seen head prepared.text) result self.new.entries }
+        ensures kept { KeepsRoom self.old self.new }
         ensures steps { steps.new ≤ steps.old + work_limit self.old.opening self.old.entries (request.Put block seen head prepared.text) }
         ensures ready { IsReady self.old block prepared.face → result ≢ Reply.NoMemory }
     {
@@ -59,6 +60,7 @@ impl Book {
         requires free { refusal_of (document self.old) self.old.entries (request.Put id seen head prepared.text) ≡ None }
         ensures opening { self.new.opening ≡ self.old.opening }
         ensures turned { IsTurn self.old.opening self.old.entries session (request.Put id seen head prepared.text) result self.new.entries }
+        ensures kept { KeepsRoom self.old self.new }
         ensures steps { steps.new ≤ steps.old + work_limit self.old.opening self.old.entries (request.Put id seen head prepared.text) }
         ensures ready { IsReady self.old id prepared.face → result ≢ Reply.NoMemory }
     {
@@ -123,13 +125,14 @@ impl Outline {
         ensures opening { self.new.opening ≡ self.old.opening }
         ensures ok { OnOk result (self.new.entries ≡ self.old.entries ++ (record { session = session; edit = edit.Put id seen text }) ∷ []) }
         ensures err { OnErr result (self.new.entries ≡ self.old.entries) }
+        ensures room { OnErr result (self.old.journal_room ≡ true → self.new.journal_room ≡ true) }
         ensures lawful { IsLawfulOutline self.new.opening self.new.entries }
         ensures ready { self.old.journal_room ≡ true → IsOk result }
     {
         let lines = self.lines_after_put(id, seen, &text);
         let version = self.version() + 1;
         let _ids = self.ids();
-        room_for_entry(&mut self.journal)?;
+        self.journal.reserve_one()?;
         self.journal.push(Entry {
             session,
             edit: Edit::Put {

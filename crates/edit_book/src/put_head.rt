@@ -1,10 +1,10 @@
 //! The header gets other names.
-ghost use Rattle.std.specs.Prelude.{◌≡◌, ◌+◌, ◌<◌, ◌≤◌, ◌++◌, ◌∷◌, [], List, Some, None, IfOk, OnErr, OnOk, length, replicate, slice_get};
+ghost use Rattle.std.specs.Prelude.{◌≡◌, ◌+◌, ◌<◌, ◌≤◌, ◌++◌, ◌∷◌, [], true, List, Some, None, IfOk, OnErr, OnOk, length, replicate, slice_get};
 ghost use Rattle.knit_base.specs.Limits.{IsLawfulProfile};
 ghost use Rattle.edit_journal.specs.Documents.{Block};
 ghost use Rattle.edit_book.specs.declared.reply.Again.{Again};
 ghost use Rattle.edit_journal.specs.declared.edit.Edit.TheVariants as edit;
-ghost use Rattle.edit_book.specs.Books.{document, IsLawfulOutline, IsLeafOf};
+ghost use Rattle.edit_book.specs.Books.{IsLawfulOutline, IsLeafOf, KeepsRoom, document};
 ghost use Rattle.edit_book.specs.Outlines.{MayCome};
 ghost use Rattle.edit_book.specs.Headers.{ArePreparedAgain};
 ghost use Rattle.edit_book.specs.HeaderTrees.{AreLeavesOf, AreTaken, FitBlocks, FitsBlock, lines_for, lines_left};
@@ -14,7 +14,6 @@ ghost use Rattle.edit_book.specs.Verdicts.{setting_of};
 ghost use Rattle.edit_book.specs.Work.{header_limit, with_names};
 
 use crate::reply::{Again, AgainList};
-use crate::room::room_for_entry;
 use crate::{Book, Outline, Reply};
 use block_summary::{Draft, Prepared, prepare_with};
 use edit_journal::{Edit, Entry, HEAD};
@@ -29,6 +28,7 @@ impl Book {
     /// Gives the header other names, and the stamp of the new version. A block whose id and stamp stand in `again` takes the summary
     /// that stands there; any other is summarised here. The new tree is made first.
     #[inline(never)]
+    #[tactic(auto, using(crate::proofs::Rooms::kept_all))]
     pub fn put_head<L: Ledger>(
         &mut self,
         session: u32,
@@ -41,6 +41,7 @@ impl Book {
         requires again { ArePreparedAgain self.old.opening self.old.entries declared again }
         ensures opening { self.new.opening ≡ self.old.opening }
         ensures turned { IsTurn self.old.opening self.old.entries session (request.PutHead seen declared) result self.new.entries }
+        ensures kept { KeepsRoom self.old self.new }
         ensures steps { steps.new ≤ steps.old + header_limit (with_names declared (setting_of self.old.opening (document self.old))) (document self.old) again }
     {
         if let Some(refusal) = self.outline.refused_head(seen) {
@@ -62,6 +63,7 @@ impl Book {
         requires leaves { AreLeavesOf (with_names declared (setting_of self.old.opening (document self.old))) tree.leaves (document self.old).blocks }
         ensures opening { self.new.opening ≡ self.old.opening }
         ensures turned { IsTurn self.old.opening self.old.entries session (request.PutHead seen declared) result self.new.entries }
+        ensures kept { KeepsRoom self.old self.new }
     {
         let version = self.version() + 1;
         if self.outline.enter_head(session, seen, declared).is_err() {
@@ -219,12 +221,13 @@ impl Outline {
         ensures opening { self.new.opening ≡ self.old.opening }
         ensures ok { OnOk result (self.new.entries ≡ self.old.entries ++ (record { session = session; edit = edit.Head seen declared }) ∷ []) }
         ensures err { OnErr result (self.new.entries ≡ self.old.entries) }
+        ensures room { OnErr result (self.old.journal_room ≡ true → self.new.journal_room ≡ true) }
         ensures lawful { IsLawfulOutline self.new.opening self.new.entries }
     {
         let _carriers = declared.len();
         let version = self.version() + 1;
         let setting = self.setting_under(&declared)?;
-        room_for_entry(&mut self.journal)?;
+        self.journal.reserve_one()?;
         self.header.entries.reserve(1)?;
         self.journal.push(Entry {
             session,

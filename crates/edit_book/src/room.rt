@@ -1,10 +1,9 @@
 //! Room for a put, made before it.
 ghost use Rattle.std.specs.Prelude.{◌≡◌, ◌↔◌, true, IsOk, OnOk};
-ghost use Rattle.edit_book.specs.Books.{IsReady};
+ghost use Rattle.edit_book.specs.Books.{HasMoreRoom, IsReady};
 
 use crate::Book;
 use block_summary::Prepared;
-use edit_journal::Journal;
 use knit_base::NoMemory;
 
 impl Book {
@@ -19,9 +18,12 @@ impl Book {
         self.outline.has_room() && self.tree.meets(&need)
     }
 
-    /// Makes room for a put of this text at the block, and changes nothing else that contracts see.
+    /// Makes room for a put of this text at the block, and changes nothing else. What is ready, for this block or another, stays so until
+    /// the next edit that is accepted. Where it is ready already, as for a block that isn't there, it is `Ok`.
     pub fn warm(&mut self, block: u32, prepared: &Prepared) -> Result<(), NoMemory>
         ensures ok { OnOk result (IsReady self.new block prepared.now.face) }
+        ensures ready { IsReady self.old block prepared.now.face → IsOk result }
+        ensures keeps { HasMoreRoom self.old self.new }
         ensures opening { self.new.opening ≡ self.old.opening }
         ensures entries { self.new.entries ≡ self.old.entries }
     {
@@ -31,16 +33,4 @@ impl Book {
         self.outline.reserve_entry()?;
         self.tree.reserve_replace(at as u32, &prepared.face.view())
     }
-}
-
-/// Makes room for one more entry, where it isn't there. Fails where memory runs out, with the journal as before.
-pub(crate) fn room_for_entry(journal: &mut Journal) -> Result<(), NoMemory>
-    ensures ok { OnOk result (journal.new.room ≡ true) }
-    ensures entries { journal.new.entries ≡ journal.old.entries }
-    ensures ready { journal.old.room ≡ true → IsOk result }
-{
-    if journal.has_room() {
-        return Ok(());
-    }
-    journal.reserve_one()
 }

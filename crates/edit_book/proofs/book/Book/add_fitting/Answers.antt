@@ -2,13 +2,13 @@ use Rattle.std.proofs.Common.{◌≡◌, ◌++◌, ◌∷◌, [], ap, sym, subst
 use Rattle.edit_journal.specs.declared.edit.Edit.TheVariants as edit
 use Rattle.edit_journal.specs.declared.opening.Opening.{Opening}
 use Rattle.face_data.specs.Summaries.{Summary}
-use Rattle.edit_book.specs.Books.{IsLawful, IsLawfulOutline}
+use Rattle.edit_book.specs.Books.{BookView, IsLawful, IsLawfulOutline}
 use Rattle.edit_book.proofs.Boxes.{count_of, leaves_again, root_of}
 use Rattle.edit_book.proofs.Trees.{root_fits, root_good}
 use Rattle.edit_book.specs.Replies.{Add}
 use Rattle.edit_book.proofs.Added.{add_anchored, add_comes, add_fits, add_granted, add_is_short, add_made, add_sound, add_work}
 use Rattle.edit_book.proofs.Made.{turn_made}
-use Rattle.edit_book.proofs.Rooms.{made}
+use Rattle.edit_book.proofs.Rooms.{failed, kept_more, made, no_longer}
 use Rattle.summary_tree.specs.Trees.{CanInsert, IsSameTree, TreeView}
 use Rattle.edit_book.proofs.book.Book.add_fitting.Given.{Over}
 use Rattle.edit_book.proofs.book.Book.add_fitting.Goals as goal
@@ -85,3 +85,15 @@ returns-clause-steps g c =
     let here = (goal.at.returns-clause-steps g c).After-first in
     add_work _ _ c.args.session c.args.id c.place_after-at.result c.args.anchor c.args.head c.args.prepared c.args.self.now _ _ c.self.invariant c.self.view_is c.requires.free c.requires.prepared c.requires.id c.place_after-at.ensures.place _ (longer g here)
     (subst (λ (o : Opening). IsLawfulOutline o c.enter_add.new.self.entries) c.enter_add.ensures.opening c.enter_add.ensures.lawful) _ _ (leaves_again _ _ _ _ c.deref_mut.ensures.value c.reserve.ensures.same c.deref_mut-2.ensures.value) c.view-2.ensures.summary _ c.args.steps.now c.insert.new.steps c.insert.ensures.leaves c.insert.ensures.steps
+
+pub returns-then-is_err-clause-kept : goal.returns-then-is_err-clause-kept
+returns-then-is_err-clause-kept g c = λ stays. kept_more _ _ _ _ _ _ _ _ _ _ _ c.self.view_is refl refl refl (λ h. h) c.deref_mut.ensures.value c.reserve.ensures.same c.reserve.ensures.keeps
+
+pub returns-then-is_err-2-clause-kept : goal.returns-then-is_err-2-clause-kept
+returns-then-is_err-2-clause-kept g c = λ stays.
+    let err = sym c.is_err-2.ensures.value ∙ c.if-is_err-2.true in
+    kept_more _ _ _ _ _ _ _ _ _ _ _ c.self.view_is refl c.enter_add.ensures.opening (failed c.enter_add.result _ err c.enter_add.ensures.err) (failed c.enter_add.result _ err c.enter_add.ensures.room) c.deref_mut.ensures.value
+    c.reserve.ensures.same c.reserve.ensures.keeps
+
+pub returns-clause-kept : goal.returns-clause-kept
+returns-clause-kept g c = λ stays. absurd (no_longer _ _ _ (longer g (goal.at.returns-clause-kept g c).After-first) (stays ∙ sym (ap (λ (w : BookView). w.entries) c.self.view_is)))

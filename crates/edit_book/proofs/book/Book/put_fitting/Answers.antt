@@ -2,12 +2,12 @@ use Rattle.std.proofs.Common.{◌≡◌, ◌++◌, ◌∷◌, [], ap, sym, subst
 use Rattle.edit_journal.specs.declared.edit.Edit.TheVariants as edit
 use Rattle.edit_journal.specs.declared.opening.Opening.{Opening}
 use Rattle.face_data.specs.Summaries.{Summary}
-use Rattle.edit_book.specs.Books.{IsLawful, IsLawfulOutline}
+use Rattle.edit_book.specs.Books.{BookView, IsLawful, IsLawfulOutline}
 use Rattle.edit_book.proofs.Boxes.{count_of, leaves_again, root_of}
 use Rattle.edit_book.proofs.Trees.{root_fits, root_good}
 use Rattle.edit_book.specs.Replies.{Put}
 use Rattle.edit_book.proofs.Made.{at_fits, put_comes, put_is_short, put_made, put_sound, put_unplaced, put_work, turn_made}
-use Rattle.edit_book.proofs.Rooms.{made}
+use Rattle.edit_book.proofs.Rooms.{failed, kept_more, made, no_longer}
 use Rattle.summary_tree.specs.Trees.{CanReplace, TreeView}
 use Rattle.edit_book.proofs.book.Book.put_fitting.Given.{Over}
 use Rattle.edit_book.proofs.book.Book.put_fitting.Goals as goal
@@ -82,3 +82,15 @@ returns-clause-steps g c =
     let here = (goal.at.returns-clause-steps g c).After-first in
     put_work _ _ c.args.session c.args.id c.args.seen c.args.head c.args.prepared c.args.self.now _ _ c.self.invariant c.self.view_is c.requires.free c.requires.prepared c.in-Some.at (sym c.place.ensures ∙ c.in-Some.is) _ (longer g here)
     (subst (λ (o : Opening). IsLawfulOutline o c.enter_put.new.self.entries) c.enter_put.ensures.opening c.enter_put.ensures.lawful) _ _ (leaves_again _ _ _ _ c.deref_mut.ensures.value c.reserve_replace.ensures.same c.deref_mut-2.ensures.value) c.view-2.ensures.summary _ c.args.steps.now c.replace.new.steps c.replace.ensures.leaves c.replace.ensures.steps
+
+pub returns-then-is_err-clause-kept : goal.returns-then-is_err-clause-kept
+returns-then-is_err-clause-kept g c = λ stays. kept_more _ _ _ _ _ _ _ _ _ _ _ c.self.view_is refl refl refl (λ h. h) c.deref_mut.ensures.value c.reserve_replace.ensures.same c.reserve_replace.ensures.keeps
+
+pub returns-then-is_err-2-clause-kept : goal.returns-then-is_err-2-clause-kept
+returns-then-is_err-2-clause-kept g c = λ stays.
+    let err = sym c.is_err-2.ensures.value ∙ c.if-is_err-2.true in
+    kept_more _ _ _ _ _ _ _ _ _ _ _ c.self.view_is refl c.enter_put.ensures.opening (failed c.enter_put.result _ err c.enter_put.ensures.err) (failed c.enter_put.result _ err c.enter_put.ensures.room) c.deref_mut.ensures.value
+    c.reserve_replace.ensures.same c.reserve_replace.ensures.keeps
+
+pub returns-clause-kept : goal.returns-clause-kept
+returns-clause-kept g c = λ stays. absurd (no_longer _ _ _ (longer g (goal.at.returns-clause-kept g c).After-first) (stays ∙ sym (ap (λ (w : BookView). w.entries) c.self.view_is)))

@@ -9,7 +9,7 @@ use Rattle.edit_journal.specs.Entries.{head_id}
 use Rattle.edit_book.specs.Replies.{PutHead}
 use Rattle.edit_book.proofs.HeaderPuts.{head_comes, head_made}
 use Rattle.edit_book.proofs.Made.{turn_made}
-use Rattle.edit_book.proofs.Rooms.{failed, made}
+use Rattle.edit_book.proofs.Rooms.{failed, kept_more, made, no_longer, same_tree}
 use Rattle.edit_book.proofs.book.Book.put_head_fitting.Goals as goal
 use Rattle.edit_book.proofs.book.Book.put_head_fitting.Goals.{After-first}
 
@@ -57,3 +57,12 @@ returns-clause-turned c =
     let here = (goal.at.returns-clause-turned c).After-first in
     turn_made _ _ c.args.session head_id c.version-version.result (PutHead c.args.seen c.args.declared) (edit.Head c.args.seen c.args.declared) c.args.self.now _ _ _ _ _ _ c.first.result c.self.view_is c.requires.free refl
     c.version-version.ensures.version (longer here) (keeps here) (root_of _ _ c.deref.ensures _ c.root.ensures) (first_is here) c.brief_of-brief.ensures (λ r h. h)
+
+pub returns-then-is_err-clause-kept : goal.returns-then-is_err-clause-kept
+returns-then-is_err-clause-kept c = λ stays.
+    let err = sym c.is_err.ensures.value ∙ c.if-is_err.true in
+    kept_more _ _ _ _ _ _ _ _ _ _ _ c.self.view_is refl c.enter_head.ensures.opening (failed c.enter_head.result _ err c.enter_head.ensures.err) (failed c.enter_head.result _ err c.enter_head.ensures.room) refl
+    (same_tree c.self.inside.tree.value) (λ need met. met)
+
+pub returns-clause-kept : goal.returns-clause-kept
+returns-clause-kept c = λ stays. absurd (no_longer _ _ _ (longer (goal.at.returns-clause-kept c).After-first) (stays ∙ sym (ap (λ (w : BookView). w.entries) c.self.view_is)))

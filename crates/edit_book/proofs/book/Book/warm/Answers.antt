@@ -4,7 +4,7 @@ use Rattle.edit_journal.specs.Documents.{document_of}
 use Rattle.face_data.specs.Summaries.{Summary}
 use Rattle.edit_book.specs.Books.{ids_of}
 use Rattle.edit_book.specs.Orders.{is_id}
-use Rattle.edit_book.proofs.Rooms.{ready_by}
+use Rattle.edit_book.proofs.Rooms.{kept_more, ready_by}
 use Rattle.summary_tree.specs.Trees.{CanReplace}
 use Rattle.edit_book.proofs.Made.{at_fits}
 use Rattle.edit_book.proofs.Boxes.{count_of}
@@ -24,3 +24,8 @@ returns-clause-ok c =
     c.args.prepared.now.face refl place c.in_ok-reserve_entry.ensures.ok
     (subst (λ (s : Summary). CanReplace c.reserve_replace.new.self c.in-Some.at s) c.view.ensures.summary met))
     c.reserve_replace.ensures.ok
+
+pub returns-clause-keeps : goal.returns-clause-keeps
+returns-clause-keeps c =
+    kept_more _ _ _ _ _ _ _ _ _ _ _ c.self.view_is refl c.in_ok-reserve_entry.ensures.opening c.in_ok-reserve_entry.ensures.entries c.in_ok-reserve_entry.ensures.keeps c.deref_mut.ensures.value
+    c.reserve_replace.ensures.same c.reserve_replace.ensures.keeps

@@ -13,7 +13,7 @@ index_mut-requires c = let within = cut_within _ _ _ _ _ c.args.self.now _ c.sel
 
 pub invariant_of-self-2 : goal.invariant_of-self-2
 invariant_of-self-2 c =
-    let longer = c.push.ensures ∙ ap (λ (l : List Entry). l ++ record { session = c.args.session; edit = edit.Cut c.args.id c.args.seen } ∷ []) c.room_for_entry.ensures.entries in (
+    let longer = c.push.ensures ∙ ap (λ (l : List Entry). l ++ record { session = c.args.session; edit = edit.Cut c.args.id c.args.seen } ∷ []) c.reserve_one.ensures.entries in (
       cut_entered _ _ _ _ _ c.args.self.now _ c.self.invariant.0 c.self.view_is c.args.session c.args.id c.args.seen c.in-Some.at c.version-version.result c.lines_after_cut-lines.result _ _ c.requires (sym c.position.ensures ∙ c.in-Some.is)
           c.version-version.ensures.version c.lines_after_cut-lines.ensures.lines longer c.remove.ensures,
       keeps_header _ _ _ refl _ _ _ longer c.self.invariant.1,
@@ -21,6 +21,6 @@ invariant_of-self-2 c =
 
 pub returns-clause-lawful : goal.returns-clause-lawful
 returns-clause-lawful c =
-    let longer = c.push.ensures ∙ ap (λ (l : List Entry). l ++ record { session = c.args.session; edit = edit.Cut c.args.id c.args.seen } ∷ []) c.room_for_entry.ensures.entries in
+    let longer = c.push.ensures ∙ ap (λ (l : List Entry). l ++ record { session = c.args.session; edit = edit.Cut c.args.id c.args.seen } ∷ []) c.reserve_one.ensures.entries in
     (cut_entered _ _ _ _ _ c.args.self.now _ c.self.invariant.0 c.self.view_is c.args.session c.args.id c.args.seen c.in-Some.at c.version-version.result c.lines_after_cut-lines.result _ _ c.requires (sym c.position.ensures ∙ c.in-Some.is)
     c.version-version.ensures.version c.lines_after_cut-lines.ensures.lines longer c.remove.ensures).lawful

@@ -10,7 +10,7 @@ index_mut-requires c = let within = put_within _ _ _ _ _ c.args.self.now _ c.sel
 
 pub invariant_of-self-2 : goal.invariant_of-self-2
 invariant_of-self-2 c =
-    let longer = c.push.ensures ∙ ap (λ (l : List Entry). l ++ record { session = c.args.session; edit = edit.Put c.args.id c.args.seen c.args.text } ∷ []) c.room_for_entry.ensures.entries in (
+    let longer = c.push.ensures ∙ ap (λ (l : List Entry). l ++ record { session = c.args.session; edit = edit.Put c.args.id c.args.seen c.args.text } ∷ []) c.reserve_one.ensures.entries in (
       put_entered _ _ _ _ _ c.args.self.now _ c.self.invariant.0 c.self.view_is c.args.session c.args.id c.args.seen c.version-version.result c.lines_after_put-lines.result c.args.text _ c.requires.comes c.requires.short
           c.version-version.ensures.version c.lines_after_put-lines.ensures longer,
       keeps_header _ _ _ refl _ _ _ longer c.self.invariant.1,
@@ -18,6 +18,6 @@ invariant_of-self-2 c =
 
 pub returns-clause-lawful : goal.returns-clause-lawful
 returns-clause-lawful c =
-    let longer = c.push.ensures ∙ ap (λ (l : List Entry). l ++ record { session = c.args.session; edit = edit.Put c.args.id c.args.seen c.args.text } ∷ []) c.room_for_entry.ensures.entries in
+    let longer = c.push.ensures ∙ ap (λ (l : List Entry). l ++ record { session = c.args.session; edit = edit.Put c.args.id c.args.seen c.args.text } ∷ []) c.reserve_one.ensures.entries in
     (put_entered _ _ _ _ _ c.args.self.now _ c.self.invariant.0 c.self.view_is c.args.session c.args.id c.args.seen c.version-version.result c.lines_after_put-lines.result c.args.text _ c.requires.comes c.requires.short
     c.version-version.ensures.version c.lines_after_put-lines.ensures longer).lawful
