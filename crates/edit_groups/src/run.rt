@@ -1,5 +1,5 @@
 //! The sessions of a script of groups, each in a thread of its own.
-ghost use Rattle.std.specs.Prelude.{◌≡◌, ◌+◌, ◌<◌, ◌≤◌, ◌^◌, [], true, IfOk, length, map, vec_capacity};
+ghost use Rattle.std.specs.Prelude.{◌≡◌, ◌+◌, ◌<◌, ◌≤◌, ◌^◌, [], true, IfErr, IfOk, length, map, vec_capacity};
 ghost use Rattle.std.specs.List.{list_all};
 ghost use Rattle.std.specs.Thread.{IsSync};
 ghost use Rattle.knit_base.specs.Limits.{IsLawfulProfile};
@@ -28,8 +28,8 @@ use turn_book::{Pass, Shared};
 
 /// Runs the sessions of a pass's numbers beside each other, one list of steps each, and gives the replies to each.
 ///
-/// All sessions are started, and room for each reply is made, before the first step; want of memory is answered only until then, and the
-/// pass is then dropped. It may wait for as long as the gate, or other threads that hold the turn.
+/// All sessions are started, and room for each reply is made, before the first step. Where memory runs out there, the pass is given back
+/// as it was: nothing was asked of the book. It may wait for as long as the gate, or other threads that hold the turn.
 pub fn run_groups<G: Gate + Sync, R: Threads + Wait + Sync>(
     rt: &R,
     alloc: Global,
@@ -39,20 +39,25 @@ pub fn run_groups<G: Gate + Sync, R: Threads + Wait + Sync>(
     blocks: u32,
     scripts: &[StepList],
     mut pass: Pass<GroupBook>,
-) -> Result<(Pass<GroupBook>, GroupReplies), NoMemory>
+) -> Result<(Pass<GroupBook>, GroupReplies), Pass<GroupBook>>
     requires of_this { IsPassOf shared.now pass }
     requires range { (view_of pass).first + length scripts.now ≡ (view_of pass).past }
     requires setting { (opening_of shared.now).setting ≡ setting.now }
     requires profile { IsLawfulProfile setting.now.profile }
     requires blocks { length (opening_of shared.now).texts ≡ blocks }
     requires steps { list_all (list_all is_lawful_step) scripts.now ≡ true }
+    ensures unstarted { IfErr result (λ rest. rest ≡ pass) }
     ensures of_this { IfOk result (λ r. IsPassOf shared.now r.0) }
     ensures range { IfOk result (λ r. ((view_of r.0).first ≡ (view_of pass).first) × ((view_of r.0).past ≡ (view_of pass).past)) }
     ensures heard { Foreign session_of (view_of pass).first (view_of pass).past (view_of pass).seen → IfOk result (λ r. AreHeard (opening_of shared.now) (view_of pass).first (view_of r.0).seen scripts.now r.1) }
     ensures legal { (view_of pass).first ≡ 0 → (view_of pass).past ≡ (view_of pass).count → (view_of pass).seen ≡ [] → IfOk result (λ r. IsLegalRun (opening_of shared.now) scripts.now (view_of r.0).seen r.1) }
 {
-    let mut talks = begin(alloc, pass.first(), blocks, &setting.declared, scripts)?;
-    let lists = Vec::with_capacity(alloc, scripts.len())?;
+    let Ok(mut talks) = begin(alloc, pass.first(), blocks, &setting.declared, scripts) else {
+        return Err(pass);
+    };
+    let Ok(lists) = Vec::with_capacity(alloc, scripts.len()) else {
+        return Err(pass);
+    };
     if scripts.is_empty() {
         return Ok((pass, GroupReplies::of(lists)));
     }
@@ -143,8 +148,8 @@ fn talk<G: Gate, R: Threads + Wait + Sync>(
     shared.rest();
 }
 
-// Each session in a thread of its own. Each thread starts that of the session behind it, and waits for its end: so the threads end one
-// after the other, when no session runs any more.
+// Each session in a thread of its own: the sessions are halved, and one half is run by another thread. Where none can be made, this one
+// runs both, one behind the other: so calls nest at most six deep, whatever threads can be had.
 pub(crate) fn run<G: Gate + Sync, R: Threads + Wait + Sync>(
     rt: &R,
     alloc: Global,
@@ -179,10 +184,11 @@ pub(crate) fn run<G: Gate + Sync, R: Threads + Wait + Sync>(
         );
         return;
     }
-    let at = pass.first() + 1;
+    let half = scripts.len() / 2;
+    let at = pass.first() + half as u32;
     let mut right = shared.split(pass, at);
-    let (own, others) = scripts.split_at(1);
-    let (front, back) = talks.split_at_mut(1);
+    let (own, others) = scripts.split_at(half);
+    let (front, back) = talks.split_at_mut(half);
     join_mut(
         rt,
         &mut ||

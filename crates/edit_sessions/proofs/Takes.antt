@@ -1,12 +1,12 @@
 -- A session's command, taken at a turn of the book or answered without one.
-use Rattle.std.proofs.Common.{◌≡◌, ◌⊎◌, inl, ℕ, List, Option, Ok, Err, refl}
+use Rattle.std.proofs.Common.{◌≡◌, ◌⊎◌, inl, ℕ, List, Option, Ok, Err, IfErr, Result, refl, subst, sym}
 use Rattle.edit_journal.specs.declared.edit.Entry.{Entry}
 use Rattle.edit_journal.specs.declared.opening.Opening.{Opening}
 use Rattle.script_reader.specs.declared.command.Command.{Command}
 use Rattle.edit_book.specs.declared.reply.BookCommand.{BookCommand}
 use Rattle.edit_book.specs.declared.reply.Reply.{Reply}
 use Rattle.edit_book.specs.declared.reply.Reply.TheVariants.{NoMemory}
-use Rattle.edit_book.specs.Replies.{request_of}
+use Rattle.edit_book.specs.Replies.{Request, request_of}
 use Rattle.edit_book.specs.Turns.{IsRight}
 use Rattle.turn_book.specs.declared.view.View.{View}
 use Rattle.turn_book.specs.Taken.{IsTaken}
@@ -31,4 +31,13 @@ taken_turn o n m c r v w request P asks t =
 pub taken_short : (o : Opening) (n : ℕ) (m : Memory) (c : Command) (v : View Opening Entry) → IsTaken (core o) n m c NoMemory v v
 taken_short o n m c v = taken_alone o n m c NoMemory v v (inl refl) refl
 
-pub ruleset takes = (taken_turn, taken_alone, taken_short)
+-- without a turn the view stays, whatever was asked
+pub untaken_alone : (asked : Result Request Reply) (v w : View Opening Entry) → w ≡ v → IfErr asked (λ reply. w ≡ v)
+untaken_alone (Ok request) v w same = tt
+untaken_alone (Err reply) v w same = same
+
+-- what is asked of the book isn't answered without it
+pub untaken_turn : (m : Memory) (c : Command) (request : Request) (v w : View Opening Entry) → asked m c ≡ Ok request → IfErr (asked m c) (λ reply. w ≡ v)
+untaken_turn m c request v w asks = subst (λ (a : Result Request Reply). IfErr a (λ reply. w ≡ v)) (sym asks) tt
+
+pub ruleset takes = (taken_turn, taken_alone, taken_short, untaken_turn, untaken_alone)

@@ -1,8 +1,8 @@
 //! One command of a session, carried out on the shared book.
-ghost use Rattle.std.specs.Prelude.{◌≡◌, ◌<◌, ◌≤◌, Some};
+ghost use Rattle.std.specs.Prelude.{◌≡◌, ◌<◌, ◌≤◌, IfErr, Some};
 ghost use Rattle.knit_base.specs.Limits.{IsLawfulProfile};
 ghost use Rattle.edit_journal.specs.Documents.{names_given};
-ghost use Rattle.edit_book.specs.Memory.{Memory, head_told, memory_after, told_by};
+ghost use Rattle.edit_book.specs.Memory.{Memory, asked, head_told, memory_after, told_by};
 ghost use Rattle.edit_book.specs.Session.{HasLearned, HasNames, Remembers};
 ghost use Rattle.edit_book.specs.Turns.{IsRight};
 ghost use Rattle.edit_sessions.specs.Core.{core};
@@ -26,9 +26,9 @@ use turn_book::{Pass, Shared};
 /// Carries out one command of a session on a shared book, at one turn, and remembers what the reply tells. Other names of the header
 /// take two turns: at the first the texts of all blocks are asked for, and then they are summarised under these names.
 ///
-/// The reply is `Unseen` or `BlockLong` without a turn. The text of a put or an add is prepared before the turn is taken, and
-/// room for what the reply can tell is made before that: where there is none, the reply is want of memory, and no turn is taken.
-/// It may wait for as long as other threads hold the turn.
+/// Where what the command asks is answered without the book, by `Unseen` or `BlockLong`, no turn is taken. The text of a put or an add is
+/// prepared before the turn is taken, and room for what the reply can tell is made before that: where there is none, the reply is want
+/// of memory, and no turn is taken. It may wait for as long as other threads hold the turn.
 pub fn do_command<R: Threads + Wait + Sync>(
     rt: &R,
     alloc: Global,
@@ -47,6 +47,7 @@ pub fn do_command<R: Threads + Wait + Sync>(
     ensures number { session.new.number ≡ session.old.number }
     ensures names { HasNames (opening_of shared.now) (view_of pass.new).seen session.new }
     ensures taken { (m : Memory) → Remembers session.old m → IsTaken (core (opening_of shared.now)) session.old.number m command.now result (view_of pass.old) (view_of pass.new) }
+    ensures untaken { (m : Memory) → Remembers session.old m → IfErr (asked m command.now) (λ reply. view_of pass.new ≡ view_of pass.old) }
     ensures learned { (m : Memory) → Remembers session.old m → Remembers session.new (memory_after m command.now result) }
 {
     let Session {
@@ -100,6 +101,7 @@ fn take<L: Ledger, R: Threads + Wait + Sync>(
     ensures profile { header.new.profile ≡ header.old.profile }
     ensures names { names_given (opening_of shared.now) (view_of pass.new).seen (head_told (told_by command.now result) learned.now.head) ≡ Some header.new.declared }
     ensures taken { (m : Memory) → HasLearned learned.now m → IsTaken (core (opening_of shared.now)) number m command.now result (view_of pass.old) (view_of pass.new) }
+    ensures untaken { (m : Memory) → HasLearned learned.now m → IfErr (asked m command.now) (λ reply. view_of pass.new ≡ view_of pass.old) }
 {
     let mut steps = Steps::<L>::start(rt, blank);
     match command {

@@ -1,5 +1,6 @@
-//! The limits on the items of a face and on the steps of an edit, as numbers: three carriers, sixteen loops on a needle, and eight
-//! needles with their own sliders, in a made program of 2,000 rows and in one of 20,000, in blocks of 64 lines.
+//! Limits on the items of a face and on the steps of an edit, as numbers: three carriers, sixteen loops on a needle, and eight
+//! needles with their own sliders, in a made program of 2,000 rows and in one of 20,000, in blocks of 64 lines. An edit takes less still:
+//! at most `9 (H + 2) B` steps, where `H` is the greatest height of a tree of the blocks and `B` the most items of a face.
 ghost use Rattle.std.specs.Prelude.{◌≡◌, ◌+◌, ◌*◌};
 ghost use Rattle.face_data.specs.Items.{most_items};
 ghost use Rattle.tree_shape.specs.Fewest.{highest};

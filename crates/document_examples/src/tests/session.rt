@@ -69,7 +69,7 @@ fn played<L: Ledger, G: Gate + Sync, R: Threads + Wait + Sync>(
     let book = opened(alloc, &script.text, &mut steps)?;
     let setting = book.setting().try_clone()?;
     let (shared, pass) = Shared::start(rt, alloc, book, numbers)?;
-    let (pass, replies) = run_all(
+    let Ok((pass, replies)) = run_all(
         rt,
         alloc,
         gate,
@@ -78,7 +78,9 @@ fn played<L: Ledger, G: Gate + Sync, R: Threads + Wait + Sync>(
         1,
         script.sessions.as_slice(),
         pass,
-    )?;
+    ) else {
+        return Err(NoMemory);
+    };
     Ok((shared.finish(rt, pass), replies))
 }
 

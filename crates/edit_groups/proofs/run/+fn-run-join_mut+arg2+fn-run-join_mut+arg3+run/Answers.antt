@@ -1,4 +1,4 @@
-use Rattle.std.proofs.Common.{rules, ◌≡◌, ◌+◌, ◌<◌, ◌∙◌, ap, sym, subst, length, arith, ℕ, List, map, ◌++◌, drop, take-append-drop}
+use Rattle.std.proofs.Common.{rules, ◌≡◌, ◌+◌, ◌/◌, ◌<◌, ◌∙◌, ap, sym, subst, length, arith, ℕ, List, map, ◌++◌, drop, take-append-drop}
 use Rattle.std.proofs.lemmas.List.{map-append}
 use Rattle.script_reader.specs.declared.step.Step.{Step}
 use Rattle.edit_groups.specs.declared.reply.GroupReply.{GroupReply}
@@ -12,11 +12,12 @@ use Rattle.edit_groups.proofs.SessionRuns.{heard_alone, heard_join}
 use Rattle.edit_groups.proofs.run.+fn-run-join_mut+arg2+fn-run-join_mut+arg3+run.Goals as goal
 
 pub join_mut-requires-after_bounds : goal.join_mut-requires-after_bounds
-join_mut-requires-after_bounds g t c κs within = let m : ℕ = 1 in
+join_mut-requires-after_bounds g t c κs within = let m : ℕ = length c.args.scripts.now / 2 in
     let ready = ready_split (IsReady (opening_of c.args.shared.now)) m (view_of c.args.pass.now).first c.args.scripts.now c.args.talks.now c.requires.ready in
     let low = c.split-right.ensures.lower in let up = c.split-right.ensures.upper in let of_this = c.split-right.ensures.of_this in let s = c.split_at.ensures in let r = c.split_at_mut-front.ensures in
+    let several : 1 < length c.args.scripts.now = search rules in
     let some : 0 < m = omega arith in
-    let less : m < length c.args.scripts.now = search rules in (
+    let less : m < length c.args.scripts.now = omega arith in (
       (
         search rules,
         (
@@ -30,10 +31,10 @@ join_mut-requires-after_bounds g t c κs within = let m : ℕ = 1 in
                 c.requires.setting,
                 c.requires.profile,
                 of_this.1,
-                rw up (let x = s.back_len in let y = c.requires.range in let z = c.first-at.ensures in omega arith),
+                rw up (let x = s.back_len in let y = c.requires.range in let z = c.first.ensures in omega arith),
                 (let x = s.back_len in omega arith),
                 (let x = s.back_len in let y = r.back_len in let z = c.requires.same in omega arith),
-                rw (s.back, r.back, up) (subst (λ (k : ℕ). AreReady (IsReady (opening_of c.args.shared.now)) (k + m) (drop m c.args.scripts.now) (drop m c.args.talks.now)) (sym c.first-at.ensures) ready.1),
+                rw (s.back, r.back, up) (subst (λ (k : ℕ). AreReady (IsReady (opening_of c.args.shared.now)) (k + m) (drop m c.args.scripts.now) (drop m c.args.talks.now)) (sym c.first.ensures) ready.1),
               ),
               search rules,
             ),
@@ -53,7 +54,7 @@ join_mut-requires-after_bounds g t c κs within = let m : ℕ = 1 in
                 c.requires.setting,
                 c.requires.profile,
                 of_this.0,
-                rw (low, s.front_len) (ap (λ k. k + m) (sym c.first-at.ensures)),
+                rw (low, s.front_len) (ap (λ k. k + m) (sym c.first.ensures)),
                 rw s.front_len some,
                 r.front_len ∙ sym s.front_len,
                 rw (s.front, r.front, low) ready.0,
@@ -66,7 +67,7 @@ join_mut-requires-after_bounds g t c κs within = let m : ℕ = 1 in
     )
 
 pub returns-clause-heard : goal.returns-clause-heard
-returns-clause-heard g t c = λ fresh. let m : ℕ = 1 in let v = view_of c.args.pass.now in let at = c.first-at.result + m in let o = opening_of c.args.shared.now in
+returns-clause-heard g t c = λ fresh. let m : ℕ = length c.args.scripts.now / 2 in let v = view_of c.args.pass.now in let at = c.first.result + m in let o = opening_of c.args.shared.now in
     let a = c.split_at.result.0.now in let b = c.split_at.result.1.now in let l = view_of c.split-right.new.pass in let r = view_of c.split-right.result in
     let l' = view_of c.pass-1.given.0 in let r' = view_of c.right-2-1.given.0 in let p = c.front-1.given.0 in let q = c.back-1.given.0 in
     let s = c.split_at.ensures in
@@ -78,12 +79,12 @@ returns-clause-heard g t c = λ fresh. let m : ℕ = 1 in let v = view_of c.args
     let rp : r'.past ≡ r.past = search rules in
     let all = (view_of c.newest.new.pass).seen in
     let whole : a ++ b ≡ c.args.scripts.now = rw (s.front, s.back) (take-append-drop m c.args.scripts.now) in
-    let parts = parts_fresh session_of at v l r (let z = c.first-at.ensures in omega arith) (let x = s.back_len in let y = c.requires.range in let z = c.first-at.ensures in omega arith)
+    let parts = parts_fresh session_of at v l r (let z = c.first.ensures in omega arith) (let x = s.back_len in let y = c.requires.range in let z = c.first.ensures in omega arith)
     c.split-right.ensures.lower c.split-right.ensures.upper fresh in
     let d : map replies_of p ++ map replies_of q ≡ map replies_of (p ++ q) = sym (map-append replies_of p q) in
     subst (λ (z : List (List Step) × List (List GroupReply)). AreHeard o v.first all z.0 z.1) (λ i. (whole i, d i))
     (heard_join o at v l r l' r' (view_of c.join.new.pass) all a b (map replies_of p) (map replies_of q) c.split-right.ensures.lower c.split-right.ensures.upper
-    (let x = s.front_len in let z = c.first-at.ensures in omega arith) (let x = s.back_len in let y = c.requires.range in let z = c.first-at.ensures in omega arith) lf lp rf rp
+    (let x = s.front_len in let z = c.first.ensures in omega arith) (let x = s.back_len in let y = c.requires.range in let z = c.first.ensures in omega arith) lf lp rf rp
     (left parts.0) (right parts.1) c.join.ensures.united c.newest.ensures.catches)
 
 pub returns-then-scripts-lt2-clause-heard : goal.returns-then-scripts-lt2-clause-heard

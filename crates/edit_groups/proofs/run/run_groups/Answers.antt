@@ -20,15 +20,15 @@ returns-then-is_empty-clause-legal g c = λ first past unseen.
 
 pub returns-clause-heard : goal.returns-clause-heard
 returns-clause-heard g c = λ fresh.
-    let same : c.in_ok-talks.talks.len ≡ length c.run.new.talks = c.in_ok-talks.talks.ok.0 ∙ sym (ap length c.as_mut_slice.ensures.value) ∙ sym c.run.auto.talks in
-    let told : c.of-2.result ≡ map replies_of c.run.new.talks = c.of-2.ensures ∙ c.into_replies.ensures ∙ ap (map replies_of) (written_back c.run.new.talks c.in_ok-talks.talks.items c.in_ok-talks.talks.len same) in
+    let same : c.in-Ok.talks.len ≡ length c.run.new.talks = c.in-Ok.talks.ok.0 ∙ sym (ap length c.as_mut_slice.ensures.value) ∙ sym c.run.auto.talks in
+    let told : c.of-2.result ≡ map replies_of c.run.new.talks = c.of-2.ensures ∙ c.into_replies.ensures ∙ ap (map replies_of) (written_back c.run.new.talks c.in-Ok.talks.items c.in-Ok.talks.len same) in
     heard_last (opening_of c.args.shared.now) (view_of c.args.pass) (view_of c.run.new.pass) (view_of c.newest.new.pass).seen c.args.scripts.now (map replies_of c.run.new.talks) c.of-2.result c.run.ensures.range.0
     c.run.ensures.range.1 c.requires.range c.newest.ensures.catches told (c.run.ensures.heard fresh)
 
 pub returns-clause-legal : goal.returns-clause-legal
 returns-clause-legal g c = λ first past unseen.
-    let same : c.in_ok-talks.talks.len ≡ length c.run.new.talks = c.in_ok-talks.talks.ok.0 ∙ sym (ap length c.as_mut_slice.ensures.value) ∙ sym c.run.auto.talks in
-    let told : c.of-2.result ≡ map replies_of c.run.new.talks = c.of-2.ensures ∙ c.into_replies.ensures ∙ ap (map replies_of) (written_back c.run.new.talks c.in_ok-talks.talks.items c.in_ok-talks.talks.len same) in
+    let same : c.in-Ok.talks.len ≡ length c.run.new.talks = c.in-Ok.talks.ok.0 ∙ sym (ap length c.as_mut_slice.ensures.value) ∙ sym c.run.auto.talks in
+    let told : c.of-2.result ≡ map replies_of c.run.new.talks = c.of-2.ensures ∙ c.into_replies.ensures ∙ ap (map replies_of) (written_back c.run.new.talks c.in-Ok.talks.items c.in-Ok.talks.len same) in
     let count = c.run.ensures.of_this.2 ∙ sym c.requires.of_this.2 in
     let v = view_of c.args.pass in
     legal_run (opening_of c.args.shared.now) (view_of c.args.pass) (view_of c.run.new.pass) (view_of c.newest.new.pass).seen c.args.scripts.now (map replies_of c.run.new.talks) c.of-2.result c.run.ensures.range.0
