@@ -272,6 +272,6 @@ due_done words command chosen input source sink played text result free (top.bro
 -- a run that nothing hinders ends well
 pub ran-well : (words : List (List ℕ)) (command : Command) (chosen : Chosen) (input : List ℕ) (source : SourceUse) (sink : SinkUse) (played : Played) (result : Status)
     → Ran words source sink played result → IsUnhindered words command chosen input source sink → EndsWell command chosen input result
-ran-well words command chosen input source sink played result (top.written text called took) free = inl (due_done words command chosen input source sink played text result free called)
+ran-well words command chosen input source sink played result (top.written text called took calm) free = inl (due_done words command chosen input source sink played text result free called)
 ran-well words command chosen input source sink played result (top.cut_short text status called is rose front) free = absurd (free.no_fault rose)
-ran-well words command chosen input source sink played result (top.stopped is none keeps) free = inr is
+ran-well words command chosen input source sink played result (top.stopped is none keeps few) free = inr is

@@ -76,8 +76,8 @@ IsWithinLimits Replay chosen input = IsSavedText input
 IsWithinLimits (Tally from to) chosen input = IsSavedTextWith from to input
 IsWithinLimits (Make rows start) chosen input = Fits chosen.block (length (body_of (made_lines rows start)))
 
--- The source had this input left, and told it; the input has at most 16,777,216 bytes. No read failed: the count of faults didn't rise, and isn't
--- at its last value.
+-- The source had this input left, and told it; the input has at most 16,777,216 bytes. No read failed: each that fails raises the count of faults,
+-- up to its last value, and no other changes it.
 pub record Gives (source : SourceUse) (input : List ℕ) : Type 0 where
   pub left : source.left_before ≡ Some input
   pub few : length input ≤ INPUT_LIMIT

@@ -1,5 +1,5 @@
 -- What the whole program does: the report that is due, the status, and the causes of every other end.
-use Rattle.std.specs.Prelude.{◌≡◌, ℕ, ◌+◌, ◌≤◌, true, List, length}
+use Rattle.std.specs.Prelude.{◌≡◌, ℕ, ◌+◌, ◌≤◌, false, true, List, length}
 use Rattle.std.specs.declared.option.Option.{Option}
 use Rattle.std.specs.Io.KnownBytes.{Appends, Consumes, IsAtEnd, Keeps}
 use Rattle.knit_ports.specs.declared.limit.TheConstants.{INPUT_LIMIT}
@@ -85,12 +85,19 @@ pub data Called (words : List (List ℕ)) (source : SourceUse) : Played → List
       → Rose source.faults_before source.faults_after → GaveAtMost INPUT_LIMIT source.left_before source.left_after
       → Called words source nothing_played (refusal_text refusal.ReadFault) ReadFault
 
+-- how much was read: nothing where the words are refused or ask for no input, and never more than a byte past the limit
+pub record HasReadWithin (words : List (List ℕ)) (source : SourceUse) : Type 0 where
+  pub refused : AreRefused words → IsUntouched source
+  pub idle : (command : Command) (chosen : Chosen) → Ask words command chosen → reads_input command ≡ false → IsUntouched source
+  pub within : GaveAtMost (INPUT_LIMIT + 1) source.left_before source.left_after
+
 -- what the program did, what its sessions did, and the status with which it ended
 pub data Ran (words : List (List ℕ)) (source : SourceUse) (sink : SinkUse) (played : Played) (result : Status) : Type 0 where
-  -- the sink took the whole text that is due, and the status is the one that is due
-  written : (text : List ℕ) → Called words source played text result → Appends sink.taken_before sink.taken_after text → Ran words source sink played result
+  -- the sink took the whole text that is due, no write failed, and the status is the one that is due
+  written : (text : List ℕ) → Called words source played text result → Appends sink.taken_before sink.taken_after text
+      → sink.faults_after ≡ sink.faults_before → Ran words source sink played result
   -- a write failed, and the sink took a front of the text that is due
   cut_short : (text : List ℕ) (status : Status) → Called words source played text status → result ≡ WriteFault
       → Rose sink.faults_before sink.faults_after → TookFront sink.taken_before sink.taken_after text → Ran words source sink played result
-  -- memory ran out, and the sink took nothing
-  stopped : result ≡ NoMemory → played ≡ nothing_played → Keeps sink.taken_before sink.taken_after → Ran words source sink played result
+  -- memory ran out, the sink took nothing, and no more was read than ever is
+  stopped : result ≡ NoMemory → played ≡ nothing_played → Keeps sink.taken_before sink.taken_after → HasReadWithin words source → Ran words source sink played result

@@ -3,7 +3,8 @@
 //!
 //! Promises, for every source and every sink, that `top` ends with the status that is due for the words and the input, that
 //! the sink then took exactly the report that is due, and that every other end has its cause (`specs/Top`); so a run that nothing
-//! hinders ends well (`specs/Complete`). What is due is told by `input_answers`. Below it stand all crates of the project.
+//! hinders ends well (`specs/Complete`). `run_alone`, by which a command without sessions is done, waits for nobody. What is due is told
+//! by `input_answers`. Below it stand all crates of the project.
 #![tactic(auto)]
 
 ghost use Rattle.std.specs.Prelude.{◌≡◌};

@@ -1,13 +1,13 @@
 //! The whole program, over any source and sink.
-ghost use Rattle.std.specs.Prelude.{◌≡◌, ◌≤◌, List, ℕ, length, true, map, string_bytes, IfOk};
-ghost use Rattle.std.specs.Io.KnownBytes.{Consumes, IsAtEnd};
+ghost use Rattle.std.specs.Prelude.{◌≡◌, ◌+◌, ◌≤◌, List, ℕ, length, false, true, map, string_bytes, IfOk, OnErr};
 ghost use Rattle.machine_profile.specs.declared.Chosen.{Chosen};
 ghost use Rattle.command_words.specs.declared.command.Command.{Command};
-ghost use Rattle.check_main.specs.Calls.{IsCalled};
+ghost use Rattle.check_main.specs.Calls.{HasGiven, HasReadFor, IsCalled, IsDueFor, IsReading};
 ghost use Rattle.check_main.specs.Complete.{EndsWell, IsUnhindered};
-ghost use Rattle.input_answers.specs.Asked.{Ask, reads_input};
+ghost use Rattle.input_answers.specs.Asked.{Ask, has_sessions, reads_input};
 ghost use Rattle.input_answers.specs.Played.{played_by};
-ghost use Rattle.check_main.specs.Top.{Ran, SourceUse, sink_use, source_use};
+ghost use Rattle.check_main.specs.Top.{HasReadWithin, Ran, SourceUse, sink_use, source_use};
+ghost use Rattle.knit_ports.specs.Whole.{GaveAtMost};
 
 use command_words::Command;
 use input_answers::{
@@ -26,12 +26,12 @@ use verdict_report::Refusal;
 ///
 /// Where the source tells the bytes that it has left and the sink those that it has taken, the report is the one that is due
 /// for these very bytes, and the sink takes nothing else. Of a source that tells nothing, as standard input, the report
-/// is due for some bytes. An input has at most 16,777,216 bytes; one byte more is read to see that it has not.
+/// is due for some bytes. An input has at most 16,777,216 bytes; one byte more is read to see that it has not, and never more than that.
 ///
 /// `live`, `save` and `groups` carry out the sessions of a script, each in a thread of its own, and may wait for other threads and for
-/// the gate; nothing is claimed of how long. What the sessions did is in the outcome, and the report tells it; the text of `save` keeps
-/// what the document began with, and the journal. `replay` reads such a text, and tells the version at its end and its verdict; `tally`
-/// what blocks of that version come to.
+/// the gate; nothing is claimed of how long. Every other command is done by `run_alone`, which waits for nobody. What the sessions did
+/// is in the outcome, and the report tells it; the text of `save` keeps what the document began with, and the journal. `replay` reads
+/// such a text, and tells the version at its end and its verdict; `tally` what blocks of that version come to.
 ///
 /// The statuses are decided in this order:
 /// - `Usage`: exactly where the words are outside the grammar or an option is out of its bounds.
@@ -49,7 +49,8 @@ use verdict_report::Refusal;
 /// `NoMemory` may take it at any time before the first write, and the sink then took nothing.
 ///
 /// So a run that nothing hinders ends well: where the words are lawful, the source tells an input within the grammars and limits
-/// of their command, and no read and no write failed, the status is `Done`, or `Broken` as the verdict says, or `NoMemory`.
+/// of their command, and no read and no write failed, the status is `Done`, or `Broken` as the verdict says, or `NoMemory`, if the run
+/// ends.
 pub fn top<R: Threads + Wait + Sync, S: Source, K: Sink, G: Gate + Sync>(
     rt: &R,
     alloc: Global,
@@ -65,53 +66,123 @@ pub fn top<R: Threads + Wait + Sync, S: Source, K: Sink, G: Gate + Sync>(
         (sink_use K.taken K.faults sink.old sink.new)
         → EndsWell command chosen input result.status }
 {
-    match make_answer(rt, alloc, words, source, gate) {
-        Ok(answer) => write_answer(answer, sink),
-        Err(NoMemory) => Outcome::without_sessions(alloc, Status::NoMemory),
+    match plan_of(alloc, words) {
+        Ok(plan) => carry_out(rt, alloc, &plan, source, sink, gate),
+        Err(PlanFault::Usage) => {
+            let answer = Answer::refusal(alloc, Refusal::Usage, Status::Usage);
+            end_with(alloc, answer, sink)
+        }
+        Err(PlanFault::NoMemory) => end_with(alloc, Err(NoMemory), sink),
     }
 }
 
-// What is due for the words and for what the source gives.
-fn make_answer<R: Threads + Wait + Sync, S: Source, G: Gate + Sync>(
+// Does what the plan asks for.
+fn carry_out<R: Threads + Wait + Sync, S: Source, K: Sink, G: Gate + Sync>(
     rt: &R,
     alloc: Global,
-    words: &[String],
+    plan: &Plan,
     source: &mut S,
+    sink: &mut K,
     gate: &G,
-) -> Result<Answer, NoMemory>
-    ensures { IfOk result (IsCalled (map string_bytes words.now) (source_use S.left S.faults source.old source.new)) }
+) -> Outcome
+    ensures { (words : List (List ℕ)) → Ask words plan.now.command plan.now.chosen → Ran words (source_use S.left S.faults source.old source.new)
+        (sink_use K.taken K.faults sink.old sink.new) (played_by result) result.status }
 {
-    match plan_of(alloc, words) {
-        Ok(plan) => carry_out(rt, alloc, &plan, source, gate),
-        Err(PlanFault::Usage) => Answer::refusal(alloc, Refusal::Usage, Status::Usage),
-        Err(PlanFault::NoMemory) => Err(NoMemory),
+    match plan.command {
+        Command::Live | Command::Save | Command::Groups => {
+            let answer = answer_sessions(rt, alloc, plan, source, gate);
+            end_with(alloc, answer, sink)
+        }
+        Command::Check { .. }
+        | Command::Text
+        | Command::Passes
+        | Command::Replay
+        | Command::Tally { .. }
+        | Command::Make { .. } => run_alone(rt, alloc, plan, source, sink),
     }
 }
 
-// What is due for the plan and for what the source gives.
-fn carry_out<R: Threads + Wait + Sync, S: Source, G: Gate + Sync>(
+/// Does what the plan asks for, of a command that has no sessions: reads, answers and writes as `top` says. It waits for nobody.
+pub(crate) fn run_alone<R: Threads + Sync, S: Source, K: Sink>(
+    rt: &R,
+    alloc: Global,
+    plan: &Plan,
+    source: &mut S,
+    sink: &mut K,
+) -> Outcome
+    requires { has_sessions plan.now.command ≡ false }
+    ensures ran { (words : List (List ℕ)) → Ask words plan.now.command plan.now.chosen → Ran words (source_use S.left S.faults source.old source.new)
+        (sink_use K.taken K.faults sink.old sink.new) (played_by result) result.status }
+    ensures complete { (words : List (List ℕ)) (input : List ℕ)
+        → IsUnhindered words plan.now.command plan.now.chosen input (source_use S.left S.faults source.old source.new)
+        (sink_use K.taken K.faults sink.old sink.new)
+        → EndsWell plan.now.command plan.now.chosen input result.status }
+{
+    let answer = answer_alone(rt, alloc, plan, source);
+    end_with(alloc, answer, sink)
+}
+
+// What is due for the plan and for what the source gives, of a command that has no sessions.
+fn answer_alone<R: Threads + Sync, S: Source>(
+    rt: &R,
+    alloc: Global,
+    plan: &Plan,
+    source: &mut S,
+) -> Result<Answer, NoMemory>
+    requires { has_sessions plan.now.command ≡ false }
+    ensures ok { IfOk result (IsDueFor plan.now.command plan.now.chosen (source_use S.left S.faults source.old source.new)) }
+    ensures err { OnErr result (HasReadFor plan.now.command (source_use S.left S.faults source.old source.new)) }
+{
+    match plan.command {
+        Command::Check { .. } | Command::Text | Command::Passes => {
+            answer_source(rt, alloc, plan, source)
+        }
+        Command::Replay | Command::Tally { .. } => {
+            keep_large_pieces(alloc);
+            answer_source(rt, alloc, plan, source)
+        }
+        Command::Make { rows, start } => {
+            let ending = answer_made(rt, alloc, plan, rows, start)?;
+            Ok(Answer::without_sessions(alloc, ending))
+        }
+        Command::Live | Command::Save | Command::Groups => unreachable!(),
+    }
+}
+
+// The same where the command reads an input.
+fn answer_source<R: Threads + Sync, S: Source>(
+    rt: &R,
+    alloc: Global,
+    plan: &Plan,
+    source: &mut S,
+) -> Result<Answer, NoMemory>
+    requires reads { reads_input plan.now.command ≡ true }
+    requires alone { has_sessions plan.now.command ≡ false }
+    ensures ok { IfOk result (IsDueFor plan.now.command plan.now.chosen (source_use S.left S.faults source.old source.new)) }
+    ensures err { OnErr result (GaveAtMost (INPUT_LIMIT + 1) (S.left source.old) (S.left source.new)) }
+{
+    match read_whole(alloc, source)? {
+        Reading::Whole(input) => answer_input(rt, alloc, plan, input),
+        Reading::Refused(answer) => Ok(answer),
+    }
+}
+
+// What is due for the plan and for what the source gives, of a command that has sessions.
+fn answer_sessions<R: Threads + Wait + Sync, S: Source, G: Gate + Sync>(
     rt: &R,
     alloc: Global,
     plan: &Plan,
     source: &mut S,
     gate: &G,
 ) -> Result<Answer, NoMemory>
-    ensures { IfOk result (λ answer. (words : List (List ℕ)) → Ask words plan.now.command plan.now.chosen
-        → IsCalled words (source_use S.left S.faults source.old source.new) answer) }
+    requires { has_sessions plan.now.command ≡ true }
+    ensures ok { IfOk result (IsDueFor plan.now.command plan.now.chosen (source_use S.left S.faults source.old source.new)) }
+    ensures err { OnErr result (HasReadFor plan.now.command (source_use S.left S.faults source.old source.new)) }
 {
-    match plan.command {
-        Command::Check { .. } | Command::Text | Command::Passes => {
-            answer_source(rt, alloc, plan, source, gate)
-        }
-        Command::Live | Command::Save | Command::Groups | Command::Replay | Command::Tally { .. } =>
-            {
-                keep_large_pieces(alloc);
-                answer_source(rt, alloc, plan, source, gate)
-            }
-        Command::Make { rows, start } => {
-            let ending = answer_made(rt, alloc, plan, rows, start)?;
-            Ok(Answer::without_sessions(alloc, ending))
-        }
+    keep_large_pieces(alloc);
+    match read_whole(alloc, source)? {
+        Reading::Whole(input) => answer_script(rt, alloc, plan, input, gate),
+        Reading::Refused(answer) => Ok(answer),
     }
 }
 
@@ -123,47 +194,52 @@ fn keep_large_pieces(alloc: Global) {
     let _ = Vec::<u8>::with_capacity(alloc, INPUT_LIMIT);
 }
 
-// Reads the whole input. What is then due for it.
-fn answer_source<R: Threads + Wait + Sync, S: Source, G: Gate + Sync>(
-    rt: &R,
-    alloc: Global,
-    plan: &Plan,
-    source: &mut S,
-    gate: &G,
-) -> Result<Answer, NoMemory>
-    requires { reads_input plan.now.command ≡ true }
-    ensures { IfOk result (λ answer. (words : List (List ℕ)) → Ask words plan.now.command plan.now.chosen
-        → IsCalled words (source_use S.left S.faults source.old source.new) answer) }
+// What the reading of a source comes to.
+#[derive(Drop)]
+enum Reading {
+    // The whole input.
+    Whole(Vec<u8>),
+    // The answer that is due because a read failed or the input is too large.
+    Refused(Answer),
+}
+
+// Reads the source to its end.
+fn read_whole<S: Source>(alloc: Global, source: &mut S) -> Result<Reading, NoMemory>
+    ensures ok { IfOk result (IsReading (source_use S.left S.faults source.old source.new)) }
+    ensures err { OnErr result (GaveAtMost (INPUT_LIMIT + 1) (S.left source.old) (S.left source.new)) }
 {
     let input = match read_input(alloc, source, INPUT_LIMIT) {
         Ok(input) => input,
         Err(InputFault::Failed) => {
-            return Answer::refusal(alloc, Refusal::ReadFault, Status::ReadFault);
+            let answer = Answer::refusal(alloc, Refusal::ReadFault, Status::ReadFault)?;
+            return Ok(Reading::Refused(answer));
         }
         Err(InputFault::NoMemory) => return Err(NoMemory),
     };
     if input.len() > INPUT_LIMIT {
-        return Answer::refusal(alloc, Refusal::TooManyBytes, Status::TooLarge);
+        let answer = Answer::refusal(alloc, Refusal::TooManyBytes, Status::TooLarge)?;
+        return Ok(Reading::Refused(answer));
     }
-    answer_input(rt, alloc, plan, input, gate)
+    Ok(Reading::Whole(input))
 }
 
-// What is due for an input that was read whole.
-fn answer_input<R: Threads + Wait + Sync, G: Gate + Sync>(
+// What is due for an input that was read whole, of a command that has no sessions.
+fn answer_input<R: Threads + Sync>(
     rt: &R,
     alloc: Global,
     plan: &Plan,
     input: Vec<u8>,
-    gate: &G,
 ) -> Result<Answer, NoMemory>
     requires size { length input.items ≤ INPUT_LIMIT }
     requires reads { reads_input plan.now.command ≡ true }
-    ensures { IfOk result (λ answer. (words : List (List ℕ)) (source : SourceUse) → Ask words plan.now.command plan.now.chosen
-        → Consumes source.left_before source.left_after input.items → IsAtEnd source.left_after → IsCalled words source answer) }
+    requires alone { has_sessions plan.now.command ≡ false }
+    ensures { IfOk result (λ answer. (source : SourceUse) → HasGiven source input.items → IsDueFor plan.now.command plan.now.chosen source answer) }
 {
     match plan.command {
-        Command::Live | Command::Save => answer_live(rt, alloc, plan, input, gate),
-        Command::Groups => answer_groups(rt, alloc, plan, input, gate),
+        Command::Check { .. } | Command::Text | Command::Passes => {
+            let ending = answer(rt, alloc, plan, input)?;
+            Ok(Answer::without_sessions(alloc, ending))
+        }
         Command::Replay => {
             let ending = answer_replay(rt, alloc, input)?;
             Ok(Answer::without_sessions(alloc, ending))
@@ -172,11 +248,42 @@ fn answer_input<R: Threads + Wait + Sync, G: Gate + Sync>(
             let ending = answer_tally(rt, alloc, from, to, input)?;
             Ok(Answer::without_sessions(alloc, ending))
         }
-        Command::Check { .. } | Command::Text | Command::Passes => {
-            let ending = answer(rt, alloc, plan, input)?;
-            Ok(Answer::without_sessions(alloc, ending))
-        }
-        Command::Make { .. } => unreachable!(),
+        Command::Live | Command::Save | Command::Groups | Command::Make { .. } => unreachable!(),
+    }
+}
+
+// What is due for an input that was read whole, of a command that has sessions.
+fn answer_script<R: Threads + Wait + Sync, G: Gate + Sync>(
+    rt: &R,
+    alloc: Global,
+    plan: &Plan,
+    input: Vec<u8>,
+    gate: &G,
+) -> Result<Answer, NoMemory>
+    requires size { length input.items ≤ INPUT_LIMIT }
+    requires sessions { has_sessions plan.now.command ≡ true }
+    ensures { IfOk result (λ answer. (source : SourceUse) → HasGiven source input.items → IsDueFor plan.now.command plan.now.chosen source answer) }
+{
+    match plan.command {
+        Command::Live | Command::Save => answer_live(rt, alloc, plan, input, gate),
+        Command::Groups => answer_groups(rt, alloc, plan, input, gate),
+        Command::Check { .. }
+        | Command::Text
+        | Command::Passes
+        | Command::Replay
+        | Command::Tally { .. }
+        | Command::Make { .. } => unreachable!(),
+    }
+}
+
+// Writes the text that is due, if there is memory for one. What the program then gives.
+fn end_with<K: Sink>(alloc: Global, answer: Result<Answer, NoMemory>, sink: &mut K) -> Outcome
+    ensures { (words : List (List ℕ)) (source : SourceUse) → IfOk answer (IsCalled words source) → OnErr answer (HasReadWithin words source)
+        → Ran words source (sink_use K.taken K.faults sink.old sink.new) (played_by result) result.status }
+{
+    match answer {
+        Ok(answer) => write_answer(answer, sink),
+        Err(NoMemory) => Outcome::without_sessions(alloc, Status::NoMemory),
     }
 }
 

@@ -1,5 +1,5 @@
 -- What the words of the command line ask for.
-use Rattle.std.specs.Prelude.{◌≡◌, Bool, true, false, List, ℕ, None, Some}
+use Rattle.std.specs.Prelude.{◌≡◌, Bool, true, false, List, ℕ, None, Some, is_some, option_and_then}
 use Rattle.knit_base.specs.Limits.{IsLawfulProfile}
 use Rattle.machine_profile.specs.declared.Chosen.{Chosen}
 use Rattle.machine_profile.specs.declared.Which.{Which}
@@ -16,6 +16,10 @@ pub record Ask (words : List (List ℕ)) (command : Command) (chosen : Chosen) :
   pub commands : request.command ≡ command
   pub within : refused request.options ≡ None
   pub values : IsChosen request.options chosen
+
+-- the words are in the grammar and say how many lines a block has
+abbrev pub chooses_block : List (List ℕ) → Bool
+chooses_block words = is_some (option_and_then (λ (r : Request). r.options.block) (request_of words))
 
 -- the commands that read a knitout file
 abbrev pub reads_file : Command → Bool
@@ -40,6 +44,18 @@ reads_script Groups = false
 reads_script Replay = false
 reads_script (Tally from to) = false
 reads_script (Make rows start) = false
+
+-- the commands that carry out the sessions of a script
+abbrev pub has_sessions : Command → Bool
+has_sessions (Check loops json) = false
+has_sessions Text = false
+has_sessions Passes = false
+has_sessions Live = true
+has_sessions Save = true
+has_sessions Groups = true
+has_sessions Replay = false
+has_sessions (Tally from to) = false
+has_sessions (Make rows start) = false
 
 -- the commands that read an input: a file, a script or a saved text
 abbrev pub reads_input : Command → Bool

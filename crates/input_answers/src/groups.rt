@@ -178,7 +178,7 @@ fn play<R: Threads + Wait + Sync, G: Gate + Sync>(
     }
     let setting = book.setting().try_clone()?;
     let (shared, pass) = Shared::start(rt, alloc, GroupBook::of(alloc, book), numbers)?;
-    let (pass, replies) = run_groups(
+    let Ok((pass, replies)) = run_groups(
         rt,
         alloc,
         gate,
@@ -187,7 +187,9 @@ fn play<R: Threads + Wait + Sync, G: Gate + Sync>(
         blocks,
         sessions.as_slice(),
         pass,
-    )?;
+    ) else {
+        return Err(NoMemory);
+    };
     let (book, chunks) = shared.finish(rt, pass).into_parts();
     Ok((book, chunks, replies))
 }

@@ -187,7 +187,7 @@ fn play<R: Threads + Wait + Sync, G: Gate + Sync>(
     }
     let setting = book.setting().try_clone()?;
     let (shared, pass) = Shared::start(rt, alloc, book, numbers)?;
-    let (pass, replies) = run_all(
+    let Ok((pass, replies)) = run_all(
         rt,
         alloc,
         gate,
@@ -196,6 +196,8 @@ fn play<R: Threads + Wait + Sync, G: Gate + Sync>(
         blocks,
         sessions.as_slice(),
         pass,
-    )?;
+    ) else {
+        return Err(NoMemory);
+    };
     Ok((shared.finish(rt, pass), replies))
 }

@@ -13,13 +13,12 @@ use knit_base::{NoMemory, Steps};
 use std::alloc::Global;
 use std::marker::Brand;
 use std::mem;
-use std::sync::Wait;
 use std::sync::ledger::{Blank, Ledger};
 use std::thread::Threads;
 use verdict_report::{Refusal, final_of};
 
-/// What is due for a saved text that was read whole. It may wait for other threads.
-pub fn answer_replay<R: Threads + Wait + Sync>(
+/// What is due for a saved text that was read whole.
+pub fn answer_replay<R: Threads + Sync>(
     rt: &R,
     alloc: Global,
     input: Vec<u8>,
@@ -64,7 +63,7 @@ pub(crate) fn refusal_of_journal(line: u32, cause: JournalCause) -> Refusal
 }
 
 // The version at the end, and the verdict on its document, with a counter of steps, which no contract here reads.
-fn final_report<L: Ledger, R: Threads + Wait + Sync>(
+fn final_report<L: Ledger, R: Threads + Sync>(
     rt: &R,
     blank: Blank,
     alloc: Global,

@@ -8,6 +8,7 @@ pub returns-in-Ok : goal.returns-in-Ok
 returns-in-Ok g c = λ words source called.
     written c.args.answer.text.items called
     (subst (λ (text : List ℕ). Appends (g.K.Sink.taken c.args.sink.now) (g.K.Sink.taken c.write_report.new.sink) text) c.deref.ensures.value c.in-Ok.ensures.ok)
+    c.in-Ok.ensures.calm
 
 pub returns : goal.returns
 returns g c = λ words source called.
