@@ -5,15 +5,36 @@
 from __future__ import annotations
 
 import re
+import resource
+import subprocess
 import unittest
 
-from program import EXAMPLES, answer_of
+from program import EXAMPLES, Answer, answer_of, find_program
 
 HEAD = b";!knitout-2\n;;Carriers: 1 2\nin 1\n"
 ROW = b"knit - f3 1\nknit - f2 1\nknit - f1 1\nknit + b1 1\nknit + b2 1\nknit + b3 1\nxfer f2 b2\n"
 # So long that a block of 4,096 lines is prepared in pieces.
 FILES = {path.name: path.read_bytes() for path in sorted(EXAMPLES.glob("*.k"))}
 FILES |= {"long": HEAD + ROW * 400, "broken": HEAD + ROW * 400 + b"knit + b2 2\n" + ROW * 200}
+
+# Room for addresses that is plenty for a text of some thousand lines.
+PLENTY = 2_000_000 << 10
+
+
+def tucks_over_all(rounds: int, hooks: int) -> bytes:
+    """So many tucks on each hook from -hooks to hooks - 1 of both beds."""
+    row = "".join(f"tuck + f{i} 1\ntuck + b{i} 1\n" for i in range(-hooks, hooks))
+    return HEAD + row.encode() * rounds
+
+
+def moved_pile(loops: int, needles: int) -> bytes:
+    """So many loops on f0, moved needle by needle without a knit between."""
+    moves = "".join(f"rack 0\nxfer f{i} b{i}\nrack 1\nxfer b{i} f{i + 1}\n" for i in range(needles))
+    return HEAD + b"tuck + f0 1\n" * loops + moves.encode()
+
+
+def limit_addresses() -> None:
+    resource.setrlimit(resource.RLIMIT_AS, (PLENTY, PLENTY))
 
 
 class Blocks(unittest.TestCase):
@@ -31,6 +52,18 @@ class Blocks(unittest.TestCase):
             told = [re.sub(rb" blocks \d+", b"", answer_of("make", rows, "5", *words).report) for words in ([], *(["--block", it] for it in sizes))]
             with self.subTest(rows=rows):
                 self.assertEqual(told, told[:1] * len(told))
+
+    def test_tucks_over_many_hooks_want_no_more_memory_than_there_is(self) -> None:
+        given = tucks_over_all(4, 1_024)
+        words = ["check", "--low=-1024", "--high=1023", "--hold=64"]
+        ran = subprocess.run([find_program(), *words, "--block=64"], input=given, capture_output=True, check=False, preexec_fn=limit_addresses)
+        self.assertEqual(Answer(ran.returncode, ran.stdout), answer_of(*words, given=given))
+        self.assertEqual(ran.returncode, 0)
+
+    def test_a_pile_that_is_moved_far(self) -> None:
+        given = moved_pile(60, 1_000)
+        words = ["check", "--low=-1024", "--high=1023", "--hold=64"]
+        self.assertEqual(answer_of(*words, "--block=4096", given=given), answer_of(*words, given=given))
 
 
 if __name__ == "__main__":
