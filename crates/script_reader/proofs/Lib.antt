@@ -18,3 +18,6 @@ pub mod GroupRuns
 pub mod GroupSessions
 pub mod OpenGroups
 pub mod Said
+pub mod Hearings
+pub mod Listeners
+pub mod TextsHeard

@@ -6,3 +6,9 @@ pub mod Script
 pub mod Command
 pub mod Groups
 pub mod Reading
+pub mod TalkLines
+pub mod Hearing
+pub mod Listening
+pub mod Orders
+pub mod Listener
+pub mod Laws

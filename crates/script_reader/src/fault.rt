@@ -18,6 +18,12 @@ pub enum Cause {
     NoOwn,
     /// The first line isn't `groups 1`, or there is none. A `live` script is never refused so.
     NoGroups,
+    /// The first line isn't `serve 1 lines N` or `serve 1 journal N`, or there is none. No script is refused so.
+    NoServe,
+    /// The line of a conversation has over 4,096 bytes. No script is refused so.
+    LineLong,
+    /// The line of a conversation isn't UTF-8. No script is refused so.
+    NotUtf8,
 }
 
 /// Why lines are no script.

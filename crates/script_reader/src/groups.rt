@@ -218,8 +218,8 @@ fn takes_edit(kind: Kind, edits: u32) -> bool
     }
 }
 
-// How many add commands the step has.
-fn adds_in_step(step: &Step) -> u32
+/// How many add commands the step has.
+pub(crate) fn adds_in_step(step: &Step) -> u32
     ensures { result ≡ adds_in (commands_of_step step.now) }
 {
     match step {

@@ -165,7 +165,8 @@ fn one_word(word: &[u8]) -> Kind
     }
 }
 
-fn mark_of(word: &[u8]) -> Option<Mark>
+/// The mark that the word is.
+pub(crate) fn mark_of(word: &[u8]) -> Option<Mark>
     ensures { result ≡ mark_of word.now }
 {
     if word == GROUP {
@@ -192,7 +193,8 @@ fn two_words(word: &[u8], operand: &[u8]) -> Kind
     }
 }
 
-fn command_line_of(word: &[u8], operand: &[u8]) -> Option<CommandLine>
+/// The command of a line of two words, without its text.
+pub(crate) fn command_line_of(word: &[u8], operand: &[u8]) -> Option<CommandLine>
     ensures { result ≡ command_line_of word.now operand.now }
 {
     if word == LOOK {

@@ -1,7 +1,7 @@
 -- The lines of the program's refusals.
 use Rattle.std.specs.Prelude.{ℕ, List, ◌++◌, codes, decimal}
 use Rattle.script_reader.specs.declared.fault.Cause.{Cause}
-use Rattle.script_reader.specs.declared.fault.Cause.TheVariants.{NoLive, BadLine, ManySessions, NoOwn, NoGroups}
+use Rattle.script_reader.specs.declared.fault.Cause.TheVariants as causes
 use Rattle.verdict_report.specs.declared.refusal.Refusal.{Refusal}
 use Rattle.verdict_report.specs.declared.refusal.Refusal.TheVariants.{Usage, ReadFault, TooManyBytes, TooManyLines, TooManyBlocks, NotUtf8, LineLong, BadMagic, NoCarriers, TwoCarriers, CarrierNameTwice, ManyCarriers, BadScript, BadJournal, NoFit, BadRange}
 
@@ -15,11 +15,14 @@ bad_head_line line cause = codes "bad input: head line " ++ (decimal line ++ cau
 
 -- what is wrong with a line of a script
 abbrev pub cause_word : Cause → List ℕ
-cause_word NoLive = codes " NoLive\n"
-cause_word BadLine = codes " BadLine\n"
-cause_word ManySessions = codes " ManySessions\n"
-cause_word NoOwn = codes " NoOwn\n"
-cause_word NoGroups = codes " NoGroups\n"
+cause_word causes.NoLive = codes " NoLive\n"
+cause_word causes.BadLine = codes " BadLine\n"
+cause_word causes.ManySessions = codes " ManySessions\n"
+cause_word causes.NoOwn = codes " NoOwn\n"
+cause_word causes.NoGroups = codes " NoGroups\n"
+cause_word causes.NoServe = codes " NoServe\n"
+cause_word causes.LineLong = codes " LineLong\n"
+cause_word causes.NotUtf8 = codes " NotUtf8\n"
 
 -- a line of a script that is outside its grammar
 abbrev pub bad_script_line : ℕ → List ℕ → List ℕ

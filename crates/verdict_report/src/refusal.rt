@@ -91,6 +91,9 @@ fn cause_word(cause: Cause) -> &'static str
         Cause::ManySessions => " ManySessions\n",
         Cause::NoOwn => " NoOwn\n",
         Cause::NoGroups => " NoGroups\n",
+        Cause::NoServe => " NoServe\n",
+        Cause::LineLong => " LineLong\n",
+        Cause::NotUtf8 => " NotUtf8\n",
     }
 }
 
