@@ -1,7 +1,7 @@
 -- What more lines of a conversation ask for, and what a line asks for that is cut.
-use Rattle.std.proofs.Common.{◌≡◌, ℕ, zero, suc, ◌+◌, ◌<◌, ◌≤◌, Bool, true, false, nat_le, List, [], ◌∷◌, ◌++◌, length, take, drop, Option, Some, None, if◌then◌else◌, ap, ◌∙◌, append_assoc, sym, refl, subst, arith}
+use Rattle.std.proofs.Common.{◌≡◌, ℕ, zero, suc, ◌+◌, ◌<◌, ◌≤◌, Bool, true, false, nat_le, List, [], ◌∷◌, ◌++◌, length, take, drop, Option, Some, if◌then◌else◌, ap, ◌∙◌, append_assoc, sym, refl, arith}
 use Rattle.std.proofs.lemmas.List.{length-take-le, take_all}
-use Rattle.script_reader.specs.Hearing.{Awaiting, Hearing, Heard, Nothing, Order, Passing, Text, fault_of, heard, hearing_behind, orders_from, other_heard, text_heard}
+use Rattle.script_reader.specs.Hearing.{Awaiting, Hearing, Nothing, Order, Passing, Text, fault_of, heard, hearing_behind, orders_from, other_heard, text_heard}
 use Rattle.script_reader.specs.Statements.{is_text_line}
 use Rattle.script_reader.specs.declared.fault.Cause.{Cause}
 use Rattle.script_reader.specs.declared.fault.Cause.TheVariants.{LineLong}

@@ -1,5 +1,5 @@
 -- What a line makes of the state of a listener.
-use Rattle.std.proofs.Common.{◌≡◌, ℕ, ◌+◌, ◌<◌, ◌≤◌, Bool, true, false, nat_le, List, [], ◌∷◌, ◌++◌, length, min, Option, Some, None, ap, ◌∙◌, sym, refl, subst, arith}
+use Rattle.std.proofs.Common.{◌≡◌, ℕ, ◌+◌, ◌<◌, ◌≤◌, true, false, nat_le, List, [], ◌∷◌, ◌++◌, length, min, Option, Some, None, ap, ◌∙◌, sym, refl, subst, arith}
 use Rattle.std.specs.Str.{IsUtf8, is_utf8}
 use Rattle.std.proofs.lemmas.Bool.{false_from_ne_true}
 use Rattle.std.proofs.lemmas.List.{length-append}
@@ -12,9 +12,8 @@ use Rattle.script_reader.specs.Orders.{edit_with}
 use Rattle.script_reader.specs.Script.{adds_in, adds_of, command_line_in, names_known}
 use Rattle.script_reader.specs.declared.command.Command as declared
 use Rattle.script_reader.specs.declared.command.Command.TheVariants as command
-use Rattle.script_reader.specs.declared.fault.Cause.TheVariants.{LineLong, NotUtf8}
+use Rattle.script_reader.specs.declared.fault.Cause.TheVariants.{NotUtf8}
 use Rattle.script_reader.specs.declared.line.CommandLine.{CommandLine}
-use Rattle.script_reader.specs.declared.line.CommandLine.TheVariants as command_lines
 use Rattle.script_reader.specs.declared.listener.state.Moved.{Moved}
 use Rattle.script_reader.specs.declared.listener.state.OpenGroup.{OpenGroup}
 use Rattle.script_reader.specs.declared.listener.state.State.TheVariants as states
@@ -105,9 +104,10 @@ pub kept_lines : (kept : Option (List (List ℕ))) (held lines : List (List ℕ)
 kept_lines kept held lines is keeps = rw is at keeps
 
 -- the adds of a step
-pub adds_counted : (all : ℕ → ℕ) (given : Option declared_orders.Order) (session : ℕ) (s : Step) (adds n count : ℕ) → given ≡ Some (order.Ask session s) → adds ≡ adds_in (commands_of_step s)
-    → count ≡ counted (with_adds session adds all n) → count ≡ counted (adds_behind given all n)
-adds_counted all given session s adds n count is same counts = rw is (subst (λ (k : ℕ). count ≡ counted (with_adds session k all n)) same counts)
+pub adds_counted : (all : ℕ → ℕ) (given : declared_orders.Order) (session : ℕ) (s : Step) (adds n count : ℕ) → given ≡ order.Ask session s → adds ≡ adds_in (commands_of_step s)
+    → count ≡ counted (with_adds session adds all n) → count ≡ counted (adds_behind (Some given) all n)
+adds_counted all given session s adds n count is same counts =
+    subst (λ (o : declared_orders.Order). count ≡ counted (adds_behind (Some o) all n)) (sym is) (subst (λ (k : ℕ). count ≡ counted (with_adds session k all n)) same counts)
 
 -- the last line of the text of an edit in a group
 pub group_whole : (m : Moved) (h : Hearing) (number missing : ℕ) (after : OpenGroup) (commands : List declared.Command) (e : TextEdit) (lines : List (List ℕ))

@@ -1,5 +1,5 @@
 -- What a text line makes of the state of a listener, and what a line leaves.
-use Rattle.std.proofs.Common.{◌≡◌, ℕ, zero, suc, ◌-◌, ◌<◌, List, [], ◌∷◌, ◌++◌, Option, Some, None, ap, ◌∙◌, sym, refl, subst, arith}
+use Rattle.std.proofs.Common.{◌≡◌, ℕ, zero, suc, ◌-◌, ◌<◌, List, [], ◌∷◌, ◌++◌, Some, None, ap, ◌∙◌, sym, subst, arith}
 use Rattle.knitout_reader.specs.Head.{names_in_line}
 use Rattle.script_reader.specs.Hearing.{Block, Hearing, Order, awaited, header_heard, text_added, text_heard}
 use Rattle.script_reader.specs.Listener.{AreCounts, Hears, HoldsGroup, IsLong, IsMoved, IsState, Keeps, adds_behind, line_of_edit}

@@ -1,9 +1,8 @@
 -- What the lines of a conversation ask for, one after the other. It is known from the lines alone.
-use Rattle.std.specs.Prelude.{◌≡◌, ℕ, zero, suc, ◌+◌, ◌<◌, ◌==◌, ◌&&◌, Bool, true, false, nat_le, nat_lt, List, [], ◌∷◌, ◌++◌, length, drop, Option, Some, None, if◌then◌else◌}
+use Rattle.std.specs.Prelude.{ℕ, zero, suc, ◌+◌, ◌==◌, ◌&&◌, Bool, true, nat_le, nat_lt, List, [], ◌∷◌, ◌++◌, length, drop, Option, Some, None, if◌then◌else◌}
 use Rattle.std.specs.Option.{option_map_or}
 use Rattle.std.specs.Str.{is_utf8}
 use Rattle.knitout_reader.specs.Head.{names_in_line}
-use Rattle.edit_journal.specs.declared.edit.BlockName.{BlockName}
 use Rattle.script_reader.specs.Groups.{commands_of_step, is_edit_line}
 use Rattle.script_reader.specs.Script.{adds_in, is_known, names_known}
 use Rattle.script_reader.specs.Statements.{is_text_line}

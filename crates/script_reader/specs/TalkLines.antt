@@ -1,18 +1,16 @@
 -- What one line of a conversation says by itself.
-use Rattle.std.specs.Prelude.{ℕ, Bool, nat_lt, ◌==◌, List, [], ◌∷◌, codes, Option, None, Some, if◌then◌else◌}
+use Rattle.std.specs.Prelude.{ℕ, nat_lt, ◌==◌, List, [], ◌∷◌, codes, Option, None, Some, if◌then◌else◌}
 use Rattle.std.specs.Option.{option_map, option_and_then, option_map_or}
 use Rattle.std.specs.Str.{bytes_eq}
 use Rattle.knitout_reader.specs.Tokens.{tokens_of}
-use Rattle.script_reader.specs.Script.{is_put_head, takes_text}
+use Rattle.script_reader.specs.Script.{takes_text}
 use Rattle.script_reader.specs.Statements.{command_line_of, is_skipped, is_text_line, mark_of}
 use Rattle.script_reader.specs.Words.{name_in, number_in}
-use Rattle.script_reader.specs.declared.fault.Cause.{Cause}
 use Rattle.script_reader.specs.declared.fault.Cause.TheVariants.{BadLine, ManySessions}
 use Rattle.script_reader.specs.declared.line.CommandLine.{CommandLine}
 use Rattle.script_reader.specs.declared.line.CommandLine.TheVariants as command_lines
 use Rattle.script_reader.specs.declared.talk_line.Asked.{Asked}
 use Rattle.script_reader.specs.declared.talk_line.Asked.TheVariants as asked
-use Rattle.script_reader.specs.declared.talk_line.Question.{Question}
 use Rattle.script_reader.specs.declared.talk_line.Question.TheVariants as question
 use Rattle.script_reader.specs.declared.talk_line.TalkLine.{TalkLine}
 use Rattle.script_reader.specs.declared.talk_line.TalkLine.TheVariants as talk

@@ -1,5 +1,5 @@
 //! How many adds of each session were heard.
-ghost use Rattle.std.specs.Prelude.{◌≡◌, ℕ, get_or};
+ghost use Rattle.std.specs.Prelude.{◌≡◌, ℕ, Some, get_or};
 ghost use Rattle.script_reader.specs.Hearing.{question_known, with_adds};
 ghost use Rattle.script_reader.specs.Listener.{AreCounts, adds_behind, counted, line_of_edit};
 ghost use Rattle.script_reader.specs.Script.{adds_of, is_known, names_known};
@@ -14,20 +14,26 @@ use edit_journal::BlockName;
 /// How many sessions there are.
 const SESSION_COUNT: u32 = 64;
 
-/// Counts the adds of an order.
+/// Counts the adds of an order, if there is one.
 pub(crate) fn count(adds: &mut [u64; 64], order: &Option<Order>)
     ensures { (all : ℕ → ℕ) → AreCounts adds.old all → AreCounts adds.new (adds_behind order.now all) }
 {
+    if let Some(order) = order {
+        count_order(adds, order);
+    }
+}
+
+fn count_order(adds: &mut [u64; 64], order: &Order)
+    ensures { (all : ℕ → ℕ) → AreCounts adds.old all → AreCounts adds.new (adds_behind (Some order.now) all) }
+{
     match order {
-        Some(Order::Ask { session, step }) => add(adds, *session, adds_in_step(step)),
-        Some(Order::TooLong { session, edit, .. }) => add(adds, *session, adds_of_edit(*edit)),
-        Some(
-            Order::Lost {
-                session,
-                adds: lost,
-            },
-        ) => add(adds, *session, *lost),
-        Some(Order::Refuse { .. } | Order::Tell { .. }) | None => {}
+        Order::Ask { session, step } => add(adds, *session, adds_in_step(step)),
+        Order::TooLong { session, edit, .. } => add(adds, *session, adds_of_edit(*edit)),
+        Order::Lost {
+            session,
+            adds: lost,
+        } => add(adds, *session, *lost),
+        Order::Refuse { .. } | Order::Tell { .. } => {}
     }
 }
 

@@ -1,5 +1,4 @@
-use Rattle.std.proofs.Common.{arith, sym, ap, ◌∙◌, subst, ◌≡◌, ◌∷◌, ◌++◌, List, [], ℕ, Some}
-use Rattle.script_reader.specs.Listener.{HoldsGroup, Keeps}
+use Rattle.std.proofs.Common.{arith, sym, ap, ◌∙◌, ◌≡◌, ◌∷◌, ◌++◌, []}
 use Rattle.script_reader.specs.Orders.{edit_with}
 use Rattle.script_reader.proofs.Listeners.{adds_of_edit_with, group_whole, holds_edit, kept_lines}
 use Rattle.script_reader.proofs.listener.texts.group_text_heard.Goals as goal
