@@ -10,7 +10,7 @@ mod rows;
 
 use edit_journal::BlockName;
 use knit_base::Lines;
-use script_reader::{Command, Listener, Order, Place, Question, Step, TextEdit};
+use script_reader::{Command, Heard, Listener, Order, Place, Question, Step, TextEdit};
 use std::alloc::Global;
 use std::test::Fail;
 
@@ -20,7 +20,7 @@ fn told(alloc: Global, first: u64, lines: &[&str]) -> Result<String, Fail> {
     let mut out = String::new(alloc);
     let mut number = first;
     for line in lines {
-        let heard = listener.hear(number, line.as_bytes());
+        let heard = hear(&mut listener, number, line.as_bytes());
         if heard.broken_off {
             out.push_str(&format!(in alloc; "{number} broken\n")?)?;
         }
@@ -29,6 +29,17 @@ fn told(alloc: Global, first: u64, lines: &[&str]) -> Result<String, Fail> {
     }
     say(alloc, &mut out, number, &listener.end(number))?;
     Ok(out)
+}
+
+// Hears a line. What has a line feed within is none, and nothing is heard.
+fn hear(listener: &mut Listener, number: u64, line: &[u8]) -> Heard {
+    if line.contains(&b'\n') {
+        return Heard {
+            broken_off: false,
+            order: None,
+        };
+    }
+    listener.hear(number, line)
 }
 
 fn say(alloc: Global, out: &mut String, number: u64, order: &Option<Order>) -> Result<(), Fail> {

@@ -1,5 +1,5 @@
 //! Groups.
-use super::{say, told};
+use super::{hear, say, told};
 use script_reader::Listener;
 use std::test::Fail;
 
@@ -105,17 +105,22 @@ fn a_group_has_64_edits_at_most(rt: HostRuntime) -> Result<(), Fail> {
     let alloc = rt.alloc();
     let mut listener = Listener::new(alloc);
     let mut out = String::new(alloc);
-    say(alloc, &mut out, 1, &listener.hear(1, b"group").order)?;
+    say(alloc, &mut out, 1, &hear(&mut listener, 1, b"group").order)?;
     for number in 2..66 {
         say(
             alloc,
             &mut out,
             number,
-            &listener.hear(number, b"cut 0").order,
+            &hear(&mut listener, number, b"cut 0").order,
         )?;
     }
-    say(alloc, &mut out, 66, &listener.hear(66, b"cut 0").order)?;
-    say(alloc, &mut out, 67, &listener.hear(67, b"end").order)?;
+    say(
+        alloc,
+        &mut out,
+        66,
+        &hear(&mut listener, 66, b"cut 0").order,
+    )?;
+    say(alloc, &mut out, 67, &hear(&mut listener, 67, b"end").order)?;
     assert_eq!(rt; out.as_str(), "66 refuse BadLine\n67 refuse BadLine\n");
     Ok(())
 }

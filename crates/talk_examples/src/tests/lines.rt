@@ -1,5 +1,5 @@
 //! Single lines, and texts that are too long.
-use super::{say, told};
+use super::{hear, say, told};
 use script_reader::{Cause, Listener, Order};
 use std::test::Fail;
 
@@ -102,11 +102,11 @@ fn a_text_line_that_is_bad_refuses_its_edit(rt: HostRuntime) -> Result<(), Fail>
         alloc,
         &mut out,
         1,
-        &listener.hear(1, b"put 0 lines 2").order,
+        &hear(&mut listener, 1, b"put 0 lines 2").order,
     )?;
-    say(alloc, &mut out, 2, &listener.hear(2, b"|\xff").order)?;
-    say(alloc, &mut out, 3, &listener.hear(3, b"|in 1").order)?;
-    say(alloc, &mut out, 4, &listener.hear(4, b"\xff").order)?;
+    say(alloc, &mut out, 2, &hear(&mut listener, 2, b"|\xff").order)?;
+    say(alloc, &mut out, 3, &hear(&mut listener, 3, b"|in 1").order)?;
+    say(alloc, &mut out, 4, &hear(&mut listener, 4, b"\xff").order)?;
     assert_eq!(rt; out.as_str(), "2 refuse NotUtf8\n4 refuse NotUtf8\n");
     Ok(())
 }
@@ -117,20 +117,20 @@ fn a_line_has_4096_bytes_at_most(rt: HostRuntime) -> Result<(), Fail> {
     let mut line = vec![in alloc; b'x'; 4097]?;
     line[0] = b'|';
     let mut listener = Listener::new(alloc);
-    listener.hear(1, b"put 0 lines 1");
+    hear(&mut listener, 1, b"put 0 lines 1");
     assert!(rt;
         matches!(
-            listener.hear(2, &line).order,
+            hear(&mut listener, 2, &line).order,
             Some(Order::Refuse {
                 line: 2,
                 cause: Cause::LineLong
             })
         )
     );
-    listener.hear(3, b"put 0 lines 1");
+    hear(&mut listener, 3, b"put 0 lines 1");
     assert!(rt;
         matches!(
-            listener.hear(4, &line[..4096]).order,
+            hear(&mut listener, 4, &line[..4096]).order,
             Some(Order::Ask { .. })
         )
     );
@@ -146,16 +146,21 @@ fn a_long_text_is_counted(rt: HostRuntime) -> Result<(), Fail> {
         alloc,
         &mut out,
         1,
-        &listener.hear(1, b"session 5 add start lines 4097").order,
+        &hear(&mut listener, 1, b"session 5 add start lines 4097").order,
     )?;
     for number in 2..4099 {
-        say(alloc, &mut out, number, &listener.hear(number, b"|").order)?;
+        say(
+            alloc,
+            &mut out,
+            number,
+            &hear(&mut listener, number, b"|").order,
+        )?;
     }
     say(
         alloc,
         &mut out,
         4099,
-        &listener.hear(4099, b"session 5 look @1").order,
+        &hear(&mut listener, 4099, b"session 5 look @1").order,
     )?;
     assert_eq!(rt;
         out.as_str(),
