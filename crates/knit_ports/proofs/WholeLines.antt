@@ -81,6 +81,29 @@ taken-ends taken line none free =
 not-feed : (byte : ℕ) → is_line_feed byte ≡ false → byte ≢ 10
 not-feed byte isnt is = absurd (false≢true (sym isnt ∙ ap is_line_feed is))
 
+-- a line feed ends the front, and lines begin anew
+at-feed : (front : List ℕ) (byte : ℕ) (bytes : List ℕ) → byte ≡ 10 → HasNoLineEnd front → ArePartsOf bytes (whole_lines bytes) (rest_of bytes)
+    → ArePartsOf (front ++ byte ∷ bytes) (front ∷ whole_lines bytes) (rest_of bytes)
+at-feed front byte bytes feed free next =
+    let later : List ℕ = flat_map with_feed (whole_lines bytes) in
+    record {
+      joined = ap (λ (x : ℕ). front ++ x ∷ bytes) feed ∙ ap (λ (l : List ℕ). front ++ 10 ∷ l) next.joined
+          ∙ sym (append_assoc front (10 ∷ []) (later ++ rest_of bytes)) ∙ sym (append_assoc (with_feed front) later (rest_of bytes));
+      ones = All-cons HasNoLineEnd front (whole_lines bytes) free next.ones;
+      last = next.last;
+    }
+
+-- what is told of one truth value is told of an equal one
+parts-by : (all front : List ℕ) (byte : ℕ) (bytes : List ℕ) (b c : Bool) → c ≡ b
+    → ArePartsOf all (if b then front ∷ whole_lines bytes else lines_behind (front ++ byte ∷ []) bytes) (if b then rest_of bytes else rest_behind (front ++ byte ∷ []) bytes)
+    → ArePartsOf all (if c then front ∷ whole_lines bytes else lines_behind (front ++ byte ∷ []) bytes) (if c then rest_of bytes else rest_behind (front ++ byte ∷ []) bytes)
+parts-by all front byte bytes b c same are =
+    subst
+    (λ (x : Bool).
+    ArePartsOf all (if x then front ∷ whole_lines bytes else lines_behind (front ++ byte ∷ []) bytes)
+    (if x then rest_of bytes else rest_behind (front ++ byte ∷ []) bytes))
+    (sym same) are
+
 -- the lines and the rest are the bytes, behind a front
 parts : (front bytes : List ℕ) → HasNoLineEnd front → ArePartsOf (front ++ bytes) (lines_behind front bytes) (rest_behind front bytes)
 parts front [] free = record {
@@ -91,28 +114,13 @@ parts front [] free = record {
 parts front (byte ∷ bytes) free =
     by_test (is_line_feed byte)
     (λ is.
-    let next : ArePartsOf bytes (lines_behind [] bytes) (rest_behind [] bytes) = parts [] bytes (All-nil (λ (x : ℕ). x ≢ 10)) in
-    let feed : byte ≡ 10 = eqb-true byte 10 is in
-    let lines : lines_behind front (byte ∷ bytes) ≡ front ∷ lines_behind [] bytes = ap (λ (b : Bool). if b then front ∷ lines_behind [] bytes else lines_behind (front ++ byte ∷ []) bytes) is in
-    let rest : rest_behind front (byte ∷ bytes) ≡ rest_behind [] bytes = ap (λ (b : Bool). if b then rest_behind [] bytes else rest_behind (front ++ byte ∷ []) bytes) is in
-    let later : List ℕ = flat_map with_feed (lines_behind [] bytes) in
-    let joined : front ++ byte ∷ bytes ≡ flat_map with_feed (front ∷ lines_behind [] bytes) ++ rest_behind [] bytes =
-    ap (λ (x : ℕ). front ++ x ∷ bytes) feed ∙ ap (λ (l : List ℕ). front ++ 10 ∷ l) next.joined
-    ∙ sym (append_assoc front (10 ∷ []) (later ++ rest_behind [] bytes)) ∙ sym (append_assoc (with_feed front) later (rest_behind [] bytes)) in
-    subst (λ (l : List (List ℕ)). ArePartsOf (front ++ byte ∷ bytes) l (rest_behind front (byte ∷ bytes))) (sym lines)
-    (subst (ArePartsOf (front ++ byte ∷ bytes) (front ∷ lines_behind [] bytes)) (sym rest) (record {
-      joined = joined;
-      ones = All-cons HasNoLineEnd front (lines_behind [] bytes) free next.ones;
-      last = next.last;
-    })))
+    parts-by (front ++ byte ∷ bytes) front byte bytes true (is_line_feed byte) is
+    (at-feed front byte bytes (eqb-true byte 10 is) free (parts [] bytes (All-nil (λ (x : ℕ). x ≢ 10)))))
     (λ isnt.
     let longer : HasNoLineEnd (front ++ byte ∷ []) = All-push (λ (x : ℕ). x ≢ 10) front byte free (not-feed byte isnt) in
-    let next : ArePartsOf ((front ++ byte ∷ []) ++ bytes) (lines_behind (front ++ byte ∷ []) bytes) (rest_behind (front ++ byte ∷ []) bytes) = parts (front ++ byte ∷ []) bytes longer in
-    let lines : lines_behind front (byte ∷ bytes) ≡ lines_behind (front ++ byte ∷ []) bytes = ap (λ (b : Bool). if b then front ∷ lines_behind [] bytes else lines_behind (front ++ byte ∷ []) bytes) isnt in
-    let rest : rest_behind front (byte ∷ bytes) ≡ rest_behind (front ++ byte ∷ []) bytes = ap (λ (b : Bool). if b then rest_behind [] bytes else rest_behind (front ++ byte ∷ []) bytes) isnt in
-    subst (λ (l : List (List ℕ)). ArePartsOf (front ++ byte ∷ bytes) l (rest_behind front (byte ∷ bytes))) (sym lines)
-    (subst (ArePartsOf (front ++ byte ∷ bytes) (lines_behind (front ++ byte ∷ []) bytes)) (sym rest)
-    (subst (λ (l : List ℕ). ArePartsOf l (lines_behind (front ++ byte ∷ []) bytes) (rest_behind (front ++ byte ∷ []) bytes)) (append_assoc front (byte ∷ []) bytes) next)))
+    parts-by (front ++ byte ∷ bytes) front byte bytes false (is_line_feed byte) isnt
+    (subst (λ (l : List ℕ). ArePartsOf l (lines_behind (front ++ byte ∷ []) bytes) (rest_behind (front ++ byte ∷ []) bytes))
+    (append_assoc front (byte ∷ []) bytes) (parts (front ++ byte ∷ []) bytes longer)))
 
 -- what whole lines and a rest are: the bytes, parted at each line feed
 pub whole-parts : (bytes : List ℕ) → ArePartsOf bytes (whole_lines bytes) (rest_of bytes)

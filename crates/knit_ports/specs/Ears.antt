@@ -1,5 +1,5 @@
 -- Lines that are heard, one after the other.
-use Rattle.std.specs.Prelude.{◌≡◌, ℕ, ◌+◌, ◌-◌, ◌^◌, ◌<◌, List, [], ◌∷◌, ◌++◌, length, take}
+use Rattle.std.specs.Prelude.{◌≡◌, ℕ, ◌+◌, ◌-◌, ◌^◌, ◌<◌, List, [], ◌∷◌, ◌++◌, length, take, drop}
 use Rattle.std.specs.declared.option.Option.{Option}
 use Rattle.knit_base.specs.Lines.{HasNoLineEnd}
 use Rattle.line_cutter.specs.declared.line.TheConstants.{LINE_LIMIT}
@@ -20,6 +20,12 @@ kept_limit = LINE_LIMIT + 2
 -- what is kept of a line
 abbrev pub kept_front : List ℕ → List ℕ
 kept_front line = take kept_limit line
+
+-- the first line feed of the bytes stands behind so many of them
+pub record IsFirstFeed (bytes : List ℕ) (n : ℕ) : Type 0 where
+  pub within : n < length bytes
+  pub one : HasNoLineEnd (take n bytes)
+  pub parted : bytes ≡ take n bytes ++ 10 ∷ drop (n + 1) bytes
 
 -- The pieces were heard behind these bytes, nothing was said meanwhile, and each was waited for only where no whole line was
 -- there.

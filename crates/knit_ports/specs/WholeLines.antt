@@ -5,12 +5,14 @@ use Rattle.knit_base.specs.Lines.{HasNoLineEnd, is_line_feed}
 -- the lines that have a line feed, where the first of them begins with this front
 abbrev pub lines_behind : List ℕ → List ℕ → List (List ℕ)
 lines_behind front [] = []
-lines_behind front (byte ∷ bytes) = if is_line_feed byte then front ∷ lines_behind [] bytes else lines_behind (front ++ byte ∷ []) bytes
+lines_behind front (byte ∷ bytes) =
+    if is_line_feed byte then front ∷ lines_behind [] bytes else lines_behind (front ++ byte ∷ []) bytes
 
 -- what stands behind the last line feed, or behind this front where there is none, with the front
 abbrev pub rest_behind : List ℕ → List ℕ → List ℕ
 rest_behind front [] = front
-rest_behind front (byte ∷ bytes) = if is_line_feed byte then rest_behind [] bytes else rest_behind (front ++ byte ∷ []) bytes
+rest_behind front (byte ∷ bytes) =
+    if is_line_feed byte then rest_behind [] bytes else rest_behind (front ++ byte ∷ []) bytes
 
 -- what stands before each line feed, since the one before it
 abbrev pub whole_lines : List ℕ → List (List ℕ)

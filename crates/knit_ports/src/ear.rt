@@ -1,7 +1,7 @@
 //! The lines that are heard, each as soon as it is there.
-ghost use Rattle.std.specs.Prelude.{◌≡◌, ◌<◌, ◌+◌, ◌≤◌, ◌++◌, ◌∷◌, [], List, ℕ, true, false, length, take, drop, vec_capacity, IfOk, MatchOption, OnErr, OnOk};
+ghost use Rattle.std.specs.Prelude.{◌≡◌, ◌<◌, ◌≤◌, ◌++◌, ◌∷◌, [], List, ℕ, true, false, length, vec_capacity, IfOk, MatchOption, OnErr, OnOk};
 ghost use Rattle.knit_base.specs.Lines.{HasNoLineEnd};
-ghost use Rattle.knit_ports.specs.Ears.{IsFrontHeard, IsHeard, kept_front, kept_limit};
+ghost use Rattle.knit_ports.specs.Ears.{IsFirstFeed, IsFrontHeard, IsHeard, kept_front, kept_limit};
 ghost use Rattle.knit_ports.specs.Faults.{HasCause, Rose};
 ghost use Rattle.knit_ports.specs.Pieces.{Heard, GoesOn};
 
@@ -83,6 +83,7 @@ impl Ear {
         ensures cause { OnErr result (Rose (T.faults talk.old) (T.faults talk.new)) }
     {
         self.line.clear();
+        // `i` pieces with bytes were heard.
         'hearing: for i in 0..u64::MAX {
             if self.take_line() {
                 return Ok(LineEnd::LineFeed);
@@ -97,8 +98,10 @@ impl Ear {
     // Takes the pending bytes up to the first line feed, and that with them. Whether there was one.
     fn take_line(&mut self) -> bool
         requires { length self.old.line ≤ kept_limit }
-        ensures found { result ≡ true → (front : List ℕ) × HasNoLineEnd front × (self.old.pending ≡ front ++ 10 ∷ self.new.pending) × (self.new.line ≡ kept_front (self.old.line ++ front)) }
-        ensures none { result ≡ false → HasNoLineEnd self.old.pending × (self.new.pending ≡ []) × (self.new.line ≡ kept_front (self.old.line ++ self.old.pending)) }
+        ensures found { result ≡ true → (front : List ℕ) × HasNoLineEnd front × (self.old.pending ≡ front ++ 10 ∷ self.new.pending)
+            × (self.new.line ≡ kept_front (self.old.line ++ front)) }
+        ensures none { result ≡ false → HasNoLineEnd self.old.pending × (self.new.pending ≡ [])
+            × (self.new.line ≡ kept_front (self.old.line ++ self.old.pending)) }
     {
         let rest = &self.piece[self.at..self.end];
         match feed_at(rest) {
@@ -136,7 +139,7 @@ impl Ear {
 
 // Where the first line feed is.
 fn feed_at(rest: &[u8]) -> Option<usize>
-    ensures { MatchOption result (HasNoLineEnd rest.now) (λ n. (n < length rest.now) × HasNoLineEnd (take n rest.now) × (rest.now ≡ take n rest.now ++ 10 ∷ drop (n + 1) rest.now)) }
+    ensures { MatchOption result (HasNoLineEnd rest.now) (IsFirstFeed rest.now) }
 {
     memchr(b'\n', rest)
 }

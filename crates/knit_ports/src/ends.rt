@@ -26,7 +26,8 @@ impl<S: Source, K: Sink> Talk for Ends<'_, S, K> {
         ensures bytes { ReadConsumes (S.left self.old.source.now) (S.left self.new.source.now) result piece.new }
         ensures sink { self.new.sink.now ≡ self.old.sink.now }
         ensures cause { HasCause (S.faults self.old.source.now + K.faults self.old.sink.now) (S.faults self.new.source.now + K.faults self.new.sink.now) result }
-        ensures calm { OnOk result (S.faults self.new.source.now + K.faults self.new.sink.now ≡ S.faults self.old.source.now + K.faults self.old.sink.now) }
+        ensures calm { OnOk result
+            (S.faults self.new.source.now + K.faults self.new.sink.now ≡ S.faults self.old.source.now + K.faults self.old.sink.now) }
     {
         self.source.read(piece)
     }
@@ -38,7 +39,8 @@ impl<S: Source, K: Sink> Talk for Ends<'_, S, K> {
         ensures bytes { WriteAppends (K.taken self.old.sink.now) (K.taken self.new.sink.now) result piece.now }
         ensures source { self.new.source.now ≡ self.old.source.now }
         ensures cause { HasCause (S.faults self.old.source.now + K.faults self.old.sink.now) (S.faults self.new.source.now + K.faults self.new.sink.now) result }
-        ensures calm { OnOk result (S.faults self.new.source.now + K.faults self.new.sink.now ≡ S.faults self.old.source.now + K.faults self.old.sink.now) }
+        ensures calm { OnOk result
+            (S.faults self.new.source.now + K.faults self.new.sink.now ≡ S.faults self.old.source.now + K.faults self.old.sink.now) }
     {
         self.sink.write(piece)
     }
