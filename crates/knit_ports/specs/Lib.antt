@@ -1,5 +1,9 @@
+pub mod Ears
 pub mod Edge
 pub mod Faults
 pub mod Gates
 pub mod Memory
+pub mod MemoryTalks
+pub mod Pieces
 pub mod Whole
+pub mod WholeLines

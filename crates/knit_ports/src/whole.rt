@@ -5,11 +5,9 @@ ghost use Rattle.knit_ports.specs.declared.whole.InputFault.TheVariants as fault
 ghost use Rattle.knit_ports.specs.Faults.{Rose};
 ghost use Rattle.knit_ports.specs.Whole.{GaveAtMost, GavePiece, HasMore, TookFront};
 
+use crate::limit::PIECE;
 use crate::{Failed, Sink, Source};
 use std::alloc::{AllocError, Global};
-
-// A read is offered at most so many bytes.
-const PIECE: usize = 65_536;
 
 /// Why an input wasn't read to its end.
 #[derive(Clone, Copy, Debug, PartialEq, Eq)]
@@ -99,7 +97,7 @@ fn with_room(alloc: Global, room: usize) -> Vec<u8>
 }
 
 // So many zeros, to be read into.
-fn zeros(alloc: Global, count: usize) -> Result<Vec<u8>, AllocError>
+pub(crate) fn zeros(alloc: Global, count: usize) -> Result<Vec<u8>, AllocError>
     ensures { IfOk result (λ piece. vec_len piece ≡ count) }
 {
     vec![in alloc; 0; count]
