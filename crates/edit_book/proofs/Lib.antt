@@ -23,6 +23,7 @@ pub mod HeldTexts
 pub mod KeptHeaders
 pub mod LineLoops
 pub mod LinePlaces
+pub mod Listings
 pub mod Looks
 pub mod Made
 pub mod NamesKept

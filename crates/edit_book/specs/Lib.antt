@@ -4,6 +4,7 @@ pub mod Entered
 pub mod Fitting
 pub mod HeaderTrees
 pub mod Headers
+pub mod Listing
 pub mod Memory
 pub mod Opened
 pub mod Orders

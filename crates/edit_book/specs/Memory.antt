@@ -71,6 +71,14 @@ memory_after m c r = record { stamps = with_told (told_by c r) m.stamps; adds = 
 abbrev pub with_put : ℕ → ℕ → Memory → Memory
 with_put block stamp m = record { stamps = with_stamp block stamp m.stamps; adds = m.adds }
 
+-- so many more adds, none of which made a block
+abbrev pub missed : ℕ → List (Option ℕ) → List (Option ℕ)
+missed zero adds = adds
+missed (suc n) adds = missed n (adds ++ None ∷ [])
+
+abbrev pub with_missed : ℕ → Memory → Memory
+with_missed count m = record { stamps = m.stamps; adds = missed count m.adds }
+
 -- the block that a name means: Own(n) is that of the n-th add, from 1
 abbrev pub own_block : List (Option ℕ) → ℕ → Option ℕ
 own_block adds zero = None

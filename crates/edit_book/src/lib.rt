@@ -36,6 +36,7 @@ mod copy;
 mod cut;
 mod follow;
 mod header;
+mod listed;
 mod look;
 mod look_head;
 mod loops;
@@ -57,6 +58,7 @@ mod turns;
 
 pub use book::Book;
 pub use edit_journal::HEAD;
+pub use listed::{BlockPlace, LinePlace};
 pub use open::block_texts;
 pub use outline::Outline;
 pub use replies::Replies;

@@ -6,7 +6,7 @@ mod session;
 mod shown;
 
 pub use again::summarised;
-pub use asking::ask;
+pub use asking::{add_too_long, ask, put_too_long};
 pub use learned::Learned;
 pub use session::Session;
 pub use shown::names_shown;

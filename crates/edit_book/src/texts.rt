@@ -30,13 +30,13 @@ impl Book {
     {
         let mut blocks = ListOf::with_capacity(self.outline.alloc(), self.outline.len())?;
         for at in 0..self.outline.len() {
-            blocks.push(self.block_at(at)?)?;
+            blocks.push(self.whole_block(at)?)?;
         }
         Ok(blocks)
     }
 
-    // The block at a place.
-    fn block_at(&self, at: u32) -> Result<BlockAt, NoMemory>
+    // The block at a place, with its text.
+    fn whole_block(&self, at: u32) -> Result<BlockAt, NoMemory>
         requires { at < length (document self.now).blocks }
         ensures { IfOk result (λ block. slice_get (blocks_at (document self.now).blocks) at ≡ Some block) }
     {

@@ -1,5 +1,5 @@
 //! What a session's command asks of the book.
-ghost use Rattle.std.specs.Prelude.{◌≡◌, ◌⊎◌, ℕ, ◌+◌, ◌≤◌, length, List, Some, Ok, Err, Result, IfOk, IfErr, MatchResult, slice_range};
+ghost use Rattle.std.specs.Prelude.{◌≡◌, ◌⊎◌, ℕ, ◌+◌, ◌<◌, ◌≤◌, length, List, Some, Ok, Err, Result, IfOk, IfErr, MatchResult, slice_range};
 ghost use Rattle.edit_journal.specs.declared.edit.Entry.{Entry};
 ghost use Rattle.edit_journal.specs.declared.opening.Opening.{Opening};
 ghost use Rattle.edit_journal.specs.Documents.{names_given};
@@ -8,8 +8,8 @@ ghost use Rattle.edit_book.specs.Turns.{IsFit};
 ghost use Rattle.block_summary.specs.Prepared.{IsPreparedFor};
 ghost use Rattle.knit_base.specs.Limits.{IsLawfulProfile};
 ghost use Rattle.edit_book.specs.Asking.{IsAskedBy, TellsNoHeader};
-ghost use Rattle.edit_book.specs.Memory.{Memory, asked, if_anchored, if_named, if_seen, unless_long};
-ghost use Rattle.edit_book.specs.Session.{HasLearned};
+ghost use Rattle.edit_book.specs.Memory.{Memory, asked, if_anchored, if_named, if_seen, text_limit, unless_long};
+ghost use Rattle.edit_book.specs.Session.{HasLearned, Teaches};
 ghost use Rattle.edit_book.specs.declared.reply.Reply.{Reply};
 ghost use Rattle.edit_journal.specs.declared.edit.Anchor.{Anchor};
 
@@ -136,9 +136,38 @@ fn ask_put_head(alloc: Global, learned: &Learned, declared: &Declared) -> Result
     }
 }
 
+/// The reply to a put of so many lines, more than a block may have, of which none is read. The name is asked first, as of each put.
+#[tactic(auto, using(crate::proofs::Asks::long_text))]
+pub fn put_too_long(learned: &Learned, name: BlockName, lines: u32) -> Reply
+    requires long { text_limit < lines }
+    ensures asked { (m : Memory) (text : List (List ℕ)) → HasLearned learned.now m → length text ≡ lines → asked m (Command.Put name text) ≡ Err result }
+    ensures untaught { Teaches result → ⊥ }
+    ensures untold { TellsNoHeader result }
+{
+    match seen(learned, name) {
+        Ok(_) => Reply::BlockLong { lines },
+        Err(reply) => reply,
+    }
+}
+
+/// The same of an add, whose place is asked first.
+#[tactic(auto, using(crate::proofs::Asks::long_text))]
+pub fn add_too_long(learned: &Learned, place: Place, lines: u32) -> Reply
+    requires long { text_limit < lines }
+    ensures asked { (m : Memory) (text : List (List ℕ)) → HasLearned learned.now m → length text ≡ lines → asked m (Command.Add place text) ≡ Err result }
+    ensures untaught { Teaches result → ⊥ }
+    ensures untold { TellsNoHeader result }
+{
+    match anchor(learned, place) {
+        Ok(_) => Reply::BlockLong { lines },
+        Err(reply) => reply,
+    }
+}
+
 // The block that a name means.
 #[tactic(auto, using(crate::proofs::Asks::names))]
 fn known(learned: &Learned, name: BlockName) -> Result<u32, Reply>
+    ensures untaught { IfErr result (λ reply. Teaches reply → ⊥) }
     ensures untold { IfErr result TellsNoHeader }
     ensures known { (m : Memory) (ask : ℕ → Result Request Reply) → HasLearned learned.now m → MatchResult result (λ id. if_named m name ask ≡ ask id) (λ reply. if_named m name ask ≡ Err reply) }
 {
@@ -151,6 +180,7 @@ fn known(learned: &Learned, name: BlockName) -> Result<u32, Reply>
 // The block that a name means, and the stamp that the session knows of it.
 #[tactic(auto, using(crate::proofs::Asks::names))]
 fn seen(learned: &Learned, name: BlockName) -> Result<(u32, u32), Reply>
+    ensures untaught { IfErr result (λ reply. Teaches reply → ⊥) }
     ensures untold { IfErr result TellsNoHeader }
     ensures seen { (m : Memory) (ask : ℕ → ℕ → Result Request Reply) → HasLearned learned.now m → MatchResult result (λ found. if_seen m name ask ≡ ask found.0 found.1) (λ reply. if_seen m name ask ≡ Err reply) }
 {
@@ -166,6 +196,7 @@ fn seen(learned: &Learned, name: BlockName) -> Result<(u32, u32), Reply>
 // Where a place is in the document.
 #[tactic(auto, using(crate::proofs::Asks::names))]
 fn anchor(learned: &Learned, place: Place) -> Result<Anchor, Reply>
+    ensures untaught { IfErr result (λ reply. Teaches reply → ⊥) }
     ensures untold { IfErr result TellsNoHeader }
     ensures anchor { (m : Memory) (ask : Anchor → Result Request Reply) → HasLearned learned.now m → MatchResult result (λ anchor. if_anchored m place ask ≡ ask anchor) (λ reply. if_anchored m place ask ≡ Err reply) }
 {

@@ -3,7 +3,7 @@ ghost use Rattle.std.specs.Prelude.{◌≡◌, ℕ, ◌<◌, ◌≤◌, ◌+◌,
 ghost use Rattle.std.specs.Bool.{OnTrue};
 ghost use Rattle.std.specs.HashMap.{get, spare};
 ghost use Rattle.edit_journal.specs.declared.opening.Opening.{Opening};
-ghost use Rattle.edit_book.specs.Memory.{Memory, first_memory, memory_after, head_told, with_put, with_stamp, with_told, told_by, named};
+ghost use Rattle.edit_book.specs.Memory.{Memory, first_memory, memory_after, head_told, with_put, with_stamp, with_told, told_by, named, with_missed};
 ghost use Rattle.edit_book.specs.Session.{HasLearned, HasRoom, Teaches};
 
 use crate::Reply;
@@ -143,6 +143,15 @@ impl Learned {
                 set_made(&mut self.made, self.adds, *block);
             }
         }
+    }
+
+    /// Learns that so many adds made no block, of which no reply tells one by one.
+    #[tactic(auto, using(crate::proofs::OwnBlocks::missed_adds))]
+    pub fn learn_missed(&mut self, adds: u32)
+        ensures learned { (m : Memory) → HasLearned self.old m → HasLearned self.new (with_missed adds m) }
+        ensures head { self.new.head ≡ self.old.head }
+    {
+        self.adds = self.adds.saturating_add(u64::from(adds));
     }
 
     /// Learns that a block got this stamp, otherwise than by a command: an undo put its text back.
