@@ -8,6 +8,7 @@ mod group_book;
 mod groups;
 mod journal;
 mod limit;
+mod listing;
 mod opening;
 mod script;
 mod session;
