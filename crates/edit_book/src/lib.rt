@@ -22,11 +22,11 @@
 //! is kept of the header), `specs/Turns` and `specs/Fitting` (what a turn needs, and that it stays so), `specs/Work` (how many steps a
 //! request may take), `specs/Orders` and `specs/Books` (what contracts see of a book, and what always holds of one), `specs/Outlines`
 //! (what they see of an outline, and which edit may come next), `specs/Opened` (what is kept of the first blocks), `specs/HeaderTrees`
-//! (what is taken of summaries that are handed over) and `specs/Entered` (the state in which a block begins); `specs/Memory` (what a
-//! session remembers, and the answer to its command), `specs/Session` (what it keeps of that) and `specs/Asking` (what it asks of the
-//! header, and is told of it). Below it stand std, `knit_base`, `carriage_model`, `knitout_reader`, `face_data`, `loop_history`,
-//! `block_summary`, `check_workers` (texts that are read anew), `edit_journal`, `script_reader` (a session's commands), `turn_book` and
-//! the tree of faces.
+//! (what is taken of summaries that are handed over), `specs/Entered` (the state in which a block begins) and `specs/Listing` (the block at
+//! a place, and the block of a line); `specs/Memory` (what a session remembers, and the answer to its command), `specs/Session` (what it
+//! keeps of that) and `specs/Asking` (what it asks of the header, and is told of it). Below it stand std, `knit_base`, `carriage_model`,
+//! `knitout_reader`, `face_data`, `loop_history`, `block_summary`, `check_workers` (texts that are read anew), `edit_journal`,
+//! `script_reader` (a session's commands), `turn_book` and the tree of faces.
 #![tactic(auto)]
 
 mod add;

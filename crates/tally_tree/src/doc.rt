@@ -92,8 +92,8 @@ impl TallyDoc {
         &self.outline
     }
 
-    /// Follows the entry that has the next number and may come next, as its outline tells. Other names of the header have all texts counted again. Where
-    /// memory runs out all is as before.
+    /// Follows the entry that has the next number and may come next, as its outline tells. Other names of the header have all texts counted
+    /// again. Where memory runs out all is as before.
     pub fn follow<L: Ledger>(
         &mut self,
         _number: u32,

@@ -12,9 +12,9 @@ module _ {O E : Type 0} where
   abbrev pub view : Option O → ℕ → ℕ → ℕ → List E → List (Joined E) → Bool → Bool → List E → View O E
   view o n a b seen joined holds knows took = record { opening = o; count = n; first = a; past = b; seen = seen; joined = joined; holds = holds; knows = knows; took = took }
 
-  -- at the start: all numbers below n, and nothing seen
-  abbrev pub starting : O → ℕ → View O E
-  starting o n = view (Some o) n 0 n [] [] false false []
+  -- at the start: all numbers below n, and the journal that the book has
+  abbrev pub starting : O → ℕ → List E → View O E
+  starting o n journal = view (Some o) n 0 n journal [] false false []
 
   -- after a look at the whole journal, which forgets the joined journals
   abbrev pub caught : View O E → List E → Bool → List E → View O E

@@ -1,11 +1,12 @@
 //! The shared book from its start to its finish, and what a thread does with it by a pass.
-ghost use Rattle.std.specs.Prelude.{◌+◌, ◌≡◌, ◌<◌, ◌≤◌, [], length, false, IfOk};
-ghost use Rattle.turn_book.specs.Passes.{IsPassOf, view_of, first_book};
+ghost use Rattle.std.specs.Prelude.{◌+◌, ◌≡◌, ◌<◌, ◌≤◌, length, false, true, IfOk};
+ghost use Rattle.turn_book.specs.Journal.{Each};
+ghost use Rattle.turn_book.specs.Passes.{IsHeldOf, IsPassOf, first_book, held_view, view_of};
 ghost use Rattle.turn_book.specs.Turn.{Catches, Turned};
-ghost use Rattle.turn_book.specs.Views.{starting, caught};
+ghost use Rattle.turn_book.specs.Views.{caught, freed, starting};
 
 use crate::booked::Booked;
-use crate::pass::{Pass, Shared};
+use crate::pass::{Held, Pass, Shared};
 use crate::steps::Look;
 use crate::turn_rule::Told;
 use atomic_table::{Refused, Table};
@@ -17,7 +18,7 @@ use std::sync::ledger::Ledger;
 use std::thread::Threads;
 
 impl<B: Booked> Shared<B> {
-    /// Shares a book. The one pass that there is at first has the numbers below `numbers`, and has seen nothing.
+    /// Shares a book. The one pass that there is at first has the numbers below `numbers`, and has seen the journal that the book has.
     ///
     /// The only error is want of memory, and the book is then dropped. No later call on the shared book takes memory of its
     /// own.
@@ -28,9 +29,9 @@ impl<B: Booked> Shared<B> {
         numbers: u32,
     ) -> Result<(Shared<B>, Pass<B>), NoMemory>
         requires numbers { (0 < numbers) × (numbers ≤ 64) }
-        requires empty { B.journal book ≡ [] }
+        requires entries { Each (λ e. B.number_of e < numbers) (B.journal book) }
         ensures of_this { IfOk result (λ r. IsPassOf r.0 r.1 × (B.opening (first_book r.0) ≡ B.opening book)) }
-        ensures view { IfOk result (λ r. view_of r.1 ≡ starting (B.opening book) numbers) }
+        ensures view { IfOk result (λ r. view_of r.1 ≡ starting (B.opening book) numbers (B.journal book)) }
     {
         let told = Told {
             book: Snapshot::of(&book),
@@ -39,8 +40,9 @@ impl<B: Booked> Shared<B> {
         let Ok(mut slots) = Vec::with_capacity(alloc, 1) else {
             return Err(NoMemory);
         };
+        let count = u64::from(book.count());
         slots.push_reserved(Some(book));
-        match Table::new(alloc, &[0, 0, 0, 0], slots, &told) {
+        match Table::new(alloc, &[0, count, 0, 0], slots, &told) {
             Ok((table, seat)) => Ok((
                 Shared { table },
                 Pass {
@@ -93,6 +95,48 @@ impl<B: Booked> Shared<B> {
         self.table.shared.load::<Look<B>>(&mut pass.seat, 1) as u32
     }
 
+    /// Waits for the turn, and keeps it: the book can be looked at until the pass is given back (`give_back`).
+    ///
+    /// It may wait for as long as other threads hold the turn. What is seen is the journal that the turn found; a pass with all numbers
+    /// finds just what it had seen.
+    pub fn hold<R: Wait>(&self, rt: &R, pass: Pass<B>) -> Held<B>
+        requires of_this { IsPassOf self.now pass }
+        ensures of_this { IsHeldOf self.now result }
+        ensures view { held_view result ≡ caught (view_of pass) (held_view result).seen true (held_view result).seen }
+        ensures catches { Catches B.number_of (view_of pass) (held_view result).seen }
+        ensures whole { (view_of pass).first ≡ 0 → (view_of pass).past ≡ (view_of pass).count → (held_view result).seen ≡ (view_of pass).seen }
+    {
+        let Pass {
+            mut seat,
+            first,
+            past,
+        } = pass;
+        let book = self.take(rt, &mut seat);
+        let _ = self.look(&mut seat);
+        Held {
+            seat,
+            first,
+            past,
+            book,
+        }
+    }
+
+    /// Puts the book back, and ends the turn. Waits for nobody, and takes no memory.
+    pub fn give_back(&self, held: Held<B>) -> Pass<B>
+        requires of_this { IsHeldOf self.now held }
+        ensures of_this { IsPassOf self.now result }
+        ensures view { view_of result ≡ freed (held_view held) }
+    {
+        let Held {
+            mut seat,
+            first,
+            past,
+            book,
+        } = held;
+        self.put(&mut seat, book);
+        Pass { seat, first, past }
+    }
+
     /// Ends the sharing, with a pass that has all numbers, and gives the book.
     ///
     /// It may wait for the turn. The journal is just what the pass has seen, and goes on from each journal that was joined
@@ -112,5 +156,14 @@ impl<B: Booked> Shared<B> {
         let book = self.take(rt, &mut seat);
         let _ = self.look(&mut seat);
         book
+    }
+}
+
+impl<B: Booked> Held<B> {
+    /// The book, with the journal that was seen. Takes no memory.
+    pub fn book(&self) -> &B
+        ensures { result.now ≡ self.now.book }
+    {
+        &self.book
     }
 }
