@@ -1,8 +1,7 @@
-//! Worked examples of texts, each a test: values and lists, sources and sinks, lines, heads, readings, canonical texts, the words of
-//! the command line, made programs and passes.
+//! Worked examples of values and ports, each a test: lists and lines, and sources, sinks and gates in memory.
 //!
-//! Each test names public calls alone, so that the crates below are proved without tests. Below it stand std and the crates of
-//! values, ports and texts, and `pass_grouping`.
+//! Each test names public calls alone, so that the crates below are proved without tests. Below it stand std, `knit_base` and
+//! `knit_ports`. What a report of the program shows is tested on the program.
 #![tactic(auto)]
 
 #[cfg(test)]

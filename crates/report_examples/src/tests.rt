@@ -1,5 +1,0 @@
-//! The tests, by what is told.
-mod journal;
-mod pass;
-mod reply;
-mod verdict;
