@@ -1,8 +1,6 @@
 //! The one pass over the bytes and the general way, on files that are nearly usual. Both must say what is expected.
-use crate::tests::{is, said, texts};
-use input_answers::{
-    Ending, Status, Style, answer_by_lines, check_in_one_pass, plan_of, reads_file,
-};
+use crate::tests::texts;
+use input_answers::{Ending, Style, answer_by_lines, check_in_one_pass, plan_of, reads_file};
 use knit_ports::INPUT_LIMIT;
 use std::alloc::Global;
 use std::test::Fail;
@@ -251,30 +249,8 @@ fn nearly_usual_spellings(rt: HostRuntime) -> Result<(), Fail> {
     Ok(())
 }
 
-// A fault on the second line of the body, and behind it this byte so many times.
-fn behind_a_fault(alloc: Global, byte: u8, count: usize) -> Result<Vec<u8>, Fail> {
-    let mut file = Vec::from_slice(alloc, b";!knitout-2\n;;Carriers: 1\nin 1\nin 1\n")?;
-    file.extend_from_slice(&vec![in alloc; byte; count]?)?;
-    Ok(file)
-}
-
 #[test]
 fn lines_behind_a_fault(rt: HostRuntime) -> Result<(), Fail> {
-    let alloc = rt.alloc();
-    assert_eq!(rt; first_other(&rt, alloc, &FAULTS)?, None);
-    let said = said(&rt, alloc, &["check"], &behind_a_fault(alloc, b';', 4_097)?)?;
-    assert!(rt; is(&said, Status::BadInput, "bad input: line 5 LineLong\n"));
-    Ok(())
-}
-
-#[test]
-fn blocks_behind_a_fault(rt: HostRuntime) -> Result<(), Fail> {
-    let alloc = rt.alloc();
-    let words = ["check", "--block", "1"];
-    let most = said(&rt, alloc, &words, &behind_a_fault(alloc, b'\n', 65_534)?)?;
-    let broken = "broken line 4 rule CarrierIsIn at 1\n> in 1\n";
-    assert!(rt; is(&most, Status::Broken, broken));
-    let many = said(&rt, alloc, &words, &behind_a_fault(alloc, b'\n', 65_535)?)?;
-    assert!(rt; is(&many, Status::TooLarge, "too large: blocks\n"));
+    assert_eq!(rt; first_other(&rt, rt.alloc(), &FAULTS)?, None);
     Ok(())
 }
