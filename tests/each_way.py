@@ -13,7 +13,7 @@ LINE_LIMIT = 4_096
 def with_long_head(text: bytes) -> bytes:
     """The text whose first two lines are as long as they may be, by blanks behind them: its head isn't found in its front."""
     first, second, rest = text.split(b"\n", 2)
-    return b"\n".join([first.ljust(LINE_LIMIT), second.ljust(LINE_LIMIT), rest])
+    return b"\n".join([*(line.removesuffix(b"\r").ljust(LINE_LIMIT) for line in (first, second)), rest])
 
 
 class EachWay(unittest.TestCase):

@@ -5,12 +5,26 @@ from __future__ import annotations
 import os
 import shutil
 import subprocess
+from enum import IntEnum
 from pathlib import Path
 from typing import NamedTuple
 
 TOP = Path(__file__).resolve().parent.parent
 EXAMPLES = TOP / "examples"
 BUILT = TOP / "crates" / "check_main" / "out" / "check_main"
+
+
+class Status(IntEnum):
+    """How the program ends."""
+
+    DONE = 0
+    BROKEN = 1
+    USAGE = 2
+    BAD_INPUT = 3
+    READ_FAULT = 4
+    WRITE_FAULT = 5
+    NO_MEMORY = 6
+    TOO_LARGE = 7
 
 
 class Answer(NamedTuple):
@@ -28,7 +42,7 @@ def find_program() -> str:
     return found
 
 
-def answer_of(*words: str, given: bytes = b"") -> Answer:
-    """What the program answers to these words and this input."""
-    ran = subprocess.run([find_program(), *words], input=given, capture_output=True, check=False)
+def answer_of(*words: str, given: bytes = b"", within: float | None = None) -> Answer:
+    """What the program answers to these words and this input, within so many seconds where these are told."""
+    ran = subprocess.run([find_program(), *words], input=given, capture_output=True, check=False, timeout=within)
     return Answer(ran.returncode, ran.stdout)

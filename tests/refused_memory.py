@@ -20,11 +20,11 @@ import sys
 import tempfile
 from pathlib import Path
 
-from program import EXAMPLES, TOP, find_program
+from program import EXAMPLES, TOP, Status, find_program
+from samples import TWO_PUTS
 from saved_texts import SAVED, Bad, document_of
 
 BOOK_TESTS = TOP / "crates" / "document_examples" / "out" / "document_examples_tests"
-NO_MEMORY = 6
 
 # Stands before the system's malloc and realloc. The request with this number, from 1, is refused, and a byte on descriptor 9 says that there was one.
 REFUSER = r"""
@@ -59,23 +59,6 @@ void *realloc(void *block, size_t size) {
         given = dlsym(RTLD_NEXT, "realloc");
     return is_refused() ? NULL : given(block, size);
 }
-"""
-
-# Two puts of one block by one session, and the verdict.
-TWO_PUTS = b"""\
-live 1
-|;!knitout-2
-|;;Carriers: 1
-|in 1
-|knit + f1 1
-session
-put 0
-|in 1
-|knit + f1 1
-|knit + f2 1
-put 0
-|in 1
-verdict
 """
 
 
@@ -177,7 +160,7 @@ def has_fewer_entries(written: bytes, whole: bytes) -> bool:
 
 def fault_of(script: str | None, whole: bytes, status: int, written: bytes, again) -> str | None:
     """What is wrong with a run in which a request was refused, if anything is. `script` is that of `live` or `groups`, and `again` is what the program writes of one."""
-    if status == NO_MEMORY:
+    if status == Status.NO_MEMORY:
         return "it wrote something" if written else None
     if status != 0:
         return f"its status is {status}"
@@ -206,13 +189,13 @@ def try_run(name: str, program: str, library: str) -> bool:
         if not was_refused:
             break
         fault = fault_of(script, whole, status, written, again)
-        silent += status == NO_MEMORY
+        silent += status == Status.NO_MEMORY
         without += written == whole
         if fault:
             well = False
             print(f"{name}: request {request} refused: {fault}")
     told = request - 1 - silent - without
-    print(f"{name}: {request - 1} requests: {silent} end with the status {NO_MEMORY}, {without} as if nothing were refused, {told} with `nomemory` replies")
+    print(f"{name}: {request - 1} requests: {silent} end with the status {Status.NO_MEMORY}, {without} as if nothing were refused, {told} with `nomemory` replies")
     return well
 
 

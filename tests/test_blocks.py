@@ -9,7 +9,18 @@ import resource
 import subprocess
 import unittest
 
-from program import EXAMPLES, Answer, answer_of, find_program
+from program import EXAMPLES, Answer, Status, answer_of, find_program
+from samples import (
+    CAST_ON_VERDICT,
+    CAST_ON_WITH_RETURNS,
+    CROWDED_NEEDLE,
+    CROWDED_NEEDLE_FAULT,
+    CROWDED_NEEDLE_VERDICT,
+    SCARF,
+    SCARF_LOOPS,
+    SCARF_VERDICT,
+    file_of,
+)
 
 HEAD = b";!knitout-2\n;;Carriers: 1 2\nin 1\n"
 ROW = b"knit - f3 1\nknit - f2 1\nknit - f1 1\nknit + b1 1\nknit + b2 1\nknit + b3 1\nxfer f2 b2\n"
@@ -64,6 +75,47 @@ class Blocks(unittest.TestCase):
         given = moved_pile(60, 1_000)
         words = ["check", "--low=-1024", "--high=1023", "--hold=64"]
         self.assertEqual(answer_of(*words, "--block=4096", given=given), answer_of(*words, given=given))
+
+
+class Verdicts(unittest.TestCase):
+    def test_a_cast_on_line_by_line(self) -> None:
+        self.assertEqual(answer_of("check", "--block", "1", given=CAST_ON_WITH_RETURNS), (Status.DONE, CAST_ON_VERDICT))
+
+    def test_a_cast_on_in_one_block(self) -> None:
+        self.assertEqual(answer_of("check", "--block", "4096", given=CAST_ON_WITH_RETURNS), (Status.DONE, CAST_ON_VERDICT))
+
+    def test_loops_across_blocks(self) -> None:
+        for size in ("1", "4"):
+            with self.subTest(size=size):
+                self.assertEqual(answer_of("check", "--loops", "--block", size, given=SCARF), (Status.DONE, SCARF_VERDICT + SCARF_LOOPS))
+
+    def test_a_crowded_needle_line_by_line(self) -> None:
+        self.assertEqual(answer_of("check", "--hold", "2", "--block", "1", given=CROWDED_NEEDLE), (Status.BROKEN, CROWDED_NEEDLE_FAULT))
+        self.assertEqual(answer_of("check", "--hold", "3", "--block", "1", given=CROWDED_NEEDLE), (Status.DONE, CROWDED_NEEDLE_VERDICT))
+
+    def test_the_first_fault_of_two_blocks(self) -> None:
+        second = b"broken line 5 rule NotAligned at 2\n> xfer f2 b1\n"
+        self.assertEqual(answer_of("check", "--block", "1", given=file_of("rack 0\nxfer f1 b1\nxfer f2 b1\n")), (Status.BROKEN, second))
+        first = b"broken line 4 rule NotAligned at 2\n> xfer f1 b1\n"
+        self.assertEqual(answer_of("check", "--block", "1", given=file_of("rack 1\nxfer f1 b1\nxfer f2 b1\n")), (Status.BROKEN, first))
+
+
+class Examples(unittest.TestCase):
+    def as_without(self, *names: str) -> None:
+        """These examples are told by blocks as they are without."""
+        for name in names:
+            given = (EXAMPLES / name).read_bytes()
+            for flag in ("--loops", "--json"):
+                whole = answer_of("check", flag, given=given)
+                for size in ("1", "2", "7", "64"):
+                    with self.subTest(name, flag=flag, size=size):
+                        self.assertEqual(answer_of("check", flag, "--block", size, given=given), whole)
+
+    def test_sound_examples_by_blocks(self) -> None:
+        self.as_without("swatch.k", "rib.k", "tube.k")
+
+    def test_broken_examples_by_blocks(self) -> None:
+        self.as_without("forgotten-rack.k", "yarn-left-out.k", "parked-loop.k")
 
 
 if __name__ == "__main__":

@@ -6,7 +6,8 @@ from __future__ import annotations
 
 import unittest
 
-from program import EXAMPLES, answer_of
+from program import EXAMPLES, Status, answer_of
+from samples import file_of
 
 SIZES = ("1", "2", "3", "4")
 
@@ -41,7 +42,27 @@ class Floats(unittest.TestCase):
                 self.assertEqual(answer_of("check", *words, given=text_of(body, "1 2")).status, 0)
 
 
+FAR = file_of("in 1\ntuck + f1 1\ntuck + f5 1\n")
+FAR_VERDICT = b"broken line 5 rule FloatTooLong at 3\n> tuck + f5 1\n"
+NEAR = file_of("in 1\ntuck + f1 1\ntuck + f4 1\n")
+NEAR_VERDICT = b"sound lines 3 made 2 held 2 rack 0\nin: 1\nhook:\nf1: 4\nf4: 5\n"
+PAST_A_MISS = file_of("in 1\ntuck + f1 1\nmiss + f3 1\ntuck + f5 1\n")
+PAST_A_MISS_VERDICT = b"broken line 6 rule FloatTooLong at 3\n> tuck + f5 1\n"
+IN_ANEW = file_of("in 1\ntuck + f1 1\nout 1\nin 1\ntuck + f9 1\n")
+IN_ANEW_VERDICT = b"sound lines 5 made 2 held 2 rack 0\nin: 1\nhook:\nf1: 4\nf9: 7\n"
+
+
 class Verdicts(Floats):
+    def test_a_limit_on_floats(self) -> None:
+        for words in (["check", "--float", "3"], ["check", "--float=3", "--block=1"]):
+            with self.subTest(words=words):
+                self.assertEqual(answer_of(*words, given=FAR), (Status.BROKEN, FAR_VERDICT))
+                self.assertEqual(answer_of(*words, given=NEAR), (Status.DONE, NEAR_VERDICT))
+                self.assertEqual(answer_of(*words, given=PAST_A_MISS), (Status.BROKEN, PAST_A_MISS_VERDICT))
+                self.assertEqual(answer_of(*words, given=IN_ANEW), (Status.DONE, IN_ANEW_VERDICT))
+        self.assertEqual(answer_of("check", given=FAR).status, Status.DONE)
+        self.assertEqual(answer_of("check", "--float", "0", given=NEAR).status, Status.USAGE)
+
     def test_a_float_that_is_too_long(self) -> None:
         told = b"broken line 5 rule FloatTooLong at 3\n> tuck + f5 1\n"
         for words in ([], *(["--block", size] for size in SIZES)):

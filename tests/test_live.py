@@ -10,7 +10,7 @@ import re
 import subprocess
 import unittest
 
-from program import EXAMPLES, answer_of, find_program
+from program import EXAMPLES, Status, answer_of, find_program
 
 MENDED = """session 0
 1 accepted version 1 block 0 broken line 14 rule NotAligned at 2
@@ -205,6 +205,38 @@ class Limits(unittest.TestCase):
         report = live(front + "session\nverdict\n" * 64)
         self.assertEqual(len(re.findall(r"^session \d+\n1 verdict version 0\nsound lines 1 ", report, re.M)), 64)
         self.assertEqual(answered(front + "session\nverdict\n" * 65), (3, "bad input: script line 133 ManySessions\n"))
+
+
+def round_of(word: str, width: int) -> list[str]:
+    """Once round a tube that is so many hooks wide."""
+    return [f"{word} - f{at} 1" for at in range(width, 0, -1)] + [f"{word} + b{at} 1" for at in range(1, width + 1)]
+
+
+def made_program(rows: int, start: int) -> list[str]:
+    """The lines of the program that `make` makes."""
+    width, drawn = 4 + start % 13, start
+    lines = [";!knitout-2", ";;Carriers: 1 2 3", "in 1", *round_of("tuck", width)]
+    for _ in range(rows):
+        drawn = (drawn * 1103515245 + 12345) % 2147483648
+        at = 1 + drawn // 65536 % width
+        lines += [*round_of("knit", width), f"xfer f{at} b{at}"]
+    return [*lines, "out 1"]
+
+
+class Long(unittest.TestCase):
+    def test_ten_thousand_edits(self) -> None:
+        """A block of one line in front of a program of 180,012 lines is put again and again, within a minute."""
+        lines = made_program(20_000, 0)
+        behind_a_pause = [*lines[:2], "pause", *lines[2:]]
+        check = answer_of("check", given="".join(f"{line}\n" for line in behind_a_pause).encode())
+        edits = "session\nadd start\n|pause\n" + "put @1\n|pause\n" * 9_999
+        script = "live 1\n" + "".join(f"|{line}\n" for line in lines) + edits
+        replies = [f"{at} accepted version {at} block 2813 sound lines 180011 made 160008 held 8 rack 0\n" for at in range(1, 10_001)]
+        puts = [f"{at} session 0 put 2813 seen {at - 1} lines 1\n" for at in range(2, 10_001)]
+        journal = "journal 10000\n1 session 0 add start block 2813 lines 1\n" + "".join(puts)
+        report = "session 0\n" + "".join(replies) + journal + "final version 10000\n"
+        self.assertEqual(check.status, Status.DONE)
+        self.assertEqual(answer_of("live", given=script.encode(), within=60), (Status.DONE, report.encode() + check.report))
 
 
 CUT = "live 1\n|;!knitout-2\n|;;Carriers: 1\n|in 1\n|tuck - f1 1\nsession\nput 0\n|in 1\n"

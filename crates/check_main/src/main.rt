@@ -11,31 +11,11 @@ ghost use Rattle.std.specs.Prelude.{◌≡◌};
 ghost use Rattle.input_answers.specs.Codes.{code_of};
 
 #[cfg(test)]
-mod by_blocks_tests;
-#[cfg(test)]
 mod device_tests;
 #[cfg(test)]
-mod example_tests;
-#[cfg(test)]
-mod group_tests;
-#[cfg(test)]
-mod header_tests;
-#[cfg(test)]
-mod large_tests;
-#[cfg(test)]
-mod live_tests;
-#[cfg(test)]
-mod made_tests;
-#[cfg(test)]
-mod one_pass_tests;
-#[cfg(test)]
-mod passes_tests;
-#[cfg(test)]
-mod rule_tests;
+mod order_tests;
 #[cfg(test)]
 mod tests;
-#[cfg(test)]
-mod text_pass_tests;
 mod top;
 
 use input_answers::{Outcome, Status};
