@@ -1,16 +1,12 @@
-//! The tests, and the lines of scripts, which several of them spell.
+//! The tests, and the lines of scripts, which those of sessions spell.
 ghost use Rattle.std.specs.Prelude.{IsTrue};
 ghost use Rattle.knit_base.specs.Lines.{IsLine};
 
 mod book;
 mod copy;
-mod group_book;
-mod groups;
-mod journal;
 mod limit;
 mod listing;
 mod opening;
-mod script;
 mod session;
 mod turn;
 

@@ -1,2 +1,1 @@
 mod PlainLines
-pub mod Transfers

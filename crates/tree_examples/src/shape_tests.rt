@@ -75,21 +75,6 @@ fn a_freed_number_is_drawn_next(rt: HostRuntime) -> Result<(), Fail> {
     Ok(())
 }
 
-#[test]
-fn a_second_leaf_lists_one_row(rt: HostRuntime) -> Result<(), Fail> {
-    let mut dirty = Dirty::new();
-    let mut shape = Shape::new(rt.alloc());
-    assert_eq!(rt; add(&mut shape, 0, &mut dirty)?, Some(0));
-    assert_eq!(rt; dirty.len(), 0);
-    assert_eq!(rt; add(&mut shape, 0, &mut dirty)?, Some(1));
-    assert_eq!(rt; dirty.len(), 1);
-    if let Some(row) = dirty.get(0) {
-        assert_eq!(rt; row.node, 0);
-        assert!(rt; matches!((row.left, row.right), (Child::Leaf(1), Child::Leaf(0))));
-    }
-    Ok(())
-}
-
 /// Four leaves in a height-balanced tree all stand two below the root.
 #[test]
 fn a_built_shape_is_read_in_order(rt: HostRuntime) -> Result<(), Fail> {
@@ -154,67 +139,5 @@ fn a_removal_turns_what_leans(rt: HostRuntime) -> Result<(), Fail> {
         assert!(rt; is_inner(top.left, low.node));
         assert!(rt; is_inner(top_of(&shape), top.node));
     }
-    Ok(())
-}
-
-/// The children of the lowest inner node above a leaf.
-fn beside(shape: &Shape, at: u32, dirty: &mut Dirty) -> Option<(Child, Child)> {
-    if at >= shape.len() {
-        return None;
-    }
-    shape.touch(at, dirty);
-    match dirty.get(0) {
-        None => None,
-        Some(row) => Some(shape.children(row.node)),
-    }
-}
-
-#[test]
-fn room_is_made_for_one_leaf(rt: HostRuntime) -> Result<(), Fail> {
-    let mut dirty = Dirty::new();
-    let mut shape = Shape::new(rt.alloc());
-    assert!(rt; !shape.has_room());
-    four(&mut shape, &mut dirty)?;
-    shape.reserve_one()?;
-    assert!(rt; shape.has_room());
-    assert!(rt;
-        matches!(
-            beside(&shape, 3, &mut dirty),
-            Some((Child::Leaf(2), Child::Leaf(1)))
-        )
-    );
-    Ok(())
-}
-
-/// Where the leaf of a position is found by its number.
-fn found(shape: &Shape, at: u32) -> Option<u32> {
-    if at < shape.len() {
-        let number = shape.leaf(at);
-        Some(shape.position(number))
-    } else {
-        None
-    }
-}
-
-#[test]
-fn leaves_are_found_by_their_numbers(rt: HostRuntime) -> Result<(), Fail> {
-    let mut dirty = Dirty::new();
-    let mut shape = Shape::new(rt.alloc());
-    four(&mut shape, &mut dirty)?;
-    assert_eq!(rt; cut(&mut shape, 0, &mut dirty), Some(3));
-    assert_eq!(rt; found(&shape, 0), Some(0));
-    assert_eq!(rt; found(&shape, 1), Some(1));
-    assert_eq!(rt; found(&shape, 2), Some(2));
-    Ok(())
-}
-
-/// Of seven leaves three lie left of the root, so the inner nodes are numbered left, right and root within each half.
-#[test]
-fn a_built_shape_numbers_its_nodes_upward(rt: HostRuntime) -> Result<(), Fail> {
-    let shape = Shape::build(rt.alloc(), 7)?;
-    assert_eq!(rt; shape.height(), 3);
-    assert!(rt; is_inner(top_of(&shape), 5));
-    assert_eq!(rt; shape.inner_numbers(), 6);
-    assert_eq!(rt; found(&shape, 4), Some(4));
     Ok(())
 }

@@ -1,10 +1,10 @@
-//! Small faces that only set the rack: each call once, and a walk of changes against the leaves one after the other.
+//! Small faces that only set the rack: a walk of changes against the leaves one after the other.
 ghost use Rattle.std.specs.Prelude.{◌≡◌, ◌+◌, ◌<◌, ◌≤◌, OnOk, IfOk};
 ghost use Rattle.face_data.specs.View.{IsPacked, summary_of};
 ghost use Rattle.summary_tree.specs.Leaves.{lines_of};
 ghost use Rattle.tree_examples.specs.Plain.{plain};
 
-use face_data::{Effect, Ending, Face, FaceView};
+use face_data::{Effect, Ending, FaceView};
 use knit_base::{NoMemory, Quarter, Steps};
 use loop_history::LoopTable;
 use std::alloc::Global;
@@ -118,81 +118,6 @@ fn one_by_one(tree: &Tree) -> (u32, Option<Quarter>) {
 fn at_the_root(tree: &Tree) -> (u32, Option<Quarter>) {
     let root = tree.root();
     (root.lines, rack_of(&root))
-}
-
-// The leaves of 2, 3 and 0 lines, then 1 line in the place of the second, then without the first.
-fn changed<L: Ledger, R: Threads>(
-    rt: &R,
-    blank: Blank,
-    alloc: Global,
-) -> Result<[(u32, Option<Quarter>); 3], NoMemory>
-    requires name { (blank.name ≡ L.name) × (blank.parts ≡ L.parts) × (0 < L.parts) }
-{
-    let mut steps = Steps::<L>::start(rt, blank);
-    let mut tree = Tree::new(alloc);
-    add(alloc, &mut tree, 0, 0, 3, &mut steps)?;
-    add(alloc, &mut tree, 0, 2, 1, &mut steps)?;
-    add(alloc, &mut tree, 1, 3, 2, &mut steps)?;
-    let first = at_the_root(&tree);
-    put(alloc, &mut tree, 2, 1, 4, &mut steps)?;
-    let second = at_the_root(&tree);
-    cut(&mut tree, 0, &mut steps)?;
-    Ok([first, second, at_the_root(&tree)])
-}
-
-#[test]
-fn the_root_is_that_of_all_leaves(rt: HostRuntime) -> Result<(), Fail> {
-    let [first, second, third] = changed::<Brand, _>(&rt, Blank::new(1), rt.alloc())?;
-    assert_eq!(rt; first, (5, Some(Quarter(3))));
-    assert_eq!(rt; second, (6, Some(Quarter(4))));
-    assert_eq!(rt; third, (4, Some(Quarter(4))));
-    Ok(())
-}
-
-// The leaves of 2 and 3 lines at once.
-fn two_leaves<L: Ledger>(alloc: Global, steps: &mut Steps<L>) -> Result<Tree, NoMemory> {
-    let mut leaves = Vec::new(alloc);
-    leaves.push((Face::of(alloc, &plain(2, 1))?, LoopTable::new(alloc)))?;
-    leaves.push((Face::of(alloc, &plain(3, 2))?, LoopTable::new(alloc)))?;
-    Tree::start(alloc, leaves, steps)
-}
-
-// Where lines 0, 1, 2, 4 and 5 are, and the lines before each place.
-fn looked_up<L: Ledger, R: Threads>(
-    rt: &R,
-    blank: Blank,
-    alloc: Global,
-) -> Result<([Option<(u32, u32)>; 5], u32, (u32, Option<Quarter>)), NoMemory>
-    requires name { (blank.name ≡ L.name) × (blank.parts ≡ L.parts) × (0 < L.parts) }
-{
-    let mut steps = Steps::<L>::start(rt, blank);
-    let tree = two_leaves(alloc, &mut steps)?;
-    let found = [
-        tree.leaf_of_line(0),
-        tree.leaf_of_line(1),
-        tree.leaf_of_line(2),
-        tree.leaf_of_line(4),
-        tree.leaf_of_line(5),
-    ];
-    let before = if tree.len() < 2 {
-        0
-    } else {
-        tree.lines_before(1)
-    };
-    Ok((found, before, at_the_root(&tree)))
-}
-
-#[test]
-fn lines_are_found_in_their_leaves(rt: HostRuntime) -> Result<(), Fail> {
-    let (found, before, root) = looked_up::<Brand, _>(&rt, Blank::new(1), rt.alloc())?;
-    assert_eq!(rt; found[0], Some((0, 0)));
-    assert_eq!(rt; found[1], Some((0, 1)));
-    assert_eq!(rt; found[2], Some((1, 0)));
-    assert_eq!(rt; found[3], Some((1, 2)));
-    assert_eq!(rt; found[4], None);
-    assert_eq!(rt; before, 2);
-    assert_eq!(rt; root, (5, Some(Quarter(2))));
-    Ok(())
 }
 
 // One change, chosen by a number that was drawn.

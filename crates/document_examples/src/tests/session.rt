@@ -2,14 +2,12 @@
 ghost use Rattle.std.specs.Prelude.{◌≡◌, ◌<◌, [], IfOk, length};
 ghost use Rattle.knit_base.specs.Limits.{IsLawfulProfile};
 
-mod rows;
 mod threads;
 
 use super::script_lines;
 use block_summary::prepare;
-use carriage_model::{Brief, Verdict};
+use carriage_model::Brief;
 use edit_book::{Book, Replies, Reply};
-use edit_journal::BlockName;
 use edit_sessions::run_all;
 use knit_base::{BlockText, Declared, Lines, NoMemory, Profile, Quarter, Setting, Steps};
 use knit_ports::Gate;
@@ -144,40 +142,6 @@ fn is_stale(reply: Option<&Reply>, version: u32, now: u32) -> bool {
                 now: n,
             },
         ) => *v == version && *n == now,
-        _ => false,
-    }
-}
-
-fn is_sound_now(reply: Option<&Reply>, version: u32) -> bool {
-    match reply {
-        Some(
-            Reply::Now {
-                version: v,
-                verdict: Verdict::Sound(_),
-                ..
-            },
-        ) => *v == version,
-        _ => false,
-    }
-}
-
-// Only one id was drawn, and it isn't this one.
-fn is_no_block(reply: Option<&Reply>, version: u32, block: u32) -> bool {
-    match reply {
-        Some(
-            Reply::NoBlock {
-                version: v,
-                block: b,
-                ids: 1,
-            },
-        ) => *v == version && *b == block,
-        _ => false,
-    }
-}
-
-fn is_unseen(reply: Option<&Reply>, name: BlockName) -> bool {
-    match reply {
-        Some(Reply::Unseen { name: told }) => *told == name,
         _ => false,
     }
 }

@@ -1,4 +1,0 @@
-use Rattle.summary_examples.proofs.compose_tests.a_near_loop_asks_nothing.Given as goal
-
-abbrev pub ghosts-composes_to : goal.ghosts-composes_to
-ghosts-composes_to t a = record { name = a.blank.name; parts = a.blank.parts }
