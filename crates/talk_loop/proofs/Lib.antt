@@ -1,0 +1,3 @@
+mod Last
+mod Loop
+mod Steps

@@ -1,0 +1,3 @@
+pub mod Conversed
+pub mod Finished
+pub mod InStep
