@@ -23,7 +23,7 @@ goes-none : (a : Option (List Piece)) → GoesOn a a []
 goes-none None = tt
 goes-none (Some ps) = sym (append-nil ps)
 
-module _ {Order Answer State : Type 0} (asking : Asking Order Answer State) (behind : List (List ℕ) → List Answer → Type 0) (old : Option (List Piece)) (began : List ℕ) where
+module _ {Order Answer State : Type 0} (asking : Asking Order Answer State) (ends : List (List ℕ) → List Answer → List ℕ → Type 0) (behind : List (List ℕ) → List Answer → Type 0) (old : Option (List Piece)) (began : List ℕ) where
   -- So many lines were heard and answered, and it was said. What was pending at first is the first piece.
   pub record SoFar (now : Option (List Piece)) (pending : List ℕ) (number : ℕ) : Type 0 where
     pub pieces : List Piece
@@ -100,7 +100,7 @@ module _ {Order Answer State : Type 0} (asking : Asking Order Answer State) (beh
       ap (λ (l : List Order). text_of asking asking.start l (as_ ++ more)) a.orders ∙ text-more asking asking.start (asking.orders lines) as_ a.asked more h ∙ ap (λ (l : List ℕ). due asking lines as_ ++ l) (sym a.text)
 
   abbrev pub Ended : Option (List Piece) → Result (Unit {0}) TalkFault → Type 0
-  Ended new r = (pieces : List Piece) × GoesOn old new pieces × Conversed asking (Heard began ∷ pieces) r
+  Ended new r = (pieces : List Piece) × GoesOn old new pieces × Conversed asking ends (Heard began ∷ pieces) r
 
   -- hearing failed
   pub hearing-failed : (now new : Option (List Piece)) (before after : EarView) (number : ℕ) (s : SoFar now before.pending number) → IsFrontHeard now new before after → Ended new (Err fault.Hearing)
@@ -140,25 +140,25 @@ module _ {Order Answer State : Type 0} (asking : Asking Order Answer State) (beh
   -- the end, behind pieces that were waited for
   pub finished : (now heard new : Option (List Piece)) (pending : List ℕ) (number : ℕ) (s : SoFar now pending number) (ps : List Piece) (line unheard : List ℕ) (r : Result (Unit {0}) TalkFault) → GoesOn now heard ps → AreWaitedFor pending ps
       → pending ++ heard_in ps ≡ line ++ unheard → ((qs : List Piece) → IsOver asking s.lines line unheard (Heard began ∷ ((s.pieces ++ ps) ++ qs)))
-      → Finishes asking s.lines line s.answers heard new r → Ended new r
-  finished now heard new pending number s ps line unheard (Ok done) goes w ends overs f =
+      → Finishes asking ends s.lines line s.answers heard new r → Ended new r
+  finished now heard new pending number s ps line unheard (Ok done) goes w parted overs f =
       let says = f.said in
-      let known : IsHeardTo asking s.lines (line ++ unheard) s.answers (Heard began ∷ (s.pieces ++ ps)) = subst (λ (l : List ℕ). IsHeardTo asking s.lines l s.answers (Heard began ∷ (s.pieces ++ ps))) ends (hears now heard pending number s ps w) in (
+      let known : IsHeardTo asking s.lines (line ++ unheard) s.answers (Heard began ∷ (s.pieces ++ ps)) = subst (λ (l : List ℕ). IsHeardTo asking s.lines l s.answers (Heard began ∷ (s.pieces ++ ps))) parted (hears now heard pending number s ps w) in (
         (s.pieces ++ ps) ++ says.0,
         goes-trans old heard new (s.pieces ++ ps) says.0 (goes-trans old now heard s.pieces ps s.goes goes) says.1,
         ended s.lines line unheard s.answers f.more f.text (says-on s.answers s.lines (line ++ unheard) (Heard began ∷ (s.pieces ++ ps)) says.0 known says.2) (overs says.0) f.last
             (said_in-append (s.pieces ++ ps) says.0 ∙ ap (λ (l : List ℕ). l ++ said_in says.0) (still-said now pending number s ps w) ∙ ap (λ (l : List ℕ). due asking s.lines s.answers ++ l) says.3),
       )
-  finished now heard new pending number s ps line unheard (Err fault.Hearing) goes w ends overs f = absurd f
-  finished now heard new pending number s ps line unheard (Err fault.Saying) goes w ends overs f =
+  finished now heard new pending number s ps line unheard (Err fault.Hearing) goes w parted overs f = absurd f
+  finished now heard new pending number s ps line unheard (Err fault.Saying) goes w parted overs f =
       let says = f.said.2 in
-      let known : IsHeardTo asking s.lines (line ++ unheard) s.answers (Heard began ∷ (s.pieces ++ ps)) = subst (λ (l : List ℕ). IsHeardTo asking s.lines l s.answers (Heard began ∷ (s.pieces ++ ps))) ends (hears now heard pending number s ps w) in (
+      let known : IsHeardTo asking s.lines (line ++ unheard) s.answers (Heard began ∷ (s.pieces ++ ps)) = subst (λ (l : List ℕ). IsHeardTo asking s.lines l s.answers (Heard began ∷ (s.pieces ++ ps))) parted (hears now heard pending number s ps w) in (
         (s.pieces ++ ps) ++ says.0,
         goes-trans old heard new (s.pieces ++ ps) says.0 (goes-trans old now heard s.pieces ps s.goes goes) says.1,
         mute s.lines (line ++ unheard) s.answers f.text f.said.0 (says-on s.answers s.lines (line ++ unheard) (Heard began ∷ (s.pieces ++ ps)) says.0 known says.2) (at_end line unheard f.more refl f.last)
             (said_in-append (s.pieces ++ ps) says.0 ∙ ap (λ (l : List ℕ). l ++ said_in says.0) (still-said now pending number s ps w) ∙ ap (λ (l : List ℕ). due asking s.lines s.answers ++ l) says.3),
       )
-  finished now heard new pending number s ps line unheard (Err fault.NoMemory) goes w ends overs f = (
+  finished now heard new pending number s ps line unheard (Err fault.NoMemory) goes w parted overs f = (
     s.pieces ++ ps,
     subst (λ (t : Option (List Piece)). GoesOn old t (s.pieces ++ ps)) (sym f) (goes-trans old now heard s.pieces ps s.goes goes),
     short s.lines (pending ++ heard_in ps) s.answers (hears now heard pending number s ps w) (still-said now pending number s ps w),
@@ -166,7 +166,7 @@ module _ {Order Answer State : Type 0} (asking : Asking Order Answer State) (beh
 
   -- the input came to its end, or no feed to the line
   pub input-over : (now heard new : Option (List Piece)) (before after : EarView) (number : ℕ) (s : SoFar now before.pending number) (end : LineEnd) (h : IsHeard now heard before after end) (r : Result (Unit {0}) TalkFault) → (end ≡ LineFeed → ⊥)
-      → Finishes asking s.lines h.line s.answers heard new r → Ended new r
+      → Finishes asking ends s.lines h.line s.answers heard new r → Ended new r
   input-over now heard new before after number s LineFeed h r not f = absurd (not refl)
   input-over now heard new before after number s InputEnd h r not f =
       finished now heard new before.pending number s (h.pieces ++ Heard [] ∷ []) h.line [] r h.goes h.waited
@@ -181,17 +181,17 @@ module _ {Order Answer State : Type 0} (asking : Asking Order Answer State) (beh
       }) f
 
   -- so many lines were heard that no more are
-  pub count-over : (now new : Option (List Piece)) (pending : List ℕ) (number : ℕ) (s : SoFar now pending number) (r : Result (Unit {0}) TalkFault) → 2 ^ 64 - 1 ≤ number → Finishes asking s.lines [] s.answers now new r → Ended new r
+  pub count-over : (now new : Option (List Piece)) (pending : List ℕ) (number : ℕ) (s : SoFar now pending number) (r : Result (Unit {0}) TalkFault) → 2 ^ 64 - 1 ≤ number → Finishes asking ends s.lines [] s.answers now new r → Ended new r
   count-over now new pending number s r many f =
       finished now now new pending number s [] [] pending r (goes-none now) tt (append-nil pending) (λ qs. record { one = λ k d lt e. omega (arith, lt); over = inr (inl (let counted : number ≡ asking.first + length s.lines = s.counted in omega (arith, many, counted))) }) f
 
 -- one more line is answered, by whom the next line will be, and its text is said
-module _ {Order Answer State : Type 0} (asking : Asking Order Answer State) (behind next : List (List ℕ) → List Answer → Type 0) (old : Option (List Piece)) (began : List ℕ) where
-  pub goes-on : (now heard new : Option (List Piece)) (before after : EarView) (number : ℕ) (s : SoFar asking behind old began now before.pending number) (h : IsHeard now heard before after LineFeed) (more : List Answer) (text : List ℕ)
-      → next (s.lines ++ h.line ∷ []) (s.answers ++ more) → IsAnswered asking s.lines s.answers h.line [] text more → Says heard new text → SoFar asking next old began new after.pending (number + 1)
+module _ {Order Answer State : Type 0} (asking : Asking Order Answer State) (ends : List (List ℕ) → List Answer → List ℕ → Type 0) (behind next : List (List ℕ) → List Answer → Type 0) (old : Option (List Piece)) (began : List ℕ) where
+  pub goes-on : (now heard new : Option (List Piece)) (before after : EarView) (number : ℕ) (s : SoFar asking ends behind old began now before.pending number) (h : IsHeard now heard before after LineFeed) (more : List Answer) (text : List ℕ)
+      → next (s.lines ++ h.line ∷ []) (s.answers ++ more) → IsAnswered asking s.lines s.answers h.line [] text more → Says heard new text → SoFar asking ends next old began new after.pending (number + 1)
   goes-on now heard new before after number s h more text stands a says =
       let ps : List Piece = h.pieces ++ [] in
-      let heard_to = hears asking behind old began now heard before.pending number s ps h.waited in
+      let heard_to = hears asking ends behind old began now heard before.pending number s ps h.waited in
       let known : IsHeardTo asking s.lines (h.line ++ 10 ∷ after.pending) s.answers (Heard began ∷ (s.pieces ++ ps)) =
       subst (λ (l : List ℕ). IsHeardTo asking s.lines l s.answers (Heard began ∷ (s.pieces ++ ps))) (ap (λ (l : List Piece). before.pending ++ heard_in l) (append-nil h.pieces) ∙ h.ends) heard_to in
       record {
@@ -200,9 +200,9 @@ module _ {Order Answer State : Type 0} (asking : Asking Order Answer State) (beh
         answers = s.answers ++ more;
         goes = goes-trans old heard new (s.pieces ++ ps) says.0 (goes-trans old now heard s.pieces ps s.goes h.goes) says.1;
         stands = stands;
-        lines_heard = says-on asking behind old began (s.answers ++ more) (s.lines ++ h.line ∷ []) after.pending (Heard began ∷ (s.pieces ++ ps)) says.0
-            (line-more asking behind old began s.lines h.line after.pending s.answers more text (Heard began ∷ (s.pieces ++ ps)) known h.one a) says.2;
-        said = said_in-append (s.pieces ++ ps) says.0 ∙ ap (λ (l : List ℕ). l ++ said_in says.0) (still-said asking behind old began now before.pending number s ps h.waited) ∙ ap (λ (l : List ℕ). due asking s.lines s.answers ++ l) says.3
-            ∙ sym (due-more asking behind old began s.lines h.line s.answers more text s.lines_heard.answers a);
+        lines_heard = says-on asking ends behind old began (s.answers ++ more) (s.lines ++ h.line ∷ []) after.pending (Heard began ∷ (s.pieces ++ ps)) says.0
+            (line-more asking ends behind old began s.lines h.line after.pending s.answers more text (Heard began ∷ (s.pieces ++ ps)) known h.one a) says.2;
+        said = said_in-append (s.pieces ++ ps) says.0 ∙ ap (λ (l : List ℕ). l ++ said_in says.0) (still-said asking ends behind old began now before.pending number s ps h.waited) ∙ ap (λ (l : List ℕ). due asking s.lines s.answers ++ l) says.3
+            ∙ sym (due-more asking ends behind old began s.lines h.line s.answers more text s.lines_heard.answers a);
         counted = ap (λ (n : ℕ). n + 1) s.counted ∙ omega (arith, length-append s.lines (h.line ∷ []));
       }

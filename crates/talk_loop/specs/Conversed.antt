@@ -20,13 +20,6 @@ module _ {Order Answer State : Type 0} (asking : Asking Order Answer State) wher
     pub given : AreAnswers asking (state_of asking asking.start (asking.orders lines) as_) asked more
     pub text : after ≡ before ++ text_of asking (state_of asking asking.start (asking.orders lines) as_) asked more
 
-  -- What is said behind these lines: the answers to a last line that has no line feed, if there is one, and what ends the conversation.
-  pub record IsLast (lines : List (List ℕ)) (as_ : List Answer) (line text : List ℕ) (more : List Answer) : Type 0 where
-    pub final : List ℕ
-    pub answers : AreAnswers asking asking.start (asking.orders (lines ++ last_line line)) (as_ ++ more)
-    pub all : due asking lines as_ ++ text ≡ due asking (lines ++ last_line line) (as_ ++ more) ++ final
-    pub ends : asking.ends (lines ++ last_line line) (as_ ++ more) final
-
   -- These whole lines were heard, and bytes behind them; the lines were answered, and each before more was heard.
   pub record IsHeardTo (lines : List (List ℕ)) (rest : List ℕ) (as_ : List Answer) (pieces : List Piece) : Type 0 where
     pub heard : heard_in pieces ≡ flat_map with_feed lines ++ rest
@@ -45,19 +38,28 @@ module _ {Order Answer State : Type 0} (asking : Asking Order Answer State) wher
     pub one : HasNoLineEnd rest
     pub over : (unheard ≡ []) ⊎ ((2 ^ 64 - 1 ≤ asking.first + length lines) ⊎ (2 ^ 64 - 1 ≤ length pieces))
 
+-- What may be said at the end, behind these lines and the answers to them, is told by `ends`.
+module _ {Order Answer State : Type 0} (asking : Asking Order Answer State) (ends : List (List ℕ) → List Answer → List ℕ → Type 0) where
+  -- What is said behind these lines: the answers to a last line that has no line feed, if there is one, and what ends the conversation.
+  pub record IsLast (lines : List (List ℕ)) (as_ : List Answer) (line text : List ℕ) (more : List Answer) : Type 0 where
+    pub final : List ℕ
+    pub answers : AreAnswers asking asking.start (asking.orders (lines ++ last_line line)) (as_ ++ more)
+    pub all : due asking lines as_ ++ text ≡ due asking (lines ++ last_line line) (as_ ++ more) ++ final
+    pub ends_so : ends (lines ++ last_line line) (as_ ++ more) final
+
   -- The text that is due next, behind these lines and their answers, where these bytes were heard behind the lines: that of one more line, or what ends the conversation.
   pub data IsNext (lines : List (List ℕ)) (as_ : List Answer) (rest text : List ℕ) : Type 0 where
-    for_line : (line pending : List ℕ) (more : List Answer) → rest ≡ line ++ 10 ∷ pending → IsAnswered lines as_ line [] text more → IsNext lines as_ rest text
+    for_line : (line pending : List ℕ) (more : List Answer) → rest ≡ line ++ 10 ∷ pending → IsAnswered asking lines as_ line [] text more → IsNext lines as_ rest text
     at_end : (line unheard : List ℕ) (more : List Answer) → rest ≡ line ++ unheard → IsLast lines as_ line text more → IsNext lines as_ rest text
 
   pub data Conversed (pieces : List Piece) : Result (Unit {0}) TalkFault → Type 0 where
     -- it is over: all lines are answered, and what ends the conversation was said behind that
-    ended : (lines : List (List ℕ)) (rest unheard : List ℕ) (as_ more : List Answer) (text : List ℕ) → IsHeardTo lines (rest ++ unheard) as_ pieces → IsOver lines rest unheard pieces
+    ended : (lines : List (List ℕ)) (rest unheard : List ℕ) (as_ more : List Answer) (text : List ℕ) → IsHeardTo asking lines (rest ++ unheard) as_ pieces → IsOver asking lines rest unheard pieces
         → IsLast lines as_ rest text more → said_in pieces ≡ due asking lines as_ ++ text → Conversed pieces (Ok tt)
     -- hearing failed: all that was heard is answered, and it was said
-    deaf : (lines : List (List ℕ)) (rest : List ℕ) (as_ : List Answer) → Stands lines rest as_ pieces → Conversed pieces (Err fault.Hearing)
+    deaf : (lines : List (List ℕ)) (rest : List ℕ) (as_ : List Answer) → Stands asking lines rest as_ pieces → Conversed pieces (Err fault.Hearing)
     -- saying failed: a front of what was due was said, and nothing was heard after it
-    mute : (lines : List (List ℕ)) (rest : List ℕ) (as_ : List Answer) (text : List ℕ) (n : ℕ) → IsHeardTo lines rest as_ pieces → IsNext lines as_ rest text
+    mute : (lines : List (List ℕ)) (rest : List ℕ) (as_ : List Answer) (text : List ℕ) (n : ℕ) → IsHeardTo asking lines rest as_ pieces → IsNext lines as_ rest text
         → said_in pieces ≡ due asking lines as_ ++ take n text → Conversed pieces (Err fault.Saying)
     -- memory ran out for what was to be said next: all before it was said
-    short : (lines : List (List ℕ)) (rest : List ℕ) (as_ : List Answer) → IsHeardTo lines rest as_ pieces → said_in pieces ≡ due asking lines as_ → Conversed pieces (Err fault.NoMemory)
+    short : (lines : List (List ℕ)) (rest : List ℕ) (as_ : List Answer) → IsHeardTo asking lines rest as_ pieces → said_in pieces ≡ due asking lines as_ → Conversed pieces (Err fault.NoMemory)

@@ -7,12 +7,12 @@ use Rattle.talk_loop.specs.InStep.{Asking}
 use Rattle.talk_loop.specs.declared.conversation.TalkFault.{TalkFault}
 use Rattle.talk_loop.specs.declared.conversation.TalkFault.TheVariants as fault
 
-module _ {Order Answer State : Type 0} (asking : Asking Order Answer State) (lines : List (List ℕ)) (line : List ℕ) (as_ : List Answer) (old new : Option (List Piece)) where
+module _ {Order Answer State : Type 0} (asking : Asking Order Answer State) (ends : List (List ℕ) → List Answer → List ℕ → Type 0) (lines : List (List ℕ)) (line : List ℕ) (as_ : List Answer) (old new : Option (List Piece)) where
   -- the last text, and that so much of it was said
   pub record IsLastSaid (IsSaid : List ℕ → Type 0) : Type 0 where
     pub text : List ℕ
     pub more : List Answer
-    pub last : IsLast asking lines as_ line text more
+    pub last : IsLast asking ends lines as_ line text more
     pub said : IsSaid text
 
   abbrev pub Finishes : Result (Unit {0}) TalkFault → Type 0

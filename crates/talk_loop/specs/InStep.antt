@@ -15,8 +15,6 @@ pub record Asking (Order Answer State : Type 0) : Type 1 where
   -- and it then stands so
   pub behind : State → Order → Answer → State
   pub text : State → Order → Answer → List ℕ
-  -- what may be said at the end, behind these lines and the answers to them
-  pub ends : List (List ℕ) → List Answer → List ℕ → Type 0
 
 module _ {Order Answer State : Type 0} (asking : Asking Order Answer State) where
   -- these are answers to these orders, one each, from here on

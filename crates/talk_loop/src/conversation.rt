@@ -35,7 +35,7 @@ pub fn converse<T: Talk, D: Desk>(
     requires first { first ≡ (D.asking (D.opening desk.old)).first }
     requires nothing { (D.asking (D.opening desk.old)).orders [] ≡ [] }
     requires begun { D.behind desk.old [] [] }
-    ensures conversed { (pieces : List Piece) × GoesOn (T.told talk.old) (T.told talk.new) pieces × Conversed (D.asking (D.opening desk.old)) (Heard ear.old.pending ∷ pieces) result }
+    ensures conversed { (pieces : List Piece) × GoesOn (T.told talk.old) (T.told talk.new) pieces × Conversed (D.asking (D.opening desk.old)) (D.ends (D.opening desk.old)) (Heard ear.old.pending ∷ pieces) result }
 {
     'lines: for number in first..u64::MAX {
         out.clear();
@@ -71,7 +71,7 @@ fn finish<T: Talk, D: Desk>(
     requires room { 0 < length line.now → number < 2 ^ 64 - 1 }
     requires empty { out.old.items ≡ [] }
     ensures finished { (lines : List (List ℕ)) (as_ : List D.Answer) (rest : List ℕ) → D.behind desk.old lines as_ → number ≡ (D.asking (D.opening desk.old)).first + length lines
-        → AreAnswers (D.asking (D.opening desk.old)) (D.asking (D.opening desk.old)).start ((D.asking (D.opening desk.old)).orders lines) as_ → line.now ≡ kept_front rest → Finishes (D.asking (D.opening desk.old)) lines rest as_ (T.told talk.old) (T.told talk.new) result }
+        → AreAnswers (D.asking (D.opening desk.old)) (D.asking (D.opening desk.old)).start ((D.asking (D.opening desk.old)).orders lines) as_ → line.now ≡ kept_front rest → Finishes (D.asking (D.opening desk.old)) (D.ends (D.opening desk.old)) lines rest as_ (T.told talk.old) (T.told talk.new) result }
 {
     let Ok(()) = append_last(line, desk, number, out) else {
         return Err(TalkFault::NoMemory);
@@ -94,7 +94,7 @@ fn append_last<D: Desk>(
     requires empty { out.old.items ≡ [] }
     ensures last { OnOk result ((lines : List (List ℕ)) (as_ : List D.Answer) (rest : List ℕ) → D.behind desk.old lines as_ → number ≡ (D.asking (D.opening desk.old)).first + length lines
         → AreAnswers (D.asking (D.opening desk.old)) (D.asking (D.opening desk.old)).start ((D.asking (D.opening desk.old)).orders lines) as_ → line.now ≡ kept_front rest
-        → (more : List D.Answer) × IsLast (D.asking (D.opening desk.old)) lines as_ rest out.new.items more) }
+        → (more : List D.Answer) × IsLast (D.asking (D.opening desk.old)) (D.ends (D.opening desk.old)) lines as_ rest out.new.items more) }
 {
     if line.is_empty() {
         return desk.end(number, out);

@@ -27,6 +27,9 @@ pub trait Desk {
     /// What lines ask for behind an opening, and what may be answered.
     ghost asking: { Self.Opening → Asking Self.Order Self.Answer Self.State };
 
+    /// What may be said at the end, behind these lines and the answers to what they ask for.
+    ghost ends: { Self.Opening → List (List ℕ) → List Self.Answer → List ℕ → Type 0 };
+
     /// These lines were heard, and these answers given to what they ask for.
     ghost behind: { Self → List (List ℕ) → List Self.Answer → Type 0 };
 
@@ -42,6 +45,6 @@ pub trait Desk {
 
     /// Appends what is to be said at the end, where the line behind the last one would have this number.
     fn end(&mut self, number: u64, out: &mut Vec<u8>) -> Result<(), NoMemory>
-        ensures ends { OnOk result ((lines : List (List ℕ)) (as_ : List Self.Answer) → behind self.old lines as_ → number ≡ (asking (opening self.old)).first + length lines
-            → (final : List ℕ) × (out.new.items ≡ out.old.items ++ final) × (asking (opening self.old)).ends lines as_ final) };
+        ensures last { OnOk result ((lines : List (List ℕ)) (as_ : List Self.Answer) → behind self.old lines as_ → number ≡ (asking (opening self.old)).first + length lines
+            → (final : List ℕ) × (out.new.items ≡ out.old.items ++ final) × ends (opening self.old) lines as_ final) };
 }

@@ -4,23 +4,23 @@ use Rattle.talk_loop.proofs.Last.{last-by, no-last, none-kept, on-ok}
 use Rattle.talk_loop.proofs.conversation.append_last.Goals as goal
 
 pub returns-then-is_empty : goal.returns-then-is_empty
-returns-then-is_empty g c = let asking = g.D.Desk.asking (g.D.Desk.opening c.args.desk.now) in record {
+returns-then-is_empty g c = let asking = g.D.Desk.asking (g.D.Desk.opening c.args.desk.now) in let ends = g.D.Desk.ends (g.D.Desk.opening c.args.desk.now) in record {
   last = on-ok c.end.result (λ f lines as_ rest stands counted given kept.
       let e = f lines as_ stands counted in
       let none = none-kept rest c.args.line.now kept (search rules) in
-      ([], subst (λ l. IsLast asking lines as_ l c.end.new.out.items []) (sym none) (no-last asking lines as_ c.end.new.out.items e.0 given e.2 (e.1 ∙ ap (λ l. l ++ e.0) c.requires.empty)))) c.end.ensures.ends;
+      ([], subst (λ l. IsLast asking ends lines as_ l c.end.new.out.items []) (sym none) (no-last asking ends lines as_ c.end.new.out.items e.0 given e.2 (e.1 ∙ ap (λ l. l ++ e.0) c.requires.empty)))) c.end.ensures.last;
 }
 
 pub returns : goal.returns
-returns g c = let asking = g.D.Desk.asking (g.D.Desk.opening c.args.desk.now) in record {
+returns g c = let asking = g.D.Desk.asking (g.D.Desk.opening c.args.desk.now) in let ends = g.D.Desk.ends (g.D.Desk.opening c.args.desk.now) in record {
   last = on-ok c.end-2.result (λ f lines as_ rest stands counted given kept.
       let a = c.in_ok-hear.ensures.answered lines as_ rest stands counted kept in
       let same = c.hear.ensures.same in
       let first = ap (λ o. (g.D.Desk.asking o).first) same in
       let e = f (lines ++ rest ∷ []) (as_ ++ a.0) a.1 (omega (arith, counted, first, length-append lines (rest ∷ []))) in (
         a.0,
-        last-by asking lines as_ a.0 rest c.args.line.now c.hear.new.out.items c.end-2.new.out.items e.0 (search rules) kept given
+        last-by asking ends lines as_ a.0 rest c.args.line.now c.hear.new.out.items c.end-2.new.out.items e.0 (search rules) kept given
             (subst (λ l. IsAnswered asking lines as_ rest l c.hear.new.out.items a.0) c.requires.empty a.2)
-            (subst (λ o. (g.D.Desk.asking o).ends (lines ++ rest ∷ []) (as_ ++ a.0) e.0) same e.2) e.1,
-      )) c.end-2.ensures.ends;
+            (subst (λ o. g.D.Desk.ends o (lines ++ rest ∷ []) (as_ ++ a.0) e.0) same e.2) e.1,
+      )) c.end-2.ensures.last;
 }

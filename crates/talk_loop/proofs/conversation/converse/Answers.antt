@@ -11,12 +11,12 @@ use Rattle.talk_loop.proofs.conversation.converse.Goals as goal
 pub lines-init : goal.lines-init
 lines-init g c = record {
   same = refl;
-  so_far = starts (g.D.Desk.asking (g.D.Desk.opening c.args.desk.now)) (g.D.Desk.behind c.args.desk.now) _ _ c.args.first _ refl c.requires.first c.requires.nothing c.requires.begun;
+  so_far = starts (g.D.Desk.asking (g.D.Desk.opening c.args.desk.now)) (g.D.Desk.ends (g.D.Desk.opening c.args.desk.now)) (g.D.Desk.behind c.args.desk.now) _ _ c.args.first _ refl c.requires.first c.requires.nothing c.requires.begun;
 }
 
 pub returns-in-Err : goal.returns-in-Err
 returns-in-Err g c = record {
-  conversed = hearing-failed (g.D.Desk.asking (g.D.Desk.opening c.args.desk.now)) (g.D.Desk.behind c.lines.desk) (g.T.Talk.told c.args.talk.now) c.args.ear.now.pending _ _ c.lines.ear c.hear.new.self c.lines.number c.lines.invariant.so_far c.in-Err.ensures.front;
+  conversed = hearing-failed (g.D.Desk.asking (g.D.Desk.opening c.args.desk.now)) (g.D.Desk.ends (g.D.Desk.opening c.args.desk.now)) (g.D.Desk.behind c.lines.desk) (g.T.Talk.told c.args.talk.now) c.args.ear.now.pending _ _ c.lines.ear c.hear.new.self c.lines.number c.lines.invariant.so_far c.in-Err.ensures.front;
 }
 
 pub finish-requires : goal.finish-requires
@@ -32,11 +32,11 @@ pub returns-in_default : goal.returns-in_default
 returns-in_default g c =
     let h = c.in-Ok.ensures.heard in
     let same = c.lines.invariant.same in
-    let s = subst (λ o. SoFar (g.D.Desk.asking o) (g.D.Desk.behind c.lines.desk) (g.T.Talk.told c.args.talk.now) c.args.ear.now.pending (g.T.Talk.told c.lines.talk) c.lines.ear.pending c.lines.number) (sym same) c.lines.invariant.so_far in
+    let s = subst (λ o. SoFar (g.D.Desk.asking o) (g.D.Desk.ends o) (g.D.Desk.behind c.lines.desk) (g.T.Talk.told c.args.talk.now) c.args.ear.now.pending (g.T.Talk.told c.lines.talk) c.lines.ear.pending c.lines.number) (sym same) c.lines.invariant.so_far in
     let f = c.finish.ensures.finished s.lines s.answers h.line s.stands s.counted s.lines_heard.answers (c.line.ensures ∙ h.kept) in
     record {
-      conversed = subst (λ o. Ended (g.D.Desk.asking o) (g.D.Desk.behind c.lines.desk) (g.T.Talk.told c.args.talk.now) c.args.ear.now.pending (g.T.Talk.told c.finish.new.talk) c.finish.result) same
-          (input-over (g.D.Desk.asking (g.D.Desk.opening c.lines.desk)) (g.D.Desk.behind c.lines.desk) (g.T.Talk.told c.args.talk.now) c.args.ear.now.pending _ _ _ c.lines.ear c.hear.new.self c.lines.number s c.in-Ok.end h c.finish.result c.in_default.not-LineFeed f);
+      conversed = subst (λ o. Ended (g.D.Desk.asking o) (g.D.Desk.ends o) (g.D.Desk.behind c.lines.desk) (g.T.Talk.told c.args.talk.now) c.args.ear.now.pending (g.T.Talk.told c.finish.new.talk) c.finish.result) same
+          (input-over (g.D.Desk.asking (g.D.Desk.opening c.lines.desk)) (g.D.Desk.ends (g.D.Desk.opening c.lines.desk)) (g.D.Desk.behind c.lines.desk) (g.T.Talk.told c.args.talk.now) c.args.ear.now.pending _ _ _ c.lines.ear c.hear.new.self c.lines.number s c.in-Ok.end h c.finish.result c.in_default.not-LineFeed f);
     }
 
 pub hear-requires-in-lines : goal.hear-requires-in-lines
@@ -44,7 +44,7 @@ hear-requires-in-lines g c = let h = c.in-Ok.ensures.heard in record { one = kep
 
 pub returns-in_default-hear : goal.returns-in_default-hear
 returns-in_default-hear g c = record {
-  conversed = memory-failed (g.D.Desk.asking (g.D.Desk.opening c.args.desk.now)) (g.D.Desk.behind c.lines.desk) (g.T.Talk.told c.args.talk.now) c.args.ear.now.pending _ _ c.lines.ear c.hear.new.self c.lines.number c.lines.invariant.so_far
+  conversed = memory-failed (g.D.Desk.asking (g.D.Desk.opening c.args.desk.now)) (g.D.Desk.ends (g.D.Desk.opening c.args.desk.now)) (g.D.Desk.behind c.lines.desk) (g.T.Talk.told c.args.talk.now) c.args.ear.now.pending _ _ c.lines.ear c.hear.new.self c.lines.number c.lines.invariant.so_far
       (subst (IsHeard (g.T.Talk.told c.lines.talk) (g.T.Talk.told c.hear.new.talk) c.lines.ear c.hear.new.self) c.in-LineFeed.is c.in-Ok.ensures.heard);
 }
 
@@ -52,11 +52,11 @@ pub returns-in-Err-say_whole : goal.returns-in-Err-say_whole
 returns-in-Err-say_whole g c =
     let h = subst (IsHeard (g.T.Talk.told c.lines.talk) (g.T.Talk.told c.hear.new.talk) c.lines.ear c.hear.new.self) c.in-LineFeed.is c.in-Ok.ensures.heard in
     let same = c.lines.invariant.same in
-    let s = subst (λ o. SoFar (g.D.Desk.asking o) (g.D.Desk.behind c.lines.desk) (g.T.Talk.told c.args.talk.now) c.args.ear.now.pending (g.T.Talk.told c.lines.talk) c.lines.ear.pending c.lines.number) (sym same) c.lines.invariant.so_far in
+    let s = subst (λ o. SoFar (g.D.Desk.asking o) (g.D.Desk.ends o) (g.D.Desk.behind c.lines.desk) (g.T.Talk.told c.args.talk.now) c.args.ear.now.pending (g.T.Talk.told c.lines.talk) c.lines.ear.pending c.lines.number) (sym same) c.lines.invariant.so_far in
     let a = c.in-Ok-hear.ensures.answered s.lines s.answers h.line s.stands s.counted (c.line-in-lines.ensures ∙ h.kept) in
     record {
-      conversed = subst (λ o. Ended (g.D.Desk.asking o) (g.D.Desk.behind c.lines.desk) (g.T.Talk.told c.args.talk.now) c.args.ear.now.pending (g.T.Talk.told c.say_whole.new.talk) (Err fault.Saying)) same
-          (saying-failed (g.D.Desk.asking (g.D.Desk.opening c.lines.desk)) (g.D.Desk.behind c.lines.desk) (g.T.Talk.told c.args.talk.now) c.args.ear.now.pending _ _ _ c.lines.ear c.hear.new.self c.lines.number s h a.0 c.hear-in-lines.new.out.items
+      conversed = subst (λ o. Ended (g.D.Desk.asking o) (g.D.Desk.ends o) (g.D.Desk.behind c.lines.desk) (g.T.Talk.told c.args.talk.now) c.args.ear.now.pending (g.T.Talk.told c.say_whole.new.talk) (Err fault.Saying)) same
+          (saying-failed (g.D.Desk.asking (g.D.Desk.opening c.lines.desk)) (g.D.Desk.ends (g.D.Desk.opening c.lines.desk)) (g.D.Desk.behind c.lines.desk) (g.T.Talk.told c.args.talk.now) c.args.ear.now.pending _ _ _ c.lines.ear c.hear.new.self c.lines.number s h a.0 c.hear-in-lines.new.out.items
           (subst (λ l. IsAnswered (g.D.Desk.asking (g.D.Desk.opening c.lines.desk)) s.lines s.answers h.line l c.hear-in-lines.new.out.items a.0) c.clear.ensures.items a.2)
           (subst (SaysFront (g.T.Talk.told c.hear.new.talk) (g.T.Talk.told c.say_whole.new.talk)) c.deref.ensures.value c.in-Err-say_whole.ensures.err));
     }
@@ -65,12 +65,12 @@ pub lines-preserved : goal.lines-preserved
 lines-preserved g c =
     let h = subst (IsHeard (g.T.Talk.told c.lines.talk) (g.T.Talk.told c.hear.new.talk) c.lines.ear c.hear.new.self) c.in-LineFeed.is c.in-Ok.ensures.heard in
     let same = c.lines.invariant.same in
-    let s = subst (λ o. SoFar (g.D.Desk.asking o) (g.D.Desk.behind c.lines.desk) (g.T.Talk.told c.args.talk.now) c.args.ear.now.pending (g.T.Talk.told c.lines.talk) c.lines.ear.pending c.lines.number) (sym same) c.lines.invariant.so_far in
+    let s = subst (λ o. SoFar (g.D.Desk.asking o) (g.D.Desk.ends o) (g.D.Desk.behind c.lines.desk) (g.T.Talk.told c.args.talk.now) c.args.ear.now.pending (g.T.Talk.told c.lines.talk) c.lines.ear.pending c.lines.number) (sym same) c.lines.invariant.so_far in
     let a = c.in-Ok-hear.ensures.answered s.lines s.answers h.line s.stands s.counted (c.line-in-lines.ensures ∙ h.kept) in
     record {
       same = c.hear-in-lines.ensures.same ∙ same;
-      so_far = subst (λ o. SoFar (g.D.Desk.asking o) (g.D.Desk.behind c.hear-in-lines.new.self) (g.T.Talk.told c.args.talk.now) c.args.ear.now.pending (g.T.Talk.told c.say_whole.new.talk) c.hear.new.self.pending (c.lines.number + 1)) same
-          (goes-on (g.D.Desk.asking (g.D.Desk.opening c.lines.desk)) (g.D.Desk.behind c.lines.desk) (g.D.Desk.behind c.hear-in-lines.new.self) (g.T.Talk.told c.args.talk.now) c.args.ear.now.pending _ _ _ c.lines.ear c.hear.new.self c.lines.number s h a.0 c.hear-in-lines.new.out.items a.1
+      so_far = subst (λ o. SoFar (g.D.Desk.asking o) (g.D.Desk.ends o) (g.D.Desk.behind c.hear-in-lines.new.self) (g.T.Talk.told c.args.talk.now) c.args.ear.now.pending (g.T.Talk.told c.say_whole.new.talk) c.hear.new.self.pending (c.lines.number + 1)) same
+          (goes-on (g.D.Desk.asking (g.D.Desk.opening c.lines.desk)) (g.D.Desk.ends (g.D.Desk.opening c.lines.desk)) (g.D.Desk.behind c.lines.desk) (g.D.Desk.behind c.hear-in-lines.new.self) (g.T.Talk.told c.args.talk.now) c.args.ear.now.pending _ _ _ c.lines.ear c.hear.new.self c.lines.number s h a.0 c.hear-in-lines.new.out.items a.1
           (subst (λ l. IsAnswered (g.D.Desk.asking (g.D.Desk.opening c.lines.desk)) s.lines s.answers h.line l c.hear-in-lines.new.out.items a.0) c.clear.ensures.items a.2)
           (subst (Says (g.T.Talk.told c.hear.new.talk) (g.T.Talk.told c.say_whole.new.talk)) c.deref.ensures.value c.in-Ok-say_whole.ensures.ok));
     }
@@ -78,9 +78,9 @@ lines-preserved g c =
 pub returns : goal.returns
 returns g c =
     let same = c.lines.invariant.same in
-    let s = subst (λ o. SoFar (g.D.Desk.asking o) (g.D.Desk.behind c.lines.desk) (g.T.Talk.told c.args.talk.now) c.args.ear.now.pending (g.T.Talk.told c.lines.talk) c.lines.ear.pending c.lines.number) (sym same) c.lines.invariant.so_far in
+    let s = subst (λ o. SoFar (g.D.Desk.asking o) (g.D.Desk.ends o) (g.D.Desk.behind c.lines.desk) (g.T.Talk.told c.args.talk.now) c.args.ear.now.pending (g.T.Talk.told c.lines.talk) c.lines.ear.pending c.lines.number) (sym same) c.lines.invariant.so_far in
     let f = c.finish-2.ensures.finished s.lines s.answers [] s.stands (omega (arith, s.counted, c.lines-test.false, c.lines.auto.number)) s.lines_heard.answers refl in
     record {
-      conversed = subst (λ o. Ended (g.D.Desk.asking o) (g.D.Desk.behind c.lines.desk) (g.T.Talk.told c.args.talk.now) c.args.ear.now.pending (g.T.Talk.told c.finish-2.new.talk) c.finish-2.result) same
-          (count-over (g.D.Desk.asking (g.D.Desk.opening c.lines.desk)) (g.D.Desk.behind c.lines.desk) (g.T.Talk.told c.args.talk.now) c.args.ear.now.pending _ _ c.lines.ear.pending c.lines.number s c.finish-2.result c.lines-test.false f);
+      conversed = subst (λ o. Ended (g.D.Desk.asking o) (g.D.Desk.ends o) (g.D.Desk.behind c.lines.desk) (g.T.Talk.told c.args.talk.now) c.args.ear.now.pending (g.T.Talk.told c.finish-2.new.talk) c.finish-2.result) same
+          (count-over (g.D.Desk.asking (g.D.Desk.opening c.lines.desk)) (g.D.Desk.ends (g.D.Desk.opening c.lines.desk)) (g.D.Desk.behind c.lines.desk) (g.T.Talk.told c.args.talk.now) c.args.ear.now.pending _ _ c.lines.ear.pending c.lines.number s c.finish-2.result c.lines-test.false f);
     }

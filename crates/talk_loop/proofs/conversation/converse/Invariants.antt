@@ -5,5 +5,5 @@ use Rattle.talk_loop.proofs.conversation.converse.Given as goal
 abbrev pub invariant-lines : goal.invariant-lines
 invariant-lines g l = record {
   same : g.D.Desk.opening l.desk ≡ g.D.Desk.opening l.fn.desk;
-  so_far : SoFar (g.D.Desk.asking (g.D.Desk.opening l.fn.desk)) (g.D.Desk.behind l.desk) (g.T.Talk.told l.fn.talk) l.fn.ear.pending (g.T.Talk.told l.talk) l.ear.pending l.number;
+  so_far : SoFar (g.D.Desk.asking (g.D.Desk.opening l.fn.desk)) (g.D.Desk.ends (g.D.Desk.opening l.fn.desk)) (g.D.Desk.behind l.desk) (g.T.Talk.told l.fn.talk) l.fn.ear.pending (g.T.Talk.told l.talk) l.ear.pending l.number;
 }
