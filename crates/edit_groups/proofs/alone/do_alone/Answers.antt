@@ -1,4 +1,4 @@
-use Rattle.std.proofs.Common.{◌≡◌, ◌∙◌, ℕ, ap, refl, sym, arith}
+use Rattle.std.proofs.Common.{◌≡◌, ◌∙◌, ap, refl, sym, arith}
 use Rattle.edit_groups.specs.Shared.{opening_of}
 use Rattle.edit_groups.proofs.AnsweredAlone.{answered_whole}
 use Rattle.turn_book.specs.Passes.{view_of}
