@@ -14,7 +14,8 @@ use Rattle.edit_book.specs.Memory.{Memory, asked, head_of, named, unless_long}
 use Rattle.edit_book.specs.Replies.{Request, Look, Put, Add, Cut, LoopAt, VerdictNow, LookHead, Texts, PutHead, edit_of}
 use Rattle.edit_book.specs.declared.reply.Reply.{Reply}
 use Rattle.edit_book.specs.declared.reply.Reply.TheVariants.{Unseen, BlockLong}
-use Rattle.edit_groups.specs.Turns.{is_put, is_put_command}
+use Rattle.edit_groups.specs.Chunks.{is_put}
+use Rattle.edit_groups.specs.Turns.{is_put_command}
 
 ok_is : (a b : Request) → ◌≡◌ {A = Result Request Reply} (Ok a) (Ok b) → b ≡ a
 ok_is a b is = cc

@@ -14,9 +14,9 @@ use Rattle.edit_book.specs.declared.reply.Reply.{Reply}
 use Rattle.turn_book.specs.declared.view.View.{View}
 use Rattle.turn_book.specs.Taken.{IsTaken}
 use Rattle.edit_groups.specs.Answers.{IsGroup, done, refused}
-use Rattle.edit_groups.specs.Chunks.{entries_of, undoable}
+use Rattle.edit_groups.specs.Chunks.{entries_of, is_put, puts, undoable}
 use Rattle.edit_groups.specs.Sessions.{Heard, IsHeard, core, group_memory, missed_memory, short}
-use Rattle.edit_groups.specs.Turns.{AreTold, IsToldOf, ids_drawn, is_one_put, is_put, is_put_command, puts}
+use Rattle.edit_groups.specs.Turns.{AreTold, IsToldOf, ids_drawn, is_one_put, is_put_command}
 use Rattle.edit_groups.specs.declared.chunk.Chunk.{Chunk}
 use Rattle.edit_groups.specs.declared.reply.GroupReply.{GroupReply}
 use Rattle.edit_groups.specs.declared.reply.GroupReply.TheVariants as group

@@ -17,10 +17,10 @@ use Rattle.turn_book.specs.declared.view.View.{View}
 use Rattle.turn_book.specs.Journal.{Foreign, listed}
 use Rattle.turn_book.specs.Taken.{IsTaken}
 use Rattle.edit_groups.specs.Answers.{IsOne, edits_in}
-use Rattle.edit_groups.specs.Chunks.{Undoable, chunk_of, entries_of, undoable, undoable_edit, undoable_in}
+use Rattle.edit_groups.specs.Chunks.{Undoable, chunk_of, entries_of, is_put, puts, undoable, undoable_edit, undoable_in}
 use Rattle.edit_groups.specs.Sessions.{Heard, IsHeard, core, short}
 use Rattle.edit_groups.specs.Shared.{session_of}
-use Rattle.edit_groups.specs.Turns.{IsOneHeard, is_put, is_put_command, one_reply, put_after, puts}
+use Rattle.edit_groups.specs.Turns.{IsOneHeard, is_put_command, one_reply, put_after}
 use Rattle.edit_groups.specs.declared.chunk.Chunk.{Chunk}
 use Rattle.edit_groups.specs.declared.reply.GroupReply.{GroupReply}
 use Rattle.edit_groups.specs.declared.reply.GroupReply.TheVariants as group

@@ -1,4 +1,5 @@
 pub mod Accepted
+pub mod AnsweredAlone
 pub mod Asked
 pub mod CoreLaws
 pub mod Entered
@@ -14,6 +15,7 @@ pub mod Learning
 pub mod OneHeard
 pub mod OneTurns
 pub mod Ones
+pub mod OthersStand
 pub mod Refused
 pub mod RunFits
 pub mod Runs

@@ -1,17 +1,18 @@
 -- A session of steps, as it goes on, and what the replies of several say together.
-use Rattle.std.proofs.Common.{◌≡◌, ℕ, ◌+◌, ◌<◌, false, arith, List, [], ◌∷◌, ◌++◌, length, get_or, map, set, take, length-append, sym, ap, ◌∙◌, refl, subst}
+use Rattle.std.proofs.Common.{◌≡◌, ℕ, ◌+◌, ◌<◌, arith, List, [], ◌∷◌, ◌++◌, length, get_or, map, set, take, length-append, sym, ap, ◌∙◌, refl, subst}
 use Rattle.std.proofs.lemmas.List.{map-append}
 use Rattle.edit_journal.specs.declared.opening.Opening.{Opening}
 use Rattle.edit_journal.proofs.Known.{names_longer}
 use Rattle.script_reader.specs.declared.step.Step.{Step}
 use Rattle.edit_book.specs.Memory.{Memory, first_memory}
-use Rattle.edit_book.specs.Session.{HasNames, Remembers}
-use Rattle.edit_groups.specs.Chunks.{entries_of, undoable}
+use Rattle.edit_book.specs.Session.{Remembers}
+use Rattle.edit_groups.specs.Alone.{IsSessionAt, KnowsLast}
+use Rattle.edit_groups.specs.Chunks.{entries_of, puts, undoable}
 use Rattle.edit_groups.specs.Sessions.{Heard, IsLegalRun, core}
 use Rattle.edit_groups.specs.Shared.{session_of}
 use Rattle.edit_groups.specs.Talks.{AreHeard, IsHeardAlong, replies_in, replies_of}
 use Rattle.edit_groups.specs.declared.talk.Talk.{Talk}
-use Rattle.edit_groups.specs.Turns.{IsDone, IsKept, KnowsLast, puts}
+use Rattle.edit_groups.specs.Turns.{IsDone, IsKept}
 use Rattle.edit_groups.specs.declared.chunk.Chunk.{Chunk}
 use Rattle.edit_groups.specs.declared.reply.GroupReply.{GroupReply}
 use Rattle.edit_groups.specs.declared.session.GroupSession.{GroupSession}
@@ -42,24 +43,24 @@ pub record SessionSoFar (opening : Opening) (script : List Step) (i : ℕ) (bega
   pub kept : IsKept opening now.seen session
   pub told : Foreign session_of began.first began.past began.seen → IsToldSoFar opening script i began now session replies
 
-pub session_begins : (opening : Opening) (script : List Step) (v : View Opening Chunk) (session : GroupSession) (replies : List GroupReply) → v.first < v.past → session.session.number ≡ v.first → Remembers session.session (first_memory opening) → HasNames opening [] session.session
-    → session.last_put ≡ false → replies ≡ [] → SessionSoFar opening script 0 v v session replies
-session_begins opening script v session replies some number remembers names unput none = record {
+pub session_begins : (opening : Opening) (script : List Step) (v : View Opening Chunk) (session : GroupSession) (replies : List GroupReply) → v.first < v.past → session.session.number ≡ v.first → IsSessionAt opening [] (first_memory opening) session → replies ≡ []
+    → SessionSoFar opening script 0 v v session replies
+session_begins opening script v session replies some number stands none = record {
   first = refl;
   past = refl;
   count = ap length none;
   number = number;
   kept = record {
     memory = first_memory opening;
-    remembers = remembers;
-    names = names_longer opening [] (entries_of v.seen) session.session.learned.head session.session.header.declared names;
+    remembers = stands.remembers;
+    names = names_longer opening [] (entries_of v.seen) session.session.learned.head session.session.header.declared stands.names;
   };
   told = λ fresh. record {
     heard = [];
     replies_are = none;
     talk = talk_begins (core opening) (is_core opening) (first_memory opening) script v [] some refl;
-    remembers = remembers;
-    last = unput ∙ sym (ap puts (undoable_foreign session.session.number v.first v.past [] v.seen (omega arith) (omega arith) fresh));
+    remembers = stands.remembers;
+    last = stands.last ∙ sym (ap puts (undoable_foreign session.session.number v.first v.past [] v.seen (omega arith) (omega arith) fresh));
   };
 }
 

@@ -20,11 +20,11 @@ use Rattle.turn_book.specs.Turn.{Turned}
 use Rattle.turn_book.specs.Walk.{IsGiven}
 use Rattle.turn_book.proofs.Takes.{seen_after_turn, taken_short}
 use Rattle.edit_groups.specs.Answers.{IsUndo, edits_in, nothing, undone, undoing}
-use Rattle.edit_groups.specs.Chunks.{Undoable, chunk_of, entries_of, undoable}
+use Rattle.edit_groups.specs.Chunks.{Undoable, chunk_of, entries_of, is_put, puts, undoable}
 use Rattle.edit_groups.specs.Groups as groups
 use Rattle.edit_groups.specs.Sessions.{Heard, core, short, undo_memory}
 use Rattle.edit_groups.specs.Shared.{session_of}
-use Rattle.edit_groups.specs.Turns.{is_put, put_head, puts, undone_head, undone_memory}
+use Rattle.edit_groups.specs.Turns.{put_head, undone_head, undone_memory}
 use Rattle.edit_groups.specs.declared.chunk.Chunk.{Chunk}
 use Rattle.edit_groups.specs.declared.reply.GroupCommand.TheVariants as asks
 use Rattle.edit_groups.specs.declared.reply.GroupReply.{GroupReply}

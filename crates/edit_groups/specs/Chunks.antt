@@ -1,5 +1,5 @@
 -- Accepted steps, and the journal that they make.
-use Rattle.std.specs.Prelude.{ℕ, ◌+◌, ◌==◌, if◌then◌else◌, List, [], ◌∷◌, length, map, flat_map, Option, Some, None}
+use Rattle.std.specs.Prelude.{ℕ, ◌+◌, ◌==◌, if◌then◌else◌, Bool, true, false, List, [], ◌∷◌, length, map, flat_map, Option, Some, None}
 use Rattle.edit_journal.specs.declared.edit.Edit.{Edit}
 use Rattle.edit_journal.specs.declared.edit.Edit.TheVariants as edit
 use Rattle.edit_journal.specs.declared.edit.Entry.{Entry}
@@ -44,3 +44,15 @@ undoable_from session number found (c ∷ cs) = undoable_from session (number + 
 -- what can be undone of the session's last step
 abbrev pub undoable : ℕ → List Chunk → Option Undoable
 undoable session chunks = undoable_from session 1 None chunks
+
+-- the edit puts a text into a block
+abbrev pub is_put : Edit → Bool
+is_put (edit.Put block seen text) = true
+is_put (edit.Add anchor block text) = false
+is_put (edit.Cut block seen) = false
+is_put (edit.Head seen names) = false
+
+-- what would be undone is a put
+abbrev pub puts : Option Undoable → Bool
+puts None = false
+puts (Some last) = is_put last.edit

@@ -1,11 +1,11 @@
 -- A session that hasn't begun, the replies of one, and what the replies of several say of the steps that are known after them.
-use Rattle.std.specs.Prelude.{◌≡◌, ℕ, ◌≤◌, true, false, List, [], length, map, vec_capacity}
+use Rattle.std.specs.Prelude.{◌≡◌, ℕ, ◌≤◌, true, List, [], length, map, vec_capacity}
 use Rattle.std.specs.List.{list_all}
 use Rattle.edit_journal.specs.declared.opening.Opening.{Opening}
 use Rattle.script_reader.specs.Groups.{is_lawful_step}
 use Rattle.script_reader.specs.declared.step.Step.{Step}
 use Rattle.edit_book.specs.Memory.{first_memory}
-use Rattle.edit_book.specs.Session.{HasNames, Remembers}
+use Rattle.edit_groups.specs.Alone.{IsSessionAt}
 use Rattle.edit_groups.specs.Sessions.{Heard, core}
 use Rattle.edit_groups.specs.declared.chunk.Chunk.{Chunk}
 use Rattle.edit_groups.specs.declared.reply.GroupReply.{GroupReply}
@@ -15,9 +15,7 @@ use Rattle.turn_book.specs.Histories.{AreHistories, IsHistory}
 -- session n at its start, with no reply, and with room for one to each step of its script
 pub record IsReady (opening : Opening) (n : ℕ) (script : List Step) (talk : Talk) : Type 0 where
   pub number : talk.session.session.number ≡ n
-  pub remembers : Remembers talk.session.session (first_memory opening)
-  pub names : HasNames opening [] talk.session.session
-  pub last : talk.session.last_put ≡ false
+  pub stands : IsSessionAt opening [] (first_memory opening) talk.session
   pub empty : talk.replies.items ≡ []
   pub room : length script ≤ vec_capacity talk.replies
   pub lawful : list_all is_lawful_step script ≡ true

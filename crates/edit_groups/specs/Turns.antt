@@ -15,7 +15,8 @@ use Rattle.edit_book.specs.Turns as book
 use Rattle.edit_book.specs.declared.reply.BookCommand.{BookCommand}
 use Rattle.edit_book.specs.declared.reply.Reply.{Reply}
 use Rattle.edit_book.specs.declared.reply.Reply.TheVariants as reply
-use Rattle.edit_groups.specs.Chunks.{Undoable, entries_of, undoable}
+use Rattle.edit_groups.specs.Alone.{KnowsLast}
+use Rattle.edit_groups.specs.Chunks.{entries_of}
 use Rattle.edit_groups.specs.Sessions.{Heard, core, put_memory, step_memory}
 use Rattle.edit_groups.specs.declared.chunk.Chunk.{Chunk}
 use Rattle.edit_groups.specs.declared.reply.GroupReply.{GroupReply}
@@ -51,17 +52,6 @@ pub record IsOneHeard (opening : Opening) (session : ℕ) (m : Memory) (c : Comm
   pub heard : Heard
   pub reply_is : one_reply r ≡ heard.reply
   pub taken : IsTaken (core opening) session m (step.One c) heard v w
-
-abbrev pub is_put : Edit → Bool
-is_put (edit.Put block seen text) = true
-is_put (edit.Add anchor block text) = false
-is_put (edit.Cut block seen) = false
-is_put (edit.Head seen names) = false
-
--- what would be undone is a put
-abbrev pub puts : Option Undoable → Bool
-puts None = false
-puts (Some last) = is_put last.edit
 
 abbrev pub is_put_command : Command → Bool
 is_put_command (command.Put name text) = true
@@ -130,10 +120,6 @@ put_head r head = head
 abbrev pub undone_head : Bool → GroupReply → ℕ → ℕ
 undone_head true r head = put_head r head
 undone_head false r head = head
-
--- the session knows whether an undo of its last step, among these, would put a text back
-abbrev pub KnowsLast : List Chunk → GroupSession → Type 0
-KnowsLast seen s = s.last_put ≡ puts (undoable s.session.number seen)
 
 -- the session remembers something, and the names that it keeps are those of its stamp of the header
 pub record IsKept (opening : Opening) (seen : List Chunk) (s : GroupSession) : Type 0 where

@@ -55,6 +55,14 @@ impl GroupBook {
         }
     }
 
+    /// The book, whose journal has the edits of all accepted steps. Takes no memory.
+    pub fn book(&self) -> &Book
+        ensures opening { result.now.opening ≡ self.now.opening }
+        ensures entries { result.now.entries ≡ entries_of self.now.chunks }
+    {
+        &self.book
+    }
+
     /// The book, and the edits of each step that was accepted. Takes no memory.
     pub fn into_parts(self) -> (Book, ChunkList)
         ensures opening { result.0.opening ≡ self.opening }

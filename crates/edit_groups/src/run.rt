@@ -17,7 +17,6 @@ use crate::replies::GroupReplies;
 use crate::reply::GroupReply;
 use crate::session::{GroupSession, do_step};
 use crate::talk::Talk;
-use edit_book::sessions::Session;
 use knit_base::{Declared, NoMemory, Setting};
 use knit_ports::Gate;
 use script_reader::{Step, StepList};
@@ -106,10 +105,7 @@ fn begin(
 {
     let mut talks = Vec::with_capacity(alloc, scripts.len())?;
     for i in 0..scripts.len() {
-        let session = GroupSession {
-            session: Session::start(alloc, first + i as u32, blocks, declared)?,
-            last_put: false,
-        };
+        let session = GroupSession::start(alloc, first + i as u32, blocks, declared)?;
         let replies = Vec::with_capacity(alloc, scripts[i].len() as usize)?;
         talks.push(Talk { session, replies })?;
     }

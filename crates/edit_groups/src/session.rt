@@ -1,9 +1,11 @@
 //! A session of steps, and one step of it on the shared book.
-ghost use Rattle.std.specs.Prelude.{◌≡◌, ◌<◌, ◌≤◌, true};
+ghost use Rattle.std.specs.Prelude.{◌≡◌, ◌<◌, ◌≤◌, [], true, IfOk, length};
 ghost use Rattle.knit_base.specs.Limits.{IsLawfulProfile};
 ghost use Rattle.script_reader.specs.Groups.{is_lawful_step};
-ghost use Rattle.edit_book.specs.Memory.{Memory};
+ghost use Rattle.edit_journal.specs.declared.opening.Opening.{Opening};
+ghost use Rattle.edit_book.specs.Memory.{Memory, first_memory};
 ghost use Rattle.edit_book.specs.Session.{HasNames, Remembers};
+ghost use Rattle.edit_groups.specs.Alone.{IsSessionAt};
 ghost use Rattle.edit_groups.specs.Chunks.{entries_of};
 ghost use Rattle.edit_groups.specs.Shared.{opening_of};
 ghost use Rattle.edit_groups.specs.Turns.{IsDone};
@@ -21,7 +23,7 @@ use crate::session::group::do_group;
 use crate::session::one::do_one;
 use crate::session::undo::do_undo;
 use edit_book::sessions::Session;
-use knit_base::{Setting, Steps};
+use knit_base::{Declared, NoMemory, Setting, Steps};
 use script_reader::Step;
 use std::alloc::Global;
 use std::marker::Brand;
@@ -32,9 +34,28 @@ use turn_book::{Pass, Shared};
 
 /// A session, and whether its last accepted step put a text into a block: then an undo of it puts the older text back.
 #[derive(Drop)]
-pub(crate) struct GroupSession {
+pub struct GroupSession {
     pub session: Session,
     pub last_put: bool,
+}
+
+impl GroupSession {
+    /// The session with this number, which knows stamp 0 of each opening block, and stamp 0 of the header, with these names.
+    pub fn start(
+        alloc: Global,
+        number: u32,
+        blocks: u32,
+        declared: &Declared,
+    ) -> Result<GroupSession, NoMemory>
+        ensures number { IfOk result (λ s. s.session.number ≡ number) }
+        ensures stands { IfOk result (λ s. (opening : Opening) → length opening.texts ≡ blocks → opening.setting.declared ≡ declared.now → IsSessionAt opening [] (first_memory opening) s) }
+    {
+        let session = Session::start(alloc, number, blocks, declared)?;
+        Ok(GroupSession {
+            session,
+            last_put: false,
+        })
+    }
 }
 
 /// Carries out one step of a session on a shared book, and remembers what the reply tells.
@@ -57,6 +78,7 @@ pub(crate) fn do_step<R: Threads + Wait + Sync>(
     requires step { is_lawful_step step.now ≡ true }
     requires names { HasNames (opening_of shared.now) (entries_of (view_of pass.old).seen) session.old.session }
     ensures of_this { IsPassOf shared.now pass.new }
+    ensures range { ((view_of pass.new).first ≡ (view_of pass.old).first) × ((view_of pass.new).past ≡ (view_of pass.old).past) }
     ensures number { session.new.session.number ≡ session.old.session.number }
     ensures done { (m : Memory) → Remembers session.old.session m → IsDone (opening_of shared.now) m step.now result (view_of pass.old) (view_of pass.new) session.old session.new }
 {
@@ -82,6 +104,7 @@ fn carry_out<L: Ledger, R: Threads + Wait + Sync>(
     requires step { is_lawful_step step.now ≡ true }
     requires names { HasNames (opening_of shared.now) (entries_of (view_of pass.old).seen) session.old.session }
     ensures of_this { IsPassOf shared.now pass.new }
+    ensures range { ((view_of pass.new).first ≡ (view_of pass.old).first) × ((view_of pass.new).past ≡ (view_of pass.old).past) }
     ensures number { session.new.session.number ≡ session.old.session.number }
     ensures done { (m : Memory) → Remembers session.old.session m → IsDone (opening_of shared.now) m step.now result (view_of pass.old) (view_of pass.new) session.old session.new }
 {

@@ -48,6 +48,7 @@ pub(crate) fn do_group<L: Ledger, R: Wait>(
     requires step { is_lawful_step (step.Group commands.now) ≡ true }
     requires names { HasNames (opening_of shared.now) (entries_of (view_of pass.old).seen) session.old.session }
     ensures of_this { IsPassOf shared.now pass.new }
+    ensures range { ((view_of pass.new).first ≡ (view_of pass.old).first) × ((view_of pass.new).past ≡ (view_of pass.old).past) }
     ensures number { session.new.session.number ≡ session.old.session.number }
     ensures done { (m : Memory) → Remembers session.old.session m → IsDone (opening_of shared.now) m (step.Group commands.now) result (view_of pass.old) (view_of pass.new) session.old session.new }
 {
@@ -109,6 +110,7 @@ fn take_group<L: Ledger, R: Wait>(
     requires step { is_lawful_step (step.Group commands.now) ≡ true }
     requires names { names_given (opening_of shared.now) (entries_of (view_of pass.old).seen) learned.old.head ≡ Some header.now.declared }
     ensures of_this { IsPassOf shared.now pass.new }
+    ensures range { ((view_of pass.new).first ≡ (view_of pass.old).first) × ((view_of pass.new).past ≡ (view_of pass.old).past) }
     ensures head { learned.new.head ≡ learned.old.head }
     ensures kept { (m : Memory) → HasLearned learned.old m → HasLearned learned.new m }
     ensures room { (version from : ℕ) (brief : Brief) → result.reply ≡ reply.Done version from brief → HasRoom (length commands.now) learned.new }

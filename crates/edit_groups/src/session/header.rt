@@ -37,6 +37,7 @@ pub(crate) fn look_head<L: Ledger, R: Threads + Wait>(
     requires of_this { IsPassOf shared.now pass.old }
     requires number { ((view_of pass.old).first ≤ number) × (number < (view_of pass.old).past) }
     ensures of_this { IsPassOf shared.now pass.new }
+    ensures range { ((view_of pass.new).first ≡ (view_of pass.old).first) × ((view_of pass.new).past ≡ (view_of pass.old).past) }
     ensures profile { header.new.profile ≡ header.old.profile }
     ensures names { (head : ℕ) → names_given (opening_of shared.now) (entries_of (view_of pass.old).seen) head ≡ Some header.old.declared
         → names_given (opening_of shared.now) (entries_of (view_of pass.new).seen) (head_told (told_by Command.LookHead result) head) ≡ Some header.new.declared }
@@ -71,6 +72,7 @@ pub(crate) fn put_head<L: Ledger, R: Threads + Wait + Sync>(
     requires setting { (opening_of shared.now).setting.profile ≡ header.old.profile }
     requires profile { IsLawfulProfile header.old.profile }
     ensures of_this { IsPassOf shared.now pass.new }
+    ensures range { ((view_of pass.new).first ≡ (view_of pass.old).first) × ((view_of pass.new).past ≡ (view_of pass.old).past) }
     ensures profile { header.new.profile ≡ header.old.profile }
     ensures names { names_given (opening_of shared.now) (entries_of (view_of pass.old).seen) seen ≡ Some header.old.declared
         → names_given (opening_of shared.now) (entries_of (view_of pass.new).seen) (head_told (told_by (Command.PutHead declared.now) result) seen) ≡ Some header.new.declared }

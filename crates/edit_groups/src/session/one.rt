@@ -45,6 +45,7 @@ pub(crate) fn do_one<L: Ledger, R: Threads + Wait + Sync>(
     requires profile { IsLawfulProfile session.old.session.header.profile }
     requires names { HasNames (opening_of shared.now) (entries_of (view_of pass.old).seen) session.old.session }
     ensures of_this { IsPassOf shared.now pass.new }
+    ensures range { ((view_of pass.new).first ≡ (view_of pass.old).first) × ((view_of pass.new).past ≡ (view_of pass.old).past) }
     ensures number { session.new.session.number ≡ session.old.session.number }
     ensures done { (m : Memory) → Remembers session.old.session m → IsDone (opening_of shared.now) m (step.One command.now) result (view_of pass.old) (view_of pass.new) session.old session.new }
 {
@@ -103,6 +104,7 @@ fn take_one<L: Ledger, R: Threads + Wait + Sync>(
     requires profile { IsLawfulProfile header.old.profile }
     requires names { names_given (opening_of shared.now) (entries_of (view_of pass.old).seen) learned.old.head ≡ Some header.old.declared }
     ensures of_this { IsPassOf shared.now pass.new }
+    ensures range { ((view_of pass.new).first ≡ (view_of pass.old).first) × ((view_of pass.new).past ≡ (view_of pass.old).past) }
     ensures profile { header.new.profile ≡ header.old.profile }
     ensures head { learned.new.head ≡ learned.old.head }
     ensures kept { (m : Memory) → HasLearned learned.old m → HasLearned learned.new m }

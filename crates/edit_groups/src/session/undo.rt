@@ -29,6 +29,7 @@ pub(crate) fn do_undo<L: Ledger, R: Wait>(
     requires number { ((view_of pass.old).first ≤ session.old.session.number) × (session.old.session.number < (view_of pass.old).past) }
     requires names { HasNames (opening_of shared.now) (entries_of (view_of pass.old).seen) session.old.session }
     ensures of_this { IsPassOf shared.now pass.new }
+    ensures range { ((view_of pass.new).first ≡ (view_of pass.old).first) × ((view_of pass.new).past ≡ (view_of pass.old).past) }
     ensures number { session.new.session.number ≡ session.old.session.number }
     ensures done { (m : Memory) → Remembers session.old.session m → IsDone (opening_of shared.now) m step.Undo result (view_of pass.old) (view_of pass.new) session.old session.new }
 {

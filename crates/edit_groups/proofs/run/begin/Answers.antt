@@ -1,12 +1,10 @@
-use Rattle.std.proofs.Common.{rules, ap, sym, refl, subst, ◌≡◌, ◌∙◌, ◌+◌, ◌++◌, ◌∷◌, [], List, false, take, length}
+use Rattle.std.proofs.Common.{rules, ap, sym, subst, ◌≡◌, ◌∙◌, ◌+◌, ◌++◌, ◌∷◌, [], List, take, length}
 use Rattle.std.specs.List.{list_all}
 use Rattle.std.proofs.lemmas.List.{take_more, length-take}
 use Rattle.script_reader.specs.Groups.{is_lawful_step}
 use Rattle.script_reader.specs.declared.step.Step.{Step}
 use Rattle.edit_groups.specs.Talks.{IsReady}
-use Rattle.edit_groups.specs.declared.session.GroupSession.{GroupSession}
 use Rattle.edit_groups.specs.declared.talk.Talk.{Talk}
-use Rattle.edit_book.proofs.NamesKept.{names_at_start}
 use Rattle.edit_groups.proofs.GroupAsked.{all_got}
 use Rattle.turn_book.specs.Ready.{AreReady}
 use Rattle.turn_book.proofs.Talked.{ready_more}
@@ -18,14 +16,11 @@ loop-i-preserved c = record {
   ready = λ opening blocks names.
       let i = c.loop-i.i in
       let scripts = c.args.scripts.now in
-      let session : GroupSession = record { session = c.in_ok-start.field-0; last_put = false } in
-      let made : Talk = record { session = session; replies = c.in_ok-replies.replies } in
-      let number = c.in_ok-start.ensures.number in
+      let made : Talk = record { session = c.in_ok-session.session; replies = c.in_ok-replies.replies } in
+      let number = c.in_ok-session.ensures.number in
       let one : IsReady opening (c.args.first + length (take i scripts)) c.index-scripts-i.result made = record {
         number = search (rules, length-take);
-        remembers = c.in_ok-start.ensures.remembers opening blocks;
-        names = names_at_start opening c.in_ok-start.field-0 (c.in_ok-start.ensures.remembers opening blocks) (names ∙ sym c.in_ok-start.ensures.names);
-        last = refl;
+        stands = c.in_ok-session.ensures.stands opening blocks names;
         empty = c.in_ok-replies.ensures.items;
         room = search rules;
         lawful = ap (list_all is_lawful_step) c.index-scripts-i.is ∙ all_got (list_all is_lawful_step) scripts i c.index-scripts-i.result c.requires.steps c.loop-i-test.true;

@@ -13,7 +13,7 @@ loop-i-init g c = record {
   room = c.requires.ready.room;
   so_far =
       session_begins (opening_of c.args.shared.now) c.args.script.now (view_of c.args.pass.now) c.args.talk.now.session c.args.talk.now.replies.items (let range = c.requires.range in omega arith)
-      c.requires.ready.number c.requires.ready.remembers c.requires.ready.names c.requires.ready.last c.requires.ready.empty;
+      c.requires.ready.number c.requires.ready.stands c.requires.ready.empty;
 }
 
 pub do_step-reply-requires-clause-step : goal.do_step-reply-requires-clause-step

@@ -44,6 +44,7 @@ returns-in_default g c =
     let v = view_of c.args.pass.now in let w = view_of c.take_group-told.new.pass in
     record {
       of_this = c.take_group-told.ensures.of_this;
+      range = c.take_group-told.ensures.range;
       number = refl;
       done = λ m remembers.
           let h = c.take_group-told.ensures.heard m remembers in

@@ -28,6 +28,7 @@ turn-requires-clause-fits g c =
 pub returns-in-Ok : goal.returns-in-Ok
 returns-in-Ok g c = let v = view_of c.args.pass.now in let w = view_of c.turn.new.pass in record {
   of_this = c.turn.ensures.of_this;
+  range = (ap (λ x. x.first) c.turn.ensures.turned.after, ap (λ x. x.past) c.turn.ensures.turned.after);
   head = c.make_room.ensures.head;
   kept = c.make_room.ensures.kept;
   room = λ version from brief is. c.if-not-make_room.ensures.room;

@@ -7,6 +7,12 @@ use Rattle.edit_groups.specs.Shared.{opening_of}
 use Rattle.turn_book.specs.Passes.{view_of}
 use Rattle.edit_groups.proofs.session.header.look_head.Goals as goal
 
+pub returns-in-Some-clause-range : goal.returns-in-Some-clause-range
+returns-in-Some-clause-range g c = (c.turn_one-reply.ensures.turned.first, c.turn_one-reply.ensures.turned.past)
+
+pub returns-in-None-clause-range : goal.returns-in-None-clause-range
+returns-in-None-clause-range g c = (c.turn_one-reply.ensures.turned.first, c.turn_one-reply.ensures.turned.past)
+
 pub returns-in-Some-clause-names : goal.returns-in-Some-clause-names
 returns-in-Some-clause-names g c = λ head given.
     names_looked (opening_of c.args.shared.now) c.args.number c.turn_one-reply.result (view_of c.args.pass.now) (view_of c.turn_one-reply.new.pass) head c.in-Some.names c.in-Some.ensures c.turn_one-reply.ensures.turned

@@ -17,6 +17,15 @@ turn_one-reply-requires-clause-fits g c = let o = opening_of c.args.shared.now i
     subst (λ (names : List (List ℕ)). AreFitAgain o seen names c.in-Ok-summarised.again) (c.in-Ok.ensures ∙ sym c.in-Ok-try_clone.ensures)
     (c.in-Ok-summarised.ensures.fits o seen c.requires.setting c.in-Some.ensures.given)
 
+pub returns-clause-range : goal.returns-clause-range
+returns-clause-range g c = (c.turn_one-reply.ensures.turned.first ∙ c.all_texts.ensures.more.first, c.turn_one-reply.ensures.turned.past ∙ c.all_texts.ensures.more.past)
+
+pub returns-in_default-all_texts-clause-range : goal.returns-in_default-all_texts-clause-range
+returns-in_default-all_texts-clause-range g c = (c.all_texts.ensures.more.first, c.all_texts.ensures.more.past)
+
+pub returns-in_default-summarised-clause-range : goal.returns-in_default-summarised-clause-range
+returns-in_default-summarised-clause-range g c = (c.all_texts.ensures.more.first, c.all_texts.ensures.more.past)
+
 pub returns-clause-names : goal.returns-clause-names
 returns-clause-names g c = λ had.
     let o = opening_of c.args.shared.now in let v = view_of c.args.pass.now in let u = view_of c.all_texts.new.pass in let w = view_of c.turn_one-reply.new.pass in

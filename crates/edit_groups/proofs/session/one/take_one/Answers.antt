@@ -19,6 +19,7 @@ turn_one-requires-clause-fits g c = let o = opening_of c.args.shared.now in let 
 pub returns-in-Ok : goal.returns-in-Ok
 returns-in-Ok g c = let o = opening_of c.args.shared.now in let v = view_of c.args.pass.now in let w = view_of c.turn_one.new.pass in let said = c.args.command.now in record {
   of_this = c.turn_one.ensures.of_this;
+  range = (c.turn_one.ensures.turned.first, c.turn_one.ensures.turned.past);
   profile = refl;
   head = c.make_room.ensures.head;
   kept = c.make_room.ensures.kept;
@@ -31,6 +32,7 @@ returns-in-Ok g c = let o = opening_of c.args.shared.now in let v = view_of c.ar
 pub returns-in-Err : goal.returns-in-Err
 returns-in-Err g c = let o = opening_of c.args.shared.now in let v = view_of c.args.pass.now in let said = c.args.command.now in record {
   of_this = c.requires.of_this;
+  range = (refl, refl);
   profile = refl;
   head = c.make_room.ensures.head;
   kept = c.make_room.ensures.kept;

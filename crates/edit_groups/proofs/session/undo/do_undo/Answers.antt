@@ -23,6 +23,9 @@ returns-then-not-make_room-clause-done g c = λ m remembers.
       last = h.after;
     }
 
+pub returns-clause-range : goal.returns-clause-range
+returns-clause-range g c = (ap (λ x. x.first) c.turn-told.ensures.turned.after, ap (λ x. x.past) c.turn-told.ensures.turned.after)
+
 pub returns-clause-done : goal.returns-clause-done
 returns-clause-done g c = λ m remembers.
     let o = opening_of c.args.shared.now in let v = view_of c.args.pass.now in let w = view_of c.turn-told.new.pass in let s = c.args.session.now in
