@@ -1,0 +1,2 @@
+pub mod GroupsText
+pub mod TallyText
