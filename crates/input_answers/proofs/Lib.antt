@@ -24,5 +24,4 @@ pub mod SavedScripts
 pub mod Saves
 pub mod ScriptTexts
 pub mod StoppedRuns
-pub mod TallyLines
 pub mod TextRuns

@@ -23,7 +23,7 @@ use Rattle.input_answers.specs.declared.outcome.Status.TheVariants as status
 use Rattle.input_answers.specs.CheckReport.{body_of}
 use Rattle.input_answers.specs.Due.{Fits, IsSizeRefusal, cut_refusal, head_refusal}
 use Rattle.input_answers.specs.DueLive.{IsOpening}
-use Rattle.input_answers.specs.GroupsText.{IsGroupsReport}
+use Rattle.reply_report.specs.GroupsText.{IsGroupsReport}
 use Rattle.input_answers.specs.Played.{Played, groups_played, nothing_played}
 
 -- the input has good lines, which spell this script, and its opening text has this head

@@ -14,7 +14,7 @@ use Rattle.verdict_report.specs.Refusals.{refusal_text}
 use Rattle.input_answers.specs.declared.outcome.Status.{Status}
 use Rattle.input_answers.specs.declared.outcome.Status.TheVariants as status
 use Rattle.input_answers.specs.DueReplay.{IsSaved, journal_refusal}
-use Rattle.input_answers.specs.TallyText.{tally_text}
+use Rattle.reply_report.specs.TallyText.{tally_text}
 
 -- the document at the end of a saved text
 abbrev pub saved_doc : List (List ℕ) → Profile → List BlockAt → List Entry → DocView

@@ -9,11 +9,9 @@ pub mod DueLive
 pub mod DueMade
 pub mod DueReplay
 pub mod DueTally
-pub mod GroupsText
 pub mod ListingRun
 pub mod LiveText
 pub mod Openings
 pub mod PassesReport
 pub mod Played
 pub mod SavedLaws
-pub mod TallyText

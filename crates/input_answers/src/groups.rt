@@ -16,7 +16,6 @@ ghost use Rattle.input_answers.specs.DueGroups.{HasGroupScript};
 
 use crate::answers::{refusal_of_head, refusal_of_lines, refusal_of_size};
 use crate::ending::Answer;
-use crate::group_report::report_of;
 use crate::live::body_len;
 use crate::opening::{Opened, open};
 use crate::outcome::{GroupOutcome, Outcome, Status};
@@ -27,6 +26,7 @@ use knit_base::{Lines, ListOf, NoMemory, Steps};
 use knit_ports::Gate;
 use knitout_reader::{Head, read_head};
 use line_cutter::cut_buffer;
+use reply_report::groups_of;
 use script_reader::{GroupScript, ScriptFault, StepScripts, read_groups};
 use std::alloc::Global;
 use std::marker::Brand;
@@ -144,7 +144,7 @@ fn carry_out<L: Ledger, R: Threads + Wait + Sync, G: Gate + Sync>(
     let mut steps = Steps::<L>::start(rt, blank);
     let opened = open(rt, alloc, plan, &script.text, head, &mut steps)?;
     let (book, chunks, replies) = play(rt, alloc, &script.sessions, opened, gate)?;
-    let text = report_of(alloc, &book, &replies, &mut steps)?;
+    let text = groups_of(alloc, &book, &replies, &mut steps)?;
     let mut outcome = Outcome::without_sessions(alloc, Status::Done);
     outcome.groups = Some(GroupOutcome {
         script,

@@ -13,7 +13,6 @@ mod body;
 mod by_book;
 mod ending;
 mod front;
-mod group_report;
 mod groups;
 mod judge;
 pub mod laws;
@@ -32,7 +31,6 @@ mod taken_run;
 mod taker;
 mod tallied_run;
 mod tally;
-mod tally_report;
 mod text_pass;
 mod usual;
 

@@ -3,15 +3,15 @@ ghost use Rattle.std.specs.Prelude.{◌≡◌, ◌↔◌, ◌<◌, ◌≤◌, tr
 ghost use Rattle.tally_tree.specs.Docs.{HasBlocks, IsRange, doc_view, setting_now};
 ghost use Rattle.tally_tree.specs.Tallies.{Counted};
 ghost use Rattle.input_answers.specs.DueTally.{DueTally, IsDueRange};
-ghost use Rattle.input_answers.specs.TallyText.{tally_text};
+ghost use Rattle.reply_report.specs.TallyText.{tally_text};
 
 use crate::ending::Ending;
 use crate::outcome::Status;
 use crate::replay::{refusal_of_journal, saved_in};
-use crate::tally_report::tally_report;
 use edit_book::Outline;
 use journal_file::{JournalFault, outline_of};
 use knit_base::{NoMemory, Steps};
+use reply_report::tally_of;
 use std::alloc::Global;
 use std::marker::Brand;
 use std::sync::ledger::{Blank, Ledger};
@@ -87,5 +87,5 @@ fn report_of_range<L: Ledger>(
     ensures { IfOk result (λ text. (v : Counted) × IsRange doc.now from to v × (text.items ≡ tally_text from to (setting_now doc.now).declared v)) }
 {
     let tally = doc.range(from, to, steps)?;
-    tally_report(alloc, from, to, &tally, &doc.setting().declared)
+    tally_of(alloc, from, to, &tally, &doc.setting().declared)
 }

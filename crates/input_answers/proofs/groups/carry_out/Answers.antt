@@ -4,7 +4,7 @@ use Rattle.edit_journal.specs.declared.opening.Opening.{Opening}
 use Rattle.input_answers.specs.declared.outcome.GroupOutcome.{GroupOutcome}
 use Rattle.input_answers.specs.declared.outcome.Status.{Status}
 use Rattle.input_answers.specs.DueGroups.{DueGroups, edited}
-use Rattle.input_answers.specs.GroupsText.{IsGroupsReport}
+use Rattle.reply_report.specs.GroupsText.{IsGroupsReport}
 use Rattle.input_answers.specs.Played.{Played, groups_played}
 use Rattle.input_answers.proofs.groups.carry_out.Goals as goal
 

@@ -7,7 +7,7 @@ use Rattle.tally_tree.specs.Tallies.{Counted}
 use Rattle.input_answers.specs.declared.outcome.Status.{Status}
 use Rattle.input_answers.specs.declared.outcome.Status.TheVariants.{Done}
 use Rattle.input_answers.specs.DueTally.{IsDueRange, bad_range, tallied}
-use Rattle.input_answers.specs.TallyText.{tally_text}
+use Rattle.reply_report.specs.TallyText.{tally_text}
 use Rattle.input_answers.proofs.tally.tally_at_end.Goals as goal
 
 pub returns-then-not-has_blocks : goal.returns-then-not-has_blocks

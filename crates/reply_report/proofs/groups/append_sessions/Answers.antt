@@ -2,9 +2,9 @@ use Rattle.std.proofs.Common.{◌∙◌, ◌++◌, refl, length, map, ap}
 use Rattle.std.specs.Option.{option_map}
 use Rattle.std.proofs.lemmas.Option.{slice_get-map, slice_get_read}
 use Rattle.edit_journal.specs.Documents.{names_at}
-use Rattle.input_answers.specs.GroupsText.{steps_session, steps_sessions}
+use Rattle.reply_report.specs.GroupsText.{steps_session, steps_sessions}
 use Rattle.knit_base.proofs.Rests.{numbered-one}
-use Rattle.input_answers.proofs.group_report.append_sessions.Goals as goal
+use Rattle.reply_report.proofs.groups.append_sessions.Goals as goal
 
 pub loop-session-preserved : goal.loop-session-preserved
 loop-session-preserved c =

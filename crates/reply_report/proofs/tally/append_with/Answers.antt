@@ -1,7 +1,7 @@
 use Rattle.std.proofs.Common.{◌∙◌, ◌<◌, ℕ, length, get_or, ap, sym, arith}
 use Rattle.std.specs.Option.{option_copied}
-use Rattle.input_answers.proofs.TallyLines.{with_more}
-use Rattle.input_answers.proofs.tally_report.append_with.Goals as goal
+use Rattle.reply_report.proofs.TallyLines.{with_more}
+use Rattle.reply_report.proofs.tally.append_with.Goals as goal
 
 pub loop-c-preserved : goal.loop-c-preserved
 loop-c-preserved c = (

@@ -1,7 +1,7 @@
 //! The report of a script of groups.
 ghost use Rattle.std.specs.Prelude.{◌≡◌, ◌≤◌, ◌+◌, ◌++◌, map, IfOk, OnOk};
 ghost use Rattle.edit_journal.specs.Documents.{names_at};
-ghost use Rattle.input_answers.specs.GroupsText.{IsGroupsReport, done_text, numbered_step, refused_text, step_text, steps_session, steps_sessions, steps_text};
+ghost use Rattle.reply_report.specs.GroupsText.{IsGroupsReport, done_text, numbered_step, refused_text, step_text, steps_session, steps_sessions, steps_text};
 
 use carriage_model::Brief;
 use edit_book::{Book, Reply};
@@ -12,7 +12,7 @@ use std::sync::ledger::Ledger;
 use verdict_report::{report_brief, report_end, report_told};
 
 /// What each session was answered, the journal and the verdict on the document as it is. It costs a step at most.
-pub(crate) fn report_of<L: Ledger>(
+pub fn groups_of<L: Ledger>(
     alloc: Global,
     book: &Book,
     replies: &GroupReplies,
@@ -87,8 +87,8 @@ fn append_numbered(
     append_step(alloc, reply, book, out)
 }
 
-// Appends what a step is answered.
-fn append_step(
+/// Appends what a step is answered.
+pub(crate) fn append_step(
     alloc: Global,
     reply: &GroupReply,
     book: &Book,

@@ -1,7 +1,7 @@
 use Rattle.std.proofs.Common.{◌≡◌, ◌++◌, drop, map}
 use Rattle.edit_journal.specs.Documents.{names_at}
-use Rattle.input_answers.specs.GroupsText.{steps_sessions}
-use Rattle.input_answers.proofs.group_report.append_sessions.Given as goal
+use Rattle.reply_report.specs.GroupsText.{steps_sessions}
+use Rattle.reply_report.proofs.groups.append_sessions.Given as goal
 
 abbrev pub invariant-loop-session : goal.invariant-loop-session
 invariant-loop-session l =

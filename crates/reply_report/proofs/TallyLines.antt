@@ -3,7 +3,7 @@ use Rattle.std.proofs.Common.{◌≡◌, ◌∙◌, ℕ, zero, suc, ◌+◌, ◌
 use Rattle.std.specs.List.{slice_get}
 use Rattle.std.proofs.lemmas.List.{append_assoc}
 use Rattle.verdict_report.specs.VerdictText.{Text}
-use Rattle.input_answers.specs.TallyText.{with_line, with_lines}
+use Rattle.reply_report.specs.TallyText.{with_line, with_lines}
 
 dropped : {X : Type 0} (xs : List X) (i : ℕ) (x : X) → slice_get xs i ≡ Some x → drop i xs ≡ x ∷ drop (suc i) xs
 dropped [] zero x e = cc (e)

@@ -1,7 +1,7 @@
 //! The report of a tally.
 ghost use Rattle.std.specs.Prelude.{◌≡◌, ◌++◌, length, IfOk, OnOk};
 ghost use Rattle.tally_tree.specs.Tallies.{counted};
-ghost use Rattle.input_answers.specs.TallyText.{class_labels, labelled_each, spaced_needles, tally_line, tally_text, with_line, with_lines};
+ghost use Rattle.reply_report.specs.TallyText.{class_labels, labelled_each, spaced_needles, tally_line, tally_text, with_line, with_lines};
 
 use knit_base::{CarrierNo, Declared, Needle, NoMemory, append_labelled, append_needle};
 use std::alloc::Global;
@@ -9,7 +9,7 @@ use tally_tree::Tally;
 
 /// What the blocks from one place to another come to, for carriers of these names: the lines and the operations of each class, the lines
 /// that form loops with each carrier, and the needles.
-pub(crate) fn tally_report(
+pub fn tally_of(
     alloc: Global,
     from: u32,
     to: u32,
@@ -20,12 +20,27 @@ pub(crate) fn tally_report(
     ensures { IfOk result (λ text. text.items ≡ tally_text from to declared.now (counted tally.now)) }
 {
     let mut text = Vec::new(alloc);
-    append_first_line(from, to, tally, &mut text)?;
-    append_with(declared, &tally.with, &mut text)?;
-    text.extend_from_slice(b"needles")?;
-    append_needles(&tally.needles, &mut text)?;
-    text.extend_from_slice(b"\n")?;
+    append_tally(from, to, tally, declared, &mut text)?;
     Ok(text)
+}
+
+/// Appends what `tally_of` makes.
+pub(crate) fn append_tally(
+    from: u32,
+    to: u32,
+    tally: &Tally,
+    declared: &Declared,
+    out: &mut Vec<u8>,
+) -> Result<(), NoMemory>
+    requires { length tally.now.with.items ≡ length declared.now }
+    ensures { OnOk result (out.new.items ≡ out.old.items ++ tally_text from to declared.now (counted tally.now)) }
+{
+    append_first_line(from, to, tally, out)?;
+    append_with(declared, &tally.with, out)?;
+    out.extend_from_slice(b"needles")?;
+    append_needles(&tally.needles, out)?;
+    out.extend_from_slice(b"\n")?;
+    Ok(())
 }
 
 // Appends the places, the number of lines, and that of the operations of each class.

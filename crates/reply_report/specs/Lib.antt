@@ -1,0 +1,3 @@
+pub mod GroupsText
+pub mod TalkText
+pub mod TallyText
