@@ -1,0 +1,95 @@
+//! The document of a conversation: a shared book of which one pass has all numbers.
+ghost use Rattle.std.specs.Prelude.{◌≡◌, ◌<◌, [], ℕ, List, true, IfOk};
+ghost use Rattle.knit_base.specs.Limits.{IsLawfulProfile};
+ghost use Rattle.script_reader.specs.Groups.{is_lawful_step};
+ghost use Rattle.edit_book.specs.Memory.{Memory};
+ghost use Rattle.edit_book.specs.Session.{HasNames};
+ghost use Rattle.edit_groups.specs.Alone.{IsAnsweredAt, IsSessionAt};
+ghost use Rattle.edit_groups.specs.Chunks.{entries_of};
+ghost use Rattle.talk_desk.specs.Hosts.{IsDocument, IsLent, known_in, opening_in};
+
+use edit_book::Book;
+use edit_groups::{GroupBook, GroupReply, GroupSession, do_alone};
+use knit_base::{NoMemory, Setting};
+use script_reader::Step;
+use std::alloc::Global;
+use std::sync::Wait;
+use std::thread::Threads;
+use turn_book::{Held, Pass, Shared};
+
+// How many sessions there may be.
+pub const SESSION_LIMIT: u32 = 64;
+
+/// A document that the sessions of a conversation edit, and how its first blocks are read. It has its pass, but while its book is lent.
+#[derive(Drop)]
+pub struct Document {
+    pub(crate) shared: Shared<GroupBook>,
+    pub(crate) pass: Option<Pass<GroupBook>>,
+    pub(crate) setting: Setting,
+}
+
+impl Document {
+    /// A document that nobody has edited yet. The only error is want of memory.
+    pub fn start<R: Threads>(rt: &R, alloc: Global, book: Book) -> Result<Self, NoMemory>
+        requires profile { IsLawfulProfile book.opening.setting.profile }
+        requires unedited { book.entries ≡ [] }
+        ensures document { IfOk result IsDocument }
+        ensures opening { IfOk result (λ d. opening_in d ≡ book.opening) }
+        ensures known { IfOk result (λ d. known_in d ≡ []) }
+    {
+        let setting = book.setting().try_clone()?;
+        let (shared, pass) = Shared::start(rt, alloc, GroupBook::of(alloc, book), SESSION_LIMIT)?;
+        Ok(Document {
+            shared,
+            pass: Some(pass),
+            setting,
+        })
+    }
+
+    /// Carries out one step of a session.
+    pub fn step<R: Threads + Wait + Sync>(
+        &mut self,
+        rt: &R,
+        alloc: Global,
+        session: &mut GroupSession,
+        step: &Step,
+    ) -> GroupReply
+        requires document { IsDocument self.old }
+        requires number { session.old.session.number < 64 }
+        requires lawful { is_lawful_step step.now ≡ true }
+        requires names { HasNames (opening_in self.old) (entries_of (known_in self.old)) session.old.session }
+        ensures document { IsDocument self.new }
+        ensures opening { opening_in self.new ≡ opening_in self.old }
+        ensures number { session.new.session.number ≡ session.old.session.number }
+        ensures answered { (m : Memory) → IsSessionAt (opening_in self.old) (known_in self.old) m session.old
+            → IsAnsweredAt (opening_in self.old) session.old.session.number m step.now result (known_in self.old) (known_in self.new) session.new }
+    {
+        let Some(pass) = &mut self.pass else {
+            unreachable!()
+        };
+        do_alone(rt, alloc, &self.shared, pass, &self.setting, session, step)
+    }
+
+    /// Lends the book, to be looked at until it is given back.
+    pub fn lend<R: Wait>(&mut self, rt: &R) -> Held<GroupBook>
+        requires document { IsDocument self.old }
+        ensures lent { IsLent self.new result }
+        ensures opening { opening_in self.new ≡ opening_in self.old }
+        ensures book { (result.book.opening ≡ opening_in self.old) × (result.book.chunks ≡ known_in self.old) }
+    {
+        let Some(pass) = self.pass.take() else {
+            unreachable!()
+        };
+        self.shared.hold(rt, pass)
+    }
+
+    /// Takes the book back.
+    pub fn take_back(&mut self, held: Held<GroupBook>)
+        requires lent { IsLent self.old held }
+        ensures document { IsDocument self.new }
+        ensures opening { opening_in self.new ≡ opening_in self.old }
+        ensures known { known_in self.new ≡ held.book.chunks }
+    {
+        self.pass = Some(self.shared.give_back(held));
+    }
+}
