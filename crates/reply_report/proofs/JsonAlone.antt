@@ -1,5 +1,5 @@
 -- What is said without a frame as JSON, from its parts.
-use Rattle.std.proofs.Common.{◌≡◌, ◌∙◌, ℕ, Option, false, List, [], ◌∷◌, ◌++◌, length, codes, refl, ap}
+use Rattle.std.proofs.Common.{◌≡◌, ◌∙◌, ℕ, Option, false, List, [], ◌∷◌, ◌++◌, length, codes, ap}
 use Rattle.carriage_model.specs.declared.verdict.Brief.{Brief}
 use Rattle.carriage_model.specs.declared.verdict.Verdict.{Verdict}
 use Rattle.block_summary.specs.Verdicts.{broken_line}

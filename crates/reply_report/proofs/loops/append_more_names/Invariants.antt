@@ -1,4 +1,4 @@
-use Rattle.std.proofs.Common.{◌≡◌, ◌++◌, decimal, take}
+use Rattle.std.proofs.Common.{◌≡◌, ◌++◌, take}
 use Rattle.verdict_report.specs.JsonText.{more_text}
 use Rattle.reply_report.specs.TalkJson.{carrier_string}
 use Rattle.reply_report.proofs.loops.append_more_names.Given as goal

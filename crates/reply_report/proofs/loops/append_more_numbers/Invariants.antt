@@ -1,6 +1,5 @@
 use Rattle.std.proofs.Common.{◌≡◌, ◌++◌, decimal, take}
 use Rattle.verdict_report.specs.JsonText.{more_text}
-use Rattle.reply_report.specs.TalkJson.{carrier_string}
 use Rattle.reply_report.proofs.loops.append_more_numbers.Given as goal
 
 abbrev pub invariant-lines : goal.invariant-lines

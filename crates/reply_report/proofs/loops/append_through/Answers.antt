@@ -1,7 +1,7 @@
 use Rattle.std.proofs.Common.{◌∙◌, ◌++◌, true, codes, ap, refl}
 use Rattle.std.proofs.lemmas.Result.{on_ok_weaker}
 use Rattle.serde_json.specs.Written.{compact_text}
-use Rattle.verdict_report.specs.VerdictJson.{count_value, list_value, name_value}
+use Rattle.verdict_report.specs.VerdictJson.{count_value, list_value}
 use Rattle.std.proofs.Common.{decimal}
 use Rattle.reply_report.proofs.JsonMembers.{list-is, member-written}
 use Rattle.reply_report.proofs.loops.append_through.Goals as goal

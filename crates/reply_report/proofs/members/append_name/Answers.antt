@@ -1,4 +1,4 @@
-use Rattle.std.proofs.Common.{◌≡◌, ◌∙◌, ◌++◌, true, false, codes, ap}
+use Rattle.std.proofs.Common.{◌≡◌, ◌∙◌, ◌++◌, false, codes, ap}
 use Rattle.std.proofs.lemmas.Result.{on_ok_weaker}
 use Rattle.json.specs.Print.{quoted}
 use Rattle.verdict_report.specs.LiveText.{block_name_text}

@@ -1,7 +1,6 @@
-use Rattle.std.proofs.Common.{◌∙◌, codes}
+use Rattle.std.proofs.Common.{◌∙◌}
 use Rattle.std.proofs.lemmas.Result.{on_ok_weaker}
 use Rattle.serde_json.specs.Data.{Members, no_members}
-use Rattle.reply_report.specs.TalkJson.{count_member}
 use Rattle.reply_report.proofs.members.append_version.Goals as goal
 
 pub returns : goal.returns

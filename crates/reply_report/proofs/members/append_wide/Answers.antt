@@ -1,4 +1,3 @@
-use Rattle.std.proofs.Common.{true, false, codes}
 use Rattle.std.proofs.lemmas.Result.{on_ok_weaker}
 use Rattle.std.proofs.Common.{decimal}
 use Rattle.reply_report.proofs.JsonMembers.{member-written}

@@ -1,4 +1,3 @@
-use Rattle.std.proofs.Common.{◌∙◌, ◌++◌, true, false, codes, ap}
 use Rattle.std.proofs.lemmas.Result.{on_ok_weaker}
 use Rattle.json.specs.Print.{quoted}
 use Rattle.reply_report.proofs.JsonMembers.{member-written}

@@ -1,11 +1,8 @@
-use Rattle.std.proofs.Common.{◌∙◌, ◌++◌, ap, true, false, codes}
+use Rattle.std.proofs.Common.{◌∙◌, ◌++◌, ap, true, codes}
 use Rattle.std.proofs.lemmas.Result.{on_ok_weaker}
 use Rattle.std.proofs.Common.{Some, length}
-use Rattle.edit_journal.specs.Documents.{document_of}
-use Rattle.edit_book.specs.Listing.{places}
-use Rattle.verdict_report.specs.VerdictJson.{list_value}
-use Rattle.serde_json.specs.Data.{Members, member}
-use Rattle.reply_report.specs.TalkJson.{frame_members, listed_value, version_member}
+use Rattle.serde_json.specs.Data.{Members}
+use Rattle.reply_report.specs.TalkJson.{frame_members, version_member}
 use Rattle.serde_json.specs.Written.{members_text}
 use Rattle.reply_report.proofs.questions_json.append_listing.Goals as goal
 

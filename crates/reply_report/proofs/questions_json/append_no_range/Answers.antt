@@ -1,7 +1,6 @@
 use Rattle.std.proofs.Common.{◌∙◌, ◌++◌, ap, true, false, codes}
 use Rattle.std.proofs.lemmas.Result.{on_ok_weaker}
 use Rattle.std.proofs.Common.{Some, length}
-use Rattle.edit_journal.specs.Documents.{document_of}
 use Rattle.serde_json.specs.Data.{Members}
 use Rattle.reply_report.specs.TalkJson.{count_member, frame_members, version_member}
 use Rattle.serde_json.specs.Written.{members_text}

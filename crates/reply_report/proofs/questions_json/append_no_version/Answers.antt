@@ -2,7 +2,7 @@ use Rattle.std.proofs.Common.{◌∙◌, codes}
 use Rattle.std.proofs.lemmas.Result.{on_ok_weaker}
 use Rattle.std.proofs.Common.{Some}
 use Rattle.serde_json.specs.Data.{Members}
-use Rattle.reply_report.specs.TalkJson.{count_member, frame_members, version_member}
+use Rattle.reply_report.specs.TalkJson.{frame_members, version_member}
 use Rattle.reply_report.proofs.questions_json.append_no_version.Goals as goal
 
 pub returns : goal.returns

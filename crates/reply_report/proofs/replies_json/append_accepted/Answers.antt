@@ -1,7 +1,7 @@
 use Rattle.std.proofs.Common.{◌∙◌, codes}
 use Rattle.std.proofs.lemmas.Result.{on_ok_weaker}
 use Rattle.serde_json.specs.Data.{Members, member}
-use Rattle.reply_report.specs.TalkJson.{block_member, brief_value, broken_member, frame_members, version_member}
+use Rattle.reply_report.specs.TalkJson.{brief_value, broken_member, frame_members, version_member}
 use Rattle.reply_report.proofs.replies_json.append_accepted.Goals as goal
 
 pub returns : goal.returns

@@ -1,7 +1,7 @@
 use Rattle.std.proofs.Common.{◌∙◌, codes}
 use Rattle.std.proofs.lemmas.Result.{on_ok_weaker}
 use Rattle.serde_json.specs.Data.{Members, no_members}
-use Rattle.reply_report.specs.TalkJson.{count_member, frame_members}
+use Rattle.reply_report.specs.TalkJson.{frame_members}
 use Rattle.reply_report.proofs.replies_json.append_block_long.Goals as goal
 
 pub returns : goal.returns

@@ -1,4 +1,4 @@
-use Rattle.std.proofs.Common.{◌∙◌, ◌++◌, ap, true, false, codes}
+use Rattle.std.proofs.Common.{◌∙◌, ◌++◌, ap, true, codes}
 use Rattle.std.proofs.lemmas.Result.{on_ok_weaker}
 use Rattle.verdict_report.specs.LiveText.{which_word}
 use Rattle.serde_json.specs.Data.{Members, member, no_members, string}

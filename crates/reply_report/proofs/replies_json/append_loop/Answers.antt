@@ -1,7 +1,7 @@
 use Rattle.std.proofs.Common.{◌∙◌, codes}
 use Rattle.std.proofs.lemmas.Result.{on_ok_weaker}
-use Rattle.serde_json.specs.Data.{Members, member}
-use Rattle.reply_report.specs.TalkJson.{fact_value, frame_members, version_member}
+use Rattle.serde_json.specs.Data.{Members}
+use Rattle.reply_report.specs.TalkJson.{frame_members, version_member}
 use Rattle.reply_report.proofs.replies_json.append_loop.Goals as goal
 
 pub returns : goal.returns

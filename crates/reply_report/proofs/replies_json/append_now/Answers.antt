@@ -1,9 +1,9 @@
-use Rattle.std.proofs.Common.{◌∙◌, ◌++◌, ap, true, false, codes}
+use Rattle.std.proofs.Common.{◌∙◌, ◌++◌, ap, codes}
 use Rattle.std.proofs.lemmas.Result.{on_ok_weaker}
 use Rattle.std.proofs.Common.{None}
 use Rattle.verdict_report.specs.VerdictJson.{verdict_value}
 use Rattle.serde_json.specs.Data.{Members, member}
-use Rattle.reply_report.specs.TalkJson.{broken_member, frame_members, version_member}
+use Rattle.reply_report.specs.TalkJson.{frame_members, version_member}
 use Rattle.serde_json.specs.Written.{members_text}
 use Rattle.reply_report.proofs.replies_json.append_now.Goals as goal
 

@@ -1,7 +1,7 @@
 use Rattle.std.proofs.Common.{◌∙◌, codes}
 use Rattle.std.proofs.lemmas.Result.{on_ok_weaker}
 use Rattle.serde_json.specs.Data.{Members}
-use Rattle.reply_report.specs.TalkJson.{block_member, count_member, number_member, reply_member, session_member, version_member}
+use Rattle.reply_report.specs.TalkJson.{count_member, number_member, reply_member, session_member, version_member}
 use Rattle.reply_report.proofs.replies_json.append_stale.Goals as goal
 
 pub returns : goal.returns

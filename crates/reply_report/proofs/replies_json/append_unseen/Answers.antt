@@ -1,7 +1,6 @@
 use Rattle.std.proofs.Common.{◌∙◌, codes}
 use Rattle.std.proofs.lemmas.Result.{on_ok_weaker}
-use Rattle.verdict_report.specs.LiveText.{block_name_text}
-use Rattle.serde_json.specs.Data.{Members, member, no_members, string}
+use Rattle.serde_json.specs.Data.{Members, no_members}
 use Rattle.reply_report.specs.TalkJson.{frame_members}
 use Rattle.reply_report.proofs.replies_json.append_unseen.Goals as goal
 

@@ -1,7 +1,7 @@
 use Rattle.std.proofs.Common.{◌∙◌, codes}
 use Rattle.std.proofs.lemmas.Result.{on_ok_weaker}
 use Rattle.serde_json.specs.Data.{Members, member, no_members, string}
-use Rattle.reply_report.specs.TalkJson.{anchor_value, count_member}
+use Rattle.reply_report.specs.TalkJson.{count_member}
 use Rattle.reply_report.proofs.since_json.append_add.Goals as goal
 
 pub returns : goal.returns

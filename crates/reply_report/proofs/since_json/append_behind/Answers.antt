@@ -1,9 +1,8 @@
-use Rattle.std.proofs.Common.{◌∙◌, ◌++◌, ap, true, false, codes}
+use Rattle.std.proofs.Common.{◌∙◌, ◌++◌, ap, true, codes}
 use Rattle.std.proofs.lemmas.Result.{on_ok_weaker}
-use Rattle.std.proofs.Common.{◌+◌, Some, drop, length}
-use Rattle.serde_json.specs.View.{items_of}
-use Rattle.serde_json.specs.Data.{Members, array, member}
-use Rattle.reply_report.specs.TalkJson.{count_member, frame_members, numbered_values, version_member}
+use Rattle.std.proofs.Common.{Some, length}
+use Rattle.serde_json.specs.Data.{Members}
+use Rattle.reply_report.specs.TalkJson.{count_member, frame_members, version_member}
 use Rattle.serde_json.specs.Written.{members_text}
 use Rattle.reply_report.proofs.since_json.append_behind.Goals as goal
 

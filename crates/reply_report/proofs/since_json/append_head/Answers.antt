@@ -2,7 +2,7 @@ use Rattle.std.proofs.Common.{◌∙◌, codes}
 use Rattle.std.proofs.lemmas.Result.{on_ok_weaker}
 use Rattle.verdict_report.specs.VerdictJson.{list_value}
 use Rattle.serde_json.specs.Data.{Members, member, string}
-use Rattle.reply_report.specs.TalkJson.{count_member, seen_members}
+use Rattle.reply_report.specs.TalkJson.{seen_members}
 use Rattle.reply_report.proofs.since_json.append_head.Goals as goal
 
 pub returns : goal.returns

@@ -1,4 +1,4 @@
-use Rattle.std.proofs.Common.{true, false, codes}
+use Rattle.std.proofs.Common.{true, codes}
 use Rattle.std.proofs.lemmas.Result.{on_ok_weaker}
 use Rattle.serde_json.specs.Written.{compact_text}
 use Rattle.serde_json.specs.Data.{string}

@@ -1,8 +1,8 @@
 use Rattle.std.proofs.Common.{◌∙◌, codes}
 use Rattle.std.proofs.lemmas.Result.{on_ok_weaker}
 use Rattle.std.proofs.Common.{Some}
-use Rattle.serde_json.specs.Data.{Members, member}
-use Rattle.reply_report.specs.TalkJson.{brief_value, broken_member, count_member, frame_members, version_member}
+use Rattle.serde_json.specs.Data.{Members}
+use Rattle.reply_report.specs.TalkJson.{broken_member, count_member, frame_members, version_member}
 use Rattle.reply_report.proofs.steps_json.append_done.Goals as goal
 
 pub returns : goal.returns

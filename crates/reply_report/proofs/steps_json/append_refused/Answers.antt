@@ -3,7 +3,7 @@ use Rattle.std.proofs.lemmas.Result.{on_ok_weaker}
 use Rattle.std.proofs.Common.{None, Some}
 use Rattle.edit_journal.specs.Documents.{names_at}
 use Rattle.serde_json.specs.Data.{Members, member, object}
-use Rattle.reply_report.specs.TalkJson.{count_member, frame_members, told_members, version_member}
+use Rattle.reply_report.specs.TalkJson.{frame_members, told_members, version_member}
 use Rattle.reply_report.proofs.steps_json.append_refused.Goals as goal
 
 pub returns : goal.returns

@@ -1,4 +1,4 @@
-use Rattle.std.proofs.Common.{◌≡◌, ◌∙◌, ◌++◌, true, false, codes, ap}
+use Rattle.std.proofs.Common.{◌≡◌, ◌∙◌, ◌++◌, true, codes, ap}
 use Rattle.std.proofs.lemmas.Result.{on_ok_weaker}
 use Rattle.json.specs.Print.{quoted}
 use Rattle.knit_base.specs.Spelling.{rack_text}

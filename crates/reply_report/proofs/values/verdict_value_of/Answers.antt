@@ -1,5 +1,4 @@
-use Rattle.std.proofs.Common.{◌≡◌, ◌∙◌, None, arith, length}
-use Rattle.std.specs.Vec.{vec_len}
+use Rattle.std.proofs.Common.{None, arith}
 use Rattle.std.proofs.lemmas.Grind.{common_steps}
 use Rattle.serde_json.specs.Written.{compact_text}
 use Rattle.verdict_report.specs.VerdictJson.{verdict_value}

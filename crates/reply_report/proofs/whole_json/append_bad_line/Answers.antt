@@ -1,6 +1,5 @@
-use Rattle.std.proofs.Common.{◌∙◌, ◌++◌, ap, true, false, codes}
+use Rattle.std.proofs.Common.{◌∙◌, ◌++◌, ap, false, codes}
 use Rattle.std.proofs.lemmas.Result.{on_ok_weaker}
-use Rattle.reply_report.specs.TalkText.{cause_name}
 use Rattle.serde_json.specs.Data.{Members, member, no_members, string}
 use Rattle.reply_report.specs.TalkJson.{count_member, reply_member}
 use Rattle.serde_json.specs.Written.{members_text}

@@ -1,9 +1,9 @@
-use Rattle.std.proofs.Common.{◌∙◌, ◌++◌, ap, true, false, codes}
+use Rattle.std.proofs.Common.{◌∙◌, ◌++◌, ap, codes}
 use Rattle.std.proofs.lemmas.Result.{on_ok_weaker}
 use Rattle.std.proofs.Common.{None}
 use Rattle.verdict_report.specs.VerdictJson.{verdict_value}
 use Rattle.serde_json.specs.Data.{Members, member}
-use Rattle.reply_report.specs.TalkJson.{broken_member, reply_member, version_member}
+use Rattle.reply_report.specs.TalkJson.{reply_member, version_member}
 use Rattle.serde_json.specs.Written.{members_text}
 use Rattle.reply_report.proofs.whole_json.append_final.Goals as goal
 

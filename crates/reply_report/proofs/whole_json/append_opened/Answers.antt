@@ -1,7 +1,7 @@
 use Rattle.std.proofs.Common.{◌∙◌, codes}
 use Rattle.std.proofs.lemmas.Result.{on_ok_weaker}
 use Rattle.serde_json.specs.Data.{Members, member}
-use Rattle.reply_report.specs.TalkJson.{brief_value, broken_member, count_member, reply_member, version_member}
+use Rattle.reply_report.specs.TalkJson.{brief_value, broken_member, reply_member, version_member}
 use Rattle.reply_report.proofs.whole_json.append_opened.Goals as goal
 
 pub returns : goal.returns
