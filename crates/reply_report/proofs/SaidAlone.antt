@@ -1,5 +1,5 @@
 -- What is said without a frame, from its parts.
-use Rattle.std.proofs.Common.{◌≡◌, ◌∙◌, List, [], ◌++◌, length, codes, refl, ap, append_assoc}
+use Rattle.std.proofs.Common.{◌≡◌, ◌∙◌, List, [], ◌++◌, length, codes, ap, append_assoc}
 use Rattle.carriage_model.specs.declared.verdict.Brief.{Brief}
 use Rattle.carriage_model.specs.declared.verdict.Verdict.{Verdict}
 use Rattle.block_summary.specs.Verdicts.{broken_line}

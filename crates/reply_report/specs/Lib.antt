@@ -1,3 +1,4 @@
 pub mod GroupsText
+pub mod TalkJson
 pub mod TalkText
 pub mod TallyText

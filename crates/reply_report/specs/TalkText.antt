@@ -1,5 +1,5 @@
 -- What is said in a conversation, as text.
-use Rattle.std.specs.Prelude.{◌≡◌, ℕ, ◌+◌, ◌-◌, nat_lt, nat_le, count_by, Option, None, Some, List, [], ◌++◌, length, drop, flat_map, codes, decimal, if◌then◌else◌}
+use Rattle.std.specs.Prelude.{◌≡◌, ℕ, ◌+◌, ◌-◌, nat_lt, nat_le, count_by, Option, None, Some, List, [], ◌++◌, length, drop, flat_map, codes, if◌then◌else◌}
 use Rattle.knit_base.specs.Lines.{is_line_feed}
 use Rattle.knit_base.specs.Spelling.{labelled}
 use Rattle.carriage_model.specs.declared.verdict.Brief.{Brief}
@@ -9,7 +9,7 @@ use Rattle.carriage_model.specs.declared.verdict.Verdict.TheVariants as verdict
 use Rattle.block_summary.specs.Verdicts.{broken_line}
 use Rattle.edit_journal.specs.declared.edit.Entry.{Entry}
 use Rattle.edit_journal.specs.declared.opening.Opening.{Opening}
-use Rattle.edit_journal.specs.Documents.{Document, body, document_of, names_at, text_at}
+use Rattle.edit_journal.specs.Documents.{body, document_of, names_at, text_at}
 use Rattle.edit_book.specs.declared.listed.BlockPlace.{BlockPlace}
 use Rattle.edit_book.specs.declared.listed.LinePlace.{LinePlace}
 use Rattle.edit_book.specs.declared.reply.Reply.{Reply}

@@ -69,8 +69,8 @@ fn append_bad_line(line: u64, cause: Cause, out: &mut Vec<u8>) -> Result<(), NoM
     Ok(())
 }
 
-// The name of what is wrong with a line.
-fn cause_name(cause: Cause) -> &'static str
+/// The name of what is wrong with a line.
+pub(crate) fn cause_name(cause: Cause) -> &'static str
     ensures { result.now ≡ cause_name cause }
 {
     match cause {
@@ -87,13 +87,13 @@ fn cause_name(cause: Cause) -> &'static str
 
 /// The verdict on the document as it is, and the line at which it is broken.
 #[derive(Drop)]
-struct Ending {
-    verdict: Verdict,
-    broken: Text,
+pub(crate) struct Ending {
+    pub(crate) verdict: Verdict,
+    pub(crate) broken: Text,
 }
 
-// What the document comes to at its version.
-fn ending_of<L: Ledger>(book: &Book, steps: &mut Steps<L>) -> Result<Ending, NoMemory>
+/// What the document comes to at its version.
+pub(crate) fn ending_of<L: Ledger>(book: &Book, steps: &mut Steps<L>) -> Result<Ending, NoMemory>
     ensures ending { IfOk result (λ ending. let d = document_of book.now.opening book.now.entries in HasVerdict (setting_of book.now.opening d) (body d) ending.verdict × (ending.broken ≡ broken_line (setting_of book.now.opening d).first (body d) ending.verdict)) }
     ensures steps { steps.new ≤ steps.old + 1 }
 {

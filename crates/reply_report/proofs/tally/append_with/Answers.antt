@@ -1,4 +1,4 @@
-use Rattle.std.proofs.Common.{◌∙◌, ◌<◌, ℕ, length, get_or, ap, sym, arith}
+use Rattle.std.proofs.Common.{◌∙◌, ℕ, get_or, ap, sym, arith}
 use Rattle.std.specs.Option.{option_copied}
 use Rattle.reply_report.proofs.TallyLines.{with_more}
 use Rattle.reply_report.proofs.tally.append_with.Goals as goal

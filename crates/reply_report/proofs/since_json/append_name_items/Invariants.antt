@@ -1,0 +1,8 @@
+use Rattle.std.proofs.Common.{◌≡◌, ◌++◌, false, drop, map}
+use Rattle.serde_json.specs.View.{items_of}
+use Rattle.serde_json.specs.Written.{items_text}
+use Rattle.serde_json.specs.Data.{string}
+use Rattle.reply_report.proofs.since_json.append_name_items.Given as goal
+
+abbrev pub invariant-each : goal.invariant-each
+invariant-each l = l.out.items ++ items_text l.later (items_of (map string (drop l.at l.declared))) ≡ l.fn.out.items ++ items_text false (items_of (map string l.declared))

@@ -1,0 +1,10 @@
+use Rattle.std.proofs.Common.{map}
+use Rattle.serde_json.specs.View.{items_of}
+use Rattle.serde_json.specs.Data.{string}
+use Rattle.reply_report.proofs.JsonMembers.{list-written}
+use Rattle.reply_report.proofs.values.append_text_list.Goals as goal
+
+pub returns : goal.returns
+returns g c =
+    list-written c.args.out.now.items c.extend_from_slice.new.self.items c.append_text_items.new.out.items c.extend_from_slice-2.new.self.items (items_of (map string c.args.text.now))
+    c.in_ok-extend_from_slice.ensures.items c.in_ok-append_text_items.ensures c.in_ok-extend_from_slice-2.ensures.items
