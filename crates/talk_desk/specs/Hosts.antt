@@ -1,5 +1,5 @@
 -- What is kept of a conversation.
-use Rattle.std.specs.Prelude.{◌≡◌, ⊤, true, ◌≤◌, map, ℕ, ◌+◌, ◌-◌, ◌^◌, ◌<◌, List, [], ◌++◌, length, slice_get, Option, None, Some, MatchOption}
+use Rattle.std.specs.Prelude.{◌≡◌, ℕ, ◌+◌, List, [], ◌++◌, Option, MatchOption}
 use Rattle.std.specs.Option.{option_map_or}
 use Rattle.knit_base.specs.Limits.{IsLawfulProfile}
 use Rattle.edit_journal.specs.declared.opening.Opening.{Opening}
@@ -19,6 +19,7 @@ use Rattle.turn_book.specs.Walk.{IsGiven}
 use Rattle.turn_book.specs.declared.booked.Booked.{Ghosts}
 use Rattle.turn_book.specs.declared.pass.Held.{Held}
 use Rattle.reply_report.specs.TalkText.{step_said}
+use Rattle.talk_desk.specs.Conversation.{Standing}
 use Rattle.talk_desk.specs.declared.document.Document.{Document}
 use Rattle.talk_desk.specs.declared.steps.Talker.{Talker}
 
