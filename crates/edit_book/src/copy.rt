@@ -28,6 +28,14 @@ impl Book {
         Ok(Book { outline, tree })
     }
 
+    /// A copy of the outline alone. The only error is want of memory.
+    pub fn clone_outline(&self) -> Result<Outline, NoMemory>
+        ensures opening { IfOk result (λ outline. outline.opening ≡ self.now.opening) }
+        ensures entries { IfOk result (λ outline. outline.entries ≡ self.now.entries) }
+    {
+        self.outline.try_clone()
+    }
+
     // A tree of the same leaves, in a box.
     fn copied_tree<L: Ledger>(&self, steps: &mut Steps<L>) -> Result<Box<Tree>, NoMemory>
         ensures leaves { IfOk result (λ tree. tree.value.leaves ≡ self.now.tree.leaves) }

@@ -6,7 +6,6 @@ pub mod BookLoops
 pub mod Dues
 pub mod EntryNumbers
 pub mod Exclusions
-pub mod FirstBlocks
 pub mod Fronts
 pub mod GivenNames
 pub mod GroupDues

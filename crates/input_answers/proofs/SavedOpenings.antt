@@ -17,13 +17,12 @@ use Rattle.edit_journal.specs.Documents.{lines_in, opened_from}
 use Rattle.edit_sessions.specs.Laws.{KeepsLimits}
 use Rattle.journal_file.specs.Heads.{IsWholeHead, names_in_head}
 use Rattle.edit_book.specs.Outlines.{texts_of}
-use Rattle.journal_file.specs.SavedParts.{IsFirstText, IsShortLine, numbered_from, opening_of}
+use Rattle.journal_file.specs.SavedParts.{IsFirstText, IsShortLine, numbered_from, opening_of, first_blocks}
 use Rattle.journal_file.proofs.HeadLaws.{names_known}
 use Rattle.input_answers.specs.Asked.{IsLawfulChosen}
 use Rattle.input_answers.specs.CheckReport.{body_of}
 use Rattle.input_answers.specs.Due.{Fits, blocks_of}
 use Rattle.input_answers.specs.DueLive.{AreBlocks, IsOpening}
-use Rattle.input_answers.specs.LiveText.{first_blocks}
 use Rattle.input_answers.proofs.Openings.{blocks-count}
 
 -- the lines with which a head goes on are all of their own head

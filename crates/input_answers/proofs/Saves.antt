@@ -19,7 +19,7 @@ use Rattle.script_reader.specs.declared.command.Command.{Command}
 use Rattle.turn_book.specs.Legal.{EachEntry}
 use Rattle.edit_sessions.specs.Laws.{ComesAsked, IsLegal}
 use Rattle.edit_sessions.proofs.Comings.{entries_come}
-use Rattle.journal_file.specs.SavedParts.{IsLawfulSaved, IsWritable, IsWritten, MayAllCome, opening_of}
+use Rattle.journal_file.specs.SavedParts.{IsLawfulSaved, IsWritable, IsWritten, MayAllCome, opening_of, first_blocks}
 use Rattle.journal_file.specs.Spelling.{spelling}
 use Rattle.journal_file.proofs.JournalReadings.{one_spelling}
 use Rattle.verdict_report.specs.LiveText.{IsFinalReport}
@@ -31,7 +31,6 @@ use Rattle.input_answers.specs.CheckReport.{body_of}
 use Rattle.input_answers.specs.Due.{Fits}
 use Rattle.input_answers.specs.DueLive.{DueLive, HasScript, IsOpening, bad_line, bad_script, bad_head, too_large, edited}
 use Rattle.input_answers.specs.DueReplay.{DueReplay, bad_journal, replayed}
-use Rattle.input_answers.specs.LiveText.{first_blocks}
 use Rattle.input_answers.specs.Played.{Played}
 use Rattle.input_answers.specs.SavedLaws.{TellsEnd}
 use Rattle.input_answers.proofs.EntryNumbers.{AreDrawn, HasNumbers, drawn_behind, drawn_first, numbers_fit}

@@ -2,11 +2,10 @@
 use Rattle.std.specs.Prelude.{◌≡◌, ℕ, List}
 use Rattle.command_words.specs.declared.command.Command.{Command}
 use Rattle.command_words.specs.declared.command.Command.TheVariants.{Save}
-use Rattle.edit_journal.specs.declared.edit.BlockAt.{BlockAt}
 use Rattle.edit_journal.specs.declared.edit.Entry.{Entry}
 use Rattle.edit_journal.specs.declared.opening.Opening.{Opening}
 use Rattle.edit_book.specs.declared.reply.Reply.{Reply}
-use Rattle.journal_file.specs.SavedParts.{numbered_from}
+use Rattle.journal_file.specs.SavedParts.{first_blocks}
 use Rattle.journal_file.specs.Spelling.{spelling}
 use Rattle.verdict_report.specs.LiveText.{IsLiveReport}
 use Rattle.input_answers.specs.declared.live_text.LiveOutput.{LiveOutput}
@@ -16,10 +15,6 @@ use Rattle.input_answers.specs.declared.live_text.LiveOutput.TheVariants.{Report
 abbrev pub output_of : Command → LiveOutput
 output_of Save = SavedText
 output_of _ = Report
-
--- the blocks with which a document begins
-abbrev pub first_blocks : Opening → List BlockAt
-first_blocks opening = numbered_from 0 opening.texts
 
 -- The report of the replies, of the journal and of the verdict at its end; or the spelling of the head, of what the document began with, and of the journal.
 abbrev pub IsTold : LiveOutput → List (List ℕ) → Opening → List Entry → List (List Reply) → List ℕ → Type 0

@@ -1,12 +1,13 @@
 //! What is written when the sessions of a script have ended: the report, or the document's beginning and its journal, to be kept.
 ghost use Rattle.std.specs.Prelude.{◌≡◌, ◌+◌, ◌≤◌, ◌-◌, length, take, IfOk};
 ghost use Rattle.journal_file.specs.Spelling.{spelling};
-ghost use Rattle.input_answers.specs.LiveText.{IsTold, first_blocks, output_of};
+ghost use Rattle.journal_file.specs.SavedParts.{first_blocks};
+ghost use Rattle.input_answers.specs.LiveText.{IsTold, output_of};
 
 use command_words::Command;
 use edit_book::{Book, Replies};
-use edit_journal::{BlockAt, Journal, TextList};
-use journal_file::{Saved, saved_text};
+use edit_journal::Journal;
+use journal_file::{Saved, first_blocks, saved_text};
 use knit_base::{Lines, NoMemory, Steps};
 use std::alloc::Global;
 use std::sync::ledger::Ledger;
@@ -70,28 +71,10 @@ fn saved_of<L: Ledger>(
     let saved = Saved {
         head: Lines::range(alloc, text, 0, setting.first - 1)?,
         profile: setting.profile,
-        blocks: blocks_of(alloc, &book)?,
+        blocks: first_blocks(alloc, &book)?,
         journal: book.leave_journal(),
     };
     let told = saved_text(alloc, &saved, steps)?;
     let Saved { journal, .. } = saved;
     Ok((told, journal))
-}
-
-// The blocks with which the document began.
-fn blocks_of(alloc: Global, book: &Book) -> Result<TextList, NoMemory>
-    ensures { IfOk result (λ blocks. blocks ≡ first_blocks book.now.opening) }
-{
-    let _few = book.ids();
-    let mut blocks = TextList::new(alloc);
-    while let Some(text) = book.text_at(blocks.len(), 0) {
-        let block = blocks.len();
-        let text = text.try_clone()?;
-        blocks.push(BlockAt {
-            block,
-            stamp: 0,
-            text,
-        })?;
-    }
-    Ok(blocks)
 }

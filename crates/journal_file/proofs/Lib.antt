@@ -7,6 +7,7 @@ pub mod EntryLines
 pub mod EntryOnes
 pub mod EntryPlaces
 pub mod EntryReadings
+pub mod FirstBlocks
 pub mod FormBounds
 pub mod FormReadings
 pub mod FormSpellings

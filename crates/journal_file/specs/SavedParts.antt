@@ -31,6 +31,10 @@ abbrev pub numbered_from : ℕ → List (List (List ℕ)) → List BlockAt
 numbered_from id [] = []
 numbered_from id (text ∷ texts) = record { block = id; stamp = 0; text = text } ∷ numbered_from (id + 1) texts
 
+-- the blocks with which a document begins
+abbrev pub first_blocks : Opening → List BlockAt
+first_blocks opening = numbered_from 0 opening.texts
+
 -- the text that an edit gives to a block
 pub record IsGivenText (text : List (List ℕ)) : Type 0 where
   pub few : length text ≤ 4096

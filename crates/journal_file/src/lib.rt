@@ -22,6 +22,7 @@ mod entry;
 mod entry_line;
 mod entry_words;
 mod fault;
+mod first;
 mod front;
 mod head;
 mod head_words;
@@ -37,6 +38,7 @@ mod write;
 
 pub use book::{outline_of, reopen};
 pub use fault::{JournalCause, JournalFault};
+pub use first::first_blocks;
 pub use read::read_journal;
 pub use saved::Saved;
 pub use write::{saved_text, write_journal};

@@ -1,8 +1,8 @@
 use Rattle.std.proofs.Common.{◌≡◌, ◌+◌, ℕ, List, [], ◌∷◌, ◌++◌, Some, None, ap, arith, length, length-append, rules, sym, subst, ◌∙◌}
 use Rattle.std.specs.List.{slice_get}
 use Rattle.edit_journal.specs.declared.edit.BlockAt.{BlockAt}
-use Rattle.input_answers.proofs.FirstBlocks.{AreFirst, first_all, first_drawn, first_more, first_none, first_place}
-use Rattle.input_answers.proofs.live_text.blocks_of.Goals as goal
+use Rattle.journal_file.proofs.FirstBlocks.{AreFirst, first_all, first_drawn, first_more, first_none, first_place}
+use Rattle.journal_file.proofs.first.first_blocks.Goals as goal
 
 pub loop-text-init : goal.loop-text-init
 loop-text-init c =

@@ -1,6 +1,6 @@
 use Rattle.std.proofs.Common.{◌-◌, ℕ, length}
-use Rattle.input_answers.proofs.FirstBlocks.{AreFirst}
-use Rattle.input_answers.proofs.live_text.blocks_of.Given as goal
+use Rattle.journal_file.proofs.FirstBlocks.{AreFirst}
+use Rattle.journal_file.proofs.first.first_blocks.Given as goal
 
 abbrev pub invariant-loop-text : goal.invariant-loop-text
 invariant-loop-text l = AreFirst l.book.opening.texts l.blocks
