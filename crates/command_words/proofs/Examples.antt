@@ -3,7 +3,7 @@ use Rattle.std.proofs.Common.{◌≡◌, refl, [], ◌∷◌, Option, Some, None
 use Rattle.std.specs.Prelude.{negsuc}
 use Rattle.machine_profile.specs.declared.Options.{Options}
 use Rattle.command_words.specs.declared.command.Command.{Command}
-use Rattle.command_words.specs.declared.command.Command.TheVariants.{Check, Live, Save, Groups, Replay, Tally, Make}
+use Rattle.command_words.specs.declared.command.Command.TheVariants.{Check, Live, Save, Groups, Serve, Replay, Tally, Make}
 use Rattle.command_words.specs.declared.command.Request.{Request}
 use Rattle.command_words.specs.Grammar.{Flag, Json, Low, Place, Setting, items_of}
 use Rattle.command_words.specs.Request.{request_of}
@@ -107,6 +107,19 @@ tally_block = refl
 
 groups_block : request_of (codes "groups" ∷ codes "--block" ∷ codes "1" ∷ []) ≡ asks Groups (record usual { block = Some (pos 1) })
 groups_block = refl
+
+serve_alone : request_of (codes "serve" ∷ []) ≡ asks (Serve false) usual
+serve_alone = refl
+
+serve_json : request_of (codes "--json" ∷ codes "serve" ∷ codes "--block=1" ∷ codes "--low=-64" ∷ [])
+    ≡ asks (Serve true) (record usual { low = Some (negsuc 63); block = Some (pos 1) })
+serve_json = refl
+
+serve_loops : request_of (codes "serve" ∷ codes "--loops" ∷ []) ≡ None
+serve_loops = refl
+
+serve_number : request_of (codes "serve" ∷ codes "1" ∷ []) ≡ None
+serve_number = refl
 
 live_json : request_of (codes "live" ∷ codes "--json" ∷ []) ≡ None
 live_json = refl

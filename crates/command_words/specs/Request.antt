@@ -5,7 +5,7 @@ use Rattle.std.specs.List.{list_all, list_any}
 use Rattle.std.specs.Str.{bytes_eq}
 use Rattle.machine_profile.specs.declared.Options.{Options}
 use Rattle.command_words.specs.declared.command.Command.{Command}
-use Rattle.command_words.specs.declared.command.Command.TheVariants.{Check, Text, Passes, Live, Save, Groups, Replay, Tally, Make}
+use Rattle.command_words.specs.declared.command.Command.TheVariants.{Check, Text, Passes, Live, Save, Groups, Serve, Replay, Tally, Make}
 use Rattle.command_words.specs.declared.command.Request.{Request}
 use Rattle.command_words.specs.Grammar.{Item, Name, Low, High, Rack, Hold, Block, Float, Loops, Json, all_names}
 use Rattle.command_words.specs.Grammar.{are_distinct, begins_with_hyphen, items_of, names_in, places_in, value_in}
@@ -62,6 +62,11 @@ abbrev pub is_block : Name → Bool
 is_block Block = true
 is_block _ = false
 
+-- the flag for JSON
+abbrev pub is_json : Name → Bool
+is_json Json = true
+is_json _ = false
+
 -- which options and flags go with which command
 abbrev pub is_allowed : Command → Name → Bool
 is_allowed (Check loops json) name = true
@@ -70,6 +75,7 @@ is_allowed Passes name = is_limit name || is_block name
 is_allowed Live name = is_limit name || is_block name
 is_allowed Save name = is_limit name || is_block name
 is_allowed Groups name = is_limit name || is_block name
+is_allowed (Serve json) name = is_limit name || (is_block name || is_json name)
 is_allowed Replay name = false
 is_allowed (Tally from to) name = false
 is_allowed (Make rows start) name = is_block name
@@ -87,6 +93,7 @@ command_of_word loops json word =
     if bytes_eq word (codes "live") then Some Live else
     if bytes_eq word (codes "save") then Some Save else
     if bytes_eq word (codes "groups") then Some Groups else
+    if bytes_eq word (codes "serve") then Some (Serve json) else
     if bytes_eq word (codes "replay") then Some Replay else None
 
 -- `make` with 1 to 20,000 rows and a start from 0 to 2,147,483,647
@@ -118,6 +125,7 @@ IsLawfulCommand Passes = ⊤
 IsLawfulCommand Live = ⊤
 IsLawfulCommand Save = ⊤
 IsLawfulCommand Groups = ⊤
+IsLawfulCommand (Serve json) = ⊤
 IsLawfulCommand Replay = ⊤
 IsLawfulCommand (Tally from to) = ⊤
 

@@ -16,6 +16,8 @@ pub enum Command {
     Save,
     /// Runs a script of edits, of groups of edits and of undos.
     Groups,
+    /// Answers a conversation of sessions, each command before more is heard.
+    Serve { json: bool },
     /// Follows a journal that was kept, and writes the verdict at its end.
     Replay,
     /// Follows a journal that was kept, and writes what its last blocks come to, from one place to another, the places from 0 and the

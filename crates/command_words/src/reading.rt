@@ -39,6 +39,8 @@ fn plain_command(word: &str, loops: bool, json: bool) -> Option<Command>
         Some(Command::Save)
     } else if word == "groups" {
         Some(Command::Groups)
+    } else if word == "serve" {
+        Some(Command::Serve { json })
     } else if word == "replay" {
         Some(Command::Replay)
     } else {
@@ -135,6 +137,7 @@ fn is_allowed(command: Command, given: &Given<'_>) -> bool
         Command::Check { .. } => true,
         Command::Text => given.block.is_none() && !has_flag,
         Command::Passes | Command::Live | Command::Save | Command::Groups => !has_flag,
+        Command::Serve { .. } => !given.loops,
         Command::Replay | Command::Tally { .. } => {
             !has_limit(given) && given.block.is_none() && !has_flag
         }
