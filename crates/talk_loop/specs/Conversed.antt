@@ -1,11 +1,19 @@
 -- How a conversation goes, and how it ends.
 use Rattle.std.specs.Prelude.{◌≡◌, ◌⊎◌, ℕ, ◌+◌, ◌-◌, ◌^◌, ◌≤◌, All, List, [], ◌∷◌, ◌++◌, length, take, flat_map, Result, Ok, Err}
 use Rattle.knit_base.specs.Lines.{HasNoLineEnd}
+use Rattle.knit_ports.specs.Faults.{Rose}
 use Rattle.knit_ports.specs.Pieces.{Piece, heard_in, said_in}
 use Rattle.knit_ports.specs.WholeLines.{with_feed}
 use Rattle.talk_loop.specs.InStep.{Asking, AreAnswers, IsInStep, due, state_of, text_of}
 use Rattle.talk_loop.specs.declared.conversation.TalkFault.{TalkFault}
 use Rattle.talk_loop.specs.declared.conversation.TalkFault.TheVariants as fault
+
+-- Each error has its cause: a call failed where hearing or saying is told to have failed. Where all is well, or memory ran out, none did.
+abbrev pub HasTalkCause : ℕ → ℕ → Result (Unit {0}) TalkFault → Type 0
+HasTalkCause faults_before faults_after (Ok done) = faults_after ≡ faults_before
+HasTalkCause faults_before faults_after (Err fault.Hearing) = Rose faults_before faults_after
+HasTalkCause faults_before faults_after (Err fault.Saying) = Rose faults_before faults_after
+HasTalkCause faults_before faults_after (Err fault.NoMemory) = faults_after ≡ faults_before
 
 -- a last line that has no line feed, if there are bytes
 abbrev pub last_line : List ℕ → List (List ℕ)

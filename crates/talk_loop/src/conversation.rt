@@ -3,7 +3,7 @@ ghost use Rattle.std.specs.Prelude.{◌≡◌, ◌<◌, ◌+◌, ◌-◌, ◌^�
 ghost use Rattle.knit_base.specs.Lines.{HasNoLineEnd};
 ghost use Rattle.knit_ports.specs.Ears.{kept_front};
 ghost use Rattle.knit_ports.specs.Pieces.{GoesOn, Heard, Piece};
-ghost use Rattle.talk_loop.specs.Conversed.{Conversed, IsLast};
+ghost use Rattle.talk_loop.specs.Conversed.{Conversed, HasTalkCause, IsLast};
 ghost use Rattle.talk_loop.specs.Finished.{Finishes};
 ghost use Rattle.talk_loop.specs.InStep.{AreAnswers};
 
@@ -36,6 +36,7 @@ pub fn converse<T: Talk, D: Desk>(
     requires nothing { (D.asking (D.opening desk.old)).orders [] ≡ [] }
     requires begun { D.behind desk.old [] [] }
     ensures conversed { (pieces : List Piece) × GoesOn (T.told talk.old) (T.told talk.new) pieces × Conversed (D.asking (D.opening desk.old)) (D.ends (D.opening desk.old)) (Heard ear.old.pending ∷ pieces) result }
+    ensures cause { HasTalkCause (T.faults talk.old) (T.faults talk.new) result }
 {
     'lines: for number in first..u64::MAX {
         out.clear();
@@ -72,6 +73,7 @@ fn finish<T: Talk, D: Desk>(
     requires empty { out.old.items ≡ [] }
     ensures finished { (lines : List (List ℕ)) (as_ : List D.Answer) (rest : List ℕ) → D.behind desk.old lines as_ → number ≡ (D.asking (D.opening desk.old)).first + length lines
         → AreAnswers (D.asking (D.opening desk.old)) (D.asking (D.opening desk.old)).start ((D.asking (D.opening desk.old)).orders lines) as_ → line.now ≡ kept_front rest → Finishes (D.asking (D.opening desk.old)) (D.ends (D.opening desk.old)) lines rest as_ (T.told talk.old) (T.told talk.new) result }
+    ensures cause { HasTalkCause (T.faults talk.old) (T.faults talk.new) result }
 {
     let Ok(()) = append_last(line, desk, number, out) else {
         return Err(TalkFault::NoMemory);

@@ -1,8 +1,9 @@
-use Rattle.std.proofs.Common.{◌+◌, ◌∙◌, [], sym, subst, refl, arith}
+use Rattle.std.proofs.Common.{ℕ, ◌+◌, ◌∙◌, [], sym, subst, refl, arith}
 use Rattle.std.specs.Prelude.{Err}
 use Rattle.knit_ports.specs.Pieces.{Says, SaysFront}
 use Rattle.knit_ports.specs.Ears.{IsHeard}
-use Rattle.talk_loop.specs.Conversed.{IsAnswered}
+use Rattle.knit_ports.specs.Faults.{Rose}
+use Rattle.talk_loop.specs.Conversed.{HasTalkCause, IsAnswered}
 use Rattle.talk_loop.specs.declared.conversation.TalkFault.TheVariants as fault
 use Rattle.talk_loop.proofs.Last.{kept-one}
 use Rattle.talk_loop.proofs.Loop.{Ended, SoFar, count-over, goes-on, hearing-failed, input-over, memory-failed, saying-failed, starts}
@@ -11,12 +12,14 @@ use Rattle.talk_loop.proofs.conversation.converse.Goals as goal
 pub lines-init : goal.lines-init
 lines-init g c = record {
   same = refl;
+  calm = refl;
   so_far = starts (g.D.Desk.asking (g.D.Desk.opening c.args.desk.now)) (g.D.Desk.ends (g.D.Desk.opening c.args.desk.now)) (g.D.Desk.behind c.args.desk.now) _ _ c.args.first _ refl c.requires.first c.requires.nothing c.requires.begun;
 }
 
 pub returns-in-Err : goal.returns-in-Err
 returns-in-Err g c = record {
   conversed = hearing-failed (g.D.Desk.asking (g.D.Desk.opening c.args.desk.now)) (g.D.Desk.ends (g.D.Desk.opening c.args.desk.now)) (g.D.Desk.behind c.lines.desk) (g.T.Talk.told c.args.talk.now) c.args.ear.now.pending _ _ c.lines.ear c.hear.new.self c.lines.number c.lines.invariant.so_far c.in-Err.ensures.front;
+  cause = subst (λ (n : ℕ). Rose n (g.T.Talk.faults c.hear.new.talk)) c.lines.invariant.calm c.in-Err.ensures.cause;
 }
 
 pub finish-requires : goal.finish-requires
@@ -37,6 +40,7 @@ returns-in_default g c =
     record {
       conversed = subst (λ o. Ended (g.D.Desk.asking o) (g.D.Desk.ends o) (g.D.Desk.behind c.lines.desk) (g.T.Talk.told c.args.talk.now) c.args.ear.now.pending (g.T.Talk.told c.finish.new.talk) c.finish.result) same
           (input-over (g.D.Desk.asking (g.D.Desk.opening c.lines.desk)) (g.D.Desk.ends (g.D.Desk.opening c.lines.desk)) (g.D.Desk.behind c.lines.desk) (g.T.Talk.told c.args.talk.now) c.args.ear.now.pending _ _ _ c.lines.ear c.hear.new.self c.lines.number s c.in-Ok.end h c.finish.result c.in_default.not-LineFeed f);
+      cause = subst (λ (n : ℕ). HasTalkCause n (g.T.Talk.faults c.finish.new.talk) c.finish.result) (c.in-Ok.ensures.calm ∙ c.lines.invariant.calm) c.finish.ensures.cause;
     }
 
 pub hear-requires-in-lines : goal.hear-requires-in-lines
@@ -46,6 +50,7 @@ pub returns-in_default-hear : goal.returns-in_default-hear
 returns-in_default-hear g c = record {
   conversed = memory-failed (g.D.Desk.asking (g.D.Desk.opening c.args.desk.now)) (g.D.Desk.ends (g.D.Desk.opening c.args.desk.now)) (g.D.Desk.behind c.lines.desk) (g.T.Talk.told c.args.talk.now) c.args.ear.now.pending _ _ c.lines.ear c.hear.new.self c.lines.number c.lines.invariant.so_far
       (subst (IsHeard (g.T.Talk.told c.lines.talk) (g.T.Talk.told c.hear.new.talk) c.lines.ear c.hear.new.self) c.in-LineFeed.is c.in-Ok.ensures.heard);
+  cause = c.in-Ok.ensures.calm ∙ c.lines.invariant.calm;
 }
 
 pub returns-in-Err-say_whole : goal.returns-in-Err-say_whole
@@ -59,6 +64,7 @@ returns-in-Err-say_whole g c =
           (saying-failed (g.D.Desk.asking (g.D.Desk.opening c.lines.desk)) (g.D.Desk.ends (g.D.Desk.opening c.lines.desk)) (g.D.Desk.behind c.lines.desk) (g.T.Talk.told c.args.talk.now) c.args.ear.now.pending _ _ _ c.lines.ear c.hear.new.self c.lines.number s h a.0 c.hear-in-lines.new.out.items
           (subst (λ l. IsAnswered (g.D.Desk.asking (g.D.Desk.opening c.lines.desk)) s.lines s.answers h.line l c.hear-in-lines.new.out.items a.0) c.clear.ensures.items a.2)
           (subst (SaysFront (g.T.Talk.told c.hear.new.talk) (g.T.Talk.told c.say_whole.new.talk)) c.deref.ensures.value c.in-Err-say_whole.ensures.err));
+      cause = subst (λ (n : ℕ). Rose n (g.T.Talk.faults c.say_whole.new.talk)) (c.in-Ok.ensures.calm ∙ c.lines.invariant.calm) c.in-Err-say_whole.ensures.cause;
     }
 
 pub lines-preserved : goal.lines-preserved
@@ -69,6 +75,7 @@ lines-preserved g c =
     let a = c.in-Ok-hear.ensures.answered s.lines s.answers h.line s.stands s.counted (c.line-in-lines.ensures ∙ h.kept) in
     record {
       same = c.hear-in-lines.ensures.same ∙ same;
+      calm = c.in-Ok-say_whole.ensures.calm ∙ (c.in-Ok.ensures.calm ∙ c.lines.invariant.calm);
       so_far = subst (λ o. SoFar (g.D.Desk.asking o) (g.D.Desk.ends o) (g.D.Desk.behind c.hear-in-lines.new.self) (g.T.Talk.told c.args.talk.now) c.args.ear.now.pending (g.T.Talk.told c.say_whole.new.talk) c.hear.new.self.pending (c.lines.number + 1)) same
           (goes-on (g.D.Desk.asking (g.D.Desk.opening c.lines.desk)) (g.D.Desk.ends (g.D.Desk.opening c.lines.desk)) (g.D.Desk.behind c.lines.desk) (g.D.Desk.behind c.hear-in-lines.new.self) (g.T.Talk.told c.args.talk.now) c.args.ear.now.pending _ _ _ c.lines.ear c.hear.new.self c.lines.number s h a.0 c.hear-in-lines.new.out.items a.1
           (subst (λ l. IsAnswered (g.D.Desk.asking (g.D.Desk.opening c.lines.desk)) s.lines s.answers h.line l c.hear-in-lines.new.out.items a.0) c.clear.ensures.items a.2)
@@ -83,4 +90,5 @@ returns g c =
     record {
       conversed = subst (λ o. Ended (g.D.Desk.asking o) (g.D.Desk.ends o) (g.D.Desk.behind c.lines.desk) (g.T.Talk.told c.args.talk.now) c.args.ear.now.pending (g.T.Talk.told c.finish-2.new.talk) c.finish-2.result) same
           (count-over (g.D.Desk.asking (g.D.Desk.opening c.lines.desk)) (g.D.Desk.ends (g.D.Desk.opening c.lines.desk)) (g.D.Desk.behind c.lines.desk) (g.T.Talk.told c.args.talk.now) c.args.ear.now.pending _ _ c.lines.ear.pending c.lines.number s c.finish-2.result c.lines-test.false f);
+      cause = subst (λ (n : ℕ). HasTalkCause n (g.T.Talk.faults c.finish-2.new.talk) c.finish-2.result) c.lines.invariant.calm c.finish-2.ensures.cause;
     }
