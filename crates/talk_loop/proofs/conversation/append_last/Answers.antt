@@ -25,8 +25,8 @@ returns g c = let asking = g.D.Desk.asking (g.D.Desk.opening c.args.desk.now) in
       )) c.end-2.ensures.last;
 }
 
-pub end-2-requires : goal.end-2-requires
-end-2-requires g c =
+pub end-requires-2 : goal.end-requires-2
+end-requires-2 g c =
     let b = c.requires.begun in
     let k = c.requires.kept in
     let a = c.in_ok-hear.ensures.answered b.0 b.1 k.0 b.2 b.3 k.1 in

@@ -99,13 +99,10 @@ returns g c =
       cause = subst (λ (n : ℕ). HasTalkCause n (g.T.Talk.faults c.finish-2.new.talk) c.finish-2.result) c.lines.invariant.calm c.finish-2.ensures.cause;
     }
 
-pub finish-2-requires : goal.finish-2-requires
-finish-2-requires g c =
+pub finish-requires-2-clause-begun : goal.finish-requires-2-clause-begun
+finish-requires-2-clause-begun g c =
     let s = subst (λ o. SoFar (g.D.Desk.asking o) (g.D.Desk.ends o) (g.D.Desk.behind c.lines.desk) (g.T.Talk.told c.args.talk.now) c.args.ear.now.pending (g.T.Talk.told c.lines.talk) c.lines.ear.pending c.lines.number) (sym c.lines.invariant.same) c.lines.invariant.so_far in
-    record {
-      one = All-nil _;
-      begun = (s.lines, s.answers, s.stands, s.counted);
-      kept = ([], refl);
-      room = λ some. absurd (cc);
-      empty = c.clear-2.ensures.items;
-    }
+    (s.lines, s.answers, s.stands, omega (arith, s.counted, c.lines-test.false, c.lines.auto.number))
+
+pub finish-requires-2-clause-kept : goal.finish-requires-2-clause-kept
+finish-requires-2-clause-kept g c = ([], refl)
