@@ -4,4 +4,6 @@ pub mod JsonEntries
 pub mod JsonMembers
 pub mod Listings
 pub mod SaidAlone
+pub mod SavedLines
 pub mod TallyLines
+pub mod TallyValues

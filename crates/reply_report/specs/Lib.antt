@@ -1,4 +1,5 @@
 pub mod GroupsText
 pub mod TalkJson
 pub mod TalkText
+pub mod TallyJson
 pub mod TallyText

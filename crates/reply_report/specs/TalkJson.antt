@@ -1,9 +1,11 @@
 -- What is said in a conversation, as JSON: the value whose compact text is written. Each ends with a line feed, and no empty line follows.
 use Rattle.std.specs.Prelude.{◌≡◌, ℕ, ◌+◌, ◌==◌, nat_le, nat_lt, Option, None, Some, List, [], ◌∷◌, ◌++◌, length, drop, codes, if◌then◌else◌}
+use Rattle.std.specs.List.{slice_split}
 use Rattle.json.specs.Print.{quoted}
 use Rattle.serde_json.specs.Data.{Data, Members, array, member, no_members, null, object, string}
 use Rattle.serde_json.specs.View.{items_of}
 use Rattle.serde_json.specs.Written.{compact_text}
+use Rattle.knit_base.specs.Lines.{is_line_feed, without_empty_end}
 use Rattle.knit_base.specs.Spelling.{rack_text, rule_name}
 use Rattle.knit_base.specs.declared.yarns.CarrierNo.{CarrierNo}
 use Rattle.carriage_model.specs.declared.verdict.Brief.{Brief}
@@ -179,6 +181,14 @@ abbrev pub text_at_members : Opening → List Entry → Frame → ℕ → ℕ �
 text_at_members opening entries f block stamp = let drawn = (document_of opening entries).drawn in
     if nat_lt block drawn then old_members f (length entries) block stamp (text_at opening entries block stamp)
     else reply_members [] None (Some f) (reply.NoBlock (length entries) block drawn)
+
+-- the lines of a saved text, without their line feeds; a carriage return before one is a byte of the line
+abbrev pub saved_lines : Text → List Text
+saved_lines saved = without_empty_end (slice_split is_line_feed saved)
+
+-- a saved text, by its lines
+abbrev pub saved_members : Frame → ℕ → Text → Members
+saved_members f version saved = texts_member (saved_lines saved) (frame_members (Some f) (codes "saved") (version_member version))
 
 -- ---- what is said without a frame
 
