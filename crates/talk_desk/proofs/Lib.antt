@@ -1,8 +1,10 @@
+mod Answered
 mod AskedForms
 mod CutLines
 mod LawfulOrders
 mod MoreOrders
 mod Said
 mod Standings
+mod Taken
 mod Talkers
 mod WellHeard

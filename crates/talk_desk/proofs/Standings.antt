@@ -1,18 +1,18 @@
 -- How a conversation stands behind one more order.
-use Rattle.std.proofs.Common.{◌≡◌, ℕ, ◌+◌, ◌≤◌, List, [], ◌∷◌, ◌++◌, length, refl, sym, ap, ◌∙◌, subst, arith, append-nil, append_assoc}
+use Rattle.std.proofs.Common.{◌≡◌, ℕ, Bool, ◌+◌, ◌≤◌, List, [], ◌∷◌, ◌++◌, length, refl, sym, ap, ◌∙◌, subst, arith, append-nil, append_assoc}
 use Rattle.edit_journal.specs.declared.opening.Opening.{Opening}
 use Rattle.script_reader.specs.Hearing.{Order}
 use Rattle.talk_loop.specs.InStep.{AreAnswers, state_of, text_of}
 use Rattle.talk_desk.specs.Conversation.{Answer, Standing, asking, behind, is_given, standing_at_start, standing_behind, text}
 
-module _ (head : List (List ℕ)) (opening : Opening) where
-  pub standing-more : (s : Standing) (hs : List (Order × Answer)) (o : Order) (a : Answer) → standing_behind head opening s (hs ++ (o, a) ∷ []) ≡ behind head opening (standing_behind head opening s hs) o a
+module _ (json : Bool) (head : List (List ℕ)) (opening : Opening) where
+  pub standing-more : (s : Standing) (hs : List (Order × Answer)) (o : Order) (a : Answer) → standing_behind json head opening s (hs ++ (o, a) ∷ []) ≡ behind json head opening (standing_behind json head opening s hs) o a
   standing-more s [] o a = refl
-  standing-more s (h ∷ hs) o a = standing-more (behind head opening s h.0 h.1) hs o a
+  standing-more s (h ∷ hs) o a = standing-more (behind json head opening s h.0 h.1) hs o a
 
   -- orders and their answers, and one more
-  pub state-more : (number : ℕ) (before : List (Order × Answer)) (os : List Order) (as_ : List Answer) (more : List Order) (bs : List Answer) → AreAnswers (asking head opening number) before os as_
-      → state_of (asking head opening number) before (os ++ more) (as_ ++ bs) ≡ state_of (asking head opening number) (state_of (asking head opening number) before os as_) more bs
+  pub state-more : (number : ℕ) (before : List (Order × Answer)) (os : List Order) (as_ : List Answer) (more : List Order) (bs : List Answer) → AreAnswers (asking json head opening number) before os as_
+      → state_of (asking json head opening number) before (os ++ more) (as_ ++ bs) ≡ state_of (asking json head opening number) (state_of (asking json head opening number) before os as_) more bs
   state-more number before [] [] more bs h = refl
   state-more number before [] (a ∷ as_) more bs h = absurd h
   state-more number before (o ∷ os) [] more bs h = absurd h

@@ -21,8 +21,9 @@ use Rattle.journal_file.specs.Spelling.{spelling}
 use Rattle.tally_tree.specs.Docs.{DocView, HasBlocks, IsRange, setting_now}
 use Rattle.tally_tree.specs.Tallies.{Counted}
 use Rattle.verdict_report.specs.VerdictText.{Text}
-use Rattle.reply_report.specs.TalkJson.{blocks_members, no_range_members, saved_members, since_members, tally_members, text_at_members}
+use Rattle.reply_report.specs.TalkJson.{blocks_members, no_range_members, saved_members, since_members, text_at_members}
 use Rattle.reply_report.specs.TalkText.{blocks_text, no_range_text, saved_said, since_text, text_at_text}
+use Rattle.reply_report.specs.TallyJson.{tally_members}
 use Rattle.reply_report.specs.TallyText.{tally_text}
 use Rattle.reply_report.specs.declared.frame.Frame.{Frame}
 use Rattle.talk_loop.specs.InStep.{Asking, state_of}

@@ -1,10 +1,14 @@
 -- What is kept of a conversation.
-use Rattle.std.specs.Prelude.{◌≡◌, ℕ, ◌+◌, List, [], ◌++◌, Option, MatchOption}
+use Rattle.std.specs.Prelude.{◌≡◌, ℕ, ◌+◌, Bool, List, [], ◌++◌, length, slice_get, Option, Some, MatchOption}
 use Rattle.std.specs.Option.{option_map_or}
 use Rattle.knit_base.specs.Limits.{IsLawfulProfile}
+use Rattle.edit_journal.specs.declared.edit.Entry.{Entry}
 use Rattle.edit_journal.specs.declared.opening.Opening.{Opening}
 use Rattle.script_reader.specs.declared.step.Step.{Step}
-use Rattle.edit_book.specs.Memory.{Memory}
+use Rattle.script_reader.specs.declared.talk_line.Question.{Question}
+use Rattle.script_reader.specs.declared.talk_line.Question.TheVariants as question
+use Rattle.script_reader.specs.Hearing.{Order}
+use Rattle.edit_book.specs.Memory.{Memory, first_memory, named}
 use Rattle.edit_groups.specs.Alone.{IsSessionAt}
 use Rattle.edit_groups.specs.Chunks.{chunk_of, entries_of}
 use Rattle.edit_groups.specs.Groups.{GroupView}
@@ -18,9 +22,12 @@ use Rattle.turn_book.specs.Passes.{IsHeldOf, IsPassOf, held_view, numbers_of, vi
 use Rattle.turn_book.specs.Walk.{IsGiven}
 use Rattle.turn_book.specs.declared.booked.Booked.{Ghosts}
 use Rattle.turn_book.specs.declared.pass.Held.{Held}
-use Rattle.reply_report.specs.TalkText.{step_said}
-use Rattle.talk_desk.specs.Conversation.{Standing}
+use Rattle.talk_desk.specs.Conversation.{Answer, IsQuestionAnswer, Standing, behind, is_given, question_text, text}
+use Rattle.reply_report.specs.declared.frame.Frame.{Frame}
+use Rattle.talk_desk.specs.Styles.{step_in}
 use Rattle.talk_desk.specs.declared.document.Document.{Document}
+use Rattle.talk_desk.specs.declared.document.Style.{Style}
+use Rattle.talk_desk.specs.declared.host.Host.{Host}
 use Rattle.talk_desk.specs.declared.steps.Talker.{Talker}
 
 -- how the document began
@@ -51,17 +58,54 @@ module _ {g : Ghosts GroupView GroupCommand Told Chunk Opening} where
     pub past : (held_view held).past ≡ 64
 
 -- The step c of the talker s, which remembered m, was answered, and that was said behind what was to be said before: the document was d, and is e since; the talker is t since.
-pub record IsStepSaid (m : Memory) (c : Step) (d e : Document) (s t : Talker) (before after : List ℕ) : Type 0 where
+pub record IsStepSaid (json : Bool) (m : Memory) (c : Step) (d e : Document) (s t : Talker) (before after : List ℕ) : Type 0 where
   pub heard : Heard
   pub given : IsGiven (core (opening_in d)) s.session.session.number (known_in d) m c heard
   pub known : known_in e ≡ known_in d ++ listed (chunk_of s.session.session.number heard.edits)
   pub number : t.session.session.number ≡ s.session.session.number
   pub stands : IsSessionAt (opening_in d) (known_in e) (step_memory m c heard) t.session
   pub counted : t.answered ≡ s.answered + 1
-  pub said : after ≡ before ++ step_said (opening_in d) (entries_of (known_in e)) (record { session = s.session.session.number; number = s.answered + 1 }) heard.reply
+  pub said : after ≡ before ++ step_in json (opening_in d) (entries_of (known_in e)) (record { session = s.session.session.number; number = s.answered + 1 }) heard.reply
 
 -- session n is at this standing
 pub record IsTalker (opening : Opening) (s : Standing) (n : ℕ) (t : Talker) : Type 0 where
   pub number : t.session.session.number ≡ n
   pub session : IsSessionAt opening s.point.entries (s.point.memories n) t.session
   pub answered : t.answered ≡ s.answered n
+
+-- session n has asked nothing yet
+pub record IsFresh (opening : Opening) (n : ℕ) (t : Talker) : Type 0 where
+  pub number : t.session.session.number ≡ n
+  pub session : IsSessionAt opening [] (first_memory opening) t.session
+  pub answered : t.answered ≡ 0
+
+-- the block that a question names, if it names one, is that which a session with this memory knows by the name
+abbrev pub Names : Memory → Question → Option ℕ → Type 0
+Names m (question.TextAt name stamp) block = block ≡ named m name
+Names m q block = Unit {0}
+
+-- A question of a session with this memory is answered at this journal, and that was said behind what was to be said before.
+pub record IsQuestionSaid (style : Style) (opening : Opening) (entries : List Entry) (m : Memory) (f : Frame) (q : Question) (before after : List ℕ) : Type 0 where
+  pub answer : Answer
+  pub given : IsQuestionAnswer style.json style.head opening entries m f q answer
+  pub said : after ≡ before ++ question_text style.json style.head opening entries f answer
+
+-- The sessions of a conversation about a document that began so are at this standing.
+pub record IsAt (opening : Opening) (host : Host) (s : Standing) : Type 0 where
+  pub document : IsDocument host.document
+  pub began : opening_in host.document ≡ opening
+  pub known : known_in host.document ≡ s.point.entries
+  pub count : length host.talkers.items ≡ 64
+  pub talkers : (i : ℕ) (u : Talker) → slice_get host.talkers.items i ≡ Some u → IsTalker opening s i u
+
+-- An order was answered where the sessions were at the standing s, and that was said behind what was to be said before.
+pub record IsTaken (opening : Opening) (s : Standing) (asked : Order) (style : Style) (host : Host) (before after : List ℕ) : Type 0 where
+  pub answer : Answer
+  pub given : is_given style.json style.head opening s asked answer
+  pub at : IsAt opening host (behind style.json style.head opening s asked answer)
+  pub said : after ≡ before ++ text style.json style.head opening s asked answer
+
+-- So many sessions have asked nothing yet, numbered from 0.
+pub record AreFresh (count : ℕ) (opening : Opening) (talkers : List Talker) : Type 0 where
+  pub all : length talkers ≡ count
+  pub fresh : (i : ℕ) (u : Talker) → slice_get talkers i ≡ Some u → IsFresh opening i u

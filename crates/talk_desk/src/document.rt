@@ -10,7 +10,7 @@ ghost use Rattle.talk_desk.specs.Hosts.{IsDocument, IsLent, known_in, opening_in
 
 use edit_book::Book;
 use edit_groups::{GroupBook, GroupReply, GroupSession, do_alone};
-use knit_base::{NoMemory, Setting};
+use knit_base::{Lines, NoMemory, Setting};
 use script_reader::Step;
 use std::alloc::Global;
 use std::sync::Wait;
@@ -20,9 +20,19 @@ use turn_book::{Held, Pass, Shared};
 // How many sessions there may be.
 pub const SESSION_LIMIT: u32 = 64;
 
-/// A document that the sessions of a conversation edit, and how its first blocks are read. It has its pass, but while its book is lent.
+/// How a conversation is answered: as JSON or as text, and with these lines of the document's head in a saved text.
+#[derive(Drop)]
+pub struct Style {
+    pub json: bool,
+    pub head: Lines,
+}
+
+/// A document that the sessions of a conversation edit, how they are answered, and how its first blocks are read. It has its pass, but while
+/// its book is lent.
 #[derive(Drop)]
 pub struct Document {
+    pub(crate) alloc: Global,
+    pub(crate) style: Style,
     pub(crate) shared: Shared<GroupBook>,
     pub(crate) pass: Option<Pass<GroupBook>>,
     pub(crate) setting: Setting,
@@ -30,16 +40,24 @@ pub struct Document {
 
 impl Document {
     /// A document that nobody has edited yet. The only error is want of memory.
-    pub fn start<R: Threads>(rt: &R, alloc: Global, book: Book) -> Result<Self, NoMemory>
+    pub fn start<R: Threads>(
+        rt: &R,
+        alloc: Global,
+        style: Style,
+        book: Book,
+    ) -> Result<Self, NoMemory>
         requires profile { IsLawfulProfile book.opening.setting.profile }
         requires unedited { book.entries ≡ [] }
         ensures document { IfOk result IsDocument }
         ensures opening { IfOk result (λ d. opening_in d ≡ book.opening) }
         ensures known { IfOk result (λ d. known_in d ≡ []) }
+        ensures style { IfOk result (λ d. d.style ≡ style) }
     {
         let setting = book.setting().try_clone()?;
         let (shared, pass) = Shared::start(rt, alloc, GroupBook::of(alloc, book), SESSION_LIMIT)?;
         Ok(Document {
+            alloc,
+            style,
             shared,
             pass: Some(pass),
             setting,
@@ -50,7 +68,6 @@ impl Document {
     pub fn step<R: Threads + Wait + Sync>(
         &mut self,
         rt: &R,
-        alloc: Global,
         session: &mut GroupSession,
         step: &Step,
     ) -> GroupReply
@@ -60,6 +77,7 @@ impl Document {
         requires names { HasNames (opening_in self.old) (entries_of (known_in self.old)) session.old.session }
         ensures document { IsDocument self.new }
         ensures opening { opening_in self.new ≡ opening_in self.old }
+        ensures style { self.new.style ≡ self.old.style }
         ensures number { session.new.session.number ≡ session.old.session.number }
         ensures answered { (m : Memory) → IsSessionAt (opening_in self.old) (known_in self.old) m session.old
             → IsAnsweredAt (opening_in self.old) session.old.session.number m step.now result (known_in self.old) (known_in self.new) session.new }
@@ -67,7 +85,8 @@ impl Document {
         let Some(pass) = &mut self.pass else {
             unreachable!()
         };
-        do_alone(rt, alloc, &self.shared, pass, &self.setting, session, step)
+        let setting = &self.setting;
+        do_alone(rt, self.alloc, &self.shared, pass, setting, session, step)
     }
 
     /// Lends the book, to be looked at until it is given back.
@@ -75,6 +94,7 @@ impl Document {
         requires document { IsDocument self.old }
         ensures lent { IsLent self.new result }
         ensures opening { opening_in self.new ≡ opening_in self.old }
+        ensures style { self.new.style ≡ self.old.style }
         ensures book { (result.book.opening ≡ opening_in self.old) × (result.book.chunks ≡ known_in self.old) }
     {
         let Some(pass) = self.pass.take() else {
@@ -88,6 +108,7 @@ impl Document {
         requires lent { IsLent self.old held }
         ensures document { IsDocument self.new }
         ensures opening { opening_in self.new ≡ opening_in self.old }
+        ensures style { self.new.style ≡ self.old.style }
         ensures known { known_in self.new ≡ held.book.chunks }
     {
         self.pass = Some(self.shared.give_back(held));

@@ -8,8 +8,16 @@
 //! `reply_report`, which says them, `script_reader`, whose orders these are, and `talk_loop`.
 #![tactic(auto)]
 
+mod desk;
 mod document;
+mod host;
+mod questions;
 mod steps;
+mod styles;
 
-pub use document::Document;
+pub use desk::{AnswerOf, Beginning, OrderOf, TalkDesk};
+pub use document::{Document, Style};
+pub use host::Host;
+pub use questions::take_question;
 pub use steps::{Talker, take_long, take_lost, take_step};
+pub use styles::say_opened_in;

@@ -1,3 +1,3 @@
 mod Last
 mod Loop
-mod Steps
+pub mod Steps

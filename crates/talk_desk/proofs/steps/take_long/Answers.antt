@@ -6,5 +6,5 @@ pub returns-clause-said : goal.returns-clause-said
 returns-clause-said g c =
     on-ok c.say_reply.result
     (λ said m text at long.
-    step-said m _ c.args.document.now c.args.document.now c.say_reply.new.document c.args.talker.now _ c.say_reply.new.talker _ _ c.refuse_long-reply.result refl c.refuse_long-reply.ensures.number refl
+    step-said c.args.document.now.style.json m _ c.args.document.now c.args.document.now c.say_reply.new.document c.args.talker.now _ c.say_reply.new.talker _ _ c.refuse_long-reply.result refl c.refuse_long-reply.ensures.number refl
     (c.refuse_long-reply.ensures.answered _ _ m text at long) c.say_reply.ensures.known c.say_reply.ensures.session c.say_reply.ensures.counted said) c.say_reply.ensures.said

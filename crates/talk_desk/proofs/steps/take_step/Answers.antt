@@ -6,5 +6,5 @@ pub returns-clause-said : goal.returns-clause-said
 returns-clause-said g c =
     on-ok c.say_reply.result
     (λ said m at.
-    step-said m c.args.step.now c.args.document.now c.step-reply.new.self c.say_reply.new.document c.args.talker.now _ c.say_reply.new.talker _ _ c.step-reply.result c.step-reply.ensures.opening c.step-reply.ensures.number refl
+    step-said c.args.document.now.style.json m c.args.step.now c.args.document.now c.step-reply.new.self c.say_reply.new.document c.args.talker.now _ c.say_reply.new.talker _ _ c.step-reply.result c.step-reply.ensures.opening c.step-reply.ensures.number refl
     (c.step-reply.ensures.answered m at) c.say_reply.ensures.known c.say_reply.ensures.session c.say_reply.ensures.counted said) c.say_reply.ensures.said

@@ -1,0 +1,97 @@
+-- A conversation from its first line to its end, and the status with which it ends.
+use Rattle.std.specs.Prelude.{◌≡◌, ℕ, ◌+◌, Bool, List, [], ◌∷◌, ◌++◌, length, take, Option, Some, Result, Ok, Err}
+use Rattle.knit_ports.specs.Faults.{Rose}
+use Rattle.knit_ports.specs.Pieces.{AreSaid, Heard, Piece, said_in}
+use Rattle.knitout_reader.specs.declared.head.Head.{Head}
+use Rattle.knitout_reader.specs.declared.head.HeadFault.{HeadFault}
+use Rattle.knitout_reader.specs.Head.{IsHead, IsHeadFault, head_of}
+use Rattle.machine_profile.specs.declared.Chosen.{Chosen}
+use Rattle.edit_journal.specs.declared.opening.Opening.{Opening}
+use Rattle.script_reader.specs.declared.fault.Cause.{Cause}
+use Rattle.script_reader.specs.declared.fault.Cause.TheVariants as cause
+use Rattle.opening_reader.specs.HeardOpenings.{EndsOpening}
+use Rattle.opening_reader.specs.declared.opening.OpeningFault.TheVariants as fault
+use Rattle.opening_reader.specs.declared.opening.OpeningText.{OpeningText}
+use Rattle.talk_loop.specs.Conversed.{Conversed}
+use Rattle.talk_loop.specs.declared.conversation.TalkFault.{TalkFault}
+use Rattle.talk_loop.specs.declared.conversation.TalkFault.TheVariants as talk_fault
+use Rattle.talk_desk.specs.Conversation.{Ends, asking}
+use Rattle.talk_desk.specs.Styles.{IsOpenedIn}
+use Rattle.verdict_report.specs.declared.refusal.Refusal.{Refusal}
+use Rattle.verdict_report.specs.declared.refusal.Refusal.TheVariants as refusal
+use Rattle.verdict_report.specs.Refusals.{refusal_text}
+use Rattle.verdict_report.specs.VerdictText.{Text}
+use Rattle.input_answers.specs.declared.outcome.Status.{Status}
+use Rattle.input_answers.specs.declared.outcome.Status.TheVariants as status
+use Rattle.input_answers.specs.CheckReport.{body_of}
+use Rattle.input_answers.specs.Due.{Fits, IsSizeRefusal, head_refusal}
+use Rattle.input_answers.specs.DueLive.{IsOpening}
+
+-- what is said of a line that can't stand where it does
+abbrev pub line_refusal : ℕ → Cause → Refusal
+line_refusal line cause.LineLong = refusal.LineLong line
+line_refusal line cause.NotUtf8 = refusal.NotUtf8 line
+line_refusal line why = refusal.BadScript line why
+
+-- The pieces that are the opening were heard, with these bytes pending behind them; it is refused for this reason, and the program is to end so.
+pub data IsRefused (chosen : Chosen) (heard : List Piece) (pending : List ℕ) : Refusal → Status → Type 0 where
+  -- a line can't stand where it does, or isn't there
+  bad_line : (line : ℕ) (why : Cause) → EndsOpening heard pending (Err (fault.At line why)) → IsRefused chosen heard pending (line_refusal line why) status.BadInput
+  -- the lines have too many bytes
+  too_many : EndsOpening heard pending (Err fault.TooManyBytes) → IsRefused chosen heard pending refusal.TooManyBytes status.TooLarge
+  -- hearing failed
+  failed : EndsOpening heard pending (Err fault.Failed) → IsRefused chosen heard pending refusal.ReadFault status.ReadFault
+  -- the head of the text is refused, for the first reason that holds
+  bad_head : (told : OpeningText) (why : HeadFault) (said : Refusal) → EndsOpening heard pending (Ok told) → IsHeadFault told.text why → head_refusal why ≡ Some said
+      → IsRefused chosen heard pending said status.BadInput
+  -- the body of the text has too many lines, or else too many blocks
+  too_large : (told : OpeningText) (head : Head) (said : Refusal) → EndsOpening heard pending (Ok told) → IsHead told.text head
+      → IsSizeRefusal chosen.block (length (body_of told.text)) said → IsRefused chosen heard pending said status.TooLarge
+
+-- The pieces that are the opening were heard, with these bytes pending behind them; the document begins with the text that they spell, which has this head, and the line behind has this number.
+pub record IsBegun (chosen : Chosen) (heard : List Piece) (pending : List ℕ) (opening : Opening) (head_lines : List (List ℕ)) (first : ℕ) : Type 0 where
+  pub told : OpeningText
+  pub told_of : EndsOpening heard pending (Ok told)
+  pub head : Head
+  pub has_head : IsHead told.text head
+  pub fits : Fits chosen.block (length (body_of told.text))
+  pub opens : IsOpening chosen head told.text opening
+  pub head_is : head_lines ≡ head_of told.text
+  pub first_is : first ≡ told.lines + 1
+
+-- So a text was said with which the program is to end: whole; or a front of it, since saying failed; or there was no memory for it.
+pub data IsEnded (text : Text) (ends : Status) (pieces : List Piece) : Status → Type 0 where
+  whole : AreSaid pieces → said_in pieces ≡ text → IsEnded text ends pieces ends
+  front : (n : ℕ) → AreSaid pieces → said_in pieces ≡ take n text → IsEnded text ends pieces status.WriteFault
+  nothing : pieces ≡ [] → IsEnded text ends pieces status.NoMemory
+
+-- the status of a conversation that ended so, and was not broken off by hearing
+data IsStatusOf : Result (Unit {0}) TalkFault → Status → Type 0 where
+  done : IsStatusOf (Ok tt) status.Done
+  mute : IsStatusOf (Err talk_fault.Saying) status.WriteFault
+  short : IsStatusOf (Err talk_fault.NoMemory) status.NoMemory
+
+-- What was heard and said of a conversation, as JSON or as text, and how it ended.
+pub data Served (json : Bool) (chosen : Chosen) (pieces : List Piece) : Status → Type 0 where
+  -- memory ran out before anything was said
+  stopped : said_in pieces ≡ [] → Served json chosen pieces status.NoMemory
+  -- the opening was refused
+  refused : (heard more : List Piece) (pending : List ℕ) (said : Refusal) (ends result : Status) → pieces ≡ heard ++ more → IsRefused chosen heard pending said ends
+      → IsEnded (refusal_text said) ends more result → Served json chosen pieces result
+  -- the document stood, and of what was to be said then a front was said
+  unopened : (heard more : List Piece) (pending : List ℕ) (opening : Opening) (head : List (List ℕ)) (first : ℕ) (text : Text) (n : ℕ) → pieces ≡ heard ++ more → IsBegun chosen heard pending opening head first
+      → IsOpenedIn json opening [] text → AreSaid more → said_in more ≡ take n text → Served json chosen pieces status.WriteFault
+  -- that was said, and then a conversation, whose first bytes are those that were pending, went on to its end
+  conversed : (heard said more : List Piece) (pending : List ℕ) (opening : Opening) (head : List (List ℕ)) (first : ℕ) (text : Text) (end : Result (Unit {0}) TalkFault) (result : Status)
+      → pieces ≡ heard ++ (said ++ more) → IsBegun chosen heard pending opening head first → IsOpenedIn json opening [] text → AreSaid said → said_in said ≡ text
+      → Conversed (asking json head opening first) (Ends json head opening first) (Heard pending ∷ more) end → IsStatusOf end result → Served json chosen pieces result
+  -- or until hearing failed, which was said last
+  deaf : (heard said more last : List Piece) (pending : List ℕ) (opening : Opening) (head : List (List ℕ)) (first : ℕ) (text : Text) (result : Status)
+      → pieces ≡ heard ++ (said ++ (more ++ last)) → IsBegun chosen heard pending opening head first → IsOpenedIn json opening [] text → AreSaid said → said_in said ≡ text
+      → Conversed (asking json head opening first) (Ends json head opening first) (Heard pending ∷ more) (Err talk_fault.Hearing)
+      → IsEnded (refusal_text refusal.ReadFault) status.ReadFault last result → Served json chosen pieces result
+
+-- A call failed where hearing is told to have failed, or saying; where none did, neither is told.
+pub record HasServeCause (faults_before faults_after : ℕ) (result : Status) : Type 0 where
+  pub read : result ≡ status.ReadFault → Rose faults_before faults_after
+  pub write : result ≡ status.WriteFault → Rose faults_before faults_after
