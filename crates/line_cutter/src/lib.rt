@@ -15,5 +15,5 @@ mod places;
 pub use counter::count_lines;
 pub use cutter::{cut, cut_buffer};
 pub use fault::CutFault;
-pub use line::LINE_LIMIT;
+pub use line::{LINE_LIMIT, without_return};
 pub use places::{line_at, place_behind};

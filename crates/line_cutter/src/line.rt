@@ -54,6 +54,13 @@ fn piece_len(rest: &[u8]) -> usize
     }
 }
 
+/// A line without a carriage return at its end, if it has one.
+pub fn without_return(line: &[u8]) -> &[u8]
+    ensures { result.now ≡ without_return line.now }
+{
+    &line[..line_len(line)]
+}
+
 // How many bytes of the piece are the line: one carriage return at the end is no part of it.
 #[inline(always)]
 fn line_len(piece: &[u8]) -> usize

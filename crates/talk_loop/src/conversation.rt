@@ -69,6 +69,8 @@ fn finish<T: Talk, D: Desk>(
     out: &mut Vec<u8>,
 ) -> Result<(), TalkFault>
     requires one { HasNoLineEnd line.now }
+    requires begun { (lines : List (List ℕ)) × (as_ : List D.Answer) × D.behind desk.old lines as_ × (number ≡ (D.asking (D.opening desk.old)).first + length lines) }
+    requires kept { (rest : List ℕ) × (line.now ≡ kept_front rest) }
     requires room { 0 < length line.now → number < 2 ^ 64 - 1 }
     requires empty { out.old.items ≡ [] }
     ensures finished { (lines : List (List ℕ)) (as_ : List D.Answer) (rest : List ℕ) → D.behind desk.old lines as_ → number ≡ (D.asking (D.opening desk.old)).first + length lines
@@ -92,6 +94,8 @@ fn append_last<D: Desk>(
     out: &mut Vec<u8>,
 ) -> Result<(), NoMemory>
     requires one { HasNoLineEnd line.now }
+    requires begun { (lines : List (List ℕ)) × (as_ : List D.Answer) × D.behind desk.old lines as_ × (number ≡ (D.asking (D.opening desk.old)).first + length lines) }
+    requires kept { (rest : List ℕ) × (line.now ≡ kept_front rest) }
     requires room { 0 < length line.now → number < 2 ^ 64 - 1 }
     requires empty { out.old.items ≡ [] }
     ensures last { OnOk result ((lines : List (List ℕ)) (as_ : List D.Answer) (rest : List ℕ) → D.behind desk.old lines as_ → number ≡ (D.asking (D.opening desk.old)).first + length lines

@@ -38,6 +38,7 @@ pub trait Desk {
     /// Where memory runs out for what is to be said, the conversation can't go on.
     fn hear(&mut self, number: u64, line: &[u8], out: &mut Vec<u8>) -> Result<(), NoMemory>
         requires one { HasNoLineEnd line.now }
+        requires begun { (lines : List (List ℕ)) × (as_ : List Self.Answer) × behind self.old lines as_ × (number ≡ (asking (opening self.old)).first + length lines) }
         ensures same { opening self.new ≡ opening self.old }
         ensures answered { OnOk result ((lines : List (List ℕ)) (as_ : List Self.Answer) (whole : List ℕ) → behind self.old lines as_ → number ≡ (asking (opening self.old)).first + length lines
             → line.now ≡ kept_front whole
@@ -45,6 +46,7 @@ pub trait Desk {
 
     /// Appends what is to be said at the end, where the line behind the last one would have this number.
     fn end(&mut self, number: u64, out: &mut Vec<u8>) -> Result<(), NoMemory>
+        requires begun { (lines : List (List ℕ)) × (as_ : List Self.Answer) × behind self.old lines as_ × (number ≡ (asking (opening self.old)).first + length lines) }
         ensures last { OnOk result ((lines : List (List ℕ)) (as_ : List Self.Answer) → behind self.old lines as_ → number ≡ (asking (opening self.old)).first + length lines
             → (final : List ℕ) × (out.new.items ≡ out.old.items ++ final) × ends (opening self.old) lines as_ final) };
 }

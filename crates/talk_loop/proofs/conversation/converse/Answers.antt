@@ -25,8 +25,11 @@ returns-in-Err g c = record {
 pub finish-requires : goal.finish-requires
 finish-requires g c =
     let h = c.in-Ok.ensures.heard in
+    let s = subst (λ o. SoFar (g.D.Desk.asking o) (g.D.Desk.ends o) (g.D.Desk.behind c.lines.desk) (g.T.Talk.told c.args.talk.now) c.args.ear.now.pending (g.T.Talk.told c.lines.talk) c.lines.ear.pending c.lines.number) (sym c.lines.invariant.same) c.lines.invariant.so_far in
     record {
       one = kept-one h.line c.line.result.now (c.line.ensures ∙ h.kept) h.one;
+      begun = (s.lines, s.answers, s.stands, s.counted);
+      kept = (h.line, c.line.ensures ∙ h.kept);
       room = λ some. c.lines-test.true;
       empty = c.clear.ensures.items;
     }
@@ -44,7 +47,10 @@ returns-in_default g c =
     }
 
 pub hear-requires-in-lines : goal.hear-requires-in-lines
-hear-requires-in-lines g c = let h = c.in-Ok.ensures.heard in record { one = kept-one h.line c.line-in-lines.result.now (c.line-in-lines.ensures ∙ h.kept) h.one }
+hear-requires-in-lines g c =
+    let h = c.in-Ok.ensures.heard in
+    let s = subst (λ o. SoFar (g.D.Desk.asking o) (g.D.Desk.ends o) (g.D.Desk.behind c.lines.desk) (g.T.Talk.told c.args.talk.now) c.args.ear.now.pending (g.T.Talk.told c.lines.talk) c.lines.ear.pending c.lines.number) (sym c.lines.invariant.same) c.lines.invariant.so_far in
+    record { one = kept-one h.line c.line-in-lines.result.now (c.line-in-lines.ensures ∙ h.kept) h.one; begun = (s.lines, s.answers, s.stands, s.counted) }
 
 pub returns-in_default-hear : goal.returns-in_default-hear
 returns-in_default-hear g c = record {
@@ -91,4 +97,15 @@ returns g c =
       conversed = subst (λ o. Ended (g.D.Desk.asking o) (g.D.Desk.ends o) (g.D.Desk.behind c.lines.desk) (g.T.Talk.told c.args.talk.now) c.args.ear.now.pending (g.T.Talk.told c.finish-2.new.talk) c.finish-2.result) same
           (count-over (g.D.Desk.asking (g.D.Desk.opening c.lines.desk)) (g.D.Desk.ends (g.D.Desk.opening c.lines.desk)) (g.D.Desk.behind c.lines.desk) (g.T.Talk.told c.args.talk.now) c.args.ear.now.pending _ _ c.lines.ear.pending c.lines.number s c.finish-2.result c.lines-test.false f);
       cause = subst (λ (n : ℕ). HasTalkCause n (g.T.Talk.faults c.finish-2.new.talk) c.finish-2.result) c.lines.invariant.calm c.finish-2.ensures.cause;
+    }
+
+pub finish-2-requires : goal.finish-2-requires
+finish-2-requires g c =
+    let s = subst (λ o. SoFar (g.D.Desk.asking o) (g.D.Desk.ends o) (g.D.Desk.behind c.lines.desk) (g.T.Talk.told c.args.talk.now) c.args.ear.now.pending (g.T.Talk.told c.lines.talk) c.lines.ear.pending c.lines.number) (sym c.lines.invariant.same) c.lines.invariant.so_far in
+    record {
+      one = All-nil _;
+      begun = (s.lines, s.answers, s.stands, s.counted);
+      kept = ([], refl);
+      room = λ some. absurd (cc);
+      empty = c.clear-2.ensures.items;
     }
