@@ -7,9 +7,10 @@ ghost use Rattle.opening_reader.specs.Openings.{cause_at_end};
 ghost use Rattle.opening_reader.specs.declared.opening.OpeningFault.TheVariants as fault;
 ghost use Rattle.script_reader.specs.Hearing.{fault_of};
 
-use crate::line::{asked_in, is_skipped, is_text_line, readable, text_of, without_return};
+use crate::line::{asked_in, is_skipped, is_text_line, readable, text_of};
 use crate::opening::OpeningFault;
 use knit_base::{Lines, NoMemory};
+use line_cutter::without_return;
 use script_reader::Cause;
 
 /// So many bytes the lines of an opening have at most, each with one line feed.
@@ -27,7 +28,7 @@ pub(crate) struct Front {
 /// Whether the opening is whole.
 pub(crate) fn is_whole(front: Front) -> bool
     ensures whole { result ≡ true → front.missing ≡ Some 0 }
-    ensures open { result ≡ false → IsOpen front.missing }
+    ensures wanted { result ≡ false → IsOpen front.missing }
 {
     match front.missing {
         Some(missing) => missing == 0,
@@ -35,18 +36,17 @@ pub(crate) fn is_whole(front: Front) -> bool
     }
 }
 
-/// What is told where the input ends behind these lines.
-pub(crate) fn unfinished(front: Front) -> OpeningFault
-    requires { front.lines ≤ OPENING_LIMIT }
-    ensures { (lines text : List (List ℕ)) → HoldsFront front lines text → result ≡ fault.At (length lines + 1) (cause_at_end lines) }
+/// What is told where the input ends before the line with this number, behind these lines.
+pub(crate) fn unfinished(number: u32, front: Front) -> OpeningFault
+    ensures { (lines text : List (List ℕ)) → HoldsFront front lines text → number ≡ length lines + 1 → result ≡ fault.At (length lines + 1) (cause_at_end lines) }
 {
     match front.missing {
         None => OpeningFault::At {
-            line: front.lines + 1,
+            line: number,
             cause: Cause::NoServe,
         },
         Some(_) => OpeningFault::At {
-            line: front.lines + 1,
+            line: number,
             cause: Cause::BadLine,
         },
     }
@@ -56,7 +56,7 @@ pub(crate) fn unfinished(front: Front) -> OpeningFault
 pub(crate) fn take(text: &mut Lines, front: Front, kept: &[u8]) -> Result<Front, OpeningFault>
     requires one { HasNoLineEnd kept.now }
     requires room { HasRoom front text.old }
-    requires open { IsOpen front.missing }
+    requires wanted { IsOpen front.missing }
     ensures { (lines : List (List ℕ)) (line : List ℕ) → HoldsFront front lines text.old → kept.now ≡ kept_front line → IsTaken result text.new lines (without_return line) }
 {
     match readable(without_return(kept)) {
@@ -73,7 +73,7 @@ fn take_readable(text: &mut Lines, front: Front, line: &str) -> Result<Front, Op
     requires line { IsLine line.now }
     requires short { length line.now ≤ 4096 }
     requires room { HasRoom front text.old }
-    requires open { IsOpen front.missing }
+    requires wanted { IsOpen front.missing }
     ensures { (lines : List (List ℕ)) → HoldsFront front lines text.old → fault_of line.now ≡ None → IsTaken result text.new lines line.now }
 {
     let bytes = front.bytes + line.len() as u32 + 1;

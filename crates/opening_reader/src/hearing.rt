@@ -44,7 +44,10 @@ pub fn hear_opening<T: Talk>(
             LineEnd::LineFeed => {}
             _ => return finish(text, front, ear.line()),
         }
-        front = take(&mut text, front, ear.line())?;
+        front = match take(&mut text, front, ear.line()) {
+            Ok(front) => front,
+            Err(fault) => return Err(fault),
+        };
         if is_whole(front) {
             return Ok(OpeningText {
                 text,
@@ -59,19 +62,23 @@ pub fn hear_opening<T: Talk>(
 fn finish(text: Lines, front: Front, line: &[u8]) -> Result<OpeningText, OpeningFault>
     requires one { HasNoLineEnd line.now }
     requires room { HasRoom front text }
-    requires open { IsOpen front.missing }
+    requires wanted { IsOpen front.missing }
     ensures { (lines : List (List ℕ)) (last : List ℕ) → HoldsFront front lines text → line.now ≡ kept_front last → IsFinished result lines last }
 {
+    let number = front.lines + 1;
     if line.is_empty() {
-        return Err(unfinished(front));
+        return Err(unfinished(number, front));
     }
     let mut text = text;
-    let front = take(&mut text, front, line)?;
+    let front = match take(&mut text, front, line) {
+        Ok(front) => front,
+        Err(fault) => return Err(fault),
+    };
     if is_whole(front) {
         return Ok(OpeningText {
             text,
             lines: front.lines,
         });
     }
-    Err(unfinished(front))
+    Err(unfinished(number + 1, front))
 }

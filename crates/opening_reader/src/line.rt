@@ -1,6 +1,6 @@
 //! One line by itself.
-ghost use Rattle.std.specs.Prelude.{◌≡◌, ◌≤◌, MatchResult, None, Some, take, drop, length, true};
-ghost use Rattle.knit_base.specs.Lines.{HasNoLineEnd, IsLine, without_return};
+ghost use Rattle.std.specs.Prelude.{◌≡◌, ◌≤◌, MatchResult, None, Some, drop, length, true};
+ghost use Rattle.knit_base.specs.Lines.{HasNoLineEnd, IsLine};
 ghost use Rattle.opening_reader.specs.Openings.{asked_in};
 ghost use Rattle.script_reader.specs.Hearing.{fault_of};
 ghost use Rattle.script_reader.specs.Statements.{is_skipped, is_text_line};
@@ -8,25 +8,6 @@ ghost use Rattle.script_reader.specs.Statements.{is_skipped, is_text_line};
 use knitout_reader::is_blank_text;
 use line_cutter::LINE_LIMIT;
 use script_reader::{Cause, TalkOpening, talk_opening};
-
-/// The line without a carriage return at its end.
-pub(crate) fn without_return(line: &[u8]) -> &[u8]
-    ensures { result.now ≡ without_return line.now }
-{
-    &line[..line_len(line)]
-}
-
-fn line_len(line: &[u8]) -> usize
-    ensures within { result ≤ length line.now }
-    ensures line { take result line.now ≡ without_return line.now }
-{
-    let len = line.len();
-    if len > 0 && line[len - 1] == b'\r' {
-        len - 1
-    } else {
-        len
-    }
-}
 
 /// The line as a text, or why it can't be read.
 pub(crate) fn readable(line: &[u8]) -> Result<&str, Cause>
