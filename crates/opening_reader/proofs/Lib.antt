@@ -1,0 +1,4 @@
+mod Endings
+mod HeardSoFar
+mod ReadLines
+mod TakenLines
