@@ -55,15 +55,3 @@ pub ended-for : {E : Type 0} (words : List (List ℕ)) (command : Command) (chos
     → IfOk answer (IsDueFor command chosen source) → OnErr answer (HasReadFor command source) → (IfOk answer (IsCalled words source) → OnErr answer (HasReadWithin words source) → P) → P
 ended-for words command chosen source answer P ask due read ends =
     ends (IfOk-weaker answer _ _ (λ a is. is words ask) due) (on_err_weaker answer (read-within words command chosen source ask) read)
-
--- a command with sessions reads a script
-pub sessions-read : (command : Command) → has_sessions command ≡ true → reads_input command ≡ true
-sessions-read (Check loops json) has = absurd (cc)
-sessions-read Text has = absurd (cc)
-sessions-read Passes has = absurd (cc)
-sessions-read Live has = refl
-sessions-read Save has = refl
-sessions-read Groups has = refl
-sessions-read Replay has = absurd (cc)
-sessions-read (Tally from to) has = absurd (cc)
-sessions-read (Make rows start) has = absurd (cc)

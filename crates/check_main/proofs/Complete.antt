@@ -8,7 +8,7 @@ use Rattle.knitout_reader.specs.declared.head.Head.{Head}
 use Rattle.knitout_reader.specs.Head.{IsHead}
 use Rattle.machine_profile.specs.declared.Chosen.{Chosen}
 use Rattle.command_words.specs.declared.command.Command.{Command}
-use Rattle.command_words.specs.declared.command.Command.TheVariants.{Check, Text, Passes, Live, Save, Groups, Replay, Tally, Make}
+use Rattle.command_words.specs.declared.command.Command.TheVariants.{Check, Text, Passes, Live, Save, Groups, Serve, Replay, Tally, Make}
 use Rattle.journal_file.proofs.JournalReadings.{one_spelling}
 use Rattle.script_reader.specs.declared.command.Script.{Script}
 use Rattle.script_reader.specs.declared.step.GroupScript.{GroupScript}
@@ -58,6 +58,7 @@ file_input Passes reads = refl
 file_input Live reads = absurd (cc)
 file_input Save reads = absurd (cc)
 file_input Groups reads = absurd (cc)
+file_input (Serve json) reads = absurd (cc)
 file_input Replay reads = absurd (cc)
 file_input (Tally from to) reads = absurd (cc)
 file_input (Make rows start) reads = absurd (cc)
@@ -70,6 +71,7 @@ file_head Passes chosen input reads within = within.file
 file_head Live chosen input reads within = absurd (cc)
 file_head Save chosen input reads within = absurd (cc)
 file_head Groups chosen input reads within = absurd (cc)
+file_head (Serve json) chosen input reads within = absurd (cc)
 file_head Replay chosen input reads within = absurd (cc)
 file_head (Tally from to) chosen input reads within = absurd (cc)
 file_head (Make rows start) chosen input reads within = absurd (cc)
@@ -83,6 +85,7 @@ file_fits Passes chosen input checks within = within.fits
 file_fits Live chosen input checks within = absurd (cc)
 file_fits Save chosen input checks within = absurd (cc)
 file_fits Groups chosen input checks within = absurd (cc)
+file_fits (Serve json) chosen input checks within = absurd (cc)
 file_fits Replay chosen input checks within = absurd (cc)
 file_fits (Tally from to) chosen input checks within = absurd (cc)
 file_fits (Make rows start) chosen input checks within = absurd (cc)
@@ -95,6 +98,7 @@ script_fits Passes chosen input reads within = absurd (cc)
 script_fits Live chosen input reads within = within
 script_fits Save chosen input reads within = within
 script_fits Groups chosen input reads within = absurd (cc)
+script_fits (Serve json) chosen input reads within = absurd (cc)
 script_fits Replay chosen input reads within = absurd (cc)
 script_fits (Tally from to) chosen input reads within = absurd (cc)
 script_fits (Make rows start) chosen input reads within = absurd (cc)
@@ -107,6 +111,7 @@ script_input Passes reads = refl
 script_input Live reads = refl
 script_input Save reads = refl
 script_input Groups reads = refl
+script_input (Serve json) reads = absurd (cc)
 script_input Replay reads = absurd (cc)
 script_input (Tally from to) reads = absurd (cc)
 script_input (Make rows start) reads = absurd (cc)
@@ -119,6 +124,7 @@ script_done Passes chosen input result reads is = absurd (cc)
 script_done Live chosen input result reads is = is
 script_done Save chosen input result reads is = is
 script_done Groups chosen input result reads is = absurd (cc)
+script_done (Serve json) chosen input result reads is = absurd (cc)
 script_done Replay chosen input result reads is = absurd (cc)
 script_done (Tally from to) chosen input result reads is = absurd (cc)
 script_done (Make rows start) chosen input result reads is = absurd (cc)

@@ -12,7 +12,7 @@ use Rattle.carriage_model.specs.declared.verdict.Verdict.{Verdict}
 use Rattle.carriage_model.specs.declared.verdict.LoopFact.{LoopFact}
 use Rattle.machine_profile.specs.declared.Chosen.{Chosen}
 use Rattle.command_words.specs.declared.command.Command.{Command}
-use Rattle.command_words.specs.declared.command.Command.TheVariants.{Check, Text, Passes, Live, Save, Groups, Replay, Tally, Make}
+use Rattle.command_words.specs.declared.command.Command.TheVariants.{Check, Text, Passes, Live, Save, Groups, Serve, Replay, Tally, Make}
 use Rattle.script_reader.specs.declared.command.Script.{Script}
 use Rattle.script_reader.specs.declared.step.GroupScript.{GroupScript}
 use Rattle.input_answers.specs.declared.outcome.Status.{Status}
@@ -72,6 +72,7 @@ IsWithinLimits Passes chosen input = IsFileThatFits chosen.block input
 IsWithinLimits Live chosen input = IsScriptThatFits chosen.block input
 IsWithinLimits Save chosen input = IsScriptThatFits chosen.block input
 IsWithinLimits Groups chosen input = IsGroupScriptThatFits chosen.block input
+IsWithinLimits (Serve json) chosen input = Unit {0}
 IsWithinLimits Replay chosen input = IsSavedText input
 IsWithinLimits (Tally from to) chosen input = IsSavedTextWith from to input
 IsWithinLimits (Make rows start) chosen input = Fits chosen.block (length (body_of (made_lines rows start)))
@@ -108,6 +109,7 @@ WasDone Passes chosen input result = IsStatusOf chosen input result
 WasDone Live chosen input result = result ≡ Done
 WasDone Save chosen input result = result ≡ Done
 WasDone Groups chosen input result = result ≡ Done
+WasDone (Serve json) chosen input result = Unit {0}
 WasDone Replay chosen input result = result ≡ Done
 WasDone (Tally from to) chosen input result = result ≡ Done
 WasDone (Make rows start) chosen input result = result ≡ Done

@@ -1,13 +1,14 @@
 -- What the whole program does: the report that is due, the status, and the causes of every other end.
-use Rattle.std.specs.Prelude.{◌≡◌, ℕ, ◌+◌, ◌≤◌, false, true, List, length}
+use Rattle.std.specs.Prelude.{◌≡◌, ℕ, ◌+◌, ◌≤◌, Bool, false, true, List, length}
 use Rattle.std.specs.declared.option.Option.{Option}
 use Rattle.std.specs.Io.KnownBytes.{Appends, Consumes, IsAtEnd, Keeps}
 use Rattle.knit_ports.specs.declared.limit.TheConstants.{INPUT_LIMIT}
 use Rattle.knit_ports.specs.Faults.{Rose}
+use Rattle.knit_ports.specs.Pieces.{Piece}
 use Rattle.knit_ports.specs.Whole.{GaveAtMost, TookFront}
 use Rattle.machine_profile.specs.declared.Chosen.{Chosen}
 use Rattle.command_words.specs.declared.command.Command.{Command}
-use Rattle.command_words.specs.declared.command.Command.TheVariants.{Groups, Make, Replay, Tally}
+use Rattle.command_words.specs.declared.command.Command.TheVariants.{Groups, Make, Replay, Serve, Tally}
 use Rattle.verdict_report.specs.declared.refusal.Refusal.TheVariants as refusal
 use Rattle.verdict_report.specs.Refusals.{refusal_text}
 use Rattle.input_answers.specs.declared.outcome.Status.{Status}
@@ -21,6 +22,7 @@ use Rattle.input_answers.specs.DueReplay.{DueReplay}
 use Rattle.input_answers.specs.DueTally.{DueTally}
 use Rattle.input_answers.specs.LiveText.{output_of}
 use Rattle.input_answers.specs.Played.{Played, nothing_played}
+use Rattle.live_talk.specs.Served.{HasServeCause, Served}
 
 -- the source before and after a run: the bytes that it has left, where it tells them, and how many of its reads have failed
 pub record SourceUse : Type 0 where
@@ -101,3 +103,6 @@ pub data Ran (words : List (List ℕ)) (source : SourceUse) (sink : SinkUse) (pl
       → Rose sink.faults_before sink.faults_after → TookFront sink.taken_before sink.taken_after text → Ran words source sink played result
   -- memory ran out, the sink took nothing, and no more was read than ever is
   stopped : result ≡ NoMemory → played ≡ nothing_played → Keeps sink.taken_before sink.taken_after → HasReadWithin words source → Ran words source sink played result
+  -- a conversation was answered: there are pieces that were heard and said in step, with this status
+  conversed : (json : Bool) (chosen : Chosen) (pieces : List Piece) → Ask words (Serve json) chosen → played ≡ nothing_played → Served json chosen pieces result
+      → HasServeCause (source.faults_before + sink.faults_before) (source.faults_after + sink.faults_after) result → Ran words source sink played result

@@ -15,7 +15,8 @@ use input_answers::{
     answer_replay, answer_tally, plan_of,
 };
 use knit_base::NoMemory;
-use knit_ports::{Gate, INPUT_LIMIT, InputFault, Sink, Source, read_input, write_report};
+use knit_ports::{Ends, Gate, INPUT_LIMIT, InputFault, Sink, Source, read_input, write_report};
+use live_talk::serve;
 use std::alloc::Global;
 use std::sync::Wait;
 use std::thread::Threads;
@@ -27,6 +28,10 @@ use verdict_report::Refusal;
 /// Where the source tells the bytes that it has left and the sink those that it has taken, the report is the one that is due
 /// for these very bytes, and the sink takes nothing else. Of a source that tells nothing, as standard input, the report
 /// is due for some bytes. An input has at most 16,777,216 bytes; one byte more is read to see that it has not, and never more than that.
+///
+/// `serve` answers a conversation: each command is answered before more is heard, so what the sink takes is written piece by piece. Its
+/// source and its sink tell nothing of the order of reads and writes, so here it is promised that some conversation was heard and said in
+/// step, with this status; `live_talk::serve` promises it of the pieces that a port tells.
 ///
 /// `live`, `save` and `groups` carry out the sessions of a script, each in a thread of its own, and may wait for other threads and for
 /// the gate; nothing is claimed of how long. Every other command is done by `run_alone`, which waits for nobody. What the sessions did
@@ -93,6 +98,12 @@ fn carry_out<R: Threads + Wait + Sync, S: Source, K: Sink, G: Gate + Sync>(
             let answer = answer_sessions(rt, alloc, plan, source, gate);
             end_with(alloc, answer, sink)
         }
+        Command::Serve { .. } => {
+            keep_large_pieces(alloc);
+            let mut ends = Ends { source, sink };
+            let status = serve(rt, alloc, plan, &mut ends);
+            Outcome::without_sessions(alloc, status)
+        }
         Command::Check { .. }
         | Command::Text
         | Command::Passes
@@ -145,7 +156,7 @@ fn answer_alone<R: Threads + Sync, S: Source>(
             let ending = answer_made(rt, alloc, plan, rows, start)?;
             Ok(Answer::without_sessions(alloc, ending))
         }
-        Command::Live | Command::Save | Command::Groups => unreachable!(),
+        Command::Live | Command::Save | Command::Groups | Command::Serve { .. } => unreachable!(),
     }
 }
 
@@ -167,7 +178,7 @@ fn answer_source<R: Threads + Sync, S: Source>(
     }
 }
 
-// What is due for the plan and for what the source gives, of a command that has sessions.
+// What is due for the plan and for what the source gives, of a command that carries out the sessions of a script.
 fn answer_sessions<R: Threads + Wait + Sync, S: Source, G: Gate + Sync>(
     rt: &R,
     alloc: Global,
@@ -175,7 +186,8 @@ fn answer_sessions<R: Threads + Wait + Sync, S: Source, G: Gate + Sync>(
     source: &mut S,
     gate: &G,
 ) -> Result<Answer, NoMemory>
-    requires { has_sessions plan.now.command ≡ true }
+    requires sessions { has_sessions plan.now.command ≡ true }
+    requires reads { reads_input plan.now.command ≡ true }
     ensures ok { IfOk result (IsDueFor plan.now.command plan.now.chosen (source_use S.left S.faults source.old source.new)) }
     ensures err { OnErr result (HasReadFor plan.now.command (source_use S.left S.faults source.old source.new)) }
 {
@@ -248,11 +260,15 @@ fn answer_input<R: Threads + Sync>(
             let ending = answer_tally(rt, alloc, from, to, input)?;
             Ok(Answer::without_sessions(alloc, ending))
         }
-        Command::Live | Command::Save | Command::Groups | Command::Make { .. } => unreachable!(),
+        Command::Live
+        | Command::Save
+        | Command::Groups
+        | Command::Serve { .. }
+        | Command::Make { .. } => unreachable!(),
     }
 }
 
-// What is due for an input that was read whole, of a command that has sessions.
+// What is due for an input that was read whole, of a command that carries out the sessions of a script.
 fn answer_script<R: Threads + Wait + Sync, G: Gate + Sync>(
     rt: &R,
     alloc: Global,
@@ -262,6 +278,7 @@ fn answer_script<R: Threads + Wait + Sync, G: Gate + Sync>(
 ) -> Result<Answer, NoMemory>
     requires size { length input.items ≤ INPUT_LIMIT }
     requires sessions { has_sessions plan.now.command ≡ true }
+    requires reads { reads_input plan.now.command ≡ true }
     ensures { IfOk result (λ answer. (source : SourceUse) → HasGiven source input.items → IsDueFor plan.now.command plan.now.chosen source answer) }
 {
     match plan.command {
@@ -270,6 +287,7 @@ fn answer_script<R: Threads + Wait + Sync, G: Gate + Sync>(
         Command::Check { .. }
         | Command::Text
         | Command::Passes
+        | Command::Serve { .. }
         | Command::Replay
         | Command::Tally { .. }
         | Command::Make { .. } => unreachable!(),

@@ -5,7 +5,7 @@ use Rattle.machine_profile.specs.declared.Chosen.{Chosen}
 use Rattle.machine_profile.specs.declared.Which.{Which}
 use Rattle.machine_profile.specs.Bounds.{refused, IsBlockSize, IsChosen}
 use Rattle.command_words.specs.declared.command.Command.{Command}
-use Rattle.command_words.specs.declared.command.Command.TheVariants.{Check, Text, Passes, Live, Save, Groups, Replay, Tally, Make}
+use Rattle.command_words.specs.declared.command.Command.TheVariants.{Check, Text, Passes, Live, Save, Groups, Serve, Replay, Tally, Make}
 use Rattle.command_words.specs.declared.command.Request.{Request}
 use Rattle.command_words.specs.Request.{request_of}
 
@@ -29,6 +29,7 @@ reads_file Passes = true
 reads_file Live = false
 reads_file Save = false
 reads_file Groups = false
+reads_file (Serve json) = false
 reads_file Replay = false
 reads_file (Tally from to) = false
 reads_file (Make rows start) = false
@@ -41,11 +42,12 @@ reads_script Passes = false
 reads_script Live = true
 reads_script Save = true
 reads_script Groups = false
+reads_script (Serve json) = false
 reads_script Replay = false
 reads_script (Tally from to) = false
 reads_script (Make rows start) = false
 
--- the commands that carry out the sessions of a script
+-- the commands that have sessions: of a script, or of a conversation
 abbrev pub has_sessions : Command → Bool
 has_sessions (Check loops json) = false
 has_sessions Text = false
@@ -53,11 +55,12 @@ has_sessions Passes = false
 has_sessions Live = true
 has_sessions Save = true
 has_sessions Groups = true
+has_sessions (Serve json) = true
 has_sessions Replay = false
 has_sessions (Tally from to) = false
 has_sessions (Make rows start) = false
 
--- the commands that read an input: a file, a script or a saved text
+-- the commands that read a whole input before they answer: a file, a script or a saved text
 abbrev pub reads_input : Command → Bool
 reads_input (Check loops json) = true
 reads_input Text = true
@@ -65,6 +68,7 @@ reads_input Passes = true
 reads_input Live = true
 reads_input Save = true
 reads_input Groups = true
+reads_input (Serve json) = false
 reads_input Replay = true
 reads_input (Tally from to) = true
 reads_input (Make rows start) = false
@@ -78,3 +82,8 @@ pub data AreRefused (words : List (List ℕ)) : Type 0 where
 pub record IsLawfulChosen (chosen : Chosen) : Type 0 where
   pub profile : IsLawfulProfile chosen.profile
   pub block : IsBlockSize chosen.block
+
+-- whether the command answers a conversation as JSON
+abbrev pub as_json : Command → Bool
+as_json (Serve json) = json
+as_json command = false

@@ -11,7 +11,7 @@ use Rattle.knitout_reader.specs.Head.{IsHead, IsHeadFault}
 use Rattle.knitout_writer.specs.Canonical.{IsCanonicalText}
 use Rattle.machine_profile.specs.declared.Chosen.{Chosen}
 use Rattle.command_words.specs.declared.command.Command.{Command}
-use Rattle.command_words.specs.declared.command.Command.TheVariants.{Check, Text, Passes, Live, Save, Groups, Replay, Tally, Make}
+use Rattle.command_words.specs.declared.command.Command.TheVariants.{Check, Text, Passes, Live, Save, Groups, Serve, Replay, Tally, Make}
 use Rattle.verdict_report.specs.declared.refusal.Refusal.{Refusal}
 use Rattle.verdict_report.specs.declared.refusal.Refusal.TheVariants as refusal
 use Rattle.verdict_report.specs.Refusals.{refusal_text}
@@ -63,6 +63,7 @@ checks_body Passes = true
 checks_body Live = false
 checks_body Save = false
 checks_body Groups = false
+checks_body (Serve json) = false
 checks_body Replay = false
 checks_body (Tally from to) = false
 checks_body (Make rows start) = false

@@ -70,6 +70,7 @@ fn answer_in_one_pass(alloc: Global, plan: &Plan, input: &[u8]) -> Result<Option
         Command::Live
         | Command::Save
         | Command::Groups
+        | Command::Serve { .. }
         | Command::Replay
         | Command::Tally { .. }
         | Command::Make { .. } => Ok(None),
@@ -130,6 +131,7 @@ fn answer_body<R: Threads + Sync>(
         Command::Live
         | Command::Save
         | Command::Groups
+        | Command::Serve { .. }
         | Command::Replay
         | Command::Tally { .. }
         | Command::Make { .. } => unreachable!(),
@@ -182,7 +184,7 @@ fn normalise(alloc: Global, plan: &Plan, body: &Body) -> Result<Ending, NoMemory
 }
 
 /// What is said of a body with so many lines, where these are too many, or too many blocks of this size.
-pub(crate) fn refusal_of_size(lines: u32, block: u32) -> Option<Refusal>
+pub fn refusal_of_size(lines: u32, block: u32) -> Option<Refusal>
     requires { IsBlockSize block }
     ensures { MatchOption result (Fits block lines) (λ refusal. IsSizeRefusal block lines refusal) }
 {
@@ -207,7 +209,7 @@ pub(crate) fn refusal_of_lines(fault: CutFault) -> Result<Refusal, NoMemory>
 }
 
 /// What is said of a head that is none.
-pub(crate) fn refusal_of_head(fault: HeadFault) -> Result<Refusal, NoMemory>
+pub fn refusal_of_head(fault: HeadFault) -> Result<Refusal, NoMemory>
     ensures { IfOk result (λ refusal. head_refusal fault ≡ Some refusal) }
 {
     match fault {

@@ -34,7 +34,7 @@ mod tally;
 mod text_pass;
 mod usual;
 
-pub use answers::{answer, answer_by_lines};
+pub use answers::{answer, answer_by_lines, refusal_of_head, refusal_of_size};
 pub use ending::{Answer, Ending};
 pub use groups::answer_groups;
 pub use judge::Style;
@@ -42,6 +42,7 @@ pub use live::answer_live;
 pub use live_text::LiveOutput;
 pub use made::answer_made;
 pub use one_pass::check_in_one_pass;
+pub use opening::{Opened, open};
 pub use outcome::{GroupOutcome, Outcome, Status};
 pub use plan::{Plan, PlanFault, plan_of, reads_file};
 pub use replay::answer_replay;

@@ -63,6 +63,7 @@ pub fn reads_file(command: Command) -> bool
         Command::Live
         | Command::Save
         | Command::Groups
+        | Command::Serve { .. }
         | Command::Replay
         | Command::Tally { .. }
         | Command::Make { .. } => false,

@@ -13,6 +13,7 @@ use Rattle.opening_reader.specs.HeardOpenings.{EndsOpening}
 use Rattle.opening_reader.specs.declared.opening.OpeningFault.TheVariants as fault
 use Rattle.opening_reader.specs.declared.opening.OpeningText.{OpeningText}
 use Rattle.talk_loop.specs.Conversed.{Conversed}
+use Rattle.talk_loop.specs.InStep.{Asking}
 use Rattle.talk_loop.specs.declared.conversation.TalkFault.{TalkFault}
 use Rattle.talk_loop.specs.declared.conversation.TalkFault.TheVariants as talk_fault
 use Rattle.talk_desk.specs.Conversation.{Ends, asking}
@@ -65,11 +66,22 @@ pub data IsEnded (text : Text) (ends : Status) (pieces : List Piece) : Status �
   front : (n : ℕ) → AreSaid pieces → said_in pieces ≡ take n text → IsEnded text ends pieces status.WriteFault
   nothing : pieces ≡ [] → IsEnded text ends pieces status.NoMemory
 
--- the status of a conversation that ended so, and was not broken off by hearing
-data IsStatusOf : Result (Unit {0}) TalkFault → Status → Type 0 where
+-- the status of a conversation that ended so, where hearing didn't fail
+pub data IsStatusOf : Result (Unit {0}) TalkFault → Status → Type 0 where
   done : IsStatusOf (Ok tt) status.Done
   mute : IsStatusOf (Err talk_fault.Saying) status.WriteFault
   short : IsStatusOf (Err talk_fault.NoMemory) status.NoMemory
+
+-- This text was said, and then a conversation, whose first bytes are those that were pending, went on to its end.
+pub data IsTalked {Order Answer State : Type 0} (asking : Asking Order Answer State) (ends : List (List ℕ) → List Answer → List ℕ → Type 0) (text : Text) (pending : List ℕ) (pieces : List Piece) : Status → Type 0 where
+  -- saying failed, behind a front of the text
+  cut_off : (n : ℕ) → AreSaid pieces → said_in pieces ≡ take n text → IsTalked asking ends text pending pieces status.WriteFault
+  conversed : (said more : List Piece) (end : Result (Unit {0}) TalkFault) (result : Status) → pieces ≡ said ++ more → AreSaid said → said_in said ≡ text
+      → Conversed asking ends (Heard pending ∷ more) end → IsStatusOf end result → IsTalked asking ends text pending pieces result
+  -- hearing failed, and that was said last
+  deaf : (said more last : List Piece) (result : Status) → pieces ≡ said ++ (more ++ last) → AreSaid said → said_in said ≡ text
+      → Conversed asking ends (Heard pending ∷ more) (Err talk_fault.Hearing) → IsEnded (refusal_text refusal.ReadFault) status.ReadFault last result
+      → IsTalked asking ends text pending pieces result
 
 -- What was heard and said of a conversation, as JSON or as text, and how it ended.
 pub data Served (json : Bool) (chosen : Chosen) (pieces : List Piece) : Status → Type 0 where
@@ -78,18 +90,10 @@ pub data Served (json : Bool) (chosen : Chosen) (pieces : List Piece) : Status �
   -- the opening was refused
   refused : (heard more : List Piece) (pending : List ℕ) (said : Refusal) (ends result : Status) → pieces ≡ heard ++ more → IsRefused chosen heard pending said ends
       → IsEnded (refusal_text said) ends more result → Served json chosen pieces result
-  -- the document stood, and of what was to be said then a front was said
-  unopened : (heard more : List Piece) (pending : List ℕ) (opening : Opening) (head : List (List ℕ)) (first : ℕ) (text : Text) (n : ℕ) → pieces ≡ heard ++ more → IsBegun chosen heard pending opening head first
-      → IsOpenedIn json opening [] text → AreSaid more → said_in more ≡ take n text → Served json chosen pieces status.WriteFault
-  -- that was said, and then a conversation, whose first bytes are those that were pending, went on to its end
-  conversed : (heard said more : List Piece) (pending : List ℕ) (opening : Opening) (head : List (List ℕ)) (first : ℕ) (text : Text) (end : Result (Unit {0}) TalkFault) (result : Status)
-      → pieces ≡ heard ++ (said ++ more) → IsBegun chosen heard pending opening head first → IsOpenedIn json opening [] text → AreSaid said → said_in said ≡ text
-      → Conversed (asking json head opening first) (Ends json head opening first) (Heard pending ∷ more) end → IsStatusOf end result → Served json chosen pieces result
-  -- or until hearing failed, which was said last
-  deaf : (heard said more last : List Piece) (pending : List ℕ) (opening : Opening) (head : List (List ℕ)) (first : ℕ) (text : Text) (result : Status)
-      → pieces ≡ heard ++ (said ++ (more ++ last)) → IsBegun chosen heard pending opening head first → IsOpenedIn json opening [] text → AreSaid said → said_in said ≡ text
-      → Conversed (asking json head opening first) (Ends json head opening first) (Heard pending ∷ more) (Err talk_fault.Hearing)
-      → IsEnded (refusal_text refusal.ReadFault) status.ReadFault last result → Served json chosen pieces result
+  -- the document stood, that was said, and its sessions were answered
+  talked : (heard more : List Piece) (pending : List ℕ) (opening : Opening) (head : List (List ℕ)) (first : ℕ) (text : Text) (result : Status) → pieces ≡ heard ++ more
+      → IsBegun chosen heard pending opening head first → IsOpenedIn json opening [] text
+      → IsTalked (asking json head opening first) (Ends json head opening first) text pending more result → Served json chosen pieces result
 
 -- A call failed where hearing is told to have failed, or saying; where none did, neither is told.
 pub record HasServeCause (faults_before faults_after : ℕ) (result : Status) : Type 0 where

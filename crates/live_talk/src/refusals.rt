@@ -1,8 +1,8 @@
 //! What is said where there is nothing to go on with.
-ghost use Rattle.std.specs.Prelude.{◌≡◌, List, ◌+◌};
-ghost use Rattle.knit_ports.specs.Faults.{Rose};
+ghost use Rattle.std.specs.Prelude.{◌≡◌, List};
 ghost use Rattle.knit_ports.specs.Pieces.{GoesOn, Piece};
-ghost use Rattle.live_talk.specs.Served.{HasEndCause, IsEnded, line_refusal};
+ghost use Rattle.live_talk.specs.Begins.{HasEndCause};
+ghost use Rattle.live_talk.specs.Served.{IsEnded, line_refusal};
 ghost use Rattle.verdict_report.specs.Refusals.{refusal_text};
 
 use input_answers::Status;

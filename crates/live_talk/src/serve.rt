@@ -1,15 +1,15 @@
 //! A conversation whole.
-ghost use Rattle.std.specs.Prelude.{◌≡◌, ◌+◌, List, ℕ, IfOk, OnErr};
+ghost use Rattle.std.specs.Prelude.{◌≡◌, ◌<◌, ◌++◌, All, List, [], length, Ok};
 ghost use Rattle.knit_ports.specs.Pieces.{GoesOn, Piece};
 ghost use Rattle.input_answers.specs.Asked.{as_json};
-ghost use Rattle.live_talk.specs.Served.{HasServeCause, Served};
+ghost use Rattle.opening_reader.specs.HeardOpenings.{EndsOpening};
+ghost use Rattle.live_talk.specs.Served.{HasServeCause, IsTalked, Served};
 
-use crate::begin::{Begun, begin};
+use crate::begin::{Beginning, Begun, begin};
 use crate::refusals::{line_refusal, refuse};
-use input_answers::{Plan, Status, refusal_of_head, refusal_of_size};
-use knit_base::{Lines, NoMemory};
+use input_answers::{Plan, Status};
+use knit_base::NoMemory;
 use knit_ports::{Ear, Talk, say_whole};
-use knitout_reader::read_head;
 use opening_reader::{OpeningFault, OpeningText, hear_opening};
 use std::alloc::Global;
 use std::sync::Wait;
@@ -18,13 +18,21 @@ use talk_desk::TalkDesk;
 use talk_loop::{Desk, TalkFault, converse};
 use verdict_report::Refusal;
 
-/// Hears a conversation and answers it, until it is over. How the program then ends.
+/// Hears a conversation and answers it, until it is over: its opening is answered as soon as it is whole, and each line behind it before
+/// more is heard. The result is the status with which the program is then to end:
+/// - `BadInput` or `TooLarge`: the opening is refused, which was said.
+/// - `ReadFault`: hearing failed, which was said behind all that was due.
+/// - `WriteFault`: saying failed. A front of what was due was said, and nothing was heard after it.
+/// - `NoMemory`: memory ran out for the opening or for what was to be said.
+/// - `Done` otherwise: the input has ended, and the verdict was said.
 pub fn serve<R: Threads + Wait + Sync, T: Talk>(
     rt: &R,
     alloc: Global,
     plan: &Plan,
     talk: &mut T,
 ) -> Status
+    ensures served { (pieces : List Piece) × GoesOn (T.told talk.old) (T.told talk.new) pieces × Served (as_json plan.now.command) plan.now.chosen pieces result }
+    ensures cause { HasServeCause (T.faults talk.old) (T.faults talk.new) result }
 {
     let Ok(mut ear) = Ear::new(alloc) else {
         return Status::NoMemory;
@@ -42,7 +50,7 @@ pub fn serve<R: Threads + Wait + Sync, T: Talk>(
     }
 }
 
-// Answers a conversation behind its opening.
+// Answers a conversation behind its opening text.
 fn answer_opening<R: Threads + Wait + Sync, T: Talk>(
     rt: &R,
     alloc: Global,
@@ -51,9 +59,14 @@ fn answer_opening<R: Threads + Wait + Sync, T: Talk>(
     ear: &mut Ear,
     talk: &mut T,
 ) -> Status
+    requires short { All (λ line. length line < 65535) opening.text }
+    ensures served { (heard : List Piece) → EndsOpening heard ear.old.pending (Ok opening) → (more : List Piece) × GoesOn (T.told talk.old) (T.told talk.new) more
+        × Served (as_json plan.now.command) plan.now.chosen (heard ++ more) result }
+    ensures cause { HasServeCause (T.faults talk.old) (T.faults talk.new) result }
 {
-    let first = u64::from(opening.lines) + 1;
-    match begun_of(rt, alloc, plan, opening.text) {
+    let OpeningText { text, lines } = opening;
+    let first = u64::from(lines) + 1;
+    match begin(rt, alloc, plan, text) {
         Ok(Beginning::Begun(begun)) => {
             let Begun { host, text } = begun;
             let mut desk = TalkDesk::new(rt, alloc, host, first);
@@ -64,36 +77,7 @@ fn answer_opening<R: Threads + Wait + Sync, T: Talk>(
     }
 }
 
-// What an opening text comes to.
-#[derive(Drop)]
-enum Beginning {
-    Begun(Begun),
-    Refused(Refusal, Status),
-}
-
-// Begins a conversation with this text, unless it is refused.
-fn begun_of<R: Threads + Wait + Sync>(
-    rt: &R,
-    alloc: Global,
-    plan: &Plan,
-    text: Lines,
-) -> Result<Beginning, NoMemory>
-{
-    let text = text.into_shared()?;
-    let head = match read_head(alloc, &text) {
-        Ok(head) => head,
-        Err(fault) => {
-            let refusal = refusal_of_head(fault)?;
-            return Ok(Beginning::Refused(refusal, Status::BadInput));
-        }
-    };
-    match refusal_of_size(text.len() - head.lines, plan.chosen.block) {
-        Some(refusal) => Ok(Beginning::Refused(refusal, Status::TooLarge)),
-        None => Ok(Beginning::Begun(begin(rt, alloc, plan, &text, &head)?)),
-    }
-}
-
-// Says that the document stands, and answers what is then heard.
+// Says this text, and answers what is then heard.
 fn talk_on<T: Talk, D: Desk>(
     alloc: Global,
     desk: &mut D,
@@ -102,9 +86,15 @@ fn talk_on<T: Talk, D: Desk>(
     ear: &mut Ear,
     talk: &mut T,
 ) -> Status
+    requires first { first ≡ (D.asking (D.opening desk.old)).first }
+    requires nothing { (D.asking (D.opening desk.old)).orders [] ≡ [] }
+    requires begun { D.behind desk.old [] [] }
+    ensures talked { (pieces : List Piece) × GoesOn (T.told talk.old) (T.told talk.new) pieces × IsTalked (D.asking (D.opening desk.old)) (D.ends (D.opening desk.old)) text.items ear.old.pending pieces result }
+    ensures cause { HasServeCause (T.faults talk.old) (T.faults talk.new) result }
 {
-    if say_whole(talk, &text).is_err() {
-        return Status::WriteFault;
+    match say_whole(talk, &text) {
+        Ok(()) => {}
+        Err(_) => return Status::WriteFault,
     }
     match converse(talk, ear, desk, first, &mut text) {
         Ok(()) => Status::Done,

@@ -1,6 +1,7 @@
 mod Answered
 mod AskedForms
 mod CutLines
+mod Fresh
 mod LawfulOrders
 mod MoreOrders
 mod Said

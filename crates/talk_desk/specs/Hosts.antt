@@ -1,5 +1,5 @@
 -- What is kept of a conversation.
-use Rattle.std.specs.Prelude.{◌≡◌, ℕ, ◌+◌, Bool, List, [], ◌++◌, length, slice_get, Option, Some, MatchOption}
+use Rattle.std.specs.Prelude.{◌≡◌, ℕ, ◌+◌, Bool, List, [], ◌∷◌, ◌++◌, length, slice_get, Option, Some, MatchOption}
 use Rattle.std.specs.Option.{option_map_or}
 use Rattle.knit_base.specs.Limits.{IsLawfulProfile}
 use Rattle.edit_journal.specs.declared.edit.Entry.{Entry}
@@ -105,7 +105,7 @@ pub record IsTaken (opening : Opening) (s : Standing) (asked : Order) (style : S
   pub at : IsAt opening host (behind style.json style.head opening s asked answer)
   pub said : after ≡ before ++ text style.json style.head opening s asked answer
 
--- So many sessions have asked nothing yet, numbered from 0.
-pub record AreFresh (count : ℕ) (opening : Opening) (talkers : List Talker) : Type 0 where
-  pub all : length talkers ≡ count
-  pub fresh : (i : ℕ) (u : Talker) → slice_get talkers i ≡ Some u → IsFresh opening i u
+-- the sessions have asked nothing yet, numbered from here on
+abbrev pub AreFresh : Opening → ℕ → List Talker → Type 0
+AreFresh opening n [] = Unit {0}
+AreFresh opening n (t ∷ ts) = IsFresh opening n t × AreFresh opening (n + 1) ts

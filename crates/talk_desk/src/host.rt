@@ -229,7 +229,8 @@ fn final_of<L: Ledger, R: Threads>(
 // All sessions that may edit a book which nobody has edited yet.
 fn talkers(alloc: Global, book: &Book) -> Result<Vec<Talker>, NoMemory>
     requires { book.now.entries ≡ [] }
-    ensures { IfOk result (λ talkers. AreFresh 64 book.now.opening talkers.items) }
+    ensures all { IfOk result (λ talkers. length talkers.items ≡ 64) }
+    ensures fresh { IfOk result (λ talkers. AreFresh book.now.opening 0 talkers.items) }
 {
     let mut talkers = Vec::with_capacity(alloc, SESSION_LIMIT as usize)?;
     'sessions: for number in 0..SESSION_LIMIT {

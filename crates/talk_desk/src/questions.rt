@@ -82,7 +82,7 @@ fn block_meant(talker: &Talker, question: Question) -> Option<u32>
 {
     match question {
         Question::TextAt(name, _) => talker.session.session.learned.named(&name),
-        _ => None,
+        Question::Blocks | Question::Since(_) | Question::Save | Question::Tally(_, _) => None,
     }
 }
 
