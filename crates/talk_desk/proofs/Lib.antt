@@ -2,6 +2,7 @@ mod Answered
 mod AskedForms
 mod CutLines
 mod Fresh
+mod GivenOrders
 mod LawfulOrders
 mod MoreOrders
 mod Said

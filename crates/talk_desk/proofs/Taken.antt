@@ -7,6 +7,7 @@ use Rattle.script_reader.specs.Hearing.{Ask, Refuse, Tell}
 use Rattle.script_reader.specs.declared.fault.Cause.{Cause}
 use Rattle.script_reader.specs.declared.step.Step.{Step}
 use Rattle.script_reader.specs.declared.talk_line.Question.{Question}
+use Rattle.edit_book.specs.Session.{HasNames}
 use Rattle.edit_groups.specs.Alone.{IsSessionAt}
 use Rattle.edit_groups.specs.Chunks.{chunk_of, entries_of}
 use Rattle.edit_groups.specs.Sessions.{core, step_memory}
@@ -25,6 +26,17 @@ use Rattle.talk_desk.proofs.Talkers.{other-question, other-step, own-question, o
 pub refuse-taken : (opening : Opening) (style : Style) (s : Standing) (line : ℕ) (why : Cause) (host : Host) (before after : List ℕ) → IsAt opening host s
     → after ≡ before ++ bad_line_in style.json line why → IsTaken opening s (Refuse line why) style host before after
 refuse-taken opening style s line why host before after at said = record { answer = Refused; given = tt; at = at; said = said }
+
+-- what is known of a session that is there
+module _ (host : Host) (s : Standing) (n : ℕ) (u : Talker) (at : IsAt (opening_in host.document) host s) (there : slice_get host.talkers.items n ≡ Some u) where
+  pub session-here : IsSessionAt (opening_in host.document) (known_in host.document) (s.point.memories n) u.session
+  session-here = subst (λ (l : List Chunk). IsSessionAt (opening_in host.document) l (s.point.memories n) u.session) (sym at.known) (at.talkers n u there).session
+
+  pub names-here : HasNames (opening_in host.document) (entries_of (known_in host.document)) u.session.session
+  names-here = session-here.names
+
+  pub number-here : u.session.session.number ≡ n
+  number-here = (at.talkers n u there).number
 
 module _ (opening : Opening) (style : Style) (s : Standing) (n : ℕ) (host after_host : Host) (u v : Talker) (at : IsAt opening host s) (low : n < 64) (there : slice_get host.talkers.items n ≡ Some u)
     (document : IsDocument after_host.document) (began : opening_in after_host.document ≡ opening) (talkers : after_host.talkers.items ≡ set host.talkers.items n v) (before after : List ℕ) where
