@@ -18,7 +18,7 @@ texts-by : (b : Bool) (text : List ℕ) (all front more : List (List ℕ)) → a
 texts-by true text all front more is = ap (λ (l : List (List ℕ)). text ∷ l) is
 texts-by false text all front more is = is
 
-texts-more : (lines more : List (List ℕ)) → texts_in (lines ++ more) ≡ texts_in lines ++ texts_in more
+pub texts-more : (lines more : List (List ℕ)) → texts_in (lines ++ more) ≡ texts_in lines ++ texts_in more
 texts-more [] more = refl
 texts-more (line ∷ lines) more = texts-by (is_text_line line) (drop 1 line) (texts_in (lines ++ more)) (texts_in lines) (texts_in more) (texts-more lines more)
 
