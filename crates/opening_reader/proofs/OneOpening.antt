@@ -1,5 +1,5 @@
 -- Lines begin with one opening at most.
-use Rattle.std.proofs.Common.{◌≡◌, ℕ, suc, ◌+◌, ◌<◌, List, [], ◌∷◌, ◌++◌, length, drop, Option, Some, None, ap, ◌∙◌, append-nil, sym, refl, subst, arith, length-append}
+use Rattle.std.proofs.Common.{◌≡◌, ℕ, suc, ◌+◌, List, [], ◌∷◌, ◌++◌, length, drop, Option, Some, None, ap, ◌∙◌, append-nil, sym, refl, subst, arith, length-append}
 use Rattle.opening_reader.specs.Openings.{AskFor, IsOpening, IsUnfinished, asked_in, nothing_yet, texts_in, wanting}
 use Rattle.opening_reader.proofs.TakenLines.{texts-more}
 
