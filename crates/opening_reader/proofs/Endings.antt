@@ -1,8 +1,8 @@
 -- What is told where the input ends.
-use Rattle.std.proofs.Common.{◌≡◌, ℕ, suc, ◌+◌, ◌<◌, List, [], ◌∷◌, ◌++◌, length, map, ap, ◌∙◌, append-nil, sym, refl, subst, arith}
-use Rattle.std.specs.Prelude.{Result, Ok, Err}
+use Rattle.std.proofs.Common.{◌≡◌, ℕ, ◌+◌, ◌<◌, List, [], ◌∷◌, ◌++◌, length, map, ap, ◌∙◌, append-nil, sym, refl, subst, arith}
+use Rattle.std.specs.Prelude.{Result, Err}
 use Rattle.knit_base.specs.Lines.{without_return}
-use Rattle.opening_reader.specs.Fronts.{HoldsFront, IsFinished, IsOpen, IsTaken, StopsAt, StopsAtEnd, at_last, behind_last}
+use Rattle.opening_reader.specs.Fronts.{HoldsFront, IsFinished, IsOpen, StopsAt, at_last, behind_last}
 use Rattle.opening_reader.specs.HeardOpenings.{last_line}
 use Rattle.opening_reader.specs.Openings.{cause_at_end}
 use Rattle.opening_reader.specs.declared.front.Front.{Front}

@@ -1,5 +1,5 @@
 -- What the loop keeps that hears the lines of an opening.
-use Rattle.std.proofs.Common.{◌≡◌, ℕ, zero, suc, ◌+◌, ◌-◌, ◌^◌, ◌<◌, ◌≤◌, List, [], ◌∷◌, ◌++◌, length, map, None, Some, ap, ◌∙◌, append_assoc, append-nil, sym, refl, subst, arith, length-append}
+use Rattle.std.proofs.Common.{◌≡◌, ℕ, ◌+◌, ◌-◌, ◌^◌, ◌<◌, ◌≤◌, List, [], ◌∷◌, ◌++◌, length, map, None, Some, ap, ◌∙◌, append_assoc, append-nil, sym, refl, subst, arith, length-append}
 use Rattle.std.specs.Prelude.{All, IfOk, Result, Ok, Err, flat_map}
 use Rattle.std.specs.declared.option.Option.{Option}
 use Rattle.std.proofs.lemmas.List.{length-map, map-append}
@@ -14,7 +14,7 @@ use Rattle.knit_ports.specs.declared.ear.LineEnd.TheVariants.{LineFeed, InputEnd
 use Rattle.knit_ports.proofs.HeardLines.{heard_in-append}
 use Rattle.knit_ports.proofs.SaidPieces.{goes-trans}
 use Rattle.knit_ports.proofs.WholeLines.{rest-more, taken-ends, taken-lines, taken-more}
-use Rattle.opening_reader.specs.Fronts.{AreMissing, AreTexts, HoldsFront, IsFinished, IsOpen, IsWhole, StopsAt, StopsAtEnd, at_last, behind_last}
+use Rattle.opening_reader.specs.Fronts.{AreMissing, HoldsFront, IsFinished, IsOpen, IsWhole, StopsAt, StopsAtEnd, at_last, behind_last}
 use Rattle.opening_reader.specs.HeardOpenings.{AreAll, AreHeard, AreLines, EndsIn, EndsOpening, IsAwaited, IsOver, IsRefused, OpeningCause, at_end, at_line, behind_all, broken_off, endless, last_line, whole}
 use Rattle.opening_reader.specs.Openings.{CanBeRead, CantStand, IsFront, IsNextText, IsTooMuch}
 use Rattle.opening_reader.specs.declared.front.Front.{Front}

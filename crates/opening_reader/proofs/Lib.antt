@@ -1,4 +1,5 @@
 mod Endings
 mod HeardSoFar
+mod OneOpening
 mod ReadLines
 mod TakenLines

@@ -1,12 +1,12 @@
 -- The lines of an opening, one more at a time.
-use Rattle.std.proofs.Common.{◌≡◌, ℕ, zero, suc, ◌+◌, ◌-◌, ◌<◌, ◌≤◌, Bool, true, false, List, [], ◌∷◌, ◌++◌, length, drop, Option, Some, None, if◌then◌else◌, inl, inr, ap, ◌∙◌, append-nil, sym, refl, subst, arith, length-append, length-drop}
+use Rattle.std.proofs.Common.{◌≡◌, ℕ, suc, ◌+◌, ◌-◌, ◌<◌, ◌≤◌, Bool, true, false, List, [], ◌∷◌, ◌++◌, length, drop, Option, Some, None, if◌then◌else◌, inl, inr, ap, ◌∙◌, append-nil, sym, refl, subst, arith, length-append, length-drop}
 use Rattle.std.specs.Prelude.{All, flat_map}
 use Rattle.std.proofs.lemmas.List.Concat.{flat_map-append}
-use Rattle.std.proofs.lemmas.List.Elements.{All-nil, All-push}
+use Rattle.std.proofs.lemmas.List.Elements.{All-push}
 use Rattle.knit_base.specs.Lines.{IsLine}
 use Rattle.knit_ports.specs.WholeLines.{with_feed}
-use Rattle.opening_reader.specs.Fronts.{AreMissing, AreTexts, HasRoom, HoldsFront, IsCounted, IsOpen, IsWhole}
-use Rattle.opening_reader.specs.Openings.{AreGood, AskFor, CanBeRead, IsFront, IsOpening, IsTooMuch, CantStand, IsUnfinished, MayFollow, asked_in, bytes_of, no_first, no_other, nothing_yet, texts_in, wanting}
+use Rattle.opening_reader.specs.Fronts.{AreMissing, HasRoom, HoldsFront, IsCounted, IsOpen, IsWhole}
+use Rattle.opening_reader.specs.Openings.{AskFor, CanBeRead, IsFront, IsTooMuch, CantStand, IsUnfinished, MayFollow, asked_in, bytes_of, no_first, no_other, nothing_yet, texts_in, wanting}
 use Rattle.opening_reader.specs.declared.front.Front.{Front}
 use Rattle.opening_reader.specs.declared.front.TheConstants.{OPENING_LIMIT}
 use Rattle.opening_reader.specs.declared.opening.OpeningText.{OpeningText}
@@ -18,7 +18,7 @@ texts-by : (b : Bool) (text : List ℕ) (all front more : List (List ℕ)) → a
 texts-by true text all front more is = ap (λ (l : List (List ℕ)). text ∷ l) is
 texts-by false text all front more is = is
 
-texts-more : (lines more : List (List ℕ)) → texts_in (lines ++ more) ≡ texts_in lines ++ texts_in more
+pub texts-more : (lines more : List (List ℕ)) → texts_in (lines ++ more) ≡ texts_in lines ++ texts_in more
 texts-more [] more = refl
 texts-more (line ∷ lines) more = texts-by (is_text_line line) (drop 1 line) (texts_in (lines ++ more)) (texts_in lines) (texts_in more) (texts-more lines more)
 

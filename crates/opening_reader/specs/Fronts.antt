@@ -66,11 +66,12 @@ pub record IsWhole (lines : List (List ℕ)) (opening : OpeningText) : Type 0 wh
   pub is_opening : IsOpening lines opening.text
   pub texts : AreTexts opening.text
 
--- The input ended behind these lines and a last one, which has no line feed and is one where it has bytes: it can't be taken, or no opening is whole with it.
+-- The input ended behind these lines and a last one, which has no line feed and is one where it has bytes: it can't be taken, or no opening
+-- is whole with it.
 pub data StopsAtEnd (lines : List (List ℕ)) (last : List ℕ) (number : ℕ) (cause : Cause) : Type 0 where
   at_last : 0 < length last → StopsAt lines (without_return last) (fault.At number cause) → StopsAtEnd lines last number cause
-  behind_last : (all : List (List ℕ)) → all ≡ lines ++ map without_return (last_line last) → IsFront all → number ≡ length all + 1 → cause ≡ cause_at_end all
-      → StopsAtEnd lines last number cause
+  behind_last : (all : List (List ℕ)) → all ≡ lines ++ map without_return (last_line last) → IsFront all → number ≡ length all + 1
+      → cause ≡ cause_at_end all → StopsAtEnd lines last number cause
 
 -- what is told there
 abbrev pub IsFinished : Result OpeningText OpeningFault → List (List ℕ) → List ℕ → Type 0

@@ -16,7 +16,8 @@ IsAwaited count heard [] = Unit {0}
 IsAwaited count heard (Heard bytes ∷ pieces) = (length (whole_lines heard) < count) × IsAwaited count (heard ++ bytes) pieces
 IsAwaited count heard (Said bytes ∷ pieces) = ⊥
 
--- These whole lines were heard as they came, and behind them these bytes; and more was waited for only until so many whole lines were there.
+-- These whole lines were heard as they came, and behind them these bytes; and more was waited for only until so many whole lines were
+-- there.
 pub record AreHeard (pieces : List Piece) (came : List (List ℕ)) (rest : List ℕ) (count : ℕ) : Type 0 where
   pub heard : heard_in pieces ≡ flat_map with_feed came ++ rest
   pub ones : All HasNoLineEnd came
@@ -40,10 +41,11 @@ pub record AreAll (pieces : List Piece) (lines : List (List ℕ)) (last pending 
   pub one : HasNoLineEnd last
   pub over : IsOver pieces pending
 
--- These lines were heard, each without a carriage return at its end, and these bytes are pending behind them; no more was waited for behind the last
--- line feed, or behind a last line without one.
+-- These lines were heard, each without a carriage return at its end, and these bytes are pending behind them; no more was waited for behind
+-- the last line feed, or behind a last line without one.
 pub data AreLines (pieces : List Piece) (lines : List (List ℕ)) (pending : List ℕ) : Type 0 where
-  whole : (came : List (List ℕ)) → lines ≡ map without_return came → AreHeard pieces came pending (length came) → AreLines pieces lines pending
+  whole : (came : List (List ℕ)) → lines ≡ map without_return came → AreHeard pieces came pending (length came)
+      → AreLines pieces lines pending
   broken_off : (last : List ℕ) → 0 < length last → AreAll pieces lines last pending → AreLines pieces lines pending
 
 -- the lines that were heard are an opening
@@ -63,9 +65,10 @@ pub record EndsIn (pieces : List Piece) (pending : List ℕ) (IsLast : List (Lis
 
 -- the line with this number can't stand there, or isn't there
 pub data IsRefused (pieces : List Piece) (pending : List ℕ) (number : ℕ) (cause : Cause) : Type 0 where
-  at_line : EndsIn pieces pending (λ lines line. (number ≡ length lines + 1) × CantStand lines line cause) → IsRefused pieces pending number cause
-  behind_all : (lines : List (List ℕ)) (last : List ℕ) → AreAll pieces lines last pending → IsFront lines → number ≡ length lines + 1 → cause ≡ cause_at_end lines
+  at_line : EndsIn pieces pending (λ lines line. (number ≡ length lines + 1) × CantStand lines line cause)
       → IsRefused pieces pending number cause
+  behind_all : (lines : List (List ℕ)) (last : List ℕ) → AreAll pieces lines last pending → IsFront lines → number ≡ length lines + 1
+      → cause ≡ cause_at_end lines → IsRefused pieces pending number cause
 
 -- Lines were heard with which an opening begins, and behind them a front of a line, which is let go.
 pub record IsBrokenOff (pieces : List Piece) (pending : List ℕ) : Type 0 where

@@ -1,3 +1,4 @@
 pub mod Fronts
 pub mod HeardOpenings
+pub mod Laws
 pub mod Openings

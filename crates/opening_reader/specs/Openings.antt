@@ -68,12 +68,13 @@ pub record IsOpening (lines text : List (List ℕ)) : Type 0 where
   pub parted : lines ≡ before ++ last ∷ []
   pub unfinished : IsUnfinished before
 
--- The line can't stand behind these, for this cause: it can't be read; or it can, and the lines aren't too long with it, but the first line doesn't
--- ask for text lines, or a later one is no text line and isn't passed over.
+-- The line can't stand behind these, for this cause: it can't be read; or it can, and the lines aren't too long with it, but the first line
+-- doesn't ask for text lines, or a later one is no text line and isn't passed over.
 pub data CantStand (lines : List (List ℕ)) (line : List ℕ) : Cause → Type 0 where
   unreadable : (cause : Cause) → fault_of line ≡ Some cause → CantStand lines line cause
   no_first : lines ≡ [] → AreGood (lines ++ line ∷ []) → asked_in line ≡ None → CantStand lines line NoServe
-  no_other : 0 < length lines → AreGood (lines ++ line ∷ []) → is_text_line line ≡ false → is_skipped line ≡ false → CantStand lines line BadLine
+  no_other : 0 < length lines → AreGood (lines ++ line ∷ []) → is_text_line line ≡ false → is_skipped line ≡ false
+      → CantStand lines line BadLine
 
 -- the line can be read, and the lines are too long with it
 pub record IsTooMuch (lines : List (List ℕ)) (line : List ℕ) : Type 0 where

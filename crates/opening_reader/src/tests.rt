@@ -1,39 +1,22 @@
 //! Openings that are heard in pieces.
-ghost use Rattle.std.specs.Prelude.{◌≡◌, ◌≤◌, [], length};
+ghost use Rattle.std.specs.Prelude.{◌≤◌};
 
 use crate::{OpeningFault, OpeningText, hear_opening};
 use knit_base::NoMemory;
-use knit_ports::{Ear, LineEnd, MemoryTalk};
+use knit_ports::{Ear, MemoryTalk};
 use script_reader::Cause;
 use std::alloc::Global;
 
 // A conversation in which the text is heard in pieces of so many bytes, and the call with this number fails.
-fn talk_of(alloc: Global, text: &str, gives: u32, fails: u32) -> Result<MemoryTalk, NoMemory>
+fn talk_of(alloc: Global, text: &[u8], gives: u32, fails: u32) -> Result<MemoryTalk, NoMemory>
     requires { 1 ≤ gives }
 {
-    let text = Vec::from_slice(alloc, text.as_bytes())?;
+    let text = Vec::from_slice(alloc, text)?;
     let failing = vec![in alloc; fails]?;
     Ok(MemoryTalk::of(alloc, text, gives, 1, failing))
 }
 
-// The fault that is told for the text, if there is one.
-fn fault_of(
-    alloc: Global,
-    text: &str,
-    gives: u32,
-    fails: u32,
-) -> Result<Option<OpeningFault>, NoMemory>
-    requires { 1 ≤ gives }
-{
-    let mut talk = talk_of(alloc, text, gives, fails)?;
-    let mut ear = Ear::new(alloc)?;
-    match hear_opening(alloc, &mut talk, &mut ear) {
-        Ok(_) => Ok(None),
-        Err(fault) => Ok(Some(fault)),
-    }
-}
-
-// Whether the opening text that is told has so many lines, and two texts, which are these.
+// Whether the opening that is told has so many lines, and these two texts.
 fn has(opening: &OpeningText, lines: u32, first: &str, second: &str) -> bool {
     opening.lines == lines
         && opening.text.len() == 2
@@ -41,13 +24,13 @@ fn has(opening: &OpeningText, lines: u32, first: &str, second: &str) -> bool {
         && opening.text.get(1) == Some(second)
 }
 
-// Whether an opening of so many lines with these two texts is told for the text, and the ear then tells this line.
+// Whether an opening of so many lines is told for the text, which has the texts `a` and none, and the ear then tells this line.
 fn is_opened(
     alloc: Global,
-    text: &str,
+    text: &[u8],
     gives: u32,
     lines: u32,
-    next: &str,
+    next: &[u8],
 ) -> Result<bool, NoMemory>
     requires { 1 ≤ gives }
 {
@@ -57,12 +40,34 @@ fn is_opened(
         return Ok(false);
     };
     let is_heard = ear.hear(&mut talk).is_ok();
-    Ok(is_heard && has(&opening, lines, "a", "") && ear.line() == next.as_bytes())
+    Ok(is_heard && has(&opening, lines, "a", "") && ear.line() == next)
+}
+
+// Whether this is told for the text, where the call with this number fails.
+fn tells(alloc: Global, text: &[u8], fails: u32, told: OpeningFault) -> Result<bool, NoMemory> {
+    let mut talk = talk_of(alloc, text, 65_536, fails)?;
+    let mut ear = Ear::new(alloc)?;
+    match hear_opening(alloc, &mut talk, &mut ear) {
+        Ok(_) => Ok(false),
+        Err(fault) => Ok(fault == told),
+    }
 }
 
 // Whether a line is refused that has this number, for this cause.
-fn is_refused(alloc: Global, text: &str, line: u32, cause: Cause) -> Result<bool, NoMemory> {
-    Ok(fault_of(alloc, text, 1_000, 0)? == Some(OpeningFault::At { line, cause }))
+fn is_refused(alloc: Global, text: &[u8], line: u32, cause: Cause) -> Result<bool, NoMemory> {
+    tells(alloc, text, 0, OpeningFault::At { line, cause })
+}
+
+// A first line that asks for a text line, and behind it so many lines that are passed over, of so many bytes with their feeds.
+fn skipped(alloc: Global, lines: u32, bytes: usize) -> Result<Vec<u8>, NoMemory> {
+    let mut text = Vec::from_slice(alloc, b"serve 1 lines 1")?;
+    let mut line = Vec::from_slice(alloc, b"\n")?;
+    line.resize(bytes, b'#')?;
+    for _ in 0..lines {
+        text.extend_from_slice(&line)?;
+    }
+    text.push(b'\n')?;
+    Ok(text)
 }
 
 #[test]
@@ -71,10 +76,10 @@ fn an_opening_is_told_however_it_comes(rt: HostRuntime) -> Result<(), NoMemory> 
         assert!(rt;
             is_opened(
                 rt.alloc(),
-                "serve 1 lines 2\n#\n|a\r\n \n|\nverdict\n",
+                b"serve 1 lines 2\n#\n|a\r\n \n|\nverdict\n",
                 gives,
                 5,
-                "verdict"
+                b"verdict"
             )?
         );
     }
@@ -83,23 +88,44 @@ fn an_opening_is_told_however_it_comes(rt: HostRuntime) -> Result<(), NoMemory> 
 
 #[test]
 fn a_last_line_needs_no_feed(rt: HostRuntime) -> Result<(), NoMemory> {
-    assert!(rt; is_opened(rt.alloc(), "serve 1 lines 2\n|a\n|", 3, 3, "")?);
+    assert!(rt; is_opened(rt.alloc(), b"serve 1 lines 2\n|a\n|", 3, 3, b"")?);
     Ok(())
 }
 
 #[test]
-fn the_line_is_told_that_cannot_stand_there(rt: HostRuntime) -> Result<(), NoMemory> {
-    let alloc = rt.alloc();
-    assert!(rt; is_refused(alloc, "serve 1 journal 2\n", 1, Cause::NoServe)?);
-    assert!(rt; is_refused(alloc, "serve 1 lines 2\n#\nverdict\n", 3, Cause::BadLine)?);
-    assert!(rt; is_refused(alloc, "", 1, Cause::NoServe)?);
-    assert!(rt; is_refused(alloc, "serve 1 lines 2\n|a\n", 3, Cause::BadLine)?);
-    assert!(rt; is_refused(alloc, "serve 1 lines 2\n|a", 3, Cause::BadLine)?);
+fn a_line_that_cannot_stand_there_is_told(rt: HostRuntime) -> Result<(), NoMemory> {
+    assert!(rt; is_refused(rt.alloc(), b"serve 1 journal 2\n", 1, Cause::NoServe)?);
+    assert!(rt;
+        is_refused(
+            rt.alloc(),
+            b"serve 1 lines 2\n#\nverdict\n",
+            3,
+            Cause::BadLine
+        )?
+    );
+    assert!(rt; is_refused(rt.alloc(), b"serve 1 lines 2\n|\xff\n", 2, Cause::NotUtf8)?);
+    Ok(())
+}
+
+#[test]
+fn an_end_before_the_last_line_is_told(rt: HostRuntime) -> Result<(), NoMemory> {
+    assert!(rt; is_refused(rt.alloc(), b"", 1, Cause::NoServe)?);
+    assert!(rt; is_refused(rt.alloc(), b"serve 1 lines 2\n|a\n", 3, Cause::BadLine)?);
+    assert!(rt; is_refused(rt.alloc(), b"serve 1 lines 2\n|a", 3, Cause::BadLine)?);
+    Ok(())
+}
+
+#[test]
+fn a_long_line_is_told_and_too_many_bytes_are(rt: HostRuntime) -> Result<(), NoMemory> {
+    let long = skipped(rt.alloc(), 1, 4_098)?;
+    assert!(rt; is_refused(rt.alloc(), &long, 2, Cause::LineLong)?);
+    let many = skipped(rt.alloc(), 4_096, 4_096)?;
+    assert!(rt; tells(rt.alloc(), &many, 0, OpeningFault::TooManyBytes)?);
     Ok(())
 }
 
 #[test]
 fn a_call_that_fails_is_told(rt: HostRuntime) -> Result<(), NoMemory> {
-    assert!(rt; fault_of(rt.alloc(), "serve 1 lines 1\n|a\n", 4, 3)? == Some(OpeningFault::Failed));
+    assert!(rt; tells(rt.alloc(), b"serve 1 lines 1\n", 2, OpeningFault::Failed)?);
     Ok(())
 }

@@ -1,5 +1,4 @@
-use Rattle.std.proofs.Common.{ℕ, List, ◌≡◌, ◌∙◌, ◌+◌, ap, sym, subst}
-use Rattle.std.specs.Prelude.{None, Some}
+use Rattle.std.proofs.Common.{ℕ, ◌≡◌, ◌∙◌, ◌+◌, ap, sym, subst}
 use Rattle.knit_base.specs.Lines.{HasNoLineEnd, without_return}
 use Rattle.opening_reader.specs.Fronts.{IsTaken}
 use Rattle.opening_reader.specs.Openings.{unreadable}
