@@ -9,4 +9,5 @@ mod Said
 mod Standings
 mod Taken
 mod Talkers
+mod Told
 mod WellHeard
