@@ -247,9 +247,9 @@ class Hearing:
     def is_known(self, session: int, asked: Step | str | Awaited | Question) -> bool:
         """Whether an `@n` that is named is an add that the session has made, those of an open group among them."""
         command = asked.command if isinstance(asked, Awaited) else asked
-        name = command.name if isinstance(command, Command) else command.operands[0] if isinstance(command, Question) and command.operands else ""
+        names = [command.name] if isinstance(command, Command) else command.operands if isinstance(command, Question) else []
         own = self.adds[session] + sum(edit.word == "add" for edit in self.group or [])
-        return not name.startswith("@") or 1 <= int(name[1:]) <= own
+        return all(1 <= int(name[1:]) <= own for name in names if name.startswith("@"))
 
     def ended(self, number: int) -> list[Order]:
         """What the end of the input asks for, where the line behind the last one would have this number."""

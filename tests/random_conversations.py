@@ -7,14 +7,12 @@ from conversation_model import OPENING_LINES
 from conversations import opening_of
 from test_headers import Command, some_command
 
-QUESTIONS = ["blocks", "since 0", "since 2", "since 7", "save", "tally 0 1", "tally 0 2", "tally 1 3", "tally 2 1", "look 0 at 0", "look 1 at 0"]
-LATER = ["look 0 at 1", "look 2 at 1", "look 2 at 3", "look @1 at 2", "look 1 at 4294967295", "look 9 at 0", "look @2 at 4"]
-BAD = [
-    b"putt 0 lines 2", b"|stray", b"put 0", b"put 0 lines", b"add start", b"session 64 verdict", b"session 64 putt", b"session", b"session 3",
-    b"look @0", b"cut @40", b"put @40 lines 1", b"look @40 at 1", b"put head lines 2", b"end", b"since", b"tally 0", b"save 1", b"live 1",
-    b"loop 4294967296", b"cut 4294967295", b"session -1 verdict", b"look start", b"\xff", b"|\xff", b"x" * 4_097, b"|" + b"x" * 4_096,
-    b"put 0 lines 4294967296", b"look 00000000000", b"verdict \xc2\xa0",
-]
+QUESTIONS = """blocks|since 0|since 2|since 7|save|tally 0 1|tally 0 2|tally 1 3|tally 2 1|look 0 at 0|look 1 at 0
+look 0 at 1|look 2 at 1|look 2 at 3|look @1 at 2|look 1 at 4294967295|look 9 at 0|look @2 at 4""".replace("\n", "|").split("|")
+NOTHING = b"""putt 0 lines 2,|stray,put 0,put 0 lines,add start,session 64 verdict,session 64 putt,session,session 3,session -1 verdict
+look @0,cut @40,put @40 lines 1,look @40 at 1,put head lines 2,end,since,tally 0,save 1,live 1,look start
+loop 4294967296,cut 4294967295,put 0 lines 4294967296,look 00000000000,verdict \xc2\xa0,\xff,|\xff""".replace(b"\n", b",").split(b",")
+BAD = [*NOTHING, b"x" * 4_097, b"|" + b"x" * 4_096]
 SKIPPED = [b"", b" \t", b"# a remark", b"#|", b"# put 0 lines 1"]
 
 
@@ -62,7 +60,7 @@ class Writer:
         elif kind < 15:
             self.write(session, ["undo"])
         elif kind < 18:
-            self.write(session, [self.choice.choice(QUESTIONS + LATER)])
+            self.write(session, [self.choice.choice(QUESTIONS)])
         else:
             self.lines.append(self.choice.choice(BAD + SKIPPED))
 

@@ -31,7 +31,8 @@ class Steps(unittest.TestCase):
 
     def test_a_group_that_leaves_a_broken_line(self) -> None:
         given = b"group\nadd 0 lines 2\n|\n|in 1\nend\n"
-        self.assertEqual(self.replies(given), ["session 0 1 group version 1 from 1 broken line 5 rule CarrierIsIn at 1\nbroken block 1 line 2"])
+        done = "session 0 1 group version 1 from 1 broken line 5 rule CarrierIsIn at 1\nbroken block 1 line 2"
+        self.assertEqual(self.replies(given), [done])
 
     def test_a_group_that_is_refused(self) -> None:
         given = b"group\nadd 0 lines 0\nput @1 lines 0\nend\ngroup\nput 0 lines 0\nput 0 lines 0\nend\nlook @1\n"
@@ -39,9 +40,10 @@ class Steps(unittest.TestCase):
         self.assertEqual(self.replies(given), ["session 0 1 refused version 0 at 2 unseen @1", stale, "session 0 3 unseen @1"])
 
     def test_a_group_that_is_broken_off(self) -> None:
-        """By a line that can't stand in it, by another session, or by the input's end: no edit is done, and the line isn't answered for itself."""
+        """By a line that can't stand in it, by another session, or by the input's end: no edit is done, and the line isn't carried out."""
         begun = b"group\n" + ADD
-        for line in [b"verdict", b"look 0", b"put head lines 1", b"blocks", b"undo", b"group", b"session 1 end", b"session 1 put 0 lines 0", b"putt"]:
+        lines = b"verdict,look 0,put head lines 1,blocks,undo,group,session 1 end,session 1 put 0 lines 0,putt".split(b",")
+        for line in lines:
             with self.subTest(line=line):
                 replies = self.replies(begun + line + b"\n|\nblocks\n")
                 self.assertEqual(replies[0], "badinput line 8 BadLine")

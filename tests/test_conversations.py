@@ -181,7 +181,8 @@ class Sessions(Behind):
         self.assertEqual(replies[5], b"badinput line 9 NoOwn")
 
     def test_questions_teach_nothing(self) -> None:
-        given = put(0, ["in 2"]) + b"session 1 blocks\nsession 1 look 0 at 1\nsession 1 since 0\nsession 1 save\nsession 1 tally 0 1\n" + put(0, [], 1)
+        questions = [b"blocks", b"look 0 at 1", b"since 0", b"save", b"tally 0 1"]
+        given = put(0, ["in 2"]) + b"".join(b"session 1 " + question + b"\n" for question in questions) + put(0, [], 1)
         self.assertEqual(replies_in(conversed(OPENING + given).report)[-2], b"session 1 6 stale version 1 block 0 seen 0 now 1")
 
 

@@ -1,5 +1,5 @@
-"""Tests of the command `serve` on random conversations: all that is said, judged by a document that is kept here and by the verdicts of `check`
-on its text; the same as JSON; and scripts of one session beside `live` and `groups`.
+"""Tests of the command `serve` on random conversations: all that is said, judged by a document that is kept here and by the verdicts of
+`check` on its text; the same as JSON; and scripts of one session beside `live` and `groups`.
 
 `python3 -m unittest discover tests` runs them, on the check_main that TEKHVUMO_PROGRAM names or that is found.
 """
@@ -58,16 +58,19 @@ class Judged(unittest.TestCase):
                 self.assertEqual(conversed(given, "--block", BLOCK, "--json"), (0, said.encode()))
 
     def test_objects_of_the_program_s_own_text(self) -> None:
-        """Without the document that is kept here: each line is an object with its keys in order, and says what the text says. The journal's limits
-        are among the replies, and a text that is too long."""
+        """Without the document that is kept here: each line is an object with its keys in order, and says what the text says. A document
+        that is full is among the replies, and a text that is too long."""
         full = b"add 0 lines 4096\n" + b"|\n" * 4_096 + b"add 0 lines 4097\n" + b"|\n" * 4_097
-        opening = opening_of([";!knitout-2", ";;Carriers:", *[""] * 1_048_575])
+        opening = opening_of([";!knitout-2", ";;Carriers:", *["pause"] * 1_048_575])
+        found: set[str] = set()
         for given in [opening + full, *[path.read_bytes() for path in sorted(EXAMPLES.glob("*.serve"))]]:
             as_text, as_json = conversed(given), conversed(given, "--json")
             self.assertEqual((as_text.status, as_json.status), (0, 0))
+            found |= {word_of(reply.decode()) for reply in replies_in(as_text.report)}
             lines = as_json.report.decode().splitlines(keepends=True)
             self.assertEqual(lines, [json_line(json.loads(line)) for line in lines])
             self.assertEqual(lines, [json_line(object_of(reply.decode())) for reply in replies_in(as_text.report)])
+        self.assertLessEqual({"full", "blocklong"}, found)
 
 
 def conversation_of(script: str) -> bytes:
