@@ -97,6 +97,10 @@ class Statuses(unittest.TestCase):
             served.write(OPENING)
             self.assertEqual(served.child.wait(PATIENCE), 5)
 
+    def test_5_an_output_that_is_closed(self) -> None:
+        ran = subprocess.run(["sh", "-c", 'exec "$0" serve >&-', find_program()], input=OPENING, check=False)
+        self.assertEqual(ran.returncode, 5)
+
     @unittest.skipUnless(os.path.exists("/dev/full"), "needs a device that is always full")
     def test_5_a_full_disk(self) -> None:
         with open("/dev/full", "wb") as full:
