@@ -3,11 +3,11 @@
 
     tools/edit_latency.py PROGRAM [--lines N ..] [--edits N] [--json]
 
-For each number of lines a sound program is opened, 20 needles wide, and blocks of 64 lines are put over and over: a third with a remark more, a
-third with a line that breaks a rule, and a third that mends it. Told are, in microseconds, from the first byte written to the last byte read:
-the median, the ninety-ninth of a hundred and the greatest; the program's processor time for an edit, and beside it that of the same edits in
-a script of `live`; the system's reads and writes for an edit; how many bytes stay in memory for an edit, beside the text; and what `blocks` and
-`since` take.
+For each number of lines a sound program is opened, 20 needles wide, and blocks of 64 lines are put over and over: a third with a remark
+more, a third with a line that breaks a rule, and a third that mends it. Told are, in microseconds, from the first byte written to the last
+byte read: the median, the ninety-ninth of a hundred and the greatest; the program's processor time for an edit, and beside it that of the
+same edits in a script of `live`; the system's reads and writes for an edit; how many bytes stay in memory for an edit, beside the text; and
+what `blocks` and `since` take.
 """
 from __future__ import annotations
 
