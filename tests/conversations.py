@@ -4,6 +4,7 @@ from __future__ import annotations
 import os
 import select
 import subprocess
+import time
 from collections.abc import Iterable
 from types import TracebackType
 
@@ -95,12 +96,14 @@ class Served:
 
     def reply(self) -> bytes:
         """The next reply, without its end."""
-        while self.stop not in self.ahead:
+        looked = 0
+        while (at := self.ahead.find(self.stop, looked)) < 0:
+            looked = max(0, len(self.ahead) - 1)
             piece = self.read()
             if not piece:
                 raise Gone(self.ahead)
             self.ahead += piece
-        reply, _, self.ahead = self.ahead.partition(self.stop)
+        reply, self.ahead = self.ahead[:at], self.ahead[at + len(self.stop) :]
         return reply
 
     def ask(self, given: bytes) -> bytes:
@@ -115,6 +118,19 @@ class Served:
         while piece := self.read():
             rest += piece
         return Answer(self.child.wait(PATIENCE), rest)
+
+    def waits(self) -> bool:
+        """Whether the program sleeps: then its last call is counted."""
+        with open(f"/proc/{self.child.pid}/stat") as file:
+            return file.read().rsplit(")", 1)[1].split()[0] == "S"
+
+    def calls(self) -> int:
+        """How often the program has read and written, once it waits for more."""
+        while not self.waits():
+            time.sleep(0.001)
+        with open(f"/proc/{self.child.pid}/io") as file:
+            counts = dict(line.split(": ") for line in file)
+        return int(counts["syscr"]) + int(counts["syscw"])
 
     def resident(self) -> int:
         """How much of the program lies in memory, in bytes."""

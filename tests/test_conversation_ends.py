@@ -42,7 +42,8 @@ class Statuses(unittest.TestCase):
         self.assertEqual((status, replies_in(said)[-1]), (0, final))
 
     def test_2_words_outside_the_grammar(self) -> None:
-        for words in [["--loops"], ["extra"], ["--block=0"], ["--json=1"], ["--json", "--json"], ["--low=2", "--high=1"]]:
+        flags = [["--loops"], ["--json=1"], ["--json", "--json"]]
+        for words in [*flags, ["extra"], ["0", "1"], ["--block=0"], ["--block=4097"], ["--low=2", "--high=1"]]:
             self.assertEqual(conversed(OPENING, *words), (2, USAGE), words)
 
     def test_3_an_opening_that_is_refused(self) -> None:

@@ -5,6 +5,7 @@
 from __future__ import annotations
 
 import json
+import os
 import random
 import unittest
 
@@ -82,6 +83,15 @@ class InStep(unittest.TestCase):
             options = ("--block", "3", *(("--json",) if seed % 4 == 0 else ()))
             with self.subTest(seed=seed):
                 self.assertEqual(self.in_step(given, *options), conversed(given, *options))
+
+    @unittest.skipUnless(os.access("/proc/self/io", os.R_OK), "needs counts of the system's calls")
+    def test_one_read_and_one_write_an_edit(self) -> None:
+        with Served() as served:
+            served.ask(OPENING)
+            before = served.calls()
+            for edit in range(50):
+                served.ask(put(0, ["in 1", *["pause"] * edit]))
+            self.assertEqual(served.calls(), before + 100)
 
     def test_half_a_text_is_waited_for(self) -> None:
         with Served() as served:
@@ -161,6 +171,18 @@ class Lines(Behind):
         self.says(b"session 1 put 9 lines 4097\n" + text, b"session 1 1 unseen 9\n\n")
         self.says(b"add 9 lines 4097\n" + text, b"session 0 1 blocklong lines 4097\n\n")
         self.says(b"put 0 lines 4097\n" + b"|\n" * 4_096, bad(4_102))
+
+
+class Options(unittest.TestCase):
+    def test_limits_of_the_machine(self) -> None:
+        edit = put(0, ["in 1", "tuck + f8 1", "tuck + f8 1"])
+        broken = {("--high=7",): "OffBed at 2", ("--hold", "1"): "TooManyLoops at 2"}
+        for options, fault in broken.items():
+            with self.subTest(options=options):
+                reply = replies_in(conversed(OPENING + edit, *options).report)[1]
+                line = 5 if "--hold" in options else 4
+                told = f"session 0 1 accepted version 1 block 0 broken line {line} rule {fault}\nbroken block 0 line {line - 2}"
+                self.assertEqual(reply, told.encode())
 
 
 class Sessions(Behind):
