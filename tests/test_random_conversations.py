@@ -20,7 +20,7 @@ from test_groups import script_of as groups_script_of
 from test_groups import some_steps
 from test_headers import script_of, some_session
 
-CONVERSATIONS = 240
+CONVERSATIONS = 200
 PARTS = 24
 WORDS = """accepted shown loop verdict stale gone noblock unseen group refused noundo blocks since text notext noversion saved tally norange
 opened final badinput""".split()
@@ -39,23 +39,18 @@ def word_of(reply: str) -> str:
 
 
 class Judged(unittest.TestCase):
-    def test_random_conversations(self) -> None:
+    def test_as_text_and_as_json(self) -> None:
         found: set[str] = set()
         for seed in range(CONVERSATIONS):
             given = some_conversation(seed, PARTS)
             replies = due(given)
             found |= {word_of(reply) for reply in replies}
             with self.subTest(seed=seed):
-                said = "".join(f"{reply}\n" for reply in replies)
-                self.assertEqual(conversed(given, "--block", BLOCK), (0, said.encode()))
+                as_text = "".join(f"{reply}\n" for reply in replies)
+                self.assertEqual(conversed(given, "--block", BLOCK), (0, as_text.encode()))
+                as_json = "".join(json_line(object_of(reply)) for reply in replies)
+                self.assertEqual(conversed(given, "--block", BLOCK, "--json"), (0, as_json.encode()))
         self.assertEqual(found, set(WORDS))
-
-    def test_the_same_as_json(self) -> None:
-        for seed in range(CONVERSATIONS):
-            given = some_conversation(seed, PARTS)
-            said = "".join(json_line(object_of(reply)) for reply in due(given))
-            with self.subTest(seed=seed):
-                self.assertEqual(conversed(given, "--block", BLOCK, "--json"), (0, said.encode()))
 
     def test_objects_of_the_program_s_own_text(self) -> None:
         """Without the document that is kept here: each line is an object with its keys in order, and says what the text says. A document
