@@ -127,8 +127,10 @@ class Statuses(unittest.TestCase):
 
     def test_7_too_many_blocks(self) -> None:
         lines = [*HEAD, "in 1", *["pause"] * 65_535]
-        self.assertTrue(conversed(opening_of(lines), "--block", "1").report.startswith(b"opened version 0 blocks 65536 sound "))
         self.assertEqual(conversed(opening_of([*lines, ""]), "--block", "1"), (7, b"too large: blocks\n"))
+        opened, full, _ = conversed(opening_of(lines) + b"add start lines 0\n", "--block", "1", "--json").report.splitlines()
+        self.assertTrue(opened.startswith(b'{"blocks":65536,"brief":{"held":0,"lines":65536,'))
+        self.assertEqual(full, b'{"limit":65536,"number":1,"reply":"full","session":0,"version":0,"which":"blocks"}')
 
     def test_7_too_many_bytes(self) -> None:
         """The lines of the opening alone are counted, each with a line feed. A line that can't be read is told before they are."""
@@ -142,11 +144,6 @@ class Statuses(unittest.TestCase):
         for large in [longer, longer[:-1], opening.replace(b"\n", b"\n\n", 1)]:
             self.assertEqual(conversed(large), (7, b"too large: bytes\n"))
         self.assertEqual(conversed(opening[:-1] + b"xx\xff\n"), (3, b"bad input: line 4099 NotUtf8\n"))
-
-    def test_7_as_many_blocks_come_later(self) -> None:
-        opening = opening_of([*HEAD, "in 1", *["pause"] * 65_535])
-        replies = replies_in(conversed(opening + b"add start lines 0\n", "--block", "1").report)
-        self.assertEqual(replies[1], b"session 0 1 full version 0 blocks limit 65536")
 
 
 REFUSED = {
@@ -239,7 +236,7 @@ class Memory(unittest.TestCase):
                 return False
 
     def edits(self, served: Served, seed: int) -> list[bytes]:
-        """Many edits, each by the session of its block, as long as the conversation goes on. Handed out are the entries of the accepted ones."""
+        """Many edits, each by the session of its block, as long as the conversation goes on. It hands out the entries of those accepted."""
         served.ask(opening_of(self.LINES))
         choice = random.Random(seed)
         body = self.LINES[2:]

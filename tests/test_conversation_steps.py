@@ -124,9 +124,9 @@ class Saved(unittest.TestCase):
         self.assertEqual(document_of(without_frame(saved).split(b"\n", 1)[1] + b"\n").version, 1)
 
     def test_tallies_are_those_of_the_saved_text(self) -> None:
-        places = [(start, end) for start in range(5) for end in range(5)]
+        places = [(start, end) for start in range(4) for end in range(4)]
         asked = "".join(f"session 7 tally {start} {end}\n" for start, end in places).encode()
-        for seed in range(8):
+        for seed in range(6):
             given = some_conversation(8_000 + seed, 16) + b"\n"
             text, _ = self.saved(given, "--block", BLOCK)
             replies = replies_in(conversed(given + asked, "--block", BLOCK).report)[-len(places) - 1 : -1]

@@ -11,7 +11,7 @@ import unittest
 
 from conversation_lines import orders_by_line
 from conversation_samples import SAMPLES
-from conversations import FINAL, OPENED, OPENING, VERDICT, Served, barred, conversed, opening_of, put, replies_in
+from conversations import FINAL, OPENED, OPENING, VERDICT, Served, conversed, opening_of, put, replies_in
 from program import EXAMPLES, Answer
 from random_conversations import some_conversation
 

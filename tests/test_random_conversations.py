@@ -11,7 +11,7 @@ import re
 import unittest
 
 from conversation_lines import orders_by_line
-from conversation_model import BLOCK, Model
+from conversation_model import BLOCK, OPENING_LINES, Model
 from conversation_objects import json_line, object_of
 from conversations import conversed, opening_of, replies_in, without_frame
 from program import EXAMPLES, answer_of
@@ -53,19 +53,14 @@ class Judged(unittest.TestCase):
         self.assertEqual(found, set(WORDS))
 
     def test_objects_of_the_program_s_own_text(self) -> None:
-        """Without the document that is kept here: each line is an object with its keys in order, and says what the text says. A document
-        that is full is among the replies, and a text that is too long."""
-        full = b"add 0 lines 4096\n" + b"|\n" * 4_096 + b"add 0 lines 4097\n" + b"|\n" * 4_097
-        opening = opening_of([";!knitout-2", ";;Carriers:", *["pause"] * 1_048_575])
-        found: set[str] = set()
-        for given in [opening + full, *[path.read_bytes() for path in sorted(EXAMPLES.glob("*.serve"))]]:
-            as_text, as_json = conversed(given), conversed(given, "--json")
+        """Without the document that is kept here: each line is an object with its keys in order, and says what the text says."""
+        long_text = opening_of(OPENING_LINES) + b"add 0 lines 4097\n" + b"|\n" * 4_097
+        for given in [long_text, *[path.read_bytes() for path in sorted(EXAMPLES.glob("*.serve"))]]:
+            as_text, as_json = conversed(given, "--block", "1"), conversed(given, "--block", "1", "--json")
             self.assertEqual((as_text.status, as_json.status), (0, 0))
-            found |= {word_of(reply.decode()) for reply in replies_in(as_text.report)}
             lines = as_json.report.decode().splitlines(keepends=True)
             self.assertEqual(lines, [json_line(json.loads(line)) for line in lines])
             self.assertEqual(lines, [json_line(object_of(reply.decode())) for reply in replies_in(as_text.report)])
-        self.assertLessEqual({"full", "blocklong"}, found)
 
 
 def conversation_of(script: str) -> bytes:
