@@ -58,6 +58,8 @@ class Samples(unittest.TestCase):
 
 
 class InStep(unittest.TestCase):
+    """Each test ends with the first reply that doesn't come, since that is waited for."""
+
     def in_step(self, given: bytes, *options: str) -> Answer:
         """What is said where each reply is read before the next line is written. Nothing else is said before it."""
         begin, orders = orders_by_line(given)
@@ -74,15 +76,13 @@ class InStep(unittest.TestCase):
 
     def test_samples(self) -> None:
         for name, (options, given, said, _) in OPENED_SAMPLES.items():
-            with self.subTest(sample=name):
-                self.assertEqual(self.in_step(given.encode(), *options), (0, said.encode()))
+            self.assertEqual(self.in_step(given.encode(), *options), (0, said.encode()), name)
 
     def test_random_conversations(self) -> None:
         for seed in range(40):
             given = some_conversation(5_000 + seed, 20)
             options = ("--block", "3", *(("--json",) if seed % 4 == 0 else ()))
-            with self.subTest(seed=seed):
-                self.assertEqual(self.in_step(given, *options), conversed(given, *options))
+            self.assertEqual(self.in_step(given, *options), conversed(given, *options), seed)
 
     @unittest.skipUnless(os.access("/proc/self/io", os.R_OK), "needs counts of the system's calls")
     def test_one_read_and_one_write_an_edit(self) -> None:
