@@ -1,15 +1,16 @@
 #!/usr/bin/env python3
 """Refuses each request for memory of the program check_main in turn, and looks at what it answers.
 
-`python3 tests/refused_memory.py [RUN ..]` tries all commands, or the runs named, on files of examples/ and on a short script, with the check_main
-that TEKHVUMO_PROGRAM names or that is found; then the put of a text for which room was made, by the tests of `document_examples` that the gate built, if they are
-there. It wants a C compiler (`cc`), for the few lines that stand before the system's `malloc`
-and `realloc`.
+`python3 tests/refused_memory.py [RUN ..]` tries all commands, or the runs named, on files of examples/ and on a short script, with the
+check_main that TEKHVUMO_PROGRAM names or that is found; then the put of a text for which room was made, by the tests of
+`document_examples` that the gate built, if they are there. It wants a C compiler (`cc`), for the few lines that stand before the system's
+`malloc` and `realloc`.
 
-A run in which the Nth request was refused has to end in one of three ways. It tells of the want of memory by the status 6 alone, and has written
-nothing. Or it does without, and ends and writes as if nothing had been refused. Or, of `live` and `groups` alone, the replies of some commands say
-`nomemory`, and what stands in the journal, carried out anew as a script of one session, ends in the same verdict; and what `save` writes is
-a saved text, of fewer entries.
+A run in which the Nth request was refused has to end in one of these ways. It tells of the want of memory by the status 6 alone, and has
+written nothing. Or it does without, and ends and writes as if nothing had been refused. Or, of `live` and `groups` alone, the replies of
+some commands say `nomemory`, and what stands in the journal, carried out anew as a script of one session, ends in the same verdict; and
+what `save` writes is a saved text, of fewer entries. Or, of `serve`, it ends with the status 6 behind a front of its replies; or one
+reply is `nomemory`, and all others are those to a conversation without that command.
 """
 from __future__ import annotations
 
@@ -20,6 +21,8 @@ import sys
 import tempfile
 from pathlib import Path
 
+from conversation_lines import lines_of, orders_by_line
+from conversations import replies_in, without_frame
 from program import EXAMPLES, TOP, Status, find_program
 from samples import TWO_PUTS
 from saved_texts import SAVED, Bad, document_of
@@ -81,6 +84,8 @@ RUNS = {
     "save": (["save", "--block", "4"], TWO_PUTS),
     "replay": (["replay"], SAVED),
     "tally": (["tally", "0", "1"], SAVED),
+    "serve": (["serve", "--block", "4"], example("two-editors.serve")),
+    "json": (["serve", "--block", "4", "--json"], example("two-editors.serve")),
 }
 
 
@@ -176,6 +181,43 @@ def fault_of(script: str | None, whole: bytes, status: int, written: bytes, agai
     return None
 
 
+def told_behind_frames(said: bytes) -> list[bytes]:
+    """The replies of a conversation without their sessions and numbers, also of JSON, and without those that say `nomemory`."""
+    if said.startswith(b"{"):
+        replies = [re.sub(rb'"(?:number|session)":\d+,?', b"", line).replace(b",}", b"}") for line in said.splitlines()]
+        return [reply for reply in replies if reply != b'{"reply":"nomemory"}']
+    replies = [without_frame(reply) if reply.startswith(b"session ") else reply for reply in replies_in(said)]
+    return [reply for reply in replies if reply != b"nomemory"]
+
+
+def without_nomemory(given: bytes, said: bytes) -> bytes:
+    """The conversation without the commands that were answered so. Each line in it asks for one thing at most."""
+    begin, orders = orders_by_line(given)
+    lines = lines_of(given)
+    replies = iter((said.splitlines() if said.startswith(b"{") else replies_in(said))[1:])
+    kept, command = lines[:begin], []
+    for line, asked in zip(lines[begin:], orders):
+        command.append(line)
+        if asked:
+            kept += [] if b"nomemory" in next(replies) else command
+            command = []
+    return b"".join(line + b"\n" for line in kept)
+
+
+def fault_of_conversation(given: bytes, whole: bytes, status: int, written: bytes, again) -> str | None:
+    """What is wrong with a conversation in which a request was refused, if anything is. `again` is what the program says in one."""
+    if status == Status.NO_MEMORY:
+        return None if whole.startswith(written) and written[-1:] in (b"", b"\n") else "it said something else"
+    if status != 0:
+        return f"its status is {status}"
+    if written == whole:
+        return None
+    if b"nomemory" not in written:
+        return "it said something else"
+    due = told_behind_frames(again(without_nomemory(given, written).decode()).encode())
+    return None if told_behind_frames(written) == due else "a command that was answered `nomemory` changed something"
+
+
 def try_run(name: str, program: str, library: str) -> bool:
     """Refuses each request of this run in turn, says what came of it, and answers whether all was well."""
     words, given = RUNS[name]
@@ -188,7 +230,11 @@ def try_run(name: str, program: str, library: str) -> bool:
         status, written, was_refused = run([program, *words], given, library, request)
         if not was_refused:
             break
-        fault = fault_of(script, whole, status, written, again)
+        fault = (
+            fault_of_conversation(given, whole, status, written, again)
+            if words[0] == "serve"
+            else fault_of(script, whole, status, written, again)
+        )
         silent += status == Status.NO_MEMORY
         without += written == whole
         if fault:

@@ -60,7 +60,7 @@ class Limits(unittest.TestCase):
     def test_the_first_option_outside_is_refused(self) -> None:
         """Of several, or alone."""
         for words in (["--hold", "65", "--block", "0"], ["--hold", "65"], ["--block", "0"]):
-            for command in ("check", "passes", "live", "save", "groups"):
+            for command in ("check", "passes", "live", "save", "groups", "serve"):
                 with self.subTest(words, command=command):
                     self.assertEqual(answer_of(command, *words, given=HEAD), USAGE)
 
