@@ -9,6 +9,6 @@
 
 mod begin;
 mod refusals;
-mod serve;
+mod talk;
 
-pub use serve::serve;
+pub use talk::serve;

@@ -1,21 +1,25 @@
 -- The orders of a line were answered, one after the other, and the conversation stands behind the line.
-use Rattle.std.proofs.Common.{◌≡◌, ◌≢◌, ◌∙◌, ℕ, ◌+◌, List, [], ◌∷◌, ◌++◌, length, map, Option, Some, None, ap, subst, sym, refl, arith, append-nil, append_assoc}
+use Rattle.std.proofs.Common.{◌≡◌, ◌≢◌, ◌∙◌, true, ℕ, ◌+◌, List, [], ◌∷◌, ◌++◌, length, map, Option, Some, None, ap, subst, sym, refl, arith, append-nil, append_assoc}
 use Rattle.std.proofs.lemmas.List.Elements.{All-take}
 use Rattle.knit_base.specs.Lines.{HasNoLineEnd, without_return}
 use Rattle.knit_ports.specs.Ears.{kept_front}
 use Rattle.edit_journal.specs.declared.opening.Opening.{Opening}
 use Rattle.script_reader.specs.Hearing.{Awaiting, Hearing, Nothing, Order, Ask, Passing, Refuse, Tell, Text, at_end, first_hearing, heard, hearing_behind, left_open, orders_at_end, orders_from}
 use Rattle.script_reader.specs.Listener.{Hears}
-use Rattle.script_reader.specs.Orders.{AreOrders, AreTold, IsTold}
+use Rattle.script_reader.specs.Orders.{AreOrders, AreTold, IsTold, StandsFor}
 use Rattle.script_reader.specs.declared.command.Command.{Command}
 use Rattle.script_reader.specs.declared.listener.Listener.{Listener}
-use Rattle.script_reader.specs.declared.order.Heard as given
+use Rattle.script_reader.specs.declared.fault.Cause.TheVariants.{BadLine}
+use Rattle.script_reader.specs.declared.order.Order as declared
+use Rattle.edit_groups.specs.Chunks.{entries_of}
+use Rattle.edit_groups.specs.declared.chunk.Chunk.{Chunk}
 use Rattle.talk_loop.specs.Conversed.{IsAnswered}
 use Rattle.talk_loop.specs.InStep.{AreAnswers, state_of, text_of}
 use Rattle.talk_loop.proofs.Steps.{answers-more}
 use Rattle.talk_desk.specs.Conversation.{Answer, Standing, asking, behind, standing_behind, standing_at_start, standing_of, text}
-use Rattle.talk_desk.specs.Desks.{AreRefusals, AreTaken, IsBehind, standing_told}
-use Rattle.talk_desk.specs.Hosts.{IsAt, IsTaken, opening_in}
+use Rattle.talk_desk.specs.Desks.{AreRefusals, AreTaken, IsAtItsEnd, IsBehind, standing_told}
+use Rattle.talk_desk.specs.Hosts.{IsAt, IsTaken, known_in, opening_in}
+use Rattle.talk_desk.specs.Styles.{IsFinalIn, bad_line_in}
 use Rattle.talk_desk.specs.LawfulOrders.{AllOrders, IsSound}
 use Rattle.talk_desk.specs.declared.document.Style.{Style}
 use Rattle.talk_desk.specs.declared.host.Host.{Host}
@@ -73,16 +77,16 @@ lawful-orders first number lines line = (sound_heard _ number (without_return li
 -- one more line was answered
 module _ (host next : Host) (listener heard_since : Listener) (first number : ℕ) (lines : List (List ℕ)) (as_ : List Answer) (line whole before after : List ℕ) (b : IsBehind host listener first lines as_)
     (counted : number ≡ first + length lines) (kept : line ≡ kept_front whole) (style : next.document.style ≡ host.document.style) (opening : opening_in next.document ≡ opening_in host.document) where
-  abbrev h : Hearing
+  abbrev pub h : Hearing
   h = hearing_behind first_hearing first (map without_return lines)
 
-  abbrev asked : List Order
+  abbrev pub asked : List Order
   asked = (heard h (first + length lines) (without_return whole)).0
 
-  abbrev told : List (Order × Answer)
+  abbrev pub told : List (Order × Answer)
   told = state_of (asking host.document.style.json host.document.style.head (opening_in host.document) first) [] (orders_from first_hearing first (map without_return lines)) as_
 
-  line-heard : heard h number (without_return line) ≡ heard h (first + length lines) (without_return whole)
+  pub line-heard : heard h number (without_return line) ≡ heard h (first + length lines) (without_return whole)
   line-heard = kept-orders number h line whole kept ∙ ap (λ (n : ℕ). heard h n (without_return whole)) counted
 
   pub behind-more : Hears heard_since (heard h number (without_return line)).1 → (t : AreTaken host.document.style (opening_in host.document) first told asked next before after)
@@ -125,3 +129,26 @@ refusals-lawful [] are = tt
 refusals-lawful (Refuse line why ∷ os) are = (tt, refusals-lawful os are)
 refusals-lawful (Ask session step ∷ os) are = absurd are
 refusals-lawful (Tell session question ∷ os) are = absurd are
+
+-- one order is given for the only one
+pub one-told : (order : declared.Order) (os : List Order) → IsTold (Some order) os → (o : Order) × (os ≡ o ∷ []) × StandsFor order o
+one-told order [] is = absurd is
+one-told order (o ∷ []) is = (o, refl, is)
+one-told order (o ∷ p ∷ os) is = absurd is
+
+-- a text was broken off, and then others may follow
+pub broken-told : (number : ℕ) (order : Option declared.Order) (os : List Order) → AreTold number true order os → (more : List Order) × (os ≡ Refuse number BadLine ∷ more) × IsTold order more
+broken-told number order [] is = absurd is
+broken-told number order (o ∷ os) is = (os, ap (λ (x : Order). x ∷ os) is.0, is.1)
+
+-- a refusal was said, and then the end
+pub end-one : (style : Style) (opening : Opening) (s : Standing) (o : Order) (mid : Host) (before between after final : List ℕ) → AreRefusals (o ∷ []) → IsTaken opening s o style mid before between
+    → IsFinalIn style.json opening (entries_of (known_in mid.document)) final → after ≡ between ++ final → IsAtItsEnd style opening s (o ∷ []) before after
+end-one style opening s (Refuse line why) mid before between after final are t judged said = record {
+  final = final;
+  judged = subst (λ (l : List Chunk). IsFinalIn style.json opening (entries_of l) final) t.at.known judged;
+  said = said ∙ ap (λ (l : List ℕ). l ++ final) t.said ∙ append_assoc before (bad_line_in style.json line why) final
+      ∙ ap (λ (l : List ℕ). before ++ (l ++ final)) (sym (append-nil (bad_line_in style.json line why)));
+}
+end-one style opening s (Ask session step) mid before between after final are t judged said = absurd are
+end-one style opening s (Tell session question) mid before between after final are t judged said = absurd are

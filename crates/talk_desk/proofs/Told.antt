@@ -23,7 +23,7 @@ use Rattle.talk_desk.specs.declared.document.Style.{Style}
 
 module _ (style : Style) (opening : Opening) (entries : List Entry) (m : Memory) (f : Frame) where
   -- so a question was answered, and this was said
-  pub TellsIn : Question → List ℕ → List ℕ → Type 0
+  abbrev pub TellsIn : Question → List ℕ → List ℕ → Type 0
   TellsIn q before after = (text : List ℕ) × (after ≡ before ++ text) × IsTold style.json style.head opening entries m f q text
 
   pub told-as : (q asked : Question) (before after : List ℕ) → q ≡ asked → TellsIn asked before after → TellsIn q before after

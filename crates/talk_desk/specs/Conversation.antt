@@ -48,8 +48,8 @@ doc_at opening entries = record { opening = opening; entries = entries }
 -- What the blocks from one place to another come to, the other not counted, if there are such blocks.
 pub data IsTallyTold (json : Bool) (f : Frame) (opening : Opening) (entries : List Entry) (from to : ℕ) : Text → Type 0 where
   no_range : (HasBlocks (doc_at opening entries) from to → ⊥) → IsTallyTold json f opening entries from to (reply_in json f (no_range_text opening entries) (no_range_members opening entries f))
-  tallied : (v : Counted) → HasBlocks (doc_at opening entries) from to → IsRange (doc_at opening entries) from to v → let names = (setting_now (doc_at opening entries)).declared in
-      IsTallyTold json f opening entries from to (reply_in json f (tally_text from to names v) (tally_members f from to names v))
+  tallied : (v : Counted) → HasBlocks (doc_at opening entries) from to → IsRange (doc_at opening entries) from to v
+      → IsTallyTold json f opening entries from to (reply_in json f (tally_text from to (setting_now (doc_at opening entries)).declared v) (tally_members f from to (setting_now (doc_at opening entries)).declared v))
 
 -- the saved text of this journal of a document that began so, with this head
 abbrev pub saved_at : List (List ℕ) → Opening → List Entry → Text

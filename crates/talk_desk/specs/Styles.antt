@@ -12,8 +12,8 @@ use Rattle.reply_report.specs.declared.frame.Frame.{Frame}
 
 -- a reply: these lines behind its frame, or the object with these members
 abbrev pub reply_in : Bool → Frame → Text → Members → Text
-reply_in false f lines members = framed f lines
-reply_in true f lines members = json_line (object members)
+reply_in false f lines told = framed f lines
+reply_in true f lines told = json_line (object told)
 
 -- what a step is answered
 abbrev pub step_in : Bool → Opening → List Entry → Frame → GroupReply → Text

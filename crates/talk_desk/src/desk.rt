@@ -58,22 +58,20 @@ pub struct Beginning {
 
 /// Who answers the lines of a conversation of sessions about one document.
 #[derive(Drop)]
-pub struct TalkDesk<'a, R> {
-    rt: &'a R,
+pub struct TalkDesk {
     host: Host,
     listener: Listener,
     first: u64,
 }
 
-impl<'a, R: Threads + Wait + Sync> TalkDesk<'a, R> {
+impl TalkDesk {
     /// A desk of which the first line has this number.
-    pub fn new(rt: &'a R, alloc: Global, host: Host, first: u64) -> Self
+    pub fn new(alloc: Global, host: Host, first: u64) -> Self
         requires at { IsAt (opening_in host.document) host (talks.standing_at_start host.document.style.json host.document.style.head (opening_in host.document)) }
         ensures begun { IsBehind result.host result.listener result.first [] [] }
         ensures began { beginning result.host result.first ≡ beginning host first }
     {
         TalkDesk {
-            rt,
             host,
             listener: Listener::new(alloc),
             first,
@@ -81,7 +79,7 @@ impl<'a, R: Threads + Wait + Sync> TalkDesk<'a, R> {
     }
 }
 
-impl<R: Threads + Wait + Sync> Desk for TalkDesk<'_, R> {
+impl Desk for TalkDesk {
     type Order = OrderOf;
 
     type Answer = AnswerOf;
@@ -98,14 +96,25 @@ impl<R: Threads + Wait + Sync> Desk for TalkDesk<'_, R> {
 
     ghost behind = { λ d. IsBehind d.host d.listener d.first };
 
-    fn hear(&mut self, number: u64, line: &[u8], out: &mut Vec<u8>) -> Result<(), NoMemory> {
+    fn hear<R: Threads + Wait + Sync>(
+        &mut self,
+        rt: &R,
+        number: u64,
+        line: &[u8],
+        out: &mut Vec<u8>,
+    ) -> Result<(), NoMemory> {
         let heard = self.listener.hear(number, without_return(line));
-        answer(self.rt, &mut self.host, number, heard, out)
+        answer(rt, &mut self.host, number, heard, out)
     }
 
-    fn end(&mut self, number: u64, out: &mut Vec<u8>) -> Result<(), NoMemory> {
+    fn end<R: Threads + Wait + Sync>(
+        &mut self,
+        rt: &R,
+        number: u64,
+        out: &mut Vec<u8>,
+    ) -> Result<(), NoMemory> {
         let order = self.listener.end(number);
-        end_with(self.rt, &mut self.host, order, out)
+        end_with(rt, &mut self.host, order, out)
     }
 }
 

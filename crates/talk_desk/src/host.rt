@@ -45,10 +45,8 @@ impl Host {
         let held = document.lend(rt);
         let talkers = talkers(document.alloc, held.book().book());
         document.take_back(held);
-        Ok(Host {
-            document,
-            talkers: talkers?,
-        })
+        let talkers = talkers?;
+        Ok(Host { document, talkers })
     }
 
     /// Answers an order, and appends what is said for it. The only error is want of memory for what is to be said, behind which the
@@ -234,8 +232,9 @@ fn talkers(alloc: Global, book: &Book) -> Result<Vec<Talker>, NoMemory>
 {
     let mut talkers = Vec::with_capacity(alloc, SESSION_LIMIT as usize)?;
     'sessions: for number in 0..SESSION_LIMIT {
+        let session = GroupSession::start(alloc, number, book.ids(), &book.setting().declared)?;
         talkers.push(Talker {
-            session: GroupSession::start(alloc, number, book.ids(), &book.setting().declared)?,
+            session,
             answered: 0,
         })?;
     }

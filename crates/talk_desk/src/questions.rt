@@ -13,7 +13,7 @@ ghost use Rattle.talk_desk.specs.Conversation.{IsTallyTold, IsTold, doc_at, save
 ghost use Rattle.talk_desk.specs.Hosts.{IsDocument, IsQuestionSaid, Names, known_in, opening_in};
 ghost use Rattle.talk_desk.specs.Styles.{reply_in, step_in};
 ghost use Rattle.tally_tree.specs.Docs.{HasBlocks, IsRange, setting_now};
-ghost use Rattle.tally_tree.specs.Tallies.{Counted};
+ghost use Rattle.tally_tree.specs.Tallies.{Counted, counted};
 
 use crate::document::{Document, Style};
 use crate::steps::Talker;
@@ -21,7 +21,7 @@ use crate::styles::say_step_in;
 use edit_book::{Book, Outline, Reply};
 use edit_groups::GroupReply;
 use journal_file::{Saved, first_blocks};
-use knit_base::{NoMemory, Steps};
+use knit_base::{Declared, NoMemory, Steps};
 use reply_report::{
     Frame, json_blocks, json_no_range, json_saved, json_since, json_tally, json_text_at,
     say_blocks, say_no_range, say_saved, say_since, say_tally, say_text_at,
@@ -32,7 +32,7 @@ use std::marker::Brand;
 use std::sync::Wait;
 use std::sync::ledger::{Blank, Ledger};
 use std::thread::Threads;
-use tally_tree::TallyDoc;
+use tally_tree::{Tally, TallyDoc};
 
 // What a session asks: as which reply, and which block is meant where one is named.
 #[derive(Clone, Copy)]
@@ -213,12 +213,29 @@ fn tell_saved<L: Ledger>(
         (saved_members inquiry.frame (length book.now.entries) (saved_at style.now.head book.now.opening book.now.entries))) }
     ensures err { OnErr result (out.new.items ≡ out.old.items) }
 {
+    let saved = saved_of(inquiry.alloc, style, book)?;
+    say_saved_in(style.json, inquiry, book.version(), &saved, out, steps)
+}
+
+// Says a saved text. After `NoMemory` the buffer is as before.
+fn say_saved_in<L: Ledger>(
+    json: bool,
+    inquiry: Inquiry,
+    version: u32,
+    saved: &Saved,
+    out: &mut Vec<u8>,
+    steps: &mut Steps<L>,
+) -> Result<(), NoMemory>
+    ensures ok { OnOk result (out.new.items ≡ out.old.items ++ reply_in json inquiry.frame
+        (saved_said version (spelling saved.now.head saved.now.profile saved.now.blocks saved.now.journal.entries))
+        (saved_members inquiry.frame version (spelling saved.now.head saved.now.profile saved.now.blocks saved.now.journal.entries))) }
+    ensures err { OnErr result (out.new.items ≡ out.old.items) }
+{
     let Inquiry { alloc, frame, .. } = inquiry;
-    let saved = saved_of(alloc, style, book)?;
-    if style.json {
-        json_saved(alloc, frame, book.version(), &saved, out, steps)
+    if json {
+        json_saved(alloc, frame, version, saved, out, steps)
     } else {
-        say_saved(alloc, frame, book.version(), &saved, out, steps)
+        say_saved(alloc, frame, version, saved, out, steps)
     }
 }
 
@@ -288,13 +305,30 @@ fn tell_range<L: Ledger>(
         (tally_text range.from range.to (setting_now doc.now).declared v) (tally_members inquiry.frame range.from range.to (setting_now doc.now).declared v))) }
     ensures err { OnErr result (out.new.items ≡ out.old.items) }
 {
+    let tally = doc.range(range.from, range.to, steps)?;
+    let declared = &doc.setting().declared;
+    say_tally_in(json, inquiry, range, &tally, declared, out)
+}
+
+// Says a tally. After `NoMemory` the buffer is as before.
+fn say_tally_in(
+    json: bool,
+    inquiry: Inquiry,
+    range: Range,
+    tally: &Tally,
+    declared: &Declared,
+    out: &mut Vec<u8>,
+) -> Result<(), NoMemory>
+    requires { length tally.now.with.items ≡ length declared.now }
+    ensures ok { OnOk result (out.new.items ≡ out.old.items ++ reply_in json inquiry.frame
+        (tally_text range.from range.to declared.now (counted tally.now)) (tally_members inquiry.frame range.from range.to declared.now (counted tally.now))) }
+    ensures err { OnErr result (out.new.items ≡ out.old.items) }
+{
     let Inquiry { alloc, frame, .. } = inquiry;
     let Range { from, to } = range;
-    let tally = doc.range(from, to, steps)?;
-    let declared = &doc.setting().declared;
     if json {
-        json_tally(alloc, frame, from, to, &tally, declared, out)
+        json_tally(alloc, frame, from, to, tally, declared, out)
     } else {
-        say_tally(alloc, frame, from, to, &tally, declared, out)
+        say_tally(alloc, frame, from, to, tally, declared, out)
     }
 }

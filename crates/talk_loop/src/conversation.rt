@@ -10,6 +10,8 @@ ghost use Rattle.talk_loop.specs.InStep.{AreAnswers};
 use crate::desk::Desk;
 use knit_base::NoMemory;
 use knit_ports::{Ear, LineEnd, Talk, say_whole};
+use std::sync::Wait;
+use std::thread::Threads;
 
 /// Why a conversation ended before its end.
 #[derive(Clone, Copy, Debug, PartialEq, Eq)]
@@ -25,7 +27,8 @@ pub enum TalkFault {
 /// Hears the lines of a conversation, of which the first has this number, and has each answered. `out` is room for what is to be said.
 ///
 /// What is pending in the ear is heard first, as if it were a piece by itself.
-pub fn converse<T: Talk, D: Desk>(
+pub fn converse<R: Threads + Wait + Sync, T: Talk, D: Desk>(
+    rt: &R,
     talk: &mut T,
     ear: &mut Ear,
     desk: &mut D,
@@ -46,9 +49,9 @@ pub fn converse<T: Talk, D: Desk>(
         };
         match end {
             LineEnd::LineFeed => {}
-            _ => return finish(talk, ear.line(), desk, number, out),
+            _ => return finish(rt, talk, ear.line(), desk, number, out),
         }
-        let Ok(()) = desk.hear(number, ear.line(), out) else {
+        let Ok(()) = desk.hear(rt, number, ear.line(), out) else {
             return Err(TalkFault::NoMemory);
         };
         match say_whole(talk, out) {
@@ -57,11 +60,12 @@ pub fn converse<T: Talk, D: Desk>(
         }
     }
     out.clear();
-    finish(talk, &[], desk, u64::MAX, out)
+    finish(rt, talk, &[], desk, u64::MAX, out)
 }
 
 // Answers the last line, which has no line feed, if there is one, and says what ends the conversation.
-fn finish<T: Talk, D: Desk>(
+fn finish<R: Threads + Wait + Sync, T: Talk, D: Desk>(
+    rt: &R,
     talk: &mut T,
     line: &[u8],
     desk: &mut D,
@@ -77,7 +81,7 @@ fn finish<T: Talk, D: Desk>(
         → AreAnswers (D.asking (D.opening desk.old)) (D.asking (D.opening desk.old)).start ((D.asking (D.opening desk.old)).orders lines) as_ → line.now ≡ kept_front rest → Finishes (D.asking (D.opening desk.old)) (D.ends (D.opening desk.old)) lines rest as_ (T.told talk.old) (T.told talk.new) result }
     ensures cause { HasTalkCause (T.faults talk.old) (T.faults talk.new) result }
 {
-    let Ok(()) = append_last(line, desk, number, out) else {
+    let Ok(()) = append_last(rt, line, desk, number, out) else {
         return Err(TalkFault::NoMemory);
     };
     match say_whole(talk, out) {
@@ -87,7 +91,8 @@ fn finish<T: Talk, D: Desk>(
 }
 
 // Appends the answers to the last line, which has no line feed, if there is one, and what ends the conversation.
-fn append_last<D: Desk>(
+fn append_last<R: Threads + Wait + Sync, D: Desk>(
+    rt: &R,
     line: &[u8],
     desk: &mut D,
     number: u64,
@@ -103,8 +108,8 @@ fn append_last<D: Desk>(
         → (more : List D.Answer) × IsLast (D.asking (D.opening desk.old)) (D.ends (D.opening desk.old)) lines as_ rest out.new.items more) }
 {
     if line.is_empty() {
-        return desk.end(number, out);
+        return desk.end(rt, number, out);
     }
-    desk.hear(number, line, out)?;
-    desk.end(number + 1, out)
+    desk.hear(rt, number, line, out)?;
+    desk.end(rt, number + 1, out)
 }

@@ -6,6 +6,8 @@ ghost use Rattle.talk_loop.specs.Conversed.{IsAnswered};
 ghost use Rattle.talk_loop.specs.InStep.{Asking};
 
 use knit_base::NoMemory;
+use std::sync::Wait;
+use std::thread::Threads;
 
 /// Who answers the lines of a conversation, one after the other, and says what ends it.
 pub trait Desk {
@@ -36,7 +38,13 @@ pub trait Desk {
     /// Hears a line, which has this number, and appends what is to be said for it. Of a line the first 4,098 bytes are handed on.
     ///
     /// Where memory runs out for what is to be said, the conversation can't go on.
-    fn hear(&mut self, number: u64, line: &[u8], out: &mut Vec<u8>) -> Result<(), NoMemory>
+    fn hear<R: Threads + Wait + Sync>(
+        &mut self,
+        rt: &R,
+        number: u64,
+        line: &[u8],
+        out: &mut Vec<u8>,
+    ) -> Result<(), NoMemory>
         requires one { HasNoLineEnd line.now }
         requires begun { (lines : List (List ℕ)) × (as_ : List Self.Answer) × behind self.old lines as_ × (number ≡ (asking (opening self.old)).first + length lines) }
         ensures same { opening self.new ≡ opening self.old }
@@ -45,7 +53,12 @@ pub trait Desk {
             → (more : List Self.Answer) × behind self.new (lines ++ whole ∷ []) (as_ ++ more) × IsAnswered (asking (opening self.old)) lines as_ whole out.old.items out.new.items more) };
 
     /// Appends what is to be said at the end, where the line behind the last one would have this number.
-    fn end(&mut self, number: u64, out: &mut Vec<u8>) -> Result<(), NoMemory>
+    fn end<R: Threads + Wait + Sync>(
+        &mut self,
+        rt: &R,
+        number: u64,
+        out: &mut Vec<u8>,
+    ) -> Result<(), NoMemory>
         requires begun { (lines : List (List ℕ)) × (as_ : List Self.Answer) × behind self.old lines as_ × (number ≡ (asking (opening self.old)).first + length lines) }
         ensures last { OnOk result ((lines : List (List ℕ)) (as_ : List Self.Answer) → behind self.old lines as_ → number ≡ (asking (opening self.old)).first + length lines
             → (final : List ℕ) × (out.new.items ≡ out.old.items ++ final) × ends (opening self.old) lines as_ final) };

@@ -11,6 +11,3 @@ returns-in-Since-clause-ok g c = on-ok c.tell_since.result (λ said m names. tol
 
 pub returns-in-Save-clause-ok : goal.returns-in-Save-clause-ok
 returns-in-Save-clause-ok g c = on-ok c.tell_saved.result (λ said m names. told-as c.args.style.now _ _ m _ _ _ _ _ c.in-Save.is (_, said, refl)) c.tell_saved.ensures.ok
-
-pub returns-in-Tally-clause-ok : goal.returns-in-Tally-clause-ok
-returns-in-Tally-clause-ok g c = on-ok c.tell_tally.result (λ told m names. told-as c.args.style.now _ _ m _ _ _ _ _ c.in-Tally.is told) c.tell_tally.ensures.ok

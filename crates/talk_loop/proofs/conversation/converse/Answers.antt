@@ -22,17 +22,16 @@ returns-in-Err g c = record {
   cause = subst (λ (n : ℕ). Rose n (g.T.Talk.faults c.hear.new.talk)) c.lines.invariant.calm c.in-Err.ensures.cause;
 }
 
-pub finish-requires : goal.finish-requires
-finish-requires g c =
-    let h = c.in-Ok.ensures.heard in
+pub finish-requires-clause-one : goal.finish-requires-clause-one
+finish-requires-clause-one g c κs within = let h = c.in-Ok.ensures.heard in kept-one h.line c.line.result.now (c.line.ensures ∙ h.kept) h.one
+
+pub finish-requires-clause-begun : goal.finish-requires-clause-begun
+finish-requires-clause-begun g c κs within =
     let s = subst (λ o. SoFar (g.D.Desk.asking o) (g.D.Desk.ends o) (g.D.Desk.behind c.lines.desk) (g.T.Talk.told c.args.talk.now) c.args.ear.now.pending (g.T.Talk.told c.lines.talk) c.lines.ear.pending c.lines.number) (sym c.lines.invariant.same) c.lines.invariant.so_far in
-    record {
-      one = kept-one h.line c.line.result.now (c.line.ensures ∙ h.kept) h.one;
-      begun = (s.lines, s.answers, s.stands, s.counted);
-      kept = (h.line, c.line.ensures ∙ h.kept);
-      room = λ some. c.lines-test.true;
-      empty = c.clear.ensures.items;
-    }
+    (s.lines, s.answers, s.stands, s.counted)
+
+pub finish-requires-clause-kept : goal.finish-requires-clause-kept
+finish-requires-clause-kept g c κs within = let h = c.in-Ok.ensures.heard in (h.line, c.line.ensures ∙ h.kept)
 
 pub returns-in_default : goal.returns-in_default
 returns-in_default g c =
@@ -46,11 +45,13 @@ returns-in_default g c =
       cause = subst (λ (n : ℕ). HasTalkCause n (g.T.Talk.faults c.finish.new.talk) c.finish.result) (c.in-Ok.ensures.calm ∙ c.lines.invariant.calm) c.finish.ensures.cause;
     }
 
-pub hear-requires-in-lines : goal.hear-requires-in-lines
-hear-requires-in-lines g c =
-    let h = c.in-Ok.ensures.heard in
+pub hear-requires-in-lines-clause-one : goal.hear-requires-in-lines-clause-one
+hear-requires-in-lines-clause-one g c = let h = c.in-Ok.ensures.heard in kept-one h.line c.line-in-lines.result.now (c.line-in-lines.ensures ∙ h.kept) h.one
+
+pub hear-requires-in-lines-clause-begun : goal.hear-requires-in-lines-clause-begun
+hear-requires-in-lines-clause-begun g c =
     let s = subst (λ o. SoFar (g.D.Desk.asking o) (g.D.Desk.ends o) (g.D.Desk.behind c.lines.desk) (g.T.Talk.told c.args.talk.now) c.args.ear.now.pending (g.T.Talk.told c.lines.talk) c.lines.ear.pending c.lines.number) (sym c.lines.invariant.same) c.lines.invariant.so_far in
-    record { one = kept-one h.line c.line-in-lines.result.now (c.line-in-lines.ensures ∙ h.kept) h.one; begun = (s.lines, s.answers, s.stands, s.counted) }
+    (s.lines, s.answers, s.stands, s.counted)
 
 pub returns-in_default-hear : goal.returns-in_default-hear
 returns-in_default-hear g c = record {
@@ -100,9 +101,9 @@ returns g c =
     }
 
 pub finish-requires-2-clause-begun : goal.finish-requires-2-clause-begun
-finish-requires-2-clause-begun g c =
+finish-requires-2-clause-begun g c κs within =
     let s = subst (λ o. SoFar (g.D.Desk.asking o) (g.D.Desk.ends o) (g.D.Desk.behind c.lines.desk) (g.T.Talk.told c.args.talk.now) c.args.ear.now.pending (g.T.Talk.told c.lines.talk) c.lines.ear.pending c.lines.number) (sym c.lines.invariant.same) c.lines.invariant.so_far in
     (s.lines, s.answers, s.stands, omega (arith, s.counted, c.lines-test.false, c.lines.auto.number))
 
 pub finish-requires-2-clause-kept : goal.finish-requires-2-clause-kept
-finish-requires-2-clause-kept g c = ([], refl)
+finish-requires-2-clause-kept g c κs within = ([], refl)

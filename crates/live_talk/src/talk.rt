@@ -69,8 +69,8 @@ fn answer_opening<R: Threads + Wait + Sync, T: Talk>(
     match begin(rt, alloc, plan, text) {
         Ok(Beginning::Begun(begun)) => {
             let Begun { host, text } = begun;
-            let mut desk = TalkDesk::new(rt, alloc, host, first);
-            talk_on(alloc, &mut desk, first, text, ear, talk)
+            let mut desk = TalkDesk::new(alloc, host, first);
+            talk_on(rt, &mut desk, first, text, ear, talk)
         }
         Ok(Beginning::Refused(refusal, status)) => refuse(alloc, refusal, status, talk),
         Err(NoMemory) => Status::NoMemory,
@@ -78,8 +78,8 @@ fn answer_opening<R: Threads + Wait + Sync, T: Talk>(
 }
 
 // Says this text, and answers what is then heard.
-fn talk_on<T: Talk, D: Desk>(
-    alloc: Global,
+fn talk_on<R: Threads + Wait + Sync, T: Talk, D: Desk>(
+    rt: &R,
     desk: &mut D,
     first: u64,
     mut text: Vec<u8>,
@@ -92,11 +92,12 @@ fn talk_on<T: Talk, D: Desk>(
     ensures talked { (pieces : List Piece) × GoesOn (T.told talk.old) (T.told talk.new) pieces × IsTalked (D.asking (D.opening desk.old)) (D.ends (D.opening desk.old)) text.items ear.old.pending pieces result }
     ensures cause { HasServeCause (T.faults talk.old) (T.faults talk.new) result }
 {
+    let alloc = *text.allocator();
     match say_whole(talk, &text) {
         Ok(()) => {}
         Err(_) => return Status::WriteFault,
     }
-    match converse(talk, ear, desk, first, &mut text) {
+    match converse(rt, talk, ear, desk, first, &mut text) {
         Ok(()) => Status::Done,
         Err(TalkFault::Hearing) => refuse(alloc, Refusal::ReadFault, Status::ReadFault, talk),
         Err(TalkFault::Saying) => Status::WriteFault,

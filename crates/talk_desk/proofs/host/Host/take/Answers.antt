@@ -1,7 +1,7 @@
 use Rattle.talk_desk.specs.Hosts.{IsTaken, opening_in}
 use Rattle.talk_desk.proofs.GivenOrders.{as-ask, as-long, as-lost, as-refuse, as-tell, ask-lawful, long-lawful, lost-lawful, tell-lawful}
 use Rattle.talk_desk.proofs.Said.{on-ok}
-use Rattle.talk_desk.proofs.host.take.Goals as goal
+use Rattle.talk_desk.proofs.host.Host.take.Goals as goal
 
 pub returns-in-Refuse-clause-said : goal.returns-in-Refuse-clause-said
 returns-in-Refuse-clause-said g c =
@@ -33,11 +33,11 @@ returns-in-Tell-clause-said g c =
     (λ f s asked at stands.
     as-tell c.args.order asked stands (λ o. IsTaken (opening_in c.args.self.now.document) s o c.args.self.now.document.style c.tell.new.self c.args.out.now.items c.tell.new.out.items) _ _ c.in-Tell.is (f s at)) c.tell.ensures.said
 
-pub ask-requires : goal.ask-requires
-ask-requires g c =
-    let l = c.requires.lawful in
-    let a = ask-lawful c.args.order l.0 l.1 l.2 _ _ c.in-Ask.is in
-    record { begun = c.requires.begun; low = a.0; lawful = a.1 }
+pub ask-requires-clause-low : goal.ask-requires-clause-low
+ask-requires-clause-low g c κs within = let l = c.requires.lawful in (ask-lawful c.args.order l.0 l.1 l.2 _ _ c.in-Ask.is).0
+
+pub ask-requires-clause-lawful : goal.ask-requires-clause-lawful
+ask-requires-clause-lawful g c κs within = let l = c.requires.lawful in (ask-lawful c.args.order l.0 l.1 l.2 _ _ c.in-Ask.is).1
 
 pub refuse_long-requires : goal.refuse_long-requires
 refuse_long-requires g c =
@@ -50,7 +50,5 @@ lose-requires g c =
     let l = c.requires.lawful in
     record { begun = c.requires.begun; low = lost-lawful c.args.order l.0 l.1 l.2 _ _ c.in-Lost.is }
 
-pub tell-requires : goal.tell-requires
-tell-requires g c =
-    let l = c.requires.lawful in
-    record { begun = c.requires.begun; low = tell-lawful c.args.order l.0 l.1 l.2 _ _ c.in-Tell.is }
+pub tell-requires-clause-low : goal.tell-requires-clause-low
+tell-requires-clause-low g c κs within = let l = c.requires.lawful in tell-lawful c.args.order l.0 l.1 l.2 _ _ c.in-Tell.is
