@@ -1,12 +1,12 @@
 -- The orders of a line were answered, one after the other, and the conversation stands behind the line.
-use Rattle.std.proofs.Common.{◌≡◌, ◌≢◌, ◌∙◌, true, ℕ, ◌+◌, List, [], ◌∷◌, ◌++◌, length, map, Option, Some, None, ap, subst, sym, refl, arith, append-nil, append_assoc}
+use Rattle.std.proofs.Common.{◌≡◌, ◌≢◌, ◌∙◌, true, ℕ, ◌+◌, List, [], ◌∷◌, ◌++◌, length, map, Option, Some, None, ap, subst, sym, refl, append-nil, append_assoc}
 use Rattle.std.proofs.lemmas.List.Elements.{All-take}
 use Rattle.knit_base.specs.Lines.{HasNoLineEnd, without_return}
 use Rattle.knit_ports.specs.Ears.{kept_front}
 use Rattle.edit_journal.specs.declared.opening.Opening.{Opening}
 use Rattle.script_reader.specs.Hearing.{Awaiting, Hearing, Nothing, Order, Ask, Passing, Refuse, Tell, Text, at_end, first_hearing, heard, hearing_behind, left_open, orders_at_end, orders_from}
 use Rattle.script_reader.specs.Listener.{Hears}
-use Rattle.script_reader.specs.Orders.{AreOrders, AreTold, IsTold, StandsFor}
+use Rattle.script_reader.specs.Orders.{AreTold, IsTold, StandsFor}
 use Rattle.script_reader.specs.declared.command.Command.{Command}
 use Rattle.script_reader.specs.declared.listener.Listener.{Listener}
 use Rattle.script_reader.specs.declared.fault.Cause.TheVariants.{BadLine}
@@ -16,14 +16,14 @@ use Rattle.edit_groups.specs.declared.chunk.Chunk.{Chunk}
 use Rattle.talk_loop.specs.Conversed.{IsAnswered}
 use Rattle.talk_loop.specs.InStep.{AreAnswers, state_of, text_of}
 use Rattle.talk_loop.proofs.Steps.{answers-more}
-use Rattle.talk_desk.specs.Conversation.{Answer, Standing, asking, behind, standing_behind, standing_at_start, standing_of, text}
+use Rattle.talk_desk.specs.Conversation.{Answer, Standing, asking, standing_at_start, standing_of, text}
 use Rattle.talk_desk.specs.Desks.{AreRefusals, AreTaken, IsAtItsEnd, IsBehind, standing_told}
 use Rattle.talk_desk.specs.Hosts.{IsAt, IsTaken, known_in, opening_in}
 use Rattle.talk_desk.specs.Styles.{IsFinalIn, bad_line_in}
 use Rattle.talk_desk.specs.LawfulOrders.{AllOrders, IsSound}
 use Rattle.talk_desk.specs.declared.document.Style.{Style}
 use Rattle.talk_desk.specs.declared.host.Host.{Host}
-use Rattle.talk_desk.proofs.CutLines.{IsFront, kept_heard, return_front}
+use Rattle.talk_desk.proofs.CutLines.{kept_heard, return_front}
 use Rattle.talk_desk.proofs.LawfulOrders.{sound_at_start, sound_heard, sound_lines}
 use Rattle.talk_desk.proofs.MoreOrders.{hearing_returned, orders_returned}
 use Rattle.talk_desk.proofs.Standings.{standing-more, state-more}

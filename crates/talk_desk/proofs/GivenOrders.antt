@@ -1,5 +1,5 @@
 -- What is known of the order that a given one stands for.
-use Rattle.std.proofs.Common.{◌≡◌, ℕ, ◌<◌, true, List, length, subst, sym, arith}
+use Rattle.std.proofs.Common.{◌≡◌, ℕ, ◌<◌, true, List, length, subst, sym}
 use Rattle.script_reader.specs.Groups.{commands_of_step, is_lawful_step}
 use Rattle.script_reader.specs.Hearing.{Ask, Order, Refuse, Tell}
 use Rattle.script_reader.specs.Orders.{StandsFor, edit_with}

@@ -1,7 +1,6 @@
 -- A step of a session is answered, and that is said.
 use Rattle.std.proofs.Common.{◌≡◌, ◌+◌, ◌∙◌, ◌++◌, ℕ, Bool, List, ap, subst, sym}
 use Rattle.std.specs.Prelude.{OnOk, Result, Ok, Err}
-use Rattle.edit_journal.specs.declared.edit.Entry.{Entry}
 use Rattle.edit_journal.specs.declared.opening.Opening.{Opening}
 use Rattle.script_reader.specs.declared.step.Step.{Step}
 use Rattle.edit_book.specs.Memory.{Memory}

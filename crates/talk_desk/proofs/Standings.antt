@@ -1,9 +1,9 @@
 -- How a conversation stands behind one more order.
-use Rattle.std.proofs.Common.{◌≡◌, ℕ, Bool, ◌+◌, ◌≤◌, List, [], ◌∷◌, ◌++◌, length, refl, sym, ap, ◌∙◌, subst, arith, append-nil, append_assoc}
+use Rattle.std.proofs.Common.{◌≡◌, ℕ, Bool, List, [], ◌∷◌, ◌++◌, refl}
 use Rattle.edit_journal.specs.declared.opening.Opening.{Opening}
 use Rattle.script_reader.specs.Hearing.{Order}
-use Rattle.talk_loop.specs.InStep.{AreAnswers, state_of, text_of}
-use Rattle.talk_desk.specs.Conversation.{Answer, Standing, asking, behind, is_given, standing_at_start, standing_behind, text}
+use Rattle.talk_loop.specs.InStep.{AreAnswers, state_of}
+use Rattle.talk_desk.specs.Conversation.{Answer, Standing, asking, behind, standing_behind}
 
 module _ (json : Bool) (head : List (List ℕ)) (opening : Opening) where
   pub standing-more : (s : Standing) (hs : List (Order × Answer)) (o : Order) (a : Answer) → standing_behind json head opening s (hs ++ (o, a) ∷ []) ≡ behind json head opening (standing_behind json head opening s hs) o a

@@ -1,7 +1,6 @@
 -- An order was answered, and the sessions stand behind it.
 use Rattle.std.proofs.Common.{◌≡◌, ◌∙◌, ℕ, ◌+◌, ◌<◌, List, ◌++◌, length, set, slice_get, Some, ap, subst, sym, arith}
 use Rattle.std.proofs.lemmas.List.{length-set}
-use Rattle.edit_journal.specs.declared.edit.Entry.{Entry}
 use Rattle.edit_journal.specs.declared.opening.Opening.{Opening}
 use Rattle.script_reader.specs.Hearing.{Ask, Refuse, Tell}
 use Rattle.script_reader.specs.declared.fault.Cause.{Cause}

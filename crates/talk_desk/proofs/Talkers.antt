@@ -1,18 +1,16 @@
 -- The sessions of a conversation behind one more order.
-use Rattle.std.proofs.Common.{◌≡◌, ◌≢◌, ℕ, ◌+◌, ◌<◌, ◌==◌, if◌then◌else◌, Bool, true, false, eqb, ne_eqb, eq-eqb, List, [], ◌∷◌, ◌++◌, length, set, slice_get, Option, Some, refl, sym, ap, ◌∙◌, subst, inl, inr, ⊎_elim, arith}
+use Rattle.std.proofs.Common.{◌≡◌, ◌≢◌, ℕ, ◌+◌, ◌<◌, ◌==◌, if◌then◌else◌, Bool, true, ne_eqb, eq-eqb, List, ◌++◌, length, set, slice_get, Some, refl, sym, ap, ◌∙◌, subst}
 use native.Mathlib.Decide.{ℕ_discrete}
 use mathlib.Core.Logic.{dite}
-use Rattle.std.proofs.lemmas.Option.{slice_get_within}
 use Rattle.edit_book.proofs.Puts.{set_other, set_there}
 use Rattle.edit_journal.specs.declared.opening.Opening.{Opening}
-use Rattle.script_reader.specs.Hearing.{Order, Refuse, Ask, Tell}
+use Rattle.script_reader.specs.Hearing.{Ask, Tell}
 use Rattle.script_reader.specs.declared.step.Step.{Step}
 use Rattle.script_reader.specs.declared.talk_line.Question.{Question}
 use Rattle.edit_book.specs.Memory.{Memory}
 use Rattle.edit_groups.specs.Alone.{IsSessionAt}
 use Rattle.edit_groups.specs.Chunks.{chunk_of}
 use Rattle.edit_groups.specs.Sessions.{Heard, step_memory}
-use Rattle.edit_groups.specs.declared.chunk.Chunk.{Chunk}
 use Rattle.edit_groups.proofs.OthersStand.{others_stand}
 use Rattle.turn_book.specs.Journal.{listed}
 use Rattle.talk_desk.specs.Conversation.{Answer, Given, Standing, behind}

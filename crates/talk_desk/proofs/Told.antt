@@ -1,12 +1,12 @@
 -- A question was answered.
-use Rattle.std.proofs.Common.{◌≡◌, ◌∙◌, ℕ, Bool, List, ◌++◌, Option, None, Some, ap, subst, sym, refl}
+use Rattle.std.proofs.Common.{◌≡◌, ◌∙◌, ℕ, Bool, List, ◌++◌, Option, None, Some, ap, subst, sym}
 use Rattle.std.specs.Option.{option_map_or}
 use Rattle.edit_journal.specs.declared.edit.BlockName.{BlockName}
 use Rattle.edit_journal.specs.declared.edit.Entry.{Entry}
 use Rattle.edit_journal.specs.declared.opening.Opening.{Opening}
 use Rattle.script_reader.specs.declared.talk_line.Question.{Question}
 use Rattle.script_reader.specs.declared.talk_line.Question.TheVariants as question
-use Rattle.edit_book.specs.Memory.{Memory, named}
+use Rattle.edit_book.specs.Memory.{Memory}
 use Rattle.edit_book.specs.declared.reply.Reply.TheVariants as reply
 use Rattle.edit_groups.specs.declared.reply.GroupReply.TheVariants as group
 use Rattle.tally_tree.specs.Docs.{DocView, HasBlocks, IsRange, setting_now}

@@ -1,5 +1,5 @@
 -- A conversation of several sessions about one document: what each order is answered, and what is said for it.
-use Rattle.std.specs.Prelude.{◌≡◌, ⊤, ℕ, ◌+◌, ◌==◌, Bool, if◌then◌else◌, List, [], ◌∷◌, ◌++◌, length, map, Option, None, Some}
+use Rattle.std.specs.Prelude.{◌≡◌, ⊤, ℕ, ◌+◌, ◌==◌, Bool, if◌then◌else◌, List, [], ◌∷◌, ◌++◌, length, map}
 use Rattle.std.specs.Option.{option_map_or}
 use Rattle.knit_base.specs.Lines.{without_return}
 use Rattle.edit_journal.specs.declared.edit.Entry.{Entry}
@@ -14,7 +14,7 @@ use Rattle.edit_groups.specs.Sessions.{Heard, core}
 use Rattle.edit_book.specs.declared.reply.Reply.TheVariants as reply
 use Rattle.edit_groups.specs.declared.chunk.Chunk.{Chunk}
 use Rattle.edit_groups.specs.declared.reply.GroupReply.TheVariants as group
-use Rattle.turn_book.specs.OneOrder.{Exchange, Point, first_point, point_behind}
+use Rattle.turn_book.specs.OneOrder.{Point, first_point, point_behind}
 use Rattle.turn_book.specs.Walk.{IsGiven}
 use Rattle.journal_file.specs.SavedParts.{first_blocks}
 use Rattle.journal_file.specs.Spelling.{spelling}

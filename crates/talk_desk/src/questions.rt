@@ -62,7 +62,7 @@ pub fn take_question<R: Threads + Wait + Sync>(
     ensures counted { talker.new.answered ≡ talker.old.answered + 1 }
     ensures said { OnOk result ((m : Memory) → IsSessionAt (opening_in document.old) (known_in document.old) m talker.old.session
         → IsQuestionSaid document.old.style (opening_in document.old) (entries_of (known_in document.old)) m
-            (record { session = talker.old.session.session.number; number = talker.old.answered + 1 }) question out.old.items out.new.items) }
+        (record { session = talker.old.session.session.number; number = talker.old.answered + 1 }) question out.old.items out.new.items) }
 {
     let inquiry = Inquiry {
         alloc: document.alloc,
@@ -135,12 +135,24 @@ fn tell<L: Ledger, R: Threads>(
             }
         },
         Question::Save => tell_saved(style, book, inquiry, out, &mut steps),
-        Question::Tally(from, to) => tell_tally(style, book, inquiry, Range { from, to }, out, &mut steps),
+        Question::Tally(from, to) => tell_tally(
+            style,
+            book,
+            inquiry,
+            Range { from, to },
+            out,
+            &mut steps,
+        ),
     }
 }
 
 // Says which blocks there are. After `NoMemory` the buffer is as before.
-fn tell_blocks(style: &Style, book: &Book, inquiry: Inquiry, out: &mut Vec<u8>) -> Result<(), NoMemory>
+fn tell_blocks(
+    style: &Style,
+    book: &Book,
+    inquiry: Inquiry,
+    out: &mut Vec<u8>,
+) -> Result<(), NoMemory>
     ensures ok { OnOk result (out.new.items ≡ out.old.items ++ reply_in style.now.json inquiry.frame (blocks_text book.now.opening book.now.entries) (blocks_members book.now.opening book.now.entries inquiry.frame)) }
     ensures err { OnErr result (out.new.items ≡ out.old.items) }
 {

@@ -1,4 +1,5 @@
 //! Who answers the lines of a conversation.
+ghost use Rattle.std.specs.Thread.{IsSync};
 ghost use Rattle.std.specs.Prelude.{◌≡◌, ◌+◌, ◌++◌, ◌∷◌, [], ℕ, List, length, OnOk};
 ghost use Rattle.knit_base.specs.Lines.{HasNoLineEnd};
 ghost use Rattle.knit_ports.specs.Ears.{kept_front};
@@ -46,6 +47,7 @@ pub trait Desk {
         out: &mut Vec<u8>,
     ) -> Result<(), NoMemory>
         requires one { HasNoLineEnd line.now }
+        requires sync { IsSync R.row }
         requires begun { (lines : List (List ℕ)) × (as_ : List Self.Answer) × behind self.old lines as_ × (number ≡ (asking (opening self.old)).first + length lines) }
         ensures same { opening self.new ≡ opening self.old }
         ensures answered { OnOk result ((lines : List (List ℕ)) (as_ : List Self.Answer) (whole : List ℕ) → behind self.old lines as_ → number ≡ (asking (opening self.old)).first + length lines
@@ -59,6 +61,7 @@ pub trait Desk {
         number: u64,
         out: &mut Vec<u8>,
     ) -> Result<(), NoMemory>
+        requires sync { IsSync R.row }
         requires begun { (lines : List (List ℕ)) × (as_ : List Self.Answer) × behind self.old lines as_ × (number ≡ (asking (opening self.old)).first + length lines) }
         ensures last { OnOk result ((lines : List (List ℕ)) (as_ : List Self.Answer) → behind self.old lines as_ → number ≡ (asking (opening self.old)).first + length lines
             → (final : List ℕ) × (out.new.items ≡ out.old.items ++ final) × ends (opening self.old) lines as_ final) };

@@ -1,4 +1,4 @@
-use Rattle.std.proofs.Common.{Bool, List, subst, sym, ap}
+use Rattle.std.proofs.Common.{List, subst, sym}
 use Rattle.std.specs.declared.option.Option.{Option}
 use Rattle.edit_journal.specs.declared.opening.Opening.{Opening}
 use Rattle.edit_groups.specs.Chunks.{entries_of}
@@ -24,10 +24,12 @@ pub returns-in_ok-take-in-Some : goal.returns-in_ok-take-in-Some
 returns-in_ok-take-in-Some g c =
     let style = c.args.host.now.document.style in
     let opening = opening_in c.args.host.now.document in
-    record { said = on-ok c.say_end.result
-    (λ e s asked at is are.
-    let o = one-told _ asked (subst (λ (x : Option declared.Order). IsTold x asked) c.in-Some.is is) in
-    let t = c.in_ok-take-in-Some.ensures.said s o.0 at o.2 in
-    let judged = subst (λ (p : Style × Opening). IsFinalIn p.0.json p.1 (entries_of (known_in c.take.new.self.document)) e.0) (λ i. (c.take.ensures.style i, c.take.ensures.opening i)) e.2 in
-    subst (λ (os : List Order). IsAtItsEnd style opening s os c.args.out.now.items c.say_end.new.out.items) (sym o.1)
-    (end-one style opening s o.0 c.take.new.self c.args.out.now.items c.take.new.out.items c.say_end.new.out.items e.0 (subst AreRefusals o.1 are) t judged e.1)) c.say_end.ensures.said }
+    record {
+      said = on-ok c.say_end.result
+          (λ e s asked at is are.
+          let o = one-told _ asked (subst (λ (x : Option declared.Order). IsTold x asked) c.in-Some.is is) in
+          let t = c.in_ok-take-in-Some.ensures.said s o.0 at o.2 in
+          let judged = subst (λ (p : Style × Opening). IsFinalIn p.0.json p.1 (entries_of (known_in c.take.new.self.document)) e.0) (λ i. (c.take.ensures.style i, c.take.ensures.opening i)) e.2 in
+          subst (λ (os : List Order). IsAtItsEnd style opening s os c.args.out.now.items c.say_end.new.out.items) (sym o.1)
+          (end-one style opening s o.0 c.take.new.self c.args.out.now.items c.take.new.out.items c.say_end.new.out.items e.0 (subst AreRefusals o.1 are) t judged e.1)) c.say_end.ensures.said;
+    }

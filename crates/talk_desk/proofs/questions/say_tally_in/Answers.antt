@@ -1,4 +1,4 @@
-use Rattle.std.proofs.Common.{◌≡◌, ◌++◌, Bool, List, ℕ, subst, sym}
+use Rattle.std.proofs.Common.{◌≡◌, ◌++◌, Bool, subst, sym}
 use Rattle.std.specs.Prelude.{OnOk}
 use Rattle.reply_report.specs.TallyJson.{tally_members}
 use Rattle.reply_report.specs.TallyText.{tally_text}

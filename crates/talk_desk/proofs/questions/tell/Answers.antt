@@ -1,6 +1,6 @@
 use Rattle.std.proofs.Common.{refl}
 use Rattle.talk_desk.proofs.Said.{on-ok}
-use Rattle.talk_desk.proofs.Told.{told-as, told-text, told-unseen}
+use Rattle.talk_desk.proofs.Told.{told-as}
 use Rattle.talk_desk.proofs.questions.tell.Goals as goal
 
 pub returns-in-Blocks-clause-ok : goal.returns-in-Blocks-clause-ok

@@ -1,5 +1,4 @@
 use Rattle.std.proofs.Common.{◌∙◌, List, ℕ, length, ap, subst, sym, ◌≡◌, ◌++◌}
-use Rattle.std.specs.Prelude.{OnOk}
 use Rattle.reply_report.specs.TallyJson.{tally_members}
 use Rattle.reply_report.specs.TallyText.{tally_text}
 use Rattle.tally_tree.specs.Laws.{with_each_long}

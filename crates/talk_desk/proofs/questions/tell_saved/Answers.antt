@@ -1,4 +1,4 @@
-use Rattle.std.proofs.Common.{List, ℕ, length, subst, ◌≡◌, ◌++◌}
+use Rattle.std.proofs.Common.{List, ℕ, subst, ◌≡◌, ◌++◌}
 use Rattle.std.specs.Prelude.{OnOk}
 use Rattle.reply_report.specs.TalkJson.{saved_members}
 use Rattle.reply_report.specs.TalkText.{saved_said}

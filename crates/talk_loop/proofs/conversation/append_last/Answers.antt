@@ -25,11 +25,11 @@ returns g c = let asking = g.D.Desk.asking (g.D.Desk.opening c.args.desk.now) in
       )) c.end-2.ensures.last;
 }
 
-pub end-requires-2 : goal.end-requires-2
-end-requires-2 g c =
+pub end-requires-2-clause-begun : goal.end-requires-2-clause-begun
+end-requires-2-clause-begun g c =
     let b = c.requires.begun in
     let k = c.requires.kept in
     let a = c.in_ok-hear.ensures.answered b.0 b.1 k.0 b.2 b.3 k.1 in
     let first = ap (λ o. (g.D.Desk.asking o).first) c.hear.ensures.same in
     let counted = b.3 in
-    record { begun = (b.0 ++ k.0 ∷ [], b.1 ++ a.0, a.1, omega (arith, counted, first, length-append b.0 (k.0 ∷ []))) }
+    (b.0 ++ k.0 ∷ [], b.1 ++ a.0, a.1, omega (arith, counted, first, length-append b.0 (k.0 ∷ [])))

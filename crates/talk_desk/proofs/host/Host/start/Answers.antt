@@ -1,7 +1,6 @@
-use Rattle.std.proofs.Common.{◌≡◌, ◌∙◌, [], List, ap, subst}
-use Rattle.edit_groups.specs.Chunks.{entries_of}
+use Rattle.std.proofs.Common.{◌≡◌, ◌∙◌, [], ap, subst}
 use Rattle.edit_journal.specs.declared.opening.Opening.{Opening}
-use Rattle.talk_desk.specs.Hosts.{AreFresh, known_in, opening_in}
+use Rattle.talk_desk.specs.Hosts.{AreFresh, opening_in}
 use Rattle.talk_desk.proofs.Fresh.{fresh-talkers}
 use Rattle.talk_desk.proofs.host.Host.start.Goals as goal
 
