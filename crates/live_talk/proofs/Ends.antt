@@ -1,14 +1,18 @@
 -- How a conversation ended, from what its parts tell.
-use Rattle.std.proofs.Common.{◌≡◌, ◌⊎◌, inl, inr, ◌∙◌, ℕ, ◌+◌, Bool, List, [], ◌∷◌, ◌++◌, None, Some, ap, sym, subst, refl, arith, append-nil, append_assoc}
-use Rattle.std.specs.Prelude.{Err, Ok, Result}
+use Rattle.std.proofs.Common.{◌≡◌, ◌⊎◌, inl, inr, ℕ, List, [], ◌∷◌, ◌++◌, None, Some, sym, subst, refl, arith, append-nil}
+use Rattle.std.specs.Prelude.{Ok}
 use Rattle.std.specs.declared.option.Option.{Option}
 use Rattle.knit_ports.specs.Faults.{Rose}
 use Rattle.knit_ports.specs.Pieces.{GoesOn, Heard, Piece, Said, said_in}
-use Rattle.opening_reader.specs.HeardOpenings.{AreHeard, AreLines, IsAwaited, broken_off, whole}
+use Rattle.opening_reader.specs.HeardOpenings.{AreLines, EndsOpening, IsAwaited, broken_off, whole}
 use Rattle.input_answers.specs.declared.outcome.Status.{Status}
 use Rattle.input_answers.specs.declared.outcome.Status.TheVariants as status
-use Rattle.live_talk.specs.Begins.{HasEndCause, failed, fine, short}
-use Rattle.live_talk.specs.Served.{HasServeCause}
+use Rattle.input_answers.specs.declared.plan.Plan.{Plan}
+use Rattle.opening_reader.specs.declared.opening.OpeningText.{OpeningText}
+use Rattle.verdict_report.specs.declared.refusal.Refusal.{Refusal}
+use Rattle.live_talk.specs.Begins.{HasEndCause, RefusesText, bad_head, failed, fine, short, too_large}
+use Rattle.live_talk.specs.Served as served
+use Rattle.live_talk.specs.Served.{HasServeCause, IsRefused}
 
 pub goes-none : (a : Option (List Piece)) → GoesOn a a []
 goes-none None = tt
@@ -38,3 +42,16 @@ ended-cause ends result before between after read write so_far (fine same) = rec
 ended-cause ends result before between after read write so_far (short same) = record { read = λ is. absurd (cc); write = λ is. absurd (cc) }
 ended-cause ends result before between after read write (inl same) (failed rose) = record { read = λ is. absurd (cc); write = λ is. subst (λ (n : ℕ). Rose n after) same rose }
 ended-cause ends result before between after read write (inr first) (failed rose) = record { read = λ is. absurd (cc); write = λ is. rose-more before between after first rose }
+
+-- a text that is refused is the opening that is, and the program isn't to end by a fault
+pub text-refused : (plan : Plan) (heard : List Piece) (pending : List ℕ) (told : OpeningText) (said : Refusal) (ends : Status) → EndsOpening heard pending (Ok told) → RefusesText plan told.text said ends → IsRefused plan.chosen heard pending said ends
+text-refused plan heard pending told said ends opened (bad_head why given is tells) = served.bad_head told why given opened is tells
+text-refused plan heard pending told said ends opened (too_large head given is large) = served.too_large told head given opened is large
+
+pub never-read : (plan : Plan) (text : List (List ℕ)) (said : Refusal) (ends : Status) → RefusesText plan text said ends → ends ≡ status.ReadFault → ⊥
+never-read plan text said ends (bad_head why given is tells) same = absurd (cc)
+never-read plan text said ends (too_large head given is large) same = absurd (cc)
+
+pub never-write : (plan : Plan) (text : List (List ℕ)) (said : Refusal) (ends : Status) → RefusesText plan text said ends → ends ≡ status.WriteFault → ⊥
+never-write plan text said ends (bad_head why given is tells) same = absurd (cc)
+never-write plan text said ends (too_large head given is large) same = absurd (cc)

@@ -1,8 +1,8 @@
 -- What was heard and said of a conversation, from what its parts tell.
-use Rattle.std.proofs.Common.{◌≡◌, Bool, ℕ, List, ◌∷◌, ◌++◌, refl}
+use Rattle.std.proofs.Common.{Bool, ℕ, List, ◌∷◌, ◌++◌, refl}
 use Rattle.std.specs.Prelude.{Err, Result}
 use Rattle.std.specs.declared.option.Option.{Option}
-use Rattle.knit_ports.specs.Pieces.{GoesOn, Heard, Piece, Says, SaysFront, said_in}
+use Rattle.knit_ports.specs.Pieces.{GoesOn, Heard, Piece, Says, SaysFront}
 use Rattle.knit_ports.proofs.SaidPieces.{goes-trans}
 use Rattle.machine_profile.specs.declared.Chosen.{Chosen}
 use Rattle.talk_loop.specs.Conversed.{Conversed}

@@ -1,6 +1,5 @@
 -- What a conversation begins with, once its text is there. No public contract speaks of it.
 use Rattle.std.specs.Prelude.{◌≡◌, ℕ, [], List, length, Some}
-use Rattle.edit_journal.specs.declared.opening.Opening.{Opening}
 use Rattle.input_answers.specs.Asked.{as_json}
 use Rattle.input_answers.specs.CheckReport.{body_of}
 use Rattle.input_answers.specs.Due.{Fits, IsSizeRefusal, head_refusal}

@@ -1,5 +1,5 @@
 -- A conversation from its first line to its end, and the status with which it ends.
-use Rattle.std.specs.Prelude.{◌≡◌, ℕ, ◌+◌, Bool, List, [], ◌∷◌, ◌++◌, length, take, Option, Some, Result, Ok, Err}
+use Rattle.std.specs.Prelude.{◌≡◌, ℕ, ◌+◌, Bool, List, [], ◌∷◌, ◌++◌, length, take, Some, Result, Ok, Err}
 use Rattle.knit_ports.specs.Faults.{Rose}
 use Rattle.knit_ports.specs.Pieces.{AreSaid, Heard, Piece, said_in}
 use Rattle.knitout_reader.specs.declared.head.Head.{Head}

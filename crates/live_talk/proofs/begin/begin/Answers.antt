@@ -1,4 +1,4 @@
-use Rattle.std.proofs.Common.{◌≡◌, ◌∙◌, ℕ, List, length, ap, subst, sym}
+use Rattle.std.proofs.Common.{◌∙◌, ℕ, List, length, ap, subst}
 use Rattle.input_answers.specs.CheckReport.{body_of}
 use Rattle.input_answers.specs.Due.{IsSizeRefusal}
 use Rattle.knitout_reader.specs.Head.{IsHead, IsHeadFault}
