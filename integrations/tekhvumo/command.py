@@ -3,6 +3,7 @@
     tekhvumo [check] [options] FILE..         findings, as FILE:LINE:COLUMN: error: RULE: what is wrong; its cure
     tekhvumo fmt [--check] [options] FILE..   the canonical text, in place
     tekhvumo draw [options] FILE > FILE.svg   a picture of the loops
+    tekhvumo lsp [options]                    a language server, over standard input and output
 
 FILE is - for standard input, or a folder, which stands for the knitout files in it. Lines count from 1, and so do
 columns, which count characters.
@@ -142,7 +143,7 @@ def check_parser() -> argparse.ArgumentParser:
         "check",
         "Says which rules a program breaks, where, and what cures it. Status: 0 sound, 1 a rule broken, else refused.",
     )
-    parser.epilog = "Other commands: tekhvumo fmt --help, tekhvumo draw --help."
+    parser.epilog = "Other commands: tekhvumo fmt --help, tekhvumo draw --help, tekhvumo lsp --help."
     parser.add_argument(
         "--warn", action="store_true", help="also say what a knitter calls a mistake: " + ", ".join(WARNINGS)
     )
@@ -258,7 +259,19 @@ def draw_command(words: Sequence[str]) -> int:
     return report.status
 
 
-COMMANDS = {"check": check_command, "fmt": fmt_command, "draw": draw_command}
+def lsp_command(words: Sequence[str]) -> int:
+    """Serves an editor."""
+    from .lsp import serve
+
+    parser = common_parser("lsp", "A language server for knitout programs, over standard input and output.")
+    parser.add_argument("--stdio", action="store_true", help="as it does in any case")
+    options = parser.parse_args(words)
+    # (a stream of its own: a thread still listens to it at the end)
+    heard = open(sys.stdin.fileno(), "rb", closefd=False)
+    return serve(heard, sys.stdout.buffer, find_program(options.program), wishes_of(options))
+
+
+COMMANDS = {"check": check_command, "fmt": fmt_command, "draw": draw_command, "lsp": lsp_command}
 
 
 def main(words: Sequence[str] | None = None) -> int:
