@@ -2,7 +2,6 @@
 from __future__ import annotations
 
 import json
-import os
 import queue
 import subprocess
 import sys
@@ -11,7 +10,7 @@ from typing import Any, Mapping
 
 from .case import HERE
 
-MOST_SECONDS = 60
+MOST_SECONDS = 20
 
 
 class Closed(Exception):
@@ -103,7 +102,9 @@ class Editor:
         """Ends the server, if it goes on, and gives its status."""
         if self.child.poll() is None:
             try:
-                self.result("shutdown")
+                number = self.ask("shutdown")
+                while self.message().get("id") != number:
+                    pass
                 self.notify("exit")
             except (Closed, OSError):
                 pass
@@ -114,6 +115,7 @@ class Editor:
 
     def open(self, uri: str, text: str) -> None:
         self.texts[uri], self.versions[uri] = text.encode("utf-16-le"), 1
+        self.told.clear()
         self.notify("textDocument/didOpen", textDocument={"uri": uri, "languageId": "knitout", "version": 1, "text": text})
 
     def text(self, uri: str) -> str:
@@ -124,17 +126,20 @@ class Editor:
         data, feed = self.texts[uri], "\n".encode("utf-16-le")
         begin = 0
         for _ in range(position["line"]):
-            found = begin
-            while (found := data.find(feed, found)) % 2 == 1:
-                found += 1
-            if found < 0:
+            begin = self.sign(data, feed, begin) + 2
+            if begin > len(data):
                 return len(data)
-            begin = found + 2
-        end = begin
-        while (end := data.find(feed, end)) % 2 == 1:
-            end += 1
-        end = len(data) if end < 0 else end - 2 * (data[max(begin, end - 2):end] == "\r".encode("utf-16-le"))
+        end = self.sign(data, feed, begin)
+        if end < len(data) and end > begin and data[end - 2 : end] == "\r".encode("utf-16-le"):
+            end -= 2
         return min(end, begin + 2 * position["character"])
+
+    @staticmethod
+    def sign(data: bytes, sign: bytes, begin: int) -> int:
+        """Where a sign of two bytes stands next, or the end."""
+        while (found := data.find(sign, begin)) >= 0 and found % 2:
+            begin = found + 1
+        return len(data) if found < 0 else found
 
     def replace(self, uri: str, changes: list[dict[str, Any]]) -> None:
         """Carries out edits in its own text."""
@@ -164,7 +169,6 @@ class Editor:
                 return list(of_version[count - 1]["diagnostics"])
             self.message()
 
-
-def environment_of(kept: Mapping[str, str], program: str) -> dict[str, str]:
-    """An environment in which the server finds its program."""
-    return {**kept, "TEKHVUMO_PROGRAM": os.path.abspath(program)}
+    def settled(self, uri: str) -> list[dict[str, Any]]:
+        """All that is found in the text as it is."""
+        return self.diagnostics(uri, self.versions[uri], 3)

@@ -5,6 +5,7 @@ import sys
 import traceback
 from typing import Any, BinaryIO, Callable, Mapping
 
+from ..program import SetupFault
 from .framing import Code, Fault, framed, framed_answer
 
 Params = dict[str, Any]
@@ -131,8 +132,8 @@ class Endpoint:
         elif method in self.methods and (self.is_initialized or method == "exit"):
             try:
                 self.methods[method](params, None)
-            except SystemExit:
-                raise
+            except SetupFault as trouble:
+                self.notify("window/showMessage", {"type": 1, "message": f"tekhvumo: {trouble}"})
             except Exception:
                 # (nobody waits for an answer that could tell it)
                 traceback.print_exc(file=sys.stderr)
