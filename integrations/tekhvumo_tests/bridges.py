@@ -104,6 +104,9 @@ class WithBridge(Case):
     def kept(self, bridge: Bridge) -> str:
         """The text at the end of a bridge's journal, which check_main takes and gives the verdict of that text."""
         data = Path(f"{bridge.path}.journal").read_bytes()
+        client = self.raw(bridge)
+        self.assertEqual("".join(f"{line}\n" for line in client.ask(ask="save")["lines"]).encode(), data)
+        client.close()
         head, body = Journal.of(data).text()
         text = file_text([*head, *body]).decode()
         ran = self.run_command("check_main", "replay", given=data)

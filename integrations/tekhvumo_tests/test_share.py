@@ -375,7 +375,8 @@ class House(WithBridge):
         self.assertEqual(stays.ask(ask="cut", block=0)["version"], 2)
 
     def test_what_is_asked_wrongly(self) -> None:
-        client = self.raw(self.share(SOUND))
+        bridge = self.share(SOUND)
+        client = self.raw(bridge)
         wrong = (b"", b"{", b"[]", b"\xff", b'{"ask":1}', b'{"ask":"quit"}', b'{"ask":"put"}', b"[" * 100_000,
                  b'{"ask":"put","block":true,"lines":[]}', b'{"ask":"put","block":-1,"lines":[]}',
                  b'{"ask":"put","block":0,"lines":["a\\nb"]}', b'{"ask":"put","block":0,"lines":["\\ud800"]}',
@@ -384,12 +385,14 @@ class House(WithBridge):
             client.write(line + b"\n")
             self.assertEqual(client.read()["reply"], "unsayable", line[:40])
         self.assertEqual(client.ask(ask="look", block=7)["reply"], "noblock")
+        self.assertEqual(client.ask(ask="cut", block=0, lines=["; a"], edits=3)["version"], 1)
+        self.assertEqual(client.ask(ask="save")["lines"][-1], "session 0 cut 0 seen 0")
         self.assertEqual(client.ask(ask="look", block=0, at=0)["lines"][0], "in 1")
-        self.assertEqual(client.ask(ask="tally", first=0, end=1)["form"], 1)
-        self.assertEqual(client.ask(ask="save")["lines"][-1], "entries 0")
+        self.assertEqual(client.ask(ask="tally", first=0, end=0)["form"], 0)
         client.write(b'"' + b"x" * MOST_BYTES + b'"\n')
         self.assertEqual(client.read(), {"reply": "large", "limit": MOST_BYTES})
         self.assertEqual(client.read(), {})
+        self.assertEqual(self.kept(bridge), HEAD)
 
     def test_replies_come_in_the_order_of_what_was_asked(self) -> None:
         client = self.raw(self.share(SOUND))

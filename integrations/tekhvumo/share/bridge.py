@@ -17,7 +17,7 @@ from ..program import SetupFault
 from ..serve import ProcessGone, Unsayable
 from ..serve.requests import MOST_SESSIONS
 from .document import Document
-from .messages import MOST_BYTES, Message, bytes_of_edit, line_of, message_of, request_of
+from .messages import MOST_BYTES, Message, bytes_of_edits, line_of, message_of, request_of
 
 # The journal isn't written again sooner than this behind the last time, in seconds.
 PAUSE = 0.05
@@ -136,24 +136,26 @@ class Bridge:
         except Unsayable as trouble:
             client.answer({"reply": "unsayable", "why": str(trouble)})
             return
-        if not self.has_room(bytes_of_edit(message, line)):
+        size = bytes_of_edits(message, line)
+        if not self.has_room(size):
             client.answer({"reply": "large", "limit": MOST_BYTES})
             return
         if self.clients.get(client.session) is not client:
             return
-        reply = self.document.ask(request)
-        if reply["reply"] in ("accepted", "group"):
-            self.document.size += bytes_of_edit(message, line)
-            client.answer(reply, reply["version"])
+        if not size:
+            client.answer(self.document.ask(request))
+            return
+        reply = self.document.edit(request, message)
+        is_accepted = reply["reply"] in ("accepted", "group")
+        client.answer(reply, reply["version"] if is_accepted else 0)
+        if is_accepted:
             self.keep_soon()
-        else:
-            client.answer(reply)
 
     def has_room(self, size: int) -> bool:
         """Whether the journal has room for an edit of so many bytes; it may be begun anew to have it."""
         if size and self.document.will_be_too_long(size):
             self.keep()
-            if self.document.size > self.document.begun:
+            if self.document.saved.size > self.document.begun:
                 self.begin_anew()
         return not size or not self.document.will_be_too_long(size)
 
@@ -177,7 +179,7 @@ class Bridge:
             self.timer.cancel()
             self.timer = None
         if self.kept < self.document.version:
-            self.document.save()
+            self.document.keep()
             self.written = asyncio.get_running_loop().time()
             self.kept = self.document.version
         self.push()

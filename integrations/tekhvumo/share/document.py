@@ -12,8 +12,8 @@ from ..serve import Conversation, ProcessGone, requests
 from ..serve.replies import Brief
 from ..serve.requests import MOST_TEXT_LINES, Request
 from . import journal
-from .journal import BadJournal, Journal
-from .messages import PROTOCOL
+from .journal import BadJournal, Growing, Journal
+from .messages import PROTOCOL, Message, edits_of
 
 # A saved text that is longer is left behind for a new one, if it is also twice as long as it was when it was begun.
 LONG_JOURNAL = 2 << 20
@@ -53,9 +53,8 @@ class Document:
         if old and old[1].entries:
             self.check_verdict(old[0], old[1])
             journal.keep_aside(self.journal_path)
-        self.size = self.begun = 0
         self.save()
-        self.begun = self.size
+        self.begun = self.saved.size
 
     def read_journal(self) -> tuple[bytes, Journal] | None:
         """The journal beside the file, and what it tells; None where there is none."""
@@ -122,7 +121,15 @@ class Document:
             raise ProcessGone(self.served.pipes.end()) from trouble
         for key in ("session", "number"):
             reply.pop(key, None)
+        return reply
+
+    def edit(self, request: Request[Any], message: Message) -> dict[str, Any]:
+        """The reply to an edit; if it is accepted, the journal has it from now on, though not yet on the disk."""
+        reply = self.ask(request)
         if reply["reply"] in ("accepted", "group"):
+            entries = self.since(self.version)["entries"]
+            for entry, it in zip(entries, edits_of(message), strict=True):
+                self.saved.add(entry, it["lines"] if entry["edit"] in ("put", "add") else ())
             self.version, self.brief = reply["version"], Brief.of(reply["brief"])
         return reply
 
@@ -154,28 +161,30 @@ class Document:
     # ------------------------------------------------------------ keeping
 
     def save(self) -> None:
-        """Writes the journal."""
-        lines = self.ask(requests.save(0))["lines"]
-        data = "".join(f"{line}\n" for line in lines).encode()
-        journal.write(self.journal_path, data)
-        self.size = len(data)
+        """Writes the journal as check_main tells it."""
+        self.saved = Growing(self.ask(requests.save(0))["lines"])
+        self.keep()
+
+    def keep(self) -> None:
+        """Writes the journal. (To be told all of it for each edit would take long: so it grows here.)"""
+        journal.write(self.journal_path, self.saved.data())
 
     def will_be_too_long(self, more: int) -> bool:
         """Whether the journal with so many bytes more is longer than check_main reads."""
-        return self.size + more > MOST_BYTES
+        return self.saved.size + more > MOST_BYTES
 
     @property
     def is_long(self) -> bool:
         """Whether the journal is long by what was done, so that it is time for a new one."""
-        return self.size > max(self.long_journal, 2 * self.begun)
+        return self.saved.size > max(self.long_journal, 2 * self.begun)
 
     def begin_anew(self) -> None:
-        """Begins a new conversation and a new journal with the text at the end of the old one, which was written."""
+        """Begins a new conversation and a new journal with the text at the end of the old one, which is on the disk."""
         self.served.close()
         self.begin()
 
     def close(self) -> None:
-        """Ends the conversation. The journal was written; the file gets the text as it stands."""
+        """Ends the conversation. The journal is on the disk; the file gets the text as it stands."""
         old = self.read_journal()
         self.served.close()
         if old:

@@ -3,7 +3,7 @@ from __future__ import annotations
 
 import os
 import tempfile
-from typing import Iterable, Iterator, NamedTuple, Sequence
+from typing import Any, Iterable, Iterator, Mapping, NamedTuple, Sequence
 
 Lines = list[bytes]
 
@@ -66,6 +66,41 @@ def read(rest: Iterator[bytes]) -> Journal:
     head = taken(count(b"head"))
     blocks = [taken(count(b"block")) for _ in range(count(b"blocks"))]
     return Journal(profile, head, blocks, [entry() for _ in range(count(b"entries"))])
+
+
+class Growing:
+    """A saved text that grows by an entry at a time: what is written anew is no more than has come."""
+
+    def __init__(self, lines: Sequence[str]) -> None:
+        at = next(at for at in reversed(range(len(lines))) if lines[at].startswith("entries "))
+        self.front = "".join(f"{line}\n" for line in lines[:at]).encode()
+        self.entries = ["".join(f"{line}\n" for line in lines[at + 1 :]).encode()]
+        self.count = int(lines[at].split(" ")[1])
+        self.size = len(self.front) + len(self.entries[0]) + len(lines[at]) + 1
+
+    def add(self, entry: Mapping[str, Any], lines: Sequence[str]) -> None:
+        """Adds an entry, as check_main tells it as JSON, and the lines that the edit gave."""
+        text = "".join([f"{spelled(entry)}\n", *(f"|{line}\n" for line in lines)]).encode()
+        self.entries.append(text)
+        self.count += 1
+        self.size += len(text)
+
+    def data(self) -> bytes:
+        """The text."""
+        return b"".join([self.front, b"entries %d\n" % self.count, *self.entries])
+
+
+def spelled(entry: Mapping[str, Any]) -> str:
+    """The line of an entry."""
+    session, block, lines = (entry.get(it) for it in ("session", "block", "lines"))
+    if entry["edit"] == "put":
+        return f"session {session} put {block} seen {entry['seen']} lines {lines}"
+    if entry["edit"] == "add":
+        anchor = "start" if entry["anchor"] is None else entry["anchor"]
+        return f"session {session} add {anchor} block {block} lines {lines}"
+    if entry["edit"] == "cut":
+        return f"session {session} cut {block} seen {entry['seen']}"
+    return " ".join([f"session {session} put head seen {entry['seen']} carriers", *entry["names"]])
 
 
 def carry_out(entry: Entry, head: Lines, blocks: dict[int, Lines], order: list[int]) -> None:

@@ -104,12 +104,19 @@ def request_of(session: int, message: Message) -> Request[Any]:
     return ASKED[kind](session, message)
 
 
-def bytes_of_edit(message: Message, line: bytes) -> int:
-    """No fewer bytes than an edit adds to the saved text; 0 of what is none."""
+def edits_of(message: Message) -> Sequence[Message]:
+    """The edits that a message asks for, each one entry if it is accepted; none where it asks something else."""
     if message.get("ask") not in EDITS:
-        return 0
+        return ()
+    edits: Sequence[Message] = message["edits"] if message["ask"] == "group" else [message]
+    return edits
+
+
+def bytes_of_edits(message: Message, line: bytes) -> int:
+    """No fewer bytes than a message's edits add to the saved text; 0 where there are none."""
+    count = len(edits_of(message))
     # (a text line has a bar and a line feed, and as JSON at least two quotation marks and a comma)
-    return len(line) + ENTRY_BYTES * len(message.get("edits") or [None])
+    return len(line) + ENTRY_BYTES * count if count else 0
 
 
 # ---------------------------------------------------------------- what the client library asks
