@@ -104,7 +104,10 @@ class Document:
 
     def source(self) -> Source:
         """The text as a file has it."""
-        return Source(self.path, self.text.whole())
+        if "source" not in self.kept:
+            self.kept["source"] = Source(self.path, self.text.whole())
+        source: Source = self.kept["source"]
+        return source
 
     def range_of(self, finding: Finding) -> dict[str, Any]:
         """The range of a finding."""
