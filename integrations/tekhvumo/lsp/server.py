@@ -271,7 +271,6 @@ class Server:
             document.findings = [*warned, *done.value]
         else:
             document.findings = done.value
-            document.has_all = True
         document.has_mistakes = True
         self.publish(document)
         for number, params in document.waiting:
