@@ -4,8 +4,8 @@
     python3 tools/keystrokes.py [LINES..]       (1000 20000 180000)
 
 For each size, sound and broken: the median and the 99th percentile of the time from a change of one line to its diagnostics,
-and medians for what else is asked. The verdict comes first; the cures and warnings that follow are told with the seconds
-from the last key to them.
+and of what else is asked. The verdict comes first; "cures" is the time from a key to all mistakes with their cures, and
+"warnings" that to the warnings, in both the server's waiting for another key included.
 """
 from __future__ import annotations
 
@@ -23,7 +23,7 @@ sys.path.insert(0, str(INTEGRATIONS))
 from tekhvumo.program import find_program  # noqa: E402
 from tekhvumo_tests.editor import Editor  # noqa: E402
 
-KEYS, ASKED = 200, 20
+KEYS, PAUSES, ASKED = 200, 10, 20
 URI = "file:///tmp/keystrokes.k"
 WIDTH = 20
 
@@ -51,7 +51,7 @@ def shown(times: list[float]) -> str:
     return f"{median(times):.1f} ({sorted(times)[len(times) * 99 // 100]:.1f})"
 
 
-def keys(editor: Editor, lines: int, given: random.Random) -> list[float]:
+def keys(editor: Typist, lines: int, given: random.Random) -> list[float]:
     """The times of keys that are typed at the ends of lines, and taken back."""
     times = []
     for key in range(KEYS):
@@ -69,6 +69,21 @@ def keys(editor: Editor, lines: int, given: random.Random) -> list[float]:
         times.append(spent(typed))
         editor.told.clear()
     return times
+
+
+def pauses(editor: Typist, given: random.Random) -> tuple[list[float], list[float]]:
+    """The times from a key, behind which nobody types, to the cures, and to the warnings."""
+    cures, warnings = [], []
+    for _ in range(PAUSES):
+        line = given.randrange(len(editor.lines) // 10, len(editor.lines) - 1)
+        begin = time.perf_counter()
+        version = editor.tell_change(URI, (line, 0), (line, 0), " ")
+        editor.diagnostics(URI, version, 2)
+        cures.append((time.perf_counter() - begin) * 1e3)
+        editor.diagnostics(URI, version, 3)
+        warnings.append((time.perf_counter() - begin) * 1e3)
+        editor.told.clear()
+    return cures, warnings
 
 
 class Typist(Editor):
@@ -93,8 +108,9 @@ def measure(lines: list[str], what: str) -> None:
     editor.lines = lines
     given = random.Random(len(lines))
     opened = spent(lambda: (editor.open(URI, "\n".join([*lines, ""])), editor.diagnostics(URI, 1)))
-    all_told = spent(lambda: editor.diagnostics(URI, 1, 3))
+    editor.diagnostics(URI, 1, 3)
     times = keys(editor, len(lines), given)
+    cures, warnings = pauses(editor, given)
     document = {"textDocument": {"uri": URI}}
 
     def at_some_line(method: str) -> list[float]:
@@ -107,7 +123,7 @@ def measure(lines: list[str], what: str) -> None:
     canonical = spent(lambda: editor.result("textDocument/formatting", **document, options={}))
     editor.stop()
     print(
-        f"{len(lines)} lines, {what}: opened {opened:.0f} ms, all findings {all_told / 1e3:.2f} s later; a key {shown(times)} ms;"
+        f"{len(lines)} lines, {what}: opened {opened:.0f} ms; a key {shown(times)}; cures {shown(cures)}; warnings {shown(warnings)};"
         f" hover {shown(hover)}; definition {shown(definition)}; courses {symbols:.0f}, again {again:.1f}; format {canonical:.0f}",
         flush=True,
     )

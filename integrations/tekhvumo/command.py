@@ -267,9 +267,11 @@ def lsp_command(words: Sequence[str]) -> int:
     parser = common_parser("lsp", "A language server for knitout programs, over standard input and output.")
     parser.add_argument("--stdio", action="store_true", help="as it does in any case")
     options = parser.parse_args(words)
-    # (a stream of its own: a thread still listens to it at the end)
     heard = open(sys.stdin.fileno(), "rb", closefd=False)
-    return serve(heard, sys.stdout.buffer, find_program(options.program), wishes_of(options))
+    status = serve(heard, sys.stdout.buffer, find_program(options.program), wishes_of(options))
+    # (a thread still waits for the next message, and Python would have to take its stream away from it)
+    sys.stdout.flush()
+    os._exit(status)
 
 
 def share_command(words: Sequence[str]) -> int:

@@ -10,7 +10,7 @@ from typing import Any, Mapping
 
 from .case import HERE
 
-MOST_SECONDS = 20
+MOST_SECONDS = 60
 
 
 class Closed(Exception):
@@ -26,8 +26,8 @@ class Editor:
         self.child = subprocess.Popen(command, stdin=pipe, stdout=pipe, stderr=pipe, cwd=folder, env=dict(environment))
         self.heard: queue.Queue[dict[str, Any] | None] = queue.Queue()
         self.errors: list[bytes] = []
-        threads = [threading.Thread(target=work, daemon=True) for work in (self.listen, self.listen_to_errors)]
-        for thread in threads:
+        self.threads = [threading.Thread(target=work, daemon=True) for work in (self.listen, self.listen_to_errors)]
+        for thread in self.threads:
             thread.start()
         self.told: list[dict[str, Any]] = []
         self.numbers = 0
@@ -109,6 +109,9 @@ class Editor:
             except (Closed, OSError):
                 pass
         status = self.child.wait(timeout=MOST_SECONDS)
+        for thread in self.threads:
+            # (a stream that is read can't be closed)
+            thread.join(MOST_SECONDS)
         for stream in (self.child.stdin, self.child.stdout, self.child.stderr):
             stream.close()
         return status

@@ -3,6 +3,7 @@ from __future__ import annotations
 
 import os
 import random
+from pathlib import Path
 from typing import Any
 
 from tekhvumo import Needle, findings
@@ -109,3 +110,32 @@ class Changes(Case):
         for _ in range(13):
             version = self.editor.change(uri, ((line, 0), (line, 1), ""))
             self.assert_same(uri, version)
+
+    def test_each_request_is_answered_once(self) -> None:
+        given = random.Random(7)
+        uris = [(self.room / f"{name}.k").as_uri() for name in ("lace", "tube")]
+        for uri in uris:
+            self.editor.open(uri, (PROGRAMS / "good" / Path(uri).name).read_text())
+        methods = ("hover", "definition", "formatting", "documentSymbol", "codeAction", "rename")
+        asked: list[int] = []
+        for _ in range(150):
+            uri = given.choice(uris)
+            lines = self.editor.text(uri).split("\n")
+            line = given.randrange(len(lines))
+            place = {"line": line, "character": 0}
+            if given.random() < 0.3:
+                self.editor.change(uri, ((line, 0), (line, given.randrange(2)), given.choice(("", "x", "pause\n"))))
+            if given.random() < 0.2 and asked:
+                self.editor.notify("$/cancelRequest", id=given.choice(asked[-3:]))
+            more = {"position": place, "range": {"start": place, "end": place}, "context": {"diagnostics": []}}
+            method = f"textDocument/{given.choice(methods)}"
+            asked.append(self.editor.ask(method, textDocument={"uri": uri}, **more, options={}))
+        answered: dict[int, dict[str, Any]] = {}
+        while len(answered) < len(asked):
+            message = self.editor.message()
+            if "method" not in message:
+                self.assertNotIn(message["id"], answered)
+                answered[message["id"]] = message
+        codes = {it["error"]["code"] for it in answered.values() if "error" in it}
+        self.assertLessEqual(codes, {-32601, -32800, -32801})
+        self.assertEqual(self.editor.errors, [])

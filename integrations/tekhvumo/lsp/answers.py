@@ -33,7 +33,7 @@ def hover_lines(document: Document, line: int) -> list[str]:
         return ["the file is refused, so nothing is known of its lines"]
     if told and told.line < line:
         return [f"line {told.line} breaks {told.rule}, so nothing is known of the lines below it"]
-    answer = document.verdicts.program.check(document.text.above(line - 1))
+    answer = document.verdicts.program.check(document.source().above(line))
     if answer.status != Status.SOUND:
         return ["nothing is known of this line"]
     state = State.of(answer.verdict)
@@ -76,7 +76,7 @@ def loop_of(document: Document, line: int) -> Loop | None:
         return None
     if document.verdicts.served:
         return document.verdicts.loop(line)
-    made = document.verdicts.program.check(document.text.above(line), loops=True).verdict.get("made_loops")
+    made = document.verdicts.program.check(document.source().above(line + 1), loops=True).verdict.get("made_loops")
     return Loop.of(made[-1]) if made and made[-1]["line"] == line else None
 
 

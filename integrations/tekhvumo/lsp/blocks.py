@@ -53,7 +53,9 @@ class Blocks:
     def are_mostly_new(self) -> bool:
         """Whether it costs less to open another conversation than to tell what has changed."""
         new = self.homeless + sum(block.lines for block in self.blocks if block.is_changed)
-        return new > MANY_LINES and 2 * new > self.homeless + sum(block.lines for block in self.blocks)
+        lines = self.homeless + sum(block.lines for block in self.blocks)
+        untold = new + BLOCK_LINES * len(self.cut)
+        return untold > MANY_LINES and 2 * untold > lines
 
     def line_of(self, number: int, line: int) -> int:
         """The line of the body that is line `line`, from 1, of a block."""

@@ -39,9 +39,9 @@ class Document:
         self.text = Text(text)
         self.verdicts = Verdicts(program, self.path, self.text, wishes)
         self.told: Told = None
-        # What was worked out, with the lines that it has by now, and whether that was of the text as it is.
+        # What was worked out, with the lines that it has by now, and whether the mistakes are of the text as it is.
         self.findings: list[Finding] = []
-        self.has_mistakes = self.has_all = False
+        self.has_mistakes = False
         # What was asked of the text as it is, by kinds.
         self.kept: dict[Any, Any] = {}
         self.job = 0
@@ -59,7 +59,7 @@ class Document:
                 end = {"line": len(self.text.lines), "character": 0}
                 self.note(self.text.replace({"line": 0, "character": 0}, end, it["text"]))
         self.version = version
-        self.has_mistakes = self.has_all = False
+        self.has_mistakes = False
         self.kept.clear()
 
     def note(self, change: Change) -> None:
@@ -104,7 +104,10 @@ class Document:
 
     def source(self) -> Source:
         """The text as a file has it."""
-        return Source(self.path, self.text.whole())
+        if "source" not in self.kept:
+            self.kept["source"] = Source(self.path, self.text.whole())
+        source: Source = self.kept["source"]
+        return source
 
     def range_of(self, finding: Finding) -> dict[str, Any]:
         """The range of a finding."""

@@ -132,6 +132,8 @@ class Endpoint:
         elif method in self.methods and (self.is_initialized or method == "exit"):
             try:
                 self.methods[method](params, None)
+            except Fault as fault:
+                print(f"tekhvumo: {method}: {fault.message}", file=sys.stderr)
             except SetupFault as trouble:
                 self.notify("window/showMessage", {"type": 1, "message": f"tekhvumo: {trouble}"})
             except Exception:

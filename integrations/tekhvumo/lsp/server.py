@@ -227,13 +227,17 @@ class Server:
         """A job on a document's text."""
         self.jobs += 1
         settings = document.verdicts.settings
-        return Job(self.jobs, kind, self.program, document.path, document.text.whole(), settings)
+        return Job(self.jobs, kind, self.program, document.path, document.source().data, settings)
 
     def judge_due(self) -> None:
         """Has the mistakes of the documents looked for whose time has come."""
         now = time.monotonic()
         for document in self.documents.values():
-            if document.due is not None and document.due <= now:
+            if document.due is None or document.due > now:
+                continue
+            if self.judge.is_soon_done(document.job):
+                document.due = now + SHORT_WAIT
+            else:
                 document.due = None
                 self.judge.leave(document.job)
                 job = self.job(document, "findings")
@@ -267,7 +271,6 @@ class Server:
             document.findings = [*warned, *done.value]
         else:
             document.findings = done.value
-            document.has_all = True
         document.has_mistakes = True
         self.publish(document)
         for number, params in document.waiting:

@@ -7,12 +7,15 @@ import queue
 import subprocess
 import sys
 import threading
+import time
 from collections import deque
 from pathlib import Path
 from typing import Callable
 
 from .work import Done, Job
 
+# In seconds; a process takes about as long to begin.
+PATIENCE = 0.5
 FOLDER = str(Path(__file__).resolve().parent.parent.parent)
 
 
@@ -64,6 +67,7 @@ class Worker:
         self.process: Process | None = None
         self.waiting: deque[Job] = deque()
         self.job: Job | None = None
+        self.begun = 0.0
 
     def add(self, job: Job) -> None:
         """A job for when the ones before it are done."""
@@ -74,12 +78,17 @@ class Worker:
         """Begins with the next job, if none is worked on."""
         if self.job is None and self.waiting:
             self.job = self.waiting.popleft()
+            self.begun = time.monotonic()
             self.get_ready().jobs.put(self.job)
 
     def get_ready(self) -> Process:
         """The process, which is begun if there is none."""
         self.process = self.process or Process(self.deliver)
         return self.process
+
+    def is_soon_done(self, number: int) -> bool:
+        """Whether a job is worked on, and not for long yet: to end it costs more than to wait for its end."""
+        return self.job is not None and self.job.number == number and time.monotonic() - self.begun < PATIENCE
 
     def leave(self, number: int) -> None:
         """Leaves a job undone."""
