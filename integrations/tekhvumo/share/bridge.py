@@ -127,6 +127,8 @@ class Bridge:
             if not line.endswith(b"\n") or not self.safely(lambda: self.answer(client, line)):
                 return
             await client.writer.drain()
+            # (who asks much at a time leaves others their turn)
+            await asyncio.sleep(0)
 
     def answer(self, client: Client, line: bytes) -> None:
         """Answers what a client asks."""

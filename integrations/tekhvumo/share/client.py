@@ -75,7 +75,8 @@ class Shared:
     @property
     def text(self) -> str:
         """The text here as a file has it."""
-        return "".join(f"{line}\n" for line in self.lines)
+        # (of two carriage returns at a line's end one is no part of it)
+        return "".join(f"{line}\r\n" if line.endswith("\r") else f"{line}\n" for line in self.lines)
 
     @property
     def is_synced(self) -> bool:
@@ -198,10 +199,9 @@ class Shared:
         for it in sent:
             if it.block.number is None:
                 self.added[number] = it.block
-            elif it.block.mine:
-                it.block.settle(number)
             else:
-                self.blocks.remove(it.block)
+                # (one that is cut stays until that is told: others may have added blocks behind it before)
+                it.block.settle(number)
             number += 1
 
     # ------------------------------------------------------------ what others did
@@ -317,6 +317,7 @@ class Shared:
                 time.sleep(RETRY)
                 continue
             if hello["reply"] == "housefull":
+                self.connection.close()
                 raise HouseFull(f"{self.path}: there are {hello['sessions']} editors already")
             return hello
 

@@ -1,7 +1,8 @@
 """Two texts made of one, brought together line by line."""
 from __future__ import annotations
 
-from typing import Iterator, NamedTuple, Sequence
+from collections import deque
+from typing import Iterable, Iterator, NamedTuple, Sequence
 
 Lines = Sequence[str]
 # Texts that differ in more lines than this are taken to differ from their first difference to their last.
@@ -128,11 +129,11 @@ def meet(one: Hunk, other: Hunk) -> bool:
 
 def regions(mine: Sequence[Hunk], theirs: Sequence[Hunk]) -> Iterator[tuple[list[Hunk], list[Hunk]]]:
     """The changes of both sides in the order of their places, those together that meet."""
-    rest = sorted([(hunk, side) for side, hunks in enumerate((mine, theirs)) for hunk in hunks])
+    rest = deque(sorted((hunk, side) for side, hunks in enumerate((mine, theirs)) for hunk in hunks))
     while rest:
-        group = [rest.pop(0)]
+        group = [rest.popleft()]
         while rest and any(meet(hunk, rest[0][0]) and side != rest[0][1] for hunk, side in group):
-            group.append(rest.pop(0))
+            group.append(rest.popleft())
         yield [it for it, side in group if side == 0], [it for it, side in group if side == 1]
 
 
@@ -159,15 +160,61 @@ def is_more(lines: Lines, others: Lines) -> bool:
     return sum(common_ends(lines, others)) == len(others)
 
 
-def both(base: Lines, mine: Lines, theirs: Lines, names: tuple[str, str]) -> tuple[list[str], bool]:
-    """What both sides have made of the same lines, and whether that is a conflict."""
-    if list(mine) == list(theirs):
-        return list(mine), False
-    if not base and is_more(mine, theirs):
-        return list(mine), False
-    if not base and is_more(theirs, mine):
-        return list(theirs), False
-    return conflict(mine, theirs, names), True
+def line_by_line(hunks: Sequence[Hunk]) -> Iterator[Hunk]:
+    """The changes with those parted that put as many lines into the place of some: each line is changed by itself."""
+    for hunk in hunks:
+        if hunk.end - hunk.first != hunk.until - hunk.begin:
+            yield hunk
+            continue
+        for at in range(hunk.end - hunk.first):
+            yield Hunk(hunk.first + at, hunk.first + at + 1, hunk.begin + at, hunk.begin + at + 1)
+
+
+class Region(NamedTuple):
+    """The lines of a base from `first` to `end`, and what each side has made of them, if they aren't as they were."""
+
+    first: int
+    end: int
+    mine: list[str] | None
+    theirs: list[str] | None
+
+    @property
+    def is_conflict(self) -> bool:
+        """Whether both sides are to be kept."""
+        if self.mine is None or self.theirs is None or self.mine == self.theirs:
+            return False
+        is_put_in = self.first == self.end and (is_more(self.mine, self.theirs) or is_more(self.theirs, self.mine))
+        return not is_put_in
+
+    def lines(self) -> list[str]:
+        """The lines where there is no conflict: where both put lines into a place, those that have the others in them."""
+        if self.mine is None or self.theirs is None:
+            return (self.theirs if self.mine is None else self.mine) or []
+        return max(self.mine, self.theirs, key=len)
+
+
+def changed_regions(base: Lines, mine: Lines, theirs: Lines) -> Iterator[Region]:
+    """Where one side has changed the base, or both."""
+    both = [list(line_by_line(differences(base, it))) for it in (mine, theirs)]
+    for one, other in regions(*both):
+        first, end = min(it.first for it in [*one, *other]), max(it.end for it in [*one, *other])
+        sides = [side_of(it, new, base, first, end) if it else None for it, new in ((one, mine), (other, theirs))]
+        yield Region(first, end, *sides)
+
+
+def joined(found: Iterable[Region]) -> Iterator[Region]:
+    """The regions with conflicts joined that follow one another."""
+    last: Region | None = None
+    for it in found:
+        if last and last.end == it.first and last.is_conflict and it.is_conflict:
+            mine, theirs = ([*(one or ()), *(other or ())] for one, other in ((last.mine, it.mine), (last.theirs, it.theirs)))
+            last = Region(last.first, it.end, mine, theirs)
+            continue
+        if last:
+            yield last
+        last = it
+    if last:
+        yield last
 
 
 def merged(base: Lines, mine: Lines, theirs: Lines, names: tuple[str, str] = ("mine", "theirs")) -> Merged:
@@ -178,15 +225,12 @@ def merged(base: Lines, mine: Lines, theirs: Lines, names: tuple[str, str] = ("m
     """
     lines: list[str] = []
     at = conflicts = 0
-    for one, other in regions(differences(base, mine), differences(base, theirs)):
-        first, end = min(it.first for it in [*one, *other]), max(it.end for it in [*one, *other])
-        sides = side_of(one, mine, base, first, end), side_of(other, theirs, base, first, end)
-        lines += base[at:first]
-        at = end
-        if one and other:
-            new, is_conflict = both(base[first:end], *sides, names)
-            conflicts += is_conflict
+    for it in joined(changed_regions(base, mine, theirs)):
+        lines += base[at : it.first]
+        at = it.end
+        if it.is_conflict:
+            conflicts += 1
+            lines += conflict(it.mine or (), it.theirs or (), names)
         else:
-            new = sides[0] if one else sides[1]
-        lines += new
+            lines += it.lines()
     return Merged([*lines, *base[at:]], conflicts)
