@@ -101,8 +101,11 @@ class WithBridge(Case):
         self.addCleanup(client.close)
         return client
 
-    def kept(self, bridge: Bridge) -> str:
-        """The text at the end of a bridge's journal, which check_main takes and gives the verdict of that text."""
+    def kept(self, bridge: Bridge, is_judged: bool = True) -> str:
+        """The text at the end of a bridge's journal, which check_main takes and gives the verdict of that text.
+
+        (Comments above the first instruction count as lines of the body there, and in the text as lines of the head.)
+        """
         data = Path(f"{bridge.path}.journal").read_bytes()
         client = self.raw(bridge)
         self.assertEqual("".join(f"{line}\n" for line in client.ask(ask="save")["lines"]).encode(), data)
@@ -112,7 +115,8 @@ class WithBridge(Case):
         ran = self.run_command("check_main", "replay", given=data)
         self.assertEqual(ran.returncode, 0, ran.stdout)
         told = self.run_command("check_main", "check", given=text).stdout
-        self.assertEqual(ran.stdout.partition(b"\n")[2], told)
+        if is_judged:
+            self.assertEqual(ran.stdout.partition(b"\n")[2], told)
         return text
 
     def assert_told(self, client: Shared) -> None:

@@ -45,6 +45,28 @@ class House(WithBridge):
         self.assertEqual((comes.hello["session"], comes.hello["blocks"][0]["stamp"]), (1, 1))
         self.assertEqual(stays.ask(ask="cut", block=0)["version"], 2)
 
+    def test_a_client_that_does_not_listen(self) -> None:
+        bridge = self.share(SOUND)
+        sleeps, works = self.raw(bridge), self.raw(bridge)
+        for count in range(60):
+            self.assertEqual(works.ask(ask="put", block=0, lines=[f"; {count}"])["reply"], "accepted")
+        heard: list[int] = []
+        while len(heard) < 60:
+            heard += [it["number"] for it in sleeps.read()["entries"]]
+        self.assertEqual(heard, list(range(1, 61)))
+
+    def test_the_journal_is_written_now_and_then(self) -> None:
+        self.words = ("--pause", "100")
+        bridge = self.share(SOUND)
+        hears, works = self.raw(bridge), self.raw(bridge)
+        begin = time.monotonic()
+        works.write(b"".join(b'{"ask":"put","block":0,"lines":["; %d"]}\n' % count for count in range(500)))
+        pushed = [hears.read()]
+        while pushed[-1]["version"] < 500:
+            pushed.append(hears.read())
+        self.assertLessEqual(len(pushed), 2 + (time.monotonic() - begin) / 0.1)
+        self.assertEqual(sum(len(it["entries"]) for it in pushed), 500)
+
     def test_what_is_asked_wrongly(self) -> None:
         bridge = self.share(SOUND)
         client = self.raw(bridge)

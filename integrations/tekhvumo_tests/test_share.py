@@ -316,6 +316,21 @@ class Restarts(WithBridge):
         client.sync()
         self.assertEqual(client.lines[2], "; a")
 
+    def test_many_comments_and_carriage_returns(self) -> None:
+        bridge = self.share(SOUND.replace("\n", "\r\n"))
+        client = self.client(bridge)
+        client.edit(2, 2, [f"; {number}" for number in range(10_000)])
+        client.edit(len(client.lines), len(client.lines), ["; end\r"])
+        client.sync()
+        for _ in range(2):
+            bridge.stop(signal.SIGKILL)
+            bridge = self.share()
+            client.edit(3, 3, ["; more"])
+            client.sync()
+            self.assertEqual(self.kept(bridge, False), client.text)
+        self.assertEqual(bridge.stop(), (0, ""))
+        self.assertEqual(bridge.path.read_bytes(), client.text.replace("\r", "").replace("\n", "\r\n").encode()[:-2] + b"\r\r\n")
+
     def test_a_journal_that_is_none(self) -> None:
         self.write("scarf.k.journal", "journal 1\nprofile 0 1 8 16 0\n")
         status, errors = self.share(SOUND).stop()

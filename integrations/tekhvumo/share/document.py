@@ -70,20 +70,21 @@ class Document:
 
     def going_on(self, old: Journal) -> list[bytes]:
         """The lines at the journal's end; the file gets them as well, unless it was changed by others."""
-        texts = [[line for part in old.text(version) for line in part] for version in (None, 0, 1)]
+        lines = [line for part in old.text() for line in part]
         try:
             with open(self.path, "rb") as file:
-                found = journal.file_lines(file.read())
+                data = file.read()
         except FileNotFoundError:
-            found = texts[0]
-        if found not in texts:
-            raise SetupFault(
-                f"{self.path} is neither the text with which {self.journal_path} begins nor that with which it ends:"
-                " it was changed while nobody shared it. Move one of them away"
-            )
-        if found != texts[0]:
-            self.write_file(texts[0])
-        return texts[0]
+            data = journal.file_text(lines)
+        found = journal.file_lines(data)
+        if found != lines:
+            if not any(found == [line for part in old.text(version) for line in part] for version in old.beginnings):
+                raise SetupFault(
+                    f"{self.path} is neither the text with which {self.journal_path} begins nor that with which it ends:"
+                    " it was changed while nobody shared it. Move one of them away"
+                )
+            journal.write(self.path, journal.file_text(lines, Source(self.path, data).line_end.encode()))
+        return lines
 
     def check_verdict(self, data: bytes, old: Journal) -> None:
         """Makes sure that check_main takes the journal, and comes to the verdict that the conversation begins with."""
@@ -189,10 +190,6 @@ class Document:
         self.served.close()
         if old:
             self.going_on(old[1])
-
-    def write_file(self, lines: Sequence[bytes]) -> None:
-        """Writes the file."""
-        journal.write(self.path, journal.file_text(lines))
 
 
 def spelled(brief: Brief) -> str:

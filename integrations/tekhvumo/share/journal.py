@@ -43,6 +43,12 @@ class Journal(NamedTuple):
             carry_out(entry, head, blocks, order)
         return head, [line for block in order for line in blocks[block]]
 
+    @property
+    def beginnings(self) -> range:
+        """The versions with which a bridge may have begun: it first adds the comments above the first instruction."""
+        is_added = (entry.words[2:4] == [b"add", b"start"] for entry in self.entries)
+        return range(1 + next((at for at, it in enumerate(is_added) if not it), len(self.entries)))
+
 
 def read(rest: Iterator[bytes]) -> Journal:
     """Reads the lines of a saved text."""
@@ -122,10 +128,10 @@ def carry_out(entry: Entry, head: Lines, blocks: dict[int, Lines], order: list[i
 # ---------------------------------------------------------------- files
 
 
-def file_text(lines: Iterable[bytes]) -> bytes:
-    """Lines as a file has them."""
+def file_text(lines: Iterable[bytes], feed: bytes = b"\n") -> bytes:
+    """Lines as a file has them, each with what ends it."""
     # (of two carriage returns at a line's end one is no part of it)
-    return b"".join(line + (b"\r\n" if line.endswith(b"\r") else b"\n") for line in lines)
+    return b"".join(line + (b"\r\n" if line.endswith(b"\r") else feed) for line in lines)
 
 
 def file_lines(data: bytes) -> Lines:
