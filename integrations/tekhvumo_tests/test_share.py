@@ -110,7 +110,9 @@ class Designers(WithBridge):
         self.assertGreater(sum(it.shared.conflicts for it in designers), 5)
         text = self.settled(*designers)
         self.assertEqual(text, self.kept(bridge))
-        self.assert_told(max((it.shared for it in designers), key=lambda it: it.told_version))
+        last = max((it.shared for it in designers), key=lambda it: it.told_version)
+        self.assertEqual(last.told_version, last.version)
+        self.assert_told(last)
         self.assertEqual(bridge.stop(), (0, ""))
         self.assertEqual(bridge.path.read_text(), text)
 
