@@ -358,3 +358,9 @@ class Restarts(WithBridge):
             client.sync()
         self.assertEqual(client.lines[2], "; a")
         self.assertFalse(os.path.exists(bridge.socket))
+        again = self.share()
+        client.sync()
+        self.assertEqual(self.kept(again, False), client.text)
+        client.close()
+        with self.assertRaises(ShareGone):
+            client.sync()

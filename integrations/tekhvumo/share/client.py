@@ -9,10 +9,10 @@ from typing import Any, Callable, Mapping, Sequence
 
 from ..serve import BlockGone, GroupRefused, Refused, Stale
 from ..serve.errors import refusal_of
-from ..serve.replies import Brief
+from ..serve.replies import HEAD, Brief
 from .blocks import Block, Blocks, Sent
 from .merge import Change, changes, conflict, merged
-from .messages import line_of, message_of, message_of_edits
+from .messages import PROTOCOL, line_of, message_of, message_of_edits
 
 PORTION = 1 << 16
 # How long one waits between two trials to connect, in seconds.
@@ -57,6 +57,7 @@ class Shared:
         self.brief: Brief | None = None
         self.told_version = 0
         self.session = self.version = 0
+        self.is_closed = False
         self.conflicts = 0
         self.begin(self.connected())
 
@@ -115,6 +116,7 @@ class Shared:
 
     def close(self) -> None:
         """Leaves the document. What is untold stays untold."""
+        self.is_closed = True
         self.connection.close()
 
     def __enter__(self) -> Shared:
@@ -127,6 +129,8 @@ class Shared:
 
     def persistently(self, work: Callable[[], None]) -> list[Change]:
         """Does a piece of work, again where the bridge went away meanwhile, and gives the changes of the text."""
+        if self.is_closed:
+            raise ShareGone("the document was left")
         while True:
             try:
                 work()
@@ -179,7 +183,7 @@ class Shared:
             while self.version < refused.at:
                 self.hear(self.patience)
                 self.take_in()
-        elif isinstance(refused, Stale) and refused.block == "head":
+        elif isinstance(refused, Stale) and refused.block == HEAD:
             self.look_head()
         elif isinstance(refused, Stale):
             block = self.blocks.find(int(refused.block))
@@ -213,20 +217,20 @@ class Shared:
                 if entry["number"] <= self.version:
                     continue
                 self.version = entry["number"]
-                if entry["edit"] == "head":
-                    self.look_head()
-                elif entry["edit"] == "cut":
+                if entry["edit"] == "cut":
                     self.lose(entry["block"], entry["session"])
                 elif entry["number"] in self.added:
                     self.place(self.added.pop(entry["number"]), entry)
                 else:
                     if entry["edit"] == "add":
                         self.insert(Block(entry["block"], -1, ()), entry["anchor"])
-                    self.wanted[entry["block"]] = entry["number"]
+                    self.wanted[entry.get("block", HEAD)] = entry["number"]
         for number, stamp in list(self.wanted.items()):
-            block = self.blocks.find(number)
+            block = self.blocks.find(number) if isinstance(number, int) else None
+            if number == HEAD:
+                self.look_head()
             # (of its own edits, and of what it looked at since, the text is known)
-            if block and block.stamp < stamp:
+            elif block and block.stamp < stamp:
                 self.look(block)
             del self.wanted[number]
 
@@ -285,7 +289,7 @@ class Shared:
 
     def look_head(self) -> None:
         """Looks at the names of carriers."""
-        [line] = self.ask({"ask": "look", "block": "head"})["lines"]
+        [line] = self.ask({"ask": "look", "block": HEAD})["lines"]
         at = next(at for at, it in enumerate(self.head) if it.startswith(";;Carriers:"))
         if self.head[at] != line:
             self.told.append(Change(at, at + 1, (line,)))
@@ -306,7 +310,7 @@ class Shared:
             self.ahead = b""
             self.pushed: deque[Mapping[str, Any]] = deque()
             self.added: dict[int, Block] = {}
-            self.wanted: dict[int, int] = {}
+            self.wanted: dict[int | str, int] = {}
             try:
                 self.connection.connect(self.path)
                 hello = message_of(self.line())
@@ -319,6 +323,8 @@ class Shared:
             if hello["reply"] == "housefull":
                 self.connection.close()
                 raise HouseFull(f"{self.path}: there are {hello['sessions']} editors already")
+            if hello["protocol"] != PROTOCOL:
+                raise ShareError(f"{self.path}: the bridge speaks another protocol")
             return hello
 
     def begin(self, hello: Mapping[str, Any]) -> None:
@@ -352,6 +358,8 @@ class Shared:
 
     def hear(self, seconds: float = 0.0) -> None:
         """Hears what is pushed: what has come, or the first that comes within a time."""
+        if self.connection.fileno() < 0:
+            raise Lost
         while b"\n" in self.ahead or select.select([self.connection], [], [], seconds)[0]:
             self.pushed.append(message_of(self.line()))
             seconds = 0.0
