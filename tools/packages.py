@@ -108,7 +108,7 @@ def write_npm(folder: Path, said: dict[str, Any], program: bytes) -> Path:
         "description": said["description"],
         "main": "index.js",
         "bin": {"check_main": "check_main.js"},
-        "files": ["check_main", "check_main.js", "index.js", "README.md"],
+        "files": ["check_main", "check_main.js", "index.js", "serve.js", "README.md"],
         "os": ["linux"],
         "cpu": ["x64"],
         "libc": ["glibc"],

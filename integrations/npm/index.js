@@ -1,4 +1,4 @@
-// The verdict on a knitout text, as a program in JavaScript asks for it.
+// The verdict on a knitout text, as a program in JavaScript asks for it; and conversations, by serve.js.
 "use strict";
 
 const { spawnSync } = require("node:child_process");
@@ -29,4 +29,4 @@ function check(text, words = []) {
   return JSON.parse(ran.stdout);
 }
 
-module.exports = { check };
+module.exports = { check, ...require("./serve.js") };

@@ -3,6 +3,8 @@
     tekhvumo [check] [options] FILE..         findings, as FILE:LINE:COLUMN: error: RULE: what is wrong; its cure
     tekhvumo fmt [--check] [options] FILE..   the canonical text, in place
     tekhvumo draw [options] FILE > FILE.svg   a picture of the loops
+    tekhvumo lsp [options]                    a language server, over standard input and output
+    tekhvumo share [options] FILE             a bridge for several editors on one file, over a Unix socket beside it
 
 FILE is - for standard input, or a folder, which stands for the knitout files in it. Lines count from 1, and so do
 columns, which count characters.
@@ -142,7 +144,7 @@ def check_parser() -> argparse.ArgumentParser:
         "check",
         "Says which rules a program breaks, where, and what cures it. Status: 0 sound, 1 a rule broken, else refused.",
     )
-    parser.epilog = "Other commands: tekhvumo fmt --help, tekhvumo draw --help."
+    parser.epilog = "Other commands: tekhvumo fmt, draw, lsp, share; each has a --help."
     parser.add_argument(
         "--warn", action="store_true", help="also say what a knitter calls a mistake: " + ", ".join(WARNINGS)
     )
@@ -258,7 +260,60 @@ def draw_command(words: Sequence[str]) -> int:
     return report.status
 
 
-COMMANDS = {"check": check_command, "fmt": fmt_command, "draw": draw_command}
+def lsp_command(words: Sequence[str]) -> int:
+    """Serves an editor."""
+    from .lsp import serve
+
+    parser = common_parser("lsp", "A language server for knitout programs, over standard input and output.")
+    parser.add_argument("--stdio", action="store_true", help="as it does in any case")
+    options = parser.parse_args(words)
+    heard = open(sys.stdin.fileno(), "rb", closefd=False)
+    status = serve(heard, sys.stdout.buffer, find_program(options.program), wishes_of(options))
+    # (a thread still waits for the next message, and Python would have to take its stream away from it)
+    sys.stdout.flush()
+    os._exit(status)
+
+
+def share_command(words: Sequence[str]) -> int:
+    """Shares a file among several editors."""
+    from .refusals import refusal
+    from .serve import OpeningRefused
+    from .share.bridge import share
+    from .share.document import Document
+
+    parser = common_parser("share", "Lets several editors change one file, over a Unix socket, until a signal ends it.")
+    parser.add_argument("file", metavar="FILE", help="a knitout file; FILE.journal tells what they did")
+    parser.add_argument("--socket", metavar="PATH", help="where the socket is (FILE.socket)")
+    parser.add_argument(
+        "--block", type=number("block", 1, 4096), default=64, metavar="N", help="lines in a block at the beginning (64)"
+    )
+    parser.add_argument(
+        "--pause", type=number("pause", 0, 60_000), default=50, metavar="MS", help="between two writings of the journal (50)"
+    )
+    options = parser.parse_intermixed_args(words)
+    work = Check(find_program(options.program), wishes_of(options), options.name)
+    try:
+        # (a file that isn't there may have a journal all the same)
+        source = work.source(options.file) if os.path.exists(options.file) else Source(options.file, b"")
+        limits = work.settings(source, options.file).limits
+        socket = options.socket or f"{options.file}.socket"
+        share(lambda: Document(options.file, work.program, limits, options.block), socket, options.pause / 1000)
+        return Status.SOUND
+    except OpeningRefused as trouble:
+        report = Report([refusal(Program(work.program, limits), source, trouble.status, trouble.words)], trouble.status)
+    except OSError as trouble:
+        report = unreadable_file(options.file, trouble)
+    print(as_text(report.findings), end="", file=sys.stderr)
+    return report.status
+
+
+COMMANDS = {
+    "check": check_command,
+    "fmt": fmt_command,
+    "draw": draw_command,
+    "lsp": lsp_command,
+    "share": share_command,
+}
 
 
 def main(words: Sequence[str] | None = None) -> int:

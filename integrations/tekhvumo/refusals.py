@@ -106,8 +106,8 @@ TOO_MANY = {
 }
 
 
-def refusal(program: Program, source: Source, status: int, words: str) -> Finding:
-    """The finding of a text that check_main refuses, from its own words."""
+def refused(source: Source, status: int, words: str) -> Finding:
+    """The finding of a text that check_main refuses, from its own words, without cures."""
     found = re.fullmatch(r"bad input: (?:head )?(?:line ([0-9]+) )?([A-Za-z0-9]+)", words)
     if found and found[2] in REFUSED:
         cause = found[2]
@@ -115,14 +115,24 @@ def refusal(program: Program, source: Source, status: int, words: str) -> Findin
         if cause == "NoCarriers":
             number = nearly_carriers(source) or 1
         token = place_of_refusal(source, cause, number)
-        cures = tuple(cure for cure in cures_of(source, cause, number, token) if is_taken(program, source, cure, cause))
         message = REFUSED[cause](source, token)
-        return Finding(source.name, number, token.column, token.end, "error", cause, message, cures)
+        return Finding(source.name, number, token.column, token.end, "error", cause, message)
     if status == Status.TOO_LARGE:
         return fault(source.name, "TooLarge", TOO_MANY.get(words, shown(words)))
     if status == Status.NO_MEMORY:
         return fault(source.name, "NoMemory", "memory ran out in check_main")
     return fault(source.name, "NoAnswer", f"check_main ended with status {status}: {shown(words) or 'no words'}")
+
+
+def refusal(program: Program, source: Source, status: int, words: str) -> Finding:
+    """The finding of a text that check_main refuses, with the cures that were tried."""
+    finding = refused(source, status, words)
+    cause, number = finding.rule, finding.line
+    if cause not in REFUSED:
+        return finding
+    token = place_of_refusal(source, cause, number)
+    cures = tuple(cure for cure in cures_of(source, cause, number, token) if is_taken(program, source, cure, cause))
+    return finding._replace(cures=cures)
 
 
 def is_taken(program: Program, source: Source, cure: Cure, cause: str) -> bool:

@@ -6,6 +6,7 @@ import csv
 import hashlib
 import json
 import os
+import re
 import shutil
 import subprocess
 import sys
@@ -144,3 +145,13 @@ class Npm(Case):
         )
         ran = self.run_alone(shutil.which("node"), "-e", script, given=SOUND)
         self.assertEqual(ran.stdout.decode(), "1 CarrierIsOut\n3 bad input: head BadMagic\n")
+
+    @unittest.skipUnless(shutil.which("node"), "Node isn't there")
+    def test_the_page_of_use(self) -> None:
+        [script] = re.findall(r"^```js\n(.*?)^```$", (TOP / "docs" / "USING.md").read_text(), re.M | re.S)
+        (self.room / "node_modules").mkdir()
+        (self.room / "node_modules" / "tekhvumo").symlink_to(self.written[1])
+        (self.room / "examples").symlink_to(TOP / "examples")
+        (self.room / "page.js").write_text(script)
+        ran = self.run_alone(shutil.which("node"), "page.js")
+        self.assertEqual(ran.stdout.decode().splitlines(), re.findall(r"console.log.* // (.*)", script), ran.stderr)
