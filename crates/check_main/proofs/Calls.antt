@@ -1,5 +1,5 @@
 -- What is due for the words and the source, from what the parts of the program say.
-use Rattle.std.proofs.Common.{◌≡◌, ℕ, [], List, Err, Ok, arith, false, refl, subst, sym, true}
+use Rattle.std.proofs.Common.{◌≡◌, ℕ, [], List, Err, Ok, arith, false, refl, subst, sym}
 use Rattle.std.specs.Prelude.{IfOk, OnErr, Result}
 use Rattle.std.proofs.KnownBytes.{Consumes-nil}
 use Rattle.std.proofs.lemmas.Result.{IfOk-weaker, on_err_weaker}
@@ -11,8 +11,7 @@ use Rattle.verdict_report.specs.Refusals.{refusal_text}
 use Rattle.input_answers.specs.declared.ending.Answer.{Answer}
 use Rattle.input_answers.specs.declared.outcome.Status.{Status}
 use Rattle.input_answers.specs.Answers.{Refuses}
-use Rattle.command_words.specs.declared.command.Command.TheVariants.{Check, Groups, Live, Make, Passes, Replay, Save, Tally, Text}
-use Rattle.input_answers.specs.Asked.{Ask, has_sessions, reads_input}
+use Rattle.input_answers.specs.Asked.{Ask, reads_input}
 use Rattle.input_answers.proofs.Asks.{asked-command, asked-lawful}
 use Rattle.check_main.specs.Calls.{HasReadFor, IsCalled, IsDueFor}
 use Rattle.input_answers.specs.Played.{Played, nothing_played, played_by}

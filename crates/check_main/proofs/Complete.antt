@@ -281,6 +281,6 @@ pub ran-well : (words : List (List ℕ)) (command : Command) (chosen : Chosen) (
 ran-well words command chosen input source sink played result (top.written text called took calm) free = inl (due_done words command chosen input source sink played text result free called)
 ran-well words command chosen input source sink played result (top.cut_short text status called is rose front) free = absurd (free.no_fault rose)
 ran-well words command chosen input source sink played result (top.stopped is none keeps few) free = inr is
-ran-well words command chosen input source sink played result (top.conversed json limits pieces ask none served cause) free =
+ran-well words command chosen input source sink played result (top.conversed json limits pieces ask none served) free =
     let same = asked-command words command (Serve json) chosen limits free.asked ask in
     inl (done_for command (Serve json) chosen input result (sym same) tt)

@@ -22,7 +22,7 @@ use Rattle.input_answers.specs.DueReplay.{DueReplay}
 use Rattle.input_answers.specs.DueTally.{DueTally}
 use Rattle.input_answers.specs.LiveText.{output_of}
 use Rattle.input_answers.specs.Played.{Played, nothing_played}
-use Rattle.live_talk.specs.Served.{HasServeCause, Served}
+use Rattle.live_talk.specs.Served.{Served}
 
 -- the source before and after a run: the bytes that it has left, where it tells them, and how many of its reads have failed
 pub record SourceUse : Type 0 where
@@ -103,6 +103,6 @@ pub data Ran (words : List (List ℕ)) (source : SourceUse) (sink : SinkUse) (pl
       → Rose sink.faults_before sink.faults_after → TookFront sink.taken_before sink.taken_after text → Ran words source sink played result
   -- memory ran out, the sink took nothing, and no more was read than ever is
   stopped : result ≡ NoMemory → played ≡ nothing_played → Keeps sink.taken_before sink.taken_after → HasReadWithin words source → Ran words source sink played result
-  -- a conversation was answered: there are pieces that were heard and said in step, with this status
+  -- a conversation was answered: there are pieces that were heard and said in step, with this status; which, and which calls failed, the port told alone
   conversed : (json : Bool) (chosen : Chosen) (pieces : List Piece) → Ask words (Serve json) chosen → played ≡ nothing_played → Served json chosen pieces result
-      → HasServeCause (source.faults_before + sink.faults_before) (source.faults_after + sink.faults_after) result → Ran words source sink played result
+      → Ran words source sink played result

@@ -2,7 +2,7 @@ use Rattle.std.proofs.Common.{Bool, subst, sym}
 use Rattle.command_words.specs.declared.command.Command.{Command}
 use Rattle.input_answers.specs.Asked.{Ask, as_json}
 use Rattle.input_answers.specs.declared.outcome.Status.{Status}
-use Rattle.live_talk.specs.Served.{HasServeCause, Served}
+use Rattle.live_talk.specs.Served.{Served}
 use Rattle.check_main.proofs.Calls.{ended-for}
 use Rattle.check_main.specs.Top.{conversed}
 use Rattle.check_main.proofs.top.carry_out.Goals as goal
@@ -17,4 +17,3 @@ returns-in-Serve g c = λ words ask.
     let s = c.serve-status.ensures.served in
     conversed _ c.args.plan.now.chosen s.0 (subst (λ (x : Command). Ask words x c.args.plan.now.chosen) c.in-Serve.is ask) c.without_sessions.ensures.played
     (subst (λ (p : Bool × Status). Served p.0 c.args.plan.now.chosen s.0 p.1) (λ i. (as_json (c.in-Serve.is i), sym c.without_sessions.ensures.status i)) s.2)
-    (subst (HasServeCause _ _) (sym c.without_sessions.ensures.status) c.serve-status.ensures.cause)
