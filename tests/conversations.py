@@ -11,7 +11,7 @@ from types import TracebackType
 from program import Answer, answer_of, find_program
 
 # A reply that is due comes within so many seconds, or never.
-PATIENCE = 20.0
+PATIENCE = 60.0
 OPENING = b"serve 1 lines 3\n|;!knitout-2\n|;;Carriers: 1 2\n|in 1\n"
 OPENED = b"opened version 0 blocks 1 sound lines 1 made 0 held 0 rack 0\n\n"
 VERDICT = b"sound lines 1 made 0 held 0 rack 0\nin: 1\nhook:\n"

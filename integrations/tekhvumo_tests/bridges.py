@@ -42,8 +42,8 @@ class Bridge:
         if self.child.poll() is None:
             self.child.send_signal(number)
         if not self.child.stdout.closed:
-            self.errors = self.child.communicate(timeout=20)[1].decode()
-        return self.child.wait(timeout=20), self.errors
+            self.errors = self.child.communicate(timeout=60)[1].decode()
+        return self.child.wait(timeout=60), self.errors
 
 
 class Raw:
@@ -51,7 +51,7 @@ class Raw:
 
     def __init__(self, path: str) -> None:
         self.connection = socket.socket(socket.AF_UNIX)
-        self.connection.settimeout(20)
+        self.connection.settimeout(60)
         self.connection.connect(path)
         self.stream = self.connection.makefile("rwb")
         self.hello = self.read()

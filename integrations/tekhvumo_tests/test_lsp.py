@@ -268,12 +268,12 @@ class Protocol(WithServer):
     def test_an_end_that_was_not_announced(self) -> None:
         self.editor.start()
         self.editor.notify("exit")
-        self.assertEqual(self.editor.child.wait(timeout=20), 1)
+        self.assertEqual(self.editor.child.wait(timeout=60), 1)
 
     def test_an_editor_that_is_gone(self) -> None:
         self.opened(SOUND)
         self.editor.child.stdin.close()
-        self.assertEqual(self.editor.child.wait(timeout=20), 1)
+        self.assertEqual(self.editor.child.wait(timeout=60), 1)
 
     def test_what_is_unknown(self) -> None:
         self.opened(SOUND)
