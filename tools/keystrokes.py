@@ -12,6 +12,7 @@ from __future__ import annotations
 import os
 import random
 import sys
+import tempfile
 import time
 from pathlib import Path
 from statistics import median
@@ -24,7 +25,7 @@ from tekhvumo.program import find_program  # noqa: E402
 from tekhvumo_tests.editor import Editor  # noqa: E402
 
 KEYS, PAUSES, ASKED = 200, 10, 20
-URI = "file:///tmp/keystrokes.k"
+URI = "untitled:keystrokes.k"
 WIDTH = 20
 
 
@@ -103,7 +104,7 @@ class Typist(Editor):
 
 def measure(lines: list[str], what: str) -> None:
     """Tells the times over a program."""
-    editor = Typist({**os.environ, "TEKHVUMO_PROGRAM": os.path.abspath(find_program())}, "/tmp")
+    editor = Typist({**os.environ, "TEKHVUMO_PROGRAM": os.path.abspath(find_program())}, tempfile.gettempdir())
     editor.start()
     editor.lines = lines
     given = random.Random(len(lines))
