@@ -149,8 +149,9 @@ def leading_comments(lines: Sequence[bytes]) -> int:
 
 
 def write(path: str, data: bytes) -> None:
-    """Puts a file in the place of another: whatever happens, one of them is there whole."""
-    handle, made = tempfile.mkstemp(prefix=".tekhvumo-", dir=os.path.dirname(path) or ".")
+    """Puts a file in the place of another: whatever happens, one of them is there whole, and the new one from when this is done."""
+    folder = os.path.dirname(path) or "."
+    handle, made = tempfile.mkstemp(prefix=".tekhvumo-", dir=folder)
     try:
         with os.fdopen(handle, "wb") as file:
             file.write(data)
@@ -161,6 +162,12 @@ def write(path: str, data: bytes) -> None:
     except BaseException:
         os.unlink(made)
         raise
+    # (the file's name is on the disk when its folder is)
+    opened = os.open(folder, os.O_RDONLY)
+    try:
+        os.fsync(opened)
+    finally:
+        os.close(opened)
 
 
 def mode_of(path: str) -> int:
