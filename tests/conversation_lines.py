@@ -11,6 +11,8 @@ from test_headers import Command
 
 LARGEST = 4_294_967_295
 LINE_LIMIT = 4_096
+# So long may a line of a saved text be.
+SAVED_LINE_LIMIT = 8_192
 TEXT_LIMIT = 4_096
 EDITS_LIMIT = 64
 
@@ -116,9 +118,9 @@ def names_in(text: str) -> str | None:
     return " ".join([";;Carriers:", *names])
 
 
-def fault_of(line: bytes) -> str | None:
+def fault_of(line: bytes, limit: int = LINE_LIMIT) -> str | None:
     """Why a line can't be read."""
-    if len(line) > LINE_LIMIT:
+    if len(line) > limit:
         return "LineLong"
     try:
         line.decode()
@@ -263,8 +265,11 @@ def lines_of(given: bytes) -> list[bytes]:
 
 
 def opening_count(lines: list[bytes]) -> int:
-    """How many lines an opening has that is good, those among them that are skipped."""
-    texts = int(lines[0].split()[-1])
+    """How many lines an opening has that is good, those among them that are skipped. Of a saved text none is."""
+    _, _, kind, count = lines[0].split()
+    if kind == b"journal":
+        return 1 + int(count)
+    texts = int(count)
     at = 1
     while texts:
         texts -= lines[at].startswith(b"|")

@@ -31,10 +31,13 @@ def spelled_blocks(document: Document) -> Iterator[str]:
 
 
 class Model:
-    """A conversation behind its opening. `reply` tells what is said to an order."""
+    """A conversation behind its opening, the small text or the saved text of an earlier one. `reply` tells what is said to an order."""
 
-    def __init__(self) -> None:
+    def __init__(self, earlier: Model | None = None) -> None:
         self.run = Run(SESSIONS)
+        if earlier:
+            # (the sessions begin anew: they know the opening, and none may undo what was done before)
+            self.run.documents, self.run.entries = list(earlier.run.documents), list(earlier.run.entries)
         self.numbers: Counter[int] = Counter()
 
     @property
@@ -47,7 +50,7 @@ class Model:
 
     def opened(self) -> str:
         verdict = verdict_on(self.document.text()).split("\n")[0]
-        return f"opened version 0 blocks {len(self.document.blocks)} {verdict}\n{broken_place(self.document)}"
+        return f"opened version {self.version} blocks {len(self.document.blocks)} {verdict}\n{broken_place(self.document)}"
 
     def final(self) -> str:
         return f"final version {self.version}\n{verdict_on(self.document.text())}{broken_place(self.document)}"

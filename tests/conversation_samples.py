@@ -3,6 +3,8 @@ from __future__ import annotations
 
 from typing import NamedTuple
 
+from saved_texts import SAVED
+
 
 class Sample(NamedTuple):
     """A conversation: the options, what is asked, what is said, and the status."""
@@ -345,6 +347,32 @@ hook:
 """,
 )
 
+# A conversation that goes on from a saved text, whose limits hold. Its sessions know the opening, and undo what is done from now on.
+A_SAVED_TEXT = Sample(
+    ("--high=0", "--block=1"),
+    f"serve 1 journal 16\n{SAVED.decode()}undo\nput 0 lines 0\nlook 0\nput 0 lines 0\nundo\n",
+    """\
+opened version 2 blocks 1 sound lines 1 made 0 held 0 rack 0
+
+session 0 1 noundo
+
+session 0 2 stale version 2 block 0 seen 0 now 2
+
+session 0 3 shown version 2 block 0 stamp 2 first 3 lines 1
+|in 1
+
+session 0 4 accepted version 3 block 0 sound lines 0 made 0 held 0 rack 0
+
+session 0 5 accepted version 4 block 0 sound lines 1 made 0 held 0 rack 0
+
+final version 4
+sound lines 1 made 0 held 0 rack 0
+in: 1
+hook:
+
+""",
+)
+
 SAMPLES = {
     "an_edit": AN_EDIT,
     "a_broken_line": A_BROKEN_LINE,
@@ -356,4 +384,5 @@ SAMPLES = {
     "no_conversation": NO_CONVERSATION,
     "no_opening": NO_OPENING,
     "a_long_text": A_LONG_TEXT,
+    "a_saved_text": A_SAVED_TEXT,
 }

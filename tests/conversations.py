@@ -8,6 +8,7 @@ import time
 from collections.abc import Iterable
 from types import TracebackType
 
+from conversation_lines import lines_of
 from program import Answer, answer_of, find_program
 
 # A reply that is due comes within so many seconds, or never.
@@ -26,6 +27,11 @@ def barred(lines: Iterable[str]) -> bytes:
 def opening_of(lines: list[str]) -> bytes:
     """The opening of a conversation over this text."""
     return b"serve 1 lines %d\n" % len(lines) + barred(lines)
+
+
+def resumed(saved: bytes) -> bytes:
+    """The opening of a conversation that goes on from a saved text."""
+    return b"serve 1 journal %d\n" % len(lines_of(saved)) + saved
 
 
 def put(block: int | str, lines: list[str], session: int = 0) -> bytes:

@@ -22,6 +22,7 @@ import tempfile
 from pathlib import Path
 
 from conversation_lines import lines_of, orders_by_line
+from conversation_samples import SAMPLES
 from conversations import replies_in, without_frame
 from program import EXAMPLES, TOP, Status, find_program
 from samples import TWO_PUTS
@@ -86,6 +87,7 @@ RUNS = {
     "tally": (["tally", "0", "1"], SAVED),
     "serve": (["serve", "--block", "4"], example("two-editors.serve")),
     "json": (["serve", "--block", "4", "--json"], example("two-editors.serve")),
+    "resumed": (["serve"], SAMPLES["a_saved_text"].given.encode()),
 }
 
 

@@ -26,9 +26,8 @@ WORDS = """accepted shown loop verdict stale gone noblock unseen group refused n
 opened final badinput""".split()
 
 
-def due(given: bytes) -> list[str]:
-    """All replies that are due to a conversation over the small text."""
-    model = Model()
+def due(given: bytes, model: Model) -> list[str]:
+    """All replies that are due to a conversation, which the model follows to its end."""
     _, orders = orders_by_line(given)
     return [model.opened(), *[model.reply(order) for line in orders for order in line], model.final()]
 
@@ -43,7 +42,7 @@ class Judged(unittest.TestCase):
         found: set[str] = set()
         for seed in range(CONVERSATIONS):
             given = some_conversation(seed, PARTS)
-            replies = due(given)
+            replies = due(given, Model())
             found |= {word_of(reply) for reply in replies}
             with self.subTest(seed=seed):
                 as_text = "".join(f"{reply}\n" for reply in replies)

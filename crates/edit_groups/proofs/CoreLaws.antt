@@ -20,7 +20,7 @@ use Rattle.turn_book.specs.Core.{IsCore}
 -- a step's chunk is the session's
 chunk_session : (n : ℕ) (edits : List Edit) (c : Chunk) → chunk_of n edits ≡ Some c → c.session ≡ n
 chunk_session n [] c is = absurd (cc)
-chunk_session n (e ∷ es) c is = let same : record { session = n; edits = e ∷ es } ≡ c = cc in ap (λ (k : Chunk). k.session) (sym same)
+chunk_session n (e ∷ es) c is = let same : record { session = n; edits = e ∷ es; earlier = false } ≡ c = cc in ap (λ (k : Chunk). k.session) (sym same)
 
 chunk_edits : (n : ℕ) (edits : List Edit) (c : Chunk) → chunk_of n edits ≡ Some c → steps_added edits ≡ 1
 chunk_edits n [] c is = absurd (cc)

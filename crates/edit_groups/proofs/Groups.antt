@@ -1,5 +1,5 @@
 -- A group, done or refused.
-use Rattle.std.proofs.Common.{◌≡◌, inl, inr, ⊎_elim, ℕ, ◌+◌, ◌<◌, List, [], ◌∷◌, ◌++◌, length, map, Option, Some, None, Result, IfSome, sym, ap, ◌∙◌, refl, subst, append-nil, length-append, arith}
+use Rattle.std.proofs.Common.{false, ◌≡◌, inl, inr, ⊎_elim, ℕ, ◌+◌, ◌<◌, List, [], ◌∷◌, ◌++◌, length, map, Option, Some, None, Result, IfSome, sym, ap, ◌∙◌, refl, subst, append-nil, length-append, arith}
 use Rattle.carriage_model.specs.declared.verdict.Brief.{Brief}
 use Rattle.edit_journal.specs.declared.edit.Edit.{Edit}
 use Rattle.edit_journal.specs.declared.edit.Entry.{Entry}
@@ -81,6 +81,6 @@ module _ (o : Opening) (chunks : List Chunk) (session : ℕ) (journal : List Ent
         ))
         t
       where
-        whole : (es : List Edit) → 0 < length es → listed (chunk_of session es) ≡ record { session = session; edits = es } ∷ []
+        whole : (es : List Edit) → 0 < length es → listed (chunk_of session es) ≡ record { session = session; edits = es; earlier = false } ∷ []
         whole [] none = absurd (omega (arith, none))
         whole (e ∷ es) some = refl

@@ -52,8 +52,8 @@ puts_edit number (edit.Head seen names) = refl
 
 puts_step : (n : ℕ) (xs : List Chunk) (edits : List Edit) → puts (undoable n (xs ++ listed (chunk_of n edits))) ≡ puts_behind edits (puts (undoable n xs))
 puts_step n xs [] = ap (λ (l : List Chunk). puts (undoable n l)) (append-nil xs)
-puts_step n xs (e ∷ []) = ap puts (undoable_own n xs (record { session = n; edits = e ∷ [] }) refl) ∙ puts_edit (length (entries_of xs) + 1) e
-puts_step n xs (e ∷ next ∷ more) = ap puts (undoable_own n xs (record { session = n; edits = e ∷ next ∷ more }) refl)
+puts_step n xs (e ∷ []) = ap puts (undoable_own n xs (record { session = n; edits = e ∷ []; earlier = false }) refl) ∙ puts_edit (length (entries_of xs) + 1) e
+puts_step n xs (e ∷ next ∷ more) = ap puts (undoable_own n xs (record { session = n; edits = e ∷ next ∷ more; earlier = false }) refl)
 
 pub taken_puts : (o : Opening) (n : ℕ) (m : Memory) (c : Step) (h : Heard) (v w : View Opening Chunk) → v.first ≤ n → n < v.past → IsTaken (core o) n m c h v w → puts (undoable n w.seen) ≡ puts_behind h.edits (puts (undoable n v.seen))
 taken_puts o n m c h v w above below t =

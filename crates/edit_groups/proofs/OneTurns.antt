@@ -1,5 +1,5 @@
 -- One command at a turn of the book of groups is a turn of the book whose journal has these entries.
-use Rattle.std.proofs.Common.{◌≡◌, ◌⊎◌, inl, inr, ⊎_elim, ℕ, ◌+◌, List, [], ◌∷◌, ◌++◌, length, Option, Some, None, Ok, option_and_then, option_map, sym, ap, ◌∙◌, refl, subst, append-nil, arith}
+use Rattle.std.proofs.Common.{false, ◌≡◌, ◌⊎◌, inl, inr, ⊎_elim, ℕ, ◌+◌, List, [], ◌∷◌, ◌++◌, length, Option, Some, None, Ok, option_and_then, option_map, sym, ap, ◌∙◌, refl, subst, append-nil, arith}
 use Rattle.carriage_model.specs.declared.verdict.Brief.{Brief}
 use Rattle.edit_journal.specs.declared.edit.BlockAt.{BlockAt}
 use Rattle.edit_journal.specs.declared.edit.Edit.{Edit}
@@ -42,7 +42,7 @@ use Rattle.edit_groups.proofs.Undoable.{entries_append}
 -- the step of the edit of an entry of this session
 pub chunk_step : (n : ℕ) (o : Option Entry) → ((e : Entry) → o ≡ Some e → e.session ≡ n) → chunk_of n (edits_in o) ≡ step_of o
 chunk_step n None own = refl
-chunk_step n (Some e) own = ap (λ (k : ℕ). Some (record { session = k; edits = e.edit ∷ [] })) (sym (own e refl))
+chunk_step n (Some e) own = ap (λ (k : ℕ). Some (record { session = k; edits = e.edit ∷ []; earlier = false })) (sym (own e refl))
 
 -- and its entries are that one
 pub step_entries : (o : Option Entry) → entries_of (listed (step_of o)) ≡ listed o

@@ -1,5 +1,5 @@
 -- One command of the book, accepted.
-use Rattle.std.proofs.Common.{◌≡◌, ◌⊎◌, inl, inr, ⊎_elim, ℕ, ◌+◌, ◌<◌, List, [], ◌∷◌, ◌++◌, length, length-append, set, slice_get, unwrap_or, Option, Some, None, IfSome, Ok, sym, ap, ◌∙◌, refl, subst, arith}
+use Rattle.std.proofs.Common.{false, ◌≡◌, ◌⊎◌, inl, inr, ⊎_elim, ℕ, ◌+◌, ◌<◌, List, [], ◌∷◌, ◌++◌, length, length-append, set, slice_get, unwrap_or, Option, Some, None, IfSome, Ok, sym, ap, ◌∙◌, refl, subst, arith}
 use Rattle.std.specs.Option.{option_map, option_to_list}
 use Rattle.carriage_model.specs.declared.verdict.Brief.{Brief}
 use Rattle.edit_journal.specs.declared.edit.Edit.{Edit}
@@ -68,7 +68,7 @@ module _ (held now : BookView) (chunks : List Chunk) (kept : List ℕ) (number :
     (turn : Appends (λ (e : Entry). e.session) number (IsRight held.opening held.entries number command (reply.Accepted version block brief)) held.entries now.entries)
     (edits_are : edits ≡ option_to_list (edit_of (request_of command) (document_of held.opening held.entries).drawn)) where
   abbrev steps : List Chunk
-  steps = chunks ++ record { session = number; edits = edits } ∷ []
+  steps = chunks ++ record { session = number; edits = edits; earlier = false } ∷ []
 
   pub one_kept : number < 64 → now.opening ≡ held.opening → IsKept now steps (set kept number (number_kept (undoable_in version edits)))
   one_kept few opening = let x = one_edit held now number command version block brief edits turn edits_are in
@@ -85,8 +85,8 @@ module _ (held now : BookView) (chunks : List Chunk) (kept : List ℕ) (number :
 
   pub one_taken : IsTaken held.opening chunks number (One (Ok (request_of command))) (group.One (reply.Accepted version block brief)) steps
   one_taken = let x = one_edit held now number command version block brief edits turn edits_are in
-      let chunk : listed (chunk_of number edits) ≡ record { session = number; edits = edits } ∷ [] =
-      ap (λ (es : List Edit). listed (chunk_of number es)) x.edits_is ∙ ap (λ (es : List Edit). record { session = number; edits = es } ∷ []) (sym x.edits_is) in
+      let chunk : listed (chunk_of number edits) ≡ record { session = number; edits = edits; earlier = false } ∷ [] =
+      ap (λ (es : List Edit). listed (chunk_of number es)) x.edits_is ∙ ap (λ (es : List Edit). record { session = number; edits = es; earlier = false } ∷ []) (sym x.edits_is) in
       inr (
         edits,
         record {

@@ -1,5 +1,5 @@
 -- A session behind a step of another one.
-use Rattle.std.proofs.Common.{◌≡◌, ◌≢◌, ℕ, List, [], ◌∷◌, ◌++◌, Some, sym, ap, ◌∙◌, subst, append-nil}
+use Rattle.std.proofs.Common.{false, ◌≡◌, ◌≢◌, ℕ, List, [], ◌∷◌, ◌++◌, Some, sym, ap, ◌∙◌, subst, append-nil}
 use Rattle.edit_journal.specs.declared.edit.Edit.{Edit}
 use Rattle.edit_journal.specs.declared.edit.Entry.{Entry}
 use Rattle.edit_journal.specs.declared.opening.Opening.{Opening}
@@ -16,7 +16,7 @@ use Rattle.edit_groups.proofs.Undoable.{entries_append, undoable_other}
 -- it stands as before
 pub others_stand : (opening : Opening) (n : ℕ) (edits : List Edit) (chunks : List Chunk) (m : Memory) (s : GroupSession) → s.session.number ≢ n → IsSessionAt opening chunks m s → IsSessionAt opening (chunks ++ listed (chunk_of n edits)) m s
 others_stand opening n [] chunks m s other at = subst (λ (l : List Chunk). IsSessionAt opening l m s) (sym (append-nil chunks)) at
-others_stand opening n (e ∷ es) chunks m s other at = let c : Chunk = record { session = n; edits = e ∷ es } in record {
+others_stand opening n (e ∷ es) chunks m s other at = let c : Chunk = record { session = n; edits = e ∷ es; earlier = false } in record {
   remembers = at.remembers;
   names = subst (λ (j : List Entry). names_given opening j s.session.learned.head ≡ Some s.session.header.declared) (sym (entries_append chunks (c ∷ [])))
       (names_longer opening (entries_of chunks) (entries_of (c ∷ [])) s.session.learned.head s.session.header.declared at.names);

@@ -174,7 +174,7 @@ heard_fits o n before m c h k heard is = go h.edits refl is
   where
     go : (es : List Edit) → h.edits ≡ es → chunk_of n es ≡ Some k → StepFits o before k
     go [] none is = absurd (cc)
-    go (e ∷ es) some is = let same : record { session = n; edits = e ∷ es } ≡ k = cc in
+    go (e ∷ es) some is = let same : record { session = n; edits = e ∷ es; earlier = false } ≡ k = cc in
         subst (StepFits o before) same
         (subst (FitBehind o (entries_of before) n) some (step_fits o n (entries_of before) (undoable n before) (step_asked m c) h.reply h.edits heard.answer))
 

@@ -1,5 +1,5 @@
 -- How far a group is carried out. No public contract speaks of it.
-use Rattle.std.specs.Prelude.{◌≡◌, ◌⊎◌, ℕ, ◌+◌, List, [], ◌∷◌, ◌++◌, length, None, Some, Result}
+use Rattle.std.specs.Prelude.{false, ◌≡◌, ◌⊎◌, ℕ, ◌+◌, List, [], ◌∷◌, ◌++◌, length, None, Some, Result}
 use Rattle.edit_journal.specs.declared.edit.Edit.{Edit}
 use Rattle.edit_journal.specs.declared.edit.Entry.{Entry}
 use Rattle.edit_journal.specs.declared.opening.Opening.{Opening}
@@ -56,7 +56,7 @@ stop_reply base stop.NoMemory = group.NoMemory
 abbrev pub IsTakenOver : Opening → List Chunk → ℕ → List Entry → List Edit → GroupReply → List Chunk → Type 0
 IsTakenOver opening before session journal edits r after =
     ((r ≡ group.NoMemory) × (after ≡ before))
-    ⊎ ((brief : Brief) × (r ≡ group.Done (length journal) (length (entries_of before) + 1) brief) × IsBriefAt opening journal brief × (after ≡ before ++ record { session = session; edits = edits } ∷ []))
+    ⊎ ((brief : Brief) × (r ≡ group.Done (length journal) (length (entries_of before) + 1) brief) × IsBriefAt opening journal brief × (after ≡ before ++ record { session = session; edits = edits; earlier = false } ∷ []))
 
 -- the first is refused so, whoever asks
 pub record IsFirstRefused (opening : Opening) (journal : List Entry) (asked : List (Result Request Reply)) (told : Reply) : Type 0 where

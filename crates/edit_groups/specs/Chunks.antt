@@ -13,10 +13,18 @@ entries_by session edits = map (λ e. record { session = session; edit = e }) ed
 abbrev pub entries_of : List Chunk → List Entry
 entries_of chunks = flat_map (λ c. entries_by c.session c.edits) chunks
 
--- the step that leaves these edits, if there are some
+-- the step that leaves these edits now, if there are some
 abbrev pub chunk_of : ℕ → List Edit → Option Chunk
 chunk_of session [] = None
-chunk_of session (e ∷ es) = Some (record { session = session; edits = e ∷ es })
+chunk_of session (e ∷ es) = Some (record { session = session; edits = e ∷ es; earlier = false })
+
+-- an entry that was there before, as a step
+abbrev pub earlier_step : Entry → Chunk
+earlier_step e = record { session = e.session; edits = e.edit ∷ []; earlier = true }
+
+-- the steps of a journal that was there before
+abbrev pub earlier_steps : List Entry → List Chunk
+earlier_steps entries = map earlier_step entries
 
 -- a put or an add that can be undone, and the number of its entry
 pub record Undoable : Type 0 where
@@ -30,16 +38,20 @@ undoable_edit number (edit.Add anchor block text) = Some (record { number = numb
 undoable_edit number (edit.Cut block seen) = None
 undoable_edit number (edit.Head seen names) = None
 
--- what can be undone of a step whose first entry has this number: its edit, where it is one alone
+-- what can be undone of edits of which the first one's entry has this number: the edit, where it is one alone
 abbrev pub undoable_in : ℕ → List Edit → Option Undoable
 undoable_in number [] = None
 undoable_in number (e ∷ []) = undoable_edit number e
 undoable_in number (e ∷ next ∷ more) = None
 
+-- what can be undone of a step, which of an earlier one is nothing
+abbrev pub undoable_of : ℕ → Chunk → Option Undoable
+undoable_of number c = if c.earlier then None else undoable_in number c.edits
+
 -- what can be undone of the last of these steps that the session made, where the first entry of these steps has this number, or else what was found before
 abbrev pub undoable_from : ℕ → ℕ → Option Undoable → List Chunk → Option Undoable
 undoable_from session number found [] = found
-undoable_from session number found (c ∷ cs) = undoable_from session (number + length c.edits) (if c.session == session then undoable_in number c.edits else found) cs
+undoable_from session number found (c ∷ cs) = undoable_from session (number + length c.edits) (if c.session == session then undoable_of number c else found) cs
 
 -- what can be undone of the session's last step
 abbrev pub undoable : ℕ → List Chunk → Option Undoable

@@ -30,7 +30,7 @@ use Rattle.turn_book.specs.Taken.{IsTaken}
 -- the step of one entry
 abbrev pub step_of : Option Entry → Option Chunk
 step_of None = None
-step_of (Some e) = Some (record { session = e.session; edits = e.edit ∷ [] })
+step_of (Some e) = Some (record { session = e.session; edits = e.edit ∷ []; earlier = false })
 
 -- A turn of one command: it finds a journal that goes on with steps of others, and is right there as a turn of the book of these entries is; its entry is one step more.
 pub record IsOneTurn (opening : Opening) (session : ℕ) (c : BookCommand) (r : Reply) (v w : View Opening Chunk) : Type 0 where

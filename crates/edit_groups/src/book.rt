@@ -5,7 +5,7 @@ ghost use Rattle.edit_book.specs.Replies.{edit_of, request_of};
 ghost use Rattle.edit_book.specs.Turns.{IsFit};
 ghost use Rattle.edit_book.specs.Work.{command_limit};
 ghost use Rattle.edit_groups.specs.Answers as asked;
-ghost use Rattle.edit_groups.specs.Chunks.{entries_of, undoable_in};
+ghost use Rattle.edit_groups.specs.Chunks.{earlier_steps, entries_of, undoable_in};
 ghost use Rattle.edit_groups.specs.Groups.{IsTaken, number_kept};
 
 use crate::chunk::{Chunk, ChunkList, EditList};
@@ -53,6 +53,21 @@ impl GroupBook {
             undoable: [0; 64],
             alloc,
         }
+    }
+
+    /// The book of a document that is opened with this journal: its entries are earlier steps, which no session undoes. The only error is
+    /// want of memory.
+    pub fn resume(alloc: Global, book: Book) -> Result<GroupBook, NoMemory>
+        ensures opening { IfOk result (λ resumed. resumed.opening ≡ book.opening) }
+        ensures chunks { IfOk result (λ resumed. resumed.chunks ≡ earlier_steps book.entries) }
+    {
+        let chunks = earlier_steps(alloc, &book)?;
+        Ok(GroupBook {
+            book,
+            chunks,
+            undoable: [0; 64],
+            alloc,
+        })
     }
 
     /// The book, whose journal has the edits of all accepted steps. Takes no memory.
@@ -103,6 +118,7 @@ impl GroupBook {
                 self.chunks.push_reserved(Chunk {
                     session: number,
                     edits,
+                    earlier: false,
                 });
                 GroupReply::One(Reply::Accepted {
                     version,
@@ -113,6 +129,25 @@ impl GroupBook {
             reply => GroupReply::One(reply),
         }
     }
+}
+
+// The entries of the book's journal, as earlier steps.
+fn earlier_steps(alloc: Global, book: &Book) -> Result<Vec<Chunk>, NoMemory>
+    ensures { IfOk result (λ steps. steps.items ≡ earlier_steps book.now.entries) }
+{
+    let journal = book.journal().try_clone()?;
+    let entries = journal.into_entries();
+    let mut steps = Vec::with_capacity(alloc, entries.len())?;
+    for entry in entries {
+        let mut edits = ListOf::new(alloc);
+        edits.push(entry.edit)?;
+        steps.push(Chunk {
+            session: entry.session,
+            edits,
+            earlier: true,
+        })?;
+    }
+    Ok(steps)
 }
 
 /// The edit that a command asks for, where it asks for one, with this id for a new block.

@@ -10,6 +10,8 @@ pub type EditList = ListOf<Edit>;
 pub struct Chunk {
     pub session: u32,
     pub edits: EditList,
+    /// Whether the document was opened with it in its journal: then no session undoes it.
+    pub earlier: bool,
 }
 
 /// The accepted steps, the oldest first.

@@ -84,6 +84,7 @@ impl GroupBook {
         self.chunks.push_reserved(Chunk {
             session: number,
             edits,
+            earlier: false,
         });
         self.book = copy;
         GroupReply::Done {

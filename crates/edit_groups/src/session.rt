@@ -1,14 +1,15 @@
 //! A session of steps, and one step of it on the shared book.
-ghost use Rattle.std.specs.Prelude.{◌≡◌, ◌<◌, ◌≤◌, [], true, IfOk, length};
+ghost use Rattle.std.specs.Prelude.{◌≡◌, ◌<◌, ◌≤◌, List, None, true, IfOk, length};
 ghost use Rattle.knit_base.specs.Limits.{IsLawfulProfile};
 ghost use Rattle.script_reader.specs.Groups.{is_lawful_step};
 ghost use Rattle.edit_journal.specs.declared.opening.Opening.{Opening};
 ghost use Rattle.edit_book.specs.Memory.{Memory, first_memory};
 ghost use Rattle.edit_book.specs.Session.{HasNames, Remembers};
 ghost use Rattle.edit_groups.specs.Alone.{IsSessionAt};
-ghost use Rattle.edit_groups.specs.Chunks.{entries_of};
+ghost use Rattle.edit_groups.specs.Chunks.{entries_of, undoable};
 ghost use Rattle.edit_groups.specs.Shared.{opening_of};
 ghost use Rattle.edit_groups.specs.Turns.{IsDone};
+ghost use Rattle.edit_groups.specs.declared.chunk.Chunk.{Chunk};
 ghost use Rattle.turn_book.specs.Passes.{IsPassOf, view_of};
 
 mod group;
@@ -40,7 +41,8 @@ pub struct GroupSession {
 }
 
 impl GroupSession {
-    /// The session with this number, which knows stamp 0 of each opening block, and stamp 0 of the header, with these names.
+    /// The session with this number, which knows stamp 0 of each opening block, and stamp 0 of the header, with these names, whatever was
+    /// done before it begins; but it undoes none of that.
     pub fn start(
         alloc: Global,
         number: u32,
@@ -48,7 +50,8 @@ impl GroupSession {
         declared: &Declared,
     ) -> Result<GroupSession, NoMemory>
         ensures number { IfOk result (λ s. s.session.number ≡ number) }
-        ensures stands { IfOk result (λ s. (opening : Opening) → length opening.texts ≡ blocks → opening.setting.declared ≡ declared.now → IsSessionAt opening [] (first_memory opening) s) }
+        ensures stands { IfOk result (λ s. (opening : Opening) (earlier : List Chunk) → length opening.texts ≡ blocks → opening.setting.declared ≡ declared.now → undoable number earlier ≡ None
+            → IsSessionAt opening earlier (first_memory opening) s) }
     {
         let session = Session::start(alloc, number, blocks, declared)?;
         Ok(GroupSession {

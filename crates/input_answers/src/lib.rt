@@ -45,6 +45,6 @@ pub use one_pass::check_in_one_pass;
 pub use opening::{Opened, open};
 pub use outcome::{GroupOutcome, Outcome, Status};
 pub use plan::{Plan, PlanFault, plan_of, reads_file};
-pub use replay::answer_replay;
+pub use replay::{answer_replay, refusal_of_journal, saved_in};
 pub use tally::answer_tally;
 pub use text_pass::text_in_one_pass;

@@ -42,7 +42,7 @@ pub fn answer_replay<R: Threads + Sync>(
 }
 
 /// The saved text that the bytes are, which are then let go.
-pub(crate) fn saved_in(alloc: Global, input: Vec<u8>) -> Result<Saved, JournalFault>
+pub fn saved_in(alloc: Global, input: Vec<u8>) -> Result<Saved, JournalFault>
     requires { length input.items ≤ 16777216 }
     ensures spelt { IfOk result (λ saved. input.items ≡ spelling saved.head saved.profile saved.blocks saved.journal.entries) }
     ensures lawful { IfOk result (λ saved. IsLawfulSaved saved.head saved.profile saved.blocks saved.journal.entries) }
@@ -53,7 +53,7 @@ pub(crate) fn saved_in(alloc: Global, input: Vec<u8>) -> Result<Saved, JournalFa
 }
 
 /// What is said of a bad line.
-pub(crate) fn refusal_of_journal(line: u32, cause: JournalCause) -> Refusal
+pub fn refusal_of_journal(line: u32, cause: JournalCause) -> Refusal
     ensures { result ≡ journal_refusal line cause }
 {
     match cause {

@@ -2,7 +2,7 @@
 use Rattle.std.specs.Prelude.{◌≡◌, ℕ, ◌+◌, ◌-◌, ◌^◌, ◌<◌, List, [], ◌∷◌, ◌++◌, length, take, drop}
 use Rattle.std.specs.declared.option.Option.{Option}
 use Rattle.knit_base.specs.Lines.{HasNoLineEnd}
-use Rattle.line_cutter.specs.declared.line.TheConstants.{LINE_LIMIT}
+use Rattle.knit_ports.specs.declared.limit.TheConstants.{HEARD_LIMIT}
 use Rattle.knit_ports.specs.declared.ear.LineEnd.{LineEnd}
 use Rattle.knit_ports.specs.declared.ear.LineEnd.TheVariants.{LineFeed, InputEnd, Endless}
 use Rattle.knit_ports.specs.Pieces.{Piece, Heard, Said, GoesOn, heard_in}
@@ -12,10 +12,10 @@ pub record EarView : Type 0 where
   pub pending : List ℕ
   pub line : List ℕ
 
--- So many bytes of a line are kept: those of the longest good line, one for a carriage return behind them, and one more, which
--- says that the line is too long.
+-- So many bytes of a line are kept: those of the longest line that is heard whole, one for a carriage return behind them, and one more,
+-- which says that the line is longer.
 abbrev pub kept_limit : ℕ
-kept_limit = LINE_LIMIT + 2
+kept_limit = HEARD_LIMIT + 2
 
 -- what is kept of a line
 abbrev pub kept_front : List ℕ → List ℕ

@@ -5,17 +5,16 @@ ghost use Rattle.knit_ports.specs.Ears.{IsFirstFeed, IsFrontHeard, IsHeard, kept
 ghost use Rattle.knit_ports.specs.Faults.{HasCause, Rose};
 ghost use Rattle.knit_ports.specs.Pieces.{Heard, GoesOn};
 
-use crate::limit::PIECE;
+use crate::limit::{HEARD_LIMIT, PIECE};
 use crate::whole::zeros;
 use crate::{Failed, Talk};
 use knit_base::NoMemory;
-use line_cutter::LINE_LIMIT;
 use memchr::memchr;
 use std::alloc::Global;
 use std::marker::Model;
 
 // So many bytes of a line are kept.
-const KEPT: usize = LINE_LIMIT + 2;
+const KEPT: usize = HEARD_LIMIT + 2;
 
 /// What ends a line that was heard.
 #[derive(Clone, Copy, Debug, PartialEq, Eq)]
@@ -29,7 +28,7 @@ pub enum LineEnd {
 }
 
 /// Hears lines. It keeps the bytes that were heard and belong to no line yet, and the line that was heard last, of which the
-/// first 4,098 bytes: so a line of 4,096 bytes and a carriage return is told from one that is too long.
+/// first 8,194 bytes: so a line of 8,192 bytes and a carriage return is told from one that is longer.
 #[derive(Drop)]
 pub struct Ear {
     piece: Vec<u8>,
@@ -64,7 +63,7 @@ impl Ear {
         })
     }
 
-    /// What is kept of the line that was heard last, without its line feed: its first 4,098 bytes, a carriage return at the
+    /// What is kept of the line that was heard last, without its line feed: its first 8,194 bytes, a carriage return at the
     /// end among them.
     pub fn line(&self) -> &[u8]
         ensures { result.now ≡ self.now.line }

@@ -34,7 +34,7 @@ pub use count_gate::CountGate;
 pub use ear::{Ear, LineEnd};
 pub use ends::Ends;
 pub use gate::{Gate, IdleGate};
-pub use limit::INPUT_LIMIT;
+pub use limit::{HEARD_LIMIT, INPUT_LIMIT};
 pub use memory_sink::MemorySink;
 pub use memory_source::MemorySource;
 pub use memory_talk::{KeptPiece, MemoryTalk};

@@ -10,7 +10,7 @@ use Rattle.input_answers.specs.declared.outcome.Status.TheVariants as status
 use Rattle.input_answers.specs.declared.plan.Plan.{Plan}
 use Rattle.opening_reader.specs.declared.opening.OpeningText.{OpeningText}
 use Rattle.verdict_report.specs.declared.refusal.Refusal.{Refusal}
-use Rattle.live_talk.specs.Begins.{HasEndCause, RefusesText, bad_head, failed, fine, short, too_large}
+use Rattle.live_talk.specs.Begins.{HasEndCause, RefusesText, bad_head, bad_journal, failed, fine, short, too_large}
 use Rattle.live_talk.specs.Served as served
 use Rattle.live_talk.specs.Served.{HasServeCause, IsRefused}
 
@@ -43,15 +43,18 @@ ended-cause ends result before between after read write so_far (short same) = re
 ended-cause ends result before between after read write (inl same) (failed rose) = record { read = λ is. absurd (cc); write = λ is. subst (λ (n : ℕ). Rose n after) same rose }
 ended-cause ends result before between after read write (inr first) (failed rose) = record { read = λ is. absurd (cc); write = λ is. rose-more before between after first rose }
 
--- a text that is refused is the opening that is, and the program isn't to end by a fault
-pub text-refused : (plan : Plan) (heard : List Piece) (pending : List ℕ) (told : OpeningText) (said : Refusal) (ends : Status) → EndsOpening heard pending (Ok told) → RefusesText plan told.text said ends → IsRefused plan.chosen heard pending said ends
-text-refused plan heard pending told said ends opened (bad_head why given is tells) = served.bad_head told why given opened is tells
-text-refused plan heard pending told said ends opened (too_large head given is large) = served.too_large told head given opened is large
+-- an opening that is refused is the one that was heard, and the program isn't to end by a fault
+pub text-refused : (plan : Plan) (heard : List Piece) (pending : List ℕ) (told : OpeningText) (said : Refusal) (ends : Status) → EndsOpening heard pending (Ok told) → RefusesText plan told said ends → IsRefused plan.chosen heard pending said ends
+text-refused plan heard pending told said ends opened (bad_head why given kind is tells) = served.bad_head told why given opened kind is tells
+text-refused plan heard pending told said ends opened (too_large head given kind is large) = served.too_large told head given opened kind is large
+text-refused plan heard pending told said ends opened (bad_journal line why kind bad none) = served.bad_journal told line why opened kind bad none
 
-pub never-read : (plan : Plan) (text : List (List ℕ)) (said : Refusal) (ends : Status) → RefusesText plan text said ends → ends ≡ status.ReadFault → ⊥
-never-read plan text said ends (bad_head why given is tells) same = absurd (cc)
-never-read plan text said ends (too_large head given is large) same = absurd (cc)
+pub never-read : (plan : Plan) (told : OpeningText) (said : Refusal) (ends : Status) → RefusesText plan told said ends → ends ≡ status.ReadFault → ⊥
+never-read plan told said ends (bad_head why given kind is tells) same = absurd (cc)
+never-read plan told said ends (too_large head given kind is large) same = absurd (cc)
+never-read plan told said ends (bad_journal line why kind bad none) same = absurd (cc)
 
-pub never-write : (plan : Plan) (text : List (List ℕ)) (said : Refusal) (ends : Status) → RefusesText plan text said ends → ends ≡ status.WriteFault → ⊥
-never-write plan text said ends (bad_head why given is tells) same = absurd (cc)
-never-write plan text said ends (too_large head given is large) same = absurd (cc)
+pub never-write : (plan : Plan) (told : OpeningText) (said : Refusal) (ends : Status) → RefusesText plan told said ends → ends ≡ status.WriteFault → ⊥
+never-write plan told said ends (bad_head why given kind is tells) same = absurd (cc)
+never-write plan told said ends (too_large head given kind is large) same = absurd (cc)
+never-write plan told said ends (bad_journal line why kind bad none) same = absurd (cc)

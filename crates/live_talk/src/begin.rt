@@ -1,18 +1,28 @@
 //! The document that a conversation begins with.
-ghost use Rattle.std.specs.Prelude.{◌≡◌, ◌<◌, [], All, length, IfOk};
+ghost use Rattle.std.specs.Prelude.{◌≡◌, ◌<◌, ◌≤◌, ℕ, List, [], All, flat_map, length, IfErr, IfOk};
 ghost use Rattle.knit_base.specs.Limits.{IsLawfulProfile};
+ghost use Rattle.knit_ports.specs.WholeLines.{with_feed};
+ghost use Rattle.edit_journal.specs.declared.opening.Opening.{Opening};
 ghost use Rattle.input_answers.specs.Asked.{as_json};
 ghost use Rattle.input_answers.specs.CheckReport.{body_of};
 ghost use Rattle.input_answers.specs.Due.{Fits};
 ghost use Rattle.input_answers.specs.DueLive.{IsOpening};
-ghost use Rattle.knitout_reader.specs.Head.{IsHead};
+ghost use Rattle.journal_file.specs.SavedParts.{IsLawfulSaved, opening_of};
+ghost use Rattle.knitout_reader.specs.Head.{IsHead, head_of};
+ghost use Rattle.opening_reader.specs.Openings as openings;
+ghost use Rattle.opening_reader.specs.declared.opening.OpeningKind.TheVariants as kind;
+ghost use Rattle.opening_reader.specs.declared.opening.OpeningText as declared;
 ghost use Rattle.live_talk.specs.Begins.{HasBegun, IsBeginning};
 
 use command_words::Command;
 use edit_book::Book;
-use input_answers::{Opened, Plan, Status, open, refusal_of_head, refusal_of_size};
+use input_answers::{
+    Opened, Plan, Status, open, refusal_of_head, refusal_of_journal, refusal_of_size, saved_in,
+};
+use journal_file::{JournalFault, Saved, reopen};
 use knit_base::{Lines, NoMemory, Steps};
 use knitout_reader::{Head, read_head};
+use opening_reader::{OpeningKind, OpeningText, bytes_of};
 use std::alloc::Global;
 use std::marker::Brand;
 use std::sync::Wait;
@@ -21,6 +31,10 @@ use std::thread::Threads;
 use talk_desk::{Document, Host, Style, say_opened_in};
 use verdict_report::Refusal;
 
+// The buffer of replies has room for so many bytes from the start. What is told of an edit as text is shorter, so that memory which runs out
+// behind an edit that was accepted doesn't cost its reply.
+const REPLY_ROOM: usize = 4_096;
+
 /// The sessions of a conversation, and what is said when their document stands.
 #[derive(Drop)]
 pub(crate) struct Begun {
@@ -28,24 +42,42 @@ pub(crate) struct Begun {
     pub(crate) text: Vec<u8>,
 }
 
-/// What an opening text comes to.
+/// What an opening comes to.
 #[derive(Drop)]
 pub(crate) enum Beginning {
     /// A conversation begins.
     Begun(Begun),
-    /// The text is refused, and the program is to end with this status.
+    /// The opening is refused, and the program is to end with this status.
     Refused(Refusal, Status),
 }
 
-/// Begins a conversation with this text, unless that is refused. The only error is want of memory.
+/// Begins a conversation with this opening, unless that is refused. The only error is want of memory.
 pub(crate) fn begin<R: Threads + Wait + Sync>(
+    rt: &R,
+    alloc: Global,
+    plan: &Plan,
+    opening: OpeningText,
+) -> Result<Beginning, NoMemory>
+    requires opened { (lines : List (List ℕ)) × openings.IsOpening lines opening.kind opening.text }
+    requires short { All (λ line. length line < 65535) opening.text }
+    ensures { IfOk result (IsBeginning plan.now opening) }
+{
+    let OpeningText { kind, text, .. } = opening;
+    match kind {
+        OpeningKind::Text => begin_anew(rt, alloc, plan, text),
+        OpeningKind::Saved => begin_again(rt, alloc, plan, text),
+    }
+}
+
+// Begins with a document that begins with this text, unless that is refused.
+fn begin_anew<R: Threads + Wait + Sync>(
     rt: &R,
     alloc: Global,
     plan: &Plan,
     text: Lines,
 ) -> Result<Beginning, NoMemory>
     requires { All (λ line. length line < 65535) text }
-    ensures { IfOk result (IsBeginning plan.now text) }
+    ensures { IfOk result (λ begins. (told : declared.OpeningText) → told.kind ≡ kind.Text → told.text ≡ text → IsBeginning plan.now told begins) }
 {
     let text = text.into_shared()?;
     let head = match read_head(alloc, &text) {
@@ -72,7 +104,7 @@ fn body_len(text: &Lines, head: &Head) -> u32
     text.len() - head.lines
 }
 
-// Begins a conversation with this text, which has this head.
+// Begins with a document that begins with this text, which has this head.
 fn begin_with<R: Threads + Wait + Sync>(
     rt: &R,
     alloc: Global,
@@ -82,14 +114,70 @@ fn begin_with<R: Threads + Wait + Sync>(
 ) -> Result<Begun, NoMemory>
     requires head { IsHead text.now head.now }
     requires fits { Fits plan.now.chosen.block (length (body_of text.now)) }
-    ensures { IfOk result (HasBegun plan.now text.now head.now) }
+    ensures { IfOk result (λ begun. (opening : Opening) × IsOpening plan.now.chosen head.now text.now opening × HasBegun (as_json plan.now.command) (head_of text.now) opening [] begun) }
 {
     let book = book_of::<Brand, R>(rt, Blank::new(1), alloc, plan, text, head)?;
     let style = Style {
         json: as_json(plan.command),
         head: Lines::range(alloc, text, 0, head.lines)?,
     };
-    let mut said = Vec::new(alloc);
+    begin_at(rt, alloc, style, book)
+}
+
+// Goes on with the document of the saved text that these lines are, unless they are none.
+fn begin_again<R: Threads + Wait + Sync>(
+    rt: &R,
+    alloc: Global,
+    plan: &Plan,
+    lines: Lines,
+) -> Result<Beginning, NoMemory>
+    requires few { length (flat_map with_feed lines) ≤ 16777216 }
+    ensures { IfOk result (λ begins. (told : declared.OpeningText) → told.kind ≡ kind.Saved → told.text ≡ lines → IsBeginning plan.now told begins) }
+{
+    let bytes = bytes_of(alloc, &lines)?;
+    match saved_in(alloc, bytes) {
+        Ok(saved) => {
+            let begun = begin_saved(rt, alloc, plan, saved)?;
+            Ok(Beginning::Begun(begun))
+        }
+        Err(JournalFault::At { line, cause }) => Ok(Beginning::Refused(
+            refusal_of_journal(line, cause),
+            Status::BadInput,
+        )),
+        Err(JournalFault::NoMemory) => Err(NoMemory),
+    }
+}
+
+// Goes on with the document of a saved text.
+fn begin_saved<R: Threads + Wait + Sync>(
+    rt: &R,
+    alloc: Global,
+    plan: &Plan,
+    saved: Saved,
+) -> Result<Begun, NoMemory>
+    requires { IsLawfulSaved saved.head saved.profile saved.blocks saved.journal.entries }
+    ensures { IfOk result (HasBegun (as_json plan.now.command) saved.head (opening_of saved.head saved.profile saved.blocks) saved.journal.entries) }
+{
+    let style = Style {
+        json: as_json(plan.command),
+        head: saved.head.try_clone()?,
+    };
+    let book = reopen(rt, alloc, saved)?;
+    begin_at(rt, alloc, style, book)
+}
+
+// The sessions of a document, which are answered in this style.
+fn begin_at<R: Threads + Wait + Sync>(
+    rt: &R,
+    alloc: Global,
+    style: Style,
+    book: Book,
+) -> Result<Begun, NoMemory>
+    requires profile { IsLawfulProfile book.opening.setting.profile }
+    requires sessions { All (λ e. e.session < 64) book.entries }
+    ensures { IfOk result (HasBegun style.json style.head book.opening book.entries) }
+{
+    let mut said = Vec::with_capacity(alloc, REPLY_ROOM)?;
     say_opened_in(alloc, style.json, &book, &mut said)?;
     let document = Document::start(rt, alloc, style, book)?;
     let host = Host::start(rt, document)?;

@@ -1,8 +1,9 @@
 //! A conversation whole.
-ghost use Rattle.std.specs.Prelude.{◌≡◌, ◌<◌, ◌++◌, All, List, [], length, Ok};
+ghost use Rattle.std.specs.Prelude.{◌≡◌, ◌<◌, ◌++◌, ℕ, All, List, [], length, Ok};
 ghost use Rattle.knit_ports.specs.Pieces.{GoesOn, Piece};
 ghost use Rattle.input_answers.specs.Asked.{as_json};
 ghost use Rattle.opening_reader.specs.HeardOpenings.{EndsOpening};
+ghost use Rattle.opening_reader.specs.Openings.{IsOpening};
 ghost use Rattle.live_talk.specs.Served.{HasServeCause, IsTalked, Served};
 
 use crate::begin::{Beginning, Begun, begin};
@@ -59,17 +60,17 @@ fn answer_opening<R: Threads + Wait + Sync, T: Talk>(
     ear: &mut Ear,
     talk: &mut T,
 ) -> Status
+    requires opened { (lines : List (List ℕ)) × IsOpening lines opening.kind opening.text }
     requires short { All (λ line. length line < 65535) opening.text }
     ensures served { (heard : List Piece) → EndsOpening heard ear.old.pending (Ok opening) → (more : List Piece) × GoesOn (T.told talk.old) (T.told talk.new) more
         × Served (as_json plan.now.command) plan.now.chosen (heard ++ more) result }
     ensures cause { HasServeCause (T.faults talk.old) (T.faults talk.new) result }
 {
-    let OpeningText { text, lines } = opening;
-    let first = u64::from(lines) + 1;
-    match begin(rt, alloc, plan, text) {
+    let first = u64::from(opening.lines) + 1;
+    match begin(rt, alloc, plan, opening) {
         Ok(Beginning::Begun(begun)) => {
             let Begun { host, text } = begun;
-            let mut desk = TalkDesk::new(alloc, host, first);
+            let mut desk = TalkDesk::new(rt, alloc, host, first);
             talk_on(rt, &mut desk, first, text, ear, talk)
         }
         Ok(Beginning::Refused(refusal, status)) => refuse(alloc, refusal, status, talk),

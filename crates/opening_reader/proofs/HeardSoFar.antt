@@ -10,17 +10,19 @@ use Rattle.knit_ports.specs.Ears.{AreWaitedFor, EarView, IsFrontHeard, IsHeard}
 use Rattle.knit_ports.specs.Pieces.{Piece, Heard, Said, GoesOn, heard_in}
 use Rattle.knit_ports.specs.WholeLines.{rest_behind, rest_of, whole_lines, with_feed}
 use Rattle.knit_ports.specs.declared.ear.LineEnd.{LineEnd}
+use Rattle.knit_ports.specs.declared.limit.TheConstants.{HEARD_LIMIT}
 use Rattle.knit_ports.specs.declared.ear.LineEnd.TheVariants.{LineFeed, InputEnd, Endless}
 use Rattle.knit_ports.proofs.HeardLines.{heard_in-append}
 use Rattle.knit_ports.proofs.SaidPieces.{goes-trans}
 use Rattle.knit_ports.proofs.WholeLines.{rest-more, taken-ends, taken-lines, taken-more}
-use Rattle.opening_reader.specs.Fronts.{AreMissing, HoldsFront, IsFinished, IsOpen, IsWhole, StopsAt, StopsAtEnd, at_last, behind_last}
+use Rattle.opening_reader.specs.Fronts.{HoldsFront, IsFinished, IsOpen, IsWanted, IsWhole, StopsAt, StopsAtEnd, at_last, behind_last, told_by}
 use Rattle.opening_reader.specs.HeardOpenings.{AreAll, AreHeard, AreLines, EndsIn, EndsOpening, IsAwaited, IsOver, IsRefused, OpeningCause, at_end, at_line, behind_all, broken_off, endless, last_line, whole}
-use Rattle.opening_reader.specs.Openings.{CanBeRead, CantStand, IsFront, IsNextText, IsTooMuch}
+use Rattle.opening_reader.specs.Openings.{CantStand, IsFront, IsNextText, IsTooMuch}
 use Rattle.opening_reader.specs.declared.front.Front.{Front}
 use Rattle.opening_reader.specs.declared.opening.OpeningFault.{OpeningFault}
 use Rattle.opening_reader.specs.declared.opening.OpeningFault.TheVariants as fault
 use Rattle.opening_reader.specs.declared.opening.OpeningText.{OpeningText}
+use Rattle.opening_reader.specs.declared.opening.Wanted.{Wanted}
 use Rattle.script_reader.specs.declared.fault.Cause.{Cause}
 use Rattle.opening_reader.proofs.Endings.{last-some}
 use Rattle.opening_reader.proofs.TakenLines.{front-of, has-room}
@@ -75,7 +77,7 @@ pub record SoFar (old now : Option (List Piece)) (pending : List ℕ) (text : Li
   pub goes : GoesOn old now pieces
   pub heard : AreHeard pieces came pending (length came)
   pub holds : HoldsFront front (map without_return came) text
-  pub wanted : IsOpen front.missing
+  pub wanted : IsOpen front.wanted
   pub counted : count ≡ length came
 
 abbrev pub Ended : Option (List Piece) → Option (List Piece) → List ℕ → Result OpeningText OpeningFault → Type 0
@@ -102,7 +104,7 @@ hears old now pending text front count s ps w =
     }
 
 -- nothing was heard yet
-pub starts : (old : Option (List Piece)) (pending : List ℕ) (text : List (List ℕ)) (front : Front) → pending ≡ [] → text ≡ [] → front.lines ≡ 0 → front.bytes ≡ 0 → front.missing ≡ None → SoFar old old pending text front 0
+pub starts : (old : Option (List Piece)) (pending : List ℕ) (text : List (List ℕ)) (front : Front) → pending ≡ [] → text ≡ [] → front.lines ≡ 0 → front.bytes ≡ 0 → front.wanted ≡ None → SoFar old old pending text front 0
 starts old pending text front none no_text no_lines no_bytes unknown = record {
   pieces = [];
   came = [];
@@ -111,11 +113,11 @@ starts old pending text front none no_text no_lines no_bytes unknown = record {
   holds = record {
     counted = no_lines;
     bytes = no_bytes;
-    good = record { readable = All-nil CanBeRead; few = omega arith };
-    missing = subst (AreMissing []) (sym unknown) refl;
-    text_is = no_text;
+    good = record { readable = tt; few = omega arith };
+    wanted = subst (IsWanted []) (sym unknown) refl;
+    text_is = no_text ∙ ap (λ (o : Option Wanted). told_by o []) (sym unknown);
     texts = subst (All IsLine) (sym no_text) (All-nil IsLine);
-    short = subst (All (λ (l : List ℕ). length l ≤ 4095)) (sym no_text) (All-nil (λ (l : List ℕ). length l ≤ 4095));
+    short = subst (All (λ (l : List ℕ). length l ≤ HEARD_LIMIT)) (sym no_text) (All-nil (λ (l : List ℕ). length l ≤ HEARD_LIMIT));
   };
   wanted = subst IsOpen (sym unknown) tt;
   counted = refl;
@@ -149,7 +151,7 @@ module _ (old now heard : Option (List Piece)) (before after : EarView) (text : 
   goes-to h = goes-trans old now heard s.pieces (h.pieces ++ []) s.goes h.goes
 
   -- one more line is taken
-  pub goes-on : (h : IsHeard now heard before after LineFeed) (next : Front) (new : List (List ℕ)) → HoldsFront next (map without_return s.came ++ without_return h.line ∷ []) new → IsOpen next.missing
+  pub goes-on : (h : IsHeard now heard before after LineFeed) (next : Front) (new : List (List ℕ)) → HoldsFront next (map without_return s.came ++ without_return h.line ∷ []) new → IsOpen next.wanted
       → SoFar old heard after.pending new next (count + 1)
   goes-on h next new holds wanted = record {
     pieces = s.pieces ++ (h.pieces ++ []);
@@ -247,7 +249,7 @@ pub texts-told : (r : Result OpeningText OpeningFault) (lines : List (List ℕ))
 texts-told (Ok opening) lines last f = f.1.texts.texts
 texts-told (Err f) lines last is = tt
 
-pub short-told : (r : Result OpeningText OpeningFault) (lines : List (List ℕ)) (last : List ℕ) → IsFinished r lines last → IfOk r (λ opening. All (λ (line : List ℕ). length line ≤ 4095) opening.text)
+pub short-told : (r : Result OpeningText OpeningFault) (lines : List (List ℕ)) (last : List ℕ) → IsFinished r lines last → IfOk r (λ opening. All (λ (line : List ℕ). length line ≤ HEARD_LIMIT) opening.text)
 short-told (Ok opening) lines last f = f.1.texts.short
 short-told (Err f) lines last is = tt
 

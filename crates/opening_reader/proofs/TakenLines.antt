@@ -1,18 +1,25 @@
 -- The lines of an opening, one more at a time.
-use Rattle.std.proofs.Common.{◌≡◌, ℕ, suc, ◌+◌, ◌-◌, ◌<◌, ◌≤◌, Bool, true, false, List, [], ◌∷◌, ◌++◌, length, drop, Option, Some, None, if◌then◌else◌, inl, inr, ap, ◌∙◌, append-nil, sym, refl, subst, arith, length-append, length-drop}
+use Rattle.std.proofs.Common.{◌≡◌, ◌≢◌, ℕ, suc, ◌+◌, ◌-◌, ◌<◌, ◌≤◌, Bool, true, false, List, [], ◌∷◌, ◌++◌, length, drop, Option, Some, None, if◌then◌else◌, inl, inr, ap, ◌∙◌, append-nil, sym, refl, subst, arith, length-append, length-drop}
+use Rattle.std.specs.Option.{option_map_or}
 use Rattle.std.specs.Prelude.{All, flat_map}
 use Rattle.std.proofs.lemmas.List.Concat.{flat_map-append}
-use Rattle.std.proofs.lemmas.List.Elements.{All-push}
+use Rattle.std.proofs.lemmas.List.Elements.{All-nil, All-push}
 use Rattle.knit_base.specs.Lines.{IsLine}
 use Rattle.knit_ports.specs.WholeLines.{with_feed}
-use Rattle.opening_reader.specs.Fronts.{AreMissing, HasRoom, HoldsFront, IsCounted, IsOpen, IsWhole}
-use Rattle.opening_reader.specs.Openings.{AskFor, CanBeRead, IsFront, IsTooMuch, CantStand, IsUnfinished, MayFollow, asked_in, bytes_of, no_first, no_other, nothing_yet, texts_in, wanting}
+use Rattle.knit_ports.specs.declared.limit.TheConstants.{HEARD_LIMIT}
+use Rattle.opening_reader.specs.Fronts.{HasRoom, HoldsFront, IsCounted, IsOpen, IsWanted, IsWhole, limit_for, told_by}
+use Rattle.opening_reader.specs.Openings.{AreReadable, AskFor, CanBeRead, CantStand, IsFront, IsNextText, IsTooMuch, IsUnfinished, MayFollow, bytes_of, kind_in, limit_behind, limit_of, no_first, no_other, nothing_yet, texts_in, told_in, wanted_in, wanting}
 use Rattle.opening_reader.specs.declared.front.Front.{Front}
 use Rattle.opening_reader.specs.declared.front.TheConstants.{OPENING_LIMIT}
+use Rattle.opening_reader.specs.declared.opening.OpeningKind.{OpeningKind}
+use Rattle.opening_reader.specs.declared.opening.OpeningKind.TheVariants.{Saved, Text}
 use Rattle.opening_reader.specs.declared.opening.OpeningText.{OpeningText}
-use Rattle.script_reader.specs.Hearing.{fault_of}
+use Rattle.opening_reader.specs.declared.opening.Wanted.{Wanted}
 use Rattle.script_reader.specs.declared.fault.Cause.TheVariants.{BadLine, NoServe}
 use Rattle.script_reader.specs.Statements.{is_skipped, is_text_line}
+
+abbrev pub wants : OpeningKind → ℕ → Wanted
+wants kind missing = record { kind = kind; missing = missing }
 
 texts-by : (b : Bool) (text : List ℕ) (all front more : List (List ℕ)) → all ≡ front ++ more → (if b then text ∷ all else all) ≡ (if b then text ∷ front else front) ++ more
 texts-by true text all front more is = ap (λ (l : List (List ℕ)). text ∷ l) is
@@ -48,13 +55,42 @@ lines-few (line ∷ lines) =
     let all : bytes_of (line ∷ lines) ≡ length (with_feed line) + bytes_of lines = length-append (with_feed line) (flat_map with_feed lines) in
     let fed : length (with_feed line) ≡ length line + 1 = length-append line (10 ∷ []) in omega (arith, rest, all, fed)
 
+-- what one list of lines tells behind the other
+pub told-more : (kind : OpeningKind) (lines more : List (List ℕ)) → told_in kind (lines ++ more) ≡ told_in kind lines ++ told_in kind more
+told-more Text lines more = texts-more lines more
+told-more Saved lines more = refl
+
+told-none : (kind : OpeningKind) → told_in kind [] ≡ []
+told-none Text = refl
+told-none Saved = refl
+
+told-few : (kind : OpeningKind) (lines : List (List ℕ)) → length (told_in kind lines) ≤ length lines
+told-few Text lines = texts-few lines
+told-few Saved lines = omega arith
+
+told-by-few : (wanted : Option Wanted) (lines : List (List ℕ)) → length (told_by wanted lines) ≤ length lines
+told-by-few None lines = omega arith
+told-by-few (Some wanted) lines = told-few wanted.kind lines
+
+-- a text line tells its text
+pub text-told : (kind : OpeningKind) (line : List ℕ) → kind ≡ Text → is_text_line line ≡ true → (told_in kind (line ∷ []) ≡ drop 1 line ∷ []) × MayFollow kind line
+text-told kind line is begins = subst (λ (k : OpeningKind). (told_in k (line ∷ []) ≡ drop 1 line ∷ []) × MayFollow k line) (sym is) (text-one line begins, inl begins)
+
+-- a line that is passed over tells nothing
+pub text-passed : (kind : OpeningKind) (line : List ℕ) → kind ≡ Text → is_text_line line ≡ false → is_skipped line ≡ true → (told_in kind (line ∷ []) ≡ []) × MayFollow kind line
+text-passed kind line is isnt skipped = subst (λ (k : OpeningKind). (told_in k (line ∷ []) ≡ []) × MayFollow k line) (sym is) (text-none line isnt, inr skipped)
+
+-- a line of a saved text tells itself
+pub saved-told : (kind : OpeningKind) (line : List ℕ) → kind ≡ Saved → (told_in kind (line ∷ []) ≡ line ∷ []) × MayFollow kind line
+saved-told kind line is = subst (λ (k : OpeningKind). (told_in k (line ∷ []) ≡ line ∷ []) × MayFollow k line) (sym is) (refl, tt)
+
 -- the numbers of a front are small enough for one more line
 pub has-room : (front : Front) (lines text : List (List ℕ)) → HoldsFront front lines text → HasRoom front text
 has-room front lines text h =
     let counted = h.counted in
     let bytes = h.bytes in
     let few = h.good.few in
-    let texts : length text ≤ length (drop 1 lines) = subst (λ (l : List (List ℕ)). length l ≤ length (drop 1 lines)) (sym h.text_is) (texts-few (drop 1 lines)) in
+    let texts : length text ≤ length (drop 1 lines) = subst (λ (l : List (List ℕ)). length l ≤ length (drop 1 lines)) (sym h.text_is) (told-by-few front.wanted (drop 1 lines)) in
     record {
       texts = omega (arith, counted, texts, length-drop 1 lines);
       lines = omega (arith, counted, bytes, lines-few lines);
@@ -68,133 +104,196 @@ few-of front lines text h =
     let lines_few = room.lines in
     let bytes = room.bytes in omega (arith, texts, lines_few, bytes)
 
-unfinished-by : (lines : List (List ℕ)) (missing : Option ℕ) → AreMissing lines missing → IsOpen missing → IsUnfinished lines
+-- no line may be longer than those that are heard whole
+pub limit-low : (wanted : Option Wanted) → limit_for wanted ≤ HEARD_LIMIT
+limit-low None = omega arith
+limit-low (Some wanted) = kind-low wanted.kind
+  where
+    kind-low : (kind : OpeningKind) → limit_of kind ≤ HEARD_LIMIT
+    kind-low Text = omega arith
+    kind-low Saved = omega arith
+
+limit-by : (lines : List (List ℕ)) (wanted : Option Wanted) → IsWanted lines wanted → limit_for wanted ≡ limit_behind lines
+limit-by lines None none = sym (ap limit_behind none)
+limit-by lines (Some wanted) a = sym (ap limit_behind a.lines_are ∙ ap (λ (o : Option Wanted). limit_of (option_map_or (λ (w : Wanted). w.kind) o Text)) a.asked)
+
+-- a front knows how long the next line may be
+pub limit-is : (front : Front) (lines text : List (List ℕ)) → HoldsFront front lines text → limit_for front.wanted ≡ limit_behind lines
+limit-is front lines text h = limit-by lines front.wanted h.wanted
+
+unfinished-by : (lines : List (List ℕ)) (wanted : Option Wanted) → IsWanted lines wanted → IsOpen wanted → IsUnfinished lines
 unfinished-by lines None none is = nothing_yet none
-unfinished-by lines (Some missing) asks some = wanting missing some asks
+unfinished-by lines (Some wanted) asks some = wanting wanted.kind wanted.missing some asks
 
 -- an opening goes on behind a front that is open
-pub front-of : (front : Front) (lines text : List (List ℕ)) → HoldsFront front lines text → IsOpen front.missing → IsFront lines
-front-of front lines text h is = record { good = h.good; unfinished = unfinished-by lines front.missing h.missing is }
+pub front-of : (front : Front) (lines text : List (List ℕ)) → HoldsFront front lines text → IsOpen front.wanted → IsFront lines
+front-of front lines text h is = record { good = h.good; unfinished = unfinished-by lines front.wanted h.wanted is }
 
--- a text line behind a first line
-ask-text : (lines : List (List ℕ)) (line : List ℕ) (missing : ℕ) → AskFor lines missing → 0 < missing → is_text_line line ≡ true → AskFor (lines ++ line ∷ []) (missing - 1)
-ask-text lines line missing a some is =
-    let longer : length (texts_in (a.others ++ line ∷ [])) ≡ length (texts_in a.others) + 1 =
-    ap length (texts-more a.others (line ∷ []) ∙ ap (λ (l : List (List ℕ)). texts_in a.others ++ l) (text-one line is)) ∙ length-append (texts_in a.others) (drop 1 line ∷ []) in
-    let same : length (texts_in a.others) + missing ≡ length (texts_in (a.others ++ line ∷ [])) + (missing - 1) = omega (arith, longer, some) in
+-- a line behind a first line tells one
+ask-told : (lines : List (List ℕ)) (line told : List ℕ) (kind : OpeningKind) (missing : ℕ) → AskFor lines kind missing → 0 < missing → told_in kind (line ∷ []) ≡ told ∷ [] → MayFollow kind line
+    → AskFor (lines ++ line ∷ []) kind (missing - 1)
+ask-told lines line told kind missing a some is follows =
+    let longer : length (told_in kind (a.others ++ line ∷ [])) ≡ length (told_in kind a.others) + 1 =
+    ap length (told-more kind a.others (line ∷ []) ∙ ap (λ (l : List (List ℕ)). told_in kind a.others ++ l) is) ∙ length-append (told_in kind a.others) (told ∷ []) in
+    let same : length (told_in kind a.others) + missing ≡ length (told_in kind (a.others ++ line ∷ [])) + (missing - 1) = omega (arith, longer, some) in
     record {
       first = a.first;
       others = a.others ++ line ∷ [];
       lines_are = ap (λ (l : List (List ℕ)). l ++ line ∷ []) a.lines_are;
-      asked = a.asked ∙ ap Some same;
-      fit = All-push MayFollow a.others line a.fit (inl is);
+      asked = a.asked ∙ ap (λ (n : ℕ). Some (wants kind n)) same;
+      fit = All-push (MayFollow kind) a.others line a.fit follows;
     }
 
--- and one that is passed over
-ask-skipped : (lines : List (List ℕ)) (line : List ℕ) (missing : ℕ) → AskFor lines missing → is_text_line line ≡ false → is_skipped line ≡ true → AskFor (lines ++ line ∷ []) missing
-ask-skipped lines line missing a isnt is =
-    let same : texts_in (a.others ++ line ∷ []) ≡ texts_in a.others =
-    texts-more a.others (line ∷ []) ∙ ap (λ (l : List (List ℕ)). texts_in a.others ++ l) (text-none line isnt) ∙ append-nil (texts_in a.others) in
+-- and one that is passed over none
+ask-passed : (lines : List (List ℕ)) (line : List ℕ) (kind : OpeningKind) (missing : ℕ) → AskFor lines kind missing → told_in kind (line ∷ []) ≡ [] → MayFollow kind line → AskFor (lines ++ line ∷ []) kind missing
+ask-passed lines line kind missing a none follows =
+    let same : told_in kind (a.others ++ line ∷ []) ≡ told_in kind a.others =
+    told-more kind a.others (line ∷ []) ∙ ap (λ (l : List (List ℕ)). told_in kind a.others ++ l) none ∙ append-nil (told_in kind a.others) in
     record {
       first = a.first;
       others = a.others ++ line ∷ [];
       lines_are = ap (λ (l : List (List ℕ)). l ++ line ∷ []) a.lines_are;
-      asked = a.asked ∙ ap (λ (l : List (List ℕ)). Some (length l + missing)) (sym same);
-      fit = All-push MayFollow a.others line a.fit (inr is);
+      asked = a.asked ∙ ap (λ (l : List (List ℕ)). Some (wants kind (length l + missing))) (sym same);
+      fit = All-push (MayFollow kind) a.others line a.fit follows;
     }
 
-text-behind : (lines : List (List ℕ)) (line : List ℕ) (missing : ℕ) → AskFor lines missing → texts_in (drop 1 (lines ++ line ∷ [])) ≡ texts_in (drop 1 lines) ++ texts_in (line ∷ [])
-text-behind lines line missing a =
-    ap (λ (l : List (List ℕ)). texts_in (drop 1 (l ++ line ∷ []))) a.lines_are ∙ texts-more a.others (line ∷ [])
-    ∙ ap (λ (l : List (List ℕ)). texts_in (drop 1 l) ++ texts_in (line ∷ [])) (sym a.lines_are)
+-- the first line asks for what it says
+ask-first : (lines : List (List ℕ)) (line : List ℕ) (wanted : Wanted) → lines ≡ line ∷ [] → wanted_in line ≡ Some wanted → AskFor lines wanted.kind wanted.missing
+ask-first lines line wanted alone asked =
+    let none : length (told_in wanted.kind []) ≡ 0 = ap length (told-none wanted.kind) in
+    let same : wanted.missing ≡ length (told_in wanted.kind []) + wanted.missing = omega (arith, none) in
+    record {
+      first = line;
+      others = [];
+      lines_are = alone;
+      asked = asked ∙ ap (λ (n : ℕ). Some (wants wanted.kind n)) same;
+      fit = All-nil (MayFollow wanted.kind);
+    }
 
-some-lines : (lines : List (List ℕ)) (missing : ℕ) → AskFor lines missing → 0 < length lines
-some-lines lines missing a = let many : length lines ≡ suc (length a.others) = ap length a.lines_are in omega (arith, many)
+told-behind : (lines : List (List ℕ)) (line : List ℕ) (kind : OpeningKind) (missing : ℕ) → AskFor lines kind missing → told_in kind (drop 1 (lines ++ line ∷ [])) ≡ told_in kind (drop 1 lines) ++ told_in kind (line ∷ [])
+told-behind lines line kind missing a =
+    ap (λ (l : List (List ℕ)). told_in kind (drop 1 (l ++ line ∷ []))) a.lines_are ∙ told-more kind a.others (line ∷ [])
+    ∙ ap (λ (l : List (List ℕ)). told_in kind (drop 1 l) ++ told_in kind (line ∷ [])) (sym a.lines_are)
 
--- so many are missing
-pub asks : (front : Front) (lines text : List (List ℕ)) (missing : ℕ) → HoldsFront front lines text → front.missing ≡ Some missing → AskFor lines missing
-asks front lines text missing h is = subst (AreMissing lines) is h.missing
+-- this is wanted
+asks : (front : Front) (lines text : List (List ℕ)) (wanted : Wanted) → HoldsFront front lines text → front.wanted ≡ Some wanted → AskFor lines wanted.kind wanted.missing
+asks front lines text wanted h is = subst (IsWanted lines) is h.wanted
 
-pub asks-some : (front : Front) (lines text : List (List ℕ)) (missing : ℕ) → HoldsFront front lines text → front.missing ≡ Some missing → 0 < length lines
-asks-some front lines text missing h is = some-lines lines missing (asks front lines text missing h is)
+-- and so much was told
+tells : (front : Front) (lines text : List (List ℕ)) (wanted : Wanted) → HoldsFront front lines text → front.wanted ≡ Some wanted → text ≡ told_in wanted.kind (drop 1 lines)
+tells front lines text wanted h is = h.text_is ∙ ap (λ (o : Option Wanted). told_by o (drop 1 lines)) is
 
--- a text line is taken
-pub hold-text : (front counted after : Front) (lines text new : List (List ℕ)) (line piece : List ℕ) (missing : ℕ) → HoldsFront front lines text → front.missing ≡ Some missing → 0 < missing → IsCounted counted lines line
-    → after.lines ≡ counted.lines → after.bytes ≡ counted.bytes → after.missing ≡ Some (missing - 1) → is_text_line line ≡ true → piece ≡ drop 1 line → IsLine piece → length line ≤ 4096 → new ≡ text ++ piece ∷ []
-    → HoldsFront after (lines ++ line ∷ []) new
-hold-text front counted after lines text new line piece missing h is some c same_lines same_bytes same_missing begins piece_is piece_line short made =
-    let a = asks front lines text missing h is in
+-- what a line tells is taken
+pub hold-told : (front counted after : Front) (lines text new : List (List ℕ)) (line told : List ℕ) (wanted : Wanted) → HoldsFront front lines text → front.wanted ≡ Some wanted → 0 < wanted.missing → IsCounted counted lines line
+    → after.lines ≡ counted.lines → after.bytes ≡ counted.bytes → after.wanted ≡ Some (wants wanted.kind (wanted.missing - 1)) → told_in wanted.kind (line ∷ []) ≡ told ∷ [] → MayFollow wanted.kind line → IsLine told
+    → length told ≤ HEARD_LIMIT → new ≡ text ++ told ∷ [] → HoldsFront after (lines ++ line ∷ []) new
+hold-told front counted after lines text new line told wanted h is some c same_lines same_bytes same_wanted told_is follows told_line short made =
+    let a = asks front lines text wanted h is in
     record {
       counted = same_lines ∙ c.counted ∙ sym (length-append lines (line ∷ []));
       bytes = same_bytes ∙ c.bytes;
       good = c.good;
-      missing = subst (AreMissing (lines ++ line ∷ [])) (sym same_missing) (ask-text lines line missing a some begins);
-      text_is = made ∙ ap (λ (l : List ℕ). text ++ l ∷ []) piece_is ∙ ap (λ (l : List (List ℕ)). l ++ drop 1 line ∷ []) h.text_is
-          ∙ ap (λ (l : List (List ℕ)). texts_in (drop 1 lines) ++ l) (sym (text-one line begins)) ∙ sym (text-behind lines line missing a);
-      texts = subst (All IsLine) (sym made) (All-push IsLine text piece h.texts piece_line);
-      short = subst (All (λ (l : List ℕ). length l ≤ 4095)) (sym made)
-          (All-push (λ (l : List ℕ). length l ≤ 4095) text piece h.short (let cut : length piece ≡ length (drop 1 line) = ap length piece_is in omega (arith, cut, length-drop 1 line, short)));
+      wanted = subst (IsWanted (lines ++ line ∷ [])) (sym same_wanted) (ask-told lines line told wanted.kind wanted.missing a some told_is follows);
+      text_is = made ∙ ap (λ (l : List (List ℕ)). l ++ told ∷ []) (tells front lines text wanted h is) ∙ ap (λ (l : List (List ℕ)). told_in wanted.kind (drop 1 lines) ++ l) (sym told_is)
+          ∙ sym (told-behind lines line wanted.kind wanted.missing a) ∙ ap (λ (o : Option Wanted). told_by o (drop 1 (lines ++ line ∷ []))) (sym same_wanted);
+      texts = subst (All IsLine) (sym made) (All-push IsLine text told h.texts told_line);
+      short = subst (All (λ (l : List ℕ). length l ≤ HEARD_LIMIT)) (sym made) (All-push (λ (l : List ℕ). length l ≤ HEARD_LIMIT) text told h.short short);
     }
 
+some-told : (told : List ℕ) → told ∷ [] ≢ []
+some-told told none = let many : 1 ≡ 0 = ap length none in omega (arith, many)
+
+-- or there is no memory for it
+pub next-told : (front counted : Front) (lines text : List (List ℕ)) (line told : List ℕ) (wanted : Wanted) → HoldsFront front lines text → front.wanted ≡ Some wanted → IsCounted counted lines line
+    → told_in wanted.kind (line ∷ []) ≡ told ∷ [] → IsNextText lines line
+next-told front counted lines text line told wanted h is c told_is =
+    record { kind = wanted.kind; missing = wanted.missing; asked = asks front lines text wanted h is; good = c.good; text = λ none. some-told told (sym told_is ∙ none) }
+
 -- a line that is passed over is taken
-pub hold-skipped : (front counted : Front) (lines text : List (List ℕ)) (line : List ℕ) (missing : ℕ) → HoldsFront front lines text → front.missing ≡ Some missing → counted.missing ≡ Some missing → IsCounted counted lines line
-    → is_text_line line ≡ false → is_skipped line ≡ true → HoldsFront counted (lines ++ line ∷ []) text
-hold-skipped front counted lines text line missing h is same c isnt skipped =
-    let a = asks front lines text missing h is in
+pub hold-passed : (front counted : Front) (lines text : List (List ℕ)) (line : List ℕ) (wanted : Wanted) → HoldsFront front lines text → front.wanted ≡ Some wanted → counted.wanted ≡ Some wanted → IsCounted counted lines line
+    → told_in wanted.kind (line ∷ []) ≡ [] → MayFollow wanted.kind line → HoldsFront counted (lines ++ line ∷ []) text
+hold-passed front counted lines text line wanted h is same c none follows =
+    let a = asks front lines text wanted h is in
     record {
       counted = c.counted ∙ sym (length-append lines (line ∷ []));
       bytes = c.bytes;
       good = c.good;
-      missing = subst (AreMissing (lines ++ line ∷ [])) (sym same) (ask-skipped lines line missing a isnt skipped);
-      text_is = h.text_is ∙ sym (append-nil (texts_in (drop 1 lines))) ∙ ap (λ (l : List (List ℕ)). texts_in (drop 1 lines) ++ l) (sym (text-none line isnt)) ∙ sym (text-behind lines line missing a);
+      wanted = subst (IsWanted (lines ++ line ∷ [])) (sym same) (ask-passed lines line wanted.kind wanted.missing a none follows);
+      text_is = tells front lines text wanted h is ∙ sym (append-nil (told_in wanted.kind (drop 1 lines))) ∙ ap (λ (l : List (List ℕ)). told_in wanted.kind (drop 1 lines) ++ l) (sym none)
+          ∙ sym (told-behind lines line wanted.kind wanted.missing a) ∙ ap (λ (o : Option Wanted). told_by o (drop 1 (lines ++ line ∷ []))) (sym same);
       texts = h.texts;
       short = h.short;
     }
 
+-- the first line is taken
+pub hold-first : (front counted after : Front) (lines text : List (List ℕ)) (line : List ℕ) (wanted : Wanted) → HoldsFront front lines text → front.wanted ≡ None → IsCounted counted lines line
+    → after.lines ≡ counted.lines → after.bytes ≡ counted.bytes → after.wanted ≡ Some wanted → wanted_in line ≡ Some wanted → HoldsFront after (lines ++ line ∷ []) text
+hold-first front counted after lines text line wanted h is c same_lines same_bytes same_wanted asked =
+    let none : lines ≡ [] = subst (IsWanted lines) is h.wanted in
+    let alone : lines ++ line ∷ [] ≡ line ∷ [] = ap (λ (l : List (List ℕ)). l ++ line ∷ []) none in
+    record {
+      counted = same_lines ∙ c.counted ∙ sym (length-append lines (line ∷ []));
+      bytes = same_bytes ∙ c.bytes;
+      good = c.good;
+      wanted = subst (IsWanted (lines ++ line ∷ [])) (sym same_wanted) (ask-first (lines ++ line ∷ []) line wanted alone asked);
+      text_is = h.text_is ∙ ap (λ (o : Option Wanted). told_by o (drop 1 lines)) is ∙ sym (told-none wanted.kind) ∙ ap (λ (l : List (List ℕ)). told_in wanted.kind (drop 1 l)) (sym alone)
+          ∙ ap (λ (o : Option Wanted). told_by o (drop 1 (lines ++ line ∷ []))) (sym same_wanted);
+      texts = h.texts;
+      short = h.short;
+    }
+
+readable-more : (lines : List (List ℕ)) (line : List ℕ) → AreReadable lines → CanBeRead (limit_behind lines) line → AreReadable (lines ++ line ∷ [])
+readable-more [] line all good = (good, All-nil (CanBeRead (limit_of (kind_in line))))
+readable-more (first ∷ others) line all good = (all.0, All-push (CanBeRead (limit_of (kind_in first))) others line all.1 good)
+
 -- one more line is counted
 pub counts : (front counted : Front) (lines text : List (List ℕ)) (line : List ℕ) → HoldsFront front lines text → counted.lines ≡ front.lines + 1 → counted.bytes ≡ front.bytes + length line + 1
-    → counted.bytes ≤ OPENING_LIMIT → fault_of line ≡ None → IsCounted counted lines line
+    → counted.bytes ≤ OPENING_LIMIT → CanBeRead (limit_behind lines) line → IsCounted counted lines line
 counts front counted lines text line h next longer few good =
     let bytes : counted.bytes ≡ bytes_of (lines ++ line ∷ []) = longer ∙ ap (λ (n : ℕ). n + length line + 1) h.bytes ∙ sym (bytes-more lines line) in
     record {
       counted = next ∙ ap (λ (n : ℕ). n + 1) h.counted;
       bytes = bytes;
-      good = record { readable = All-push CanBeRead lines line h.good.readable good; few = omega (arith, bytes, few) };
+      good = record { readable = readable-more lines line h.good.readable good; few = omega (arith, bytes, few) };
     }
 
 -- or there are too many bytes with it
-pub too-much : (front : Front) (lines text : List (List ℕ)) (line : List ℕ) → HoldsFront front lines text → OPENING_LIMIT < front.bytes + length line + 1 → fault_of line ≡ None → IsTooMuch lines line
+pub too-much : (front : Front) (lines text : List (List ℕ)) (line : List ℕ) → HoldsFront front lines text → OPENING_LIMIT < front.bytes + length line + 1 → CanBeRead (limit_behind lines) line → IsTooMuch lines line
 too-much front lines text line h many good =
     let bytes : front.bytes + length line + 1 ≡ bytes_of (lines ++ line ∷ []) = ap (λ (n : ℕ). n + length line + 1) h.bytes ∙ sym (bytes-more lines line) in
     record { readable = good; many = omega (arith, bytes, many) }
 
 -- the lines are an opening
-pub whole-of : (front : Front) (before : List (List ℕ)) (line : List ℕ) (text : List (List ℕ)) (opening : OpeningText) → HoldsFront front (before ++ line ∷ []) text → front.missing ≡ Some 0 → IsUnfinished before
-    → opening.text ≡ text → opening.lines ≡ front.lines → IsWhole (before ++ line ∷ []) opening
-whole-of front before line text opening h is wanted same_text same_lines = record {
-  counted = same_lines ∙ h.counted;
-  is_opening = record {
-    good = h.good;
-    whole = asks front (before ++ line ∷ []) text 0 h is;
-    text_is = same_text ∙ h.text_is;
-    before = before;
-    last = line;
-    parted = refl;
-    unfinished = wanted;
-  };
-  texts = record {
-    texts = subst (All IsLine) (sym same_text) h.texts;
-    short = subst (All (λ (l : List ℕ). length l ≤ 4095)) (sym same_text) h.short;
-    few = subst (λ (l : List (List ℕ)). length l ≤ 16777216) (sym same_text) (few-of front (before ++ line ∷ []) text h);
-  };
-}
+pub whole-of : (front : Front) (before : List (List ℕ)) (line : List ℕ) (text : List (List ℕ)) (kind : OpeningKind) (opening : OpeningText) → HoldsFront front (before ++ line ∷ []) text → front.wanted ≡ Some (wants kind 0)
+    → IsUnfinished before → opening.kind ≡ kind → opening.text ≡ text → opening.lines ≡ front.lines → IsWhole (before ++ line ∷ []) opening
+whole-of front before line text kind opening h is wanted same_kind same_text same_lines =
+    let all : List (List ℕ) = before ++ line ∷ [] in
+    record {
+      counted = same_lines ∙ h.counted;
+      is_opening = record {
+        good = h.good;
+        whole = subst (λ (k : OpeningKind). AskFor all k 0) (sym same_kind) (asks front all text (wants kind 0) h is);
+        text_is = same_text ∙ tells front all text (wants kind 0) h is ∙ ap (λ (k : OpeningKind). told_in k (drop 1 all)) (sym same_kind);
+        before = before;
+        last = line;
+        parted = refl;
+        unfinished = wanted;
+      };
+      texts = record {
+        texts = subst (All IsLine) (sym same_text) h.texts;
+        short = subst (All (λ (l : List ℕ). length l ≤ HEARD_LIMIT)) (sym same_text) h.short;
+        few = subst (λ (l : List (List ℕ)). length l ≤ 16777216) (sym same_text) (few-of front all text h);
+      };
+    }
 
--- the first line doesn't ask for text lines
-pub first-refused : (front counted : Front) (lines text : List (List ℕ)) (line : List ℕ) → HoldsFront front lines text → front.missing ≡ None → IsCounted counted lines line → asked_in line ≡ None
+-- the first line asks for nothing
+pub first-refused : (front counted : Front) (lines text : List (List ℕ)) (line : List ℕ) → HoldsFront front lines text → front.wanted ≡ None → IsCounted counted lines line → wanted_in line ≡ None
     → (counted.lines ≡ length lines + 1) × CantStand lines line NoServe
-first-refused front counted lines text line h is c none = (c.counted, no_first (subst (AreMissing lines) is h.missing) c.good none)
+first-refused front counted lines text line h is c none = (c.counted, no_first (subst (IsWanted lines) is h.wanted) c.good none)
 
--- a later line is neither a text line nor passed over
-pub other-refused : (front counted : Front) (lines text : List (List ℕ)) (line : List ℕ) (missing : ℕ) → HoldsFront front lines text → front.missing ≡ Some missing → IsCounted counted lines line → is_text_line line ≡ false
-    → is_skipped line ≡ false → (counted.lines ≡ length lines + 1) × CantStand lines line BadLine
-other-refused front counted lines text line missing h is c no_text no_skipped = (c.counted, no_other (asks-some front lines text missing h is) c.good no_text no_skipped)
+-- a later line of an opening text is neither a text line nor passed over
+pub other-refused : (front counted : Front) (lines text : List (List ℕ)) (line : List ℕ) (wanted : Wanted) → HoldsFront front lines text → front.wanted ≡ Some wanted → wanted.kind ≡ Text → IsCounted counted lines line
+    → is_text_line line ≡ false → is_skipped line ≡ false → (counted.lines ≡ length lines + 1) × CantStand lines line BadLine
+other-refused front counted lines text line wanted h is of_text c no_text no_skipped =
+    let a : AskFor lines Text wanted.missing = subst (λ (k : OpeningKind). AskFor lines k wanted.missing) of_text (asks front lines text wanted h is) in
+    (c.counted, no_other wanted.missing a c.good no_text no_skipped)

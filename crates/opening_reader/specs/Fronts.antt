@@ -1,34 +1,47 @@
 -- What is kept of an opening while its lines are heard. No public contract speaks of it.
 use Rattle.std.specs.Prelude.{◌≡◌, ℕ, ◌+◌, ◌<◌, ◌≤◌, All, List, [], ◌∷◌, ◌++◌, length, map, drop, Option, Some, None, Result, Ok, Err}
 use Rattle.knit_base.specs.Lines.{IsLine, without_return}
+use Rattle.knit_ports.specs.declared.limit.TheConstants.{HEARD_LIMIT}
+use Rattle.line_cutter.specs.declared.line.TheConstants.{LINE_LIMIT}
 use Rattle.opening_reader.specs.HeardOpenings.{last_line}
-use Rattle.opening_reader.specs.Openings.{AreGood, AskFor, CantStand, IsFront, IsNextText, IsOpening, IsTooMuch, bytes_of, cause_at_end, texts_in}
+use Rattle.opening_reader.specs.Openings.{AreGood, AskFor, CantStand, IsFront, IsNextText, IsOpening, IsTooMuch, bytes_of, cause_at_end, limit_of, told_in}
 use Rattle.opening_reader.specs.declared.front.Front.{Front}
 use Rattle.opening_reader.specs.declared.front.TheConstants.{OPENING_LIMIT}
 use Rattle.opening_reader.specs.declared.opening.OpeningFault.{OpeningFault}
 use Rattle.opening_reader.specs.declared.opening.OpeningFault.TheVariants as fault
 use Rattle.opening_reader.specs.declared.opening.OpeningText.{OpeningText}
+use Rattle.opening_reader.specs.declared.opening.Wanted.{Wanted}
 use Rattle.script_reader.specs.declared.fault.Cause.{Cause}
 
 -- more lines are wanted
-abbrev pub IsOpen : Option ℕ → Type 0
+abbrev pub IsOpen : Option Wanted → Type 0
 IsOpen None = Unit {0}
-IsOpen (Some missing) = 0 < missing
+IsOpen (Some wanted) = 0 < wanted.missing
 
--- so many text lines are missing, which isn't known before the first line
-abbrev pub AreMissing : List (List ℕ) → Option ℕ → Type 0
-AreMissing lines None = lines ≡ []
-AreMissing lines (Some missing) = AskFor lines missing
+-- this is wanted behind the lines, which isn't known before the first
+abbrev pub IsWanted : List (List ℕ) → Option Wanted → Type 0
+IsWanted lines None = lines ≡ []
+IsWanted lines (Some wanted) = AskFor lines wanted.kind wanted.missing
+
+-- so long the next line may be
+abbrev pub limit_for : Option Wanted → ℕ
+limit_for None = LINE_LIMIT
+limit_for (Some wanted) = limit_of wanted.kind
+
+-- what the lines behind the first tell
+abbrev pub told_by : Option Wanted → List (List ℕ) → List (List ℕ)
+told_by None lines = []
+told_by (Some wanted) lines = told_in wanted.kind lines
 
 -- the front tells these lines, and this is their text
 pub record HoldsFront (front : Front) (lines text : List (List ℕ)) : Type 0 where
   pub counted : front.lines ≡ length lines
   pub bytes : front.bytes ≡ bytes_of lines
   pub good : AreGood lines
-  pub missing : AreMissing lines front.missing
-  pub text_is : text ≡ texts_in (drop 1 lines)
+  pub wanted : IsWanted lines front.wanted
+  pub text_is : text ≡ told_by front.wanted (drop 1 lines)
   pub texts : All IsLine text
-  pub short : All (λ line. length line ≤ 4095) text
+  pub short : All (λ line. length line ≤ HEARD_LIMIT) text
 
 -- its numbers are small enough for one more line
 pub record HasRoom (front : Front) (text : List (List ℕ)) : Type 0 where
@@ -57,13 +70,13 @@ IsTaken (Err fault) text lines line = StopsAt lines line fault
 -- these texts are lines, short ones, and not too many
 pub record AreTexts (text : List (List ℕ)) : Type 0 where
   pub texts : All IsLine text
-  pub short : All (λ line. length line ≤ 4095) text
+  pub short : All (λ line. length line ≤ HEARD_LIMIT) text
   pub few : length text ≤ 16777216
 
 -- the lines are an opening
 pub record IsWhole (lines : List (List ℕ)) (opening : OpeningText) : Type 0 where
   pub counted : opening.lines ≡ length lines
-  pub is_opening : IsOpening lines opening.text
+  pub is_opening : IsOpening lines opening.kind opening.text
   pub texts : AreTexts opening.text
 
 -- The input ended behind these lines and a last one, which has no line feed and is one where it has bytes: it can't be taken, or no opening

@@ -53,7 +53,7 @@ pub record IsOpened (pieces : List Piece) (pending : List ℕ) (opening : Openin
   pub lines : List (List ℕ)
   pub heard : AreLines pieces lines pending
   pub counted : opening.lines ≡ length lines
-  pub is_opening : IsOpening lines opening.text
+  pub is_opening : IsOpening lines opening.kind opening.text
 
 -- The last of the lines that were heard has this relation to those before it, with which an opening begins.
 pub record EndsIn (pieces : List Piece) (pending : List ℕ) (IsLast : List (List ℕ) → List ℕ → Type 0) : Type 0 where

@@ -1,38 +1,37 @@
 //! The lines with which an opening begins, one more at a time.
-ghost use Rattle.std.specs.Prelude.{◌≡◌, ◌≤◌, ◌<◌, ◌+◌, List, ℕ, None, Some, length, true, false};
+ghost use Rattle.std.specs.Prelude.{◌≡◌, ◌≤◌, ◌<◌, ◌+◌, ◌∷◌, [], List, ℕ, MatchOption, None, Some, length};
 ghost use Rattle.knit_base.specs.Lines.{HasNoLineEnd, IsLine, without_return};
 ghost use Rattle.knit_ports.specs.Ears.{kept_front};
+ghost use Rattle.knit_ports.specs.declared.limit.TheConstants.{HEARD_LIMIT};
 ghost use Rattle.opening_reader.specs.Fronts.{HasRoom, HoldsFront, IsCounted, IsOpen, IsTaken};
-ghost use Rattle.opening_reader.specs.Openings.{cause_at_end};
+ghost use Rattle.opening_reader.specs.Openings.{CanBeRead, MayFollow, cause_at_end, limit_behind, told_in};
 ghost use Rattle.opening_reader.specs.declared.opening.OpeningFault.TheVariants as fault;
-ghost use Rattle.script_reader.specs.Hearing.{fault_of};
+ghost use Rattle.opening_reader.specs.declared.opening.OpeningKind.TheVariants as kind;
 
-use crate::line::{asked_in, is_skipped, is_text_line, readable, text_of};
-use crate::opening::OpeningFault;
+use crate::line::{limit_for, readable, wanted_in};
+use crate::opening::{OpeningFault, OpeningKind, Wanted};
 use knit_base::{Lines, NoMemory};
 use line_cutter::without_return;
-use script_reader::Cause;
+use script_reader::{Cause, is_skipped, is_text_line, text_of};
 
 /// So many bytes the lines of an opening have at most, each with one line feed.
 pub const OPENING_LIMIT: u32 = 16_777_216;
 
-/// What was heard of an opening: how many lines and bytes, and how many of the text lines are missing that the first line asks for.
-/// Before the first line that isn't known.
+/// What was heard of an opening: how many lines and bytes, and what the first line still asks for. Before that line it isn't known.
 #[derive(Clone, Copy)]
 pub(crate) struct Front {
     pub(crate) lines: u32,
     pub(crate) bytes: u32,
-    pub(crate) missing: Option<u32>,
+    pub(crate) wanted: Option<Wanted>,
 }
 
-/// Whether the opening is whole.
-pub(crate) fn is_whole(front: Front) -> bool
-    ensures whole { result ≡ true → front.missing ≡ Some 0 }
-    ensures wanted { result ≡ false → IsOpen front.missing }
+/// The kind of the opening, if it is whole.
+pub(crate) fn whole_kind(front: Front) -> Option<OpeningKind>
+    ensures { MatchOption result (IsOpen front.wanted) (λ kind. front.wanted ≡ Some (record { kind = kind; missing = 0 })) }
 {
-    match front.missing {
-        Some(missing) => missing == 0,
-        None => false,
+    match front.wanted {
+        Some(wanted) if wanted.missing == 0 => Some(wanted.kind),
+        _ => None,
     }
 }
 
@@ -40,7 +39,7 @@ pub(crate) fn is_whole(front: Front) -> bool
 pub(crate) fn unfinished(number: u32, front: Front) -> OpeningFault
     ensures { (lines text : List (List ℕ)) → HoldsFront front lines text → number ≡ length lines + 1 → result ≡ fault.At (length lines + 1) (cause_at_end lines) }
 {
-    match front.missing {
+    match front.wanted {
         None => OpeningFault::At {
             line: number,
             cause: Cause::NoServe,
@@ -56,10 +55,10 @@ pub(crate) fn unfinished(number: u32, front: Front) -> OpeningFault
 pub(crate) fn take(text: &mut Lines, front: Front, kept: &[u8]) -> Result<Front, OpeningFault>
     requires one { HasNoLineEnd kept.now }
     requires room { HasRoom front text.old }
-    requires wanted { IsOpen front.missing }
+    requires wanted { IsOpen front.wanted }
     ensures { (lines : List (List ℕ)) (line : List ℕ) → HoldsFront front lines text.old → kept.now ≡ kept_front line → IsTaken result text.new lines (without_return line) }
 {
-    match readable(without_return(kept)) {
+    match readable(without_return(kept), limit_for(front.wanted)) {
         Ok(line) => take_readable(text, front, line),
         Err(cause) => Err(OpeningFault::At {
             line: front.lines + 1,
@@ -71,10 +70,10 @@ pub(crate) fn take(text: &mut Lines, front: Front, kept: &[u8]) -> Result<Front,
 // Takes a line that can be read.
 fn take_readable(text: &mut Lines, front: Front, line: &str) -> Result<Front, OpeningFault>
     requires line { IsLine line.now }
-    requires short { length line.now ≤ 4096 }
+    requires short { length line.now ≤ HEARD_LIMIT }
     requires room { HasRoom front text.old }
-    requires wanted { IsOpen front.missing }
-    ensures { (lines : List (List ℕ)) → HoldsFront front lines text.old → fault_of line.now ≡ None → IsTaken result text.new lines line.now }
+    requires wanted { IsOpen front.wanted }
+    ensures { (lines : List (List ℕ)) → HoldsFront front lines text.old → CanBeRead (limit_behind lines) line.now → IsTaken result text.new lines line.now }
 {
     let bytes = front.bytes + line.len() as u32 + 1;
     if OPENING_LIMIT < bytes {
@@ -83,23 +82,23 @@ fn take_readable(text: &mut Lines, front: Front, line: &str) -> Result<Front, Op
     let counted = Front {
         lines: front.lines + 1,
         bytes,
-        missing: front.missing,
+        wanted: front.wanted,
     };
-    match front.missing {
+    match front.wanted {
         None => take_first(counted, line),
-        Some(missing) => take_other(text, counted, missing, line),
+        Some(wanted) => take_other(text, counted, wanted, line),
     }
 }
 
 // Takes the first line, which is counted already.
 fn take_first(counted: Front, line: &str) -> Result<Front, OpeningFault>
-    ensures { (front : Front) (lines text : List (List ℕ)) → HoldsFront front lines text → front.missing ≡ None → IsCounted counted lines line.now → IsTaken result text lines line.now }
+    ensures { (front : Front) (lines text : List (List ℕ)) → HoldsFront front lines text → front.wanted ≡ None → IsCounted counted lines line.now → IsTaken result text lines line.now }
 {
-    match asked_in(line.as_bytes()) {
-        Some(asked) => Ok(Front {
+    match wanted_in(line.as_bytes()) {
+        Some(wanted) => Ok(Front {
             lines: counted.lines,
             bytes: counted.bytes,
-            missing: Some(asked),
+            wanted: Some(wanted),
         }),
         None => Err(OpeningFault::At {
             line: counted.lines,
@@ -108,28 +107,41 @@ fn take_first(counted: Front, line: &str) -> Result<Front, OpeningFault>
     }
 }
 
-// Takes a later line, which is counted already, where so many text lines are missing.
+// Takes a later line, which is counted already, where this is wanted.
 fn take_other(
     text: &mut Lines,
     counted: Front,
-    missing: u32,
+    wanted: Wanted,
     line: &str,
 ) -> Result<Front, OpeningFault>
     requires line { IsLine line.now }
-    requires short { length line.now ≤ 4096 }
-    requires some { 0 < missing }
+    requires short { length line.now ≤ HEARD_LIMIT }
+    requires some { 0 < wanted.missing }
     requires few { length text.old < 16777217 }
-    ensures { (front : Front) (lines : List (List ℕ)) → HoldsFront front lines text.old → front.missing ≡ Some missing → counted.missing ≡ Some missing → IsCounted counted lines line.now → IsTaken result text.new lines line.now }
+    ensures { (front : Front) (lines : List (List ℕ)) → HoldsFront front lines text.old → front.wanted ≡ Some wanted → counted.wanted ≡ Some wanted → IsCounted counted lines line.now → IsTaken result text.new lines line.now }
+{
+    match wanted.kind {
+        OpeningKind::Text => take_text(text, counted, wanted, line),
+        OpeningKind::Saved => take_piece(text, counted, wanted, line),
+    }
+}
+
+// Takes a later line of an opening text.
+fn take_text(
+    text: &mut Lines,
+    counted: Front,
+    wanted: Wanted,
+    line: &str,
+) -> Result<Front, OpeningFault>
+    requires line { IsLine line.now }
+    requires short { length line.now ≤ HEARD_LIMIT }
+    requires text { wanted.kind ≡ kind.Text }
+    requires some { 0 < wanted.missing }
+    requires few { length text.old < 16777217 }
+    ensures { (front : Front) (lines : List (List ℕ)) → HoldsFront front lines text.old → front.wanted ≡ Some wanted → counted.wanted ≡ Some wanted → IsCounted counted lines line.now → IsTaken result text.new lines line.now }
 {
     if is_text_line(line.as_bytes()) {
-        return match text.push(text_of(line)) {
-            Ok(()) => Ok(Front {
-                lines: counted.lines,
-                bytes: counted.bytes,
-                missing: Some(missing - 1),
-            }),
-            Err(NoMemory) => Err(OpeningFault::NoMemory),
-        };
+        return take_piece(text, counted, wanted, text_of(line));
     }
     if is_skipped(line.as_bytes()) {
         return Ok(counted);
@@ -138,4 +150,31 @@ fn take_other(
         line: counted.lines,
         cause: Cause::BadLine,
     })
+}
+
+// Takes the piece of the text that a later line tells, which is counted already.
+fn take_piece(
+    text: &mut Lines,
+    counted: Front,
+    wanted: Wanted,
+    piece: &str,
+) -> Result<Front, OpeningFault>
+    requires line { IsLine piece.now }
+    requires short { length piece.now ≤ HEARD_LIMIT }
+    requires some { 0 < wanted.missing }
+    requires few { length text.old < 16777217 }
+    ensures { (front : Front) (lines : List (List ℕ)) (line : List ℕ) → HoldsFront front lines text.old → front.wanted ≡ Some wanted → IsCounted counted lines line
+        → told_in wanted.kind (line ∷ []) ≡ piece.now ∷ [] → MayFollow wanted.kind line → IsTaken result text.new lines line }
+{
+    match text.push(piece) {
+        Ok(()) => Ok(Front {
+            lines: counted.lines,
+            bytes: counted.bytes,
+            wanted: Some(Wanted {
+                kind: wanted.kind,
+                missing: wanted.missing - 1,
+            }),
+        }),
+        Err(NoMemory) => Err(OpeningFault::NoMemory),
+    }
 }

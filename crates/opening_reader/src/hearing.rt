@@ -3,10 +3,11 @@ ghost use Rattle.std.specs.Prelude.{◌≡◌, ◌≤◌, [], All, IfOk, List, �
 ghost use Rattle.knit_base.specs.Lines.{HasNoLineEnd, IsLine};
 ghost use Rattle.knit_ports.specs.Ears.{kept_front};
 ghost use Rattle.knit_ports.specs.Pieces.{GoesOn, Piece};
+ghost use Rattle.knit_ports.specs.declared.limit.TheConstants.{HEARD_LIMIT};
 ghost use Rattle.opening_reader.specs.Fronts.{HasRoom, HoldsFront, IsFinished, IsOpen};
 ghost use Rattle.opening_reader.specs.HeardOpenings.{EndsOpening, OpeningCause};
 
-use crate::front::{Front, OPENING_LIMIT, is_whole, take, unfinished};
+use crate::front::{Front, OPENING_LIMIT, take, unfinished, whole_kind};
 use crate::opening::{OpeningFault, OpeningText};
 use knit_base::Lines;
 use knit_ports::{Ear, LineEnd, Talk};
@@ -24,7 +25,7 @@ pub fn hear_opening<T: Talk>(
     requires fresh { ear.old.pending ≡ [] }
     ensures heard { (pieces : List Piece) × GoesOn (T.told talk.old) (T.told talk.new) pieces × EndsOpening pieces ear.new.pending result }
     ensures texts { IfOk result (λ opening. All IsLine opening.text) }
-    ensures short { IfOk result (λ opening. All (λ line. length line ≤ 4095) opening.text) }
+    ensures short { IfOk result (λ opening. All (λ line. length line ≤ HEARD_LIMIT) opening.text) }
     ensures few { IfOk result (λ opening. length opening.text ≤ 16777216) }
     ensures cause { OpeningCause (T.faults talk.old) (T.faults talk.new) result }
 {
@@ -32,7 +33,7 @@ pub fn hear_opening<T: Talk>(
     let mut front = Front {
         lines: 0,
         bytes: 0,
-        missing: None,
+        wanted: None,
     };
     // `i` lines were heard, each of which has a byte at least.
     'hearing: for i in 0..OPENING_LIMIT + 1 {
@@ -48,8 +49,9 @@ pub fn hear_opening<T: Talk>(
             Ok(front) => front,
             Err(fault) => return Err(fault),
         };
-        if is_whole(front) {
+        if let Some(kind) = whole_kind(front) {
             return Ok(OpeningText {
+                kind,
                 text,
                 lines: front.lines,
             });
@@ -62,7 +64,7 @@ pub fn hear_opening<T: Talk>(
 fn finish(text: Lines, front: Front, line: &[u8]) -> Result<OpeningText, OpeningFault>
     requires one { HasNoLineEnd line.now }
     requires room { HasRoom front text }
-    requires wanted { IsOpen front.missing }
+    requires wanted { IsOpen front.wanted }
     ensures { (lines : List (List ℕ)) (last : List ℕ) → HoldsFront front lines text → line.now ≡ kept_front last → IsFinished result lines last }
 {
     let number = front.lines + 1;
@@ -74,8 +76,9 @@ fn finish(text: Lines, front: Front, line: &[u8]) -> Result<OpeningText, Opening
         Ok(front) => front,
         Err(fault) => return Err(fault),
     };
-    if is_whole(front) {
+    if let Some(kind) = whole_kind(front) {
         return Ok(OpeningText {
+            kind,
             text,
             lines: front.lines,
         });

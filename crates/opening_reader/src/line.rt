@@ -1,20 +1,22 @@
 //! One line by itself.
-ghost use Rattle.std.specs.Prelude.{◌≡◌, ◌≤◌, MatchResult, None, Some, drop, length, true};
+ghost use Rattle.std.specs.Prelude.{◌≡◌, ◌≤◌, MatchResult, None, Some, length};
 ghost use Rattle.knit_base.specs.Lines.{HasNoLineEnd, IsLine};
-ghost use Rattle.opening_reader.specs.Openings.{asked_in};
-ghost use Rattle.script_reader.specs.Hearing.{fault_of};
-ghost use Rattle.script_reader.specs.Statements.{is_skipped, is_text_line};
+ghost use Rattle.knit_ports.specs.declared.limit.TheConstants.{HEARD_LIMIT};
+ghost use Rattle.opening_reader.specs.Fronts.{limit_for};
+ghost use Rattle.opening_reader.specs.Openings.{fault_within, wanted_in};
 
-use knitout_reader::is_blank_text;
+use crate::opening::{OpeningKind, Wanted};
+use knit_ports::HEARD_LIMIT;
 use line_cutter::LINE_LIMIT;
 use script_reader::{Cause, TalkOpening, talk_opening};
 
-/// The line as a text, or why it can't be read.
-pub(crate) fn readable(line: &[u8]) -> Result<&str, Cause>
+/// The line as a text, or why it can't be read, where it may have so many bytes.
+pub(crate) fn readable(line: &[u8], limit: usize) -> Result<&str, Cause>
     requires line { HasNoLineEnd line.now }
-    ensures { MatchResult result (λ read. (fault_of line.now ≡ None) × (read.now ≡ line.now) × IsLine read.now × (length read.now ≤ 4096)) (λ cause. fault_of line.now ≡ Some cause) }
+    requires limit { limit ≤ HEARD_LIMIT }
+    ensures { MatchResult result (λ read. (fault_within limit line.now ≡ None) × (read.now ≡ line.now) × IsLine read.now × (length read.now ≤ HEARD_LIMIT)) (λ cause. fault_within limit line.now ≡ Some cause) }
 {
-    if LINE_LIMIT < line.len() {
+    if limit < line.len() {
         return Err(Cause::LineLong);
     }
     match str::from_utf8(line) {
@@ -23,36 +25,31 @@ pub(crate) fn readable(line: &[u8]) -> Result<&str, Cause>
     }
 }
 
-/// How many text lines a first line asks for.
-pub(crate) fn asked_in(line: &[u8]) -> Option<u32>
-    ensures { result ≡ asked_in line.now }
+/// So many bytes the next line may have, where this is wanted.
+pub(crate) fn limit_for(wanted: Option<Wanted>) -> usize
+    ensures { result ≡ limit_for wanted }
 {
-    match talk_opening(line) {
-        Some(TalkOpening::Lines(count)) => Some(count),
-        _ => None,
+    match wanted {
+        None => LINE_LIMIT,
+        Some(wanted) => match wanted.kind {
+            OpeningKind::Text => LINE_LIMIT,
+            OpeningKind::Saved => HEARD_LIMIT,
+        },
     }
 }
 
-/// Whether the line is `|` and a text.
-pub(crate) fn is_text_line(line: &[u8]) -> bool
-    ensures { result ≡ is_text_line line.now }
+/// What a first line asks for.
+pub(crate) fn wanted_in(line: &[u8]) -> Option<Wanted>
+    ensures { result ≡ wanted_in line.now }
 {
-    line.starts_with(b"|")
-}
-
-/// The text of a text line.
-pub(crate) fn text_of(line: &str) -> &str
-    requires line { IsLine line.now }
-    requires text { is_text_line line.now ≡ true }
-    ensures text { result.now ≡ drop 1 line.now }
-    ensures line { IsLine result.now }
-{
-    &line[1..]
-}
-
-/// Whether the line is passed over: it is blank, or begins with `#`.
-pub(crate) fn is_skipped(line: &[u8]) -> bool
-    ensures { result ≡ is_skipped line.now }
-{
-    line.starts_with(b"#") || is_blank_text(line)
+    match talk_opening(line)? {
+        TalkOpening::Lines(missing) => Some(Wanted {
+            kind: OpeningKind::Text,
+            missing,
+        }),
+        TalkOpening::Journal(missing) => Some(Wanted {
+            kind: OpeningKind::Saved,
+            missing,
+        }),
+    }
 }

@@ -1,7 +1,7 @@
 //! Openings that are heard in pieces.
 ghost use Rattle.std.specs.Prelude.{◌≤◌};
 
-use crate::{OpeningFault, OpeningText, hear_opening};
+use crate::{OpeningFault, OpeningKind, OpeningText, bytes_of, hear_opening};
 use knit_base::NoMemory;
 use knit_ports::{Ear, MemoryTalk};
 use script_reader::Cause;
@@ -16,31 +16,38 @@ fn talk_of(alloc: Global, text: &[u8], gives: u32, fails: u32) -> Result<MemoryT
     Ok(MemoryTalk::of(alloc, text, gives, 1, failing))
 }
 
-// Whether the opening that is told has so many lines, and these two texts.
-fn has(opening: &OpeningText, lines: u32, first: &str, second: &str) -> bool {
-    opening.lines == lines
-        && opening.text.len() == 2
-        && opening.text.get(0) == Some(first)
-        && opening.text.get(1) == Some(second)
+// Whether the opening that is told has this kind, so many lines, and this text.
+fn has(
+    alloc: Global,
+    opening: &OpeningText,
+    kind: OpeningKind,
+    lines: u32,
+    text: &[u8],
+) -> Result<bool, NoMemory> {
+    let told = bytes_of(alloc, &opening.text)?;
+    Ok(opening.kind == kind && opening.lines == lines && told.as_slice() == text)
 }
 
-// Whether an opening of so many lines is told for the text, which has the texts `a` and none, and the ear then tells this line.
+// Whether an opening of this kind is told for the input, with so many lines and this text, and the ear then tells this line.
 fn is_opened(
     alloc: Global,
-    text: &[u8],
+    input: &[u8],
     gives: u32,
+    kind: OpeningKind,
     lines: u32,
+    text: &[u8],
     next: &[u8],
 ) -> Result<bool, NoMemory>
     requires { 1 ≤ gives }
 {
-    let mut talk = talk_of(alloc, text, gives, 0)?;
+    let mut talk = talk_of(alloc, input, gives, 0)?;
     let mut ear = Ear::new(alloc)?;
     let Ok(opening) = hear_opening(alloc, &mut talk, &mut ear) else {
         return Ok(false);
     };
-    let is_heard = ear.hear(&mut talk).is_ok();
-    Ok(is_heard && has(&opening, lines, "a", "") && ear.line() == next)
+    let is_next = ear.hear(&mut talk).is_ok() && ear.line() == next;
+    let is_told = has(alloc, &opening, kind, lines, text)?;
+    Ok(is_next && is_told)
 }
 
 // Whether this is told for the text, where the call with this number fails.
@@ -70,6 +77,21 @@ fn skipped(alloc: Global, lines: u32, bytes: usize) -> Result<Vec<u8>, NoMemory>
     Ok(text)
 }
 
+// A line of so many bytes, with its feed.
+fn line_of(alloc: Global, bytes: usize) -> Result<Vec<u8>, NoMemory> {
+    let mut line = Vec::new(alloc);
+    line.resize(bytes, b'a')?;
+    line.push(b'\n')?;
+    Ok(line)
+}
+
+// A first line that asks for a saved text of one line, and this line.
+fn saved_of(alloc: Global, line: &[u8]) -> Result<Vec<u8>, NoMemory> {
+    let mut input = Vec::from_slice(alloc, b"serve 1 journal 1\n")?;
+    input.extend_from_slice(line)?;
+    Ok(input)
+}
+
 #[test]
 fn an_opening_is_told_however_it_comes(rt: HostRuntime) -> Result<(), NoMemory> {
     for gives in [1, 7, 1_000] {
@@ -78,7 +100,9 @@ fn an_opening_is_told_however_it_comes(rt: HostRuntime) -> Result<(), NoMemory> 
                 rt.alloc(),
                 b"serve 1 lines 2\n#\n|a\r\n \n|\nverdict\n",
                 gives,
+                OpeningKind::Text,
                 5,
+                b"a\n\n",
                 b"verdict"
             )?
         );
@@ -87,14 +111,68 @@ fn an_opening_is_told_however_it_comes(rt: HostRuntime) -> Result<(), NoMemory> 
 }
 
 #[test]
+fn a_saved_text_is_told_as_it_stands(rt: HostRuntime) -> Result<(), NoMemory> {
+    for gives in [1, 7, 1_000] {
+        assert!(rt;
+            is_opened(
+                rt.alloc(),
+                b"serve 1 journal 4\nhead 1\n|a\r\n\n# b\nverdict\n",
+                gives,
+                OpeningKind::Saved,
+                5,
+                b"head 1\n|a\n\n# b\n",
+                b"verdict"
+            )?
+        );
+    }
+    Ok(())
+}
+
+#[test]
+fn a_saved_text_of_no_lines_is_whole_at_once(rt: HostRuntime) -> Result<(), NoMemory> {
+    assert!(rt;
+        is_opened(
+            rt.alloc(),
+            b"serve 1 journal 0\n|a\n",
+            3,
+            OpeningKind::Saved,
+            1,
+            b"",
+            b"|a"
+        )?
+    );
+    Ok(())
+}
+
+#[test]
+fn a_line_of_a_saved_text_may_be_longer(rt: HostRuntime) -> Result<(), NoMemory> {
+    for bytes in [4_097, 8_192] {
+        let line = line_of(rt.alloc(), bytes)?;
+        let input = saved_of(rt.alloc(), &line)?;
+        assert!(rt; is_opened(rt.alloc(), &input, 1_000, OpeningKind::Saved, 2, &line, b"")?);
+    }
+    Ok(())
+}
+
+#[test]
 fn a_last_line_needs_no_feed(rt: HostRuntime) -> Result<(), NoMemory> {
-    assert!(rt; is_opened(rt.alloc(), b"serve 1 lines 2\n|a\n|", 3, 3, b"")?);
+    assert!(rt;
+        is_opened(
+            rt.alloc(),
+            b"serve 1 lines 2\n|a\n|",
+            3,
+            OpeningKind::Text,
+            3,
+            b"a\n\n",
+            b""
+        )?
+    );
     Ok(())
 }
 
 #[test]
 fn a_line_that_cannot_stand_there_is_told(rt: HostRuntime) -> Result<(), NoMemory> {
-    assert!(rt; is_refused(rt.alloc(), b"serve 1 journal 2\n", 1, Cause::NoServe)?);
+    assert!(rt; is_refused(rt.alloc(), b"serve 1 blocks 2\n", 1, Cause::NoServe)?);
     assert!(rt;
         is_refused(
             rt.alloc(),
@@ -104,6 +182,7 @@ fn a_line_that_cannot_stand_there_is_told(rt: HostRuntime) -> Result<(), NoMemor
         )?
     );
     assert!(rt; is_refused(rt.alloc(), b"serve 1 lines 2\n|\xff\n", 2, Cause::NotUtf8)?);
+    assert!(rt; is_refused(rt.alloc(), b"serve 1 journal 1\n\xff\n", 2, Cause::NotUtf8)?);
     Ok(())
 }
 
@@ -112,6 +191,7 @@ fn an_end_before_the_last_line_is_told(rt: HostRuntime) -> Result<(), NoMemory> 
     assert!(rt; is_refused(rt.alloc(), b"", 1, Cause::NoServe)?);
     assert!(rt; is_refused(rt.alloc(), b"serve 1 lines 2\n|a\n", 3, Cause::BadLine)?);
     assert!(rt; is_refused(rt.alloc(), b"serve 1 lines 2\n|a", 3, Cause::BadLine)?);
+    assert!(rt; is_refused(rt.alloc(), b"serve 1 journal 2\n|a\n", 3, Cause::BadLine)?);
     Ok(())
 }
 
@@ -119,6 +199,8 @@ fn an_end_before_the_last_line_is_told(rt: HostRuntime) -> Result<(), NoMemory> 
 fn a_long_line_is_told_and_too_many_bytes_are(rt: HostRuntime) -> Result<(), NoMemory> {
     let long = skipped(rt.alloc(), 1, 4_098)?;
     assert!(rt; is_refused(rt.alloc(), &long, 2, Cause::LineLong)?);
+    let longer = saved_of(rt.alloc(), &line_of(rt.alloc(), 8_193)?)?;
+    assert!(rt; is_refused(rt.alloc(), &longer, 2, Cause::LineLong)?);
     let many = skipped(rt.alloc(), 4_096, 4_096)?;
     assert!(rt; tells(rt.alloc(), &many, 0, OpeningFault::TooManyBytes)?);
     Ok(())

@@ -35,6 +35,7 @@ mod words;
 pub use command::{Command, CommandList, Place, Script, SessionScripts};
 pub use fault::{Cause, ScriptFault};
 pub use groups::read_groups;
+pub use line::{is_skipped, is_text_line, text_of};
 pub use listener::Listener;
 pub use one_command::read_command;
 pub use order::{Heard, Order, TextEdit};

@@ -127,14 +127,14 @@ pub(crate) fn kind_of(line: &[u8]) -> Kind
 }
 
 /// Whether the line is `|` and a text.
-pub(crate) fn is_text_line(line: &[u8]) -> bool
+pub fn is_text_line(line: &[u8]) -> bool
     ensures { result ≡ is_text_line line.now }
 {
     line.starts_with(b"|")
 }
 
 /// The text of a text line.
-pub(crate) fn text_of(line: &str) -> &str
+pub fn text_of(line: &str) -> &str
     requires line { IsLine line.now }
     requires text { is_text_line line.now ≡ true }
     ensures text { result.now ≡ drop 1 line.now }
@@ -144,7 +144,7 @@ pub(crate) fn text_of(line: &str) -> &str
 }
 
 /// Whether the line is as if it weren't there.
-pub(crate) fn is_skipped(line: &[u8]) -> bool
+pub fn is_skipped(line: &[u8]) -> bool
     ensures { result ≡ is_skipped line.now }
 {
     line.starts_with(b"#") || is_blank_text(line)

@@ -32,36 +32,36 @@ use Rattle.talk_desk.proofs.Standings.{standing-more, state-more}
 pub returned-one : (line : List ℕ) → HasNoLineEnd line → HasNoLineEnd (without_return line)
 returned-one line one = let front = return_front line in subst HasNoLineEnd (sym front.is) (All-take (λ (byte : ℕ). byte ≢ 10) front.count line one)
 
-module _ (style : Style) (opening : Opening) (first : ℕ) (told : List (Order × Answer)) (host : Host) (before after : List ℕ) where
+module _ (style : Style) (opening : Opening) (earlier : List Chunk) (first : ℕ) (told : List (Order × Answer)) (host : Host) (before after : List ℕ) where
   -- nothing was asked
-  pub none-taken : IsAt opening host (standing_told style opening told) → AreTaken style opening first told [] host before before
+  pub none-taken : IsAt opening host (standing_told style opening earlier told) → AreTaken style opening earlier first told [] host before before
   none-taken at = record { answers = []; given = tt; at = at; said = sym (append-nil before) }
 
   -- one order was answered
-  pub one-taken : (o : Order) → IsTaken opening (standing_told style opening told) o style host before after → AreTaken style opening first told (o ∷ []) host before after
+  pub one-taken : (o : Order) → IsTaken opening (standing_told style opening earlier told) o style host before after → AreTaken style opening earlier first told (o ∷ []) host before after
   one-taken o t = record {
     answers = t.answer ∷ [];
     given = (t.given, tt);
-    at = subst (IsAt opening host) (sym (standing-more style.json style.head opening (standing_at_start style.json style.head opening) told o t.answer)) t.at;
-    said = t.said ∙ ap (λ (l : List ℕ). before ++ l) (sym (append-nil (text style.json style.head opening (standing_told style opening told) o t.answer)));
+    at = subst (IsAt opening host) (sym (standing-more style.json style.head opening (standing_at_start style.json style.head opening earlier) told o t.answer)) t.at;
+    said = t.said ∙ ap (λ (l : List ℕ). before ++ l) (sym (append-nil (text style.json style.head opening (standing_told style opening earlier told) o t.answer)));
   }
 
 -- an order was answered, and then others
-pub more-taken : (style : Style) (opening : Opening) (first : ℕ) (told : List (Order × Answer)) (host next : Host) (before between after : List ℕ) (o : Order) (os : List Order) (t : IsTaken opening (standing_told style opening told) o style host before between)
-    → AreTaken style opening first (told ++ (o, t.answer) ∷ []) os next between after → AreTaken style opening first told (o ∷ os) next before after
-more-taken style opening first told host next before between after o os t rest = record {
+pub more-taken : (style : Style) (opening : Opening) (earlier : List Chunk) (first : ℕ) (told : List (Order × Answer)) (host next : Host) (before between after : List ℕ) (o : Order) (os : List Order) (t : IsTaken opening (standing_told style opening earlier told) o style host before between)
+    → AreTaken style opening earlier first (told ++ (o, t.answer) ∷ []) os next between after → AreTaken style opening earlier first told (o ∷ os) next before after
+more-taken style opening earlier first told host next before between after o os t rest = record {
   answers = t.answer ∷ rest.answers;
   given = (t.given, rest.given);
   at = rest.at;
-  said = rest.said ∙ ap (λ (l : List ℕ). l ++ text_of (asking style.json style.head opening first) (told ++ (o, t.answer) ∷ []) os rest.answers) t.said
-      ∙ append_assoc before (text style.json style.head opening (standing_told style opening told) o t.answer) (text_of (asking style.json style.head opening first) (told ++ (o, t.answer) ∷ []) os rest.answers);
+  said = rest.said ∙ ap (λ (l : List ℕ). l ++ text_of (asking style.json style.head opening earlier first) (told ++ (o, t.answer) ∷ []) os rest.answers) t.said
+      ∙ append_assoc before (text style.json style.head opening (standing_told style opening earlier told) o t.answer) (text_of (asking style.json style.head opening earlier first) (told ++ (o, t.answer) ∷ []) os rest.answers);
 }
 
 -- where the sessions stand behind one order
-pub stands-taken : (style : Style) (opening : Opening) (told : List (Order × Answer)) (host : Host) (before after : List ℕ) (o : Order) (t : IsTaken opening (standing_told style opening told) o style host before after)
-    → IsAt opening host (standing_told style opening (told ++ (o, t.answer) ∷ []))
-stands-taken style opening told host before after o t =
-    subst (IsAt opening host) (sym (standing-more style.json style.head opening (standing_at_start style.json style.head opening) told o t.answer)) t.at
+pub stands-taken : (style : Style) (opening : Opening) (earlier : List Chunk) (told : List (Order × Answer)) (host : Host) (before after : List ℕ) (o : Order) (t : IsTaken opening (standing_told style opening earlier told) o style host before after)
+    → IsAt opening host (standing_told style opening earlier (told ++ (o, t.answer) ∷ []))
+stands-taken style opening earlier told host before after o t =
+    subst (IsAt opening host) (sym (standing-more style.json style.head opening (standing_at_start style.json style.head opening earlier) told o t.answer)) t.at
 
 -- what a line asks for, of which a front is kept
 pub kept-orders : (number : ℕ) (h : Hearing) (line whole : List ℕ) → line ≡ kept_front whole → heard h number (without_return line) ≡ heard h number (without_return whole)
@@ -75,7 +75,7 @@ pub lawful-orders : (first number : ℕ) (lines : List (List ℕ)) (line : List 
 lawful-orders first number lines line = (sound_heard _ number (without_return line) (sound-behind first lines)).1
 
 -- one more line was answered
-module _ (host next : Host) (listener heard_since : Listener) (first number : ℕ) (lines : List (List ℕ)) (as_ : List Answer) (line whole before after : List ℕ) (b : IsBehind host listener first lines as_)
+module _ (host next : Host) (listener heard_since : Listener) (earlier : List Chunk) (first number : ℕ) (lines : List (List ℕ)) (as_ : List Answer) (line whole before after : List ℕ) (b : IsBehind host listener earlier first lines as_)
     (counted : number ≡ first + length lines) (kept : line ≡ kept_front whole) (style : next.document.style ≡ host.document.style) (opening : opening_in next.document ≡ opening_in host.document) where
   abbrev pub h : Hearing
   h = hearing_behind first_hearing first (map without_return lines)
@@ -84,30 +84,30 @@ module _ (host next : Host) (listener heard_since : Listener) (first number : �
   asked = (heard h (first + length lines) (without_return whole)).0
 
   abbrev pub told : List (Order × Answer)
-  told = state_of (asking host.document.style.json host.document.style.head (opening_in host.document) first) [] (orders_from first_hearing first (map without_return lines)) as_
+  told = state_of (asking host.document.style.json host.document.style.head (opening_in host.document) earlier first) [] (orders_from first_hearing first (map without_return lines)) as_
 
   pub line-heard : heard h number (without_return line) ≡ heard h (first + length lines) (without_return whole)
   line-heard = kept-orders number h line whole kept ∙ ap (λ (n : ℕ). heard h n (without_return whole)) counted
 
-  pub behind-more : Hears heard_since (heard h number (without_return line)).1 → (t : AreTaken host.document.style (opening_in host.document) first told asked next before after)
-      → IsBehind next heard_since first (lines ++ whole ∷ []) (as_ ++ t.answers)
+  pub behind-more : Hears heard_since (heard h number (without_return line)).1 → (t : AreTaken host.document.style (opening_in host.document) earlier first told asked next before after)
+      → IsBehind next heard_since earlier first (lines ++ whole ∷ []) (as_ ++ t.answers)
   behind-more hears t =
       let orders = orders_returned first_hearing first lines whole in
-      let all = answers-more (asking host.document.style.json host.document.style.head (opening_in host.document) first) [] (orders_from first_hearing first (map without_return lines)) as_ asked t.answers b.answered t.given in
-      let here : AreAnswers (asking host.document.style.json host.document.style.head (opening_in host.document) first) [] (orders_from first_hearing first (map without_return (lines ++ whole ∷ []))) (as_ ++ t.answers) =
-      subst (λ (os : List Order). AreAnswers (asking host.document.style.json host.document.style.head (opening_in host.document) first) [] os (as_ ++ t.answers)) (sym orders) all in
-      let stands : IsAt (opening_in host.document) next (standing_of host.document.style.json host.document.style.head (opening_in host.document) first (lines ++ whole ∷ []) (as_ ++ t.answers)) =
-      subst (λ (l : List (Order × Answer)). IsAt (opening_in host.document) next (standing_told host.document.style (opening_in host.document) l))
-      (sym (ap (λ (os : List Order). state_of (asking host.document.style.json host.document.style.head (opening_in host.document) first) [] os (as_ ++ t.answers)) orders
-      ∙ state-more host.document.style.json host.document.style.head (opening_in host.document) first [] (orders_from first_hearing first (map without_return lines)) as_ asked t.answers b.answered)) t.at in
+      let all = answers-more (asking host.document.style.json host.document.style.head (opening_in host.document) earlier first) [] (orders_from first_hearing first (map without_return lines)) as_ asked t.answers b.answered t.given in
+      let here : AreAnswers (asking host.document.style.json host.document.style.head (opening_in host.document) earlier first) [] (orders_from first_hearing first (map without_return (lines ++ whole ∷ []))) (as_ ++ t.answers) =
+      subst (λ (os : List Order). AreAnswers (asking host.document.style.json host.document.style.head (opening_in host.document) earlier first) [] os (as_ ++ t.answers)) (sym orders) all in
+      let stands : IsAt (opening_in host.document) next (standing_of host.document.style.json host.document.style.head (opening_in host.document) earlier first (lines ++ whole ∷ []) (as_ ++ t.answers)) =
+      subst (λ (l : List (Order × Answer)). IsAt (opening_in host.document) next (standing_told host.document.style (opening_in host.document) earlier l))
+      (sym (ap (λ (os : List Order). state_of (asking host.document.style.json host.document.style.head (opening_in host.document) earlier first) [] os (as_ ++ t.answers)) orders
+      ∙ state-more host.document.style.json host.document.style.head (opening_in host.document) earlier first [] (orders_from first_hearing first (map without_return lines)) as_ asked t.answers b.answered)) t.at in
       record {
         hears = subst (Hears heard_since) (ap (λ x. x.1) line-heard ∙ sym (hearing_returned first_hearing first lines whole)) hears;
-        answered = subst (λ (p : Style × Opening). AreAnswers (asking p.0.json p.0.head p.1 first) [] (orders_from first_hearing first (map without_return (lines ++ whole ∷ []))) (as_ ++ t.answers)) (λ i. (sym style i, sym opening i)) here;
-        at = subst (λ (p : Style × Opening). IsAt p.1 next (standing_of p.0.json p.0.head p.1 first (lines ++ whole ∷ []) (as_ ++ t.answers))) (λ i. (sym style i, sym opening i)) stands;
+        answered = subst (λ (p : Style × Opening). AreAnswers (asking p.0.json p.0.head p.1 earlier first) [] (orders_from first_hearing first (map without_return (lines ++ whole ∷ []))) (as_ ++ t.answers)) (λ i. (sym style i, sym opening i)) here;
+        at = subst (λ (p : Style × Opening). IsAt p.1 next (standing_of p.0.json p.0.head p.1 earlier first (lines ++ whole ∷ []) (as_ ++ t.answers))) (λ i. (sym style i, sym opening i)) stands;
       }
 
-  pub answered-more : (t : AreTaken host.document.style (opening_in host.document) first told asked next before after)
-      → IsAnswered (asking host.document.style.json host.document.style.head (opening_in host.document) first) lines as_ whole before after t.answers
+  pub answered-more : (t : AreTaken host.document.style (opening_in host.document) earlier first told asked next before after)
+      → IsAnswered (asking host.document.style.json host.document.style.head (opening_in host.document) earlier first) lines as_ whole before after t.answers
   answered-more t = record { asked = asked; orders = orders_returned first_hearing first lines whole; given = t.given; text = t.said }
 
 -- what the end of the input asks for is refused

@@ -4,6 +4,7 @@ mod CutLines
 mod Fresh
 mod GivenOrders
 mod LawfulOrders
+mod LegalConversations
 mod MoreOrders
 mod Said
 mod Standings

@@ -2,6 +2,7 @@
 use Rattle.std.proofs.Common.{◌≡◌, ℕ, Bool, List, [], ◌∷◌, ◌++◌, refl}
 use Rattle.edit_journal.specs.declared.opening.Opening.{Opening}
 use Rattle.script_reader.specs.Hearing.{Order}
+use Rattle.edit_groups.specs.declared.chunk.Chunk.{Chunk}
 use Rattle.talk_loop.specs.InStep.{AreAnswers, state_of}
 use Rattle.talk_desk.specs.Conversation.{Answer, Standing, asking, behind, standing_behind}
 
@@ -11,9 +12,9 @@ module _ (json : Bool) (head : List (List ℕ)) (opening : Opening) where
   standing-more s (h ∷ hs) o a = standing-more (behind json head opening s h.0 h.1) hs o a
 
   -- orders and their answers, and one more
-  pub state-more : (number : ℕ) (before : List (Order × Answer)) (os : List Order) (as_ : List Answer) (more : List Order) (bs : List Answer) → AreAnswers (asking json head opening number) before os as_
-      → state_of (asking json head opening number) before (os ++ more) (as_ ++ bs) ≡ state_of (asking json head opening number) (state_of (asking json head opening number) before os as_) more bs
-  state-more number before [] [] more bs h = refl
-  state-more number before [] (a ∷ as_) more bs h = absurd h
-  state-more number before (o ∷ os) [] more bs h = absurd h
-  state-more number before (o ∷ os) (a ∷ as_) more bs h = state-more number (before ++ (o, a) ∷ []) os as_ more bs h.1
+  pub state-more : (earlier : List Chunk) (number : ℕ) (before : List (Order × Answer)) (os : List Order) (as_ : List Answer) (more : List Order) (bs : List Answer) → AreAnswers (asking json head opening earlier number) before os as_
+      → state_of (asking json head opening earlier number) before (os ++ more) (as_ ++ bs) ≡ state_of (asking json head opening earlier number) (state_of (asking json head opening earlier number) before os as_) more bs
+  state-more earlier number before [] [] more bs h = refl
+  state-more earlier number before [] (a ∷ as_) more bs h = absurd h
+  state-more earlier number before (o ∷ os) [] more bs h = absurd h
+  state-more earlier number before (o ∷ os) (a ∷ as_) more bs h = state-more earlier number (before ++ (o, a) ∷ []) os as_ more bs h.1

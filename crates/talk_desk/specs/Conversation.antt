@@ -14,7 +14,7 @@ use Rattle.edit_groups.specs.Sessions.{Heard, core}
 use Rattle.edit_book.specs.declared.reply.Reply.TheVariants as reply
 use Rattle.edit_groups.specs.declared.chunk.Chunk.{Chunk}
 use Rattle.edit_groups.specs.declared.reply.GroupReply.TheVariants as group
-use Rattle.turn_book.specs.OneOrder.{Point, first_point, point_behind}
+use Rattle.turn_book.specs.OneOrder.{Point, point_behind}
 use Rattle.turn_book.specs.Walk.{IsGiven}
 use Rattle.journal_file.specs.SavedParts.{first_blocks}
 use Rattle.journal_file.specs.Spelling.{spelling}
@@ -115,29 +115,29 @@ module _ (json : Bool) (head : List (List ℕ)) (opening : Opening) where
   text s (Ask n c) a = []
   text s (Tell n q) a = question_text (entries_in s) (frame s n) a
 
-  -- before the first order
-  abbrev pub standing_at_start : Standing
-  standing_at_start = record { point = first_point (core opening) (first_memory opening); answered = λ n. 0 }
+  -- before the first order, behind these steps: no session remembers them
+  abbrev pub standing_at_start : List Chunk → Standing
+  standing_at_start earlier = record { point = record { entries = earlier; memories = λ n. first_memory opening }; answered = λ n. 0 }
 
   -- where orders and the answers to them lead
   abbrev pub standing_behind : Standing → List (Order × Answer) → Standing
   standing_behind s [] = s
   standing_behind s (h ∷ hs) = standing_behind (behind s h.0 h.1) hs
 
-  -- what lines ask for, of which the first has this number, each with or without a carriage return at its end; each answer is told by the orders and answers before it
-  abbrev pub asking : ℕ → Asking Order Answer (List (Order × Answer))
-  asking number = record {
+  -- what lines ask for behind these steps, of which the first has this number, each with or without a carriage return at its end; each answer is told by the orders and answers before it
+  abbrev pub asking : List Chunk → ℕ → Asking Order Answer (List (Order × Answer))
+  asking earlier number = record {
     first = number;
     orders = λ lines. orders_from first_hearing number (map without_return lines);
     start = [];
-    is_given = λ before o a. is_given (standing_behind standing_at_start before) o a;
+    is_given = λ before o a. is_given (standing_behind (standing_at_start earlier) before) o a;
     behind = λ before o a. before ++ (o, a) ∷ [];
-    text = λ before o a. text (standing_behind standing_at_start before) o a;
+    text = λ before o a. text (standing_behind (standing_at_start earlier) before) o a;
   }
 
   -- how the conversation stands behind these lines and the answers to what they ask for
-  abbrev pub standing_of : ℕ → List (List ℕ) → List Answer → Standing
-  standing_of number lines answers = standing_behind standing_at_start (state_of (asking number) [] ((asking number).orders lines) answers)
+  abbrev pub standing_of : List Chunk → ℕ → List (List ℕ) → List Answer → Standing
+  standing_of earlier number lines answers = standing_behind (standing_at_start earlier) (state_of (asking earlier number) [] ((asking earlier number).orders lines) answers)
 
   -- the refusals of what isn't whole
   abbrev pub refusals : List Order → Text
@@ -146,7 +146,7 @@ module _ (json : Bool) (head : List (List ℕ)) (opening : Opening) where
   refusals (o ∷ os) = refusals os
 
   -- What ends a conversation, behind these lines and the answers to what they ask for: a text or a group that isn't whole is refused, and the verdict is told.
-  pub record Ends (number : ℕ) (lines : List (List ℕ)) (answers : List Answer) (last : Text) : Type 0 where
+  pub record Ends (earlier : List Chunk) (number : ℕ) (lines : List (List ℕ)) (answers : List Answer) (last : Text) : Type 0 where
     pub final : Text
-    pub judged : IsFinalIn json opening (entries_in (standing_of number lines answers)) final
+    pub judged : IsFinalIn json opening (entries_in (standing_of earlier number lines answers)) final
     pub said : last ≡ refusals (orders_at_end (hearing_behind first_hearing number (map without_return lines)) (number + length lines)) ++ final

@@ -2,6 +2,7 @@
 use Rattle.std.specs.Prelude.{◌≡◌, ℕ, List, [], ◌∷◌, ◌++◌, map}
 use Rattle.knit_base.specs.Lines.{without_return}
 use Rattle.edit_journal.specs.declared.opening.Opening.{Opening}
+use Rattle.edit_groups.specs.declared.chunk.Chunk.{Chunk}
 use Rattle.script_reader.specs.Hearing.{Order, Refuse, first_hearing, hearing_behind}
 use Rattle.script_reader.specs.Listener.{Hears}
 use Rattle.script_reader.specs.declared.listener.Listener.{Listener}
@@ -14,25 +15,25 @@ use Rattle.talk_desk.specs.declared.document.Style.{Style}
 use Rattle.talk_desk.specs.declared.host.Host.{Host}
 
 -- what the conversation began with
-abbrev pub beginning : Host → ℕ → Beginning
-beginning host first = record { style = host.document.style; opening = opening_in host.document; first = first }
+abbrev pub beginning : Host → List Chunk → ℕ → Beginning
+beginning host earlier first = record { style = host.document.style; opening = opening_in host.document; earlier = earlier; first = first }
 
--- how a conversation stands behind these orders and answers
-abbrev pub standing_told : Style → Opening → List (Order × Answer) → Standing
-standing_told style opening told = standing_behind style.json style.head opening (standing_at_start style.json style.head opening) told
+-- how a conversation stands behind these steps, and then these orders and answers
+abbrev pub standing_told : Style → Opening → List Chunk → List (Order × Answer) → Standing
+standing_told style opening earlier told = standing_behind style.json style.head opening (standing_at_start style.json style.head opening earlier) told
 
--- These lines were heard, of which the first has this number, and these answers given to what they ask for.
-pub record IsBehind (host : Host) (listener : Listener) (first : ℕ) (lines : List (List ℕ)) (answers : List Answer) : Type 0 where
+-- Behind these steps lines were heard, of which the first has this number, and these answers given to what they ask for.
+pub record IsBehind (host : Host) (listener : Listener) (earlier : List Chunk) (first : ℕ) (lines : List (List ℕ)) (answers : List Answer) : Type 0 where
   pub hears : Hears listener (hearing_behind first_hearing first (map without_return lines))
-  pub answered : let a = asking host.document.style.json host.document.style.head (opening_in host.document) first in AreAnswers a a.start (a.orders lines) answers
-  pub at : IsAt (opening_in host.document) host (standing_of host.document.style.json host.document.style.head (opening_in host.document) first lines answers)
+  pub answered : let a = asking host.document.style.json host.document.style.head (opening_in host.document) earlier first in AreAnswers a a.start (a.orders lines) answers
+  pub at : IsAt (opening_in host.document) host (standing_of host.document.style.json host.document.style.head (opening_in host.document) earlier first lines answers)
 
 -- Behind these orders and answers more orders were answered, one after the other, and that was said behind what was to be said before.
-pub record AreTaken (style : Style) (opening : Opening) (first : ℕ) (told : List (Order × Answer)) (asked : List Order) (host : Host) (before after : List ℕ) : Type 0 where
+pub record AreTaken (style : Style) (opening : Opening) (earlier : List Chunk) (first : ℕ) (told : List (Order × Answer)) (asked : List Order) (host : Host) (before after : List ℕ) : Type 0 where
   pub answers : List Answer
-  pub given : AreAnswers (asking style.json style.head opening first) told asked answers
-  pub at : IsAt opening host (standing_told style opening (state_of (asking style.json style.head opening first) told asked answers))
-  pub said : after ≡ before ++ text_of (asking style.json style.head opening first) told asked answers
+  pub given : AreAnswers (asking style.json style.head opening earlier first) told asked answers
+  pub at : IsAt opening host (standing_told style opening earlier (state_of (asking style.json style.head opening earlier first) told asked answers))
+  pub said : after ≡ before ++ text_of (asking style.json style.head opening earlier first) told asked answers
 
 -- each of the orders refuses a line
 abbrev pub AreRefusals : List Order → Type 0

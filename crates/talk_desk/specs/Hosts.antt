@@ -73,10 +73,10 @@ pub record IsTalker (opening : Opening) (s : Standing) (n : ℕ) (t : Talker) : 
   pub session : IsSessionAt opening s.point.entries (s.point.memories n) t.session
   pub answered : t.answered ≡ s.answered n
 
--- session n has asked nothing yet
-pub record IsFresh (opening : Opening) (n : ℕ) (t : Talker) : Type 0 where
+-- session n has asked nothing yet, behind these steps
+pub record IsFresh (opening : Opening) (earlier : List Chunk) (n : ℕ) (t : Talker) : Type 0 where
   pub number : t.session.session.number ≡ n
-  pub session : IsSessionAt opening [] (first_memory opening) t.session
+  pub session : IsSessionAt opening earlier (first_memory opening) t.session
   pub answered : t.answered ≡ 0
 
 -- the block that a question names, if it names one, is that which a session with this memory knows by the name
@@ -105,7 +105,7 @@ pub record IsTaken (opening : Opening) (s : Standing) (asked : Order) (style : S
   pub at : IsAt opening host (behind style.json style.head opening s asked answer)
   pub said : after ≡ before ++ text style.json style.head opening s asked answer
 
--- the sessions have asked nothing yet, numbered from here on
-abbrev pub AreFresh : Opening → ℕ → List Talker → Type 0
-AreFresh opening n [] = Unit {0}
-AreFresh opening n (t ∷ ts) = IsFresh opening n t × AreFresh opening (n + 1) ts
+-- the sessions have asked nothing yet, behind these steps, numbered from here on
+abbrev pub AreFresh : Opening → List Chunk → ℕ → List Talker → Type 0
+AreFresh opening earlier n [] = Unit {0}
+AreFresh opening earlier n (t ∷ ts) = IsFresh opening earlier n t × AreFresh opening earlier (n + 1) ts

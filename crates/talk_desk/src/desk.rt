@@ -2,16 +2,18 @@
 ghost use Rattle.std.specs.Prelude.{◌≡◌, ◌+◌, ◌++◌, ◌∷◌, [], ℕ, List, length, OnOk};
 ghost use Rattle.knit_base.specs.Lines.{HasNoLineEnd};
 ghost use Rattle.knit_ports.specs.Ears.{kept_front};
+ghost use Rattle.edit_groups.specs.declared.chunk.Chunk.{Chunk};
 ghost use Rattle.script_reader.specs.Hearing as asks;
 ghost use Rattle.script_reader.specs.Orders.{AreOrders, IsTold};
 ghost use Rattle.talk_desk.specs.Conversation as talks;
 ghost use Rattle.talk_desk.specs.Desks.{AreRefusals, AreTaken, IsAtItsEnd, IsBehind, beginning, standing_told};
-ghost use Rattle.talk_desk.specs.Hosts.{IsAt, opening_in};
+ghost use Rattle.talk_desk.specs.Hosts.{IsAt, known_in, opening_in};
 ghost use Rattle.talk_desk.specs.LawfulOrders.{AllOrders};
 ghost use Rattle.talk_loop.specs.Conversed.{IsAnswered};
 
 use crate::document::Style;
 use crate::host::Host;
+use edit_groups::{ChunkList, GroupBook};
 use edit_journal::Opening;
 use knit_base::NoMemory;
 use line_cutter::without_return;
@@ -19,6 +21,7 @@ use script_reader::{Cause, Heard, Listener, Order};
 use std::alloc::Global;
 use std::collections::LinkedList;
 use std::marker::Model;
+use std::snapshot::Snapshot;
 use std::sync::Wait;
 use std::thread::Threads;
 use talk_loop::Desk;
@@ -48,11 +51,13 @@ impl Model for AnswerOf {
     ghost view = { λ a. Refused };
 }
 
-/// What a conversation begins with: how it is answered, its document, and the number of the first line that is answered.
+/// What a conversation begins with: how it is answered, its document, the steps that were accepted earlier, and the number of the first
+/// line that is answered.
 #[derive(Drop)]
 pub struct Beginning {
     pub style: Style,
     pub opening: Opening,
+    pub earlier: ChunkList,
     pub first: u64,
 }
 
@@ -61,19 +66,25 @@ pub struct Beginning {
 pub struct TalkDesk {
     host: Host,
     listener: Listener,
+    // The book as it was when the conversation began, to proofs.
+    began: Snapshot<GroupBook>,
     first: u64,
 }
 
 impl TalkDesk {
     /// A desk of which the first line has this number.
-    pub fn new(alloc: Global, host: Host, first: u64) -> Self
-        requires at { IsAt (opening_in host.document) host (talks.standing_at_start host.document.style.json host.document.style.head (opening_in host.document)) }
-        ensures begun { IsBehind result.host result.listener result.first [] [] }
-        ensures began { beginning result.host result.first ≡ beginning host first }
+    pub fn new<R: Wait>(rt: &R, alloc: Global, mut host: Host, first: u64) -> Self
+        requires at { IsAt (opening_in host.document) host (talks.standing_at_start host.document.style.json host.document.style.head (opening_in host.document) (known_in host.document)) }
+        ensures begun { IsBehind result.host result.listener result.began.value.chunks result.first [] [] }
+        ensures began { beginning result.host result.began.value.chunks result.first ≡ beginning host (known_in host.document) first }
     {
+        let held = host.document.lend(rt);
+        let began = Snapshot::of(held.book());
+        host.document.take_back(held);
         TalkDesk {
             host,
             listener: Listener::new(alloc),
+            began,
             first,
         }
     }
@@ -88,13 +99,13 @@ impl Desk for TalkDesk {
 
     type Opening = Beginning;
 
-    ghost opening = { λ d. beginning d.host d.first };
+    ghost opening = { λ d. beginning d.host d.began.value.chunks d.first };
 
-    ghost asking = { λ b. talks.asking b.style.json b.style.head b.opening b.first };
+    ghost asking = { λ b. talks.asking b.style.json b.style.head b.opening b.earlier b.first };
 
-    ghost ends = { λ b. talks.Ends b.style.json b.style.head b.opening b.first };
+    ghost ends = { λ b. talks.Ends b.style.json b.style.head b.opening b.earlier b.first };
 
-    ghost behind = { λ d. IsBehind d.host d.listener d.first };
+    ghost behind = { λ d. IsBehind d.host d.listener d.began.value.chunks d.first };
 
     fn hear<R: Threads + Wait + Sync>(
         &mut self,
@@ -130,8 +141,8 @@ fn answer<R: Threads + Wait + Sync>(
     requires lawful { (asked : List asks.Order) × AreOrders number heard asked × AllOrders asked }
     ensures opening { opening_in host.new.document ≡ opening_in host.old.document }
     ensures style { host.new.document.style ≡ host.old.document.style }
-    ensures said { OnOk result ((first : ℕ) (told : List (asks.Order × talks.Answer)) (asked : List asks.Order) → IsAt (opening_in host.old.document) host.old (standing_told host.old.document.style (opening_in host.old.document) told)
-        → AreOrders number heard asked → AreTaken host.old.document.style (opening_in host.old.document) first told asked host.new out.old.items out.new.items) }
+    ensures said { OnOk result ((earlier : List Chunk) (first : ℕ) (told : List (asks.Order × talks.Answer)) (asked : List asks.Order) → IsAt (opening_in host.old.document) host.old (standing_told host.old.document.style (opening_in host.old.document) earlier told)
+        → AreOrders number heard asked → AreTaken host.old.document.style (opening_in host.old.document) earlier first told asked host.new out.old.items out.new.items) }
 {
     let Heard { broken_off, order } = heard;
     if broken_off {
@@ -156,8 +167,8 @@ fn answer_order<R: Threads + Wait + Sync>(
     requires lawful { (asked : List asks.Order) × IsTold order asked × AllOrders asked }
     ensures opening { opening_in host.new.document ≡ opening_in host.old.document }
     ensures style { host.new.document.style ≡ host.old.document.style }
-    ensures said { OnOk result ((first : ℕ) (told : List (asks.Order × talks.Answer)) (asked : List asks.Order) → IsAt (opening_in host.old.document) host.old (standing_told host.old.document.style (opening_in host.old.document) told)
-        → IsTold order asked → AreTaken host.old.document.style (opening_in host.old.document) first told asked host.new out.old.items out.new.items) }
+    ensures said { OnOk result ((earlier : List Chunk) (first : ℕ) (told : List (asks.Order × talks.Answer)) (asked : List asks.Order) → IsAt (opening_in host.old.document) host.old (standing_told host.old.document.style (opening_in host.old.document) earlier told)
+        → IsTold order asked → AreTaken host.old.document.style (opening_in host.old.document) earlier first told asked host.new out.old.items out.new.items) }
 {
     match order {
         Some(order) => host.take(rt, order, out),

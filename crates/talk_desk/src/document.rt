@@ -1,11 +1,11 @@
 //! The document of a conversation: a shared book of which one pass has all numbers.
-ghost use Rattle.std.specs.Prelude.{◌≡◌, ◌<◌, [], ℕ, List, true, IfOk};
+ghost use Rattle.std.specs.Prelude.{◌≡◌, ◌<◌, All, ℕ, List, true, IfOk};
 ghost use Rattle.knit_base.specs.Limits.{IsLawfulProfile};
 ghost use Rattle.script_reader.specs.Groups.{is_lawful_step};
 ghost use Rattle.edit_book.specs.Memory.{Memory};
 ghost use Rattle.edit_book.specs.Session.{HasNames};
 ghost use Rattle.edit_groups.specs.Alone.{IsAnsweredAt, IsSessionAt};
-ghost use Rattle.edit_groups.specs.Chunks.{entries_of};
+ghost use Rattle.edit_groups.specs.Chunks.{earlier_steps, entries_of};
 ghost use Rattle.talk_desk.specs.Hosts.{IsDocument, IsLent, known_in, opening_in};
 
 use edit_book::Book;
@@ -39,7 +39,7 @@ pub struct Document {
 }
 
 impl Document {
-    /// A document that nobody has edited yet. The only error is want of memory.
+    /// A document of which the entries in the book's journal are earlier steps, which no session undoes. The only error is want of memory.
     pub fn start<R: Threads>(
         rt: &R,
         alloc: Global,
@@ -47,14 +47,15 @@ impl Document {
         book: Book,
     ) -> Result<Self, NoMemory>
         requires profile { IsLawfulProfile book.opening.setting.profile }
-        requires unedited { book.entries ≡ [] }
+        requires sessions { All (λ e. e.session < 64) book.entries }
         ensures document { IfOk result IsDocument }
         ensures opening { IfOk result (λ d. opening_in d ≡ book.opening) }
-        ensures known { IfOk result (λ d. known_in d ≡ []) }
+        ensures known { IfOk result (λ d. known_in d ≡ earlier_steps book.entries) }
         ensures style { IfOk result (λ d. d.style ≡ style) }
     {
-        let setting = book.setting().try_clone()?;
-        let (shared, pass) = Shared::start(rt, alloc, GroupBook::of(alloc, book), SESSION_LIMIT)?;
+        let setting = first_setting(&book)?;
+        let book = GroupBook::resume(alloc, book)?;
+        let (shared, pass) = Shared::start(rt, alloc, book, SESSION_LIMIT)?;
         Ok(Document {
             alloc,
             style,
@@ -113,4 +114,16 @@ impl Document {
     {
         self.pass = Some(self.shared.give_back(held));
     }
+}
+
+// How the book's first blocks are read: under the names that the header had first.
+fn first_setting(book: &Book) -> Result<Setting, NoMemory>
+    ensures { IfOk result (λ setting. setting ≡ book.now.opening.setting) }
+{
+    let now = book.setting();
+    Ok(Setting {
+        profile: now.profile,
+        declared: book.names_at(0).try_clone()?,
+        first: now.first,
+    })
 }

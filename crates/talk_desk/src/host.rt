@@ -1,6 +1,7 @@
 //! The sessions of a conversation, and what their orders are answered.
-ghost use Rattle.std.specs.Prelude.{◌≡◌, ◌<◌, ◌++◌, [], ℕ, List, true, length, IfOk, OnOk};
-ghost use Rattle.edit_groups.specs.Chunks.{entries_of};
+ghost use Rattle.std.specs.Prelude.{◌≡◌, ◌<◌, ◌++◌, ℕ, List, true, length, IfOk, OnOk};
+ghost use Rattle.edit_groups.specs.Chunks.{earlier_steps, entries_of};
+ghost use Rattle.edit_journal.specs.declared.edit.Entry.{Entry};
 ghost use Rattle.edit_book.specs.Memory.{text_limit};
 ghost use Rattle.script_reader.specs.Groups.{commands_of_step, is_lawful_step};
 ghost use Rattle.script_reader.specs.Hearing as asks;
@@ -19,6 +20,7 @@ use crate::steps::{Talker, take_long, take_lost, take_step};
 use crate::styles::{say_bad_line_in, say_final_in};
 use edit_book::Book;
 use edit_groups::GroupSession;
+use journal_file::first_blocks;
 use knit_base::{NoMemory, Steps};
 use script_reader::{Cause, Order, Question, Step, TextEdit};
 use std::alloc::Global;
@@ -35,11 +37,12 @@ pub struct Host {
 }
 
 impl Host {
-    /// All sessions, none of which has asked anything. The only error is want of memory.
+    /// All sessions, none of which has asked anything, or remembers an earlier step. The only error is want of memory.
     pub fn start<R: Wait>(rt: &R, mut document: Document) -> Result<Host, NoMemory>
         requires document { IsDocument document }
-        requires unedited { known_in document ≡ [] }
-        ensures at { IfOk result (λ host. IsAt (opening_in document) host (standing_at_start document.style.json document.style.head (opening_in document))) }
+        requires earlier { (entries : List Entry) × (known_in document ≡ earlier_steps entries) }
+        ensures at { IfOk result (λ host. IsAt (opening_in document) host (standing_at_start document.style.json document.style.head (opening_in document) (known_in document))) }
+        ensures known { IfOk result (λ host. known_in host.document ≡ known_in document) }
         ensures style { IfOk result (λ host. host.document.style ≡ document.style) }
     {
         let held = document.lend(rt);
@@ -224,15 +227,16 @@ fn final_of<L: Ledger, R: Threads>(
     say_final_in(alloc, json, book, out, &mut steps)
 }
 
-// All sessions that may edit a book which nobody has edited yet.
+// All sessions that may edit a book, whose journal has earlier steps.
 fn talkers(alloc: Global, book: &Book) -> Result<Vec<Talker>, NoMemory>
-    requires { book.now.entries ≡ [] }
     ensures all { IfOk result (λ talkers. length talkers.items ≡ 64) }
-    ensures fresh { IfOk result (λ talkers. AreFresh book.now.opening 0 talkers.items) }
+    ensures fresh { IfOk result (λ talkers. AreFresh book.now.opening (earlier_steps book.now.entries) 0 talkers.items) }
 {
+    let first = first_blocks(alloc, book)?;
+    let blocks = first.len();
     let mut talkers = Vec::with_capacity(alloc, SESSION_LIMIT as usize)?;
     'sessions: for number in 0..SESSION_LIMIT {
-        let session = GroupSession::start(alloc, number, book.ids(), &book.setting().declared)?;
+        let session = GroupSession::start(alloc, number, blocks, book.names_at(0))?;
         talkers.push(Talker {
             session,
             answered: 0,

@@ -20,7 +20,7 @@ kept-one line kept is one = subst HasNoLineEnd (sym is) (All-take (λ (byte : �
 -- a line of which nothing is kept is empty
 pub none-kept : (line kept : List ℕ) → kept ≡ kept_front line → length kept ≡ 0 → line ≡ []
 none-kept [] kept is none = refl
-none-kept (byte ∷ bytes) kept is none = absurd (let some : length kept ≡ suc (length (take 4097 bytes)) = ap length is in omega (arith, some, none))
+none-kept (byte ∷ bytes) kept is none = absurd (let some : length kept ≡ suc (length (take 8193 bytes)) = ap length is in omega (arith, some, none))
 
 module _ {Order Answer State : Type 0} (asking : Asking Order Answer State) (ends : List (List ℕ) → List Answer → List ℕ → Type 0) where
   -- there is no last line

@@ -36,7 +36,7 @@ pub trait Desk {
     /// These lines were heard, and these answers given to what they ask for.
     ghost behind: { Self → List (List ℕ) → List Self.Answer → Type 0 };
 
-    /// Hears a line, which has this number, and appends what is to be said for it. Of a line the first 4,098 bytes are handed on.
+    /// Hears a line, which has this number, and appends what is to be said for it. Of a line the first 8,194 bytes are handed on.
     ///
     /// Where memory runs out for what is to be said, the conversation can't go on.
     fn hear<R: Threads + Wait + Sync>(

@@ -92,10 +92,10 @@ fn the_last_line_is_empty_behind_a_feed(rt: HostRuntime) -> Result<(), NoMemory>
 
 #[test]
 fn a_long_line_is_told_from_a_good_one(rt: HostRuntime) -> Result<(), NoMemory> {
-    assert!(rt; keeps(rt.alloc(), 4_096, "", 4_096, b'k')?);
-    assert!(rt; keeps(rt.alloc(), 4_096, "\r", 4_097, b'\r')?);
-    assert!(rt; keeps(rt.alloc(), 4_097, "", 4_097, b'k')?);
-    assert!(rt; keeps(rt.alloc(), 4_096, "\rk and more of it", 4_098, b'k')?);
+    assert!(rt; keeps(rt.alloc(), 8_192, "", 8_192, b'k')?);
+    assert!(rt; keeps(rt.alloc(), 8_192, "\r", 8_193, b'\r')?);
+    assert!(rt; keeps(rt.alloc(), 8_193, "", 8_193, b'k')?);
+    assert!(rt; keeps(rt.alloc(), 8_192, "\rk and more of it", 8_194, b'k')?);
     Ok(())
 }
 

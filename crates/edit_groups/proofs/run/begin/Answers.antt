@@ -1,4 +1,4 @@
-use Rattle.std.proofs.Common.{rules, ap, sym, subst, ◌≡◌, ◌∙◌, ◌+◌, ◌++◌, ◌∷◌, [], List, take, length}
+use Rattle.std.proofs.Common.{rules, ap, refl, sym, subst, ◌≡◌, ◌∙◌, ◌+◌, ◌++◌, ◌∷◌, [], List, take, length}
 use Rattle.std.specs.List.{list_all}
 use Rattle.std.proofs.lemmas.List.{take_more, length-take}
 use Rattle.script_reader.specs.Groups.{is_lawful_step}
@@ -20,7 +20,7 @@ loop-i-preserved c = record {
       let number = c.in_ok-session.ensures.number in
       let one : IsReady opening (c.args.first + length (take i scripts)) c.index-scripts-i.result made = record {
         number = search (rules, length-take);
-        stands = c.in_ok-session.ensures.stands opening blocks names;
+        stands = c.in_ok-session.ensures.stands opening [] blocks names refl;
         empty = c.in_ok-replies.ensures.items;
         room = search rules;
         lawful = ap (list_all is_lawful_step) c.index-scripts-i.is ∙ all_got (list_all is_lawful_step) scripts i c.index-scripts-i.result c.requires.steps c.loop-i-test.true;

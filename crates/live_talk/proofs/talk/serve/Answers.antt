@@ -16,6 +16,11 @@ use Rattle.live_talk.proofs.talk.serve.Goals as goal
 pub returns-in_default-clause-served : goal.returns-in_default-clause-served
 returns-in_default-clause-served g c = ([], goes-none (g.T.Talk.told c.args.talk.now), stopped refl)
 
+pub answer_opening-requires-clause-opened : goal.answer_opening-requires-clause-opened
+answer_opening-requires-clause-opened g c κs within =
+    let h = c.in-Ok-hear_opening.ensures.heard in
+    (h.2.lines, h.2.is_opening)
+
 pub returns-in-Ok-hear_opening-clause-served : goal.returns-in-Ok-hear_opening-clause-served
 returns-in-Ok-hear_opening-clause-served g c =
     let h = c.in-Ok-hear_opening.ensures.heard in

@@ -57,22 +57,22 @@ returns-in-Err-take-clause-cause g c =
     calm-stopped _ _ c.in-Err-take.fault (map without_return s.came) (without_return h.line) (c.in-Err-take.ensures (map without_return s.came) h.line s.holds (c.line-in-hearing.ensures ∙ h.kept))
     (c.in-Ok.ensures.calm ∙ c.hearing.invariant.calm)
 
-pub returns-then-is_whole-clause-heard : goal.returns-then-is_whole-clause-heard
-returns-then-is_whole-clause-heard g c =
+pub returns-in-Some-clause-heard : goal.returns-in-Some-clause-heard
+returns-in-Some-clause-heard g c =
     let h = subst (IsHeard (g.T.Talk.told c.hearing.talk) (g.T.Talk.told c.hear.new.talk) c.hearing.ear c.hear.new.self) c.in-LineFeed.is c.in-Ok.ensures.heard in
     let s = c.hearing.invariant.so_far in
     let held = c.in-Ok-take.ensures (map without_return s.came) h.line s.holds (c.line-in-hearing.ensures ∙ h.kept) in
     opened (g.T.Talk.told c.args.talk.now) (g.T.Talk.told c.hearing.talk) (g.T.Talk.told c.hear.new.talk) c.hearing.ear c.hear.new.self c.hearing.text c.hearing.front c.hearing.i s h _
-    (whole-of c.in-Ok-take.front (map without_return s.came) (without_return h.line) c.take.new.text _ held (c.is_whole.ensures.whole c.if-is_whole.true)
-    (front-of c.hearing.front (map without_return s.came) c.hearing.text s.holds s.wanted).unfinished refl refl)
+    (whole-of c.in-Ok-take.front (map without_return s.came) (without_return h.line) c.take.new.text c.in-Some.kind _ held c.in-Some.ensures
+    (front-of c.hearing.front (map without_return s.came) c.hearing.text s.holds s.wanted).unfinished refl refl refl)
 
-pub returns-then-is_whole-clause-short : goal.returns-then-is_whole-clause-short
-returns-then-is_whole-clause-short g c =
+pub returns-in-Some-clause-short : goal.returns-in-Some-clause-short
+returns-in-Some-clause-short g c =
     let h = c.in-Ok.ensures.heard in
     let s = c.hearing.invariant.so_far in (c.in-Ok-take.ensures (map without_return s.came) h.line s.holds (c.line-in-hearing.ensures ∙ h.kept)).short
 
-pub returns-then-is_whole-clause-few : goal.returns-then-is_whole-clause-few
-returns-then-is_whole-clause-few g c =
+pub returns-in-Some-clause-few : goal.returns-in-Some-clause-few
+returns-in-Some-clause-few g c =
     let h = c.in-Ok.ensures.heard in
     let s = c.hearing.invariant.so_far in few-of c.in-Ok-take.front _ c.take.new.text (c.in-Ok-take.ensures (map without_return s.came) h.line s.holds (c.line-in-hearing.ensures ∙ h.kept))
 
@@ -83,7 +83,7 @@ hearing-preserved g c =
     record {
       calm = c.in-Ok.ensures.calm ∙ c.hearing.invariant.calm;
       so_far = goes-on (g.T.Talk.told c.args.talk.now) (g.T.Talk.told c.hearing.talk) (g.T.Talk.told c.hear.new.talk) c.hearing.ear c.hear.new.self c.hearing.text c.hearing.front c.hearing.i s h c.in-Ok-take.front c.take.new.text
-          (c.in-Ok-take.ensures (map without_return s.came) h.line s.holds (c.line-in-hearing.ensures ∙ h.kept)) (c.is_whole.ensures.wanted c.if-is_whole.false);
+          (c.in-Ok-take.ensures (map without_return s.came) h.line s.holds (c.line-in-hearing.ensures ∙ h.kept)) c.in_default-whole_kind.ensures;
     }
 
 pub unreachable-requires : goal.unreachable-requires

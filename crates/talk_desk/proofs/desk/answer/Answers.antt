@@ -24,13 +24,13 @@ returns-then-broken_off-clause-said g c =
     let style = host.document.style in
     let opening = opening_in host.document in
     on-ok c.answer_order.result
-    (λ f first told asked at is.
+    (λ f earlier first told asked at is.
     let o = broken-told c.args.number c.args.heard.order asked (subst (λ (b : Bool). AreTold c.args.number b c.args.heard.order asked) c.if-broken_off.true is) in
-    let t = c.in_ok-take.ensures.said (standing_told style opening told) (Refuse c.args.number BadLine) at refl in
-    let stands = stands-taken style opening told c.take.new.self c.args.out.now.items c.take.new.out.items (Refuse c.args.number BadLine) t in
-    let rest = f first (told ++ (Refuse c.args.number BadLine, t.answer) ∷ []) o.0
-    (subst (λ (p : Style × Opening). IsAt p.1 c.take.new.self (standing_told p.0 p.1 (told ++ (Refuse c.args.number BadLine, t.answer) ∷ []))) (λ i. (sym c.take.ensures.style i, sym c.take.ensures.opening i)) stands) o.2 in
-    subst (λ (os : List Order). AreTaken style opening first told os c.answer_order.new.host c.args.out.now.items c.answer_order.new.out.items) (sym o.1)
-    (more-taken style opening first told c.take.new.self c.answer_order.new.host c.args.out.now.items c.take.new.out.items c.answer_order.new.out.items (Refuse c.args.number BadLine) o.0 t
-    (subst (λ (p : Style × Opening). AreTaken p.0 p.1 first (told ++ (Refuse c.args.number BadLine, t.answer) ∷ []) o.0 c.answer_order.new.host c.take.new.out.items c.answer_order.new.out.items)
+    let t = c.in_ok-take.ensures.said (standing_told style opening earlier told) (Refuse c.args.number BadLine) at refl in
+    let stands = stands-taken style opening earlier told c.take.new.self c.args.out.now.items c.take.new.out.items (Refuse c.args.number BadLine) t in
+    let rest = f earlier first (told ++ (Refuse c.args.number BadLine, t.answer) ∷ []) o.0
+    (subst (λ (p : Style × Opening). IsAt p.1 c.take.new.self (standing_told p.0 p.1 earlier (told ++ (Refuse c.args.number BadLine, t.answer) ∷ []))) (λ i. (sym c.take.ensures.style i, sym c.take.ensures.opening i)) stands) o.2 in
+    subst (λ (os : List Order). AreTaken style opening earlier first told os c.answer_order.new.host c.args.out.now.items c.answer_order.new.out.items) (sym o.1)
+    (more-taken style opening earlier first told c.take.new.self c.answer_order.new.host c.args.out.now.items c.take.new.out.items c.answer_order.new.out.items (Refuse c.args.number BadLine) o.0 t
+    (subst (λ (p : Style × Opening). AreTaken p.0 p.1 earlier first (told ++ (Refuse c.args.number BadLine, t.answer) ∷ []) o.0 c.answer_order.new.host c.take.new.out.items c.answer_order.new.out.items)
     (λ i. (c.take.ensures.style i, c.take.ensures.opening i)) rest))) c.answer_order.ensures.said

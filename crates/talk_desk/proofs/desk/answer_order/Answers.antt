@@ -14,7 +14,7 @@ returns-in-Some-clause-said g c =
     let style = c.args.host.now.document.style in
     let opening = opening_in c.args.host.now.document in
     on-ok c.take.result
-    (λ f first told asked at is.
+    (λ f earlier first told asked at is.
     let t = one-told _ asked (subst (λ (x : Option declared.Order). IsTold x asked) c.in-Some.is is) in
-    subst (λ (os : List Order). AreTaken style opening first told os c.take.new.self c.args.out.now.items c.take.new.out.items) (sym t.1)
-    (one-taken style opening first told c.take.new.self c.args.out.now.items c.take.new.out.items t.0 (f (standing_told style opening told) t.0 at t.2))) c.take.ensures.said
+    subst (λ (os : List Order). AreTaken style opening earlier first told os c.take.new.self c.args.out.now.items c.take.new.out.items) (sym t.1)
+    (one-taken style opening earlier first told c.take.new.self c.args.out.now.items c.take.new.out.items t.0 (f (standing_told style opening earlier told) t.0 at t.2))) c.take.ensures.said

@@ -1,4 +1,5 @@
-use Rattle.std.proofs.Common.{rules, ◌∙◌, [], ◌∷◌, ◌++◌, ap, sym, subst, arith, length-append}
+use Rattle.std.proofs.Common.{rules, ◌≢◌, ◌<◌, ◌∙◌, [], ◌∷◌, ◌++◌, length, ap, sym, subst, arith, length-append}
+use Rattle.std.proofs.lemmas.Bool.{eqb-false}
 use Rattle.talk_loop.specs.Conversed.{IsAnswered, IsLast}
 use Rattle.talk_loop.proofs.Last.{last-by, no-last, none-kept, on-ok}
 use Rattle.talk_loop.proofs.conversation.append_last.Goals as goal
@@ -12,14 +13,14 @@ returns-then-is_empty g c = let asking = g.D.Desk.asking (g.D.Desk.opening c.arg
 }
 
 pub returns : goal.returns
-returns g c = let asking = g.D.Desk.asking (g.D.Desk.opening c.args.desk.now) in let ends = g.D.Desk.ends (g.D.Desk.opening c.args.desk.now) in record {
+returns g c = let asking = g.D.Desk.asking (g.D.Desk.opening c.args.desk.now) in let ends = g.D.Desk.ends (g.D.Desk.opening c.args.desk.now) in let differ : length c.args.line.now ≢ 0 = eqb-false _ _ (sym c.is_empty.ensures ∙ c.if-is_empty.false) in let some : 0 < length c.args.line.now = omega (arith, differ) in record {
   last = on-ok c.end-2.result (λ f lines as_ rest stands counted given kept.
       let a = c.in_ok-hear.ensures.answered lines as_ rest stands counted kept in
       let same = c.hear.ensures.same in
       let first = ap (λ o. (g.D.Desk.asking o).first) same in
       let e = f (lines ++ rest ∷ []) (as_ ++ a.0) a.1 (omega (arith, counted, first, length-append lines (rest ∷ []))) in (
         a.0,
-        last-by asking ends lines as_ a.0 rest c.args.line.now c.hear.new.out.items c.end-2.new.out.items e.0 (search rules) kept given
+        last-by asking ends lines as_ a.0 rest c.args.line.now c.hear.new.out.items c.end-2.new.out.items e.0 some kept given
             (subst (λ l. IsAnswered asking lines as_ rest l c.hear.new.out.items a.0) c.requires.empty a.2)
             (subst (λ o. g.D.Desk.ends o (lines ++ rest ∷ []) (as_ ++ a.0) e.0) same e.2) e.1,
       )) c.end-2.ensures.last;

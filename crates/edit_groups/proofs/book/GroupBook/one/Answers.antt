@@ -1,4 +1,4 @@
-use Rattle.std.proofs.Common.{ℕ, List, Ok, ◌≡◌, ◌∷◌, [], ◌++◌, ◌∙◌, ap, set, subst, sym}
+use Rattle.std.proofs.Common.{false, ℕ, List, Ok, ◌≡◌, ◌∷◌, [], ◌++◌, ◌∙◌, ap, set, subst, sym}
 use Rattle.std.specs.Option.{option_to_list}
 use Rattle.edit_journal.specs.declared.edit.Edit.{Edit}
 use Rattle.edit_book.specs.Replies.{edit_of, request_of}
@@ -14,8 +14,8 @@ use Rattle.edit_groups.proofs.book.GroupBook.one.Goals.{After-push_reserved}
 use Rattle.edit_groups.proofs.book.GroupBook.one.Given.{Over}
 
 -- the steps behind the accepted one
-pushed : (g : Over) (c : After-push_reserved g) → c.push_reserved.new.self.items ≡ c.self.inside.chunks.items ++ record { session = c.args.number; edits = c.in-Ok.edits } ∷ []
-pushed g c = c.push_reserved.ensures.items ∙ ap (λ (l : List Chunk). l ++ record { session = c.args.number; edits = c.in-Ok.edits } ∷ []) c.reserve.ensures.items
+pushed : (g : Over) (c : After-push_reserved g) → c.push_reserved.new.self.items ≡ c.self.inside.chunks.items ++ record { session = c.args.number; edits = c.in-Ok.edits; earlier = false } ∷ []
+pushed g c = c.push_reserved.ensures.items ∙ ap (λ (l : List Chunk). l ++ record { session = c.args.number; edits = c.in-Ok.edits; earlier = false } ∷ []) c.reserve.ensures.items
 
 pub invariant_of-self-in-Accepted : goal.invariant_of-self-in-Accepted
 invariant_of-self-in-Accepted g c =

@@ -1,4 +1,4 @@
-use Rattle.std.proofs.Common.{◌≡◌, ◌++◌, ◌+◌, ◌∷◌, [], ◌∙◌, inr, ℕ, List, IfSome, length, set, refl, ap, subst, sym}
+use Rattle.std.proofs.Common.{false, ◌≡◌, ◌++◌, ◌+◌, ◌∷◌, [], ◌∙◌, inr, ℕ, List, IfSome, length, set, refl, ap, subst, sym}
 use Rattle.edit_journal.specs.declared.edit.Edit.{Edit}
 use Rattle.edit_journal.specs.declared.edit.Entry.{Entry}
 use Rattle.edit_journal.specs.declared.opening.Opening.{Opening}
@@ -12,7 +12,7 @@ use Rattle.edit_groups.proofs.book.GroupBook.take_over.Goals as goal
 
 pub invariant_of-self-2 : goal.invariant_of-self-2
 invariant_of-self-2 c =
-    let chunk : Chunk = record { session = c.args.number; edits = c.args.edits } in
+    let chunk : Chunk = record { session = c.args.number; edits = c.args.edits; earlier = false } in
     let pushed : c.push_reserved.new.self.items ≡ c.self.inside.chunks.items ++ chunk ∷ [] = c.push_reserved.ensures.items ∙ ap (λ (l : List Chunk). l ++ chunk ∷ []) c.reserve.ensures.items in
     let journal : c.self.inside.book.entries ≡ entries_of c.args.self.now.chunks = c.self.invariant.entries ∙ ap (λ (v : GroupView). entries_of v.chunks) c.self.view_is in
     let opening : c.args.copy.opening ≡ c.self.inside.book.opening = c.requires.opening ∙ sym (ap (λ (v : GroupView). v.opening) c.self.view_is) in
@@ -26,7 +26,7 @@ invariant_of-self-2 c =
 
 pub returns-clause-taken : goal.returns-clause-taken
 returns-clause-taken c =
-    let chunk : Chunk = record { session = c.args.number; edits = c.args.edits } in
+    let chunk : Chunk = record { session = c.args.number; edits = c.args.edits; earlier = false } in
     let journal : c.self.inside.book.entries ≡ entries_of c.args.self.now.chunks = c.self.invariant.entries ∙ ap (λ (v : GroupView). entries_of v.chunks) c.self.view_is in
     let from : c.version-from.result + 1 ≡ length (entries_of c.args.self.now.chunks) + 1 = ap (λ (n : ℕ). n + 1) (c.version-from.ensures.version ∙ ap length journal) in
     inr (

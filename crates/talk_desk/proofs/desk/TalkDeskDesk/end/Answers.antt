@@ -14,7 +14,7 @@ returns g c =
       last = on-ok c.end_with.result
           (λ f lines as_ b counted.
           let h : Hearing = hearing_behind first_hearing c.args.self.now.first (map without_return lines) in
-          let e = f (standing_of host.document.style.json host.document.style.head (opening_in host.document) c.args.self.now.first lines as_) (orders_at_end h c.args.number) b.at (c.end-order.ensures h b.hears) (end-refusals h c.args.number) in (
+          let e = f (standing_of host.document.style.json host.document.style.head (opening_in host.document) c.args.self.now.began.value.chunks c.args.self.now.first lines as_) (orders_at_end h c.args.number) b.at (c.end-order.ensures h b.hears) (end-refusals h c.args.number) in (
             refusals host.document.style.json host.document.style.head (opening_in host.document) (orders_at_end h c.args.number) ++ e.final,
             e.said,
             record {

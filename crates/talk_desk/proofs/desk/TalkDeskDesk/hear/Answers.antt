@@ -26,12 +26,13 @@ returns-clause-answered g c =
     (λ f lines as_ whole b counted kept.
     let host = c.args.self.now.host in
     let first = c.args.self.now.first in
+    let earlier = c.args.self.now.began.value.chunks in
     let h : Hearing = hearing_behind first_hearing first (map without_return lines) in
     let hears = subst (λ (l : List ℕ). Hears c.hear-heard.new.self (heard h c.args.number l).1 × AreOrders c.args.number c.hear-heard.result (heard h c.args.number l).0) c.without_return.ensures (c.hear-heard.ensures.heard h b.hears) in
-    let same = line-heard c.args.self.now.host c.answer.new.host c.args.self.now.listener c.hear-heard.new.self c.args.self.now.first c.args.number lines as_ c.args.line.now whole c.args.out.now.items c.answer.new.out.items b counted kept c.answer.ensures.style c.answer.ensures.opening in
-    let told = state_of (asking host.document.style.json host.document.style.head (opening_in host.document) first) [] (orders_from first_hearing first (map without_return lines)) as_ in
-    let t = f first told (heard h (first + length lines) (without_return whole)).0 b.at (subst (AreOrders c.args.number c.hear-heard.result) (ap (λ x. x.0) same) hears.1) in (
+    let same = line-heard c.args.self.now.host c.answer.new.host c.args.self.now.listener c.hear-heard.new.self earlier c.args.self.now.first c.args.number lines as_ c.args.line.now whole c.args.out.now.items c.answer.new.out.items b counted kept c.answer.ensures.style c.answer.ensures.opening in
+    let told = state_of (asking host.document.style.json host.document.style.head (opening_in host.document) earlier first) [] (orders_from first_hearing first (map without_return lines)) as_ in
+    let t = f earlier first told (heard h (first + length lines) (without_return whole)).0 b.at (subst (AreOrders c.args.number c.hear-heard.result) (ap (λ x. x.0) same) hears.1) in (
       t.answers,
-      behind-more c.args.self.now.host c.answer.new.host c.args.self.now.listener c.hear-heard.new.self c.args.self.now.first c.args.number lines as_ c.args.line.now whole c.args.out.now.items c.answer.new.out.items b counted kept c.answer.ensures.style c.answer.ensures.opening hears.0 t,
-      answered-more c.args.self.now.host c.answer.new.host c.args.self.now.listener c.hear-heard.new.self c.args.self.now.first c.args.number lines as_ c.args.line.now whole c.args.out.now.items c.answer.new.out.items b counted kept c.answer.ensures.style c.answer.ensures.opening t,
+      behind-more c.args.self.now.host c.answer.new.host c.args.self.now.listener c.hear-heard.new.self earlier c.args.self.now.first c.args.number lines as_ c.args.line.now whole c.args.out.now.items c.answer.new.out.items b counted kept c.answer.ensures.style c.answer.ensures.opening hears.0 t,
+      answered-more c.args.self.now.host c.answer.new.host c.args.self.now.listener c.hear-heard.new.self earlier c.args.self.now.first c.args.number lines as_ c.args.line.now whole c.args.out.now.items c.answer.new.out.items b counted kept c.answer.ensures.style c.answer.ensures.opening t,
     )) c.answer.ensures.said
