@@ -71,13 +71,25 @@ function editWords(edit) {
   return [`add ${behind} lines ${lines.length}`, lines];
 }
 
-function opening(text) {
+function piecesOf(text) {
   const pieces = text.split("\n");
   if (pieces.at(-1) === "") pieces.pop();
+  return pieces;
+}
+
+function opening(text) {
+  const pieces = piecesOf(text);
   return `serve 1 lines ${pieces.length}\n${pieces.map((piece) => `|${piece}\n`).join("")}`;
 }
 
-function options(limits, blockLines) {
+function openingBy(saved) {
+  const pieces = piecesOf(saved);
+  // (a saved text's carriage returns are all a part of it)
+  const lines = pieces.map((piece) => (piece.endsWith("\r") ? `${piece}\r\n` : `${piece}\n`));
+  return `serve 1 journal ${pieces.length}\n${lines.join("")}`;
+}
+
+function options(limits = {}, blockLines = 64) {
   return ["serve", "--json", ...Object.entries(limits).map(([name, value]) => `--${name}=${value}`), `--block=${blockLines}`];
 }
 
@@ -257,9 +269,26 @@ class Conversation extends Session {
    * `{rack: 4, high: 252}`, `program` is another check_main than that beside this file. A text that is refused is a
    * `ProcessGone`, with check_main's own `words` and its `status`.
    */
-  static async open(text, { limits = {}, blockLines = 64, program = join(__dirname, "check_main") } = {}) {
-    const pipes = new Pipes(program, options(limits, blockLines));
-    const line = await pipes.ask(opening(text));
+  static open(text, { limits, blockLines, program } = {}) {
+    return Conversation.begun(opening(text), options(limits, blockLines), program);
+  }
+
+  /**
+   * A conversation that goes on from a saved text, with its blocks, its limits, its version and its journal:
+   *
+   *     const saved = (await served.save()).lines.join("\n");
+   *     const again = await Conversation.openSaved(saved);
+   *
+   * Its sessions begin anew: they know what the saved text began with, so that a block which was changed since has to be
+   * looked at first, and undo nothing that was done before.
+   */
+  static openSaved(saved, { program } = {}) {
+    return Conversation.begun(openingBy(saved), options(), program);
+  }
+
+  static async begun(opening, words, program = join(__dirname, "check_main")) {
+    const pipes = new Pipes(program, words);
+    const line = await pipes.ask(opening);
     if (line.startsWith("{")) return new Conversation(pipes, JSON.parse(line));
     pipes.child.stdin.end();
     await pipes.ended;

@@ -16,22 +16,22 @@ from tekhvumo.share.journal import Journal, file_text
 
 from .case import HERE, Case
 
-# A bridge that begins a new journal sooner than it usually does.
+# A bridge of whose constants one is another, so that it begins a new journal sooner than it usually does.
 START = (
     "import sys; from tekhvumo.share import document; from tekhvumo.command import main;"
-    " document.LONG_JOURNAL = {long_journal}; sys.exit(main())"
+    " document.{setting}; sys.exit(main())"
 )
 
 
 class Bridge:
     """A process of `tekhvumo share`."""
 
-    def __init__(self, environment: Mapping[str, str], path: Path, *words: str, long_journal: int = 0) -> None:
+    def __init__(self, environment: Mapping[str, str], path: Path, *words: str, setting: str = "") -> None:
         self.path = path
         self.socket = f"{path}.socket"
         command = [sys.executable, "-S", str(HERE / "tekhvumo.py"), "share", *words, str(path)]
-        if long_journal:
-            command = [sys.executable, "-S", "-c", START.format(long_journal=long_journal), "share", *words, str(path)]
+        if setting:
+            command = [sys.executable, "-S", "-c", START.format(setting=setting), "share", *words, str(path)]
         pipe = subprocess.PIPE
         self.child = subprocess.Popen(command, stdout=pipe, stderr=pipe, env=dict(environment))
         self.said = self.child.stdout.readline().decode()
@@ -82,12 +82,12 @@ class WithBridge(Case):
         self.words: tuple[str, ...] = ("--pause", "5")
         self.environment |= {"TEKHVUMO_PROGRAM": os.path.abspath(self.program), "PYTHONPATH": str(HERE)}
 
-    def share(self, text: str | None = None, long_journal: int = 0) -> Bridge:
+    def share(self, text: str | None = None, setting: str = "") -> Bridge:
         """A bridge over a file, which gets a text if one is given."""
         path = self.room / "scarf.k"
         if text is not None:
             path.write_bytes(text.encode())
-        bridge = Bridge(self.environment, path, *self.words, long_journal=long_journal)
+        bridge = Bridge(self.environment, path, *self.words, setting=setting)
         self.addCleanup(bridge.stop, signal.SIGKILL)
         return bridge
 
@@ -110,8 +110,7 @@ class WithBridge(Case):
         client = self.raw(bridge)
         self.assertEqual("".join(f"{line}\n" for line in client.ask(ask="save")["lines"]).encode(), data)
         client.close()
-        head, body = Journal.of(data).text()
-        text = file_text([*head, *body]).decode()
+        text = file_text(Journal.of(data).lines()).decode()
         ran = self.run_command("check_main", "replay", given=data)
         self.assertEqual(ran.returncode, 0, ran.stdout)
         told = self.run_command("check_main", "check", given=text).stdout

@@ -6,7 +6,7 @@ import unittest
 
 from tekhvumo.share import merge
 from tekhvumo.share.blocks import Block, Blocks
-from tekhvumo.share.journal import BadJournal, Journal, file_lines, file_text
+from tekhvumo.share.journal import Journal, file_lines, file_text
 from tekhvumo.share.merge import changes, differences, merged
 
 
@@ -116,11 +116,54 @@ class Editing(unittest.TestCase):
             self.assertEqual(told, ["a", *map(str, range(lines)), "b"])
 
 
+# Text lines that are spelled as other lines are, and entries of each kind.
+SAVED = b"""journal 1
+profile -8 7 4 2 0
+head 3
+|;!knitout-2
+|;;Carriers:A
+|; blocks 1
+blocks 2
+block 2
+|block 1
+|entries 2
+block 1
+|session 0 cut 0 seen 0
+entries 5
+session 3 put 1 seen 0 lines 0
+session 0 put head seen 0 carriers lines 2
+session 63 add start block 2 lines 2
+|
+|entries 0
+session 3 add 2 block 3 lines 1
+|x\r
+session 0 cut 0 seen 0
+"""
+
+
 class Saved(unittest.TestCase):
-    def test_what_is_none(self) -> None:
-        for data in (b"", b"journal 2\n", b"journal 1\nprofile 0 1 2 3 0\nhead x\n", b"journal 1\nprofile\nhead 9\n|x\n"):
-            with self.assertRaises(BadJournal):
-                Journal.of(data)
+    def test_what_is_read_is_written_again(self) -> None:
+        opening = SAVED[: SAVED.index(b"entries 5")]
+        for data in (SAVED, opening + b"entries 0\n", opening[: opening.index(b"blocks 2")] + b"blocks 0\nentries 0\n"):
+            journal = Journal.of(data)
+            self.assertEqual((journal.data(), journal.profile), (data, b"-8 7 4 2 0"))
+
+    def test_each_version(self) -> None:
+        head, names = [b";!knitout-2", b";;Carriers:A", b"; blocks 1"], b";;Carriers: lines 2"
+        first, put = [b"block 1", b"entries 2"], b"session 0 cut 0 seen 0"
+        named = [head[0], names, head[2]]
+        texts = [
+            [*head, *first, put],
+            [*head, *first],
+            [*named, *first],
+            [*named, b"", b"entries 0", *first],
+            [*named, b"", b"entries 0", b"x\r", *first],
+            [*named, b"", b"entries 0", b"x\r"],
+        ]
+        journal = Journal.of(SAVED)
+        self.assertEqual([list(it) for it in journal.versions()], texts)
+        self.assertEqual((journal.lines(), Journal.of(journal.anew(b"0 0 0 1 0", 2).data()).lines()), (texts[-1], texts[-1]))
+        self.assertEqual([len(it) for it in journal.anew(b"0 0 0 1 0", 2).blocks], [2, 1])
 
     def test_lines_of_files(self) -> None:
         lines = [b"a", b"", b"b\r", b" "]

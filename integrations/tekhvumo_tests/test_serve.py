@@ -112,6 +112,26 @@ class Calls(Case):
         with self.assertRaises(NoRange):
             served.tally(0, 2)
 
+    def test_what_is_saved_is_gone_on_from(self) -> None:
+        before = self.served(block_lines=2, limits=Limits(high=7))
+        before.put(1, ["out 1", "x\r"])
+        saved = before.save()
+        for text in (saved.text, saved.text.encode(), "\n".join(saved.lines)):
+            served = Conversation.open_saved(text)
+            self.addCleanup(served.close)
+            self.assertEqual((served.opened.version, served.opened.blocks), (1, 2))
+            self.assertEqual((served.opened.brief.rule, served.opened.broken.line), ("Unreadable", 2))
+            with self.assertRaises(NothingToUndo):
+                served.undo()
+            with self.assertRaises(Stale):
+                served.put(1, [])
+            self.assertEqual(served.look(1).lines, ("out 1", "x\r"))
+            self.assertEqual(served.put(1, ["tuck + f8 1"]).brief.rule, "OffBed")
+            self.assertEqual([(it.number, it.seen) for it in served.since(0).entries], [(1, 0), (2, 1)])
+        with self.assertRaises(OpeningRefused) as refused:
+            Conversation.open_saved(saved.text.replace("seen 0", "seen 1"))
+        self.assertEqual((refused.exception.status, refused.exception.words), (3, "bad input: journal line 13 NoFit"))
+
     def test_refusals_by_their_names(self) -> None:
         served = self.served()
         one, other = served.session(1), served.session(2)
@@ -264,15 +284,18 @@ class Tasks(Case):
                 self.assertEqual((await served.verdict()).verdict.state.carriers, ("1",))
                 self.assertEqual(len((await served.blocks()).blocks), 1)
                 self.assertEqual(len((await served.since(0)).entries), 6)
-                self.assertEqual((await served.save()).lines[0], "journal 1")
+                saved = await served.save()
                 self.assertEqual((await served.tally(0, 1)).form, 1)
                 with self.assertRaises(Stale):
                     await served.session(3).put(0, [])
                 self.assertEqual((await served.close()).version, 6)
             with self.assertRaises(ProcessGone):
                 await served.verdict()
-            with self.assertRaises(OpeningRefused):
-                await AsyncConversation.open(";!knitout-2")
+            async with await AsyncConversation.open_saved(saved.text) as served:
+                self.assertEqual((served.opened.version, (await served.save()).lines), (6, saved.lines))
+            for refused in (AsyncConversation.open(";!knitout-2"), AsyncConversation.open_saved(saved.text[:-1] + "0\n")):
+                with self.assertRaises(OpeningRefused):
+                    await refused
 
         asyncio.run(calls())
 

@@ -1,7 +1,6 @@
 """Several editors on one file."""
 from __future__ import annotations
 
-import os
 import random
 import signal
 import threading
@@ -9,7 +8,7 @@ import time
 from pathlib import Path
 from typing import Callable
 
-from tekhvumo.share import Change, Shared, ShareGone
+from tekhvumo.share import Change, Shared
 from tekhvumo.share.client import NotTaken
 
 from .bridges import Bridge, WithBridge
@@ -146,7 +145,7 @@ class Designers(WithBridge):
         self.assertEqual([it for it in lines if not it.startswith(";")], TEXT.splitlines()[2:])
 
     def test_a_journal_that_grows_long_is_left_for_a_new_one(self) -> None:
-        bridge = self.share(TEXT, long_journal=4000)
+        bridge = self.share(TEXT, "LONG_JOURNAL = 4000")
         designers = [Designer(bridge, number) for number in (1, 2)]
         epoch = self.raw(bridge).hello["epoch"]
         in_threads(*[lambda it=it: it.work(80) for it in designers])
@@ -160,6 +159,23 @@ class Designers(WithBridge):
         self.assertEqual({it.shared.text for it in designers}, {text, self.kept(bridge)})
         self.assertLess(Path(f"{bridge.path}.journal").stat().st_size, 8000)
         self.assertTrue(Path(f"{bridge.path}.journal.2").exists())
+
+
+    def test_a_journal_without_room_is_left_for_a_new_one(self) -> None:
+        bridge = self.share(TEXT, "MOST_JOURNAL = 8000")
+        designers = [Designer(bridge, number) for number in (1, 2)]
+        in_threads(*[lambda it=it: it.work(80) for it in designers])
+        self.assertTrue(Path(f"{bridge.path}.journal.1").exists())
+        for it in designers:
+            it.sync()
+            it.shared.close()
+        self.assertEqual({it.shared.text for it in designers}, {self.kept(bridge)})
+        lines = ["; " + "x" * 1000] * 8
+        self.raw(bridge).ask(ask="add", behind="start", lines=lines)
+        # (it has begun a new one once more, in which there is no room for so much)
+        raw = self.raw(bridge)
+        self.assertEqual((raw.hello["version"], raw.ask(ask="add", behind="start", lines=lines)["reply"]), (0, "large"))
+        self.assertEqual(raw.ask(ask="add", behind="start", lines=lines[:2])["version"], 1)
 
 
 class Editors(WithBridge):
@@ -266,101 +282,3 @@ class Editors(WithBridge):
             with self.assertRaises(NotTaken):
                 one.sync()
             one.edit(5, 6, [])
-
-
-class Restarts(WithBridge):
-    def test_what_was_answered_is_there_and_more_can_be_done(self) -> None:
-        bridge = self.share(SOUND)
-        one, raw = self.client(bridge), self.raw(bridge)
-        for version in range(1, 8):
-            reply = raw.ask(ask="put", block=0, lines=["in 1", *["tuck + f1 1"] * version])
-            self.assertEqual((reply["reply"], reply["version"]), ("accepted", version))
-        bridge.stop(signal.SIGKILL)
-        # (it was changed while nobody was there to tell)
-        one.edit(3, 3, ["; one"])
-        again = self.share()
-        self.assertIn("shared at", again.said)
-        changes = one.sync()
-        self.assertEqual(one.lines[2:], ["in 1", "; one", *["tuck + f1 1"] * 7])
-        self.assertEqual([it.is_conflict for it in changes], [False] * len(changes))
-        self.assertEqual(self.kept(again), one.text)
-        self.assertTrue(Path(f"{again.path}.journal.1").exists())
-        self.assertEqual(again.path.read_text(), HEAD + "in 1\n" + "tuck + f1 1\n" * 7)
-
-    def test_comments_above_the_first_instruction_stay_in_the_body(self) -> None:
-        bridge = self.share(HEAD + "in 1\n")
-        client = self.client(bridge)
-        client.edit(2, 2, [";;Carriers: 9", "", "; a"])
-        client.sync()
-        for _ in range(2):
-            bridge.stop(signal.SIGKILL)
-            bridge = self.share()
-            self.assertEqual((client.wait(0), client.lines[2:]), ([], [";;Carriers: 9", "", "; a", "in 1"]))
-        client.edit(5, 6, [])
-        client.sync()
-        bridge.stop()
-        bridge = self.share()
-        client.edit(3, 4, ["in 2"])
-        client.sync()
-        self.assertEqual(client.lines[2:], [";;Carriers: 9", "in 2", "; a"])
-
-    def test_a_file_that_was_changed_apart(self) -> None:
-        bridge = self.share(SOUND)
-        client = self.client(bridge)
-        client.edit(2, 2, ["; a"])
-        client.sync()
-        self.assertEqual(bridge.stop(), (0, ""))
-        self.assertEqual(bridge.path.read_text(), client.text)
-        status, errors = self.share(SOUND + "; other\n").stop()
-        self.assertEqual((status, "nobody shared it" in errors), (2, True))
-        os.unlink(bridge.path)
-        self.share()
-        client.sync()
-        self.assertEqual(client.lines[2], "; a")
-
-    def test_many_comments_and_carriage_returns(self) -> None:
-        bridge = self.share(SOUND.replace("\n", "\r\n"))
-        client = self.client(bridge)
-        client.edit(2, 2, [f"; {number}" for number in range(10_000)])
-        client.edit(len(client.lines), len(client.lines), ["; end\r"])
-        client.sync()
-        for _ in range(2):
-            bridge.stop(signal.SIGKILL)
-            bridge = self.share()
-            client.edit(3, 3, ["; more"])
-            client.sync()
-            self.assertEqual(self.kept(bridge, False), client.text)
-        self.assertEqual(bridge.stop(), (0, ""))
-        self.assertEqual(bridge.path.read_bytes(), client.text.replace("\r", "").replace("\n", "\r\n").encode()[:-2] + b"\r\r\n")
-
-    def test_a_journal_that_is_none(self) -> None:
-        self.write("scarf.k.journal", "journal 1\nprofile 0 1 8 16 0\n")
-        status, errors = self.share(SOUND).stop()
-        self.assertEqual((status, "it is no saved text" in errors), (2, True))
-
-    def test_check_main_is_killed(self) -> None:
-        bridge = self.share(SOUND)
-        client = self.client(bridge)
-        client.edit(3, 3, ["; a"])
-        client.sync()
-        children = Path(f"/proc/{bridge.child.pid}/task/{bridge.child.pid}/children").read_text()
-        os.kill(int(children), signal.SIGKILL)
-        client.edit(3, 3, ["; b"])
-        client.sync()
-        self.assertEqual(self.kept(bridge), SOUND.replace("in 1", "in 1\n; b\n; a"))
-
-    def test_a_bridge_that_stays_away(self) -> None:
-        bridge = self.share(SOUND)
-        client = Shared.connect(bridge.socket, patience=0.2)
-        bridge.stop()
-        client.edit(2, 2, ["; a"])
-        with self.assertRaises(ShareGone):
-            client.sync()
-        self.assertEqual(client.lines[2], "; a")
-        self.assertFalse(os.path.exists(bridge.socket))
-        again = self.share()
-        client.sync()
-        self.assertEqual(self.kept(again, False), client.text)
-        client.close()
-        with self.assertRaises(ShareGone):
-            client.sync()

@@ -2,7 +2,7 @@
 from __future__ import annotations
 
 import os
-from typing import Any
+from typing import Any, Callable
 from urllib.parse import unquote, urlsplit
 
 # (which has the sentences of the rules)
@@ -50,14 +50,16 @@ class Document:
         # Requests for cures that wait for the findings.
         self.waiting: list[tuple[Any, dict[str, Any]]] = []
 
-    def change(self, changes: list[dict[str, Any]], version: int | None) -> None:
-        """Carries out changes, one after the other."""
+    def change(self, changes: list[dict[str, Any]], version: int | None, seen: Callable[[list[str]], None] | None = None) -> None:
+        """Carries out changes, one after the other; `seen` is given the lines behind each."""
         for it in changes:
             if "range" in it:
                 self.note(self.text.replace(it["range"]["start"], it["range"]["end"], it["text"]))
             else:
                 end = {"line": len(self.text.lines), "character": 0}
                 self.note(self.text.replace({"line": 0, "character": 0}, end, it["text"]))
+            if seen:
+                seen(list(self.text.lines))
         self.version = version
         self.has_mistakes = False
         self.kept.clear()

@@ -29,6 +29,9 @@ class Endpoint:
         self.open: set[Any] = set()
         self.cancelled: set[Any] = set()
         self.is_initialized = self.is_shut = False
+        # Requests to the other end, of which each has a number, and who takes what they are answered with.
+        self.asked: dict[str, Callable[[Any], None]] = {}
+        self.numbers = 0
 
     def send(self, message: dict[str, Any]) -> None:
         """Writes a message."""
@@ -42,6 +45,13 @@ class Endpoint:
     def notify(self, method: str, params: Params) -> None:
         """Tells the other end something."""
         self.send({"method": method, "params": params})
+
+    def ask(self, method: str, params: Params, take: Callable[[Any], None]) -> None:
+        """Asks the other end; `take` is given the result, or None where there is a fault."""
+        self.numbers += 1
+        number = f"tekhvumo {self.numbers}"
+        self.asked[number] = take
+        self.send({"id": number, "method": method, "params": params})
 
     def answer(self, number: Any, result: Any) -> None:
         """Answers a request that is still open."""
@@ -83,6 +93,8 @@ class Endpoint:
             if "result" not in message and "error" not in message:
                 error = {"code": int(Code.INVALID_REQUEST), "message": "a message without a method"}
                 self.send({"id": number, "error": error})
+            elif isinstance(number, str) and number in self.asked:
+                self.asked.pop(number)(message.get("result"))
             return
         params = message.get("params")
         if "id" in message:

@@ -14,6 +14,8 @@ from . import answers
 from .document import Document
 from .endpoint import LATER, Endpoint, Later, Params
 from .framing import Code, Fault, messages
+from .sharing import Sharing
+from .shared import Joined
 from .work import Done, Job
 from .workers import Process, Worker
 
@@ -60,7 +62,7 @@ class Server:
         self.program = program
         self.wishes = wishes
         self.folder = os.getcwd()
-        self.events: queue.SimpleQueue[Heard | Delivered] = queue.SimpleQueue()
+        self.events: queue.SimpleQueue[Heard | Delivered | Joined] = queue.SimpleQueue()
         self.documents: dict[str, Document] = {}
         self.judge = Worker(self.deliver)
         self.clerk = Worker(self.deliver)
@@ -84,6 +86,7 @@ class Server:
                 "textDocument/codeAction": self.code_action,
             },
         )
+        self.sharing = Sharing(self.endpoint, self.events.put)
 
     # ------------------------------------------------------------ the loop
 
@@ -95,6 +98,7 @@ class Server:
                 self.turn()
         finally:
             for document in self.documents.values():
+                self.sharing.leave(document)
                 document.verdicts.close()
             self.judge.stop()
             self.clerk.stop()
@@ -122,10 +126,14 @@ class Server:
             return
         if isinstance(event, Delivered):
             self.taken(event)
+        elif isinstance(event, Joined):
+            event.is_due = True
         elif event.is_end:
             self.status = 1 if self.status is None else self.status
         else:
             self.endpoint.take(event.message)
+        if self.events.empty():
+            self.sharing.bring_together()
 
     # ------------------------------------------------------------ the beginning and the end
 
@@ -137,6 +145,7 @@ class Server:
         if isinstance(root, str) and urlsplit(root).scheme == "file":
             self.folder = unquote(urlsplit(root).path)
         self.endpoint.is_initialized = True
+        self.sharing.takes_edits = bool(((params.get("capabilities") or {}).get("workspace") or {}).get("applyEdit"))
         self.judge.get_ready()
         return {"capabilities": CAPABILITIES, "serverInfo": {"name": "tekhvumo", "version": VERSION}}
 
@@ -167,11 +176,13 @@ class Server:
         document = Document(told["uri"], told.get("version"), told["text"], self.program, self.folder, self.wishes)
         self.documents[told["uri"]] = document
         self.changed(document)
+        self.sharing.join(document)
 
     def did_change(self, params: Params, number: Any) -> Any:
         """A document's text has changed."""
         document = self.document(params)
-        document.change(params["contentChanges"], params["textDocument"].get("version"))
+        with self.sharing.changing(document) as seen:
+            document.change(params["contentChanges"], params["textDocument"].get("version"), seen)
         self.changed(document)
 
     def changed(self, document: Document) -> None:
@@ -202,6 +213,7 @@ class Server:
     def close(self, uri: str) -> None:
         """Lays a document aside."""
         document = self.documents.pop(uri)
+        self.sharing.leave(document)
         self.leave(document, "the document was closed")
         self.judge.leave(document.job)
         document.verdicts.close()

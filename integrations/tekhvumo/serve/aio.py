@@ -146,9 +146,12 @@ class AsyncConversation(AsyncSession):
 
     >>> async def answered():
     ...     async with await AsyncConversation.open(";!knitout-2\\n;;Carriers: 1\\nin 1\\n") as served:
-    ...         return (await served.put(0, ["in 1", "in 1"])).brief.rule
+    ...         rule = (await served.put(0, ["in 1", "in 1"])).brief.rule
+    ...         saved = (await served.save()).text
+    ...     async with await AsyncConversation.open_saved(saved) as served:
+    ...         return rule, served.opened.version
     >>> asyncio.run(answered())
-    'CarrierIsIn'
+    ('CarrierIsIn', 1)
     """
 
     def __init__(self, pipes: AsyncPipes, opened: replies.Opened) -> None:
@@ -160,14 +163,25 @@ class AsyncConversation(AsyncSession):
         cls, text: Text, limits: Limits | None = None, *, block_lines: int = 64, program: str | None = None
     ) -> AsyncConversation:
         """A conversation over a text, as by `Conversation.open`."""
-        words = [find_program(program), *requests.options(limits or Limits(), block_lines)]
+        words = requests.options(limits or Limits(), block_lines)
+        return await cls.begun(requests.opening(as_bytes(text)), program, words)
+
+    @classmethod
+    async def open_saved(cls, saved: Text, *, program: str | None = None) -> AsyncConversation:
+        """A conversation that goes on from a saved text, as by `Conversation.open_saved`."""
+        return await cls.begun(requests.opening_by(as_bytes(saved)), program, requests.options())
+
+    @classmethod
+    async def begun(cls, opening: bytes, program: str | None, words: Sequence[str]) -> AsyncConversation:
+        """A conversation with a new process, which is begun so."""
+        command = [find_program(program), *words]
         pipe = asyncio.subprocess.PIPE
         try:
-            child = await asyncio.create_subprocess_exec(*words, stdin=pipe, stdout=pipe, limit=MOST_REPLY_BYTES)
+            child = await asyncio.create_subprocess_exec(*command, stdin=pipe, stdout=pipe, limit=MOST_REPLY_BYTES)
         except OSError as trouble:
-            raise SetupFault(f"{words[0]}: {trouble.strerror}") from trouble
+            raise SetupFault(f"{command[0]}: {trouble.strerror}") from trouble
         pipes = AsyncPipes(child)
-        opened = await opened_by(pipes, requests.opening(as_bytes(text)))
+        opened = await opened_by(pipes, opening)
         pipes.ends = asyncio.create_task(pipes.hear())
         return cls(pipes, opened)
 

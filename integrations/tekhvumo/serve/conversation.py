@@ -185,7 +185,15 @@ class Conversation(Session):
     >>> with Conversation.open(";!knitout-2\\n;;Carriers: 1\\nin 1\\ntuck + f1 1\\n") as served:
     ...     edit = served.put(0, ["in 1", "tuck + f1 1", "knit - f2 2"])
     ...     edit.brief.rule, edit.broken.line, served.loop(4).loop.yarns
+    ...     saved = served.save().text
     ('NoCarrier', 3, ('1',))
+
+    What is saved outlives the process, and another conversation goes on from it:
+
+    >>> with Conversation.open_saved(saved) as served:
+    ...     lines = served.look(0).lines
+    ...     served.opened.version, served.put(0, lines[:2]).version, [it.seen for it in served.since(0).entries]
+    (1, 2, [0, 1])
     """
 
     def __init__(self, pipes: Pipes, opened: replies.Opened) -> None:
@@ -201,8 +209,22 @@ class Conversation(Session):
         OpeningRefused where check_main doesn't take the text, SetupFault where it isn't there. Each line may have a
         byte less than in a file.
         """
-        pipes = Pipes([find_program(program), *requests.options(limits or Limits(), block_lines)])
-        return cls(pipes, opened_by(pipes, requests.opening(as_bytes(text))))
+        return cls.begun(requests.opening(as_bytes(text)), program, requests.options(limits or Limits(), block_lines))
+
+    @classmethod
+    def open_saved(cls, saved: Text, *, program: str | None = None) -> Conversation:
+        """A conversation that goes on from a saved text, with its blocks, its limits, its version and its journal.
+
+        Its sessions begin anew: they know what the saved text began with, so that a block which was changed since has to
+        be looked at first, and undo nothing that was done before. OpeningRefused where check_main doesn't take the text.
+        """
+        return cls.begun(requests.opening_by(as_bytes(saved)), program, requests.options())
+
+    @classmethod
+    def begun(cls, opening: bytes, program: str | None, words: Sequence[str]) -> Conversation:
+        """A conversation with a new process, which is begun so."""
+        pipes = Pipes([find_program(program), *words])
+        return cls(pipes, opened_by(pipes, opening))
 
     def session(self, number: int) -> Session:
         """Session `number`, 0 to 63. It is there from the start, and the same whenever it is asked for."""

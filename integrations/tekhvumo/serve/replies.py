@@ -48,7 +48,7 @@ class BlockLine:
 
 @dataclass(frozen=True)
 class Opened:
-    """The document stands, in so many blocks, whose ids are 0, 1, 2 and so on."""
+    """The document stands at a version, in so many blocks; those of a text have the ids 0, 1, 2 and so on."""
 
     version: int
     blocks: int

@@ -79,15 +79,27 @@ def text_lines(lines: Iterable[str]) -> bytes:
     return b"".join(map(text_line, lines))
 
 
+def pieces_of(text: bytes) -> list[bytes]:
+    """The pieces of a text between its line feeds."""
+    pieces = text.split(b"\n")
+    return pieces if pieces[-1] else pieces[:-1]
+
+
 def opening(text: bytes) -> bytes:
     """What opens a conversation over a text. What no text is, is refused by check_main in its own words."""
-    pieces = text.split(b"\n")
-    if not pieces[-1]:
-        pieces.pop()
+    pieces = pieces_of(text)
     return b"serve 1 lines %d\n%b" % (len(pieces), b"".join(b"|%b\n" % piece for piece in pieces))
 
 
-def options(limits: Limits, block_lines: int) -> list[str]:
+def opening_by(saved: bytes) -> bytes:
+    """What opens a conversation that goes on from a saved text. What none is, is refused likewise."""
+    pieces = pieces_of(saved)
+    # (a saved text's carriage returns are all a part of it)
+    lines = (b"%b\r\n" % piece if piece.endswith(b"\r") else b"%b\n" % piece for piece in pieces)
+    return b"serve 1 journal %d\n%b" % (len(pieces), b"".join(lines))
+
+
+def options(limits: Limits = Limits(), block_lines: int = 64) -> list[str]:
     """The words of the command line behind its name."""
     if not 1 <= block_lines <= MOST_TEXT_LINES:
         raise Unsayable(f"blocks have 1 to {MOST_TEXT_LINES} lines, not {block_lines}")

@@ -155,11 +155,9 @@ class Bridge:
 
     def has_room(self, size: int) -> bool:
         """Whether the journal has room for an edit of so many bytes; it may be begun anew to have it."""
-        if size and self.document.will_be_too_long(size):
-            self.keep()
-            if self.document.saved.size > self.document.begun:
-                self.begin_anew()
-        return not size or not self.document.will_be_too_long(size)
+        if size and not self.document.has_room(size):
+            self.keep(size)
+        return not size or self.document.has_room(size)
 
     def leave_all(self) -> None:
         """Leaves all clients: who connects again hears the whole document."""
@@ -175,8 +173,8 @@ class Bridge:
             loop = asyncio.get_running_loop()
             self.timer = loop.call_at(max(loop.time(), self.written + self.pause), self.safely, self.keep)
 
-    def keep(self) -> None:
-        """Writes the journal, and says what has waited for it."""
+    def keep(self, more: int = 0) -> None:
+        """Writes the journal, and says what has waited for it. A journal without room for so many bytes more is begun anew."""
         if self.timer is not None:
             self.timer.cancel()
             self.timer = None
@@ -187,8 +185,8 @@ class Bridge:
         self.push()
         for client in self.clients.values():
             client.release(self.kept)
-        if self.document.is_long:
-            self.begin_anew()
+        if self.document.is_long(more):
+            self.begin_anew(more)
 
     def push(self) -> None:
         """Tells each client what was done since it last heard, before it hears that its own edit is accepted."""
@@ -200,10 +198,11 @@ class Bridge:
                 client.say(told[client.version])
                 client.version = self.kept
 
-    def begin_anew(self) -> None:
-        """Begins a new conversation and a new journal; clients have to connect again."""
+    def begin_anew(self, more: int = 0) -> None:
+        """Begins another conversation with what is on the disk; clients have to connect again."""
         self.leave_all()
-        self.document.begin_anew()
+        self.document.served.close()
+        self.document.begin(more)
         self.kept = self.document.version
 
     def safely(self, work: Callable[[], None]) -> bool:

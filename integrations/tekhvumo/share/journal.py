@@ -2,130 +2,120 @@
 from __future__ import annotations
 
 import os
+import re
 import tempfile
-from typing import Any, Iterable, Iterator, Mapping, NamedTuple, Sequence
+from itertools import chain
+from typing import Any, Iterable, Iterator, Mapping, Sequence
 
 Lines = list[bytes]
 
 
-class BadJournal(ValueError):
-    """A saved text is none."""
+class Journal:
+    """A saved text: how a document began, and what was done to it, by which it grows. Lines have neither bar nor line feed."""
 
-
-class Entry(NamedTuple):
-    """An entry: the words of its line, and its text lines."""
-
-    words: list[bytes]
-    lines: Lines
-
-
-class Journal(NamedTuple):
-    """What a saved text tells: how a document began, and what was done to it. Lines have neither bar nor line feed."""
-
-    profile: list[bytes]
-    head: Lines
-    blocks: list[Lines]
-    entries: list[Entry]
+    def __init__(self, profile: bytes, head: Lines, blocks: Sequence[Lines], entries: Iterable[bytes] = ()) -> None:
+        self.profile = profile
+        self.head = head
+        self.blocks = blocks
+        parts = [b"block %d\n%b" % (len(lines), barred(lines)) for lines in blocks]
+        self.front = b"journal 1\nprofile %b\nhead %d\n%bblocks %d\n%b" % (
+            profile, len(head), barred(head), len(blocks), b"".join(parts)
+        )
+        self.entries: list[bytes] = []
+        self.size = len(self.front)
+        for entry in entries:
+            self.add(entry)
 
     @classmethod
     def of(cls, data: bytes) -> Journal:
         """Reads a saved text that check_main takes."""
-        try:
-            return read(iter(data.split(b"\n")))
-        except (IndexError, ValueError, StopIteration) as trouble:
-            raise BadJournal("it is no saved text") from trouble
+        opening, entries = re.split(rb"^entries \d+\n", data, flags=re.M)
+        head, _, *blocks = re.split(rb"^blocks? \d+\n", opening, flags=re.M)
+        _, profile, _, texts = head.split(b"\n", 3)
+        journal = re.split(rb"^(?=session )", entries, flags=re.M)[1:]
+        return cls(profile.removeprefix(b"profile "), unbarred(texts), [unbarred(it) for it in blocks], journal)
 
-    def text(self, version: int | None = None) -> tuple[Lines, Lines]:
-        """The head's lines and the body's at a version, the last one if none is given."""
-        head, blocks = list(self.head), dict(enumerate(self.blocks))
-        order = list(blocks)
-        for entry in self.entries[:version]:
-            carry_out(entry, head, blocks, order)
-        return head, [line for block in order for line in blocks[block]]
-
-    @property
-    def beginnings(self) -> range:
-        """The versions with which a bridge may have begun: it first adds the comments above the first instruction."""
-        is_added = (entry.words[2:4] == [b"add", b"start"] for entry in self.entries)
-        return range(1 + next((at for at, it in enumerate(is_added) if not it), len(self.entries)))
-
-
-def read(rest: Iterator[bytes]) -> Journal:
-    """Reads the lines of a saved text."""
-
-    def count(words: bytes) -> int:
-        line = next(rest)
-        if not line.startswith(words + b" "):
-            raise ValueError(line)
-        return int(line[len(words) :])
-
-    def taken(lines: int) -> Lines:
-        return [next(rest)[1:] for _ in range(lines)]
-
-    def entry() -> Entry:
-        words = next(rest).split(b" ")
-        return Entry(words, taken(int(words[-1])) if b"lines" in words[-2:-1] and words[2:4] != [b"put", b"head"] else [])
-
-    if next(rest) != b"journal 1":
-        raise ValueError("another first line")
-    profile = next(rest).split(b" ")[1:]
-    head = taken(count(b"head"))
-    blocks = [taken(count(b"block")) for _ in range(count(b"blocks"))]
-    return Journal(profile, head, blocks, [entry() for _ in range(count(b"entries"))])
-
-
-class Growing:
-    """A saved text that grows by an entry at a time: what is written anew is no more than has come."""
-
-    def __init__(self, lines: Sequence[str]) -> None:
-        at = next(at for at in reversed(range(len(lines))) if lines[at].startswith("entries "))
-        self.front = "".join(f"{line}\n" for line in lines[:at]).encode()
-        self.entries = ["".join(f"{line}\n" for line in lines[at + 1 :]).encode()]
-        self.count = int(lines[at].split(" ")[1])
-        self.size = len(self.front) + len(self.entries[0]) + len(lines[at]) + 1
-
-    def add(self, entry: Mapping[str, Any], lines: Sequence[str]) -> None:
-        """Adds an entry, as check_main tells it as JSON, and the lines that the edit gave."""
-        text = "".join([f"{spelled(entry)}\n", *(f"|{line}\n" for line in lines)]).encode()
-        self.entries.append(text)
-        self.count += 1
-        self.size += len(text)
+    def add(self, entry: bytes) -> None:
+        """Adds an entry: its line, and its text lines."""
+        self.entries.append(entry)
+        self.size += len(entry)
 
     def data(self) -> bytes:
-        """The text."""
-        return b"".join([self.front, b"entries %d\n" % self.count, *self.entries])
+        """The saved text as a file has it."""
+        return b"".join([self.front, b"entries %d\n" % len(self.entries), *self.entries])
+
+    def versions(self) -> Iterator[Iterator[bytes]]:
+        """The document's lines at each version, from its beginning; they are read before the next version is asked for."""
+        head, blocks, order = list(self.head), dict(enumerate(self.blocks)), list(range(len(self.blocks)))
+        # (first comes what nothing was done to)
+        for entry in [b"", *self.entries]:
+            carry_out(entry, head, blocks, order)
+            yield chain(head, chain.from_iterable(map(blocks.__getitem__, order)))
+
+    def lines(self) -> Lines:
+        """The document's lines at the end."""
+        for version in self.versions():
+            last = version
+        return list(last)
+
+    def anew(self, profile: bytes, block_lines: int) -> Journal:
+        """A journal that begins with the text at the end of this one, in blocks of so many lines."""
+        lines, head = self.lines(), len(self.head)
+        blocks = [lines[at : at + block_lines] for at in range(head, len(lines), block_lines)]
+        return Journal(profile, lines[:head], blocks)
 
 
-def spelled(entry: Mapping[str, Any]) -> str:
-    """The line of an entry."""
-    session, block, lines = (entry.get(it) for it in ("session", "block", "lines"))
-    if entry["edit"] == "put":
-        return f"session {session} put {block} seen {entry['seen']} lines {lines}"
-    if entry["edit"] == "add":
-        anchor = "start" if entry["anchor"] is None else entry["anchor"]
-        return f"session {session} add {anchor} block {block} lines {lines}"
-    if entry["edit"] == "cut":
-        return f"session {session} cut {block} seen {entry['seen']}"
-    return " ".join([f"session {session} put head seen {entry['seen']} carriers", *entry["names"]])
+def barred(lines: Iterable[bytes]) -> bytes:
+    """The text lines of these lines."""
+    return b"".join(b"|%b\n" % line for line in lines)
 
 
-def carry_out(entry: Entry, head: Lines, blocks: dict[int, Lines], order: list[int]) -> None:
-    """Carries an entry out on a document: its head, its blocks' lines, and their order."""
-    kind, words = entry.words[2], entry.words[3:]
-    if kind == b"put" and words[0] == b"head":
-        at = next(at for at, line in enumerate(head) if line.startswith(b";;Carriers:"))
-        head[at] = b" ".join([b";;Carriers:", *words[4:]])
-    elif kind == b"put":
-        blocks[int(words[0])] = entry.lines
-    elif kind == b"add":
-        block = int(words[2])
-        blocks[block] = entry.lines
-        order.insert(0 if words[0] == b"start" else order.index(int(words[0])) + 1, block)
+def unbarred(texts: bytes) -> Lines:
+    """The lines of these text lines."""
+    return [line[1:] for line in texts.split(b"\n")[:-1]]
+
+
+def entry_of(said: Mapping[str, Any], texts: Sequence[str]) -> bytes:
+    """An entry, as check_main tells it as JSON, with the lines that the edit gave."""
+    session, block, lines = (said.get(it) for it in ("session", "block", "lines"))
+    if said["edit"] == "put":
+        words = f"session {session} put {block} seen {said['seen']} lines {lines}"
+    elif said["edit"] == "add":
+        anchor = "start" if said["anchor"] is None else said["anchor"]
+        words = f"session {session} add {anchor} block {block} lines {lines}"
+    elif said["edit"] == "cut":
+        words = f"session {session} cut {block} seen {said['seen']}"
     else:
-        order.remove(int(words[0]))
+        words = " ".join([f"session {session} put head seen {said['seen']} carriers", *said["names"]])
+    return f"{words}\n".encode() + barred(text.encode() for text in texts)
+
+
+def carry_out(entry: bytes, head: Lines, blocks: dict[int, Lines], order: list[int]) -> None:
+    """Carries an entry out on a document: its head, its blocks' lines, and their order."""
+    line, _, texts = entry.partition(b"\n")
+    match line.split(b" ")[2:]:
+        case [b"put", b"head", _, _, _, *names]:
+            at = next(at for at, line in enumerate(head) if line.startswith(b";;Carriers:"))
+            head[at] = b" ".join([b";;Carriers:", *names])
+        case [b"put", block, *_]:
+            blocks[int(block)] = unbarred(texts)
+        case [b"add", anchor, _, block, *_]:
+            blocks[int(block)] = unbarred(texts)
+            order.insert(0 if anchor == b"start" else order.index(int(anchor)) + 1, int(block))
+        case [b"cut", block, *_]:
+            order.remove(int(block))
 
 
 # ---------------------------------------------------------------- files
+
+
+def read(path: str) -> bytes | None:
+    """What a file has; None where there is none."""
+    try:
+        with open(path, "rb") as file:
+            return file.read()
+    except FileNotFoundError:
+        return None
 
 
 def file_text(lines: Iterable[bytes], feed: bytes = b"\n") -> bytes:
@@ -140,12 +130,6 @@ def file_lines(data: bytes) -> Lines:
     if not pieces[-1]:
         pieces.pop()
     return [it[:-1] if it.endswith(b"\r") else it for it in pieces]
-
-
-def leading_comments(lines: Sequence[bytes]) -> int:
-    """How many of a body's first lines would be taken for lines of the head."""
-    is_of_head = (line.startswith(b";") or not line.strip(b" \t") for line in lines)
-    return next((at for at, it in enumerate(is_of_head) if not it), len(lines))
 
 
 def write(path: str, data: bytes) -> None:

@@ -58,6 +58,24 @@ test("groups, undo and the header", async (t) => {
   assert.deepEqual((await it.lookHead()).lines, [";;Carriers: 2"]);
 });
 
+test("a conversation that goes on from a saved text", async (t) => {
+  const before = await served(t, SOUND, { blockLines: 2, limits: { high: 7 } });
+  await before.put(1, ["out 1", "x\r"]);
+  const { lines } = await before.save();
+  for (const saved of [lines.join("\n"), lines.map((line) => `${line}\n`).join("")]) {
+    const it = await Conversation.openSaved(saved, { program });
+    t.after(() => it.close());
+    assert.deepEqual([it.opened.version, it.opened.blocks, it.opened.broken], [1, 2, { block: 1, line: 2 }]);
+    await assert.rejects(it.undo(), refused("noundo"));
+    await assert.rejects(it.put(1, []), refused("stale"));
+    assert.deepEqual((await it.look(1)).lines, ["out 1", "x\r"]);
+    assert.equal((await it.put(1, ["tuck + f8 1"])).brief.rule, "OffBed");
+    assert.deepEqual((await it.since(0)).entries.map((entry) => entry.seen), [0, 1]);
+  }
+  const late = Conversation.openSaved(lines.join("\n").replace("seen 0", "seen 1"), { program });
+  await assert.rejects(late, (trouble) => trouble.status === 3 && trouble.words === "bad input: journal line 13 NoFit");
+});
+
 test("two sessions, one too late", async (t) => {
   const it = await served(t);
   const [one, other] = [it.session(1), it.session(63)];
