@@ -1,8 +1,7 @@
 -- What a command asks, by what the session knows.
-use Rattle.std.proofs.Common.{◌≡◌, ℕ, ◌<◌, ◌≤◌, cond, List, Option, Some, None, Result, Ok, Err, length, slice_range, sym, ap, ◌∙◌, arith}
+use Rattle.std.proofs.Common.{◌≡◌, ℕ, ◌<◌, ◌≤◌, cond, List, Option, Some, None, Result, Ok, Err, length, sym, ap, ◌∙◌, arith}
 use Rattle.std.specs.Option.{option_map_or}
 use Rattle.std.proofs.lemmas.Bool.{le-leb, lt-leb}
-use Rattle.std.proofs.lemmas.Grind.{common_steps}
 use Rattle.edit_journal.specs.declared.edit.BlockName.{BlockName}
 use Rattle.edit_book.specs.declared.reply.Reply.{Reply}
 use Rattle.edit_book.specs.declared.reply.Reply.TheVariants as reply
@@ -38,6 +37,3 @@ long_text text request lines long is =
 pub ruleset texts = (short_text, long_text)
 
 pub ruleset asks = (named_some, named_none)
-
-pub whole_range : (xs : List (List ℕ)) → slice_range xs 0 (length xs) ≡ xs
-whole_range xs = grind (arith, common_steps)

@@ -1,5 +1,5 @@
 //! A book on which groups of edits are carried out, and edits undone.
-ghost use Rattle.std.specs.Prelude.{◌≡◌, ◌<◌, ◌≤◌, ◌+◌, [], IfOk, Ok, length};
+ghost use Rattle.std.specs.Prelude.{◌≡◌, ◌<◌, ◌≤◌, ◌+◌, [], ◌∷◌, IfOk, Ok, length};
 ghost use Rattle.std.specs.Option.{option_to_list};
 ghost use Rattle.edit_book.specs.Replies.{edit_of, request_of};
 ghost use Rattle.edit_book.specs.Turns.{IsFit};
@@ -139,8 +139,7 @@ fn earlier_steps(alloc: Global, book: &Book) -> Result<Vec<Chunk>, NoMemory>
     let entries = journal.into_entries();
     let mut steps = Vec::with_capacity(alloc, entries.len())?;
     for entry in entries {
-        let mut edits = ListOf::new(alloc);
-        edits.push(entry.edit)?;
+        let edits = only(alloc, entry.edit)?;
         steps.push(Chunk {
             session: entry.session,
             edits,
@@ -148,6 +147,15 @@ fn earlier_steps(alloc: Global, book: &Book) -> Result<Vec<Chunk>, NoMemory>
         })?;
     }
     Ok(steps)
+}
+
+// A list of this edit alone. It has no room for others, since such a list is kept for each step.
+fn only(alloc: Global, edit: Edit) -> Result<EditList, NoMemory>
+    ensures { IfOk result (λ edits. edits ≡ edit ∷ []) }
+{
+    let mut edits = ListOf::with_capacity(alloc, 1)?;
+    edits.push(edit)?;
+    Ok(edits)
 }
 
 /// The edit that a command asks for, where it asks for one, with this id for a new block.
@@ -158,42 +166,52 @@ pub(crate) fn edits_asked(
 ) -> Result<EditList, NoMemory>
     ensures { IfOk result (λ edits. edits ≡ option_to_list (edit_of (request_of command.now) ids)) }
 {
-    let mut edits = ListOf::new(alloc);
     match command {
         BookCommand::Put {
             block,
             seen,
             prepared,
             ..
-        } => edits.push(Edit::Put {
-            block: *block,
-            seen: *seen,
-            text: prepared.text.try_clone()?,
-        })?,
+        } => only(
+            alloc,
+            Edit::Put {
+                block: *block,
+                seen: *seen,
+                text: prepared.text.try_clone()?,
+            },
+        ),
         BookCommand::Add {
             anchor,
             prepared,
             ..
-        } => edits.push(Edit::Add {
-            anchor: *anchor,
-            block: ids,
-            text: prepared.text.try_clone()?,
-        })?,
-        BookCommand::Cut { block, seen } => edits.push(Edit::Cut {
-            block: *block,
-            seen: *seen,
-        })?,
-        BookCommand::PutHead { seen, declared, .. } => edits.push(Edit::Head {
-            seen: *seen,
-            declared: declared.try_clone()?,
-        })?,
+        } => only(
+            alloc,
+            Edit::Add {
+                anchor: *anchor,
+                block: ids,
+                text: prepared.text.try_clone()?,
+            },
+        ),
+        BookCommand::Cut { block, seen } => only(
+            alloc,
+            Edit::Cut {
+                block: *block,
+                seen: *seen,
+            },
+        ),
+        BookCommand::PutHead { seen, declared, .. } => only(
+            alloc,
+            Edit::Head {
+                seen: *seen,
+                declared: declared.try_clone()?,
+            },
+        ),
         BookCommand::Look(_)
         | BookCommand::LoopAt(_)
         | BookCommand::Verdict
         | BookCommand::LookHead
-        | BookCommand::Texts => {}
+        | BookCommand::Texts => Ok(ListOf::new(alloc)),
     }
-    Ok(edits)
 }
 
 /// The number of the entry that an undo of a step with these edits undoes, where this is the number of its first entry, or 0.

@@ -1,5 +1,5 @@
 //! What a session's command asks of the book.
-ghost use Rattle.std.specs.Prelude.{◌≡◌, ◌⊎◌, ℕ, ◌+◌, ◌<◌, ◌≤◌, length, List, Some, Ok, Err, Result, IfOk, IfErr, MatchResult, slice_range};
+ghost use Rattle.std.specs.Prelude.{◌≡◌, ◌⊎◌, ℕ, ◌+◌, ◌<◌, ◌≤◌, length, List, Some, Ok, Err, Result, IfOk, IfErr, MatchResult};
 ghost use Rattle.edit_journal.specs.declared.edit.Entry.{Entry};
 ghost use Rattle.edit_journal.specs.declared.opening.Opening.{Opening};
 ghost use Rattle.edit_journal.specs.Documents.{names_given};
@@ -209,6 +209,15 @@ fn anchor(learned: &Learned, place: Place) -> Result<Anchor, Reply>
     }
 }
 
+// The text of a block, of which copies share one buffer: such a text is kept in the journal and in the step, and the buffer has no room
+// to spare.
+fn block_text(alloc: Global, text: &Lines) -> Result<BlockText, NoMemory>
+    ensures { IfOk result (λ copy. copy ≡ text.now) }
+{
+    let lines = text.try_clone()?.into_shared()?;
+    BlockText::of(alloc, &lines, 0, lines.len())
+}
+
 // A text, prepared in this draft for the setting, or the reply that it is too long.
 #[tactic(auto, using(crate::proofs::Asks::texts))]
 fn prepared<L: Ledger>(
@@ -224,7 +233,7 @@ fn prepared<L: Ledger>(
     ensures long { (request : Request) → MatchResult result (λ prepared. unless_long text.now request ≡ Ok request) (λ reply. (reply ≡ Reply.NoMemory) ⊎ (unless_long text.now request ≡ Err reply)) }
     ensures untold { IfErr result TellsNoHeader }
 {
-    let Ok(copy) = BlockText::of(alloc, text, 0, text.len()) else {
+    let Ok(copy) = block_text(alloc, text) else {
         return Err(Reply::NoMemory);
     };
     match prepare_with(draft, copy, setting, steps) {

@@ -1,8 +1,7 @@
-use Rattle.std.proofs.Common.{◌≡◌, ◌∙◌, ◌+◌, ◌++◌, ◌∷◌, [], true, List, length, append_assoc, append-nil, ap, arith, refl, sym}
+use Rattle.std.proofs.Common.{◌≡◌, ◌∙◌, ◌++◌, ◌∷◌, [], true, List, length, append_assoc, append-nil, ap, arith, refl, sym}
 use Rattle.std.proofs.lemmas.List.{map-append}
 use Rattle.std.specs.Vec.Iter.{into_iter_items}
 use Rattle.edit_groups.specs.Chunks.{earlier_step, earlier_steps}
-use Rattle.edit_journal.specs.declared.edit.Edit.{Edit}
 use Rattle.edit_groups.proofs.book.earlier_steps.Goals as goal
 
 nothing_left : {X : Type 0} (l : List X) → length l ≡ 0 → l ≡ []
@@ -16,9 +15,7 @@ loop-entry-preserved c =
     record {
       all = append_assoc at.yielded (c.in-Some.entry ∷ []) (into_iter_items c.next.new.self) ∙ rw (← steps) at.invariant.all;
       left = let was = at.invariant.left in let gone = c.in-Some.ensures.steps.1 in let short = ap length steps in omega arith;
-      same =
-          let edits : c.push.new.self ≡ c.in-Some.entry.edit ∷ [] = c.in_ok-push.ensures.ok ∙ ap (λ (l : List Edit). l ++ c.in-Some.entry.edit ∷ []) c.new-edits.ensures in
-          c.in_ok-push-2.ensures.items ∙ (λ i. at.invariant.same i ++ record { session = c.in-Some.entry.session; edits = edits i; earlier = true } ∷ []) ∙ sym (map-append earlier_step at.yielded (c.in-Some.entry ∷ []));
+      same = c.in_ok-push.ensures.items ∙ (λ i. at.invariant.same i ++ record { session = c.in-Some.entry.session; edits = c.in_ok-edits.ensures i; earlier = true } ∷ []) ∙ sym (map-append earlier_step at.yielded (c.in-Some.entry ∷ []));
     }
 
 pub returns : goal.returns
