@@ -60,6 +60,8 @@ class Shared:
         self.is_closed = False
         self.conflicts = 0
         self.begin(self.connected())
+        # (what the bridge said right behind the document is in the text here from the beginning)
+        self.wait()
 
     @classmethod
     def connect(cls, path: str, patience: float = 10.0) -> Shared:
@@ -111,7 +113,10 @@ class Shared:
         return self.persistently(lambda: self.try_wait(seconds))
 
     def fileno(self) -> int:
-        """The number of the connection's stream, which can be read when others have done something."""
+        """The number of the connection's stream, which can be read when others have done something.
+
+        Nothing that came before is left then: each call here takes in all that has come, and gives the changes.
+        """
         return self.connection.fileno()
 
     def close(self) -> None:
@@ -134,6 +139,9 @@ class Shared:
         while True:
             try:
                 work()
+                # (behind a reply there may be news, of which `fileno` says nothing any more)
+                while self.pushed or b"\n" in self.ahead:
+                    self.try_wait(0.0)
                 break
             except (Lost, OSError):
                 self.connection.close()
