@@ -10,7 +10,7 @@ from typing import Any
 from tekhvumo import findings
 from tekhvumo.lsp.text import Text
 
-from .case import BROKEN, HEAD, SOUND, TOP, Case, body
+from .case import BROKEN, HEAD, MOST_SECONDS, SOUND, TOP, Case, body
 from .editor import Editor
 
 PARSE, INVALID, NO_METHOD, PARAMS, EARLY = -32700, -32600, -32601, -32602, -32002
@@ -268,12 +268,12 @@ class Protocol(WithServer):
     def test_an_end_that_was_not_announced(self) -> None:
         self.editor.start()
         self.editor.notify("exit")
-        self.assertEqual(self.editor.child.wait(timeout=60), 1)
+        self.assertEqual(self.editor.child.wait(timeout=MOST_SECONDS), 1)
 
     def test_an_editor_that_is_gone(self) -> None:
         self.opened(SOUND)
         self.editor.child.stdin.close()
-        self.assertEqual(self.editor.child.wait(timeout=60), 1)
+        self.assertEqual(self.editor.child.wait(timeout=MOST_SECONDS), 1)
 
     def test_what_is_unknown(self) -> None:
         self.opened(SOUND)

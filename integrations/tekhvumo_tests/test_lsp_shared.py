@@ -7,7 +7,7 @@ import time
 from typing import Any
 
 from .bridges import Bridge, WithBridge
-from .case import HEAD
+from .case import HEAD, MOST_SECONDS
 from .editor import Editor
 
 TEXT = HEAD + "in 1\n" + "".join(f"tuck + f{number} 1\n" for number in range(1, 201))
@@ -39,6 +39,10 @@ class Partner(Editor):
         while not self.heard.empty():
             self.message()
 
+    def is_asked(self) -> bool:
+        """Whether an edit has come that wasn't looked at yet."""
+        return any(it and it.get("method") == "workspace/applyEdit" for it in list(self.heard.queue))
+
     def says(self) -> list[str]:
         return [it["params"]["message"] for it in self.told if it["method"] == "window/showMessage"]
 
@@ -56,7 +60,7 @@ class SharedEditors(WithBridge):
 
     def until(self, holds: Any, *editors: Partner) -> None:
         """Lets editors hear until something holds."""
-        end = time.monotonic() + 30
+        end = time.monotonic() + MOST_SECONDS
         while not holds():
             self.assertLess(time.monotonic(), end, [it.errors for it in editors])
             for it in editors:
@@ -95,8 +99,8 @@ class SharedEditors(WithBridge):
         bridge = self.share(TEXT)
         anna, ben = self.partner(bridge), self.partner(bridge)
         self.put(anna, FIRST, "; anna")
-        # (ben hears nothing before he types)
-        time.sleep(1)
+        # (ben types before he looks at what has come)
+        self.until(ben.is_asked, anna)
         self.put(ben, FIRST + 100, "; ben")
         self.until(lambda: all("; anna\n" in it.text(it.uri) and "; ben\n" in it.text(it.uri) for it in (anna, ben)), anna, ben)
         self.assertEqual(self.agree(anna, ben), self.kept(bridge))
@@ -114,6 +118,15 @@ class SharedEditors(WithBridge):
         anna.open(anna.uri, TEXT)
         self.put(ben, FIRST, "; ben")
         self.until(lambda: "; ben" in anna.text(anna.uri), anna, ben)
+
+    def test_a_document_is_closed_right_behind_a_key(self) -> None:
+        bridge = self.share(TEXT)
+        anna, ben = self.partner(bridge), self.partner(bridge)
+        for number in range(5):
+            self.put(anna, FIRST, f"; key {number}")
+        anna.notify("textDocument/didClose", textDocument={"uri": anna.uri})
+        self.until(lambda: "; key 4" in ben.text(ben.uri), ben)
+        self.assertEqual(self.kept(bridge), ben.text(ben.uri))
 
     def test_another_text_is_not_joined(self) -> None:
         bridge = self.share(TEXT)

@@ -118,6 +118,9 @@ class Joined:
 
     def changed(self, texts: Sequence[Sequence[str]]) -> None:
         """Takes what the editor's text became, change by change: if it was what was asked, what follows was made of that."""
+        if self.asked is not None and not texts:
+            # (Neovim tells of no change at times: what was asked is still to come)
+            return
         if self.asked is not None and any(lines_of(it) == self.asked for it in texts):
             self.base = self.asked
         self.asked = None
@@ -143,11 +146,9 @@ class Joined:
         self.base = mine
 
     def hear(self) -> None:
-        """Hears others until nothing that has come is left: the watch is woken by what comes alone."""
+        """Tells and hears others."""
         try:
             self.shared.sync()
-            while self.shared.pushed or b"\n" in self.shared.ahead:
-                self.shared.sync()
         except ShareError as trouble:
             self.refuse(str(trouble))
         finally:
