@@ -16,7 +16,7 @@ from .endpoint import LATER, Endpoint, Later, Params
 from .framing import Code, Fault, messages
 from .sharing import Sharing
 from .shared import Joined
-from .work import Done, Job
+from .work import UNFINISHED, Done, Job
 from .workers import Process, Worker
 
 CAPABILITIES = {
@@ -278,16 +278,19 @@ class Server:
             return
         if done.part == "fault":
             self.endpoint.notify("window/logMessage", {"type": 1, "message": f"tekhvumo: {done.value}"})
-        elif done.part == "mistakes":
+        elif done.part in UNFINISHED:
             warned = [it for it in document.findings if it.level == "warning"]
             document.findings = [*warned, *done.value]
         else:
             document.findings = done.value
-        document.has_mistakes = True
-        self.publish(document)
-        for number, params in document.waiting:
-            self.endpoint.answer(number, answers.code_actions(document, params))
-        document.waiting.clear()
+        if done.part != "hasty":
+            document.has_mistakes = True
+            self.publish(document)
+        waiting, document.waiting = document.waiting, []
+        for number, params in waiting:
+            found = self.code_action(params, number)
+            if not isinstance(found, Later):
+                self.endpoint.answer(number, found)
 
     def ask_clerk(self, number: Any, document: Document, kind: str) -> Later:
         """Has an answer worked out, unless it is known."""
@@ -320,8 +323,10 @@ class Server:
     def code_action(self, params: Params, number: Any) -> Any:
         """The cures of what is found in a range, once they are worked out."""
         document = self.document(params)
-        if document.has_mistakes or document.told is None:
-            return answers.code_actions(document, params)
+        # (the cures of a text that isn't there any more are gone)
+        found = answers.code_actions(document, params)
+        if found or document.has_mistakes or document.told is None:
+            return found
         document.waiting.append((number, params))
         document.due = document.due and 0.0
         return LATER

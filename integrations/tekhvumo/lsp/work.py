@@ -16,7 +16,12 @@ from ..judge import judged
 from ..lines import Source
 from ..program import Program, Status
 from ..settings import Settings
+from ..trials import Budget
 from .outline import courses_of_loops, formatting, symbols
+
+
+# Parts of a result behind which there come others.
+UNFINISHED = ("hasty", "mistakes")
 
 
 class Job(NamedTuple):
@@ -40,9 +45,13 @@ class Done(NamedTuple):
 
 
 def findings(job: Job) -> Iterator[tuple[str, Any]]:
-    """The mistakes first, and then with the warnings."""
+    """The mistakes first, and then with the warnings; before, where all take long, the mistakes with the cures found in haste."""
     program, source = Program(job.program, job.settings.limits), Source(job.name, job.data)
-    report = judged(program, source, job.settings, False)
+    budget = Budget(len(job.data), is_hasty=True)
+    report = judged(program, source, job.settings, False, budget)
+    if budget.was_short:
+        yield "hasty", report.findings
+        report = judged(program, source, job.settings, False)
     yield "mistakes", report.findings
     if report.status not in (Status.SOUND, Status.BROKEN):
         yield "findings", report.findings
@@ -96,7 +105,7 @@ def serve(heard: BinaryIO, said: BinaryIO) -> None:
             return
         try:
             for part, value in KINDS[job.kind](job):
-                pickle.dump(Done(job.number, part, value, part != "mistakes"), said)
+                pickle.dump(Done(job.number, part, value, part not in UNFINISHED), said)
                 said.flush()
         except BrokenPipeError:
             return
