@@ -6,6 +6,8 @@ import signal
 import time
 from typing import Any
 
+from tekhvumo.share import Shared
+
 from .bridges import Bridge, WithBridge
 from .case import HEAD, MOST_SECONDS
 from .editor import Editor
@@ -72,6 +74,11 @@ class SharedEditors(WithBridge):
         self.until(lambda: len({it.text(it.uri) for it in editors}) == 1, *editors)
         return editors[0].text(editors[0].uri)
 
+    def has(self, watcher: Shared, *lines: str) -> bool:
+        """Whether lines have come to somebody who watches."""
+        watcher.wait()
+        return set(lines) <= set(watcher.lines)
+
     def put(self, editor: Partner, line: int, text: str) -> None:
         """Puts a line into an editor's text."""
         editor.change(editor.uri, ((line, 0), (line, 0), f"{text}\n"))
@@ -128,6 +135,20 @@ class SharedEditors(WithBridge):
         self.until(lambda: "; key 4" in ben.text(ben.uri), ben)
         self.assertEqual(self.kept(bridge), ben.text(ben.uri))
 
+    def test_a_text_is_saved_that_lacks_what_others_did(self) -> None:
+        bridge = self.share(TEXT)
+        anna, ben, watcher = self.partner(bridge), self.partner(bridge), self.client(bridge)
+        self.put(ben, FIRST + 100, "; ben")
+        self.until(anna.is_asked, ben)
+        anna.take = lambda message: None
+        self.put(anna, FIRST, "; anna")
+        self.until(lambda: self.has(watcher, "; anna", "; ben"), ben)
+        bridge.path.write_text(anna.text(anna.uri))
+        anna.notify("textDocument/didSave", textDocument={"uri": anna.uri})
+        anna.stop()
+        self.assertEqual(bridge.stop(), (0, ""))
+        self.assertEqual(bridge.path.read_text(), watcher.text)
+
     def test_another_text_is_not_joined(self) -> None:
         bridge = self.share(TEXT)
         anna = self.partner(bridge, TEXT + "; of nobody\n")
@@ -142,7 +163,7 @@ class SharedEditors(WithBridge):
         anna = self.partner(bridge)
         self.until(lambda: anna.text(anna.uri) == watcher.text, anna)
         self.put(anna, FIRST + 3, "; anna")
-        self.until(lambda: watcher.wait() or "; anna" in watcher.text, anna)
+        self.until(lambda: self.has(watcher, "; anna"), anna)
         self.assertEqual(self.kept(bridge), anna.text(anna.uri))
 
     def test_the_head_stays(self) -> None:

@@ -200,6 +200,7 @@ class Server:
     def did_save(self, params: Params, number: Any) -> Any:
         """A document was saved; it may be that its settings were."""
         read_settings.cache_clear()
+        self.sharing.saved(params["textDocument"]["uri"])
         for document in self.documents.values():
             if document.verdicts.settings_changed():
                 self.changed(document)

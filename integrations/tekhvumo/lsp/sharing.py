@@ -60,6 +60,12 @@ class Sharing:
         if joined:
             joined.changed(texts)
 
+    def saved(self, uri: str) -> None:
+        """A document was saved."""
+        joined = self.joined.get(uri)
+        if joined:
+            joined.is_saved = joined.is_due = True
+
     def bring_together(self) -> None:
         """Tells and hears what is due: once for all that has come meanwhile, for each time costs a merge of the texts."""
         for joined in list(self.joined.values()):
