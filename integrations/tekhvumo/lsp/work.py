@@ -20,10 +20,6 @@ from ..trials import Budget
 from .outline import courses_of_loops, formatting, symbols
 
 
-# Parts of a result behind which there come others.
-UNFINISHED = ("hasty", "mistakes")
-
-
 class Job(NamedTuple):
     """What is to be done with a text."""
 
@@ -45,13 +41,9 @@ class Done(NamedTuple):
 
 
 def findings(job: Job) -> Iterator[tuple[str, Any]]:
-    """The mistakes first, and then with the warnings; before, where all take long, the mistakes with the cures found in haste."""
+    """The mistakes first, and then with the warnings."""
     program, source = Program(job.program, job.settings.limits), Source(job.name, job.data)
-    budget = Budget(len(job.data), is_hasty=True)
-    report = judged(program, source, job.settings, False, budget)
-    if budget.was_short:
-        yield "hasty", report.findings
-        report = judged(program, source, job.settings, False)
+    report = judged(program, source, job.settings, False)
     yield "mistakes", report.findings
     if report.status not in (Status.SOUND, Status.BROKEN):
         yield "findings", report.findings
@@ -62,6 +54,13 @@ def findings(job: Job) -> Iterator[tuple[str, Any]]:
     end = source.length + 1 if is_sound else min(finding.line for finding in report.findings)
     found: list[Finding] = [*warnings(source, end, is_sound, job.settings), *report.findings]
     yield "findings", found
+
+
+def cures(job: Job) -> Iterator[tuple[str, Any]]:
+    """The first mistakes, with the cures that few trials find."""
+    source = Source(job.name, job.data)
+    budget = Budget(len(job.data), is_hasty=True)
+    yield "cures", judged(Program(job.program, job.settings.limits), source, job.settings, False, budget).findings
 
 
 def canonical(job: Job) -> Iterator[tuple[str, Any]]:
@@ -91,6 +90,7 @@ def as_json(result: Any) -> bytes:
 
 KINDS: dict[str, Callable[[Job], Iterator[tuple[str, Any]]]] = {
     "findings": findings,
+    "cures": cures,
     "canonical": canonical,
     "courses": courses,
 }
@@ -105,7 +105,7 @@ def serve(heard: BinaryIO, said: BinaryIO) -> None:
             return
         try:
             for part, value in KINDS[job.kind](job):
-                pickle.dump(Done(job.number, part, value, part not in UNFINISHED), said)
+                pickle.dump(Done(job.number, part, value, part != "mistakes"), said)
                 said.flush()
         except BrokenPipeError:
             return
