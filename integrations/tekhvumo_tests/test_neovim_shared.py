@@ -26,18 +26,15 @@ wait(function() return vim.fn.search('^; written by {other}$', 'nw') > 0 end)
 vim.fn.writefile({{}}, '{room}/{me}.saw')
 wait(function() return vim.fn.filereadable('{room}/{other}.saw') == 1 end)
 """
-# An edit of a text that was opened, before and after somebody has typed in it.
+# An edit of the text that was opened, once somebody has typed in it.
 REFUSE = """
 local client = vim.lsp.get_active_clients()[1]
-local version = vim.lsp.util.buf_versions[vim.api.nvim_get_current_buf()]
-local place = {{ line = {at}, character = 0 }}
-local edit = {{ range = {{ start = place, ['end'] = place }}, newText = '; of the server\\n' }}
-local function ask()
-  local asked = {{ textDocument = {{ uri = vim.uri_from_bufnr(0), version = version }}, edits = {{ edit }} }}
-  client.handlers['workspace/applyEdit'](nil, {{ edit = {{ documentChanges = {{ asked }} }} }}, {{ client_id = client.id }})
-end
+local text = {{ uri = vim.uri_from_bufnr(0), version = vim.lsp.util.buf_versions[vim.api.nvim_get_current_buf()] }}
 vim.api.nvim_buf_set_lines(0, 5, 5, true, {{ '; typed' }})
-ask()
+local place = {{ line = {at}, character = 0 }}
+local edits = {{ {{ range = {{ start = place, ['end'] = place }}, newText = '; of the server\\n' }} }}
+local asked = {{ edit = {{ documentChanges = {{ {{ textDocument = text, edits = edits }} }} }} }}
+client.handlers['workspace/applyEdit'](nil, asked, {{ client_id = client.id }})
 """
 END = """
 vim.fn.writefile(vim.api.nvim_buf_get_lines(0, 0, -1, true), '{room}/{me}.told')
