@@ -9,9 +9,20 @@ local function keys(_, buffer)
   end
 end
 
+-- Takes edits of a shared file. Before 0.10 a text that was opened has version 0, and of that one Neovim takes edits
+-- whatever was typed since, at places that they weren't made for: here they are refused, and the server asks again.
+local function take(problem, asked, ...)
+  for _, change in ipairs(asked.edit.documentChanges or {}) do
+    local text = change.textDocument
+    if text.version == 0 and vim.lsp.util.buf_versions[vim.uri_to_bufnr(text.uri)] ~= 0 then return { applied = false } end
+  end
+  return vim.lsp.handlers['workspace/applyEdit'](problem, asked, ...)
+end
+
 local function attach(event)
   local folder = vim.fn.fnamemodify(event.match, ':p:h')
   local config = { name = 'tekhvumo', cmd = { 'tekhvumo', 'lsp' }, root_dir = folder, on_attach = keys }
+  config.handlers = { ['workspace/applyEdit'] = take }
   vim.bo[event.buf].commentstring = '; %s'
   if vim.lsp.start then
     vim.lsp.start(config, { bufnr = event.buf, reuse_client = function(one) return one.name == config.name end })

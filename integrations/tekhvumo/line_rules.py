@@ -8,21 +8,26 @@ from .instructions import FORMS, SHAPES, Action, Instruction, instruction_of
 from .lines import PORTION, Source
 from .program import Broken, Limits
 
+# So many lines are looked at before it is asked whether enough are found.
+AT_A_TIME = 4096
 
-def broken_lines(source: Source, first: int, limits: Limits) -> list[Broken]:
-    """All lines from one on that break one of the rules that need no state."""
+
+def broken_lines(source: Source, first: int, limits: Limits, most: int) -> list[Broken]:
+    """The lines from one on that break one of the rules that need no state: all, or so many."""
     declared = frozenset(source.declared)
     is_short = len(source.data) - source.offset(first) < PORTION
     body = [piece for _, piece in source.lines_from(first)] if is_short else source.pieces[first - 1 :]
-    found: dict[bytes, tuple[str, int]] = {}
-    for piece in set(body):
-        words = re.findall(r"[^ \t]+", piece.removesuffix(b"\r").decode(errors="replace").partition(";")[0])
-        broken = broken_rule(words, declared, limits) if words else None
-        if broken:
-            found[piece] = broken
-    if not found:
-        return []
-    return [Broken(number, *found[piece]) for number, piece in enumerate(body, first) if piece in found]
+    known: dict[bytes, tuple[str, int] | None] = {}
+    found: list[Broken] = []
+    for begin in range(0, len(body), AT_A_TIME):
+        part = body[begin : begin + AT_A_TIME]
+        for piece in set(part).difference(known):
+            words = re.findall(r"[^ \t]+", piece.removesuffix(b"\r").decode(errors="replace").partition(";")[0])
+            known[piece] = broken_rule(words, declared, limits) if words else None
+        found += [Broken(number, *broken) for number, piece in enumerate(part, first + begin) if (broken := known[piece])]
+        if len(found) >= most:
+            break
+    return found[:most]
 
 
 def broken_rule(words: Sequence[str], declared: frozenset[str], limits: Limits) -> tuple[str, int] | None:

@@ -73,19 +73,23 @@ class Doubt(Enum):
 class Mistakes:
     """The mistakes of a file, one after another."""
 
-    def __init__(self, program: Program, source: Source, settings: Settings, first: Broken) -> None:
+    def __init__(self, program: Program, source: Source, settings: Settings, first: Broken, budget: Budget) -> None:
         self.program = program
         self.first = first
         self.file = source
         self.settings = settings
-        self.budget = Budget(len(source.data))
+        self.budget = budget
         self.draft = Draft(source)
         self.findings: list[Finding] = []
         self.doubts: set[Doubt] = set()
         # What the draft breaks since its last cure.
         self.fault_behind: Broken | None = None
         # Lines that break a rule by themselves, by mistakes, in the order of the file; those above the first fault run.
-        self.alone = grouped(source, broken_lines(source, first.line, program.limits))
+        alone = broken_lines(source, first.line, program.limits, budget.alone)
+        self.alone = grouped(source, alone)
+        # The last line that was looked at.
+        self.end = alone[-1].line if len(alone) == budget.alone else source.length
+        budget.was_short |= self.end < source.length
 
     def all(self) -> list[Finding]:
         """The findings of a file whose first fault is known."""
@@ -96,6 +100,9 @@ class Mistakes:
             if fault and (of_state == MOST_OF_STATE or not self.is_certain(fault)):
                 fault = None
             if not fault and not self.alone:
+                break
+            if self.budget.is_hasty and not self.can_try:
+                self.budget.was_short = True
                 break
             if fault and not (self.alone and self.draft.here(self.alone[0][0].line) < fault.line):
                 of_state += 1
@@ -109,7 +116,9 @@ class Mistakes:
         return sorted(self.findings, key=lambda finding: (finding.line, finding.column))
 
     def is_certain(self, fault: Broken) -> bool:
-        """Whether a fault isn't what a mistake above it led to."""
+        """Whether a fault isn't what a mistake above it led to, and lies where lines were looked at."""
+        if self.draft.original(fault.line) > self.end:
+            return False
         return Doubt.ALL not in self.doubts and not (Doubt.LOOPS in self.doubts and fault.rule in OF_LOOPS)
 
     def blank(self, groups: list[list[Broken]]) -> None:

@@ -2,6 +2,7 @@
 from __future__ import annotations
 
 from typing import NamedTuple
+
 from .cures import candidates
 from .findings import Cure
 from .hints import Place
@@ -11,6 +12,9 @@ from .settings import Settings
 # The runs of check_main that one file may cost, and how much text they may read: a long file gets fewer.
 MOST_RUNS = 48
 MOST_READ = 6_000_000
+# The same for who waits for the first cures; the lines of which warnings are counted; and the lines that are looked at
+# because they break a rule by themselves.
+HASTY_RUNS, HASTY_READ, HASTY_LINES, HASTY_ALONE = 10, 1_000_000, 4_000, 200
 # So many cures are offered, and so many edits tried, for one mistake.
 MOST_CURES = 5
 MOST_TRIED = 16
@@ -18,15 +22,31 @@ BEYOND_ALL = 1 << 40
 
 
 class Budget:
-    """The trials that are left."""
+    """The trials that are left for a file of some size, and the lines of which warnings may be counted to rank them.
 
-    def __init__(self, size: int) -> None:
-        self.left = max(3, min(MOST_RUNS, MOST_READ // max(1, size)))
+    Who waits for the first cures has a hasty one: with it the mistakes end where no more cures are tried.
+    """
+
+    def __init__(self, size: int, is_hasty: bool = False) -> None:
+        runs, read = (HASTY_RUNS, HASTY_READ) if is_hasty else (MOST_RUNS, MOST_READ)
+        self.left = max(3, min(runs, read // max(1, size)))
+        self.lines = HASTY_LINES if is_hasty else BEYOND_ALL
+        self.alone = HASTY_ALONE if is_hasty else BEYOND_ALL
+        self.is_hasty = is_hasty
+        # Whether there may be more to find with another one.
+        self.was_short = False
 
     def spend(self) -> bool:
         """Takes one, if there is one."""
         self.left -= 1
+        self.was_short |= self.left < 0
         return self.left >= 0
+
+    def count(self, lines: int) -> bool:
+        """Takes so many lines, if there are as many."""
+        self.lines -= lines
+        self.was_short |= self.lines < 0
+        return self.lines >= 0
 
 
 class Trial(NamedTuple):
@@ -51,11 +71,12 @@ def tried(place: Place, last: int, settings: Settings, budget: Budget) -> list[T
         if place.is_large and reaches == BEYOND_ALL:
             # The candidates come by likelihood, and the next would cost a run of a long file.
             break
-    is_warned = len(found) > 1 and not place.is_large
     furthest = max((trial.reaches for trial in found), default=0)
+    rivals = [it for it in found if it.reaches == furthest and not is_last_resort(place, it.cure)]
+    is_warned = len(rivals) > 1 and not place.is_large and budget.count(len(rivals) * place.source.length)
 
     def rank(trial: Trial) -> tuple[int, bool, int, float, int]:
-        warnings = warned(place, trial, settings) if is_warned and trial.reaches == furthest else 0
+        warnings = warned(place, trial, settings) if is_warned and trial in rivals else 0
         is_last = is_last_resort(place, trial.cure)
         return -trial.reaches, is_last, warnings, change(place, trial.cure), trial.order
 

@@ -14,7 +14,7 @@ from tekhvumo import check
 from tekhvumo.share import Shared
 from tekhvumo.share.journal import Journal, file_text
 
-from .case import HERE, Case
+from .case import HERE, MOST_SECONDS, Case
 
 # A bridge of whose constants one is another, so that it begins a new journal sooner than it usually does.
 START = (
@@ -42,8 +42,8 @@ class Bridge:
         if self.child.poll() is None:
             self.child.send_signal(number)
         if not self.child.stdout.closed:
-            self.errors = self.child.communicate(timeout=60)[1].decode()
-        return self.child.wait(timeout=60), self.errors
+            self.errors = self.child.communicate(timeout=MOST_SECONDS)[1].decode()
+        return self.child.wait(timeout=MOST_SECONDS), self.errors
 
 
 class Raw:
@@ -51,7 +51,7 @@ class Raw:
 
     def __init__(self, path: str) -> None:
         self.connection = socket.socket(socket.AF_UNIX)
-        self.connection.settimeout(60)
+        self.connection.settimeout(MOST_SECONDS)
         self.connection.connect(path)
         self.stream = self.connection.makefile("rwb")
         self.hello = self.read()

@@ -17,6 +17,8 @@ from tekhvumo.program import find_program
 HERE = Path(__file__).resolve().parent.parent
 PROGRAMS = Path(__file__).resolve().parent
 TOP = HERE.parent
+# For so many seconds a test waits for what has to come, on a machine that is slow at times.
+MOST_SECONDS = 240
 HEAD = ";!knitout-2\n;;Carriers: 1 2 3\n"
 SOUND = f"{HEAD}in 1\ntuck + f1 1\nout 1\n"
 BROKEN = f"{HEAD}in 1\nin 1\n"

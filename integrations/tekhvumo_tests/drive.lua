@@ -1,6 +1,6 @@
 -- Drives Neovim without a screen: waits for what is found, hovers, goes to the parent, applies a cure, types, and tells of each.
 local told = {}
-local most = 20000
+local most = 240000
 
 local function found()
   local lines = {}

@@ -8,9 +8,7 @@ import sys
 import threading
 from typing import Any, Mapping
 
-from .case import HERE
-
-MOST_SECONDS = 60
+from .case import HERE, MOST_SECONDS
 
 
 class Closed(Exception):

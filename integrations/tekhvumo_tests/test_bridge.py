@@ -24,11 +24,9 @@ class House(WithBridge):
             self.client(bridge)
         self.assertEqual(clients[63].ask(ask="put", block=0, lines=[])["reply"], "accepted")
         clients[17].close()
-        for _ in range(100):
-            client = self.raw(bridge)
-            if client.hello["reply"] == "hello":
-                break
-            time.sleep(0.05)
+        # (the bridge hears in its turn that one has gone)
+        while (client := self.raw(bridge)).hello["reply"] != "hello":
+            client.close()
         self.assertEqual((client.hello["session"], client.hello["version"]), (17, 1))
         self.assertEqual(client.ask(ask="put", block=0, lines=["in 1"])["reply"], "accepted")
 

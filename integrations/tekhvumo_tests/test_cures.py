@@ -11,10 +11,13 @@ import unittest
 from pathlib import Path
 
 from tekhvumo import Cure, Finding, findings
+from tekhvumo.judge import judged
 from tekhvumo.line_rules import broken_rule
 from tekhvumo.lines import Source
 from tekhvumo.program import Limits, Program, find_program
 from tekhvumo.refusals import MAGIC
+from tekhvumo.settings import Settings
+from tekhvumo.trials import Budget
 
 from .case import HEAD, PROGRAMS, Case, body
 
@@ -145,6 +148,36 @@ class LineRules(unittest.TestCase):
                     self.assertEqual(said, (3, *of_line))
                 elif said is not None:
                     self.assertRegex(said.rule, re.compile("CarrierIsOut|HookOther|NotAligned"))
+
+
+class Haste(unittest.TestCase):
+    """What is found by few trials, for who waits for the first cures."""
+
+    def hasty(self, data: bytes) -> tuple[list[Finding], int, bool]:
+        """The findings, the runs of check_main, and whether there may be more to find."""
+        program, budget = Program(find_program()), Budget(len(data), is_hasty=True)
+        found = judged(program, Source("a.k", data), Settings(), False, budget).findings
+        return found, program.runs, budget.was_short
+
+    def test_a_short_text_has_all_at_once(self) -> None:
+        data = body("in 1; tuck + f1 1; knit - f1 1; knit + f1 2; out 1").encode()
+        found, _, was_short = self.hasty(data)
+        self.assertEqual((found, was_short), (findings(data, warn=False, name="a.k"), False))
+
+    def test_a_long_or_broken_text_costs_few_trials(self) -> None:
+        long = ["in 1", *(f"tuck {'+-'[row % 2]} f{needle} 1" for row in range(1500) for needle in range(1, 6))]
+        for wrong, count in (("knit + f400 2", 1), ("knti + f1 1", 300), ("out 1", 60)):
+            lines = list(long)
+            for at in range(1000, 1000 + count):
+                lines[at] = wrong
+            data = body("; ".join(lines)).encode()
+            found, runs, was_short = self.hasty(data)
+            self.assertTrue(was_short)
+            self.assertLessEqual(runs, 16)
+            whole = findings(data, warn=False, name="a.k")
+            self.assertEqual((found[0].line, found[0].rule), (whole[0].line, whole[0].rule))
+            self.assertLessEqual({it.title for it in found[0].cures}, {it.title for it in whole[0].cures})
+            self.assertTrue(found[0].cures)
 
 
 if __name__ == "__main__":

@@ -10,7 +10,7 @@ from typing import Any
 from tekhvumo import findings
 from tekhvumo.lsp.text import Text
 
-from .case import BROKEN, HEAD, SOUND, TOP, Case, body
+from .case import BROKEN, HEAD, MOST_SECONDS, SOUND, TOP, Case, body
 from .editor import Editor
 
 PARSE, INVALID, NO_METHOD, PARAMS, EARLY = -32700, -32600, -32601, -32602, -32002
@@ -204,6 +204,13 @@ class Requests(WithServer):
         self.editor.replace(self.uri, action["edit"]["changes"][self.uri])
         self.assertEqual(self.editor.text(self.uri), body("pause; in 1; tuck + f1 1; knit - f1 1; out 1"))
 
+    def test_the_first_cures_of_a_text_with_many_mistakes(self) -> None:
+        named = self.opened(body("; ".join(["in 1", *["knti + f1 1"] * 300])))
+        ask = {**named, "range": whole_range(4, 4), "context": {"diagnostics": []}}
+        self.assertEqual(self.editor.result(f"{DOCUMENT}codeAction", **ask)[0]["title"], "write `knit + f1 1`")
+        self.editor.change(self.uri, ((3, 0), (4, 0), ""))
+        self.assertEqual(self.editor.result(f"{DOCUMENT}codeAction", **ask)[0]["title"], "write `knit + f1 1`")
+
     def test_each_cure_makes_the_text_that_was_tried(self) -> None:
         texts = [body("in 1; tuck + f1 1; in 1")[:-1], body("in 1; tuck + f1 1; knit - f1 2").replace("\n", "\r\n")]
         texts += ["", "in 1\n", ";!knitout-2", ";!knitout-2\nin 1", body("in 1; tuck + f1 1; knit - f1 2")[:-1]]
@@ -268,12 +275,12 @@ class Protocol(WithServer):
     def test_an_end_that_was_not_announced(self) -> None:
         self.editor.start()
         self.editor.notify("exit")
-        self.assertEqual(self.editor.child.wait(timeout=60), 1)
+        self.assertEqual(self.editor.child.wait(timeout=MOST_SECONDS), 1)
 
     def test_an_editor_that_is_gone(self) -> None:
         self.opened(SOUND)
         self.editor.child.stdin.close()
-        self.assertEqual(self.editor.child.wait(timeout=60), 1)
+        self.assertEqual(self.editor.child.wait(timeout=MOST_SECONDS), 1)
 
     def test_what_is_unknown(self) -> None:
         self.opened(SOUND)

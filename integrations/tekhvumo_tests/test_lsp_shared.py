@@ -6,8 +6,10 @@ import signal
 import time
 from typing import Any
 
+from tekhvumo.share import Shared
+
 from .bridges import Bridge, WithBridge
-from .case import HEAD
+from .case import HEAD, MOST_SECONDS
 from .editor import Editor
 
 TEXT = HEAD + "in 1\n" + "".join(f"tuck + f{number} 1\n" for number in range(1, 201))
@@ -39,6 +41,10 @@ class Partner(Editor):
         while not self.heard.empty():
             self.message()
 
+    def is_asked(self) -> bool:
+        """Whether an edit has come that wasn't looked at yet."""
+        return any(it and it.get("method") == "workspace/applyEdit" for it in list(self.heard.queue))
+
     def says(self) -> list[str]:
         return [it["params"]["message"] for it in self.told if it["method"] == "window/showMessage"]
 
@@ -56,7 +62,7 @@ class SharedEditors(WithBridge):
 
     def until(self, holds: Any, *editors: Partner) -> None:
         """Lets editors hear until something holds."""
-        end = time.monotonic() + 30
+        end = time.monotonic() + MOST_SECONDS
         while not holds():
             self.assertLess(time.monotonic(), end, [it.errors for it in editors])
             for it in editors:
@@ -67,6 +73,11 @@ class SharedEditors(WithBridge):
         """Waits until editors have one text, and gives it."""
         self.until(lambda: len({it.text(it.uri) for it in editors}) == 1, *editors)
         return editors[0].text(editors[0].uri)
+
+    def has(self, watcher: Shared, *lines: str) -> bool:
+        """Whether lines have come to somebody who watches."""
+        watcher.wait()
+        return set(lines) <= set(watcher.lines)
 
     def put(self, editor: Partner, line: int, text: str) -> None:
         """Puts a line into an editor's text."""
@@ -95,8 +106,8 @@ class SharedEditors(WithBridge):
         bridge = self.share(TEXT)
         anna, ben = self.partner(bridge), self.partner(bridge)
         self.put(anna, FIRST, "; anna")
-        # (ben hears nothing before he types)
-        time.sleep(1)
+        # (ben types before he looks at what has come)
+        self.until(ben.is_asked, anna)
         self.put(ben, FIRST + 100, "; ben")
         self.until(lambda: all("; anna\n" in it.text(it.uri) and "; ben\n" in it.text(it.uri) for it in (anna, ben)), anna, ben)
         self.assertEqual(self.agree(anna, ben), self.kept(bridge))
@@ -115,6 +126,29 @@ class SharedEditors(WithBridge):
         self.put(ben, FIRST, "; ben")
         self.until(lambda: "; ben" in anna.text(anna.uri), anna, ben)
 
+    def test_a_document_is_closed_right_behind_a_key(self) -> None:
+        bridge = self.share(TEXT)
+        anna, ben = self.partner(bridge), self.partner(bridge)
+        for number in range(5):
+            self.put(anna, FIRST, f"; key {number}")
+        anna.notify("textDocument/didClose", textDocument={"uri": anna.uri})
+        self.until(lambda: "; key 4" in ben.text(ben.uri), ben)
+        self.assertEqual(self.kept(bridge), ben.text(ben.uri))
+
+    def test_a_text_is_saved_that_lacks_what_others_did(self) -> None:
+        bridge = self.share(TEXT)
+        anna, ben, watcher = self.partner(bridge), self.partner(bridge), self.client(bridge)
+        self.put(ben, FIRST + 100, "; ben")
+        self.until(anna.is_asked, ben)
+        anna.take = lambda message: None
+        self.put(anna, FIRST, "; anna")
+        self.until(lambda: self.has(watcher, "; anna", "; ben"), ben)
+        bridge.path.write_text(anna.text(anna.uri))
+        anna.notify("textDocument/didSave", textDocument={"uri": anna.uri})
+        anna.stop()
+        self.assertEqual(bridge.stop(), (0, ""))
+        self.assertEqual(bridge.path.read_text(), watcher.text)
+
     def test_another_text_is_not_joined(self) -> None:
         bridge = self.share(TEXT)
         anna = self.partner(bridge, TEXT + "; of nobody\n")
@@ -129,7 +163,7 @@ class SharedEditors(WithBridge):
         anna = self.partner(bridge)
         self.until(lambda: anna.text(anna.uri) == watcher.text, anna)
         self.put(anna, FIRST + 3, "; anna")
-        self.until(lambda: watcher.wait() or "; anna" in watcher.text, anna)
+        self.until(lambda: self.has(watcher, "; anna"), anna)
         self.assertEqual(self.kept(bridge), anna.text(anna.uri))
 
     def test_the_head_stays(self) -> None:

@@ -7,7 +7,7 @@ import shutil
 import unittest
 from pathlib import Path
 
-from .case import HERE, TOP, Case, body
+from .case import HERE, MOST_SECONDS, TOP, Case, body
 
 
 @unittest.skipUnless(shutil.which("nvim"), "Neovim isn't there")
@@ -25,7 +25,7 @@ class Neovim(Case):
     def test_a_cure_is_shown_and_applied(self) -> None:
         self.write("scarf.k", body("in 1; tuck + f1 1; knit - f1 1; knit + f1 2; out 1"))
         drive = Path(__file__).resolve().parent / "drive.lua"
-        ran = self.run_command("timeout", "120", "nvim", "--headless", "scarf.k", "-c", f"luafile {drive}", "-c", "cquit")
+        ran = self.run_command("timeout", str(8 * MOST_SECONDS), "nvim", "--headless", "scarf.k", "-c", f"luafile {drive}", "-c", "cquit")
         self.assertTrue((self.room / "told.json").exists(), ran.stderr.decode())
         told = json.loads((self.room / "told.json").read_text())
         self.assertEqual(told["filetype"], "knitout")

@@ -50,6 +50,22 @@ class Restarts(WithBridge):
         self.assertTrue(Path(f"{again.path}.journal.1").exists())
         self.assertEqual(again.path.read_text(), SOUND.replace("in 1", "in 1\ntuck + f9 1"))
 
+    def test_a_text_that_an_editor_saved_gives_way_to_a_newer_one(self) -> None:
+        bridge = self.share(SOUND)
+        client = self.client(bridge)
+        client.edit(3, 3, ["; a"])
+        client.sync()
+        saved = SOUND.replace("in 1", "in 1\n; only half")
+        bridge.path.write_text(saved)
+        self.assertEqual(client.saved(saved.splitlines()), [])
+        self.assertEqual(bridge.stop(), (0, ""))
+        self.assertEqual(bridge.path.read_text(), client.text)
+        bridge = self.share()
+        self.assertEqual(self.raw(bridge).ask(ask="saved")["reply"], "unsayable")
+        bridge.path.write_text(saved)
+        status, errors = bridge.stop()
+        self.assertEqual((status, "Move one of them away" in errors, bridge.path.read_text()), (2, True, saved))
+
     def test_comments_above_the_first_instruction_stay_in_the_body(self) -> None:
         bridge = self.share(HEAD + "in 1\n")
         client = self.client(bridge)

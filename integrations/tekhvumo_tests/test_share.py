@@ -2,7 +2,9 @@
 from __future__ import annotations
 
 import random
+import select
 import signal
+import socket
 import threading
 import time
 from pathlib import Path
@@ -10,9 +12,10 @@ from typing import Callable
 
 from tekhvumo.share import Change, Shared
 from tekhvumo.share.client import NotTaken
+from tekhvumo.share.messages import line_of
 
 from .bridges import Bridge, WithBridge
-from .case import HEAD, SOUND
+from .case import HEAD, MOST_SECONDS, SOUND
 
 TEXT = HEAD + "in 1\n" + "".join(f"tuck + f{number} 1\n" for number in range(1, 31))
 # The lines of the head, and behind them the first one of the body, which the designers leave as it is.
@@ -93,7 +96,7 @@ class Designers(WithBridge):
         newest = max(it.shared.version for it in designers)
         for it in designers:
             while it.shared.version < newest:
-                applied(it.buffer, it.shared.wait(5))
+                applied(it.buffer, it.shared.wait(MOST_SECONDS))
             self.assertTrue(it.shared.is_synced)
             self.assertEqual(it.buffer, it.shared.lines)
             it.shared.close()
@@ -120,7 +123,7 @@ class Designers(WithBridge):
         told: dict[int, set[str]] = {}
 
         def work(number: int) -> None:
-            shared, given, lines = Shared.connect(bridges[0].socket), random.Random(number), set()
+            shared, given, lines = Shared.connect(bridges[0].socket, MOST_SECONDS), random.Random(number), set()
             for count in range(60):
                 line = f"; {number} {count}"
                 at = given.randrange(FIRST, len(shared.lines) + 1)
@@ -178,19 +181,58 @@ class Designers(WithBridge):
         self.assertEqual(raw.ask(ask="add", behind="start", lines=lines[:2])["version"], 1)
 
 
+class StandIn:
+    """A bridge of one block, which another editor puts whenever a look at it is answered."""
+
+    def __init__(self, path: str, news: int) -> None:
+        self.news = news
+        self.listening = socket.socket(socket.AF_UNIX)
+        self.listening.bind(path)
+        self.listening.listen()
+        self.thread = threading.Thread(target=self.serve)
+        self.thread.start()
+
+    def serve(self) -> None:
+        connection, _ = self.listening.accept()
+        blocks = [{"block": 0, "stamp": 0, "lines": ["in 1"]}]
+        hello = {"reply": "hello", "protocol": 1, "session": 0, "version": 0, "head": HEAD.splitlines(), "blocks": blocks}
+        with connection, connection.makefile("rb") as heard:
+            connection.sendall(line_of(hello) + self.put(1))
+            for number in range(1, self.news + 1):
+                heard.readline()
+                shown = {"reply": "shown", "block": 0, "stamp": number, "lines": [f"; {number}"]}
+                connection.sendall(line_of(shown) + (self.put(number + 1) if number < self.news else b""))
+            heard.readline()
+
+    def put(self, number: int) -> bytes:
+        return line_of({"reply": "pushed", "entries": [{"number": number, "session": 1, "edit": "put", "block": 0}]})
+
+    def close(self) -> None:
+        self.thread.join()
+        self.listening.close()
+
+
 class Editors(WithBridge):
+    def test_nothing_is_left_of_which_the_stream_says_nothing(self) -> None:
+        path = str(self.room / "socket")
+        bridge = StandIn(path, 5)
+        self.addCleanup(bridge.close)
+        with Shared.connect(path) as client:
+            self.assertEqual((client.lines[2:], client.version), (["; 5"], 5))
+            self.assertEqual((client.wait(), select.select([client], [], [], 0)), ([], ([], [], [])))
+
     def test_what_each_hears_of_others(self) -> None:
         bridge = self.share(SOUND)
         one, other = self.client(bridge), self.client(bridge)
         self.assertEqual((one.session, other.session, one.text), (0, 1, SOUND))
         one.edit(3, 3, ["tuck + f2 1"])
         self.assertEqual((one.sync(), one.brief.made, one.version), ([], 2, 1))
-        self.assertEqual(other.wait(5), [Change(3, 3, ("tuck + f2 1",))])
+        self.assertEqual(other.wait(MOST_SECONDS), [Change(3, 3, ("tuck + f2 1",))])
         other.edit(5, 6, ["out 2"])
         one.edit(2, 3, [])
         self.assertEqual(one.sync(), [])
         self.assertEqual(other.sync(), [Change(2, 3, ())])
-        self.assertEqual(one.wait(5), [Change(4, 5, ("out 2",))])
+        self.assertEqual(one.wait(MOST_SECONDS), [Change(4, 5, ("out 2",))])
         self.assertEqual((one.text, other.brief.rule), (other.text, "CarrierIsOut"))
 
     def test_the_same_line_is_a_conflict_that_keeps_both(self) -> None:
@@ -205,12 +247,12 @@ class Editors(WithBridge):
         lines = ["; <<<<<<< session 1", "tuck + f3 1", "; =======", "tuck + f2 1", "; >>>>>>> entry 1"]
         self.assertEqual((other.conflicts, all(it.is_conflict for it in told), other.lines[3:8]), (1, True, lines))
         self.assertEqual(buffer, other.lines)
-        one.wait(5)
+        one.wait(MOST_SECONDS)
         self.assertEqual((one.text, one.conflicts), (other.text, 0))
         for line in (7, 5, 3):
             one.edit(line, line + 1, [])
         one.sync()
-        self.assertEqual([it.lines for it in other.wait(5)], [(), (), ()])
+        self.assertEqual([it.lines for it in other.wait(MOST_SECONDS)], [(), (), ()])
         self.assertEqual(self.kept(bridge), SOUND.replace("f1", "f3").replace("\nout", "\ntuck + f2 1\nout"))
 
     def test_blocks_that_are_cut_and_added(self) -> None:
@@ -223,17 +265,17 @@ class Editors(WithBridge):
         other.sync()
         wanted = ["; <<<<<<< session 1", "; kept", "pause", "; =======", "; >>>>>>> cut by session 0"]
         self.assertEqual(other.lines[4:9], wanted)
-        one.wait(5)
+        one.wait(MOST_SECONDS)
         self.assertEqual(one.text, other.text)
         one.edit(2, len(one.lines), [])
         one.sync()
-        other.wait(5)
+        other.wait(MOST_SECONDS)
         self.assertEqual((other.text, other.brief.is_sound), (HEAD, True))
         other.edit(2, 2, ["in 1"])
         one.edit(2, 2, ["in 2"])
         other.sync()
         one.sync()
-        other.wait(5)
+        other.wait(MOST_SECONDS)
         self.assertEqual((sorted(one.lines[2:]), other.text), (["in 1", "in 2"], one.text))
         self.assertEqual(self.kept(bridge), one.text)
 
@@ -244,7 +286,7 @@ class Editors(WithBridge):
         self.assertEqual(one.sync(), [])
         other.edit(4, 4, ["; other"])
         other.sync()
-        self.assertEqual((len(other.lines), one.wait(5)), (20_006, [Change(4, 4, ("; other",))]))
+        self.assertEqual((len(other.lines), one.wait(MOST_SECONDS)), (20_006, [Change(4, 4, ("; other",))]))
         self.assertEqual(one.text, other.text)
         one.edit(4, 4, ["; " + "x" * 4000] * 600)
         with self.assertRaises(NotTaken):
@@ -261,7 +303,7 @@ class Editors(WithBridge):
         self.assertEqual(other.sync(), [Change(1, 2, (";;Carriers: 1 4",))])
         self.assertTrue(other.brief.is_sound)
         other.put_names(["1"])
-        one.wait(5)
+        one.wait(MOST_SECONDS)
         self.assertEqual((one.text, self.kept(bridge)), (other.text, other.text))
         with self.assertRaises(ValueError):
             one.edit(0, 0, [";"])
@@ -272,7 +314,7 @@ class Editors(WithBridge):
         lines = ["", " ", "|", "#", "; \U0001f9f6 \u2028 \"\\\x00", "session 1", ";\r", "end"]
         one.edit(5, 5, lines)
         one.sync()
-        other.wait(5)
+        other.wait(MOST_SECONDS)
         self.assertEqual((other.lines[5:], self.kept(bridge)), (lines, one.text))
         bridge.stop(signal.SIGKILL)
         self.share()

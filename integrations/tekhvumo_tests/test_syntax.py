@@ -10,7 +10,7 @@ from typing import Any, Iterator
 from tekhvumo.instructions import SHAPES, Part
 from tekhvumo.lines import runs
 
-from .case import HERE, PROGRAMS, Case
+from .case import HERE, MOST_SECONDS, PROGRAMS, Case
 
 EXAMPLES = {
     Part.DIRECTION: ["+", "-"],
@@ -175,7 +175,7 @@ class Vim(Case):
         ))
         words = ["-c", "set runtimepath^=runtime", "-c", "filetype on", "-c", "syntax on", "-c", "edit a\\ b.knitout", "-S", "tell.vim"]
         self.environment.update(LC_ALL="C.UTF-8")
-        self.run_command("timeout", "60", "vim", "-u", "NONE", "-N", "-es", *words)
+        self.run_command("timeout", str(MOST_SECONDS), "vim", "-u", "NONE", "-N", "-es", *words)
         told = json.loads((self.room / "told.json").read_text())
         self.assertEqual(told["type"], "knitout")
         names = {f"knitout{name}": kind for kind, names in VIM.items() for name in names.split("|")}

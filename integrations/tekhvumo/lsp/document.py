@@ -44,7 +44,8 @@ class Document:
         self.has_mistakes = False
         # What was asked of the text as it is, by kinds.
         self.kept: dict[Any, Any] = {}
-        self.job = 0
+        # The jobs that look for all that there is to find, and for the first cures.
+        self.job = self.cures_job = 0
         self.trouble_told = ""
         self.due: float | None = None
         # Requests for cures that wait for the findings.
@@ -88,6 +89,10 @@ class Document:
             first = [it for it in self.findings if it.level == "error" and (it.line, it.rule) == (line, rule)]
             others = [it for it in self.findings if it.level == "error" and it.line > line]
             self.findings = [*warned, *(first[:1] or [self.quick_finding()]), *others]
+
+    def take_mistakes(self, mistakes: list[Finding]) -> None:
+        """Takes mistakes that were found; the warnings are those of before, until others are known."""
+        self.findings = [*(it for it in self.findings if it.level == "warning"), *mistakes]
 
     def quick_finding(self) -> Finding:
         """The verdict as a finding, as long as the cures aren't tried."""

@@ -66,6 +66,7 @@ class Server:
         self.documents: dict[str, Document] = {}
         self.judge = Worker(self.deliver)
         self.clerk = Worker(self.deliver)
+        self.nurse = Worker(self.deliver)
         self.asked: dict[int, Asked] = {}
         self.jobs = 0
         self.status: int | None = None
@@ -102,6 +103,7 @@ class Server:
                 document.verdicts.close()
             self.judge.stop()
             self.clerk.stop()
+            self.nurse.stop()
         return self.status
 
     def listen(self) -> None:
@@ -147,6 +149,7 @@ class Server:
         self.endpoint.is_initialized = True
         self.sharing.takes_edits = bool(((params.get("capabilities") or {}).get("workspace") or {}).get("applyEdit"))
         self.judge.get_ready()
+        self.nurse.get_ready()
         return {"capabilities": CAPABILITIES, "serverInfo": {"name": "tekhvumo", "version": VERSION}}
 
     def shutdown(self, params: Params, number: Any) -> Any:
@@ -200,6 +203,7 @@ class Server:
     def did_save(self, params: Params, number: Any) -> Any:
         """A document was saved; it may be that its settings were."""
         read_settings.cache_clear()
+        self.sharing.saved(params["textDocument"]["uri"])
         for document in self.documents.values():
             if document.verdicts.settings_changed():
                 self.changed(document)
@@ -228,6 +232,9 @@ class Server:
         for number, _ in document.waiting:
             self.endpoint.fail(number, Code.MODIFIED, why)
         document.waiting.clear()
+        if not self.nurse.is_soon_done(document.cures_job):
+            self.nurse.leave(document.cures_job)
+        document.cures_job = 0
 
     def publish(self, document: Document) -> None:
         """Tells a document's findings."""
@@ -261,6 +268,9 @@ class Server:
         done = self.judge.taken(event.process, event.done)
         if done:
             self.judged(done)
+        done = self.nurse.taken(event.process, event.done)
+        if done:
+            self.cured(done)
         done = self.clerk.taken(event.process, event.done)
         asked = self.asked.pop(done.number, None) if done else None
         if not done or not asked:
@@ -279,15 +289,27 @@ class Server:
         if done.part == "fault":
             self.endpoint.notify("window/logMessage", {"type": 1, "message": f"tekhvumo: {done.value}"})
         elif done.part == "mistakes":
-            warned = [it for it in document.findings if it.level == "warning"]
-            document.findings = [*warned, *done.value]
+            document.take_mistakes(done.value)
         else:
             document.findings = done.value
         document.has_mistakes = True
         self.publish(document)
-        for number, params in document.waiting:
-            self.endpoint.answer(number, answers.code_actions(document, params))
-        document.waiting.clear()
+        self.answer_waiting(document)
+
+    def cured(self, done: Done) -> None:
+        """Takes the first cures, unless the text has changed meanwhile, or more is known."""
+        document = next((it for it in self.documents.values() if it.cures_job == done.number), None)
+        if document and not document.has_mistakes and done.part == "cures":
+            document.take_mistakes(done.value)
+            self.answer_waiting(document)
+
+    def answer_waiting(self, document: Document) -> None:
+        """Answers who waits for cures, as far as they are known."""
+        waiting, document.waiting = document.waiting, []
+        for number, params in waiting:
+            found = self.code_action(params, number)
+            if not isinstance(found, Later):
+                self.endpoint.answer(number, found)
 
     def ask_clerk(self, number: Any, document: Document, kind: str) -> Later:
         """Has an answer worked out, unless it is known."""
@@ -320,8 +342,14 @@ class Server:
     def code_action(self, params: Params, number: Any) -> Any:
         """The cures of what is found in a range, once they are worked out."""
         document = self.document(params)
-        if document.has_mistakes or document.told is None:
-            return answers.code_actions(document, params)
+        # (the cures of a text that isn't there any more are gone)
+        found = answers.code_actions(document, params)
+        if found or document.has_mistakes or document.told is None:
+            return found
         document.waiting.append((number, params))
         document.due = document.due and 0.0
+        if not document.cures_job:
+            job = self.job(document, "cures")
+            document.cures_job = job.number
+            self.nurse.add(job)
         return LATER

@@ -70,6 +70,8 @@ class Joined:
         self.conflicts = 0
         # Whether the editor or others have done something that isn't brought together yet.
         self.is_due = False
+        # Whether the editor has saved a text that the bridge doesn't know of yet.
+        self.is_saved = False
         # What the editor was last known to have, and the lines that it was asked to take, as long as it isn't known whether it did.
         self.base = lines_of(document.text.lines)
         self.asked: list[str] | None = None
@@ -80,16 +82,16 @@ class Joined:
         """Leaves where the editor's text is neither the shared one nor the file's: nobody knows what was changed from what."""
         if any(it.endswith("\r") for it in self.document.text.lines):
             self.refuse("its lines end in carriage returns")
-        if self.base == self.shared.lines:
-            return
+        if self.base != self.shared.lines and not self.is_in_file():
+            self.refuse("the text here is neither the shared one nor the file's: save it elsewhere, and open the file again")
+
+    def is_in_file(self) -> bool:
+        """Whether the file has the text that the editor is known to have."""
         try:
             with open(self.document.path, encoding="utf-8", errors="surrogateescape", newline="") as file:
-                saved = lines_of(file.read().split("\n"))
-        except OSError as trouble:
-            self.refuse(str(trouble))
-        else:
-            if saved != self.base:
-                self.refuse("the text here is neither the shared one nor the file's: save it elsewhere, and open the file again")
+                return lines_of(file.read().split("\n")) == self.base
+        except OSError:
+            return False
 
     def refuse(self, why: str) -> None:
         """Leaves the document, and says why."""
@@ -118,6 +120,9 @@ class Joined:
 
     def changed(self, texts: Sequence[Sequence[str]]) -> None:
         """Takes what the editor's text became, change by change: if it was what was asked, what follows was made of that."""
+        if self.asked is not None and not texts:
+            # (Neovim tells of no change at times: what was asked is still to come)
+            return
         if self.asked is not None and any(lines_of(it) == self.asked for it in texts):
             self.base = self.asked
         self.asked = None
@@ -143,11 +148,13 @@ class Joined:
         self.base = mine
 
     def hear(self) -> None:
-        """Hears others until nothing that has come is left: the watch is woken by what comes alone."""
+        """Tells and hears others."""
         try:
             self.shared.sync()
-            while self.shared.pushed or b"\n" in self.shared.ahead:
-                self.shared.sync()
+            # (some editors save a text before they tell of the keys that led to it)
+            if self.is_saved and self.is_in_file():
+                self.is_saved = False
+                self.shared.saved(self.base)
         except ShareError as trouble:
             self.refuse(str(trouble))
         finally:

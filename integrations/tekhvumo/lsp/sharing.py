@@ -40,10 +40,16 @@ class Sharing:
         self.offer(joined)
 
     def leave(self, document: Document) -> None:
-        """Leaves the bridge of a document, if it has one."""
-        joined = self.joined.pop(document.uri, None)
-        if joined:
-            joined.close()
+        """Leaves the bridge of a document, if it has one, once what was typed last is told."""
+        joined = self.joined.get(document.uri)
+        # (an editor may close a document in the same breath as it tells of a key)
+        if joined and (not joined.is_due or self.is_told(joined)):
+            self.drop(joined)
+
+    def drop(self, joined: Joined) -> None:
+        """Leaves a bridge as it is."""
+        del self.joined[joined.document.uri]
+        joined.close()
 
     @contextmanager
     def changing(self, document: Document) -> Iterator[Callable[[list[str]], None] | None]:
@@ -54,22 +60,28 @@ class Sharing:
         if joined:
             joined.changed(texts)
 
+    def saved(self, uri: str) -> None:
+        """A document was saved."""
+        joined = self.joined.get(uri)
+        if joined:
+            joined.is_saved = joined.is_due = True
+
     def bring_together(self) -> None:
         """Tells and hears what is due: once for all that has come meanwhile, for each time costs a merge of the texts."""
         for joined in list(self.joined.values()):
-            if joined.is_due:
-                self.tell(joined)
+            if joined.is_due and self.is_told(joined):
+                self.offer(joined)
 
-    def tell(self, joined: Joined) -> None:
-        """Tells and hears; where that goes wrong, the editor goes on by itself."""
+    def is_told(self, joined: Joined) -> bool:
+        """Tells and hears, and says whether that went well; if not, the editor goes on by itself."""
         try:
             joined.tell()
         except Exception as trouble:
             # (whatever it is, the editor's text is whole, and its user has to know that nobody else hears of it)
-            self.leave(joined.document)
+            self.drop(joined)
             self.say(ERROR, joined.document, f"is no longer shared: {trouble}")
-        else:
-            self.offer(joined)
+            return False
+        return True
 
     def offer(self, joined: Joined) -> None:
         """Asks the editor to take what others have done."""

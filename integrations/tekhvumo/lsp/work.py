@@ -16,6 +16,7 @@ from ..judge import judged
 from ..lines import Source
 from ..program import Program, Status
 from ..settings import Settings
+from ..trials import Budget
 from .outline import courses_of_loops, formatting, symbols
 
 
@@ -55,6 +56,13 @@ def findings(job: Job) -> Iterator[tuple[str, Any]]:
     yield "findings", found
 
 
+def cures(job: Job) -> Iterator[tuple[str, Any]]:
+    """The first mistakes, with the cures that few trials find."""
+    source = Source(job.name, job.data)
+    budget = Budget(len(job.data), is_hasty=True)
+    yield "cures", judged(Program(job.program, job.settings.limits), source, job.settings, False, budget).findings
+
+
 def canonical(job: Job) -> Iterator[tuple[str, Any]]:
     """The edit that writes the canonical text, or nothing where the text stays as it is; as JSON."""
     source = Source(job.name, job.data)
@@ -82,6 +90,7 @@ def as_json(result: Any) -> bytes:
 
 KINDS: dict[str, Callable[[Job], Iterator[tuple[str, Any]]]] = {
     "findings": findings,
+    "cures": cures,
     "canonical": canonical,
     "courses": courses,
 }

@@ -17,7 +17,7 @@ from ..program import SetupFault
 from ..serve import ProcessGone, Unsayable
 from ..serve.requests import MOST_SESSIONS
 from .document import Document
-from .messages import MOST_BYTES, Message, bytes_of_edits, line_of, message_of, request_of
+from .messages import MOST_BYTES, Message, bytes_of_edits, line_of, message_of, request_of, word
 
 # The journal isn't written again sooner than this behind the last time, in seconds.
 PAUSE = 0.05
@@ -134,6 +134,10 @@ class Bridge:
         """Answers what a client asks."""
         try:
             message = message_of(line)
+            if message.get("ask") == "saved":
+                self.document.saved.append(word(message, "digest"))
+                client.answer({"reply": "saved"})
+                return
             request = request_of(client.session, message)
         except Unsayable as trouble:
             client.answer({"reply": "unsayable", "why": str(trouble)})

@@ -5,14 +5,14 @@ import select
 import socket
 import time
 from collections import deque
-from typing import Any, Callable, Mapping, Sequence
+from typing import Any, Callable, Iterable, Mapping, Sequence
 
 from ..serve import BlockGone, GroupRefused, Refused, Stale
 from ..serve.errors import refusal_of
 from ..serve.replies import HEAD, Brief
 from .blocks import Block, Blocks, Sent
 from .merge import Change, changes, conflict, merged
-from .messages import PROTOCOL, line_of, message_of, message_of_edits
+from .messages import PROTOCOL, digest_of, line_of, message_of, message_of_edits
 
 PORTION = 1 << 16
 # How long one waits between two trials to connect, in seconds.
@@ -60,6 +60,8 @@ class Shared:
         self.is_closed = False
         self.conflicts = 0
         self.begin(self.connected())
+        # (what the bridge said right behind the document is in the text here from the beginning)
+        self.wait()
 
     @classmethod
     def connect(cls, path: str, patience: float = 10.0) -> Shared:
@@ -97,6 +99,11 @@ class Shared:
         """Gives the header these names of carriers, in the place of those that it has by now."""
         return self.persistently(lambda: self.try_names(names))
 
+    def saved(self, lines: Iterable[str]) -> list[Change]:
+        """Says that the file was given these lines, all of which were told, so that the bridge may give it newer ones in their place."""
+        digest = digest_of(it.encode(errors="surrogateescape") for it in lines)
+        return self.persistently(lambda: self.try_saved(digest))
+
     # ------------------------------------------------------------ others
 
     def sync(self) -> list[Change]:
@@ -111,7 +118,10 @@ class Shared:
         return self.persistently(lambda: self.try_wait(seconds))
 
     def fileno(self) -> int:
-        """The number of the connection's stream, which can be read when others have done something."""
+        """The number of the connection's stream, which can be read when others have done something.
+
+        Nothing that came before is left then: each call here takes in all that has come, and gives the changes.
+        """
         return self.connection.fileno()
 
     def close(self) -> None:
@@ -134,6 +144,9 @@ class Shared:
         while True:
             try:
                 work()
+                # (behind a reply there may be news, of which `fileno` says nothing any more)
+                while self.pushed or b"\n" in self.ahead:
+                    self.try_wait(0.0)
                 break
             except (Lost, OSError):
                 self.connection.close()
@@ -175,6 +188,12 @@ class Shared:
                 self.judge(reply)
                 self.look_head()
                 return
+
+    def try_saved(self, digest: str) -> None:
+        """Says what was saved."""
+        self.hear()
+        self.take_in()
+        self.ask({"ask": "saved", "digest": digest})
 
     def learn(self, refused: Refused | None) -> None:
         """Learns why an edit wasn't accepted: another editor was quicker."""

@@ -4,6 +4,7 @@ from __future__ import annotations
 import json
 import os
 import secrets
+from collections import deque
 from typing import Any
 
 from ..lines import MOST_BYTES, Source
@@ -11,12 +12,14 @@ from ..program import Limits, SetupFault
 from ..serve import Conversation, OpeningRefused, ProcessGone, requests
 from ..serve.requests import Request
 from .journal import Journal, entry_of, file_lines, file_text, keep_aside, read, write
-from .messages import PROTOCOL, Message, edits_of
+from .messages import PROTOCOL, Message, digest_of, edits_of
 
 # A saved text that is longer is left behind for a new one, if what was done is also longer than what it began with.
 LONG_JOURNAL = 2 << 20
 # The longest that check_main goes on from: the line that begins a conversation counts, too, and so does the number of entries.
 MOST_JOURNAL = MOST_BYTES - 64
+# So many texts that were saved last are remembered.
+MOST_SAVED = 64
 
 
 class Document:
@@ -33,6 +36,8 @@ class Document:
         self.program = program
         self.limits = limits
         self.block_lines = block_lines
+        # What editors say that they gave the file: texts that may lack what others did meanwhile, and have nothing else.
+        self.saved: deque[str] = deque(maxlen=MOST_SAVED)
         self.begin()
 
     # ------------------------------------------------------------ beginning
@@ -131,13 +136,13 @@ class Document:
         return bool(self.journal.entries) and (self.journal.size > usual or not self.has_room(more))
 
     def write_file(self) -> None:
-        """Gives the file the text at the journal's end, unless it has one that isn't of the journal."""
+        """Gives the file the text at the journal's end, unless it has one that is neither of the journal nor saved by an editor."""
         lines, data = self.journal.lines(), read(self.path)
         if data is not None:
             found = file_lines(data)
             if found == lines:
                 return
-            if not any(found == list(version) for version in self.journal.versions()):
+            if digest_of(found) not in self.saved and not any(found == list(version) for version in self.journal.versions()):
                 raise SetupFault(
                     f"{self.path} has none of the texts that {self.journal_path} tells: it was changed while nobody shared it."
                     " Move one of them away"

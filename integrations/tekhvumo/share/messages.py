@@ -1,8 +1,9 @@
 """What an editor and the bridge say to each other: each message is an object of JSON on a line of its own."""
 from __future__ import annotations
 
+import hashlib
 import json
-from typing import Any, Callable, Mapping, Sequence
+from typing import Any, Callable, Iterable, Mapping, Sequence
 
 from ..serve import Add, Cut, Put, Unsayable, requests
 from ..serve.requests import Edit, Request
@@ -39,6 +40,14 @@ def number(message: Message, key: str) -> int:
     value = message.get(key)
     if isinstance(value, bool) or not isinstance(value, int):
         raise Unsayable(f"`{key}` is a number, not {value!r}")
+    return value
+
+
+def word(message: Message, key: str) -> str:
+    """A text of a message."""
+    value = message.get(key)
+    if not isinstance(value, str):
+        raise Unsayable(f"`{key}` is a text, not {value!r}")
     return value
 
 
@@ -100,7 +109,7 @@ def request_of(session: int, message: Message) -> Request[Any]:
     """What a message asks of check_main for a session; Unsayable where it asks nothing that can be said."""
     kind = message.get("ask")
     if not isinstance(kind, str) or kind not in ASKED:
-        raise Unsayable(f"`ask` is one of {', '.join(ASKED)}, not {kind!r}")
+        raise Unsayable(f"`ask` is one of {', '.join(ASKED)} and saved, not {kind!r}")
     return ASKED[kind](session, message)
 
 
@@ -117,6 +126,11 @@ def bytes_of_edits(message: Message, line: bytes) -> int:
     count = len(edits_of(message))
     # (a text line has a bar and a line feed, and as JSON at least two quotation marks and a comma)
     return len(line) + ENTRY_BYTES * count if count else 0
+
+
+def digest_of(lines: Iterable[bytes]) -> str:
+    """By what it is told which lines a file was given."""
+    return hashlib.sha256(b"\n".join(lines)).hexdigest()
 
 
 # ---------------------------------------------------------------- what the client library asks

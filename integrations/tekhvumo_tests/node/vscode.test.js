@@ -2,91 +2,14 @@
 "use strict";
 
 const assert = require("node:assert/strict");
-const Module = require("node:module");
+const { spawn } = require("node:child_process");
+const fs = require("node:fs");
+const os = require("node:os");
+const path = require("node:path");
 const { test } = require("node:test");
+const { Document, Range, editor, extension } = require("./vscode.js");
 
-class Range {
-  constructor(...ends) {
-    [this.start, this.end] = [0, 2].map((at) => ({ line: ends[at], character: ends[at + 1] }));
-  }
-}
-class Uri {
-  static parse = (text) => Object.assign(new Uri(), { text });
-  toString = () => this.text;
-}
-class WorkspaceEdit {
-  sets = [];
-  set = (uri, edits) => this.sets.push([uri.text, edits]);
-}
-class MarkdownString {
-  appendCodeblock = (text) => Object.assign(this, { text });
-}
-const record = (...names) =>
-  class {
-    constructor(...values) {
-      names.forEach((name, at) => (this[name] = values[at]));
-    }
-  };
-
-/** What the extension uses of VS Code, and what a test sees of it. */
-function editor(command) {
-  const seen = { found: new Map(), providers: {}, events: {}, errors: [], waiting: [] };
-  const event = (name) => (call) => ((seen.events[name] = call), { dispose() {} });
-  const provider = (name) => (selector, it) => ((seen.providers[name] = Object.values(it)[0]), { dispose() {} });
-  const set = (uri, diagnostics) => {
-    seen.found.set(uri.text, diagnostics);
-    seen.waiting.splice(0).forEach((go) => go());
-  };
-  const vscode = {
-    Range, Uri, WorkspaceEdit, MarkdownString,
-    Diagnostic: record("range", "message", "severity"),
-    TextEdit: record("range", "newText"),
-    CodeAction: record("title", "kind"),
-    CodeActionKind: { QuickFix: "quickfix" },
-    DocumentSymbol: record("name", "detail", "kind", "range", "selectionRange"),
-    Hover: record("contents", "range"),
-    Location: record("uri", "range"),
-    languages: {
-      createDiagnosticCollection: () => ({ set, clear: () => seen.found.clear(), dispose() {} }),
-      registerHoverProvider: provider("hover"),
-      registerDefinitionProvider: provider("definition"),
-      registerDocumentFormattingEditProvider: provider("formatting"),
-      registerDocumentSymbolProvider: provider("symbols"),
-      registerCodeActionsProvider: provider("actions"),
-    },
-    window: { showErrorMessage: (words) => seen.errors.push(words) },
-    workspace: {
-      getConfiguration: () => ({ get: () => command }),
-      textDocuments: [],
-      onDidOpenTextDocument: event("open"),
-      onDidChangeTextDocument: event("change"),
-      onDidSaveTextDocument: event("save"),
-      onDidCloseTextDocument: event("close"),
-    },
-  };
-  return { vscode, seen };
-}
-
-/** The extension, as VS Code reads it in. */
-function extension(vscode) {
-  const load = Module._load;
-  Module._load = (name, ...more) => (name === "vscode" ? vscode : load(name, ...more));
-  try {
-    const path = require.resolve("../../vscode/knitout/extension.js");
-    delete require.cache[path];
-    return require(path);
-  } finally {
-    Module._load = load;
-  }
-}
-
-function made(text, languageId = "knitout") {
-  return { uri: Uri.parse("file:///room/a%20b.k"), languageId, version: 1, getText: () => text };
-}
-
-async function until(seen, holds) {
-  while (!holds()) await new Promise((go) => seen.waiting.push(go));
-}
+const made = (text, languageId) => new Document("file:///room/a%20b.k", text, languageId);
 
 const LINES = [";!knitout-2", ";;Carriers: 1 2", "in 1", "tuck + f1 1", "knit  - f1 1", "knit + f1 2", "out 1", ""];
 const token = { onCancellationRequested() {} };
@@ -98,7 +21,7 @@ test("a document is opened, changed and closed", async () => {
   const { activate, deactivate } = extension(vscode);
   await activate({ subscriptions: [] });
   const found = () => seen.found.get("file:///room/a%20b.k") ?? [];
-  await until(seen, () => found()[0]?.message.includes("; "));
+  await seen.until(() => found()[0]?.message.includes("; "));
   assert.deepEqual([found()[0].code, found()[0].severity, found()[0].range.start.line], ["CarrierIsOut", 0, 5]);
 
   const { hover, definition, formatting, symbols, actions } = seen.providers;
@@ -112,13 +35,12 @@ test("a document is opened, changed and closed", async () => {
   const [[uri, [edit]]] = cure.edit.sets;
   assert.deepEqual([uri, edit.newText], ["file:///room/a%20b.k", "knit + f1 1\n"]);
 
-  document.version = 2;
-  seen.events.change({ document, contentChanges: [{ range: edit.range, text: edit.newText }] });
-  await until(seen, () => found().length === 0);
+  seen.type(document, [edit]);
+  await seen.until(() => found().length === 0);
   seen.events.save(document);
   seen.found.delete(uri);
   seen.events.close(document);
-  await until(seen, () => seen.found.has(uri));
+  await seen.until(() => seen.found.has(uri));
   await deactivate();
   assert.deepEqual(seen.errors, []);
 });
@@ -129,4 +51,55 @@ test("a server that isn't there", async () => {
   await activate({ subscriptions: [] });
   assert.equal(await seen.providers.hover(made(""), { line: 0, character: 0 }, token), null);
   assert.match(seen.errors[0], /is gone: spawn \/absent ENOENT/);
+});
+
+test("edits of a server are taken for the version that they were made for", async () => {
+  const { vscode, seen } = editor([process.execPath, path.join(__dirname, "asking.js")]);
+  const document = made("in 1\n");
+  vscode.workspace.textDocuments.push(document);
+  const { activate, deactivate } = extension(vscode);
+  await activate({ subscriptions: [] });
+  await seen.until(() => seen.told.length > 0);
+  const [older, another, taken] = [false, false, true].map((applied) => ({ applied }));
+  assert.deepEqual(JSON.parse(seen.told[0]), { older, another, this: taken, else: -32601 });
+  assert.equal(document.text, "; this\nin 1\n");
+  await deactivate();
+});
+
+/** An editor that has joined the bridge of a file. */
+async function partner(t, file, text) {
+  const { vscode, seen } = editor(["tekhvumo", "lsp"]);
+  const document = new Document(`file://${file}`, text);
+  vscode.workspace.textDocuments.push(document);
+  const { activate, deactivate } = extension(vscode);
+  t.after(deactivate);
+  await activate({ subscriptions: [] });
+  await seen.until(() => seen.told.length > 0);
+  assert.match(seen.told[0], /is shared, as session [01]$/);
+  return { document, seen, deactivate, has: (line) => seen.until(() => document.text.includes(`${line}\n`)) };
+}
+
+test("two editors on one shared file", async (t) => {
+  const room = fs.mkdtempSync(path.join(os.tmpdir(), "shared-"));
+  const file = path.join(room, "scarf.k");
+  const text = [...LINES.slice(0, 4), ...Array.from({ length: 50 }, (_, at) => `; ${at}`), ""].join("\n");
+  fs.writeFileSync(file, text);
+  const bridge = spawn("tekhvumo", ["share", file], { stdio: ["ignore", "pipe", "inherit"] });
+  t.after(() => bridge.kill());
+  const ended = new Promise((go) => bridge.on("close", go));
+  await new Promise((go) => bridge.stdout.once("data", go));
+  const [anna, ben] = await Promise.all([partner(t, file, text), partner(t, file, text)]);
+  anna.seen.type(anna.document, [{ range: new Range(5, 0, 5, 0), newText: "; of anna\n" }]);
+  ben.seen.type(ben.document, [{ range: new Range(40, 0, 41, 0), newText: "; of ben\n" }]);
+  await Promise.all([anna, ben].flatMap((it) => [it.has("; of anna"), it.has("; of ben")]));
+  assert.equal(anna.document.text, ben.document.text);
+  for (const it of [anna, ben]) {
+    await it.deactivate();
+    assert.deepEqual(it.seen.errors, []);
+  }
+  bridge.kill();
+  assert.equal(await ended, 0);
+  assert.equal(fs.readFileSync(file, "utf8"), anna.document.text);
+  assert.equal(anna.document.text.split("\n").length, text.split("\n").length + 1);
+  fs.rmSync(room, { recursive: true });
 });

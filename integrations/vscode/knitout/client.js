@@ -5,10 +5,14 @@ const { spawn } = require("node:child_process");
 
 const HEAD_END = Buffer.from("\r\n\r\n");
 
-/** A server in a process of its own. `told` is called with the method and the parameters of each notification. */
+/**
+ * A server in a process of its own. `told` is called with the method and the parameters of each notification, and `asked` with those of
+ * each request: it gives the result, or undefined for a method that isn't known.
+ */
 class Client {
-  constructor(words, told, ended) {
+  constructor(words, told, asked, ended) {
     this.told = told;
+    this.asked = asked;
     this.waiting = new Map();
     this.numbers = 0;
     this.ahead = Buffer.alloc(0);
@@ -36,8 +40,7 @@ class Client {
 
   hear(message) {
     if (message.method !== undefined && message.id !== undefined) {
-      // (the server asks nothing that is known)
-      this.write({ id: message.id, error: { code: -32601, message: `there is no ${message.method}` } });
+      this.answer(message);
     } else if (message.method !== undefined) {
       this.told(message.method, message.params);
     } else {
@@ -46,6 +49,11 @@ class Client {
       // (what can't be answered any more, as the text has changed, is asked again by the editor)
       waits?.(message.result ?? null);
     }
+  }
+
+  async answer({ id, method, params }) {
+    const result = await this.asked(method, params);
+    this.write(result === undefined ? { id, error: { code: -32601, message: `there is no ${method}` } } : { id, result });
   }
 
   end(words, ended) {

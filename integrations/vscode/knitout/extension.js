@@ -78,13 +78,37 @@ function told(method, params) {
   if (method === "textDocument/publishDiagnostics") {
     found.set(vscode.Uri.parse(params.uri), params.diagnostics.map(diagnostic));
   } else if (method === "window/showMessage") {
-    vscode.window.showErrorMessage(params.message);
+    show(params.type, params.message);
   }
+}
+
+function show(type, message) {
+  if (type === 1) vscode.window.showErrorMessage(message);
+  else if (type === 2) vscode.window.showWarningMessage(message);
+  else vscode.window.showInformationMessage(message);
 }
 
 function ended(words) {
   found.clear();
   if (client !== undefined) vscode.window.showErrorMessage(`The language server of tekhvumo is gone: ${words}`);
+}
+
+// ---------------------------------------------------------------- what the server asks
+
+async function asked(method, params) {
+  return method === "workspace/applyEdit" ? { applied: await take(params.edit.documentChanges) } : undefined;
+}
+
+/** Takes edits of texts that are open in the versions that they were made for, all or none, and says whether it did. */
+async function take(changes) {
+  const made = new vscode.WorkspaceEdit();
+  for (const { textDocument, edits: told } of changes) {
+    const document = vscode.workspace.textDocuments.find((it) => it.uri.toString() === textDocument.uri);
+    if (document?.version !== textDocument.version) return false;
+    made.set(document.uri, edits(told));
+  }
+  // (VS Code takes none where somebody types meanwhile)
+  return vscode.workspace.applyEdit(made);
 }
 
 // ---------------------------------------------------------------- what is asked
@@ -134,9 +158,10 @@ function provide() {
 async function activate(context) {
   const words = vscode.workspace.getConfiguration("tekhvumo").get("command");
   found = vscode.languages.createDiagnosticCollection("tekhvumo");
-  client = new Client(words, told, ended);
+  client = new Client(words, told, asked, ended);
   const { workspace } = vscode;
-  await client.ask("initialize", { processId: process.pid, rootUri: null, capabilities: {} });
+  const capabilities = { workspace: { applyEdit: true, workspaceEdit: { documentChanges: true } } };
+  await client.ask("initialize", { processId: process.pid, rootUri: null, capabilities });
   client.notify("initialized", {});
   workspace.textDocuments.forEach(open);
   context.subscriptions.push(
