@@ -1,9 +1,11 @@
 pub mod Ears
 pub mod Edge
 pub mod Faults
+pub mod FileReadings
 pub mod Gates
 pub mod Memory
 pub mod MemoryTalks
 pub mod Pieces
 pub mod Whole
 pub mod WholeLines
+pub mod Windows

@@ -1,5 +1,5 @@
 -- The lines of bytes that come one after the other: those that have their line feed already.
-use Rattle.std.specs.Prelude.{◌≡◌, ℕ, if◌then◌else◌, List, [], ◌∷◌, ◌++◌, All, flat_map}
+use Rattle.std.specs.Prelude.{◌≡◌, ◌⊎◌, ℕ, if◌then◌else◌, List, [], ◌∷◌, ◌++◌, All, flat_map}
 use Rattle.knit_base.specs.Lines.{HasNoLineEnd, is_line_feed}
 
 -- the lines that have a line feed, where the first of them begins with this front
@@ -31,3 +31,7 @@ pub record ArePartsOf (bytes : List ℕ) (lines : List (List ℕ)) (rest : List 
   pub joined : bytes ≡ flat_map with_feed lines ++ rest
   pub ones : All HasNoLineEnd lines
   pub last : HasNoLineEnd rest
+
+-- no bytes, or bytes that end with a line feed
+abbrev pub AreWholeLines : List ℕ → Type 0
+AreWholeLines bytes = (bytes ≡ []) ⊎ ((front : List ℕ) × (bytes ≡ with_feed front))

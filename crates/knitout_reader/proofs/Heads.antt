@@ -73,7 +73,8 @@ name_byte byte isnt other = (
   other,
 )
 
-not_false : (b : Bool) → not b ≡ false → b ≡ true
+-- what isn't false is true
+pub not_false : (b : Bool) → not b ≡ false → b ≡ true
 not_false true e = refl
 not_false false e = sym e
 

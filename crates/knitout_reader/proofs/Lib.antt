@@ -3,9 +3,11 @@ pub mod CarrierLists
 pub mod Decimals
 pub mod Digits
 pub mod FewCarriers
+pub mod FilesByLines
 pub mod FrontHeads
 pub mod HeaderLines
 pub mod Heads
+pub mod HeadsByLines
 pub mod LawfulReadings
 pub mod Marks
 pub mod OneNeedle

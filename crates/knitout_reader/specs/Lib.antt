@@ -1,5 +1,7 @@
 pub mod Carriers
+pub mod FileLines
 pub mod Head
+pub mod HeadLines
 pub mod Numbers
 pub mod Operations
 pub mod Reading

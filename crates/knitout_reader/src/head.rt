@@ -1,12 +1,14 @@
 //! The head of a file.
-ghost use Rattle.std.specs.Prelude.{◌≡◌, ◌+◌, ◌<◌, ◌≤◌, [], ◌∷◌, All, IfOk, IfErr, IfSome, MatchOption, MatchResult, true, false, length, take, drop};
+ghost use Rattle.std.specs.Prelude.{◌≡◌, ◌<◌, All, IfOk, IfErr, IfSome, MatchOption, MatchResult, true, false, length, drop};
 ghost use Rattle.std.specs.List.{list_any};
 ghost use Rattle.std.specs.Str.{bytes_eq};
 ghost use Rattle.knit_base.specs.Lines.{IsLine};
 ghost use Rattle.knitout_reader.specs.Tokens.{tokens_of};
-ghost use Rattle.knitout_reader.specs.Head.{is_magic, is_head_line, head_len, is_carriers_line, carriers_word, carriers_headers, has_name_twice, names_declared, names_in_line, IsHead, IsHeadFault, IsRefusal, IsNamesText};
+ghost use Rattle.knitout_reader.specs.declared.head.HeadFault.TheVariants as refused;
+ghost use Rattle.knitout_reader.specs.Head.{is_magic, is_head_line, is_carriers_line, carriers_word, has_name_twice, names_declared, names_in_line, IsHead, IsHeadFault, IsRefusal, IsNamesText};
 
 use crate::body::nth_line;
+use crate::head_reader::HeadReader;
 use crate::tokens::{is_blank_text, next_token};
 use knit_base::{AddName, Declared, Lines, NoMemory};
 use std::alloc::Global;
@@ -55,11 +57,12 @@ pub enum HeadFault {
     NoMemory,
 }
 
-// A header that names the carriers: the number of its line, from 1, and what stands behind its colon.
-#[derive(Clone, Copy)]
-struct Header<'a> {
-    line: u32,
-    names: &'a [u8],
+impl From<NoMemory> for HeadFault {
+    ghost from_gives = { λ _ e. e ≡ refused.NoMemory };
+
+    fn from(_: NoMemory) -> Self {
+        HeadFault::NoMemory
+    }
 }
 
 /// Reads the head of a file: its first line, and the lines behind it that are blank or have a `;` as their first byte, up
@@ -72,21 +75,13 @@ pub fn read_head(alloc: Global, lines: &Lines) -> Result<Head, HeadFault>
     ensures head { IfOk result (λ head. IsHead lines.now head) }
     ensures fault { IfErr result (λ fault. IsHeadFault lines.now fault) }
 {
-    if lines.len() == 0 || !is_magic(nth_line(lines, 0).as_bytes()) {
-        return Err(HeadFault::BadMagic);
+    let mut reader = HeadReader::new();
+    for i in 0..lines.len() {
+        if !reader.take(alloc, nth_line(lines, i))? {
+            return reader.finish();
+        }
     }
-    let len = count_head_lines(lines);
-    let Some(header) = next_header(lines, 0, len) else {
-        return Err(HeadFault::NoCarriers);
-    };
-    if let Some(second) = next_header(lines, header.line, len) {
-        return Err(HeadFault::TwoCarriers { line: second.line });
-    }
-    let declared = read_names(alloc, header.names, header.line)?;
-    Ok(Head {
-        lines: len,
-        declared,
-    })
+    reader.finish()
 }
 
 /// Whether the line is `;!knitout-2` with blanks behind it, with which a file begins.
@@ -103,41 +98,8 @@ pub fn is_head_line(line: &[u8]) -> bool
     line.starts_with(b";") || is_blank_text(line)
 }
 
-// How many lines the head has.
-fn count_head_lines(lines: &Lines) -> u32
-    requires { 0 < length lines.now }
-    ensures len { result ≡ head_len lines.now }
-    ensures within { result ≤ length lines.now }
-{
-    for i in 1..lines.len() {
-        if !is_head_line(nth_line(lines, i).as_bytes()) {
-            return i;
-        }
-    }
-    lines.len()
-}
-
-// The next header of the head that names the carriers, from this place of the lines on.
-fn next_header(lines: &Lines, from: u32, len: u32) -> Option<Header<'_>>
-    requires short { All (λ line. length line < 65535) lines.now }
-    requires within { len ≤ length lines.now }
-    requires start { from ≤ len }
-    ensures next { let head = take len lines.now in MatchOption result
-        (carriers_headers (from + 1) (drop from head) ≡ [])
-        (λ h. carriers_headers (from + 1) (drop from head) ≡ record { line = h.line; names = tokens_of h.names.now } ∷ carriers_headers (h.line + 1) (drop h.line head)) }
-    ensures line { IfSome result (λ h. h.line ≤ len) }
-    ensures text { IfSome result (λ h. IsNamesText h.names.now) }
-{
-    for i in from..len {
-        if let Some(names) = names_text(nth_line(lines, i)) {
-            return Some(Header { line: i + 1, names });
-        }
-    }
-    None
-}
-
 // What stands behind the colon of a header that names the carriers.
-fn names_text(line: &str) -> Option<&[u8]>
+pub(crate) fn names_text(line: &str) -> Option<&[u8]>
     requires line { IsLine line.now }
     requires short { length line.now < 65535 }
     ensures header { MatchOption result (is_carriers_line line.now ≡ false) (λ text. (is_carriers_line line.now ≡ true) × (text.now ≡ drop (length carriers_word) line.now)) }
@@ -164,7 +126,7 @@ pub fn declared_in(alloc: Global, line: &str) -> Result<Option<Declared>, NoMemo
 }
 
 // The carriers that the header at this line declares.
-fn read_names(alloc: Global, text: &[u8], line: u32) -> Result<Declared, HeadFault>
+pub(crate) fn read_names(alloc: Global, text: &[u8], line: u32) -> Result<Declared, HeadFault>
     requires { IsNamesText text.now }
     ensures names { let answer = names_declared (record { line = line; names = tokens_of text.now }) in MatchResult result (λ declared. answer ≡ Ok declared) (λ fault. IsRefusal answer fault) }
 {

@@ -6,4 +6,5 @@ pub mod SettledLines
 pub mod ShortestSpellings
 pub mod SpacedTokens
 pub mod Words
+pub mod WrittenFiles
 pub mod WrittenLines

@@ -1,5 +1,5 @@
 -- What of a text was written in its canonical spelling. No public contract speaks of it.
-use Rattle.std.specs.Prelude.{◌≡◌, ◌≢◌, ℕ, ◌<◌, ◌≤◌, false, List, [], ◌∷◌, ◌++◌, length, take, drop, All}
+use Rattle.std.specs.Prelude.{◌≡◌, ◌≢◌, ℕ, ◌+◌, ◌<◌, ◌≤◌, false, List, [], ◌∷◌, ◌++◌, length, take, drop, All}
 use Rattle.std.specs.List.{AllZip}
 use Rattle.knit_base.specs.declared.profile.Profile.{Profile}
 use Rattle.knit_base.specs.Lines.{lines_of}
@@ -47,17 +47,26 @@ pub record BeginsWithCopy (text : List ℕ) (len : ℕ) : Type 0 where
   pub good : IsGoodLine line
   pub copied : IsCopiedLine line
 
--- the lines of the text between two places are good, and this is their canonical text
-pub record IsWritten (profile : Profile) (names : List (List ℕ)) (text : List ℕ) (from to : ℕ) (written : List ℕ) : Type 0 where
+-- so many lines of the text stand between two places and are good, and this is their canonical text
+pub record IsWritten (profile : Profile) (names : List (List ℕ)) (text : List ℕ) (from to count : ℕ) (written : List ℕ) : Type 0 where
   pub lines : List (List ℕ)
   pub texts : List (List ℕ)
   pub first : lines_of (drop from text) ≡ lines ++ lines_of (drop to text)
+  pub counted : length lines ≡ count
+  pub few : from + count ≤ to
+  pub within : from + count ≤ length text
   pub good : All IsGoodLine lines
   pub canonical : AllZip (IsCanonicalLine profile names) lines texts
   pub spelt : written ≡ with_line_feeds texts
 
--- such a text was appended
-pub record WroteOn (profile : Profile) (names : List (List ℕ)) (text : List ℕ) (from to : ℕ) (old new : List ℕ) : Type 0 where
+-- such a text, of so many lines before this place, was appended
+pub record WroteOn (profile : Profile) (names : List (List ℕ)) (text : List ℕ) (to count : ℕ) (old new : List ℕ) : Type 0 where
   pub written : List ℕ
-  pub is : IsWritten profile names text from to written
+  pub is : IsWritten profile names text 0 to count written
   pub appended : new ≡ old ++ written
+
+-- the canonical text of these lines was appended
+pub record WroteAll (profile : Profile) (names : List (List ℕ)) (lines : List (List ℕ)) (old new : List ℕ) : Type 0 where
+  pub texts : List (List ℕ)
+  pub canonical : AllZip (IsCanonicalLine profile names) lines texts
+  pub appended : new ≡ old ++ with_line_feeds texts

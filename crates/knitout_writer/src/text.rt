@@ -9,11 +9,8 @@ use knit_base::{Declared, Lines, NoMemory, Profile};
 use knitout_reader::{Head, is_shortest_spelling, nth_line, read_line};
 use std::alloc::Global;
 
-/// The canonical text of the file with these lines: the lines of its head as they are, and each line of its body in its canonical
-/// spelling, each with a line feed.
-///
-/// The head of what is written may be longer than `head`: a body line that is blanks and a comment is written from its `;` on.
-pub fn canonical_text(
+// The canonical text of the file with these lines.
+fn canonical_text(
     alloc: Global,
     lines: &Lines,
     head: &Head,
@@ -28,7 +25,10 @@ pub fn canonical_text(
     Ok(text)
 }
 
-/// Appends the canonical text of the file with these lines.
+/// Appends the canonical text of the file with these lines: the lines of its head as they are, and each line of its body in its canonical
+/// spelling, each with a line feed.
+///
+/// The head of what is written may be longer than `head`: a body line that is blanks and a comment is written from its `;` on.
 pub fn write_text(
     alloc: Global,
     lines: &Lines,

@@ -4,7 +4,9 @@ use Rattle.std.proofs.lemmas.List.{drop_more, take_all, drop_all, length-take, t
 use Rattle.std.proofs.Math.Seq.{drop-append_seam, take-append_seam}
 use Rattle.std.proofs.lemmas.List.Elements.{All-append, All-cons, All-nil}
 use Rattle.knit_base.specs.Lines.{lines_of}
-use Rattle.line_cutter.specs.Cut.{HasGoodLines, IsBehind, IsGoodLine, StandBetween, StandsAt}
+use Rattle.line_cutter.specs.declared.fault.CutFault.{CutFault}
+use Rattle.line_cutter.specs.declared.fault.CutFault.TheVariants.{NotUtf8, LineLong, NoMemory}
+use Rattle.line_cutter.specs.Cut.{HasGoodLines, IsBehind, IsFirstBadBehind, IsFirstBadLine, IsGoodLine, IsNextRefused, StandBetween, StandsAt}
 
 -- the text begins behind no lines
 pub behind-none : (text : List ℕ) → IsBehind text 0 0
@@ -78,3 +80,26 @@ between-rest text start count some rest =
       within = omega (arith, rest.fit, length-drop start text);
       good = rest.good;
     }
+
+bad_behind : (IsBad : List ℕ → Type 0) (text bad : List ℕ) (later : List (List ℕ)) (before count start number : ℕ) → IsBehind text count start → lines_of (drop start text) ≡ bad ∷ later → number ≡ before + count + 1
+    → IsBad bad → (front : List (List ℕ)) → length front ≡ before → All IsGoodLine front → IsFirstBadLine IsBad (front ++ lines_of text) number
+bad_behind IsBad text bad later before count start number here first is wrong front len good = record {
+  before = front ++ take count (lines_of text);
+  bad = bad;
+  after = later;
+  lines_are =
+      ap (λ ls. front ++ ls) (sym (take-append-drop count (lines_of text)) ∙ ap (λ ls. take count (lines_of text) ++ ls) (here.left ∙ first))
+      ∙ sym (append_assoc front (take count (lines_of text)) (bad ∷ later));
+  counted = omega (arith, is, len, length-append front (take count (lines_of text)), length-take count (lines_of text), here.within);
+  good_before = All-append IsGoodLine front (take count (lines_of text)) good here.good;
+  is_bad = wrong;
+}
+
+-- the line that is refused is the first bad one, wherever the lines of the text stand
+pub refused-behind : (text : List ℕ) (before count start number : ℕ) (fault : CutFault) → IsBehind text count start → IsNextRefused text start number fault → number ≡ before + count + 1
+    → IsFirstBadBehind before (lines_of text) fault
+refused-behind text before count start number (NotUtf8 named) here refused is =
+    bad_behind _ text refused.line refused.later before count start named here refused.first (refused.refused.0 ∙ is) refused.refused.1
+refused-behind text before count start number (LineLong named) here refused is =
+    bad_behind _ text refused.line refused.later before count start named here refused.first (refused.refused.0 ∙ is) refused.refused.1
+refused-behind text before count start number NoMemory here refused is = λ front len good. tt

@@ -47,6 +47,10 @@ pub record AreCutTo (text : List ℕ) (spans : List Span) (next : ℕ) : Type 0 
   pub few : length spans ≤ next
   pub fit : length spans ≤ length text
 
+-- The refusal names the first bad line of a text in which so many good lines stand before these. It says the same whichever lines those are.
+abbrev pub IsFirstBadBehind : ℕ → List (List ℕ) → CutFault → Type 0
+IsFirstBadBehind before lines fault = (front : List (List ℕ)) → length front ≡ before → All IsGoodLine front → IsFirstBad (front ++ lines) fault
+
 -- all lines of the text lie here, and they are good
 pub record AreCut (text : List ℕ) (spans : List Span) : Type 0 where
   pub lines_are : map (piece text) spans ≡ lines_of text

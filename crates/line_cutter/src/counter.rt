@@ -1,39 +1,44 @@
 //! How many lines a text has, where all of them are good. None of them is told, so many bytes are looked at at once.
-ghost use Rattle.std.specs.Prelude.{◌≡◌, ◌≤◌, ◌<◌, length, IfSome};
+ghost use Rattle.std.specs.Prelude.{◌≡◌, ◌+◌, ◌^◌, ◌≤◌, ◌<◌, length, IfErr, IfOk, IfSome};
 ghost use Rattle.std.specs.List.{count_by};
-ghost use Rattle.knit_base.specs.Lines.{is_line_feed};
-ghost use Rattle.line_cutter.specs.Cut.{HasGoodLines, StandBetween};
+ghost use Rattle.knit_base.specs.Lines.{is_line_feed, lines_of};
+ghost use Rattle.line_cutter.specs.Cut.{HasGoodLines, IsFirstBadBehind, IsNextRefused, StandBetween};
 
+use crate::CutFault;
 use crate::line::LINE_LIMIT;
 use crate::places::line_at;
 use memchr::memrchr;
 
-/// How many lines the text has. `None` says that one of them isn't UTF-8 or has over 4,096 bytes.
-pub fn count_lines(text: &[u8]) -> Option<u32>
-    requires { length text.now ≤ 16777216 }
-    ensures { IfSome result (HasGoodLines text.now) }
+/// How many lines the text has, before which so many lines stand. The first that isn't UTF-8 or has over 4,096 bytes is refused by its
+/// number.
+pub fn count_lines(text: &[u8], before: u32) -> Result<u32, CutFault>
+    requires size { length text.now ≤ 16777216 }
+    requires few { before + length text.now < 2 ^ 32 }
+    ensures ok { IfOk result (HasGoodLines text.now) }
+    ensures err { IfErr result (IsFirstBadBehind before (lines_of text.now)) }
 {
     let mut count = 0;
     let mut start = 0;
     'counting: while start < text.len() {
-        let (more, next) = lines_at(text, start)?;
+        let (more, next) = lines_at(text, start, before + count + 1)?;
         count += more;
         start = next;
     }
-    Some(count)
+    Ok(count)
 }
 
-// How many lines stand between `start` and a place further on. `None` where one of them is bad.
-fn lines_at(text: &[u8], start: usize) -> Option<(u32, usize)>
+// How many lines stand between `start`, where the line with this number begins, and a place further on.
+fn lines_at(text: &[u8], start: usize, number: u32) -> Result<(u32, usize), CutFault>
     requires some { start < length text.now }
     requires size { length text.now ≤ 16777216 }
-    ensures { IfSome result (λ found. StandBetween text.now start found.0 found.1) }
+    ensures ok { IfOk result (λ found. StandBetween text.now start found.0 found.1) }
+    ensures err { IfErr result (IsNextRefused text.now start number) }
 {
     if let Some(found) = ascii_lines_at(text, start) {
-        return Some(found);
+        return Ok(found);
     }
-    let (_, next) = line_at(text, start)?;
-    Some((1, next))
+    let (_, next) = line_at(text, start, number)?;
+    Ok((1, next))
 }
 
 // The same of the whole lines among the next bytes, which are too few for a line that is too long. `None` where they aren't

@@ -2,6 +2,7 @@
 ghost use Rattle.std.specs.Prelude.{◌≡◌};
 ghost use Rattle.line_cutter.specs.declared.fault.CutFault.TheVariants as refused;
 
+use knit_base::NoMemory;
 use std::alloc::{AllocError, AllocFailed};
 use thiserror::Error;
 
@@ -33,6 +34,14 @@ impl<T: Drop> From<AllocFailed<T>> for CutFault {
     ghost from_gives = { λ _ e. e ≡ refused.NoMemory };
 
     fn from(_: AllocFailed<T>) -> Self {
+        CutFault::NoMemory
+    }
+}
+
+impl From<NoMemory> for CutFault {
+    ghost from_gives = { λ _ e. e ≡ refused.NoMemory };
+
+    fn from(_: NoMemory) -> Self {
         CutFault::NoMemory
     }
 }

@@ -11,9 +11,11 @@ mod cutter;
 mod fault;
 mod line;
 mod places;
+mod taker;
 
 pub use counter::count_lines;
 pub use cutter::{cut, cut_buffer};
 pub use fault::CutFault;
 pub use line::{LINE_LIMIT, without_return};
-pub use places::{line_at, place_behind};
+pub use places::line_at;
+pub use taker::LineTaker;

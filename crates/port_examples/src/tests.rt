@@ -1,3 +1,4 @@
 //! The tests, by what they name.
 mod base;
+mod file;
 mod port;

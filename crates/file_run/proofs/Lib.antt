@@ -1,0 +1,2 @@
+pub mod BodySteps
+pub mod BrokenLines

@@ -1,0 +1,3 @@
+pub mod Bodies
+pub mod Judgements
+pub mod Runs
