@@ -1,21 +1,24 @@
 -- What is due for the words and the source, from what the parts of the program say.
-use Rattle.std.proofs.Common.{◌≡◌, ℕ, [], List, Err, Ok, arith, false, refl, subst, sym}
+use Rattle.std.proofs.Common.{◌≡◌, ℕ, [], List, Err, Ok, arith, false, true, refl, subst, sym}
+use Rattle.std.proofs.lemmas.Bool.{false≢true}
 use Rattle.std.specs.Prelude.{IfOk, OnErr, Result}
 use Rattle.std.proofs.KnownBytes.{Consumes-nil}
 use Rattle.std.proofs.lemmas.Result.{IfOk-weaker, on_err_weaker}
 use Rattle.std.specs.declared.option.Option.{Option}
 use Rattle.machine_profile.specs.declared.Chosen.{Chosen}
 use Rattle.command_words.specs.declared.command.Command.{Command}
+use Rattle.command_words.specs.declared.command.Command.TheVariants as command
 use Rattle.verdict_report.specs.declared.refusal.Refusal.{Refusal}
 use Rattle.verdict_report.specs.Refusals.{refusal_text}
 use Rattle.input_answers.specs.declared.ending.Answer.{Answer}
 use Rattle.input_answers.specs.declared.outcome.Status.{Status}
 use Rattle.input_answers.specs.Answers.{Refuses}
-use Rattle.input_answers.specs.Asked.{Ask, reads_input}
+use Rattle.input_answers.specs.Asked.{Ask, reads_file, reads_input}
+use Rattle.input_answers.specs.Due.{Due}
 use Rattle.input_answers.proofs.Asks.{asked-command, asked-lawful}
-use Rattle.check_main.specs.Calls.{HasReadFor, IsCalled, IsDueFor}
+use Rattle.check_main.specs.Calls.{HasGiven, HasReadFor, IsCalled, IsDueFor}
 use Rattle.input_answers.specs.Played.{Played, nothing_played, played_by}
-use Rattle.check_main.specs.Top.{Called, HasReadWithin, IsUntouched, SourceUse}
+use Rattle.check_main.specs.Top.{Called, HasReadWithin, IsUntouched, SourceUse, whole}
 
 -- this text, this status and what was played are those that are due
 pub called-as : (words : List (List ℕ)) (source : SourceUse) (answer : Answer) (said : List ℕ) (ends : Status) (played : Played) → Called words source played said ends
@@ -54,3 +57,23 @@ pub ended-for : {E : Type 0} (words : List (List ℕ)) (command : Command) (chos
     → IfOk answer (IsDueFor command chosen source) → OnErr answer (HasReadFor command source) → (IfOk answer (IsCalled words source) → OnErr answer (HasReadWithin words source) → P) → P
 ended-for words command chosen source answer P ask due read ends =
     ends (IfOk-weaker answer _ _ (λ a is. is words ask) due) (on_err_weaker answer (read-within words command chosen source ask) read)
+
+-- a command that reads a file reads an input
+pub file-input : (command : Command) → reads_file command ≡ true → reads_input command ≡ true
+file-input (command.Check loops json) reads = refl
+file-input command.Text reads = refl
+file-input command.Passes reads = refl
+file-input command.Live reads = absurd (false≢true reads)
+file-input command.Save reads = absurd (false≢true reads)
+file-input command.Groups reads = absurd (false≢true reads)
+file-input (command.Serve json) reads = absurd (false≢true reads)
+file-input command.Replay reads = absurd (false≢true reads)
+file-input (command.Tally from to) reads = absurd (false≢true reads)
+file-input (command.Make rows start) reads = absurd (false≢true reads)
+
+-- an answer to a file that was read to its end
+pub called-file : (words : List (List ℕ)) (command : Command) (chosen : Chosen) (source : SourceUse) (answer : Answer) (input said : List ℕ) (ends : Status) → Ask words command chosen
+    → reads_file command ≡ true → HasGiven source input → Due command chosen input said ends
+    → answer.text.items ≡ said → answer.outcome.status ≡ ends → played_by answer.outcome ≡ nothing_played → IsCalled words source answer
+called-file words command chosen source answer input said ends ask reads given due text status plays =
+    called-as words source answer said ends nothing_played (whole command chosen input said ends ask reads given.bytes given.end given.few due) text status plays

@@ -18,7 +18,8 @@ use Rattle.input_answers.specs.declared.live_text.LiveOutput.{LiveOutput}
 use Rattle.input_answers.specs.declared.outcome.Status.{Status}
 use Rattle.input_answers.specs.declared.outcome.Status.TheVariants.{Done}
 use Rattle.input_answers.specs.Asked.{reads_file, reads_input, reads_script}
-use Rattle.input_answers.specs.CheckReport.{IsCheckReport, body_of}
+use Rattle.file_run.specs.Bodies.{body_of}
+use Rattle.input_answers.specs.CheckReport.{IsCheckReport}
 use Rattle.input_answers.specs.Due as due
 use Rattle.input_answers.specs.Due.{Due, Fits, HasHead, checks_body}
 use Rattle.input_answers.specs.DueGroups as due_groups

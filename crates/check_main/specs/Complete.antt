@@ -18,7 +18,8 @@ use Rattle.script_reader.specs.declared.step.GroupScript.{GroupScript}
 use Rattle.input_answers.specs.declared.outcome.Status.{Status}
 use Rattle.input_answers.specs.declared.outcome.Status.TheVariants.{Done, NoMemory}
 use Rattle.input_answers.specs.Asked.{Ask, reads_input}
-use Rattle.input_answers.specs.CheckReport.{IsJudged, body_of, status_of}
+use Rattle.file_run.specs.Bodies.{IsJudged, body_of}
+use Rattle.input_answers.specs.CheckReport.{status_of}
 use Rattle.input_answers.specs.Due.{Fits, HasHead}
 use Rattle.input_answers.specs.DueGroups.{HasGroupScript}
 use Rattle.input_answers.specs.DueLive.{HasScript}

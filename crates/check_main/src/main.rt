@@ -12,6 +12,7 @@ ghost use Rattle.input_answers.specs.Codes.{code_of};
 
 #[cfg(test)]
 mod device_tests;
+mod files;
 #[cfg(test)]
 mod order_tests;
 #[cfg(test)]

@@ -1,18 +1,19 @@
 //! The whole program, over any source and sink.
-ghost use Rattle.std.specs.Prelude.{◌≡◌, ◌+◌, ◌≤◌, List, ℕ, length, false, true, map, string_bytes, IfOk, OnErr};
+ghost use Rattle.std.specs.Prelude.{◌≡◌, ◌≢◌, ◌+◌, ◌≤◌, List, ℕ, length, false, true, map, string_bytes, IfOk, OnErr};
 ghost use Rattle.machine_profile.specs.declared.Chosen.{Chosen};
 ghost use Rattle.command_words.specs.declared.command.Command.{Command};
 ghost use Rattle.check_main.specs.Calls.{HasGiven, HasReadFor, IsCalled, IsDueFor, IsReading};
 ghost use Rattle.check_main.specs.Complete.{EndsWell, IsUnhindered};
-ghost use Rattle.input_answers.specs.Asked.{Ask, has_sessions, reads_input};
+ghost use Rattle.input_answers.specs.Asked.{Ask, has_sessions, reads_file, reads_input};
 ghost use Rattle.input_answers.specs.Played.{played_by};
 ghost use Rattle.check_main.specs.Top.{HasReadWithin, Ran, SourceUse, sink_use, source_use};
 ghost use Rattle.knit_ports.specs.Whole.{GaveAtMost};
 
+use crate::files::{check_source, passes_source, text_source};
 use command_words::Command;
 use input_answers::{
-    Answer, Outcome, Plan, PlanFault, Status, answer, answer_groups, answer_live, answer_made,
-    answer_replay, answer_tally, plan_of,
+    Answer, Outcome, Plan, PlanFault, Status, Style, answer_by_blocks, answer_groups, answer_live,
+    answer_made, answer_replay, answer_tally, plan_of,
 };
 use knit_base::NoMemory;
 use knit_ports::{Ends, Gate, INPUT_LIMIT, InputFault, Sink, Source, read_input, write_report};
@@ -146,7 +147,7 @@ fn answer_alone<R: Threads + Sync, S: Source>(
 {
     match plan.command {
         Command::Check { .. } | Command::Text | Command::Passes => {
-            answer_source(rt, alloc, plan, source)
+            answer_file(rt, alloc, plan, source)
         }
         Command::Replay | Command::Tally { .. } => {
             keep_large_pieces(alloc);
@@ -160,7 +161,42 @@ fn answer_alone<R: Threads + Sync, S: Source>(
     }
 }
 
-// The same where the command reads an input.
+// The same of a file: it is answered while it is read, unless its body is to open a book.
+fn answer_file<R: Threads + Sync, S: Source>(
+    rt: &R,
+    alloc: Global,
+    plan: &Plan,
+    source: &mut S,
+) -> Result<Answer, NoMemory>
+    requires { reads_file plan.now.command ≡ true }
+    ensures ok { IfOk result (IsDueFor plan.now.command plan.now.chosen (source_use S.left S.faults source.old source.new)) }
+    ensures err { OnErr result (GaveAtMost (INPUT_LIMIT + 1) (S.left source.old) (S.left source.new)) }
+{
+    match plan.command {
+        Command::Check { loops, json } => {
+            if plan.by_blocks {
+                return answer_source(rt, alloc, plan, source);
+            }
+            check_source(alloc, Style { loops, json }, plan, source)
+        }
+        Command::Passes => {
+            if plan.by_blocks {
+                return answer_source(rt, alloc, plan, source);
+            }
+            passes_source(alloc, plan, source)
+        }
+        Command::Text => text_source(alloc, plan, source),
+        Command::Live
+        | Command::Save
+        | Command::Groups
+        | Command::Serve { .. }
+        | Command::Replay
+        | Command::Tally { .. }
+        | Command::Make { .. } => unreachable!(),
+    }
+}
+
+// The same where the command reads an input whole.
 fn answer_source<R: Threads + Sync, S: Source>(
     rt: &R,
     alloc: Global,
@@ -169,6 +205,7 @@ fn answer_source<R: Threads + Sync, S: Source>(
 ) -> Result<Answer, NoMemory>
     requires reads { reads_input plan.now.command ≡ true }
     requires alone { has_sessions plan.now.command ≡ false }
+    requires whole { plan.now.command ≢ Command.Text }
     ensures ok { IfOk result (IsDueFor plan.now.command plan.now.chosen (source_use S.left S.faults source.old source.new)) }
     ensures err { OnErr result (GaveAtMost (INPUT_LIMIT + 1) (S.left source.old) (S.left source.new)) }
 {
@@ -245,11 +282,12 @@ fn answer_input<R: Threads + Sync>(
     requires size { length input.items ≤ INPUT_LIMIT }
     requires reads { reads_input plan.now.command ≡ true }
     requires alone { has_sessions plan.now.command ≡ false }
+    requires whole { plan.now.command ≢ Command.Text }
     ensures { IfOk result (λ answer. (source : SourceUse) → HasGiven source input.items → IsDueFor plan.now.command plan.now.chosen source answer) }
 {
     match plan.command {
-        Command::Check { .. } | Command::Text | Command::Passes => {
-            let ending = answer(rt, alloc, plan, input)?;
+        Command::Check { .. } | Command::Passes => {
+            let ending = answer_by_blocks(rt, alloc, plan, input)?;
             Ok(Answer::without_sessions(alloc, ending))
         }
         Command::Replay => {
@@ -260,7 +298,8 @@ fn answer_input<R: Threads + Sync>(
             let ending = answer_tally(rt, alloc, from, to, input)?;
             Ok(Answer::without_sessions(alloc, ending))
         }
-        Command::Live
+        Command::Text
+        | Command::Live
         | Command::Save
         | Command::Groups
         | Command::Serve { .. }

@@ -1,22 +1,19 @@
 -- The operations of the lines of a file as they are listed or counted.
-use Rattle.std.proofs.Common.{◌≡◌, ℕ, ◌+◌, ◌<◌, ◌≤◌, List, [], ◌∷◌, ◌++◌, length, drop, get_or, slice_get, Some, ap, subst, ◌∙◌, refl, arith}
+use Rattle.std.proofs.Common.{◌≡◌, ℕ, ◌+◌, ◌<◌, ◌≤◌, List, [], ◌∷◌, ◌++◌, length, drop, slice_get, Some, ap, subst, ◌∙◌, refl, arith}
 use Rattle.std.specs.List.{AllZip}
-use Rattle.std.proofs.lemmas.Option.{slice_get-get_or}
 use Rattle.knit_base.specs.declared.instr.Read.{Read}
 use Rattle.knit_base.specs.declared.profile.Profile.{Profile}
-use Rattle.knit_base.specs.Lines.{lines_of}
 use Rattle.knitout_reader.specs.declared.head.Head.{Head}
 use Rattle.knitout_reader.specs.Head.{IsHead}
 use Rattle.knitout_reader.specs.Reading.{ReadsAs}
 use Rattle.knitout_reader.proofs.BodyReadings.{ReadSoFar, read-none, read-more, read-all}
-use Rattle.line_cutter.specs.Cut.{IsBehind}
-use Rattle.line_cutter.proofs.PlacesBehind.{behind-all, behind-more, line_here}
 use Rattle.pass_grouping.specs.declared.listing.Listing.{Listing}
 use Rattle.pass_grouping.specs.declared.operation.PassOp.{PassOp}
 use Rattle.pass_grouping.specs.Listings.{HasListed, IsListing, next_line}
 use Rattle.pass_grouping.specs.Operations.{operations_after}
-use Rattle.input_answers.specs.CheckReport.{first_of}
-use Rattle.input_answers.specs.ListingRun.{HasTakenAll, ListsLine, TakesAt, TakesLine, Taking}
+use Rattle.file_run.specs.Bodies.{first_of}
+use Rattle.file_run.specs.Runs.{HasTakenAll, Taking}
+use Rattle.input_answers.specs.ListingRun.{ListsLine, TakesLine}
 use Rattle.input_answers.specs.PassesReport.{AreOperations}
 
 -- the lines behind the head were taken up to this place
@@ -84,37 +81,3 @@ pub body_listing-all : (profile : Profile) (lines : List (List ℕ)) (head : Hea
     → AreOperations profile head.declared lines ops
 body_listing-all profile lines head i listing ops is past here tells =
     all-listed profile head.declared lines listing ops (taken_body-all Listing HasListed profile lines head i listing is past here) tells
-
--- the lines behind the head were taken up to this place of the text
-pub record HasTakenText (T : Type 0) (Has : Taking T) (profile : Profile) (names : List (List ℕ)) (text : List ℕ) (from start : ℕ) (taker : T) : Type 0 where
-  pub count : ℕ
-  pub behind : IsBehind text count start
-  pub body : HasTakenBody T Has profile names (lines_of text) from count taker
-
-pub taken_text-none : (T : Type 0) (Has : Taking T) (profile : Profile) (names : List (List ℕ)) (text : List ℕ) (from start : ℕ) (taker : T)
-    → IsBehind text from start → Has (from + 1) [] taker → HasTakenText T Has profile names text from start taker
-taken_text-none T Has profile names text from start taker behind new = record {
-  count = from;
-  behind = behind;
-  body = taken_body-none T Has profile names (lines_of text) from taker new;
-}
-
--- one line more
-pub taken_text-more : (T : Type 0) (Has : Taking T) (profile : Profile) (names : List (List ℕ)) (text : List ℕ) (from start next : ℕ) (old new : T) → start < length text
-    → HasTakenText T Has profile names text from start old → TakesAt T Has profile names text start next old new → HasTakenText T Has profile names text from next new
-taken_text-more T Has profile names text from start next old new some here more =
-    let found : (here.count < length (lines_of text)) × (get_or (lines_of text) here.count [] ≡ more.line) =
-    line_here text more.line here.count start next here.behind more.stands in
-    record {
-      count = here.count + 1;
-      behind = behind-more text more.line here.count start next some here.behind more.stands;
-      body = taken_body-more T Has profile names (lines_of text) from here.count old new more.line here.body found.0
-          (slice_get-get_or (lines_of text) here.count [] found.0 ∙ ap Some found.1) more.takes;
-    }
-
--- all lines of the text were taken
-pub taken_text-all : (T : Type 0) (Has : Taking T) (profile : Profile) (text : List ℕ) (head : Head) (start : ℕ) (taker : T) → IsHead (lines_of text) head
-    → length text ≤ start → HasTakenText T Has profile head.declared text head.lines start taker → HasTakenAll T Has profile head.declared (lines_of text) taker
-taken_text-all T Has profile text head start taker is past here =
-    let all = behind-all text here.count start here.behind past in
-    taken_body-all T Has profile (lines_of text) head here.count taker is (omega (arith, all.0)) here.body

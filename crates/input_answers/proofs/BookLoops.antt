@@ -23,9 +23,10 @@ use Rattle.edit_journal.specs.declared.edit.Entry.{Entry}
 use Rattle.edit_journal.specs.declared.opening.Opening.{Opening}
 use Rattle.edit_journal.specs.Documents.{body, document_of, lines_in, opened_from}
 use Rattle.edit_book.specs.Verdicts.{IsLoopOn, setting_of}
-use Rattle.input_answers.specs.declared.judge.Judgement.{Judgement}
-use Rattle.input_answers.specs.BodyRun.{AreLoopsOn, IsJudgement, IsJudgementOn}
-use Rattle.input_answers.specs.CheckReport.{body_of, setting_for}
+use Rattle.file_run.specs.declared.judgement.Judgement.{Judgement}
+use Rattle.file_run.specs.Judgements.{IsJudgement, IsJudgementOn}
+use Rattle.input_answers.specs.BookLoops.{AreLoopsOn}
+use Rattle.file_run.specs.Bodies.{body_of, setting_for}
 use Rattle.input_answers.specs.DueLive.{IsOpening}
 
 -- the lines of blocks that nobody has edited

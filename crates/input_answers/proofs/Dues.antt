@@ -14,7 +14,8 @@ use Rattle.verdict_report.specs.Refusals.{refusal_text}
 use Rattle.input_answers.specs.declared.outcome.Status.{Status}
 use Rattle.input_answers.specs.declared.outcome.Status.TheVariants as status
 use Rattle.knitout_writer.specs.Canonical.{IsCanonicalText}
-use Rattle.input_answers.specs.CheckReport.{IsCheckReport, body_of}
+use Rattle.file_run.specs.Bodies.{body_of}
+use Rattle.input_answers.specs.CheckReport.{IsCheckReport}
 use Rattle.input_answers.specs.PassesReport.{IsPassesReport}
 use Rattle.input_answers.specs.Due.{Due, bad_line, bad_head, too_large, judged, canonical, broken, grouped, checks_body, Fits, HasHead, IsSizeRefusal, cut_refusal, head_refusal}
 

@@ -18,7 +18,7 @@ use Rattle.input_answers.specs.declared.ending.Answer.{Answer}
 use Rattle.input_answers.specs.declared.outcome.Status.{Status}
 use Rattle.input_answers.specs.declared.outcome.Status.TheVariants as status
 use Rattle.input_answers.specs.Answers.{IsDueGroups, Refuses}
-use Rattle.input_answers.specs.CheckReport.{body_of}
+use Rattle.file_run.specs.Bodies.{body_of}
 use Rattle.input_answers.specs.Due.{IsSizeRefusal, cut_refusal, head_refusal}
 use Rattle.input_answers.specs.DueGroups.{DueGroups, HasGroupScript, bad_line, bad_script, bad_head, too_large}
 use Rattle.input_answers.specs.Played.{Played, nothing_played}

@@ -4,13 +4,12 @@ pub mod BodyListings
 pub mod BodyRuns
 pub mod BookLoops
 pub mod Dues
+pub mod FileDues
 pub mod EntryNumbers
 pub mod Exclusions
-pub mod Fronts
 pub mod GivenNames
 pub mod GroupDues
 pub mod GroupScripts
-pub mod ListedRuns
 pub mod LiveDues
 pub mod MadeDues
 pub mod MadeTexts
@@ -22,5 +21,3 @@ pub mod SavedOpenings
 pub mod SavedScripts
 pub mod Saves
 pub mod ScriptTexts
-pub mod StoppedRuns
-pub mod TextRuns

@@ -12,7 +12,7 @@ use Rattle.machine_profile.specs.declared.Chosen.{Chosen}
 use Rattle.block_summary.specs.declared.prepared.Prepared.{Prepared}
 use Rattle.block_summary.proofs.LinePlaces.{part_len}
 use Rattle.edit_journal.specs.declared.opening.Opening.{Opening}
-use Rattle.input_answers.specs.CheckReport.{body_of}
+use Rattle.file_run.specs.Bodies.{body_of}
 use Rattle.input_answers.specs.Due.{Fits, blocks_of}
 use Rattle.input_answers.specs.DueLive.{AreBlocks, IsOpening}
 use Rattle.input_answers.specs.Openings.{AreFull, IsCut, texts_of}

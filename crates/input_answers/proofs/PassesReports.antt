@@ -2,9 +2,9 @@
 use Rattle.std.proofs.Common.{◌≡◌, ℕ, Bool, List}
 use Rattle.knit_base.specs.declared.profile.Profile.{Profile}
 use Rattle.pass_grouping.specs.declared.operation.PassOp.{PassOp}
-use Rattle.input_answers.specs.declared.judge.Judgement.{Judgement}
+use Rattle.file_run.specs.declared.judgement.Judgement.{Judgement}
 use Rattle.input_answers.specs.declared.outcome.Status.TheVariants as status
-use Rattle.input_answers.specs.BodyRun.{IsJudgement}
+use Rattle.file_run.specs.Judgements.{IsJudgement}
 use Rattle.input_answers.specs.CheckReport.{status_of}
 use Rattle.input_answers.specs.ListingRun.{ReportsPasses}
 use Rattle.input_answers.specs.PassesReport.{AreOperations, IsPassesReport}

@@ -20,7 +20,7 @@ use Rattle.edit_book.specs.Outlines.{texts_of}
 use Rattle.journal_file.specs.SavedParts.{IsFirstText, IsShortLine, numbered_from, opening_of, first_blocks}
 use Rattle.journal_file.proofs.HeadLaws.{names_known}
 use Rattle.input_answers.specs.Asked.{IsLawfulChosen}
-use Rattle.input_answers.specs.CheckReport.{body_of}
+use Rattle.file_run.specs.Bodies.{body_of}
 use Rattle.input_answers.specs.Due.{Fits, blocks_of}
 use Rattle.input_answers.specs.DueLive.{AreBlocks, IsOpening}
 use Rattle.input_answers.proofs.Openings.{blocks-count}

@@ -27,7 +27,7 @@ use Rattle.input_answers.specs.declared.live_text.LiveOutput.TheVariants.{SavedT
 use Rattle.input_answers.specs.declared.outcome.Status.{Status}
 use Rattle.input_answers.specs.declared.outcome.Status.TheVariants.{Done}
 use Rattle.input_answers.specs.Asked.{IsLawfulChosen}
-use Rattle.input_answers.specs.CheckReport.{body_of}
+use Rattle.file_run.specs.Bodies.{body_of}
 use Rattle.input_answers.specs.Due.{Fits}
 use Rattle.input_answers.specs.DueLive.{DueLive, HasScript, IsOpening, bad_line, bad_script, bad_head, too_large, edited}
 use Rattle.input_answers.specs.DueReplay.{DueReplay, bad_journal, replayed}

@@ -17,7 +17,8 @@ use Rattle.verdict_report.specs.declared.refusal.Refusal.TheVariants as refusal
 use Rattle.verdict_report.specs.Refusals.{refusal_text}
 use Rattle.input_answers.specs.declared.outcome.Status.{Status}
 use Rattle.input_answers.specs.declared.outcome.Status.TheVariants as status
-use Rattle.input_answers.specs.CheckReport.{IsCheckReport, body_of}
+use Rattle.file_run.specs.Bodies.{body_of}
+use Rattle.input_answers.specs.CheckReport.{IsCheckReport}
 use Rattle.input_answers.specs.PassesReport.{IsPassesReport}
 
 -- what is said of bytes that aren't lines; of want of memory nothing is

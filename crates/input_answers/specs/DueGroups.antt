@@ -20,7 +20,7 @@ use Rattle.verdict_report.specs.Refusals.{refusal_text}
 use Rattle.input_answers.specs.declared.outcome.GroupOutcome.{GroupOutcome}
 use Rattle.input_answers.specs.declared.outcome.Status.{Status}
 use Rattle.input_answers.specs.declared.outcome.Status.TheVariants as status
-use Rattle.input_answers.specs.CheckReport.{body_of}
+use Rattle.file_run.specs.Bodies.{body_of}
 use Rattle.input_answers.specs.Due.{Fits, IsSizeRefusal, cut_refusal, head_refusal}
 use Rattle.input_answers.specs.DueLive.{IsOpening}
 use Rattle.reply_report.specs.GroupsText.{IsGroupsReport}

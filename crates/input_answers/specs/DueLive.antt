@@ -20,7 +20,7 @@ use Rattle.verdict_report.specs.Refusals.{refusal_text}
 use Rattle.input_answers.specs.declared.live_text.LiveOutput.{LiveOutput}
 use Rattle.input_answers.specs.declared.outcome.Status.{Status}
 use Rattle.input_answers.specs.declared.outcome.Status.TheVariants as status
-use Rattle.input_answers.specs.CheckReport.{body_of, first_of}
+use Rattle.file_run.specs.Bodies.{body_of, first_of}
 use Rattle.input_answers.specs.Due.{Fits, IsSizeRefusal, cut_refusal, head_refusal}
 use Rattle.input_answers.specs.LiveText.{IsTold}
 use Rattle.input_answers.specs.Played.{Played, nothing_played}

@@ -14,7 +14,7 @@ use Rattle.verdict_report.specs.MadeText.{made_text}
 use Rattle.verdict_report.specs.Refusals.{refusal_text}
 use Rattle.input_answers.specs.declared.outcome.Status.{Status}
 use Rattle.input_answers.specs.declared.outcome.Status.TheVariants as status
-use Rattle.input_answers.specs.CheckReport.{IsJudged, body_of}
+use Rattle.file_run.specs.Bodies.{IsJudged, body_of}
 use Rattle.input_answers.specs.Due.{Fits, IsSizeRefusal, blocks_of}
 use Rattle.input_answers.specs.PassesReport.{AreFewest, AreOperations}
 

@@ -1,6 +1,6 @@
 pub mod Answers
 pub mod Asked
-pub mod BodyRun
+pub mod BookLoops
 pub mod CheckReport
 pub mod Codes
 pub mod Due
@@ -9,6 +9,7 @@ pub mod DueLive
 pub mod DueMade
 pub mod DueReplay
 pub mod DueTally
+pub mod FileRuns
 pub mod ListingRun
 pub mod LiveText
 pub mod Openings

@@ -12,7 +12,8 @@ use Rattle.pass_grouping.specs.Groupings.{IsCertificate, IsFewest, between_start
 use Rattle.pass_grouping.specs.Operations.{operations_after}
 use Rattle.verdict_report.specs.PassesText.{passes_text}
 use Rattle.input_answers.specs.declared.outcome.Status.TheVariants as status
-use Rattle.input_answers.specs.CheckReport.{IsJudged, body_of, first_of, status_of}
+use Rattle.file_run.specs.Bodies.{IsJudged, body_of, first_of}
+use Rattle.input_answers.specs.CheckReport.{status_of}
 
 -- each line of the body has the reading that the grammar gives it, and these are the carriage operations of these readings
 pub record AreOperations (profile : Profile) (names lines : List (List ℕ)) (ops : List PassOp) : Type 0 where

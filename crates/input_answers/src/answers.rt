@@ -1,23 +1,20 @@
-//! What is due for an input that was read whole.
-ghost use Rattle.std.specs.Prelude.{◌≡◌, ◌≤◌, true, All, List, ℕ, length, IfOk, IfSome, MatchOption, Some};
+//! What is due for a file whose body opens a book, and what is refused.
+ghost use Rattle.std.specs.Prelude.{◌≡◌, ◌≤◌, true, All, List, ℕ, length, IfOk, MatchOption, Some};
 ghost use Rattle.knit_base.specs.Lines.{lines_of};
 ghost use Rattle.line_cutter.specs.Cut.{IsGoodLine};
 ghost use Rattle.machine_profile.specs.Bounds.{IsBlockSize};
 ghost use Rattle.input_answers.specs.Asked.{reads_file};
-ghost use Rattle.input_answers.specs.Due.{Due, Fits, IsSizeRefusal, cut_refusal, head_refusal};
+ghost use Rattle.input_answers.specs.Due.{Due, Fits, IsSizeRefusal, checks_body, cut_refusal, head_refusal};
 
 use crate::body::Body;
 use crate::ending::Ending;
 use crate::judge::{Style, judge};
-use crate::one_pass::check_in_one_pass;
 use crate::outcome::Status;
-use crate::passes::{passes_by_lines, passes_in_one_pass};
+use crate::passes::passes_by_blocks;
 use crate::plan::Plan;
-use crate::text_pass::text_in_one_pass;
 use command_words::Command;
 use knit_base::{Lines, NoMemory};
 use knitout_reader::HeadFault;
-use knitout_writer::canonical_text;
 use line_cutter::{CutFault, cut_buffer};
 use std::alloc::Global;
 use std::thread::Threads;
@@ -28,63 +25,15 @@ const BODY_LIMIT: u32 = 1_048_576;
 
 const BLOCK_LIMIT: u32 = 65_536;
 
-/// What is due for a file that was read whole. One pass over the bytes is tried first where the words ask for no blocks, which settles
-/// nearly every file in less time and memory; what that doesn't settle goes the general way: the lines are cut, the head is read, and
-/// then the body is judged or written.
-pub fn answer<R: Threads + Sync>(
+/// What is due for a file that was read whole, whose verdict or passes are asked for by blocks: its body opens a book.
+pub fn answer_by_blocks<R: Threads + Sync>(
     rt: &R,
     alloc: Global,
     plan: &Plan,
     input: Vec<u8>,
 ) -> Result<Ending, NoMemory>
     requires size { length input.items ≤ 16777216 }
-    requires reads { reads_file plan.now.command ≡ true }
-    ensures { IfOk result (λ ending. Due plan.now.command plan.now.chosen input.items ending.text.items ending.status) }
-{
-    match answer_in_one_pass(alloc, plan, &input)? {
-        Some(ending) => Ok(ending),
-        None => answer_by_lines(rt, alloc, plan, input),
-    }
-}
-
-// The same, in one pass over the bytes. `None` says that this doesn't settle the file.
-fn answer_in_one_pass(alloc: Global, plan: &Plan, input: &[u8]) -> Result<Option<Ending>, NoMemory>
-    requires { length input.now ≤ 16777216 }
-    ensures { IfOk result (λ found. IfSome found (λ ending.
-        Due plan.now.command plan.now.chosen input.now ending.text.items ending.status)) }
-{
-    match plan.command {
-        Command::Check { loops, json } => {
-            if plan.by_blocks {
-                return Ok(None);
-            }
-            check_in_one_pass(alloc, Style { loops, json }, plan, input)
-        }
-        Command::Text => text_in_one_pass(alloc, plan, input),
-        Command::Passes => {
-            if plan.by_blocks {
-                return Ok(None);
-            }
-            passes_in_one_pass(alloc, plan, input)
-        }
-        Command::Live
-        | Command::Save
-        | Command::Groups
-        | Command::Serve { .. }
-        | Command::Replay
-        | Command::Tally { .. }
-        | Command::Make { .. } => Ok(None),
-    }
-}
-
-/// The same, in the general way.
-pub fn answer_by_lines<R: Threads + Sync>(
-    rt: &R,
-    alloc: Global,
-    plan: &Plan,
-    input: Vec<u8>,
-) -> Result<Ending, NoMemory>
-    requires size { length input.items ≤ 16777216 }
+    requires checks { checks_body plan.now.command ≡ true }
     requires reads { reads_file plan.now.command ≡ true }
     ensures { IfOk result (λ ending. Due plan.now.command plan.now.chosen input.items ending.text.items ending.status) }
 {
@@ -102,6 +51,7 @@ fn answer_lines<R: Threads + Sync>(
     lines: Lines,
 ) -> Result<Ending, NoMemory>
     requires good { All IsGoodLine lines }
+    requires checks { checks_body plan.now.command ≡ true }
     requires reads { reads_file plan.now.command ≡ true }
     ensures { IfOk result (λ ending. (input : List ℕ) → lines ≡ lines_of input
         → Due plan.now.command plan.now.chosen input ending.text.items ending.status) }
@@ -120,15 +70,16 @@ fn answer_body<R: Threads + Sync>(
     plan: &Plan,
     body: &Body,
 ) -> Result<Ending, NoMemory>
-    requires { reads_file plan.now.command ≡ true }
+    requires checks { checks_body plan.now.command ≡ true }
+    requires reads { reads_file plan.now.command ≡ true }
     ensures { IfOk result (λ ending. (input : List ℕ) → body.now.lines ≡ lines_of input
         → Due plan.now.command plan.now.chosen input ending.text.items ending.status) }
 {
     match plan.command {
         Command::Check { loops, json } => check(rt, alloc, Style { loops, json }, plan, body),
-        Command::Text => normalise(alloc, plan, body),
         Command::Passes => passes(rt, alloc, plan, body),
-        Command::Live
+        Command::Text
+        | Command::Live
         | Command::Save
         | Command::Groups
         | Command::Serve { .. }
@@ -167,20 +118,8 @@ fn passes<R: Threads + Sync>(
 {
     match refusal_of_size(body.len(), plan.chosen.block) {
         Some(refusal) => Ending::refusal(alloc, refusal, Status::TooLarge),
-        None => passes_by_lines(rt, alloc, plan, body),
+        None => passes_by_blocks(rt, alloc, plan, body),
     }
-}
-
-// The canonical text of a file with this body.
-fn normalise(alloc: Global, plan: &Plan, body: &Body) -> Result<Ending, NoMemory>
-    ensures { IfOk result (λ ending. (input : List ℕ) → body.now.lines ≡ lines_of input
-        → Due Command.Text plan.now.chosen input ending.text.items ending.status) }
-{
-    let text = canonical_text(alloc, &body.lines, &body.head, &plan.chosen.profile)?;
-    Ok(Ending {
-        status: Status::Done,
-        text,
-    })
 }
 
 /// What is said of a body with so many lines, where these are too many, or too many blocks of this size.
@@ -198,7 +137,7 @@ pub fn refusal_of_size(lines: u32, block: u32) -> Option<Refusal>
 }
 
 /// What is said of bytes that aren't lines.
-pub(crate) fn refusal_of_lines(fault: CutFault) -> Result<Refusal, NoMemory>
+pub fn refusal_of_lines(fault: CutFault) -> Result<Refusal, NoMemory>
     ensures { IfOk result (λ refusal. cut_refusal fault ≡ Some refusal) }
 {
     match fault {

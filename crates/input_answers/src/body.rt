@@ -2,7 +2,7 @@
 ghost use Rattle.std.specs.Prelude.{◌≡◌, All, IfErr, IfOk, length};
 ghost use Rattle.line_cutter.specs.Cut.{IsGoodLine};
 ghost use Rattle.knitout_reader.specs.Head.{IsHead, IsHeadFault};
-ghost use Rattle.input_answers.specs.CheckReport.{body_of};
+ghost use Rattle.file_run.specs.Bodies.{body_of};
 
 use knit_base::Lines;
 use knitout_reader::{Head, HeadFault, read_head};

@@ -10,7 +10,7 @@ ghost use Rattle.script_reader.specs.Groups.{IsGroupRefusal, IsGroupScript, is_l
 ghost use Rattle.edit_groups.specs.Chunks.{entries_of};
 ghost use Rattle.edit_groups.specs.Sessions.{IsLegalRun};
 ghost use Rattle.input_answers.specs.Answers.{IsDueGroups};
-ghost use Rattle.input_answers.specs.CheckReport.{body_of};
+ghost use Rattle.file_run.specs.Bodies.{body_of};
 ghost use Rattle.input_answers.specs.Due.{Fits};
 ghost use Rattle.input_answers.specs.DueGroups.{HasGroupScript};
 

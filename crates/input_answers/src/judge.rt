@@ -1,9 +1,8 @@
 //! The verdict on a file, and its report.
-ghost use Rattle.std.specs.Prelude.{◌≡◌, ◌<◌, ◌+◌, ◌^◌, length, IfOk, OnOk};
-ghost use Rattle.carriage_model.specs.Carriage.{IsRunning, next_line, profile_of};
+ghost use Rattle.std.specs.Prelude.{◌≡◌, length, IfOk};
 ghost use Rattle.block_summary.specs.Verdicts.{broken_line, numbered_line};
-ghost use Rattle.input_answers.specs.BodyRun.{ExecutesLine, IsJudgement};
-ghost use Rattle.input_answers.specs.CheckReport.{IsCheckReport, body_of, report_of, status_of};
+ghost use Rattle.file_run.specs.Bodies.{body_of};
+ghost use Rattle.input_answers.specs.CheckReport.{IsCheckReport, report_of, status_of};
 ghost use Rattle.input_answers.specs.Due.{Fits};
 
 use crate::body::Body;
@@ -11,9 +10,9 @@ use crate::by_book::judge_by_book;
 use crate::ending::Ending;
 use crate::outcome::Status;
 use crate::plan::Plan;
-use carriage_model::{Carriage, Facts, Verdict};
-use knit_base::{Declared, Lines, NoMemory, Profile};
-use knitout_reader::{nth_line, read_line};
+use carriage_model::Verdict;
+use file_run::Judgement;
+use knit_base::{Declared, Lines, NoMemory};
 use std::alloc::Global;
 use std::thread::Threads;
 use verdict_report::{json_of, text_of};
@@ -25,14 +24,7 @@ pub struct Style {
     pub json: bool,
 }
 
-/// What is made of a file: the verdict, and the loops made, where these are asked for.
-#[derive(Drop)]
-pub struct Judgement {
-    pub verdict: Verdict,
-    pub loops: Option<Facts>,
-}
-
-/// The report of the verdict on a file.
+/// The report of the verdict on a file, by blocks.
 pub fn judge<R: Threads + Sync>(
     rt: &R,
     alloc: Global,
@@ -44,65 +36,9 @@ pub fn judge<R: Threads + Sync>(
     ensures { IfOk result (λ ending. IsCheckReport plan.now.chosen.profile style.loops style.json body.now.head.declared body.now.lines
         ending.text.items ending.status) }
 {
-    let judgement = judge_body(rt, alloc, style.loops, plan, body)?;
+    let judgement = judge_by_book(rt, alloc, style.loops, plan, body)?;
     let broken = line_of(&body.lines, &judgement.verdict);
     report(alloc, style.json, &judgement, &body.head.declared, broken)
-}
-
-/// What the lines behind the head make: by the book, where the words say how many lines its blocks have, and else by one carriage.
-pub(crate) fn judge_body<R: Threads + Sync>(
-    rt: &R,
-    alloc: Global,
-    with_loops: bool,
-    plan: &Plan,
-    body: &Body,
-) -> Result<Judgement, NoMemory>
-    requires { Fits plan.now.chosen.block (length (body_of body.now.lines)) }
-    ensures { IfOk result (λ judgement. IsJudgement with_loops plan.now.chosen.profile body.now.head.declared body.now.lines judgement) }
-{
-    if plan.by_blocks {
-        return judge_by_book(rt, alloc, with_loops, plan, body);
-    }
-    run_body(alloc, with_loops, plan, body)
-}
-
-// What one carriage makes of the lines behind the head.
-fn run_body(
-    alloc: Global,
-    with_loops: bool,
-    plan: &Plan,
-    body: &Body,
-) -> Result<Judgement, NoMemory>
-    ensures { IfOk result (λ judgement. IsJudgement with_loops plan.now.chosen.profile body.now.head.declared body.now.lines judgement) }
-{
-    let profile = &plan.chosen.profile;
-    let head = &body.head;
-    let count = body.lines.len();
-    let mut carriage = Carriage::start(alloc, profile, head.lines + 1, with_loops)?;
-    for i in head.lines..count {
-        let line = nth_line(&body.lines, i);
-        execute_line(alloc, line, profile, &head.declared, &mut carriage)?;
-    }
-    let (verdict, loops) = carriage.finish()?;
-    Ok(Judgement { verdict, loops })
-}
-
-/// Reads a line, and executes it.
-pub(crate) fn execute_line(
-    alloc: Global,
-    line: &str,
-    profile: &Profile,
-    names: &Declared,
-    carriage: &mut Carriage,
-) -> Result<(), NoMemory>
-    requires short { length line.now < 2 ^ 16 }
-    requires running { IsRunning carriage.old }
-    requires profile { profile_of carriage.old ≡ profile.now }
-    requires lines { next_line carriage.old + 1 < 2 ^ 32 }
-    ensures { OnOk result (ExecutesLine profile.now names.now line.now carriage.old carriage.new) }
-{
-    let read = read_line(alloc, line, profile, names)?;
-    carriage.execute(&read)
 }
 
 /// The line at which the verdict is broken, or no text.

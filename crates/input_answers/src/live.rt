@@ -8,7 +8,7 @@ ghost use Rattle.knitout_reader.specs.Head.{IsHead};
 ghost use Rattle.script_reader.specs.Script.{IsRefusal, IsScript};
 ghost use Rattle.edit_sessions.specs.Laws.{IsLegal};
 ghost use Rattle.input_answers.specs.Answers.{IsDueLive};
-ghost use Rattle.input_answers.specs.CheckReport.{body_of};
+ghost use Rattle.file_run.specs.Bodies.{body_of};
 ghost use Rattle.input_answers.specs.Due.{Fits};
 ghost use Rattle.input_answers.specs.DueLive.{HasScript};
 ghost use Rattle.input_answers.specs.LiveText.{output_of};

@@ -1,37 +1,42 @@
 //! What is due for a program that is made.
-ghost use Rattle.std.specs.Prelude.{◌≡◌, ◌≤◌, ℕ, List, length, IfOk, IfSome};
+ghost use Rattle.std.specs.Prelude.{◌≡◌, ℕ, List, false, length, IfOk};
 ghost use Rattle.knit_base.specs.Lines.{lines_of};
-ghost use Rattle.knitout_reader.specs.Head.{IsHead};
+ghost use Rattle.knitout_reader.specs.declared.file_reader.FileReader.{FileReader};
 ghost use Rattle.carriage_model.specs.declared.verdict.LoopFact.{LoopFact};
 ghost use Rattle.command_words.specs.Request.{IsMake};
 ghost use Rattle.knit_maker.specs.Made.{made_lines};
-ghost use Rattle.input_answers.specs.CheckReport.{IsJudged, body_of};
+ghost use Rattle.file_run.specs.Bodies.{IsJudged, body_of};
 ghost use Rattle.input_answers.specs.Due.{Fits};
 ghost use Rattle.input_answers.specs.DueMade.{DueMade, IsMadeReport};
-ghost use Rattle.input_answers.specs.ListingRun.{AreCountedIn, IsTalliedRun};
+ghost use Rattle.pass_grouping.specs.declared.tally.Tally.{Tally};
+ghost use Rattle.pass_grouping.specs.Tallies.{HasTallied};
+ghost use Rattle.file_run.specs.declared.runner.Runner.{Runner};
+ghost use Rattle.input_answers.specs.FileRuns.{HasRunInput, HasRunLines, IsRunnerFor};
+ghost use Rattle.input_answers.specs.ListingRun.{AreCountedIn};
 ghost use Rattle.input_answers.specs.declared.outcome.Status.TheVariants.{Done};
 
 use crate::answers::refusal_of_size;
 use crate::body::Body;
+use crate::by_book::judge_by_book;
 use crate::ending::Ending;
-use crate::front::head_in_front;
-use crate::judge::judge_body;
+use crate::file_outcome::runner;
 use crate::operation_list::operations_of_body;
 use crate::outcome::Status;
 use crate::passes::grouping_of;
 use crate::plan::Plan;
-use crate::tallied_run::{TalliedRun, run_and_tally};
 use carriage_model::Verdict;
+use file_run::Runner;
 use knit_base::{Lines, NoMemory};
 use knit_maker::{make, make_text};
-use knitout_reader::{Head, HeadFault};
-use pass_grouping::Counts;
+use knitout_reader::{FileReader, HeadFault};
+use line_cutter::{CutFault, LineTaker};
+use pass_grouping::{Counts, Tally};
 use std::alloc::Global;
 use std::thread::Threads;
 use verdict_report::made_of;
 
 /// What is due for a made program of so many rows, whose width and transfers follow from `start`: its file is made, checked as a file would be, and grouped
-/// into passes. One pass over the bytes is tried first, as for a file that is read.
+/// into passes.
 pub fn answer_made<R: Threads + Sync>(
     rt: &R,
     alloc: Global,
@@ -43,59 +48,56 @@ pub fn answer_made<R: Threads + Sync>(
     ensures { IfOk result (λ ending. DueMade plan.now.chosen rows start ending.text.items ending.status) }
 {
     if plan.by_blocks {
-        return made_by_lines(rt, alloc, plan, rows, start);
+        return made_by_blocks(rt, alloc, plan, rows, start);
     }
     let text = make_text(alloc, rows, start)?;
-    match made_in_one_pass(alloc, plan, &text)? {
-        Some(ending) => Ok(ending),
-        None => made_by_lines(rt, alloc, plan, rows, start),
+    let mut reader = runner::<Tally>(plan, false);
+    match reader.take_lines(alloc, &text) {
+        Ok(()) => made_of_reader(alloc, plan, reader),
+        Err(CutFault::NoMemory) => Err(NoMemory),
+        Err(_) => unreachable!(),
     }
 }
 
-// What is due for a program with this file. `None` says that one pass over its bytes doesn't settle it.
-fn made_in_one_pass(alloc: Global, plan: &Plan, text: &[u8]) -> Result<Option<Ending>, NoMemory>
-    requires { length text.now ≤ 16777216 }
-    ensures { IfOk result (λ found. IfSome found (λ ending. (rows start : ℕ) → lines_of text.now ≡ made_lines rows start
-        → DueMade plan.now.chosen rows start ending.text.items ending.status)) }
-{
-    let Some(head) = head_in_front(alloc, text)? else {
-        return Ok(None);
-    };
-    let Some(both) = run_and_tally(alloc, plan, text, &head)? else {
-        return Ok(None);
-    };
-    match refusal_of_size(both.run.lines - head.lines, plan.chosen.block) {
-        Some(refusal) => Ok(Some(Ending::refusal(alloc, refusal, Status::TooLarge)?)),
-        None => made_of_run(alloc, plan, text, &head, &both),
-    }
-}
-
-// The same where the body isn't too large, and one carriage makes this of it.
-fn made_of_run(
+// What is due for a made program whose lines the reader has taken.
+fn made_of_reader(
     alloc: Global,
     plan: &Plan,
-    text: &[u8],
-    head: &Head,
-    both: &TalliedRun,
-) -> Result<Option<Ending>, NoMemory>
-    requires size { length text.now ≤ 16777216 }
-    requires head { IsHead (lines_of text.now) head.now }
-    requires both { IsTalliedRun plan.now.chosen.profile head.now.declared text.now both.now }
-    requires fits { Fits plan.now.chosen.block (length (body_of (lines_of text.now))) }
-    ensures { IfOk result (λ found. IfSome found (λ ending. (rows start : ℕ) → lines_of text.now ≡ made_lines rows start
-        → DueMade plan.now.chosen rows start ending.text.items ending.status)) }
+    reader: FileReader<Runner<Tally>>,
+) -> Result<Ending, NoMemory>
+    requires taken { HasRunInput Tally HasTallied reader }
+    requires made { (start : FileReader (Runner Tally)) × (input : List ℕ) × (rows : ℕ) × (first : ℕ)
+        × (lines_of input ≡ made_lines rows first) × HasRunLines Tally HasTallied (lines_of input) start reader }
+    ensures { IfOk result (λ ending. (begun : FileReader (Runner Tally)) (input : List ℕ) (rows start : ℕ)
+        → lines_of input ≡ made_lines rows start
+        → IsRunnerFor Tally false plan.now.chosen begun → HasRunLines Tally HasTallied (lines_of input) begun reader
+        → DueMade plan.now.chosen rows start ending.text.items ending.status) }
 {
-    let Some(counts) = both.counts else {
-        return Ok(None);
+    let file = match reader.finish(alloc) {
+        Ok(file) => file,
+        Err(HeadFault::NoMemory) => return Err(NoMemory),
+        Err(_) => unreachable!(),
     };
-    let run = &both.run;
-    let body = run.lines - head.lines;
-    let ending = summarise(alloc, plan, run.lines, body, &run.judgement.verdict, counts)?;
-    Ok(Some(ending))
+    let body = file.lines - file.head.lines;
+    if let Some(refusal) = refusal_of_size(body, plan.chosen.block) {
+        let ending = Ending::refusal(alloc, refusal, Status::TooLarge)?;
+        return Ok(ending);
+    }
+    let run = file.work.finish()?;
+    let counts = run.taker.counts();
+    let ending = summarise(
+        alloc,
+        plan,
+        file.lines,
+        body,
+        &run.judgement.verdict,
+        counts,
+    )?;
+    Ok(ending)
 }
 
-// What is due for a made program, in the general way.
-fn made_by_lines<R: Threads + Sync>(
+// What is due for a made program whose body opens a book.
+fn made_by_blocks<R: Threads + Sync>(
     rt: &R,
     alloc: Global,
     plan: &Plan,
@@ -139,7 +141,7 @@ fn made_of_body<R: Threads + Sync>(
     ensures report { IfOk result (λ ending. IsMadeReport plan.now.chosen.profile plan.now.chosen.block body.now.head.declared body.now.lines ending.text.items) }
     ensures status { IfOk result (λ ending. ending.status ≡ Done) }
 {
-    let judgement = judge_body(rt, alloc, false, plan, body)?;
+    let judgement = judge_by_book(rt, alloc, false, plan, body)?;
     let ops = operations_of_body(alloc, plan, body)?;
     let grouping = grouping_of(alloc, &ops)?;
     let counts = Counts {
@@ -162,7 +164,8 @@ fn summarise(
     verdict: &Verdict,
     counts: Counts,
 ) -> Result<Ending, NoMemory>
-    ensures report { IfOk result (λ ending. (names lines : List (List ℕ)) (loops : List LoopFact) → count ≡ length lines → behind ≡ length (body_of lines)
+    ensures report { IfOk result (λ ending. (names lines : List (List ℕ)) (loops : List LoopFact) → count ≡ length lines
+        → behind ≡ length (body_of lines)
         → IsJudged plan.now.chosen.profile names lines verdict.now loops → AreCountedIn plan.now.chosen.profile names lines counts
         → IsMadeReport plan.now.chosen.profile plan.now.chosen.block names lines ending.text.items) }
     ensures status { IfOk result (λ ending. ending.status ≡ Done) }

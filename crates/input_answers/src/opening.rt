@@ -5,7 +5,7 @@ ghost use Rattle.knit_base.specs.Limits.{IsLawfulProfile};
 ghost use Rattle.knitout_reader.specs.Head.{IsHead};
 ghost use Rattle.machine_profile.specs.Bounds.{IsBlockSize};
 ghost use Rattle.block_summary.specs.Prepared.{IsPreparedFor};
-ghost use Rattle.input_answers.specs.CheckReport.{body_of};
+ghost use Rattle.file_run.specs.Bodies.{body_of};
 ghost use Rattle.input_answers.specs.Due.{Fits};
 ghost use Rattle.input_answers.specs.DueLive.{IsOpening};
 ghost use Rattle.input_answers.specs.Openings.{IsCut, texts_of};

@@ -1,89 +1,60 @@
 //! The passes of a file.
-ghost use Rattle.std.specs.Prelude.{◌≡◌, ◌≤◌, ℕ, List, length, IfOk, IfSome};
+ghost use Rattle.std.specs.Prelude.{◌≡◌, ℕ, List, false, length, IfOk};
 ghost use Rattle.knit_base.specs.Lines.{lines_of};
-ghost use Rattle.knitout_reader.specs.Head.{IsHead};
+ghost use Rattle.pass_grouping.specs.declared.listing.Listing.{Listing};
+ghost use Rattle.pass_grouping.specs.Listings.{HasListed};
+ghost use Rattle.machine_profile.specs.declared.Chosen.{Chosen};
 ghost use Rattle.command_words.specs.declared.command.Command.{Command};
-ghost use Rattle.input_answers.specs.CheckReport.{body_of};
+ghost use Rattle.file_run.specs.Bodies.{body_of};
 ghost use Rattle.input_answers.specs.Due.{Due, Fits};
-ghost use Rattle.input_answers.specs.ListingRun.{IsListedRun, ReportsPasses};
+ghost use Rattle.input_answers.specs.FileRuns.{IsFileRun};
+ghost use Rattle.input_answers.specs.ListingRun.{ReportsPasses};
 ghost use Rattle.input_answers.specs.PassesReport.{AreFewest};
 ghost use Rattle.input_answers.specs.declared.outcome.Status.TheVariants.{Done};
 
-use crate::answers::refusal_of_size;
 use crate::body::Body;
+use crate::by_book::judge_by_book;
 use crate::ending::Ending;
-use crate::front::head_in_front;
-use crate::judge::{judge_body, line_of, report};
-use crate::listed_run::{ListedRun, run_and_list};
+use crate::file_answers::text_of;
+use crate::file_outcome::FileRun;
+use crate::judge::{line_of, report};
 use crate::operation_list::operations_of_body;
 use crate::outcome::Status;
 use crate::plan::Plan;
 use carriage_model::Verdict;
+use file_run::Run;
 use knit_base::{Declared, NoMemory};
-use knitout_reader::Head;
-use pass_grouping::{Grouping, PassOps, check_certificate, group};
+use pass_grouping::{Grouping, Listing, PassOps, check_certificate, group};
 use std::alloc::Global;
 use std::thread::Threads;
 use verdict_report::passes_of;
 
-/// What is due for a text whose passes are asked for. `None` says that one pass over its bytes doesn't settle it.
-pub fn passes_in_one_pass(
-    alloc: Global,
-    plan: &Plan,
-    text: &[u8],
-) -> Result<Option<Ending>, NoMemory>
-    requires { length text.now ≤ 16777216 }
-    ensures { IfOk result (λ found. IfSome found (λ ending.
-        Due Command.Passes plan.now.chosen text.now ending.text.items ending.status)) }
+/// What is due for the passes of a file that was carried out.
+pub(crate) fn passes_of_run(alloc: Global, file: FileRun<Listing>) -> Result<Ending, NoMemory>
+    ensures { IfOk result (λ ending. (chosen : Chosen) (input : List ℕ) → IsFileRun Listing HasListed false chosen input file
+        → Due Command.Passes chosen input ending.text.items ending.status) }
 {
-    let Some(head) = head_in_front(alloc, text)? else {
-        return Ok(None);
-    };
-    let Some(both) = run_and_list(alloc, plan, text, &head)? else {
-        return Ok(None);
-    };
-    match refusal_of_size(both.run.lines - head.lines, plan.chosen.block) {
-        Some(refusal) => Ok(Some(Ending::refusal(alloc, refusal, Status::TooLarge)?)),
-        None => passes_of_run(alloc, plan, text, &head, &both),
-    }
-}
-
-// What is due for the passes of a text with this head, of which one carriage makes this.
-fn passes_of_run(
-    alloc: Global,
-    plan: &Plan,
-    text: &[u8],
-    head: &Head,
-    both: &ListedRun,
-) -> Result<Option<Ending>, NoMemory>
-    requires size { length text.now ≤ 16777216 }
-    requires head { IsHead (lines_of text.now) head.now }
-    requires both { IsListedRun plan.now.chosen.profile head.now.declared text.now both.now }
-    requires fits { Fits plan.now.chosen.block (length (body_of (lines_of text.now))) }
-    ensures { IfOk result (λ found. IfSome found (λ ending.
-        Due Command.Passes plan.now.chosen text.now ending.text.items ending.status)) }
-{
-    let judgement = &both.run.judgement;
+    let Run {
+        judgement,
+        broken,
+        taker,
+    } = file.run;
+    let names = &file.head.declared;
     match &judgement.verdict {
         Verdict::Broken(_) => {
-            let Some(broken) = crate::one_pass::line_of(text, &judgement.verdict) else {
-                return Ok(None);
-            };
-            let told = report(alloc, false, judgement, &head.declared, broken)?;
-            Ok(Some(told))
+            let told = report(alloc, false, &judgement, names, text_of(&broken))?;
+            Ok(told)
         }
         Verdict::Sound(_) => {
-            let Some(ops) = &both.ops else {
-                return Ok(None);
-            };
-            let grouped = report_passes_of(alloc, ops, &head.declared)?;
-            Ok(Some(grouped))
+            let ops = taker.finish();
+            let grouped = report_passes_of(alloc, &ops, names)?;
+            Ok(grouped)
         }
     }
 }
 
-/// What is due for the passes of a file with this body, in the general way.
-pub fn passes_by_lines<R: Threads + Sync>(
+/// What is due for the passes of a file with this body, whose verdict is that of a book.
+pub fn passes_by_blocks<R: Threads + Sync>(
     rt: &R,
     alloc: Global,
     plan: &Plan,
@@ -94,7 +65,7 @@ pub fn passes_by_lines<R: Threads + Sync>(
         → Due Command.Passes plan.now.chosen input ending.text.items ending.status) }
 {
     let names = &body.head.declared;
-    let judgement = judge_body(rt, alloc, false, plan, body)?;
+    let judgement = judge_by_book(rt, alloc, false, plan, body)?;
     match &judgement.verdict {
         Verdict::Broken(_) => {
             let broken = line_of(&body.lines, &judgement.verdict);

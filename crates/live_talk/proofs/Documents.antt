@@ -4,7 +4,7 @@ use Rattle.std.specs.Prelude.{Result, Ok, Err}
 use Rattle.knit_ports.specs.WholeLines.{with_feed}
 use Rattle.edit_journal.specs.declared.opening.Opening.{Opening}
 use Rattle.input_answers.specs.Asked.{as_json}
-use Rattle.input_answers.specs.CheckReport.{body_of}
+use Rattle.file_run.specs.Bodies.{body_of}
 use Rattle.input_answers.specs.Due.{Fits}
 use Rattle.input_answers.specs.DueLive.{IsOpening}
 use Rattle.input_answers.specs.DueReplay.{journal_refusal}

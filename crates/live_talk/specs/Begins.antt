@@ -4,7 +4,7 @@ use Rattle.edit_groups.specs.Chunks.{earlier_steps}
 use Rattle.edit_journal.specs.declared.edit.Entry.{Entry}
 use Rattle.edit_journal.specs.declared.opening.Opening.{Opening}
 use Rattle.input_answers.specs.Asked.{as_json}
-use Rattle.input_answers.specs.CheckReport.{body_of}
+use Rattle.file_run.specs.Bodies.{body_of}
 use Rattle.input_answers.specs.Due.{IsSizeRefusal, head_refusal}
 use Rattle.input_answers.specs.DueReplay.{journal_refusal}
 use Rattle.input_answers.specs.declared.outcome.Status.{Status}

@@ -36,7 +36,7 @@ use Rattle.verdict_report.specs.Refusals.{refusal_text}
 use Rattle.verdict_report.specs.VerdictText.{Text}
 use Rattle.input_answers.specs.declared.outcome.Status.{Status}
 use Rattle.input_answers.specs.declared.outcome.Status.TheVariants as status
-use Rattle.input_answers.specs.CheckReport.{body_of}
+use Rattle.file_run.specs.Bodies.{body_of}
 use Rattle.input_answers.specs.Due.{Fits, IsSizeRefusal, head_refusal}
 use Rattle.input_answers.specs.DueLive.{IsOpening}
 use Rattle.input_answers.specs.DueReplay.{journal_refusal}

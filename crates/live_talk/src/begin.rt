@@ -4,7 +4,7 @@ ghost use Rattle.knit_base.specs.Limits.{IsLawfulProfile};
 ghost use Rattle.knit_ports.specs.WholeLines.{with_feed};
 ghost use Rattle.edit_journal.specs.declared.opening.Opening.{Opening};
 ghost use Rattle.input_answers.specs.Asked.{as_json};
-ghost use Rattle.input_answers.specs.CheckReport.{body_of};
+ghost use Rattle.file_run.specs.Bodies.{body_of};
 ghost use Rattle.input_answers.specs.Due.{Fits};
 ghost use Rattle.input_answers.specs.DueLive.{IsOpening};
 ghost use Rattle.journal_file.specs.SavedParts.{IsLawfulSaved, opening_of};

@@ -1,5 +1,5 @@
 use Rattle.std.proofs.lemmas.Result.{IfOk-weaker}
-use Rattle.command_words.specs.declared.command.Command.TheVariants.{Check, Text, Passes}
+use Rattle.command_words.specs.declared.command.Command.TheVariants.{Check, Passes}
 use Rattle.input_answers.proofs.Dues.{due-for}
 use Rattle.input_answers.proofs.answers.answer_body.Goals as goal
 
@@ -9,12 +9,6 @@ returns-in-Check g c =
     (λ ending due input are.
     due-for c.args.plan.now.command (Check c.in-Check.loops c.in-Check.json) c.args.plan.now.chosen input ending.text.items ending.status c.in-Check.is (due input are))
     c.check.ensures
-
-pub returns-in-Text : goal.returns-in-Text
-returns-in-Text g c =
-    IfOk-weaker c.normalise.result _ _
-    (λ ending due input are. due-for c.args.plan.now.command Text c.args.plan.now.chosen input ending.text.items ending.status c.in-Text.is (due input are))
-    c.normalise.ensures
 
 pub returns-in-Passes : goal.returns-in-Passes
 returns-in-Passes g c =

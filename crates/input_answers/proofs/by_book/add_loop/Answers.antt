@@ -5,7 +5,7 @@ use Rattle.carriage_model.specs.declared.verdict.LoopFact.{LoopFact}
 use Rattle.edit_journal.specs.Documents.{body as document_lines}
 use Rattle.edit_book.specs.Books.{document}
 use Rattle.edit_book.specs.Verdicts.{setting_of}
-use Rattle.input_answers.specs.BodyRun.{AreLoopsOn}
+use Rattle.input_answers.specs.BookLoops.{AreLoopsOn}
 use Rattle.input_answers.proofs.BookLoops.{loop_told}
 use Rattle.input_answers.proofs.by_book.add_loop.Goals as goal
 

@@ -3,7 +3,7 @@ use Rattle.carriage_model.specs.declared.verdict.LoopFact.{LoopFact}
 use Rattle.edit_journal.specs.Documents.{body}
 use Rattle.edit_book.specs.Books.{document}
 use Rattle.edit_book.specs.Verdicts.{setting_of}
-use Rattle.input_answers.specs.BodyRun.{AreLoopsOn}
+use Rattle.input_answers.specs.BookLoops.{AreLoopsOn}
 use Rattle.input_answers.proofs.BookLoops.{facts_from}
 use Rattle.input_answers.proofs.by_book.loops_of.Given as goal
 

@@ -1,6 +1,6 @@
 use Rattle.std.proofs.Common.{◌≡◌, ◌∙◌, ap, arith, length}
 use Rattle.verdict_report.specs.MadeText.{made_text}
-use Rattle.input_answers.specs.CheckReport.{body_of}
+use Rattle.file_run.specs.Bodies.{body_of}
 use Rattle.input_answers.specs.Due.{blocks_of}
 use Rattle.input_answers.proofs.BlockCounts.{blocks-ceil}
 use Rattle.input_answers.proofs.made.summarise.Goals as goal

@@ -1,5 +1,5 @@
 use Rattle.std.proofs.Common.{◌≡◌, ◌∙◌, ℕ, List, length, ap, subst, sym}
-use Rattle.input_answers.specs.CheckReport.{body_of}
+use Rattle.file_run.specs.Bodies.{body_of}
 use Rattle.input_answers.specs.Due.{Fits, IsSizeRefusal}
 use Rattle.knitout_reader.specs.Head.{IsHead, IsHeadFault}
 use Rattle.live_talk.specs.Begins.{bad_head, too_large}
