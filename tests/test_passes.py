@@ -70,7 +70,7 @@ window 8-10
 window 10-11
 """
 
-# A head that is longer than the front of the file goes the general way.
+# A head may have any length.
 LONG_HEAD = b";!knitout-2\n;;Carriers: 1\n" + b"; long\n" * 2_000 + b"in 1\nknit + f1 1\nknit + f2 1\n"
 LONG_HEAD_PASSES = b"""\
 passes 1 operations 2 windows 0 checked

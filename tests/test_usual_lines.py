@@ -1,5 +1,5 @@
 """Tests of lines that are nearly usual on the program check_main. Plain knits, tucks and transfers are read at once, straight from their
-bytes, and every other line by the whole grammar: in one pass over the file, by lines and in blocks the same is said of each.
+bytes, and every other line by the whole grammar: line by line and in blocks the same is said of each.
 
 `python3 -m unittest discover tests` runs them, on the check_main that TEKHVUMO_PROGRAM names or that is found.
 """
