@@ -5,6 +5,8 @@ import unittest
 
 from program import Answer, answer_of
 
+LINE_LIMIT = 4_096
+
 
 class EachWay(unittest.TestCase):
     def answer(self, *words: str, given: bytes, sizes: tuple[str, ...] = ("1", "64")) -> Answer:

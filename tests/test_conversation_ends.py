@@ -250,6 +250,8 @@ class Memory(unittest.TestCase):
             try:
                 reply = served.ask(put(block, lines, session))
             except (Gone, BrokenPipeError):
+                # (it has closed its pipes, and ends)
+                served.child.wait(timeout=60)
                 break
             frame = b"session %d %d " % (session, numbers[session])
             if reply == frame + b"nomemory":
