@@ -82,27 +82,28 @@ impl Carriage {
         }
     }
 
-    /// Carries out the next line, if no loops are kept, floats have no limit and it breaks no rule, or passes it over behind a line
-    /// that broke one. `false` says that the line is to be carried out by another call, and that nothing was done.
+    /// Carries out the next line, where none broke a rule yet, if no loops are kept, floats have no limit and it breaks no rule.
+    /// `false` says that the line is to be carried out by another call, and that nothing was done.
     #[inline(always)]
     pub fn carry_usual(&mut self, usual: Usual) -> Result<bool, NoMemory>
         requires running { IsRunning self.old }
         requires lawful { (carriers : ℕ) × (carriers ≤ 64) × IsLawfulRead (profile_of self.old) carriers (usual_read usual) }
         requires lines { next_line self.old + 1 < 2 ^ 32 }
-        ensures over { IfOk result (λ over. over ≡ true → (profile : Profile) (with_loops : Bool) (first : ℕ) (reads : List Read)
-            → HasRun profile with_loops first reads self.old → HasRun profile with_loops first (reads ++ usual_read usual ∷ []) self.new) }
+        requires going { is_stopped self.old ≡ false }
+        ensures over { IfOk result (λ over. over ≡ true → RanOn (usual_read usual) self.old self.new) }
+        ensures going { IfOk result (λ over. over ≡ true → is_stopped self.new ≡ false) }
         ensures same { IfOk result (λ over. over ≡ false → self.new ≡ self.old) }
-        ensures err { OnErr result ((profile : Profile) (with_loops : Bool) (first : ℕ) (reads : List Read)
-            → HasRun profile with_loops first reads self.old → HasRun profile with_loops first reads self.new) }
+        ensures err { OnErr result (RunsAsBefore self.old self.new) }
     {
-        if self.is_stopped() {
-            self.lines += 1;
-            return Ok(true);
-        }
         if !self.is_plain {
             return Ok(false);
         }
-        self.carry_allowed(usual)
+        if !self.machine.allows(&self.profile, usual) {
+            return Ok(false);
+        }
+        let line = self.first + self.lines;
+        self.go_over_plain(line, usual)?;
+        Ok(true)
     }
 
     /// The same, whether or not loops are kept or floats have a limit. It belongs out of the caller's loop, where lines whose loops
@@ -188,26 +189,6 @@ impl Carriage {
         self.made += loops_of(read);
         self.lines += 1;
         Ok(())
-    }
-
-    // Carries out the next line, if it breaks no rule, where no loops are kept and floats have no limit.
-    #[inline(always)]
-    fn carry_allowed(&mut self, usual: Usual) -> Result<bool, NoMemory>
-        requires running { IsRunning self.old }
-        requires lawful { (carriers : ℕ) × (carriers ≤ 64) × IsLawfulRead (profile_of self.old) carriers (usual_read usual) }
-        requires lines { next_line self.old + 1 < 2 ^ 32 }
-        requires going { is_stopped self.old ≡ false }
-        requires plain { self.old.is_plain ≡ true }
-        ensures over { IfOk result (λ over. over ≡ true → RanOn (usual_read usual) self.old self.new) }
-        ensures same { IfOk result (λ over. over ≡ false → self.new ≡ self.old) }
-        ensures err { OnErr result (RunsAsBefore self.old self.new) }
-    {
-        if !self.machine.allows(&self.profile, usual) {
-            return Ok(false);
-        }
-        let line = self.first + self.lines;
-        self.go_over_plain(line, usual)?;
-        Ok(true)
     }
 
     // Carries out a line that breaks no rule, if most lines say the like, no loops are kept and floats have no limit.

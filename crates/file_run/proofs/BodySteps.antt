@@ -1,7 +1,8 @@
 -- The steps of a runner over the lines of a file.
-use Rattle.std.proofs.Common.{◌≡◌, ◌⊎◌, ⊎_elim, ℕ, ◌+◌, ◌-◌, ◌<◌, ◌≤◌, Bool, true, List, [], ◌∷◌, ◌++◌, length, take, drop, get_or, All, refl, ap, sym, subst, ◌∙◌, arith, append_assoc, append-nil, length-append, length-drop}
+use Rattle.std.proofs.Common.{◌≡◌, ◌⊎◌, ⊎_elim, ℕ, ◌+◌, ◌-◌, ◌<◌, ◌≤◌, Bool, true, false, is_some, List, [], ◌∷◌, ◌++◌, length, take, drop, get_or, All, refl, ap, sym, subst, ◌∙◌, arith, append_assoc, append-nil, length-append, length-drop}
 use Rattle.std.specs.List.{AllZip}
 use Rattle.std.specs.Prelude.{Option, Some, Result, Ok, Err, OnOk}
+use Rattle.std.proofs.lemmas.Bool.{true≢false}
 use Rattle.std.proofs.lemmas.List.{drop-append-le, drop-drop, length-take, take-append-drop, take_all, take_more}
 use Rattle.std.proofs.lemmas.List.Elements.{All-append}
 use Rattle.std.proofs.lemmas.Slice.Zip.{AllZip-long}
@@ -21,9 +22,11 @@ use Rattle.knitout_reader.proofs.BodyReadings.{zip-append}
 use Rattle.knitout_reader.proofs.SomeReading.{each-reads}
 use Rattle.carriage_model.specs.declared.verdict.LoopFact.{LoopFact}
 use Rattle.carriage_model.specs.declared.verdict.Verdict.{Verdict}
-use Rattle.carriage_model.specs.Carriage.{HasRun, IsRunning, RanOn, TellsRun, is_stopped, next_line}
+use Rattle.carriage_model.specs.declared.carriage.Carriage.{Carriage}
+use Rattle.carriage_model.specs.declared.verdict.Verdict.TheVariants.{Broken, Sound}
+use Rattle.carriage_model.specs.Carriage.{HasRun, IsRunning, RanOn, StandsAfter, TellsRun, is_stopped, next_line}
 use Rattle.carriage_model.specs.Loops.{loops_asked, loops_made}
-use Rattle.carriage_model.specs.Run.{run}
+use Rattle.carriage_model.specs.Run.{Ended, Ends, Stops, run}
 use Rattle.carriage_model.specs.State.{empty_state}
 use Rattle.carriage_model.specs.Verdict.{IsVerdict}
 use Rattle.file_run.specs.declared.body_run.BodyRun.{BodyRun}
@@ -31,8 +34,8 @@ use Rattle.file_run.specs.declared.judgement.Judgement.{Judgement}
 use Rattle.file_run.specs.declared.judgement.Run.{Run}
 use Rattle.file_run.specs.Bodies.{body_of, first_of}
 use Rattle.file_run.specs.Judgements.{IsJudgement}
-use Rattle.file_run.specs.Runs.{CarriesOut, HasRunBody, HasTakenAll, IsKeptText, IsRefusedHere, IsRun, KeepsBroken, PassesOver, TakesAnyMore, Taking}
-use Rattle.file_run.proofs.BrokenLines.{kept-broken, kept-more, kept-over}
+use Rattle.file_run.specs.Runs.{CarriesOut, HasRunBody, HasTakenAll, HasTakenSound, IsKeptText, IsRefusedHere, IsRun, KeepsBroken, PassesOver, Taking}
+use Rattle.file_run.proofs.BrokenLines.{kept-broken, kept-more, kept-over, still-stopped}
 
 module _ (T : Type 0) (Has : Taking T) where
   -- how many lines were read
@@ -46,9 +49,14 @@ module _ (T : Type 0) (Has : Taking T) where
 
   -- the number of the next line that is taken, where it is no more than it may be
   pub next-taken : (Next : T → ℕ) → ((first : ℕ) (reads : List Read) (taker : T) → Has first reads taker → Next taker ≤ first + length reads)
-      → (with_loops : Bool) (head : Head) (lines : List (List ℕ)) (body : BodyRun T) → HasRunBody T Has with_loops head lines body → Next body.taker ≤ length lines + 1
-  next-taken Next counted with_loops head lines body here =
-      omega (arith, counted (head.lines + 1) here.readings body.taker here.taken, read-count with_loops head lines body here)
+      → (with_loops : Bool) (head : Head) (lines : List (List ℕ)) (body : BodyRun T) → HasRunBody T Has with_loops head lines body → is_stopped body.carriage ≡ false → Next body.taker ≤ length lines + 1
+  next-taken Next counted with_loops head lines body here going =
+      omega (arith, counted (head.lines + 1) here.readings body.taker (here.taken going), read-count with_loops head lines body here)
+
+  -- what takes the readings is ready for one more
+  pub is-taking : (with_loops : Bool) (head : Head) (lines : List (List ℕ)) (body : BodyRun T) → HasRunBody T Has with_loops head lines body → is_stopped body.carriage ≡ false
+      → (first : ℕ) × (reads : List Read) × Has first reads body.taker
+  is-taking with_loops head lines body here going = (head.lines + 1, here.readings, here.taken going)
 
   -- the carriage is ready for a line more
   pub is-running : (with_loops : Bool) (head : Head) (lines : List (List ℕ)) (body : BodyRun T) → HasRunBody T Has with_loops head lines body → IsRunning body.carriage
@@ -57,11 +65,11 @@ module _ (T : Type 0) (Has : Taking T) where
 
   -- one line was read, carried out and taken
   pub carries-out : (head : Head) (text : List ℕ) (start next : ℕ) (line : List ℕ) (r : Read) (old new : BodyRun T)
-      → StandsAt text start line next → ReadsAs old.profile head.declared line r → new.profile ≡ old.profile → new.names ≡ old.names
+      → is_stopped old.carriage ≡ false → StandsAt text start line next → ReadsAs old.profile head.declared line r → new.profile ≡ old.profile → new.names ≡ old.names
       → RanOn r old.carriage new.carriage → ((first : ℕ) (reads : List Read) → Has first reads old.taker → Has first (reads ++ r ∷ []) new.taker)
       → KeepsBroken new.carriage.fault old.broken line new.broken
       → CarriesOut T Has head text start next old new
-  carries-out head text start next line r old new stands reads same same_names ran takes keeps = record {
+  carries-out head text start next line r old new going stands reads same same_names ran takes keeps = record {
     line = line;
     stands = stands;
     same_profile = same;
@@ -76,7 +84,7 @@ module _ (T : Type 0) (Has : Taking T) where
           readings = here.readings ++ r ∷ [];
           read = subst (λ p. AllZip (ReadsAs p head.declared) (drop head.lines (lines ++ line ∷ [])) (here.readings ++ r ∷ [])) (sym same) read;
           ran = subst (λ p. HasRun p with_loops (head.lines + 1) (here.readings ++ r ∷ []) new.carriage) (sym same) after;
-          taken = takes (head.lines + 1) here.readings here.taken;
+          taken = λ on. takes (head.lines + 1) here.readings (here.taken going);
           names = subst (AreByteNames head.declared) (sym same_names) here.names;
           broken = kept-more old.profile with_loops (head.lines + 1) here.readings r lines line old.carriage new.carriage old.broken new.broken here.ran after
               (omega (arith, read-count with_loops head lines old here)) here.broken keeps;
@@ -84,12 +92,12 @@ module _ (T : Type 0) (Has : Taking T) where
   }
 
   -- lines behind the one that broke a rule were passed over
-  pub passes-over : (lines : List (List ℕ)) (count : ℕ) (old new : BodyRun T) → length lines ≡ count → is_stopped old.carriage ≡ true → TakesAnyMore T Has old.taker
-      → new.profile ≡ old.profile → new.names ≡ old.names → new.taker ≡ old.taker → new.broken ≡ old.broken
+  pub passes-over : (lines : List (List ℕ)) (count : ℕ) (old new : BodyRun T) → length lines ≡ count → is_stopped old.carriage ≡ true
+      → new.profile ≡ old.profile → new.names ≡ old.names → new.broken ≡ old.broken
       → ((profile : Profile) (with_loops : Bool) (first : ℕ) (reads more : List Read) → length more ≡ count → HasRun profile with_loops first reads old.carriage
       → HasRun profile with_loops first (reads ++ more) new.carriage)
       → PassesOver T Has lines old new
-  passes-over lines count old new counted stopped idle same same_names same_taker same_broken over = record {
+  passes-over lines count old new counted stopped same same_names same_broken over = record {
     same_profile = same;
     ran = λ with_loops head before here.
         let rest = each-reads old.profile head.declared lines in
@@ -104,7 +112,7 @@ module _ (T : Type 0) (Has : Taking T) where
           readings = here.readings ++ rest.0;
           read = subst (λ p. AllZip (ReadsAs p head.declared) (drop head.lines (before ++ lines)) (here.readings ++ rest.0)) (sym same) read;
           ran = subst (λ p. HasRun p with_loops (head.lines + 1) (here.readings ++ rest.0) new.carriage) (sym same) after;
-          taken = subst (Has (head.lines + 1) (here.readings ++ rest.0)) (sym same_taker) (idle (head.lines + 1) here.readings rest.0 here.taken);
+          taken = λ on. absurd (true≢false (sym (still-stopped old.profile with_loops (head.lines + 1) here.readings rest.0 old.carriage new.carriage here.ran after stopped) ∙ on));
           names = subst (AreByteNames head.declared) (sym same_names) here.names;
           broken = kept-over old.profile with_loops (head.lines + 1) here.readings rest.0 before lines old.carriage new.carriage new.broken here.ran after stopped
               (subst (λ kept. IsKeptText before old.carriage.fault kept) (sym same_broken) here.broken);
@@ -174,6 +182,13 @@ module _ (T : Type 0) (Has : Taking T) where
             (over.ran with_loops head (lines ++ take count (lines_of text)) (here.ran with_loops lines len was)),
       )
 
+  -- what took the lines is told of where the verdict is sound
+  taken_by : (profile : Profile) (names lines : List (List ℕ)) (taker : T) (count : ℕ) (verdict : Verdict) (ended : Ended) (loops : List LoopFact) (carriage : Carriage) → StandsAfter carriage ended
+      → IsVerdict count verdict ended loops → (is_stopped carriage ≡ false → HasTakenAll T Has profile names lines taker) → HasTakenSound T Has profile names lines taker verdict
+  taken_by profile names lines taker count (Sound final) (Ends s) loops carriage stands is taken = taken (ap is_some stands.0)
+  taken_by profile names lines taker count (Sound final) (Stops s fault) loops carriage stands is taken = absurd is
+  taken_by profile names lines taker count (Broken fault) ended loops carriage stands is taken = tt
+
   -- what was made of all lines
   pub comes-to : (with_loops : Bool) (head : Head) (lines : List (List ℕ)) (body : BodyRun T) (verdict : Verdict) (loops : Option (List LoopFact)) → IsHead lines head
       → (here : HasRunBody T Has with_loops head lines body) → TellsRun body.profile with_loops (head.lines + 1) here.readings verdict loops
@@ -197,7 +212,8 @@ module _ (T : Type 0) (Has : Taking T) where
           loops = tells.loops_are ∙ ap (λ k. loops_asked with_loops (loops_made body.profile empty_state k here.readings)) first;
         };
         broken = kept-broken body.profile with_loops (head.lines + 1) (length here.readings) here.readings lines body.broken verdict _ body.carriage here.ran tells.verdict_is here.broken;
-        taken = record { readings = here.readings; read = read; taken = subst (λ k. Has k here.readings body.taker) first here.taken };
+        taken = taken_by body.profile head.declared lines body.taker (length here.readings) verdict (run body.profile empty_state (head.lines + 1) here.readings) _ body.carriage here.ran.stands tells.verdict_is
+            (λ on. record { readings = here.readings; read = read; taken = subst (λ k. Has k here.readings body.taker) first (here.taken on) });
       }
 
 -- the line that is refused is the first bad one of the file, where so many lines of the text stand before it

@@ -1,5 +1,5 @@
 //! The lines behind a file's head, carried out as they come.
-ghost use Rattle.std.specs.Prelude.{◌≡◌, ◌≤◌, ◌<◌, ◌+◌, ◌^◌, ℕ, Bool, true, List, [], ◌++◌, length, IfErr, IfOk, OnOk};
+ghost use Rattle.std.specs.Prelude.{◌≡◌, ◌≤◌, ◌<◌, ◌+◌, ◌^◌, ℕ, Bool, true, false, List, [], ◌++◌, length, IfErr, IfOk, OnOk};
 ghost use Rattle.knit_base.specs.Lawful.{IsLawfulRead};
 ghost use Rattle.knit_base.specs.Limits.{IsLawfulProfile};
 ghost use Rattle.knit_base.specs.Lines.{HasNoLineEnd, lines_of};
@@ -8,7 +8,7 @@ ghost use Rattle.line_cutter.specs.Cut.{HasGoodLines, IsFirstBadBehind, IsNextRe
 ghost use Rattle.knitout_reader.specs.declared.head.Head.{Head};
 ghost use Rattle.knitout_reader.specs.Head.{IsHead};
 ghost use Rattle.carriage_model.specs.Carriage.{IsRunning, RanOn, is_stopped, next_line, profile_of};
-ghost use Rattle.file_run.specs.Runs.{CarriesOut, HasRunBody, IsRefusedHere, IsRun, KeepsBroken, PassesOver, TakesAnyMore};
+ghost use Rattle.file_run.specs.Runs.{CarriesOut, HasRunBody, IsRefusedHere, IsRun, KeepsBroken, PassesOver};
 
 use crate::judgement::{Judgement, Run};
 use crate::taker::Taker;
@@ -52,7 +52,7 @@ impl<T: Taker> BodyRun<T> {
     }
 
     /// Carries out the lines of these bytes, before which the file has so many, and says how many they are. Behind a line that broke a rule
-    /// they are only counted, where their readings aren't wanted.
+    /// they are only counted, and no readings are taken.
     pub fn take_lines(
         &mut self,
         alloc: Global,
@@ -74,7 +74,7 @@ impl<T: Taker> BodyRun<T> {
         let mut start = 0;
         let mut count = 0;
         'running: while start < text.len() {
-            if self.carriage.is_stopped() && self.taker.takes_nothing() {
+            if self.carriage.is_stopped() {
                 let more = self.pass_over(&text[start..], before + count)?;
                 return Ok(count + more);
             }
@@ -89,7 +89,6 @@ impl<T: Taker> BodyRun<T> {
         requires size { length text.now ≤ 16777216 }
         requires few { before ≤ 67108864 }
         requires stopped { is_stopped self.old.carriage ≡ true }
-        requires idle { TakesAnyMore T T.has self.old.taker }
         requires next { next_line self.old.carriage ≡ before + 1 }
         ensures good { IfOk result (HasGoodLines text.now) }
         ensures ok { OnOk result (PassesOver T T.has (lines_of text.now) self.old self.new) }
@@ -115,6 +114,7 @@ impl<T: Taker> BodyRun<T> {
         requires few { number ≤ 67108865 }
         requires ran { (with_loops : Bool) × (lines : List (List ℕ)) × (length lines + 1 ≡ number)
             × HasRunBody T T.has with_loops head.now lines self.old }
+        requires going { is_stopped self.old.carriage ≡ false }
         ensures ok { IfOk result (λ next. CarriesOut T T.has head.now text.now start next self.old self.new) }
         ensures err { IfErr result (IsRefusedHere text.now start number) }
     {
@@ -122,7 +122,10 @@ impl<T: Taker> BodyRun<T> {
             return self.take_any(alloc, head, text, start, number);
         };
         self.taker.take_usual(alloc, usual)?;
-        carry(alloc, usual, &mut self.carriage)?;
+        if self.carriage.carry_usual(usual)? {
+            return Ok(start + len);
+        }
+        carry_on(alloc, usual, &mut self.carriage)?;
         keep_broken_at(alloc, text, start, number, &self.carriage, &mut self.broken)?;
         Ok(start + len)
     }
@@ -142,6 +145,7 @@ impl<T: Taker> BodyRun<T> {
         requires few { number ≤ 67108865 }
         requires ran { (with_loops : Bool) × (lines : List (List ℕ)) × (length lines + 1 ≡ number)
             × HasRunBody T T.has with_loops head.now lines self.old }
+        requires going { is_stopped self.old.carriage ≡ false }
         ensures ok { IfOk result (λ next. CarriesOut T T.has head.now text.now start next self.old self.new) }
         ensures err { IfErr result (IsRefusedHere text.now start number) }
     {
@@ -167,21 +171,7 @@ impl<T: Taker> BodyRun<T> {
     }
 }
 
-// Carries out a usual line.
-#[inline(always)]
-fn carry(alloc: Global, usual: Usual, carriage: &mut Carriage) -> Result<(), NoMemory>
-    requires running { IsRunning carriage.old }
-    requires lawful { (carriers : ℕ) × (carriers ≤ 64) × IsLawfulRead (profile_of carriage.old) carriers (usual_read usual) }
-    requires lines { next_line carriage.old + 1 < 2 ^ 32 }
-    ensures { OnOk result (RanOn (usual_read usual) carriage.old carriage.new) }
-{
-    if carriage.carry_usual(usual)? {
-        return Ok(());
-    }
-    carry_on(alloc, usual, carriage)
-}
-
-// The same, also where its loop is kept or it breaks a rule. It stays out of the loop that most lines take.
+// Carries out a usual line, also where its loop is kept or it breaks a rule. It stays out of the loop that most lines take.
 #[inline(never)]
 fn carry_on(alloc: Global, usual: Usual, carriage: &mut Carriage) -> Result<(), NoMemory>
     requires running { IsRunning carriage.old }

@@ -41,10 +41,6 @@ pub trait Taker: Drop {
         ensures { OnOk result ((first : ℕ) (reads : List Read) → has first reads self.old
             → has first (reads ++ usual_read usual ∷ []) self.new) };
 
-    /// Whether it has taken whatever comes, so that lines needn't be read for it.
-    fn takes_nothing(&self) -> bool
-        ensures { result ≡ true → (first : ℕ) (reads more : List Read) → has first reads self.now → has first (reads ++ more) self.now };
-
     /// The next line is at most the one behind those that were taken.
     ghost counted: { (first : ℕ) (reads : List Read) (taker : Self) → has first reads taker → next taker ≤ first + length reads };
 }
@@ -73,11 +69,6 @@ impl Taker for Nothing {
         Ok(())
     }
 
-    #[inline(always)]
-    fn takes_nothing(&self) -> bool {
-        true
-    }
-
     ghost counted = { λ first reads taker has. omega arith };
 }
 
@@ -101,10 +92,6 @@ impl Taker for Listing {
         Listing::take_usual(self, alloc, usual)
     }
 
-    fn takes_nothing(&self) -> bool {
-        false
-    }
-
     ghost counted = { λ first reads taker has. omega (arith, has.lines) };
 }
 
@@ -125,10 +112,6 @@ impl Taker for Tally {
     #[inline(always)]
     fn take_usual(&mut self, alloc: Global, usual: Usual) -> Result<(), NoMemory> {
         Tally::take_usual(self, alloc, usual)
-    }
-
-    fn takes_nothing(&self) -> bool {
-        false
     }
 
     ghost counted = { λ first reads taker has. omega (arith, has.listed.lines) };

@@ -51,6 +51,7 @@ impl<T: Drop> ListOf<T> {
     }
 
     /// Holds this item alone. A list that has items has room for it; after `NoMemory` the list is as before.
+    #[inline(always)]
     pub fn set_only(&mut self, item: T) -> Result<(), NoMemory>
         ensures ok { OnOk result (self.new ≡ item ∷ []) }
         ensures err { OnErr result (self.new ≡ self.old) }

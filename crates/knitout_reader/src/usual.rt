@@ -55,10 +55,29 @@ fn usual_operands<'a>(
         → BeginsWithUsualOperands profile.now declared text.now found.0 found.1 found.2 found.3.now) }
     ensures behind { IfSome result (λ found. length found.3.now ≤ length text.now) }
 {
-    let (dir, behind) = spaced_direction(text)?;
-    let (needle, behind) = usual_needle(behind, b' ', profile)?;
+    let (dir, bed, behind) = direction_and_bed(text)?;
+    let (needle, behind) = needle_on(bed, behind, b' ', profile)?;
     let (c, behind) = usual_name(behind, names)?;
     Some((dir, needle, c, behind))
+}
+
+// A direction between two spaces, and a bed of hooks. The four bytes are compared at once.
+#[inline(always)]
+pub(crate) fn direction_and_bed<'a>(text: &'a [u8]) -> Option<(Dir, Bed, &'a [u8])>
+    ensures spelt { IfSome result (λ found. text.now ≡ 32 ∷ (dir_word found.0 ++ 32 ∷ (bed_word found.1 ++ found.2.now))) }
+    ensures hook { IfSome result (λ found. is_slider found.1 ≡ false) }
+{
+    if let Some(behind) = behind_four(text, *b" + f") {
+        return Some((Dir::Right, Bed::Front, behind));
+    }
+    if let Some(behind) = behind_four(text, *b" - f") {
+        return Some((Dir::Left, Bed::Front, behind));
+    }
+    if let Some(behind) = behind_four(text, *b" + b") {
+        return Some((Dir::Right, Bed::Back, behind));
+    }
+    let behind = behind_four(text, *b" - b")?;
+    Some((Dir::Left, Bed::Back, behind))
 }
 
 // The carrier whose name stands at the end of a line.
@@ -134,7 +153,21 @@ pub(crate) fn usual_needle<'a>(
     ensures { IfSome result (λ found. BeginsWithUsualNeedle profile.now text.now found.0 end found.1.now) }
 {
     let (bed, behind) = hook_bed(text)?;
-    let (at, behind) = usual_number(behind, end)?;
+    needle_on(bed, behind, end, profile)
+}
+
+// The same behind its bed's letter.
+#[inline(always)]
+pub(crate) fn needle_on<'a>(
+    bed: Bed,
+    text: &'a [u8],
+    end: u8,
+    profile: &Profile,
+) -> Option<(Needle, &'a [u8])>
+    requires { is_slider bed ≡ false }
+    ensures { IfSome result (λ found. BeginsWithUsualNeedle profile.now (bed_word bed ++ text.now) found.0 end found.1.now) }
+{
+    let (at, behind) = usual_number(text, end)?;
     if at < profile.low || profile.high < at {
         return None;
     }

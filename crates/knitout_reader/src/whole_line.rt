@@ -10,7 +10,9 @@ ghost use Rattle.knitout_reader.specs.Numbers.{IsDigit};
 ghost use Rattle.knitout_reader.specs.Reading.{ReadsAs};
 ghost use Rattle.knitout_reader.specs.Usual.{BeginsWithUsualName, BeginsWithUsualNeedle, BeginsWithUsualNeedles, BeginsWithUsualNumber, BeginsWithUsualOperands, IsByteName, IsShortToken, IsTokenByte, KnowsLast};
 
-use crate::usual::{behind_four, behind_space, digit, hook_bed, spaced_direction, usual_needle};
+use crate::usual::{
+    behind_four, behind_space, digit, direction_and_bed, hook_bed, needle_on, usual_needle,
+};
 use knit_base::{CarrierNo, Declared, Dir, Needle, Profile, Usual};
 
 /// The carrier that a line named last by one byte. Most lines name the carrier of the line before, which then needs no look-up.
@@ -101,8 +103,8 @@ fn whole_operands(
     ensures last { KnowsLast declared.now last.new }
     ensures operands { IfSome result (λ found. BeginsWithUsualOperands profile.now declared.now (text.now ++ 10 ∷ []) found.0 found.1 found.2 []) }
 {
-    let (dir, behind) = spaced_direction(text)?;
-    let (needle, name) = usual_needle(behind, b' ', profile)?;
+    let (dir, bed, behind) = direction_and_bed(text)?;
+    let (needle, name) = needle_on(bed, behind, b' ', profile)?;
     let c = whole_name(name, declared, last)?;
     Some((dir, needle, c))
 }

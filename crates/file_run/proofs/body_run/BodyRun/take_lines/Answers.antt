@@ -20,20 +20,20 @@ returns-in_err-more-clause-err g c =
     (refused-later c.args.text.now _ c.args.before c.running.count c.running.start _ c.running.invariant.behind
     (take_all (length c.args.text.now - c.running.start) (drop c.running.start c.args.text.now) (omega (arith, length-drop c.running.start c.args.text.now))) c.in_err-more.ensures.err)
 
-pub returns-then-takes_nothing-clause-good : goal.returns-then-takes_nothing-clause-good
-returns-then-takes_nothing-clause-good g c =
+pub returns-then-is_stopped-clause-good : goal.returns-then-is_stopped-clause-good
+returns-then-is_stopped-clause-good g c =
     (taken-rest _ g.T.Taker.has c.args.head.now c.args.text.now _ c.args.before c.running.count c.running.start c.in_ok-more.more c.args.self.now c.running.self _ c.running-test.true
     (take_all (length c.args.text.now - c.running.start) (drop c.running.start c.args.text.now) (omega (arith, length-drop c.running.start c.args.text.now)))
     c.running.invariant c.in_ok-more.ensures.good c.in_ok-more.ensures.ok).0
 
-pub returns-then-takes_nothing-clause-ok : goal.returns-then-takes_nothing-clause-ok
-returns-then-takes_nothing-clause-ok g c =
+pub returns-then-is_stopped-clause-ok : goal.returns-then-is_stopped-clause-ok
+returns-then-is_stopped-clause-ok g c =
     (taken-rest _ g.T.Taker.has c.args.head.now c.args.text.now _ c.args.before c.running.count c.running.start c.in_ok-more.more c.args.self.now c.running.self _ c.running-test.true
     (take_all (length c.args.text.now - c.running.start) (drop c.running.start c.args.text.now) (omega (arith, length-drop c.running.start c.args.text.now)))
     c.running.invariant c.in_ok-more.ensures.good c.in_ok-more.ensures.ok).1
 
-pub returns-then-takes_nothing-clause-profile : goal.returns-then-takes_nothing-clause-profile
-returns-then-takes_nothing-clause-profile g c = c.in_ok-more.ensures.ok.same_profile ∙ c.running.invariant.same_profile
+pub returns-then-is_stopped-clause-profile : goal.returns-then-is_stopped-clause-profile
+returns-then-is_stopped-clause-profile g c = c.in_ok-more.ensures.ok.same_profile ∙ c.running.invariant.same_profile
 
 pub take_line-requires-clause-ran : goal.take_line-requires-clause-ran
 take_line-requires-clause-ran g c =
