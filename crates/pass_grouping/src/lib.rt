@@ -9,14 +9,18 @@
 #![tactic(auto)]
 
 mod certificate;
+mod fact;
 mod grouping;
+mod growing;
 mod listing;
 mod operation;
 mod pass;
 mod tally;
 
 pub use certificate::{Grouping, Starts, Window, Windows, check_certificate, pass_at};
+pub use fact::{PassFact, PassFacts, PassYarns};
 pub use grouping::group;
+pub use growing::{Counts, ToldPasses};
 pub use listing::{Listing, operations};
 pub use operation::{Class, PassOp, PassOps};
-pub use tally::{Counts, Tally};
+pub use tally::Tally;
