@@ -176,7 +176,12 @@ fn one_more(passes: u32, operations: u32) -> u32
 }
 
 // What is told of a pass that began so, where this is its last operation, and so many operations are up to there.
-fn fact_of(alloc: Global, begun: Begun, last: &PassOp, operations: u32) -> Result<PassFact, NoMemory>
+fn fact_of(
+    alloc: Global,
+    begun: Begun,
+    last: &PassOp,
+    operations: u32,
+) -> Result<PassFact, NoMemory>
     ensures { IfOk result (λ fact. fact ≡ fact_now begun last.now operations) }
 {
     Ok(PassFact {

@@ -1,7 +1,9 @@
 //! The passes of a program.
-ghost use Rattle.std.specs.Prelude.{◌≡◌, ◌≤◌, ◌++◌, ◌∷◌, [], length, flat_map, codes, IfOk, OnOk, OnErr};
+ghost use Rattle.std.specs.Prelude.{◌≡◌, ◌≤◌, ◌++◌, ◌∷◌, [], List, length, flat_map, codes, IfOk, OnOk, OnErr};
+ghost use Rattle.pass_grouping.specs.declared.operation.PassOp.{PassOp};
 ghost use Rattle.pass_grouping.specs.Facts.{last_of, way_of};
 ghost use Rattle.pass_grouping.specs.Groupings.{IsCertificate, IsGrouping, passes_from};
+ghost use Rattle.pass_grouping.specs.Told.{AreTold};
 ghost use Rattle.verdict_report.specs.PassesText.{carriers_text, counts_text, ends_text, fact_text, kind_text, kind_words, line_at, pass_text, passes_text, range_text, told_text, window_before, window_text, windows_told};
 
 use crate::strip::Strip;
@@ -272,16 +274,30 @@ fn append_window_before(before: Option<u32>, line: u32, out: &mut Vec<u8>) -> Re
     Ok(())
 }
 
-/// The passes of a program of which this is told, a line each, and the windows that show that there are no fewer. Fails where memory
-/// runs out.
-pub fn passes_told(alloc: Global, passes: &ToldPasses, declared: &Declared) -> Result<Vec<u8>, NoMemory>
-    ensures { IfOk result (λ text. text.items ≡ told_text declared.now passes.now.operations passes.now.facts) }
+// Appends the counts, a line for each pass of which this is told, and one for each window.
+fn append_told(passes: &ToldPasses, declared: &Declared, out: &mut Vec<u8>) -> Result<(), NoMemory>
+    ensures { OnOk result (out.new.items ≡ out.old.items ++ told_text declared.now passes.now.operations passes.now.facts) }
 {
     let facts = passes.facts.as_slice();
-    let mut text = Vec::with_capacity(alloc, 60 * facts.len() + 64)?;
     let count = passes.facts.len();
-    append_counts(count, passes.operations, count.saturating_sub(1), &mut text)?;
-    append_facts(facts, declared, &mut text)?;
-    append_told_windows(facts, &mut text)?;
+    append_counts(count, passes.operations, count.saturating_sub(1), out)?;
+    append_facts(facts, declared, out)?;
+    append_told_windows(facts, out)?;
+    Ok(())
+}
+
+/// The passes of a program that are told, as `report_passes` appends them. Fails where memory runs out.
+pub fn passes_told(
+    alloc: Global,
+    passes: &ToldPasses,
+    declared: &Declared,
+) -> Result<Vec<u8>, NoMemory>
+    ensures { IfOk result (λ text. (ops : List PassOp) (told : AreTold ops passes.now)
+        → text.items ≡ passes_text declared.now ops told.starts told.windows) }
+{
+    // (a pass takes two lines, of some 60 bytes)
+    let room = 64 * (passes.facts.as_slice().len() + 1);
+    let mut text = Vec::with_capacity(alloc, room)?;
+    append_told(passes, declared, &mut text)?;
     Ok(text)
 }

@@ -28,7 +28,8 @@ impl Strip {
     /// The empty line.
     #[inline(always)]
     pub fn new() -> Strip
-        ensures { result ≡ [] }
+        ensures text { result ≡ [] }
+        ensures len { length result ≡ 0 }
     {
         Strip {
             bytes: [0; ROOM],
@@ -40,7 +41,8 @@ impl Strip {
     #[inline(always)]
     pub fn put(&mut self, text: &str)
         requires room { length text.now + length self.old ≤ 64 }
-        ensures { self.new ≡ text.now ++ self.old }
+        ensures text { self.new ≡ text.now ++ self.old }
+        ensures len { length self.new ≡ length text.now + length self.old }
     {
         let bytes = text.as_bytes();
         let start = self.start - bytes.len();
@@ -52,7 +54,8 @@ impl Strip {
     #[inline(always)]
     pub fn put_number(&mut self, number: u32)
         requires room { 10 + length self.old ≤ 64 }
-        ensures { self.new ≡ decimal number ++ self.old }
+        ensures text { self.new ≡ decimal number ++ self.old }
+        ensures len { length self.new ≤ 10 + length self.old }
     {
         self.start = write_digits(u64::from(number), &mut self.bytes, self.start);
     }
