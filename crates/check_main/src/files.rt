@@ -15,7 +15,7 @@ use input_answers::{
 use knit_base::NoMemory;
 use knit_ports::{FileReading, INPUT_LIMIT, InputFault, Source, read_lines};
 use line_cutter::LineTaker;
-use pass_grouping::Listing;
+use pass_grouping::Tally;
 use std::alloc::Global;
 use verdict_report::Refusal;
 
@@ -58,7 +58,7 @@ pub(crate) fn passes_source<S: Source>(
     ensures ok { IfOk result (IsDueFor Command.Passes plan.now.chosen (source_use S.left S.faults source.old source.new)) }
     ensures err { OnErr result (GaveAtMost (INPUT_LIMIT + 1) (S.left source.old) (S.left source.new)) }
 {
-    let reader = runner::<Listing>(plan, false);
+    let reader = runner::<Tally>(plan, false);
     let outcome = read_file(alloc, source, reader)?;
     match outcome {
         FileOutcome::Whole(reader) => {

@@ -1,17 +1,16 @@
 //! What takes the readings of a file's lines one by one, beside the carriage that executes them.
-ghost use Rattle.std.specs.Prelude.{◌≡◌, ◌≤◌, ◌<◌, ◌+◌, ◌^◌, ℕ, true, List, [], ◌∷◌, ◌++◌, length, IfOk, OnOk};
+ghost use Rattle.std.specs.Prelude.{◌≡◌, ◌≤◌, ◌<◌, ◌+◌, ◌^◌, ℕ, List, [], ◌∷◌, ◌++◌, length, IfOk, OnOk};
 ghost use Rattle.std.proofs.Common.{arith};
 ghost use Rattle.knit_base.specs.declared.instr.Read.{Read};
 ghost use Rattle.knit_base.specs.declared.profile.Profile.{Profile};
 ghost use Rattle.knit_base.specs.Lawful.{IsLawfulRead};
 ghost use Rattle.knit_base.specs.Usual.{usual_read};
-ghost use Rattle.pass_grouping.specs.Listings.{HasListed, next_line as next_listed};
 ghost use Rattle.pass_grouping.specs.Operations.{IsRackWithin};
 ghost use Rattle.pass_grouping.specs.Tallies.{HasTallied, next_line as next_counted};
 ghost use Rattle.file_run.specs.Runs.{HasTakenAny};
 
 use knit_base::{NoMemory, Read, Usual};
-use pass_grouping::{Listing, Tally};
+use pass_grouping::Tally;
 use std::alloc::Global;
 
 /// A value that takes readings one by one.
@@ -72,36 +71,13 @@ impl Taker for Nothing {
     ghost counted = { λ first reads taker has. omega arith };
 }
 
-impl Taker for Listing {
-    ghost has = { HasListed };
-
-    ghost next = { next_listed };
-
-    // (how many operations come isn't known yet)
-    fn start(alloc: Global, first: u32) -> Result<Self, NoMemory> {
-        Listing::start(alloc, first, 0)
-    }
-
-    #[inline(always)]
-    fn take(&mut self, alloc: Global, read: &Read) -> Result<(), NoMemory> {
-        Listing::take(self, alloc, read)
-    }
-
-    #[inline(always)]
-    fn take_usual(&mut self, alloc: Global, usual: Usual) -> Result<(), NoMemory> {
-        Listing::take_usual(self, alloc, usual)
-    }
-
-    ghost counted = { λ first reads taker has. omega (arith, has.lines) };
-}
-
 impl Taker for Tally {
     ghost has = { HasTallied };
 
     ghost next = { next_counted };
 
-    fn start(_: Global, first: u32) -> Result<Self, NoMemory> {
-        Ok(Tally::start(first))
+    fn start(alloc: Global, first: u32) -> Result<Self, NoMemory> {
+        Ok(Tally::start(alloc, first))
     }
 
     #[inline(always)]

@@ -67,7 +67,7 @@ pub body_listing-next : (profile : Profile) (names lines : List (List ℕ)) (fro
 body_listing-next profile names lines from i listing here = omega (arith, here.taken.lines, here.so_far.counted)
 
 -- the operations of lines that were all listed
-pub all-listed : (profile : Profile) (names lines : List (List ℕ)) (listing : Listing) (ops : List PassOp) → HasTakenAll Listing HasListed profile names lines listing
+all-listed : (profile : Profile) (names lines : List (List ℕ)) (listing : Listing) (ops : List PassOp) → HasTakenAll Listing HasListed profile names lines listing
     → ((first : ℕ) (reads : List Read) → HasListed first reads listing → ops ≡ operations_after first [] reads)
     → AreOperations profile names lines ops
 all-listed profile names lines listing ops all tells = record {

@@ -1,5 +1,5 @@
 -- Files that were taken while they were read.
-use Rattle.std.proofs.Common.{◌≡◌, ℕ, ◌+◌, ◌≤◌, ◌<◌, List, [], ◌∷◌, ◌++◌, length, get_or, All, ap, sym, subst, ◌∙◌, refl, arith, length-append}
+use Rattle.std.proofs.Common.{◌≡◌, ℕ, Bool, ◌+◌, ◌≤◌, ◌<◌, List, [], ◌∷◌, ◌++◌, length, get_or, All, ap, sym, subst, ◌∙◌, refl, arith, length-append}
 use Rattle.std.specs.Prelude.{Result, Ok, Err}
 use Rattle.std.proofs.lemmas.Bool.{true≢false}
 use Rattle.std.proofs.Math.Seq.{get_or-append_seam}
@@ -13,13 +13,23 @@ use Rattle.knitout_reader.specs.declared.head.HeadFault.{HeadFault}
 use Rattle.knitout_reader.specs.declared.head.HeadFault.TheVariants as head
 use Rattle.knitout_reader.specs.Head.{IsHeadFault}
 use Rattle.knit_maker.specs.Made.{made_lines}
-use Rattle.pass_grouping.specs.declared.tally.Counts.{Counts}
+use Rattle.pass_grouping.specs.declared.growing.Counts.{Counts}
+use Rattle.pass_grouping.specs.declared.growing.ToldPasses.{ToldPasses}
+use Rattle.pass_grouping.specs.declared.operation.PassOp.{PassOp}
 use Rattle.pass_grouping.specs.declared.tally.Tally.{Tally}
 use Rattle.pass_grouping.specs.Operations.{operations_after}
-use Rattle.pass_grouping.specs.Tallies.{AreCounted, HasTallied}
+use Rattle.pass_grouping.specs.Tallies.{HasTallied}
+use Rattle.pass_grouping.specs.Told.{AreCounted, AreTold}
+use Rattle.verdict_report.specs.PassesText.{passes_text}
 use Rattle.file_run.specs.Bodies.{first_of}
 use Rattle.file_run.specs.Runs.{HasTakenAll}
+use Rattle.file_run.specs.declared.judgement.Judgement.{Judgement}
+use Rattle.file_run.specs.Judgements.{IsJudgement}
+use Rattle.input_answers.specs.declared.outcome.Status.TheVariants as status
+use Rattle.input_answers.specs.CheckReport.{status_of}
 use Rattle.input_answers.specs.ListingRun.{AreCountedIn}
+use Rattle.input_answers.specs.PassesReport.{IsPassesReport}
+use Rattle.input_answers.proofs.PassesReports.{passes-report}
 use Rattle.input_answers.proofs.PlainTexts.{lines_count}
 
 -- the lines of an input are few
@@ -61,3 +71,19 @@ all-counted profile names lines tally counts all tells = record {
   listed = record { readings = all.readings; read = all.read; listed = refl };
   counted = tells (first_of lines) all.readings all.taken;
 }
+
+-- the report on the passes of a sound program whose lines were all tallied
+pub all-told : (profile : Profile) (loops : Bool) (names lines : List (List ℕ)) (text : List ℕ) (judgement : Judgement) (tally : Tally) (passes : ToldPasses)
+    → IsJudgement loops profile names lines judgement → status_of judgement.verdict ≡ status.Done → HasTakenAll Tally HasTallied profile names lines tally
+    → ((first : ℕ) (reads : List Read) → HasTallied first reads tally → AreTold (operations_after first [] reads) passes)
+    → ((ops : List PassOp) (told : AreTold ops passes) → text ≡ passes_text names ops told.starts told.windows)
+    → IsPassesReport profile names lines text
+all-told profile loops names lines text judgement tally passes is sound all tells reports =
+    let ops : List PassOp = operations_after (first_of lines) [] all.readings in
+    let told : AreTold ops passes = tells (first_of lines) all.readings all.taken in
+    passes-report profile loops names lines text judgement ops is sound (record { readings = all.readings; read = all.read; listed = refl }) (record {
+      starts = told.starts;
+      windows = told.windows;
+      grouped = record { fewest = told.fewest; certificate = told.certificate; between = told.between };
+      reported = reports ops told;
+    })

@@ -6,9 +6,9 @@ use Rattle.knitout_reader.specs.Reading.{ReadsAs}
 use Rattle.pass_grouping.specs.declared.listing.Listing.{Listing}
 use Rattle.pass_grouping.specs.declared.operation.PassOp.{PassOp}
 use Rattle.pass_grouping.specs.declared.certificate.Window.{Window}
-use Rattle.pass_grouping.specs.declared.tally.Counts.{Counts}
+use Rattle.pass_grouping.specs.declared.growing.Counts.{Counts}
 use Rattle.pass_grouping.specs.Listings.{HasListed}
-use Rattle.pass_grouping.specs.Tallies.{AreCounted}
+use Rattle.pass_grouping.specs.Told.{AreCounted}
 use Rattle.verdict_report.specs.PassesText.{passes_text}
 use Rattle.file_run.specs.Runs.{Taking}
 use Rattle.input_answers.specs.PassesReport.{AreFewest, AreOperations}

@@ -6,8 +6,8 @@ ghost use Rattle.knitout_writer.specs.declared.text_writer.TextWriter.{TextWrite
 ghost use Rattle.file_run.specs.declared.runner.Runner.{Runner};
 ghost use Rattle.file_run.specs.declared.taker.Nothing.{Nothing};
 ghost use Rattle.file_run.specs.Runs.{HasTakenAny};
-ghost use Rattle.pass_grouping.specs.declared.listing.Listing.{Listing};
-ghost use Rattle.pass_grouping.specs.Listings.{HasListed};
+ghost use Rattle.pass_grouping.specs.declared.tally.Tally.{Tally};
+ghost use Rattle.pass_grouping.specs.Tallies.{HasTallied};
 ghost use Rattle.command_words.specs.declared.command.Command.{Command};
 ghost use Rattle.input_answers.specs.Due.{Due};
 ghost use Rattle.input_answers.specs.FileRuns.{HasRunInput, HasRunLines, HasWrittenInput, HasWrittenLines, IsRunnerFor, IsWriterFor};
@@ -24,7 +24,7 @@ use file_run::{Nothing, Runner};
 use knit_base::{NoMemory, Text};
 use knitout_reader::FileReader;
 use knitout_writer::TextWriter;
-use pass_grouping::Listing;
+use pass_grouping::Tally;
 use std::alloc::Global;
 
 /// What is due for a file whose verdict is asked for, and whose lines the reader has taken.
@@ -61,12 +61,12 @@ pub fn answer_check(
 pub fn answer_passes(
     alloc: Global,
     plan: &Plan,
-    reader: FileReader<Runner<Listing>>,
+    reader: FileReader<Runner<Tally>>,
 ) -> Result<Ending, NoMemory>
-    requires { HasRunInput Listing HasListed reader }
-    ensures { IfOk result (λ ending. (start : FileReader (Runner Listing)) (input : List ℕ)
-        → IsRunnerFor Listing false plan.now.chosen start
-        → HasRunLines Listing HasListed (lines_of input) start reader
+    requires { HasRunInput Tally HasTallied reader }
+    ensures { IfOk result (λ ending. (start : FileReader (Runner Tally)) (input : List ℕ)
+        → IsRunnerFor Tally false plan.now.chosen start
+        → HasRunLines Tally HasTallied (lines_of input) start reader
         → Due Command.Passes plan.now.chosen input ending.text.items ending.status) }
 {
     let outcome = run_outcome(alloc, plan, reader)?;

@@ -1,8 +1,8 @@
 //! The passes of a file.
 ghost use Rattle.std.specs.Prelude.{◌≡◌, ℕ, List, false, length, IfOk};
 ghost use Rattle.knit_base.specs.Lines.{lines_of};
-ghost use Rattle.pass_grouping.specs.declared.listing.Listing.{Listing};
-ghost use Rattle.pass_grouping.specs.Listings.{HasListed};
+ghost use Rattle.pass_grouping.specs.declared.tally.Tally.{Tally};
+ghost use Rattle.pass_grouping.specs.Tallies.{HasTallied};
 ghost use Rattle.machine_profile.specs.declared.Chosen.{Chosen};
 ghost use Rattle.command_words.specs.declared.command.Command.{Command};
 ghost use Rattle.file_run.specs.Bodies.{body_of};
@@ -24,14 +24,14 @@ use crate::plan::Plan;
 use carriage_model::Verdict;
 use file_run::Run;
 use knit_base::{Declared, NoMemory};
-use pass_grouping::{Grouping, Listing, PassOps, check_certificate, group};
+use pass_grouping::{Grouping, PassOps, Tally, check_certificate, group};
 use std::alloc::Global;
 use std::thread::Threads;
-use verdict_report::passes_of;
+use verdict_report::{passes_of, passes_told};
 
 /// What is due for the passes of a file that was carried out.
-pub(crate) fn passes_of_run(alloc: Global, file: FileRun<Listing>) -> Result<Ending, NoMemory>
-    ensures { IfOk result (λ ending. (chosen : Chosen) (input : List ℕ) → IsFileRun Listing HasListed false chosen input file
+pub(crate) fn passes_of_run(alloc: Global, file: FileRun<Tally>) -> Result<Ending, NoMemory>
+    ensures { IfOk result (λ ending. (chosen : Chosen) (input : List ℕ) → IsFileRun Tally HasTallied false chosen input file
         → Due Command.Passes chosen input ending.text.items ending.status) }
 {
     let Run {
@@ -46,9 +46,12 @@ pub(crate) fn passes_of_run(alloc: Global, file: FileRun<Listing>) -> Result<End
             Ok(told)
         }
         Verdict::Sound(_) => {
-            let ops = taker.finish();
-            let grouped = report_passes_of(alloc, &ops, names)?;
-            Ok(grouped)
+            let passes = taker.finish(alloc)?;
+            let text = passes_told(alloc, &passes, names)?;
+            Ok(Ending {
+                status: Status::Done,
+                text,
+            })
         }
     }
 }

@@ -7,7 +7,7 @@ use Rattle.pass_grouping.specs.declared.certificate.Window.{Window}
 use Rattle.pass_grouping.specs.Groupings.{Part, operations_in, parts, passes_from, first_or, IsPass, IsGrouping, IsFewest, IsWindow, AreApart, IsCertificate}
 use Rattle.pass_grouping.proofs.Passes.{by_order, one_pass-shrink}
 
-length-parts : (starts : List ℕ) (behind : ℕ) → length (parts starts behind) ≡ length starts
+pub length-parts : (starts : List ℕ) (behind : ℕ) → length (parts starts behind) ≡ length starts
 length-parts [] behind = refl
 length-parts (s ∷ ss) behind = ap suc (length-parts ss behind)
 

@@ -1,4 +1,6 @@
+pub mod Facts
 pub mod Groupings
+pub mod GrowingPasses
 pub mod OperationList
 pub mod PartialGroupings
 pub mod Passes

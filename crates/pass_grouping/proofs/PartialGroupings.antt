@@ -6,7 +6,7 @@ use Rattle.pass_grouping.specs.declared.operation.PassOp.{PassOp}
 use Rattle.pass_grouping.specs.declared.certificate.Window.{Window}
 use Rattle.pass_grouping.specs.Passes.{IsOnePass}
 use Rattle.pass_grouping.specs.Groupings.{Part, parts, first_or, IsPass, IsWindow, AreApart, IsCertificate, between_starts}
-use Rattle.pass_grouping.specs.Tallies.{Grouped}
+use Rattle.pass_grouping.specs.Growing.{Grouped}
 
 first_or-push : (starts : List ℕ) (start behind : ℕ) → first_or (starts ++ start ∷ []) behind ≡ first_or starts start
 first_or-push [] start behind = refl
@@ -16,7 +16,7 @@ first_or-any : (starts : List ℕ) (m n : ℕ) → 0 < length starts → first_o
 first_or-any [] m n some = absurd (omega arith)
 first_or-any (s ∷ ss) m n some = refl
 
-parts-push : (starts : List ℕ) (start behind : ℕ) → parts (starts ++ start ∷ []) behind ≡ parts starts start ++ record { start = start; behind = behind } ∷ []
+pub parts-push : (starts : List ℕ) (start behind : ℕ) → parts (starts ++ start ∷ []) behind ≡ parts starts start ++ record { start = start; behind = behind } ∷ []
 parts-push [] start behind = refl
 parts-push (s ∷ ss) start behind =
     ap (λ n. record { start = s; behind = n } ∷ parts (ss ++ start ∷ []) behind) (first_or-push ss start behind)

@@ -1,5 +1,9 @@
+pub mod Carriers
+pub mod Facts
 pub mod Groupings
+pub mod Growing
 pub mod Listings
 pub mod Operations
 pub mod Passes
 pub mod Tallies
+pub mod Told

@@ -1,15 +1,12 @@
 //! The carriage operations of a text, reading by reading or of all of its readings.
-ghost use Rattle.std.specs.Prelude.{◌≡◌, ◌+◌, ◌<◌, ◌≤◌, ◌^◌, ℕ, List, [], ◌∷◌, ◌++◌, length, All, IfOk, OnOk, OnErr};
+ghost use Rattle.std.specs.Prelude.{◌≡◌, ◌+◌, ◌<◌, ◌^◌, ℕ, List, [], ◌∷◌, ◌++◌, length, All, IfOk, OnOk, OnErr};
 ghost use Rattle.knit_base.specs.declared.instr.Read.{Read};
-ghost use Rattle.knit_base.specs.declared.profile.Profile.{Profile};
-ghost use Rattle.knit_base.specs.Lawful.{IsLawfulRead};
-ghost use Rattle.knit_base.specs.Usual.{usual_read};
 ghost use Rattle.pass_grouping.specs.Listings.{HasListed, IsListing, next_line};
 ghost use Rattle.pass_grouping.specs.Operations.{operations_after, IsRackWithin};
 
 use crate::PassOps;
-use crate::operation::{append, operation_of, rack_behind, stretches_ended, usual_operation};
-use knit_base::{NoMemory, Read, Reads, Usual};
+use crate::operation::{append, operation_of, rack_behind, stretches_ended};
+use knit_base::{NoMemory, Read, Reads};
 use std::alloc::Global;
 
 /// The operations of a text whose readings come one by one, so that no list of them is needed.
@@ -49,20 +46,6 @@ impl Listing {
         self.line += 1;
         self.stretch += stretches_ended(read);
         self.rack = rack_behind(self.rack, read);
-        Ok(())
-    }
-
-    /// Takes the next line where it is a usual one, without a reading of it. After `NoMemory` nothing was taken.
-    pub fn take_usual(&mut self, alloc: Global, usual: Usual) -> Result<(), NoMemory>
-        requires listing { IsListing self.old }
-        requires lines { next_line self.old + 1 < 2 ^ 32 }
-        requires lawful { (profile : Profile) × (carriers : ℕ) × (carriers ≤ 64) × IsLawfulRead profile carriers (usual_read usual) }
-        ensures ok { OnOk result ((first : ℕ) (reads : List Read) → HasListed first reads self.old → HasListed first (reads ++ usual_read usual ∷ []) self.new) }
-        ensures err { OnErr result (self.new ≡ self.old) }
-    {
-        let op = usual_operation(alloc, self.line, self.stretch, self.rack, usual)?;
-        self.ops.push(op)?;
-        self.line += 1;
         Ok(())
     }
 

@@ -131,16 +131,17 @@ fn operation_of_instr(alloc: Global, spot: Spot, instr: &Instr) -> Result<Option
 }
 
 // The operation of a usual line.
+#[inline(always)]
 pub(crate) fn usual_operation(
     alloc: Global,
     line: u32,
     stretch: u32,
     rack: i32,
     usual: Usual,
-) -> Result<PassOp, NoMemory>
+) -> PassOp
     requires rack { IsWithinGreatestRack rack }
     requires lawful { (profile : Profile) × (carriers : ℕ) × (carriers ≤ 64) × IsLawfulRead profile carriers (usual_read usual) }
-    ensures { IfOk result (λ op. Some op ≡ operation_of line stretch rack (usual_read usual)) }
+    ensures { Some result ≡ operation_of line stretch rack (usual_read usual) }
 {
     let spot = Spot {
         line,
@@ -150,7 +151,7 @@ pub(crate) fn usual_operation(
     match usual {
         Usual::Knit(dir, n, c) => spot.formed(alloc, dir, n, c),
         Usual::Tuck(dir, n, c) => spot.formed(alloc, dir, n, c),
-        Usual::Xfer(n, _) => Ok(spot.uncarried(alloc, Class::Move, n)),
+        Usual::Xfer(n, _) => spot.uncarried(alloc, Class::Move, n),
     }
 }
 
@@ -188,24 +189,24 @@ impl Spot {
     }
 
     // An operation that forms a loop of this carrier alone.
-    fn formed(self, alloc: Global, dir: Dir, n: Needle, c: CarrierNo) -> Result<PassOp, NoMemory>
+    #[inline(always)]
+    fn formed(self, alloc: Global, dir: Dir, n: Needle, c: CarrierNo) -> PassOp
         requires rack { IsWithinGreatestRack self.rack }
         requires carrier { c.0 < 64 }
-        ensures { IfOk result (λ op. op ≡ carried class.Form self.line self.stretch self.rack dir n (c ∷ [])) }
+        ensures { result ≡ carried class.Form self.line self.stretch self.rack dir n (c ∷ []) }
     {
-        let mut yarns = Yarns::new(alloc);
-        yarns.push(c)?;
-        Ok(PassOp {
+        PassOp {
             line: self.line,
             stretch: self.stretch,
             class: Class::Form,
             dir: Some(dir),
-            yarns,
+            yarns: Yarns::one(alloc, c),
             place: self.place_of(n),
-        })
+        }
     }
 
     // An operation without direction and carriers.
+    #[inline(always)]
     fn uncarried(self, alloc: Global, class: Class, n: Needle) -> PassOp
         requires { IsWithinGreatestRack self.rack }
         ensures { result ≡ uncarried class self.line self.stretch self.rack n }
@@ -221,6 +222,7 @@ impl Spot {
     }
 
     // The needle's place in quarters: the back bed stands off by the rack.
+    #[inline(always)]
     fn place_of(self, n: Needle) -> i32
         requires { IsWithinGreatestRack self.rack }
         ensures { result ≡ place_of self.rack n }
@@ -234,6 +236,7 @@ impl Spot {
 }
 
 // A number on a bed in quarters of a needle.
+#[inline(always)]
 fn quarters(at: i16) -> i32
     ensures value { result ≡ pos 4 *ℤ at }
     ensures low { negsuc 131071 ≤ℤ result }

@@ -4,3 +4,4 @@ pub mod LiveReports
 pub mod Names
 pub mod PassLines
 pub mod PlainText
+pub mod ToldLines

@@ -4,7 +4,8 @@ use Rattle.std.proofs.lemmas.List.{flat_map_more, take_all, take_more}
 use Rattle.pass_grouping.specs.declared.operation.PassOp.{PassOp}
 use Rattle.pass_grouping.specs.Groupings.{passes_from}
 use Rattle.pass_grouping.proofs.Groupings.{length-passes}
-use Rattle.verdict_report.specs.PassesText.{last_of, pass_text}
+use Rattle.pass_grouping.specs.Facts.{last_of}
+use Rattle.verdict_report.specs.PassesText.{pass_text}
 
 -- the last of some operations by its place
 pub last-at : (first : PassOp) (more : List PassOp) (d : PassOp) → 0 < length more → get_or more (length more - 1) d ≡ last_of first more

@@ -1,13 +1,14 @@
 -- The lines of the passes of a program.
-use Rattle.std.specs.Prelude.{ℕ, ℤ, int_lt, Option, None, Some, List, [], ◌∷◌, ◌++◌, length, flat_map, option_map, unwrap_or, slice_get, codes, if◌then◌else◌}
+use Rattle.std.specs.Prelude.{ℕ, ◌-◌, Option, None, Some, List, [], ◌∷◌, ◌++◌, length, flat_map, option_map, unwrap_or, slice_get, codes}
 use Rattle.knit_base.specs.Spelling.{dir_word, labelled}
 use Rattle.knit_base.specs.declared.needle.Dir.{Dir}
-use Rattle.knit_base.specs.declared.needle.Dir.TheVariants.{Right, Left}
 use Rattle.knit_base.specs.declared.yarns.CarrierNo.{CarrierNo}
 use Rattle.pass_grouping.specs.declared.operation.Class.{Class}
 use Rattle.pass_grouping.specs.declared.operation.Class.TheVariants.{Form, Split, Move, Drop}
 use Rattle.pass_grouping.specs.declared.operation.PassOp.{PassOp}
 use Rattle.pass_grouping.specs.declared.certificate.Window.{Window}
+use Rattle.pass_grouping.specs.declared.fact.PassFact.{PassFact}
+use Rattle.pass_grouping.specs.Facts.{last_of, way_of}
 use Rattle.pass_grouping.specs.Groupings.{passes_from}
 use Rattle.verdict_report.specs.VerdictText.{Text, names_text}
 
@@ -17,16 +18,6 @@ class_word Form = codes "form"
 class_word Split = codes "split"
 class_word Move = codes "move"
 class_word Drop = codes "drop"
-
--- the last of some operations, of which this is the first
-abbrev pub last_of : PassOp → List PassOp → PassOp
-last_of op [] = op
-last_of op (next ∷ more) = last_of next more
-
--- the direction that is written, or else leftward where the last place lies left of the first
-abbrev pub way_of : Option Dir → ℤ → ℤ → Dir
-way_of (Some dir) first last = dir
-way_of None first last = if int_lt last first then Left else Right
 
 -- the carriers of a pass that uses some
 abbrev pub carriers_text : List Text → Class → List CarrierNo → Text
@@ -74,3 +65,27 @@ counts_text passes operations windows =
 abbrev pub passes_text : List Text → List PassOp → List ℕ → List Window → Text
 passes_text names ops starts windows =
     counts_text (length starts) (length ops) (length windows) ++ (flat_map (pass_text names) (passes_from ops starts) ++ flat_map (window_text ops) windows)
+
+-- the line of a pass of which this is told
+abbrev pub fact_text : List Text → PassFact → Text
+fact_text names fact =
+    range_text (codes "pass ") fact.first_line fact.last_line
+    ++ (kind_words fact.class fact.way ++ (labelled (codes " ops ") fact.count ++ (carriers_text names fact.class fact.yarns ++ codes "\n")))
+
+-- the line of the window from the pass before, if there is one, to the pass that begins at this line
+abbrev pub window_before : Option ℕ → ℕ → Text
+window_before None line = []
+window_before (Some first) line = range_text (codes "window ") first line ++ codes "\n"
+
+-- a line for the window from each pass to the next
+abbrev pub windows_behind : Option ℕ → List PassFact → Text
+windows_behind before [] = []
+windows_behind before (fact ∷ facts) = window_before before fact.first_line ++ windows_behind (Some fact.first_line) facts
+
+abbrev pub windows_told : List PassFact → Text
+windows_told = windows_behind None
+
+-- the whole report on passes of which this is told: it is `passes_text`, where the windows lead from a start to the next
+abbrev pub told_text : List Text → ℕ → List PassFact → Text
+told_text names operations facts =
+    counts_text (length facts) operations (length facts - 1) ++ (flat_map (fact_text names) facts ++ windows_told facts)

@@ -22,6 +22,7 @@ mod passes;
 mod refusal;
 mod replies;
 mod sessions;
+mod strip;
 mod text;
 
 pub use as_json::{json_of, report_json};
@@ -29,7 +30,7 @@ pub use brief::report_brief;
 pub use entries::report_journal;
 pub use live::{final_of, live_of, report_end, report_live};
 pub use made::made_of;
-pub use passes::{passes_of, report_passes};
+pub use passes::{passes_of, passes_told, report_passes};
 pub use refusal::{Refusal, report_refusal};
 pub use replies::report_reply;
 pub use sessions::report_told;

@@ -1,16 +1,21 @@
 //! The passes of a program.
-ghost use Rattle.std.specs.Prelude.{◌≡◌, ◌++◌, ◌∷◌, [], length, flat_map, codes, IfOk, OnOk, OnErr};
+ghost use Rattle.std.specs.Prelude.{◌≡◌, ◌≤◌, ◌++◌, ◌∷◌, [], List, length, flat_map, codes, IfOk, OnOk, OnErr};
+ghost use Rattle.pass_grouping.specs.declared.operation.PassOp.{PassOp};
+ghost use Rattle.pass_grouping.specs.Facts.{last_of, way_of};
 ghost use Rattle.pass_grouping.specs.Groupings.{IsCertificate, IsGrouping, passes_from};
-ghost use Rattle.verdict_report.specs.PassesText.{carriers_text, counts_text, ends_text, kind_text, kind_words, last_of, line_at, pass_text, passes_text, range_text, way_of, window_text};
+ghost use Rattle.pass_grouping.specs.Told.{AreTold};
+ghost use Rattle.verdict_report.specs.PassesText.{carriers_text, counts_text, ends_text, fact_text, kind_text, kind_words, line_at, pass_text, passes_text, range_text, told_text, window_before, window_text, windows_told};
 
+use crate::strip::Strip;
 use crate::text::append_names;
 use knit_base::{CarrierNo, Declared, Dir, NoMemory, append_labelled};
-use pass_grouping::{Class, Grouping, PassOp, PassOps, Window, pass_at};
+use pass_grouping::{Class, Grouping, PassFact, PassOp, PassOps, ToldPasses, Window, pass_at};
 use std::alloc::Global;
 
 // The class and the direction of a pass.
 fn kind_words(class: Class, way: Dir) -> &'static str
-    ensures { result.now ≡ kind_words class way }
+    ensures words { result.now ≡ kind_words class way }
+    ensures short { length result.now ≤ 8 }
 {
     match (class, way) {
         (Class::Form, Dir::Right) => " form +",
@@ -209,5 +214,90 @@ pub fn passes_of(
     append_counts(starts.len(), ops.len(), windows.len(), &mut text)?;
     append_passes(ops, starts.as_slice(), declared, &mut text)?;
     append_windows(ops, windows.as_slice(), &mut text)?;
+    Ok(text)
+}
+
+// Appends the line of a pass of which this is told.
+fn append_fact(fact: &PassFact, declared: &Declared, out: &mut Vec<u8>) -> Result<(), NoMemory>
+    ensures { OnOk result (out.new.items ≡ out.old.items ++ fact_text declared.now fact.now) }
+{
+    let mut line = Strip::new();
+    line.put_number(fact.count);
+    line.put(" ops ");
+    line.put(kind_words(fact.class, fact.way));
+    line.put_number(fact.last_line);
+    line.put("-");
+    line.put_number(fact.first_line);
+    line.put("pass ");
+    out.extend_from_slice(line.as_slice())?;
+    append_carriers(fact.class, fact.yarns.as_slice(), declared, out)?;
+    out.extend_from_slice(b"\n")?;
+    Ok(())
+}
+
+// Appends a line for each pass of which this is told.
+fn append_facts(facts: &[PassFact], declared: &Declared, out: &mut Vec<u8>) -> Result<(), NoMemory>
+    ensures { OnOk result (out.new.items ≡ out.old.items ++ flat_map (fact_text declared.now) facts.now) }
+{
+    'facts: for fact in facts {
+        append_fact(fact, declared, out)?;
+    }
+    Ok(())
+}
+
+// Appends a line for the window from each pass to the next.
+fn append_told_windows(facts: &[PassFact], out: &mut Vec<u8>) -> Result<(), NoMemory>
+    ensures { OnOk result (out.new.items ≡ out.old.items ++ windows_told facts.now) }
+{
+    let mut before = None;
+    'facts: for fact in facts {
+        append_window_before(before, fact.first_line, out)?;
+        before = Some(fact.first_line);
+    }
+    Ok(())
+}
+
+// Appends the line of the window from the pass before, if there is one, to the pass that begins at this line.
+fn append_window_before(before: Option<u32>, line: u32, out: &mut Vec<u8>) -> Result<(), NoMemory>
+    ensures { OnOk result (out.new.items ≡ out.old.items ++ window_before before line) }
+{
+    let Some(first) = before else {
+        return Ok(());
+    };
+    let mut text = Strip::new();
+    text.put("\n");
+    text.put_number(line);
+    text.put("-");
+    text.put_number(first);
+    text.put("window ");
+    out.extend_from_slice(text.as_slice())?;
+    Ok(())
+}
+
+// Appends the counts, a line for each pass of which this is told, and one for each window.
+fn append_told(passes: &ToldPasses, declared: &Declared, out: &mut Vec<u8>) -> Result<(), NoMemory>
+    ensures { OnOk result (out.new.items ≡ out.old.items ++ told_text declared.now passes.now.operations passes.now.facts) }
+{
+    let facts = passes.facts.as_slice();
+    let count = passes.facts.len();
+    append_counts(count, passes.operations, count.saturating_sub(1), out)?;
+    append_facts(facts, declared, out)?;
+    append_told_windows(facts, out)?;
+    Ok(())
+}
+
+/// The passes of a program that are told, as `report_passes` appends them. Fails where memory runs out.
+pub fn passes_told(
+    alloc: Global,
+    passes: &ToldPasses,
+    declared: &Declared,
+) -> Result<Vec<u8>, NoMemory>
+    ensures { IfOk result (λ text. (ops : List PassOp) (told : AreTold ops passes.now)
+        → text.items ≡ passes_text declared.now ops told.starts told.windows) }
+{
+    // (a pass takes two lines, of some 60 bytes)
+    let room = 64 * (passes.facts.as_slice().len() + 1);
+    let mut text = Vec::with_capacity(alloc, room)?;
+    append_told(passes, declared, &mut text)?;
     Ok(text)
 }

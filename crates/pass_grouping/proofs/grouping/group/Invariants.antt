@@ -1,6 +1,6 @@
 use Rattle.std.proofs.Common.{◌-◌, ◌<◌, length}
 use Rattle.pass_grouping.specs.Passes.{IsOnePass}
-use Rattle.pass_grouping.specs.Tallies.{Grouped}
+use Rattle.pass_grouping.specs.Growing.{Grouped}
 use Rattle.pass_grouping.proofs.grouping.group.Given as goal
 
 abbrev pub invariant-loop-behind : goal.invariant-loop-behind
