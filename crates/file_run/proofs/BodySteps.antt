@@ -1,8 +1,7 @@
 -- The steps of a runner over the lines of a file.
-use Rattle.std.proofs.Common.{◌≡◌, ◌⊎◌, ⊎_elim, ℕ, ◌+◌, ◌-◌, ◌<◌, ◌≤◌, Bool, true, false, is_some, List, [], ◌∷◌, ◌++◌, length, take, drop, get_or, All, refl, ap, sym, subst, ◌∙◌, arith, append_assoc, append-nil, length-append, length-drop}
+use Rattle.std.proofs.Common.{◌≡◌, ◌⊎◌, ⊎_elim, ℕ, ◌+◌, ◌-◌, ◌<◌, ◌≤◌, Bool, true, List, [], ◌∷◌, ◌++◌, length, take, drop, get_or, All, refl, ap, sym, subst, ◌∙◌, arith, append_assoc, append-nil, length-append, length-drop}
 use Rattle.std.specs.List.{AllZip}
 use Rattle.std.specs.Prelude.{Option, Some, Result, Ok, Err, OnOk}
-use Rattle.std.proofs.lemmas.Bool.{true≢false}
 use Rattle.std.proofs.lemmas.List.{drop-append-le, drop-drop, length-take, take-append-drop, take_all, take_more}
 use Rattle.std.proofs.lemmas.List.Elements.{All-append}
 use Rattle.std.proofs.lemmas.Slice.Zip.{AllZip-long}
@@ -22,11 +21,9 @@ use Rattle.knitout_reader.proofs.BodyReadings.{zip-append}
 use Rattle.knitout_reader.proofs.SomeReading.{each-reads}
 use Rattle.carriage_model.specs.declared.verdict.LoopFact.{LoopFact}
 use Rattle.carriage_model.specs.declared.verdict.Verdict.{Verdict}
-use Rattle.carriage_model.specs.declared.carriage.Carriage.{Carriage}
-use Rattle.carriage_model.specs.declared.verdict.Verdict.TheVariants.{Broken, Sound}
-use Rattle.carriage_model.specs.Carriage.{HasRun, IsRunning, RanOn, StandsAfter, TellsRun, is_stopped, next_line}
+use Rattle.carriage_model.specs.Carriage.{HasRun, IsRunning, RanOn, TellsRun, is_stopped, next_line}
 use Rattle.carriage_model.specs.Loops.{loops_asked, loops_made}
-use Rattle.carriage_model.specs.Run.{Ended, Ends, Stops, run}
+use Rattle.carriage_model.specs.Run.{run}
 use Rattle.carriage_model.specs.State.{empty_state}
 use Rattle.carriage_model.specs.Verdict.{IsVerdict}
 use Rattle.file_run.specs.declared.body_run.BodyRun.{BodyRun}
@@ -34,8 +31,8 @@ use Rattle.file_run.specs.declared.judgement.Judgement.{Judgement}
 use Rattle.file_run.specs.declared.judgement.Run.{Run}
 use Rattle.file_run.specs.Bodies.{body_of, first_of}
 use Rattle.file_run.specs.Judgements.{IsJudgement}
-use Rattle.file_run.specs.Runs.{CarriesOut, HasRunBody, HasTakenAll, HasTakenSound, IsKeptText, IsRefusedHere, IsRun, KeepsBroken, PassesOver, Taking}
-use Rattle.file_run.proofs.BrokenLines.{kept-broken, kept-more, kept-over, still-stopped}
+use Rattle.file_run.specs.Runs.{CarriesOut, HasRunBody, HasTakenAll, IsKeptText, IsRefusedHere, IsRun, KeepsBroken, PassesOver, TakesAnyMore, TakesBehind, Taking}
+use Rattle.file_run.proofs.BrokenLines.{kept-broken, kept-more, kept-over}
 
 module _ (T : Type 0) (Has : Taking T) where
   -- how many lines were read
@@ -49,14 +46,9 @@ module _ (T : Type 0) (Has : Taking T) where
 
   -- the number of the next line that is taken, where it is no more than it may be
   pub next-taken : (Next : T → ℕ) → ((first : ℕ) (reads : List Read) (taker : T) → Has first reads taker → Next taker ≤ first + length reads)
-      → (with_loops : Bool) (head : Head) (lines : List (List ℕ)) (body : BodyRun T) → HasRunBody T Has with_loops head lines body → is_stopped body.carriage ≡ false → Next body.taker ≤ length lines + 1
-  next-taken Next counted with_loops head lines body here going =
-      omega (arith, counted (head.lines + 1) here.readings body.taker (here.taken going), read-count with_loops head lines body here)
-
-  -- what takes the readings is ready for one more
-  pub is-taking : (with_loops : Bool) (head : Head) (lines : List (List ℕ)) (body : BodyRun T) → HasRunBody T Has with_loops head lines body → is_stopped body.carriage ≡ false
-      → (first : ℕ) × (reads : List Read) × Has first reads body.taker
-  is-taking with_loops head lines body here going = (head.lines + 1, here.readings, here.taken going)
+      → (with_loops : Bool) (head : Head) (lines : List (List ℕ)) (body : BodyRun T) → HasRunBody T Has with_loops head lines body → Next body.taker ≤ length lines + 1
+  next-taken Next counted with_loops head lines body here =
+      omega (arith, counted (head.lines + 1) here.readings body.taker here.taken, read-count with_loops head lines body here)
 
   -- the carriage is ready for a line more
   pub is-running : (with_loops : Bool) (head : Head) (lines : List (List ℕ)) (body : BodyRun T) → HasRunBody T Has with_loops head lines body → IsRunning body.carriage
@@ -65,11 +57,11 @@ module _ (T : Type 0) (Has : Taking T) where
 
   -- one line was read, carried out and taken
   pub carries-out : (head : Head) (text : List ℕ) (start next : ℕ) (line : List ℕ) (r : Read) (old new : BodyRun T)
-      → is_stopped old.carriage ≡ false → StandsAt text start line next → ReadsAs old.profile head.declared line r → new.profile ≡ old.profile → new.names ≡ old.names
+      → StandsAt text start line next → ReadsAs old.profile head.declared line r → new.profile ≡ old.profile → new.names ≡ old.names
       → RanOn r old.carriage new.carriage → ((first : ℕ) (reads : List Read) → Has first reads old.taker → Has first (reads ++ r ∷ []) new.taker)
       → KeepsBroken new.carriage.fault old.broken line new.broken
       → CarriesOut T Has head text start next old new
-  carries-out head text start next line r old new going stands reads same same_names ran takes keeps = record {
+  carries-out head text start next line r old new stands reads same same_names ran takes keeps = record {
     line = line;
     stands = stands;
     same_profile = same;
@@ -84,7 +76,7 @@ module _ (T : Type 0) (Has : Taking T) where
           readings = here.readings ++ r ∷ [];
           read = subst (λ p. AllZip (ReadsAs p head.declared) (drop head.lines (lines ++ line ∷ [])) (here.readings ++ r ∷ [])) (sym same) read;
           ran = subst (λ p. HasRun p with_loops (head.lines + 1) (here.readings ++ r ∷ []) new.carriage) (sym same) after;
-          taken = λ on. takes (head.lines + 1) here.readings (here.taken going);
+          taken = takes (head.lines + 1) here.readings here.taken;
           names = subst (AreByteNames head.declared) (sym same_names) here.names;
           broken = kept-more old.profile with_loops (head.lines + 1) here.readings r lines line old.carriage new.carriage old.broken new.broken here.ran after
               (omega (arith, read-count with_loops head lines old here)) here.broken keeps;
@@ -92,12 +84,12 @@ module _ (T : Type 0) (Has : Taking T) where
   }
 
   -- lines behind the one that broke a rule were passed over
-  pub passes-over : (lines : List (List ℕ)) (count : ℕ) (old new : BodyRun T) → length lines ≡ count → is_stopped old.carriage ≡ true
-      → new.profile ≡ old.profile → new.names ≡ old.names → new.broken ≡ old.broken
+  pub passes-over : (lines : List (List ℕ)) (count : ℕ) (old new : BodyRun T) → length lines ≡ count → is_stopped old.carriage ≡ true → TakesAnyMore T Has old.taker
+      → new.profile ≡ old.profile → new.names ≡ old.names → new.taker ≡ old.taker → new.broken ≡ old.broken
       → ((profile : Profile) (with_loops : Bool) (first : ℕ) (reads more : List Read) → length more ≡ count → HasRun profile with_loops first reads old.carriage
       → HasRun profile with_loops first (reads ++ more) new.carriage)
       → PassesOver T Has lines old new
-  passes-over lines count old new counted stopped same same_names same_broken over = record {
+  passes-over lines count old new counted stopped idle same same_names same_taker same_broken over = record {
     same_profile = same;
     ran = λ with_loops head before here.
         let rest = each-reads old.profile head.declared lines in
@@ -112,7 +104,7 @@ module _ (T : Type 0) (Has : Taking T) where
           readings = here.readings ++ rest.0;
           read = subst (λ p. AllZip (ReadsAs p head.declared) (drop head.lines (before ++ lines)) (here.readings ++ rest.0)) (sym same) read;
           ran = subst (λ p. HasRun p with_loops (head.lines + 1) (here.readings ++ rest.0) new.carriage) (sym same) after;
-          taken = λ on. absurd (true≢false (sym (still-stopped old.profile with_loops (head.lines + 1) here.readings rest.0 old.carriage new.carriage here.ran after stopped) ∙ on));
+          taken = subst (Has (head.lines + 1) (here.readings ++ rest.0)) (sym same_taker) (idle (head.lines + 1) here.readings rest.0 here.taken);
           names = subst (AreByteNames head.declared) (sym same_names) here.names;
           broken = kept-over old.profile with_loops (head.lines + 1) here.readings rest.0 before lines old.carriage new.carriage new.broken here.ran after stopped
               (subst (λ kept. IsKeptText before old.carriage.fault kept) (sym same_broken) here.broken);
@@ -170,7 +162,7 @@ module _ (T : Type 0) (Has : Taking T) where
       )
 
   pub taken-rest : (head : Head) (text rest : List ℕ) (before count start more : ℕ) (old now new : BodyRun T) → start < length text → rest ≡ drop start text → HasTakenTo head text before count start old now
-      → HasGoodLines rest more → PassesOver T Has (lines_of rest) now new → HasGoodLines text (count + more) × HasTakenLines head text before old new
+      → HasGoodLines rest more → TakesBehind T Has head (before + count) (lines_of rest) now new → HasGoodLines text (count + more) × HasTakenLines head text before old new
   taken-rest head text rest before count start more old now new some is here good over =
       let left : HasGoodLines (drop start text) more = subst (λ t. HasGoodLines t more) is good in
       let behind : IsBehind text (count + more) (length text) = behind-between text count start more (length text) here.behind (between-rest text start more some left) in
@@ -179,15 +171,13 @@ module _ (T : Type 0) (Has : Taking T) where
         behind-counted text (count + more) (length text) behind (omega arith),
         λ with_loops lines len was. subst (λ ls. HasRunBody T Has with_loops head ls new)
             (append_assoc lines (take count (lines_of text)) (lines_of rest) ∙ ap (λ ls. lines ++ ls) whole)
-            (over.ran with_loops head (lines ++ take count (lines_of text)) (here.ran with_loops lines len was)),
+            (over.ran with_loops (lines ++ take count (lines_of text)) (omega (arith, len, length-append lines (take count (lines_of text)), length-take count (lines_of text), here.behind.within))
+            (here.ran with_loops lines len was)),
       )
 
-  -- what took the lines is told of where the verdict is sound
-  taken_by : (profile : Profile) (names lines : List (List ℕ)) (taker : T) (count : ℕ) (verdict : Verdict) (ended : Ended) (loops : List LoopFact) (carriage : Carriage) → StandsAfter carriage ended
-      → IsVerdict count verdict ended loops → (is_stopped carriage ≡ false → HasTakenAll T Has profile names lines taker) → HasTakenSound T Has profile names lines taker verdict
-  taken_by profile names lines taker count (Sound final) (Ends s) loops carriage stands is taken = taken (ap is_some stands.0)
-  taken_by profile names lines taker count (Sound final) (Stops s fault) loops carriage stands is taken = absurd is
-  taken_by profile names lines taker count (Broken fault) ended loops carriage stands is taken = tt
+  -- what passes over lines takes them
+  pub takes-over : (head : Head) (before : ℕ) (lines : List (List ℕ)) (old new : BodyRun T) → PassesOver T Has lines old new → TakesBehind T Has head before lines old new
+  takes-over head before lines old new over = record { ran = λ with_loops front len here. over.ran with_loops head front here; same_profile = over.same_profile }
 
   -- what was made of all lines
   pub comes-to : (with_loops : Bool) (head : Head) (lines : List (List ℕ)) (body : BodyRun T) (verdict : Verdict) (loops : Option (List LoopFact)) → IsHead lines head
@@ -212,8 +202,7 @@ module _ (T : Type 0) (Has : Taking T) where
           loops = tells.loops_are ∙ ap (λ k. loops_asked with_loops (loops_made body.profile empty_state k here.readings)) first;
         };
         broken = kept-broken body.profile with_loops (head.lines + 1) (length here.readings) here.readings lines body.broken verdict _ body.carriage here.ran tells.verdict_is here.broken;
-        taken = taken_by body.profile head.declared lines body.taker (length here.readings) verdict (run body.profile empty_state (head.lines + 1) here.readings) _ body.carriage here.ran.stands tells.verdict_is
-            (λ on. record { readings = here.readings; read = read; taken = subst (λ k. Has k here.readings body.taker) first (here.taken on) });
+        taken = record { readings = here.readings; read = read; taken = subst (λ k. Has k here.readings body.taker) first here.taken };
       }
 
 -- the line that is refused is the first bad one of the file, where so many lines of the text stand before it
@@ -249,6 +238,11 @@ usual-stands profile names text rest start len usual is begins =
       first = ap lines_of (sym left) ∙ begins.lines ∙ ap (λ (l : List ℕ). begins.line ∷ lines_of l) behind;
       good = record { utf8 = begins.utf8; short = omega (arith, begins.short) };
     }
+
+-- what a clause of a result gives
+pub on_ok-with : {A E P Q : Type 0} (r : Result A E) → (P → Q) → OnOk r P → OnOk r Q
+on_ok-with (Ok a) gives p = gives p
+on_ok-with (Err e) gives p = tt
 
 -- what both clauses of a result give
 pub on_ok-both : {A E P Q R : Type 0} (r : Result A E) → OnOk r P → OnOk r Q → (P → Q → R) → OnOk r R

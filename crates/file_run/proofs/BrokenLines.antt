@@ -108,16 +108,6 @@ stops_still lines more old new kept (Stops s fault) both stood stands same stopp
     let stays : new.fault ≡ Some fault = subst (StandsAfter new) (same tt) stands in
     subst (λ f. IsKeptText (lines ++ more) f kept) (sym stays) (broken_stays lines more fault kept (subst (λ f. IsKeptText lines f kept) stood here))
 
-stopped_by : (old new : Carriage) (ended both : Ended) → StandsAfter old ended → StandsAfter new both → (HasStopped ended → both ≡ ended) → is_stopped old ≡ true → is_stopped new ≡ true
-stopped_by old new (Ends s) both stood stands same stopped = absurd (true≢false (sym stopped ∙ ap is_some stood.0))
-stopped_by old new (Stops s fault) both stood stands same stopped = ap is_some (subst (StandsAfter new) (same tt) stands)
-
--- a carriage that stopped stays so
-pub still-stopped : (profile : Profile) (with_loops : Bool) (first : ℕ) (reads more : List Read) (old new : Carriage)
-    → HasRun profile with_loops first reads old → HasRun profile with_loops first (reads ++ more) new → is_stopped old ≡ true → is_stopped new ≡ true
-still-stopped profile with_loops first reads more old new here after stopped =
-    stopped_by old new (run profile empty_state first reads) (run profile empty_state first (reads ++ more)) here.stands after.stands (run_stays profile empty_state first reads more) stopped
-
 -- no line is kept where the carriage goes on
 pub keeps-none : (fault : Option Fault) (kept : Option (List ℕ)) (line : List ℕ) → is_some fault ≡ false → KeepsBroken fault kept line kept
 keeps-none None kept line going = refl

@@ -1,5 +1,5 @@
 -- What a runner stands at while the lines of a file come, and what it comes to.
-use Rattle.std.specs.Prelude.{◌≡◌, ◌⊎◌, ℕ, ◌+◌, ◌<◌, ◌≤◌, Bool, false, List, [], ◌∷◌, ◌++◌, length, drop, Option, None, Some, unwrap_or}
+use Rattle.std.specs.Prelude.{◌≡◌, ◌⊎◌, ℕ, ◌+◌, ◌<◌, ◌≤◌, Bool, List, [], ◌∷◌, ◌++◌, length, drop, Option, None, Some, unwrap_or}
 use Rattle.std.specs.List.{AllZip}
 use Rattle.knit_base.specs.declared.instr.Read.{Read}
 use Rattle.knit_base.specs.declared.profile.Profile.{Profile}
@@ -12,9 +12,7 @@ use Rattle.knitout_reader.specs.declared.head.Head.{Head}
 use Rattle.knitout_reader.specs.Reading.{ReadsAs}
 use Rattle.knitout_reader.specs.Usual.{AreByteNames}
 use Rattle.carriage_model.specs.declared.carriage.Carriage.{Carriage}
-use Rattle.carriage_model.specs.declared.verdict.Verdict.{Verdict}
-use Rattle.carriage_model.specs.declared.verdict.Verdict.TheVariants.{Broken, Sound}
-use Rattle.carriage_model.specs.Carriage.{HasRun, is_stopped}
+use Rattle.carriage_model.specs.Carriage.{HasRun}
 use Rattle.block_summary.specs.Verdicts.{broken_line, numbered_line}
 use Rattle.file_run.specs.declared.body_run.BodyRun.{BodyRun}
 use Rattle.file_run.specs.declared.judgement.Run.{Run}
@@ -58,17 +56,21 @@ abbrev pub KeepsBroken : Option Fault → Option (List ℕ) → List ℕ → Opt
 KeepsBroken None old line new = new ≡ old
 KeepsBroken (Some fault) old line new = KeepsText old line new
 
+-- any readings more are taken
+abbrev pub TakesAnyMore : (T : Type 0) → Taking T → T → Type 0
+TakesAnyMore T Has taker = (first : ℕ) (reads more : List Read) → Has first reads taker → Has first (reads ++ more) taker
+
 -- the line that begins at this place is refused, or memory ran out
 abbrev pub IsRefusedHere : List ℕ → ℕ → ℕ → CutFault → Type 0
 IsRefusedHere text start number fault = (fault ≡ NoMemory) ⊎ IsNextRefused text start number fault
 
--- a carriage has carried out the lines behind the head, what takes their readings has taken them, if none broke a rule, and the line that broke one is known
+-- a carriage has carried out the lines behind the head, what takes their readings has taken them, and the line that broke a rule is known
 pub record HasRunBody (T : Type 0) (Has : Taking T) (with_loops : Bool) (head : Head) (lines : List (List ℕ)) (run : BodyRun T) : Type 0 where
   pub within : head.lines ≤ length lines
   pub readings : List Read
   pub read : AllZip (ReadsAs run.profile head.declared) (drop head.lines lines) readings
   pub ran : HasRun run.profile with_loops (head.lines + 1) readings run.carriage
-  pub taken : is_stopped run.carriage ≡ false → Has (head.lines + 1) readings run.taker
+  pub taken : Has (head.lines + 1) readings run.taker
   pub names : AreByteNames head.declared run.names
   pub broken : IsKeptText lines run.carriage.fault run.broken
 
@@ -86,6 +88,12 @@ pub record PassesOver (T : Type 0) (Has : Taking T) (lines : List (List ℕ)) (o
       → HasRunBody T Has with_loops head (before ++ lines) new
   pub same_profile : new.profile ≡ old.profile
 
+-- so many lines had been taken, and these behind them
+pub record TakesBehind (T : Type 0) (Has : Taking T) (head : Head) (before : ℕ) (lines : List (List ℕ)) (old new : BodyRun T) : Type 0 where
+  pub ran : (with_loops : Bool) (front : List (List ℕ)) → length front ≡ before → HasRunBody T Has with_loops head front old
+      → HasRunBody T Has with_loops head (front ++ lines) new
+  pub same_profile : new.profile ≡ old.profile
+
 -- a runner that has begun no body yet
 pub record StandsReady (T : Type 0) (start now : Runner T) : Type 0 where
   pub same : now ≡ start
@@ -99,13 +107,8 @@ pub record HasRunFile (T : Type 0) (Has : Taking T) (head : Head) (lines : List 
   pub same_profile : body.profile ≡ start.profile
   pub ran : HasRunBody T Has start.with_loops head lines body
 
--- what took the lines of a file in which none breaks a rule; of another nothing is told of it
-abbrev pub HasTakenSound : (T : Type 0) → Taking T → Profile → List (List ℕ) → List (List ℕ) → T → Verdict → Type 0
-HasTakenSound T Has profile names lines taker (Sound final) = HasTakenAll T Has profile names lines taker
-HasTakenSound T Has profile names lines taker (Broken fault) = Unit {0}
-
 -- what one carriage makes of a file with these lines, the line that broke a rule, and what took the lines
 pub record IsRun (T : Type 0) (Has : Taking T) (with_loops : Bool) (profile : Profile) (names lines : List (List ℕ)) (run : Run T) : Type 0 where
   pub judgement : IsJudgement with_loops profile names lines run.judgement
   pub broken : unwrap_or run.broken [] ≡ broken_line 1 lines run.judgement.verdict
-  pub taken : HasTakenSound T Has profile names lines run.taker run.judgement.verdict
+  pub taken : HasTakenAll T Has profile names lines run.taker

@@ -8,7 +8,7 @@ ghost use Rattle.line_cutter.specs.Cut.{HasGoodLines, IsFirstBadBehind, IsNextRe
 ghost use Rattle.knitout_reader.specs.declared.head.Head.{Head};
 ghost use Rattle.knitout_reader.specs.Head.{IsHead};
 ghost use Rattle.carriage_model.specs.Carriage.{IsRunning, RanOn, is_stopped, next_line, profile_of};
-ghost use Rattle.file_run.specs.Runs.{CarriesOut, HasRunBody, IsRefusedHere, IsRun, KeepsBroken, PassesOver};
+ghost use Rattle.file_run.specs.Runs.{CarriesOut, HasRunBody, IsRefusedHere, IsRun, KeepsBroken, PassesOver, TakesAnyMore, TakesBehind};
 
 use crate::judgement::{Judgement, Run};
 use crate::taker::Taker;
@@ -52,7 +52,7 @@ impl<T: Taker> BodyRun<T> {
     }
 
     /// Carries out the lines of these bytes, before which the file has so many, and says how many they are. Behind a line that broke a rule
-    /// they are only counted, and no readings are taken.
+    /// they are only counted, where their readings aren't wanted.
     pub fn take_lines(
         &mut self,
         alloc: Global,
@@ -75,10 +75,40 @@ impl<T: Taker> BodyRun<T> {
         let mut count = 0;
         'running: while start < text.len() {
             if self.carriage.is_stopped() {
-                let more = self.pass_over(&text[start..], before + count)?;
+                let more = self.take_behind(alloc, head, &text[start..], before + count)?;
                 return Ok(count + more);
             }
             start = self.take_line(alloc, head, text, start, before + count + 1)?;
+            count += 1;
+        }
+        Ok(count)
+    }
+
+    // The same behind a line that broke a rule, where the carriage only counts lines. It is called once a window at most.
+    #[inline(never)]
+    fn take_behind(
+        &mut self,
+        alloc: Global,
+        head: &Head,
+        text: &[u8],
+        before: u32,
+    ) -> Result<u32, CutFault>
+        requires size { length text.now ≤ 16777216 }
+        requires few { before ≤ 50331648 }
+        requires stopped { is_stopped self.old.carriage ≡ true }
+        requires ran { (with_loops : Bool) × (lines : List (List ℕ)) × (length lines ≡ before)
+            × HasRunBody T T.has with_loops head.now lines self.old }
+        ensures good { IfOk result (HasGoodLines text.now) }
+        ensures ok { OnOk result (TakesBehind T T.has head.now before (lines_of text.now) self.old self.new) }
+        ensures err { IfErr result (IsFirstBadBehind before (lines_of text.now)) }
+    {
+        if self.taker.takes_nothing() {
+            return self.pass_over(text, before);
+        }
+        let mut start = 0;
+        let mut count = 0;
+        'running: while start < text.len() {
+            start = self.take_any(alloc, head, text, start, before + count + 1)?;
             count += 1;
         }
         Ok(count)
@@ -89,6 +119,7 @@ impl<T: Taker> BodyRun<T> {
         requires size { length text.now ≤ 16777216 }
         requires few { before ≤ 67108864 }
         requires stopped { is_stopped self.old.carriage ≡ true }
+        requires idle { TakesAnyMore T T.has self.old.taker }
         requires next { next_line self.old.carriage ≡ before + 1 }
         ensures good { IfOk result (HasGoodLines text.now) }
         ensures ok { OnOk result (PassesOver T T.has (lines_of text.now) self.old self.new) }
@@ -145,7 +176,6 @@ impl<T: Taker> BodyRun<T> {
         requires few { number ≤ 67108865 }
         requires ran { (with_loops : Bool) × (lines : List (List ℕ)) × (length lines + 1 ≡ number)
             × HasRunBody T T.has with_loops head.now lines self.old }
-        requires going { is_stopped self.old.carriage ≡ false }
         ensures ok { IfOk result (λ next. CarriesOut T T.has head.now text.now start next self.old self.new) }
         ensures err { IfErr result (IsRefusedHere text.now start number) }
     {

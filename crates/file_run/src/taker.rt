@@ -1,5 +1,5 @@
 //! What takes the readings of a file's lines one by one, beside the carriage that executes them.
-ghost use Rattle.std.specs.Prelude.{◌≡◌, ◌≤◌, ◌<◌, ◌+◌, ◌^◌, ℕ, List, [], ◌∷◌, ◌++◌, length, IfOk, OnOk};
+ghost use Rattle.std.specs.Prelude.{◌≡◌, ◌≤◌, ◌<◌, ◌+◌, ◌^◌, ℕ, true, List, [], ◌∷◌, ◌++◌, length, IfOk, OnOk};
 ghost use Rattle.std.proofs.Common.{arith};
 ghost use Rattle.knit_base.specs.declared.instr.Read.{Read};
 ghost use Rattle.knit_base.specs.declared.profile.Profile.{Profile};
@@ -40,6 +40,10 @@ pub trait Taker: Drop {
         ensures { OnOk result ((first : ℕ) (reads : List Read) → has first reads self.old
             → has first (reads ++ usual_read usual ∷ []) self.new) };
 
+    /// Whether it has taken whatever comes, so that lines needn't be read for it.
+    fn takes_nothing(&self) -> bool
+        ensures { result ≡ true → (first : ℕ) (reads more : List Read) → has first reads self.now → has first (reads ++ more) self.now };
+
     /// The next line is at most the one behind those that were taken.
     ghost counted: { (first : ℕ) (reads : List Read) (taker : Self) → has first reads taker → next taker ≤ first + length reads };
 }
@@ -68,6 +72,11 @@ impl Taker for Nothing {
         Ok(())
     }
 
+    #[inline(always)]
+    fn takes_nothing(&self) -> bool {
+        true
+    }
+
     ghost counted = { λ first reads taker has. omega arith };
 }
 
@@ -88,6 +97,10 @@ impl Taker for Tally {
     #[inline(always)]
     fn take_usual(&mut self, alloc: Global, usual: Usual) -> Result<(), NoMemory> {
         Tally::take_usual(self, alloc, usual)
+    }
+
+    fn takes_nothing(&self) -> bool {
+        false
     }
 
     ghost counted = { λ first reads taker has. omega (arith, has.listed.lines) };

@@ -1,16 +1,13 @@
-use Rattle.std.proofs.Common.{length, sym, subst, refl, arith, OnOk}
+use Rattle.std.proofs.Common.{length, sym, subst, refl, arith}
 use Rattle.knit_base.specs.Lawful.{IsLawfulRead}
 use Rattle.pass_grouping.proofs.Racks.{read-lawful}
-use Rattle.file_run.proofs.BodySteps.{carries-out, is-running, is-taking, next-number, next-taken}
+use Rattle.file_run.proofs.BodySteps.{carries-out, next-number, next-taken}
 use Rattle.file_run.proofs.body_run.BodyRun.take_any.Goals as goal
-
-pub take-requires-clause-taking : goal.take-requires-clause-taking
-take-requires-clause-taking g c = is-taking _ g.T.Taker.has c.requires.ran.0 c.args.head.now c.requires.ran.1 c.args.self.now c.requires.ran.3 c.requires.going
 
 pub take-requires-clause-lines : goal.take-requires-clause-lines
 take-requires-clause-lines g c =
     let here = c.requires.ran.3 in
-    omega (arith, c.requires.few, c.requires.ran.2, next-taken _ g.T.Taker.has g.T.Taker.next g.met.T.Taker.counted c.requires.ran.0 c.args.head.now c.requires.ran.1 c.args.self.now here c.requires.going)
+    omega (arith, c.requires.few, c.requires.ran.2, next-taken _ g.T.Taker.has g.T.Taker.next g.met.T.Taker.counted c.requires.ran.0 c.args.head.now c.requires.ran.1 c.args.self.now here)
 
 pub take-requires-clause-rack : goal.take-requires-clause-rack
 take-requires-clause-rack g c =
@@ -28,5 +25,5 @@ execute-requires-clause-lines g c =
 
 pub returns-clause-ok : goal.returns-clause-ok
 returns-clause-ok g c =
-    carries-out _ g.T.Taker.has c.args.head.now c.args.text.now c.args.start c.in_ok-line.next c.in_ok-line.line.now c.in_ok-read.read c.args.self.now _ c.requires.going c.in_ok-line.ensures.ok c.in_ok-read.ensures.reads
+    carries-out _ g.T.Taker.has c.args.head.now c.args.text.now c.args.start c.in_ok-line.next c.in_ok-line.line.now c.in_ok-read.read c.args.self.now _ c.in_ok-line.ensures.ok c.in_ok-read.ensures.reads
     refl refl c.in_ok-execute.ensures.ok c.in_ok-take.ensures c.in_ok-keep_broken.ensures

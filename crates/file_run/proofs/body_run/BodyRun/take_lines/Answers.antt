@@ -8,10 +8,10 @@ use Rattle.file_run.proofs.body_run.BodyRun.take_lines.Goals as goal
 pub running-init : goal.running-init
 running-init g c = taken-none _ g.T.Taker.has c.args.head.now c.args.text.now c.args.before c.args.self.now
 
-pub pass_over-requires-clause-next : goal.pass_over-requires-clause-next
-pass_over-requires-clause-next g c =
+pub take_behind-requires-clause-ran : goal.take_behind-requires-clause-ran
+take_behind-requires-clause-ran g c =
     let here = stands-at _ g.T.Taker.has _ _ _ _ _ _ _ c.running.invariant c.requires.ran.0 c.requires.ran.1 c.requires.ran.2 c.requires.ran.3 in
-    omega (arith, here.0, next-number _ g.T.Taker.has c.requires.ran.0 c.args.head.now (c.requires.ran.1 ++ take c.running.count (lines_of c.args.text.now)) c.running.self here.1)
+    (c.requires.ran.0, c.requires.ran.1 ++ take c.running.count (lines_of c.args.text.now), here.0, here.1)
 
 pub returns-in_err-more-clause-err : goal.returns-in_err-more-clause-err
 returns-in_err-more-clause-err g c =

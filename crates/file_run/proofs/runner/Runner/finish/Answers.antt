@@ -1,4 +1,4 @@
-use Rattle.std.proofs.Common.{◌≡◌, ap, sym, subst, ◌∙◌}
+use Rattle.std.proofs.Common.{ap, sym, subst, ◌∙◌}
 use Rattle.std.proofs.lemmas.Result.{IfOk-weaker}
 use Rattle.file_run.specs.declared.body_run.BodyRun.{BodyRun}
 use Rattle.file_run.specs.Runs.{HasRunBody, IsRun}

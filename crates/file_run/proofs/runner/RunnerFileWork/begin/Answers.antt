@@ -1,4 +1,4 @@
-use Rattle.std.proofs.Common.{◌≡◌, ap, refl, sym, subst, ◌∙◌}
+use Rattle.std.proofs.Common.{ap, refl, subst, ◌∙◌}
 use Rattle.file_run.specs.declared.runner.Runner.{Runner}
 use Rattle.file_run.specs.Runs.{HasRunBody}
 use Rattle.file_run.proofs.runner.RunnerFileWork.begin.Goals as goal
