@@ -30,6 +30,6 @@ carry-requires-clause-lines g c =
 pub returns-clause-ok : goal.returns-clause-ok
 returns-clause-ok g c =
     let begins = c.in-Some.ensures c.args.head.now.declared c.requires.ran.3.names in
-    let stands = usual-stands c.args.self.now.profile c.args.head.now.declared c.args.text.now _ c.args.start c.in-Some.len c.in-Some.usual refl begins in
+    let stands = usual-stands 32 c.args.self.now.profile c.args.head.now.declared c.args.text.now _ c.args.start c.in-Some.len c.in-Some.usual (omega arith) refl begins in
     carries-out _ g.T.Taker.has c.args.head.now c.args.text.now c.args.start _ begins.line (usual_read c.in-Some.usual) c.args.self.now _ stands begins.read
     refl refl c.in_ok-carry.ensures c.in_ok-take_usual.ensures (c.in_ok-keep_broken_at.ensures.ok begins.line _ stands)
