@@ -1,7 +1,7 @@
 //! Lines that say what most lines say, in any spelling, read at once.
 //!
-//! A token is told where it stands: neither the end of its line nor that of its comment is looked for before. So each function says what the line says whose later tokens
-//! stand behind.
+//! Each token is told where it stands, before the end of its line is looked for. So a contract says which tokens a line has in front,
+//! whatever the rest of it turns out to be.
 ghost use Rattle.std.specs.Prelude.{◌≡◌, ◌∷◌, ◌++◌, ◌≤◌, ℕ, List, [], true, length, All, IfSome};
 ghost use Rattle.knit_base.specs.Spelling.{bed_word, dir_word};
 ghost use Rattle.knitout_reader.specs.Loose.{BeginsWithBytesOf, BeginsWithDigits, BeginsWithNameOf, BeginsWithNeedleToken, BeginsWithSigned, EndsLine, GoesOnTo, HasNeedles, HasOperands, LeadsTo, Says};
