@@ -44,6 +44,45 @@ SPELLINGS = [
     ),
     (b";!knitout-2\n;;Carriers: 1\nin 1\n\n tuck + f1 1\nxfer  f1 b1\n", b"sound lines 4 made 1 held 1 rack 0\nin: 1\nhook:\nb1: 5\n"),
 ]
+# Blanks, signs, zeros and comments in lines that say what usual ones do.
+LOOSE = [
+    (
+        b";!knitout-2\n;;Carriers: 1 12\nin 1 12\n \ttuck\t -  f+007\t12 \t; 1;2\ntuck + f-0001 1;knit\nxfer\tf007  bs+7;\n xfer bs7 f7 \n",
+        b"sound lines 5 made 2 held 2 rack 0\nin: 1 12\nhook:\nf-1: 5\nf7: 4\n",
+    ),
+    (
+        b";!knitout-2\n;;Carriers: 1\nin 1\ntuck + f+01023 1 ;\ntuck\t+ f-1024 1\t\n",
+        b"sound lines 3 made 2 held 2 rack 0\nin: 1\nhook:\nf-1024: 5\nf1023: 4\n",
+    ),
+    (
+        b";!knitout-2\n;;Carriers: 1\nin 1\ntuck + f+" + 40 * b"0" + b"1 1\n",
+        b"sound lines 2 made 1 held 1 rack 0\nin: 1\nhook:\nf1: 4\n",
+    ),
+    (b";!knitout-2\n;;Carriers: 1\nin 1\n tuck + f+1024 1;\n", b"broken line 4 rule OffBed at 2\n>  tuck + f+1024 1;\n"),
+    (
+        b";!knitout-2\n;;Carriers: 1\nin 1\ntuck + f4294967297 1 ;\n",
+        b"broken line 4 rule OffBed at 2\n> tuck + f4294967297 1 ;\n",
+    ),
+    (b";!knitout-2\n;;Carriers: 1\nin 1\n\ttuck + fs1 1\n", b"broken line 4 rule SliderForm at 2\n> \ttuck + fs1 1\n"),
+    (b";!knitout-2\n;;Carriers: 1\nin 1\nxfer fs1  bs1\n", b"broken line 4 rule TwoSliders at 2\n> xfer fs1  bs1\n"),
+    (b";!knitout-2\n;;Carriers: 1\nin 1\nxfer f1  fs1\n", b"broken line 4 rule SameBed at 2\n> xfer f1  fs1\n"),
+    (b";!knitout-2\n;;Carriers: 1\nin 1\n tuck +f1 1\n", b"broken line 4 rule Unreadable at 0\n>  tuck +f1 1\n"),
+    (b";!knitout-2\n;;Carriers: 1\nin 1\n tuck + f1; 1\n", b"sound lines 2 made 0 held 0 rack 0\nin: 1\nhook:\n"),
+    (b";!knitout-2\n;;Carriers: 1 1a\nin 1\n tuck + f1 1a\n", b"broken line 4 rule CarrierIsOut at 3\n>  tuck + f1 1a\n"),
+]
+# Ends of such lines.
+LOOSE_ENDS = [
+    (
+        b";!knitout-2\n;;Carriers: 1\nin 1\ntuck + f1 1 ;\r x\ntuck + f2 1 ;\xc3\xa9\n tuck + f3 1\r\n tuck + f4 1",
+        b"sound lines 5 made 4 held 4 rack 0\nin: 1\nhook:\nf1: 4\nf2: 5\nf3: 6\nf4: 7\n",
+    ),
+    (
+        b";!knitout-2\n;;Carriers: 1\nin 1\ntuck + f1 1 ;" + 4083 * b"x" + b"\n",
+        b"sound lines 2 made 1 held 1 rack 0\nin: 1\nhook:\nf1: 4\n",
+    ),
+    (b";!knitout-2\n;;Carriers: 1\nin 1\ntuck + f1 1 ;" + 4084 * b"x" + b"\n", b"bad input: line 4 LineLong\n"),
+    (b";!knitout-2\n;;Carriers: 1\nin 1\n tuck + f1 1 ;\xff\n", b"bad input: line 4 NotUtf8\n"),
+]
 FAULTS = [
     (b";!knitout-2\n;;Carriers: 1\nin 1\nin 1\n;\xc3\xa9\n\nknit + f1 1\r\n\n", b"broken line 4 rule CarrierIsIn at 1\n> in 1\n"),
     (b";!knitout-2\n;;Carriers: 1\nin 1\nin 1\nknit + f1 1\nknit\n", b"broken line 4 rule CarrierIsIn at 1\n> in 1\n"),
@@ -144,6 +183,12 @@ class NearlyUsual(EachWay):
 
     def test_nearly_usual_spellings(self) -> None:
         self.checked(SPELLINGS)
+
+    def test_loose_spellings(self) -> None:
+        self.checked(LOOSE)
+
+    def test_ends_of_loose_lines(self) -> None:
+        self.checked(LOOSE_ENDS)
 
     def test_lines_behind_a_fault(self) -> None:
         """A file with a bad line is refused for that line alone, also behind a fault."""

@@ -16,7 +16,7 @@ use Rattle.line_cutter.proofs.PlacesBehind.{behind-all, behind-between, behind-c
 use Rattle.knitout_reader.specs.declared.head.Head.{Head}
 use Rattle.knitout_reader.specs.Head.{IsHead}
 use Rattle.knitout_reader.specs.Reading.{ReadsAs}
-use Rattle.knitout_reader.specs.Usual.{AreByteNames, BeginsWithUsual}
+use Rattle.knitout_reader.specs.Usual.{AreByteNames, BeginsWithLine}
 use Rattle.knitout_reader.proofs.BodyReadings.{zip-append}
 use Rattle.knitout_reader.proofs.SomeReading.{each-reads}
 use Rattle.carriage_model.specs.declared.verdict.LoopFact.{LoopFact}
@@ -227,16 +227,16 @@ refused-later text rest before count start fault here is refused front len good 
     (refused (front ++ take count (lines_of text)) (omega (arith, len, length-append front (take count (lines_of text)), length-take count (lines_of text), here.within))
     (All-append IsGoodLine front (take count (lines_of text)) good here.good))
 
--- a usual line stands at this place, where the rest of the text begins with it
-pub usual-stands : (profile : Profile) (names : List (List ℕ)) (text rest : List ℕ) (start len : ℕ) (usual : Usual) → rest ≡ take (length text - start) (drop start text)
-    → (begins : BeginsWithUsual profile names rest usual len) → StandsAt text start begins.line (start + len)
-usual-stands profile names text rest start len usual is begins =
+-- a line that was read at once stands at this place, where the rest of the text begins with it
+pub usual-stands : (most : ℕ) (profile : Profile) (names : List (List ℕ)) (text rest : List ℕ) (start len : ℕ) (usual : Usual) → most ≤ 4096 → rest ≡ take (length text - start) (drop start text)
+    → (begins : BeginsWithLine most profile names rest usual len) → StandsAt text start begins.line (start + len)
+usual-stands most profile names text rest start len usual short is begins =
     let left : rest ≡ drop start text = is ∙ take_all (length text - start) (drop start text) (omega (arith, length-drop start text)) in
     let behind : drop len rest ≡ drop (start + len) text = ap (drop len) left ∙ drop-drop len start text ∙ ap (λ k. drop k text) (omega arith) in
     record {
       further = omega (arith, begins.some);
       first = ap lines_of (sym left) ∙ begins.lines ∙ ap (λ (l : List ℕ). begins.line ∷ lines_of l) behind;
-      good = record { utf8 = begins.utf8; short = omega (arith, begins.short) };
+      good = record { utf8 = begins.utf8; short = omega (arith, begins.short, short) };
     }
 
 -- what a clause of a result gives

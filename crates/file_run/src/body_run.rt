@@ -14,7 +14,7 @@ use crate::judgement::{Judgement, Run};
 use crate::taker::Taker;
 use carriage_model::Carriage;
 use knit_base::{NoMemory, Profile, Text, Usual};
-use knitout_reader::{ByteNames, Head, read_line, usual_line, usual_reading};
+use knitout_reader::{ByteNames, Head, loose_line, read_line, usual_line, usual_reading};
 use line_cutter::{CutFault, count_lines, line_at};
 use std::alloc::Global;
 
@@ -150,6 +150,33 @@ impl<T: Taker> BodyRun<T> {
         ensures err { IfErr result (IsRefusedHere text.now start number) }
     {
         let Some((usual, len)) = usual_line(&text[start..], &self.profile, &self.names) else {
+            return self.take_loose(alloc, head, text, start, number);
+        };
+        self.taker.take_usual(alloc, usual)?;
+        carry(alloc, usual, &mut self.carriage)?;
+        keep_broken_at(alloc, text, start, number, &self.carriage, &mut self.broken)?;
+        Ok(start + len)
+    }
+
+    // The same of a line in another spelling. It stays out of the loop above.
+    #[inline(never)]
+    fn take_loose(
+        &mut self,
+        alloc: Global,
+        head: &Head,
+        text: &[u8],
+        start: usize,
+        number: u32,
+    ) -> Result<usize, CutFault>
+        requires some { start < length text.now }
+        requires size { length text.now ≤ 16777216 }
+        requires few { number ≤ 67108865 }
+        requires ran { (with_loops : Bool) × (lines : List (List ℕ)) × (length lines + 1 ≡ number)
+            × HasRunBody T T.has with_loops head.now lines self.old }
+        ensures ok { IfOk result (λ next. CarriesOut T T.has head.now text.now start next self.old self.new) }
+        ensures err { IfErr result (IsRefusedHere text.now start number) }
+    {
+        let Some((usual, len)) = loose_line(&text[start..], &self.profile, &self.names) else {
             return self.take_any(alloc, head, text, start, number);
         };
         self.taker.take_usual(alloc, usual)?;

@@ -9,6 +9,7 @@ pub mod HeaderLines
 pub mod Heads
 pub mod HeadsByLines
 pub mod LawfulReadings
+pub mod LooseLines
 pub mod Marks
 pub mod OneNeedle
 pub mod OneShape

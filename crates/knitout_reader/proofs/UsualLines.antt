@@ -40,7 +40,8 @@ use Rattle.knitout_reader.specs.Operations.{loop_instr, loop_slider, loop_word}
 use Rattle.knitout_reader.specs.Reading.{ReadsAs, CodeReadsAs, TokensReadAs, needle_on, not_opposite, off_bed, reading_or, slider_form}
 use Rattle.knitout_reader.specs.Shapes.{IsFormed, XferShape}
 use Rattle.knitout_reader.specs.Tokens.{before_comment, has_comment, is_blank, is_semicolon, tokens_of}
-use Rattle.knitout_reader.specs.Usual.{AreByteNames, BeginsWithUsual, BeginsWithUsualName, BeginsWithUsualNeedles, BeginsWithUsualNumber, BeginsWithUsualOperands, IsByteName, IsPairName, IsTokenByte, pair_text}
+use Rattle.knitout_reader.specs.Loose.{StaysInLine}
+use Rattle.knitout_reader.specs.Usual.{AreByteNames, BeginsWithLine, BeginsWithUsual, BeginsWithUsualName, BeginsWithUsualNeedles, BeginsWithUsualNumber, BeginsWithUsualOperands, IsByteName, IsPairName, IsTokenByte, pair_text}
 use Rattle.knitout_reader.proofs.Marks.{loop-reading}
 use Rattle.knitout_reader.proofs.OneShape.{one-reading, reads-tokens}
 use Rattle.knitout_reader.proofs.Rules.{tokens-lawful}
@@ -149,9 +150,31 @@ no_comment line are =
     position_or_len_is is_semicolon line (length line) 0 (omega arith) (λ k below. no_semicolon _ (are k 0 below).comment) (λ within. absurd (omega arith)) in
     ap (λ n. take n line) none ∙ take_all (length line) line (omega arith)
 
-reads_line : (profile : Profile) (names : List (List ℕ)) (line word : List ℕ) (rest : List (List ℕ)) (r : Read) → tokens_of (before_comment line) ≡ word ∷ rest
+pub reads_line : (profile : Profile) (names : List (List ℕ)) (line word : List ℕ) (rest : List (List ℕ)) (r : Read) → tokens_of (before_comment line) ≡ word ∷ rest
     → TokensReadAs profile names (word ∷ rest) r → ReadsAs profile names line r
 reads_line profile names line word rest r is reads = subst (λ ts. CodeReadsAs profile names ts (has_comment line) r) (sym is) reads
+
+-- a line that stays in one line begins the text
+pub line-begins : (most : ℕ) (profile : Profile) (names : List (List ℕ)) (text line rest : List ℕ) (usual : Usual) → text ≡ line ++ 10 ∷ rest → All StaysInLine line → length line ≤ most
+    → length names ≤ 64 → ReadsAs profile names line (usual_read usual) → IsLawfulRead profile (length names) (usual_read usual)
+    → BeginsWithLine most profile names text usual (length text - length rest)
+line-begins most profile names text line rest usual is bytes short carriers reads lawful =
+    let all : length text ≡ length line + (length rest + 1) = ap length is ∙ length-append line (10 ∷ rest) ∙ omega arith in
+    let behind : drop (length text - length rest) text ≡ rest =
+    ap (λ n. drop n text) (omega arith) ∙ ap (drop (length line + 1)) is ∙ drop-append-add line (10 ∷ rest) 1 in
+    record {
+      line = line;
+      some = omega arith;
+      within = omega arith;
+      lines = ap lines_of is
+          ∙ lines_of-line line rest (λ k d below. record { feed = (bytes k d below).feed; back = (bytes k d below).back })
+          ∙ ap (λ l. line ∷ lines_of l) (sym behind);
+      utf8 = is_utf8-from_IsUtf8 line (IsUtf8-from_ascii line (IsAscii-from_all line (λ k d below. (bytes k d below).ascii)));
+      short = short;
+      read = reads;
+      lawful = lawful;
+      few = carriers;
+    }
 
 -- a line of such tokens begins the text
 begins : (profile : Profile) (names : List (List ℕ)) (text rest word : List ℕ) (tokens : List (List ℕ)) (usual : Usual)
@@ -161,22 +184,10 @@ begins : (profile : Profile) (names : List (List ℕ)) (text rest word : List �
 begins profile names text rest word tokens usual is are short few carriers reads =
     let line : List ℕ = spaced (word ∷ tokens) in
     let bytes : All IsLineByte (spaced (word ∷ tokens)) = bytes-spaced (word ∷ tokens) are in
-    let all : length text ≡ length (spaced (word ∷ tokens)) + (length rest + 1) = ap length is ∙ length-append (spaced (word ∷ tokens)) (10 ∷ rest) ∙ omega arith in
-    let behind : drop (length text - length rest) text ≡ rest =
-    ap (λ n. drop n text) (omega arith) ∙ ap (drop (length (spaced (word ∷ tokens)) + 1)) is ∙ drop-append-add (spaced (word ∷ tokens)) (10 ∷ rest) 1 in
-    record {
-      line = line;
-      some = omega arith;
-      within = omega arith;
-      lines = ap lines_of is
-          ∙ lines_of-line (spaced (word ∷ tokens)) rest (λ k d below. record { feed = (bytes k d below).feed; back = (bytes k d below).back })
-          ∙ ap (λ l. spaced (word ∷ tokens) ∷ lines_of l) (sym behind);
-      utf8 = is_utf8-from_IsUtf8 line (IsUtf8-from_ascii line (IsAscii-from_all line (λ k d below. (bytes k d below).ascii)));
-      short = short;
-      read = reads_line profile names line word tokens (usual_read usual) (ap tokens_of (no_comment line bytes) ∙ tokens-spaced (word ∷ tokens) are) reads;
-      lawful = tokens-lawful profile names word tokens (usual_read usual) (omega arith) reads;
-      few = carriers;
-    }
+    line-begins 32 profile names text line rest usual is
+    (λ k d below. let here = bytes k d below in record { ascii = here.ascii; feed = here.feed; back = here.back }) short carriers
+    (reads_line profile names line word tokens (usual_read usual) (ap tokens_of (no_comment line bytes) ∙ tokens-spaced (word ∷ tokens) are) reads)
+    (tokens-lawful profile names word tokens (usual_read usual) (omega arith) reads)
 
 -- The text begins with such a line, whose tokens say this.
 pub record IsSpaced (profile : Profile) (names : List (List ℕ)) (text rest : List ℕ) (usual : Usual) : Type 0 where
@@ -216,7 +227,7 @@ alone profile names line usual h =
 digit_bytes : (digits : List ℕ) → All IsDigit digits → All IsTokenByte digits
 digit_bytes digits are = λ k d below. let here = are k d below in sign _ (omega (arith, here.0)) (omega (arith, here.1))
 
-bed_bytes : (bed : Bed) → All IsTokenByte (bed_word bed)
+pub bed_bytes : (bed : Bed) → All IsTokenByte (bed_word bed)
 bed_bytes Front = All-cons IsTokenByte 102 [] (letter 102 (lit< tt) (lit< tt)) (All-nil IsTokenByte)
 bed_bytes FrontSlider = All-cons IsTokenByte 102 (115 ∷ []) (letter 102 (lit< tt) (lit< tt)) (All-cons IsTokenByte 115 [] (letter 115 (lit< tt) (lit< tt)) (All-nil IsTokenByte))
 bed_bytes Back = All-cons IsTokenByte 98 [] (letter 98 (lit< tt) (lit< tt)) (All-nil IsTokenByte)
@@ -228,7 +239,7 @@ bed_len FrontSlider = omega arith
 bed_len Back = omega arith
 bed_len BackSlider = omega arith
 
-dir_token : (dir : Dir) → IsPlainToken (dir_word dir)
+pub dir_token : (dir : Dir) → IsPlainToken (dir_word dir)
 dir_token Right = record { some = omega arith; bytes = All-cons IsTokenByte 43 [] (sign 43 (lit< tt) (lit< tt)) (All-nil IsTokenByte) }
 dir_token Left = record { some = omega arith; bytes = All-cons IsTokenByte 45 [] (sign 45 (lit< tt) (lit< tt)) (All-nil IsTokenByte) }
 
@@ -284,28 +295,56 @@ byte-name names table text rest name c are text_is byte some is =
       text_is = text_is;
     }
 
--- a name of two digits
-pub pair-name : (names : List (List ℕ)) (table : ByteNames) (text rest : List ℕ) (tens ones : ℕ) (c : CarrierNo) → AreByteNames names table → IsDigit tens → IsDigit ones
-    → text ≡ tens ∷ ones ∷ 10 ∷ rest → slice_index table.pairs (10 * (tens - 48) + (ones - 48)) ≢ 255 → c.0 ≡ slice_index table.pairs (10 * (tens - 48) + (ones - 48))
-    → BeginsWithUsualName names text c rest
-pair-name names table text rest tens ones c are is_tens is_ones text_is some is =
+-- two digits that the table has
+pub pair_named : (names : List (List ℕ)) (table : ByteNames) (tens ones : ℕ) (c : CarrierNo) → AreByteNames names table → IsDigit tens → IsDigit ones
+    → slice_index table.pairs (10 * (tens - 48) + (ones - 48)) ≢ 255 → c.0 ≡ slice_index table.pairs (10 * (tens - 48) + (ones - 48))
+    → carrier_of names (tens ∷ ones ∷ []) ≡ Some c
+pair_named names table tens ones c are is_tens is_ones some is =
     let pair : ℕ = 10 * (tens - 48) + (ones - 48) in
     let here : IsPairName names pair (slice_index table.pairs pair) = are.pairs pair some (omega (arith, is_tens, is_ones)) in
     let first : 48 + (10 * (tens - 48) + (ones - 48)) / 10 ≡ tens = omega (arith, is_tens, is_ones) in
     let second : 48 + (10 * (tens - 48) + (ones - 48)) % 10 ≡ ones = omega (arith, is_tens, is_ones) in
     let spelled : pair_text pair ≡ tens ∷ ones ∷ [] = λ i. first i ∷ second i ∷ [] in
-    record {
-      name = tens ∷ ones ∷ [];
-      some = omega arith;
-      short = omega arith;
-      bytes = digit_bytes (tens ∷ ones ∷ []) (All-cons IsDigit tens (ones ∷ []) is_tens (All-cons IsDigit ones [] is_ones (All-nil IsDigit)));
-      named = ap (carrier_of names) (sym spelled) ∙ here.named ∙ ap (λ k. Some (record { 0 = k })) (sym is);
-      text_is = text_is;
-    }
+    ap (carrier_of names) (sym spelled) ∙ here.named ∙ ap (λ k. Some (record { 0 = k })) (sym is)
+
+-- a name of two digits
+pub pair-name : (names : List (List ℕ)) (table : ByteNames) (text rest : List ℕ) (tens ones : ℕ) (c : CarrierNo) → AreByteNames names table → IsDigit tens → IsDigit ones
+    → text ≡ tens ∷ ones ∷ 10 ∷ rest → slice_index table.pairs (10 * (tens - 48) + (ones - 48)) ≢ 255 → c.0 ≡ slice_index table.pairs (10 * (tens - 48) + (ones - 48))
+    → BeginsWithUsualName names text c rest
+pair-name names table text rest tens ones c are is_tens is_ones text_is some is = record {
+  name = tens ∷ ones ∷ [];
+  some = omega arith;
+  short = omega arith;
+  bytes = digit_bytes (tens ∷ ones ∷ []) (All-cons IsDigit tens (ones ∷ []) is_tens (All-cons IsDigit ones [] is_ones (All-nil IsDigit)));
+  named = pair_named names table tens ones c are is_tens is_ones some is;
+  text_is = text_is;
+}
 
 three_plain : (a b c : List ℕ) → IsPlainToken a → IsPlainToken b → IsPlainToken c → All IsPlainToken (a ∷ b ∷ c ∷ [])
 three_plain a b c is_a is_b is_c =
     All-cons IsPlainToken a (b ∷ c ∷ []) is_a (All-cons IsPlainToken b (c ∷ []) is_b (All-cons IsPlainToken c [] is_c (All-nil IsPlainToken)))
+
+-- what tokens say that form a loop of one carrier
+pub formed-reads : (profile : Profile) (names : List (List ℕ)) (which : LoopOperation) (dir : Dir) (n : Needle) (c : CarrierNo) (usual : Usual) (token name : List ℕ)
+    → usual_read usual ≡ read.Instr (loop_instr which dir n (c ∷ [])) → IsNeedle token n.bed n.at → IsOnBed profile n → loop_slider which n.bed (name ∷ []) ≡ None
+    → carrier_of names name ≡ Some c → TokensReadAs profile names (loop_word which ∷ dir_word dir ∷ token ∷ name ∷ []) (usual_read usual)
+formed-reads profile names which dir n c usual token name said needle on hook named =
+    let shape : IsFormed (loop_word which) (loop_word which ∷ dir_word dir ∷ token ∷ name ∷ []) dir n.bed n.at (name ∷ []) = record {
+      operands = token ∷ name ∷ [];
+      spelled = refl;
+      first = record { needle = token; spelled = refl; named = needle };
+    } in
+    let unbroken : or_else (off_bed profile 2 n.at) (or_else (loop_slider which n.bed (name ∷ [])) (carrier_rule names 3 (name ∷ []))) ≡ None =
+    ap (λ o. or_else o (or_else (loop_slider which n.bed (name ∷ [])) (carrier_rule names 3 (name ∷ [])))) (on_bed profile n 2 on)
+    ∙ ap (λ o. or_else o (carrier_rule names 3 (name ∷ []))) hook
+    ∙ one_carrier names name c named in
+    let is : usual_read usual
+    ≡ reading_or (or_else (off_bed profile 2 n.at) (or_else (loop_slider which n.bed (name ∷ [])) (carrier_rule names 3 (name ∷ []))))
+    (loop_instr which dir (needle_on n.bed n.at) (carriers_of names (name ∷ []))) =
+    said
+    ∙ ap (λ cs. read.Instr (loop_instr which dir n cs)) (sym (one_named names name c named))
+    ∙ ap (λ o. reading_or o (loop_instr which dir n (carriers_of names (name ∷ [])))) (sym unbroken) in
+    loop-reading profile names which (dir_word dir ∷ token ∷ name ∷ []) dir n.bed n.at (name ∷ []) (usual_read usual) shape is
 
 -- a line that forms a loop of one carrier
 formed : (profile : Profile) (names : List (List ℕ)) (text operands rest : List ℕ) (which : LoopOperation) (dir : Dir) (n : Needle) (c : CarrierNo) (usual : Usual)
@@ -344,21 +383,6 @@ formed profile names text operands rest which dir n c usual word long hook said 
       length-append token (32 ∷ name),
       length-append (bed_word n.bed) digits,
     ) in
-    let shape : IsFormed (loop_word which) (loop_word which ∷ tokens) dir n.bed n.at (name ∷ []) = record {
-      operands = token ∷ name ∷ [];
-      spelled = refl;
-      first = record { needle = token; spelled = refl; named = is_needle n.bed digits n.at front.needle.number.are front.needle.number.at_is };
-    } in
-    let unbroken : or_else (off_bed profile 2 n.at) (or_else (loop_slider which n.bed (name ∷ [])) (carrier_rule names 3 (name ∷ []))) ≡ None =
-    ap (λ o. or_else o (or_else (loop_slider which n.bed (name ∷ [])) (carrier_rule names 3 (name ∷ [])))) (on_bed profile n 2 front.needle.on)
-    ∙ ap (λ o. or_else o (carrier_rule names 3 (name ∷ []))) (hook n.bed name front.needle.hook)
-    ∙ one_carrier names name c named in
-    let is : usual_read usual
-    ≡ reading_or (or_else (off_bed profile 2 n.at) (or_else (loop_slider which n.bed (name ∷ [])) (carrier_rule names 3 (name ∷ []))))
-    (loop_instr which dir (needle_on n.bed n.at) (carriers_of names (name ∷ []))) =
-    said
-    ∙ ap (λ cs. read.Instr (loop_instr which dir n cs)) (sym (one_named names name c named))
-    ∙ ap (λ o. reading_or o (loop_instr which dir n (carriers_of names (name ∷ [])))) (sym unbroken) in
     record {
       word = loop_word which;
       tokens = tokens;
@@ -366,19 +390,21 @@ formed profile names text operands rest which dir n c usual word long hook said 
       plain = plain;
       short = short;
       few = omega arith;
-      reads = loop-reading profile names which tokens dir n.bed n.at (name ∷ []) (usual_read usual) shape is;
+      reads =
+          formed-reads profile names which dir n c usual token name said (is_needle n.bed digits n.at front.needle.number.are front.needle.number.at_is) front.needle.on
+          (hook n.bed name front.needle.hook) named;
     }
 
-knit_token : IsPlainToken (codes "knit")
+pub knit_token : IsPlainToken (codes "knit")
 knit_token = word_token 107 110 105 116 (letter 107 (lit< tt) (lit< tt)) (letter 110 (lit< tt) (lit< tt)) (letter 105 (lit< tt) (lit< tt)) (letter 116 (lit< tt) (lit< tt))
 
-tuck_token : IsPlainToken (codes "tuck")
+pub tuck_token : IsPlainToken (codes "tuck")
 tuck_token = word_token 116 117 99 107 (letter 116 (lit< tt) (lit< tt)) (letter 117 (lit< tt) (lit< tt)) (letter 99 (lit< tt) (lit< tt)) (letter 107 (lit< tt) (lit< tt))
 
-xfer_token : IsPlainToken (codes "xfer")
+pub xfer_token : IsPlainToken (codes "xfer")
 xfer_token = word_token 120 102 101 114 (letter 120 (lit< tt) (lit< tt)) (letter 102 (lit< tt) (lit< tt)) (letter 101 (lit< tt) (lit< tt)) (letter 114 (lit< tt) (lit< tt))
 
-no_slider : (bed : Bed) (token : List ℕ) → is_slider bed ≡ false → slider_form bed (token ∷ []) ≡ None
+pub no_slider : (bed : Bed) (token : List ℕ) → is_slider bed ≡ false → slider_form bed (token ∷ []) ≡ None
 no_slider bed token hook = ap (λ b. broken_if b SliderForm 2) hook
 
 -- a usual line with `knit` begins the text
@@ -414,6 +440,26 @@ opposite bed bed2 hook differ =
     ap (λ b. or_else (broken_if b SameBed 2) (broken_if (is_slider bed && is_slider bed2) TwoSliders 2)) (sides_apart (is_front bed) (is_front bed2) differ)
     ∙ ap (λ b. broken_if (b && is_slider bed2) TwoSliders 2) hook
 
+-- what tokens say that move loops
+pub moved-reads : (profile : Profile) (names : List (List ℕ)) (n n2 : Needle) (token token2 : List ℕ) → IsNeedle token n.bed n.at → IsNeedle token2 n2.bed n2.at → IsOnBed profile n → IsOnBed profile n2
+    → not_opposite n.bed n2.bed 2 ≡ None → TokensReadAs profile names (codes "xfer" ∷ token ∷ token2 ∷ []) (usual_read (Xfer n n2))
+moved-reads profile names n n2 token token2 needle needle2 on on2 sides =
+    let unbroken : or_else (off_bed profile 1 n.at) (or_else (off_bed profile 2 n2.at) (not_opposite n.bed n2.bed 2)) ≡ None =
+    ap (λ o. or_else o (or_else (off_bed profile 2 n2.at) (not_opposite n.bed n2.bed 2))) (on_bed profile n 1 on)
+    ∙ ap (λ o. or_else o (not_opposite n.bed n2.bed 2)) (on_bed profile n2 2 on2)
+    ∙ sides in
+    inl (
+      XferShape n.bed n.at n2.bed n2.at,
+      record {
+        operands = token ∷ token2 ∷ [];
+        others = token2 ∷ [];
+        spelled = refl;
+        first = record { needle = token; spelled = refl; named = needle };
+        second = record { needle = token2; spelled = refl; named = needle2 };
+      },
+      ap (λ o. reading_or o (instr.Xfer n n2)) (sym unbroken),
+    )
+
 -- a line that transfers loops
 pub xfer_spaced : (profile : Profile) (names : List (List ℕ)) (text operands rest : List ℕ) (n n2 : Needle)
     → text ≡ codes "xfer" ++ operands → BeginsWithUsualNeedles profile operands n n2 rest → IsSpaced profile names text rest (Xfer n n2)
@@ -445,10 +491,6 @@ xfer_spaced profile names text operands rest n n2 text_is front =
       length-append (bed_word n.bed) digits,
       length-append (bed_word n2.bed) digits2,
     ) in
-    let unbroken : or_else (off_bed profile 1 n.at) (or_else (off_bed profile 2 n2.at) (not_opposite n.bed n2.bed 2)) ≡ None =
-    ap (λ o. or_else o (or_else (off_bed profile 2 n2.at) (not_opposite n.bed n2.bed 2))) (on_bed profile n 1 front.needle.on)
-    ∙ ap (λ o. or_else o (not_opposite n.bed n2.bed 2)) (on_bed profile n2 2 front.needle2.on)
-    ∙ opposite n.bed n2.bed front.needle.hook front.sides in
     record {
       word = codes "xfer";
       tokens = tokens;
@@ -456,17 +498,10 @@ xfer_spaced profile names text operands rest n n2 text_is front =
       plain = plain;
       short = short;
       few = omega arith;
-      reads = inl (
-        XferShape n.bed n.at n2.bed n2.at,
-        record {
-          operands = tokens;
-          others = token2 ∷ [];
-          spelled = refl;
-          first = record { needle = token; spelled = refl; named = is_needle n.bed digits n.at front.needle.number.are front.needle.number.at_is };
-          second = record { needle = token2; spelled = refl; named = is_needle n2.bed digits2 n2.at front.needle2.number.are front.needle2.number.at_is };
-        },
-        ap (λ o. reading_or o (instr.Xfer n n2)) (sym unbroken),
-      );
+      reads =
+          moved-reads profile names n n2 token token2 (is_needle n.bed digits n.at front.needle.number.are front.needle.number.at_is)
+          (is_needle n2.bed digits2 n2.at front.needle2.number.are front.needle2.number.at_is) front.needle.on front.needle2.on
+          (opposite n.bed n2.bed front.needle.hook front.sides);
     }
 
 pub xfer-begins : (profile : Profile) (names : List (List ℕ)) (text operands rest : List ℕ) (n n2 : Needle) → length names ≤ 64

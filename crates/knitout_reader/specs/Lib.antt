@@ -2,6 +2,7 @@ pub mod Carriers
 pub mod FileLines
 pub mod Head
 pub mod HeadLines
+pub mod Loose
 pub mod Numbers
 pub mod Operations
 pub mod Reading

@@ -107,14 +107,18 @@ pub record BeginsWithUsualNeedles (profile : Profile) (text : List ℕ) (n n2 : 
   pub needle2 : BeginsWithUsualNeedle profile behind2 n2 10 rest
   pub sides : is_front n.bed ≢ is_front n2.bed
 
--- a short ASCII line begins the text and takes so many bytes with its line feed, and this is its reading
-pub record BeginsWithUsual (profile : Profile) (names : List (List ℕ)) (text : List ℕ) (usual : Usual) (len : ℕ) : Type 0 where
+-- a line of at most so many bytes begins the text and takes so many with its line feed, and this is its reading
+pub record BeginsWithLine (most : ℕ) (profile : Profile) (names : List (List ℕ)) (text : List ℕ) (usual : Usual) (len : ℕ) : Type 0 where
   pub line : List ℕ
   pub some : 0 < len
   pub within : len ≤ length text
   pub lines : lines_of text ≡ line ∷ lines_of (drop len text)
   pub utf8 : is_utf8 line ≡ true
-  pub short : length line ≤ 32
+  pub short : length line ≤ most
   pub read : ReadsAs profile names line (usual_read usual)
   pub lawful : IsLawfulRead profile (length names) (usual_read usual)
   pub few : length names ≤ 64
+
+-- a short line begins the text so
+abbrev pub BeginsWithUsual : Profile → List (List ℕ) → List ℕ → Usual → ℕ → Type 0
+BeginsWithUsual profile names text usual len = BeginsWithLine 32 profile names text usual len

@@ -36,7 +36,8 @@ pub(crate) fn needle(token: &[u8]) -> Option<NeedleToken>
     None
 }
 
-// What follows a byte at the front of a text.
+/// What follows a byte at the front of a text.
+#[inline(always)]
 pub(crate) fn after(text: &[u8], byte: u8) -> Option<&[u8]>
     ensures { MatchOption result ((rest : List ℕ) → text.now ≢ byte ∷ rest) (λ rest. text.now ≡ byte ∷ rest.now) }
 {

@@ -57,8 +57,9 @@ pub fn is_blank_text(text: &[u8]) -> bool
     text.iter().all(|byte| is_blank(*byte))
 }
 
-// The blanks in front.
-fn count_blanks(text: &[u8]) -> usize
+/// The blanks in front.
+#[inline(always)]
+pub(crate) fn count_blanks(text: &[u8]) -> usize
     ensures within { result ≤ length text.now }
     ensures blanks { All (λ byte. is_blank byte ≡ true) (take result text.now) }
     ensures end { result < length text.now → is_blank (slice_index text.now result) ≡ false }

@@ -53,6 +53,6 @@ returns-then-branch-clause-ok g c =
 pub returns-clause-ok : goal.returns-clause-ok
 returns-clause-ok g c =
     let begins = c.in-Some.ensures c.args.head.now.declared c.requires.ran.3.names in
-    let stands = usual-stands c.args.self.now.profile c.args.head.now.declared c.args.text.now _ c.args.start c.in-Some.len c.in-Some.usual refl begins in
+    let stands = usual-stands 32 c.args.self.now.profile c.args.head.now.declared c.args.text.now _ c.args.start c.in-Some.len c.in-Some.usual (omega arith) refl begins in
     carries-out _ g.T.Taker.has c.args.head.now c.args.text.now c.args.start _ begins.line (usual_read c.in-Some.usual) c.args.self.now _ stands begins.read
     refl refl (subst (λ (k : Carriage). RanOn (usual_read c.in-Some.usual) k c.carry_on.new.carriage) (c.in_ok-carry_usual.ensures.same c.if-branch.false) c.in_ok-carry_on.ensures) c.in_ok-take_usual.ensures (c.in_ok-keep_broken_at.ensures.ok begins.line _ stands)

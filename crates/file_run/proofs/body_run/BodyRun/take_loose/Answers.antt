@@ -1,0 +1,35 @@
+use Rattle.std.proofs.Common.{◌≡◌, length, sym, subst, refl, ap, ◌∙◌, ◌-◌, drop, arith, OnOk, length-drop}
+use Rattle.std.proofs.lemmas.List.{drop-drop, take_all}
+use Rattle.knit_base.specs.Lawful.{IsLawfulRead}
+use Rattle.knit_base.specs.Usual.{usual_read}
+use Rattle.carriage_model.specs.Carriage.{profile_of}
+use Rattle.file_run.proofs.BodySteps.{carries-out, is-running, next-number, next-taken, usual-stands}
+use Rattle.file_run.proofs.body_run.BodyRun.take_loose.Goals as goal
+
+pub take_usual-requires-clause-lines : goal.take_usual-requires-clause-lines
+take_usual-requires-clause-lines g c =
+    omega (arith, c.requires.few, c.requires.ran.2, next-taken _ g.T.Taker.has g.T.Taker.next g.met.T.Taker.counted c.requires.ran.0 c.args.head.now c.requires.ran.1 c.args.self.now c.requires.ran.3)
+
+pub take_usual-requires-clause-lawful : goal.take_usual-requires-clause-lawful
+take_usual-requires-clause-lawful g c =
+    let begins = c.in-Some.ensures c.args.head.now.declared c.requires.ran.3.names in
+    (c.args.self.now.profile, length c.args.head.now.declared, begins.few, begins.lawful)
+
+pub carry-requires-clause-lawful : goal.carry-requires-clause-lawful
+carry-requires-clause-lawful g c =
+    let begins = c.in-Some.ensures c.args.head.now.declared c.requires.ran.3.names in
+    (length c.args.head.now.declared, begins.few, subst (λ p. IsLawfulRead p (length c.args.head.now.declared) (usual_read c.in-Some.usual)) (sym c.requires.ran.3.ran.same_profile) begins.lawful)
+
+pub carry-requires-clause-running : goal.carry-requires-clause-running
+carry-requires-clause-running g c = is-running _ g.T.Taker.has c.requires.ran.0 c.args.head.now c.requires.ran.1 c.args.self.now c.requires.ran.3
+
+pub carry-requires-clause-lines : goal.carry-requires-clause-lines
+carry-requires-clause-lines g c =
+    omega (arith, c.requires.few, c.requires.ran.2, next-number _ g.T.Taker.has c.requires.ran.0 c.args.head.now c.requires.ran.1 c.args.self.now c.requires.ran.3)
+
+pub returns-clause-ok : goal.returns-clause-ok
+returns-clause-ok g c =
+    let begins = c.in-Some.ensures c.args.head.now.declared c.requires.ran.3.names in
+    let stands = usual-stands 4096 c.args.self.now.profile c.args.head.now.declared c.args.text.now _ c.args.start c.in-Some.len c.in-Some.usual (omega arith) refl begins in
+    carries-out _ g.T.Taker.has c.args.head.now c.args.text.now c.args.start _ begins.line (usual_read c.in-Some.usual) c.args.self.now _ stands begins.read
+    refl refl c.in_ok-carry.ensures c.in_ok-take_usual.ensures (c.in_ok-keep_broken_at.ensures.ok begins.line _ stands)
