@@ -153,7 +153,10 @@ impl<T: Taker> BodyRun<T> {
             return self.take_loose(alloc, head, text, start, number);
         };
         self.taker.take_usual(alloc, usual)?;
-        carry(alloc, usual, &mut self.carriage)?;
+        if self.carriage.carry_usual(usual)? {
+            return Ok(start + len);
+        }
+        carry_on(alloc, usual, &mut self.carriage)?;
         keep_broken_at(alloc, text, start, number, &self.carriage, &mut self.broken)?;
         Ok(start + len)
     }
@@ -176,14 +179,11 @@ impl<T: Taker> BodyRun<T> {
         ensures ok { IfOk result (λ next. CarriesOut T T.has head.now text.now start next self.old self.new) }
         ensures err { IfErr result (IsRefusedHere text.now start number) }
     {
-        let Some((usual, len)) = loose_line(&text[start..], &self.profile, &self.names) else {
+        let Some((said, len)) = loose_line(&text[start..], &self.profile, &self.names) else {
             return self.take_any(alloc, head, text, start, number);
         };
-        self.taker.take_usual(alloc, usual)?;
-        if self.carriage.carry_usual(usual)? {
-            return Ok(start + len);
-        }
-        carry_on(alloc, usual, &mut self.carriage)?;
+        self.taker.take_usual(alloc, said)?;
+        carry_on(alloc, said, &mut self.carriage)?;
         keep_broken_at(alloc, text, start, number, &self.carriage, &mut self.broken)?;
         Ok(start + len)
     }

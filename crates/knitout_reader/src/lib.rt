@@ -5,8 +5,8 @@
 //! lines come some at a time the head is read line by line, and the lines of its body go to a work.
 //! Definitions: `specs/Tokens` (tokens and comments), `specs/Head` (heads), `specs/HeadLines` and `specs/FileLines` (heads and files
 //! whose lines come some at a time), `specs/Numbers` (needles and racks), `specs/Shapes` (what a line spells), `specs/Carriers`
-//! (the rules of carriers), `specs/Reading` (the other rules, and the reading) and `specs/Usual` and `specs/Shortest` (the spelling of
-//! most lines, which are read at once, and which are canonical). Lemmas that the crates above cite: `proofs/SomeReading` (each line has
+//! (the rules of carriers), `specs/Reading` (the other rules, and the reading), `specs/Usual` and `specs/Shortest` (the spelling of
+//! most lines, which are read at once, and which are canonical) and `specs/Loose` (other spellings of what most lines say). Lemmas that the crates above cite: `proofs/SomeReading` (each line has
 //! a reading), `proofs/LawfulReadings` (which is lawful), `proofs/BodyReadings`.
 //! Below it stand `thiserror`, `knit_base` and `line_cutter`.
 #![tactic(auto)]

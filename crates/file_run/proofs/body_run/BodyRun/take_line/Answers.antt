@@ -46,7 +46,7 @@ carry_on-requires-clause-lines g c =
 pub returns-then-branch-clause-ok : goal.returns-then-branch-clause-ok
 returns-then-branch-clause-ok g c =
     let begins = c.in-Some.ensures c.args.head.now.declared c.requires.ran.3.names in
-    let stands = usual-stands c.args.self.now.profile c.args.head.now.declared c.args.text.now _ c.args.start c.in-Some.len c.in-Some.usual refl begins in
+    let stands = usual-stands 32 c.args.self.now.profile c.args.head.now.declared c.args.text.now _ c.args.start c.in-Some.len c.in-Some.usual (omega arith) refl begins in
     carries-out _ g.T.Taker.has c.args.head.now c.args.text.now c.args.start _ begins.line (usual_read c.in-Some.usual) c.args.self.now _ stands begins.read
     refl refl (c.in_ok-carry_usual.ensures.over c.if-branch.true) c.in_ok-take_usual.ensures (keeps-none _ _ begins.line (c.in_ok-carry_usual.ensures.going c.if-branch.true))
 

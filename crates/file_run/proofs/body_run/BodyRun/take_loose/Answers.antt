@@ -15,21 +15,21 @@ take_usual-requires-clause-lawful g c =
     let begins = c.in-Some.ensures c.args.head.now.declared c.requires.ran.3.names in
     (c.args.self.now.profile, length c.args.head.now.declared, begins.few, begins.lawful)
 
-pub carry-requires-clause-lawful : goal.carry-requires-clause-lawful
-carry-requires-clause-lawful g c =
+pub carry_on-requires-clause-lawful : goal.carry_on-requires-clause-lawful
+carry_on-requires-clause-lawful g c =
     let begins = c.in-Some.ensures c.args.head.now.declared c.requires.ran.3.names in
-    (length c.args.head.now.declared, begins.few, subst (λ p. IsLawfulRead p (length c.args.head.now.declared) (usual_read c.in-Some.usual)) (sym c.requires.ran.3.ran.same_profile) begins.lawful)
+    (length c.args.head.now.declared, begins.few, subst (λ p. IsLawfulRead p (length c.args.head.now.declared) (usual_read c.in-Some.said)) (sym c.requires.ran.3.ran.same_profile) begins.lawful)
 
-pub carry-requires-clause-running : goal.carry-requires-clause-running
-carry-requires-clause-running g c = is-running _ g.T.Taker.has c.requires.ran.0 c.args.head.now c.requires.ran.1 c.args.self.now c.requires.ran.3
+pub carry_on-requires-clause-running : goal.carry_on-requires-clause-running
+carry_on-requires-clause-running g c = is-running _ g.T.Taker.has c.requires.ran.0 c.args.head.now c.requires.ran.1 c.args.self.now c.requires.ran.3
 
-pub carry-requires-clause-lines : goal.carry-requires-clause-lines
-carry-requires-clause-lines g c =
+pub carry_on-requires-clause-lines : goal.carry_on-requires-clause-lines
+carry_on-requires-clause-lines g c =
     omega (arith, c.requires.few, c.requires.ran.2, next-number _ g.T.Taker.has c.requires.ran.0 c.args.head.now c.requires.ran.1 c.args.self.now c.requires.ran.3)
 
 pub returns-clause-ok : goal.returns-clause-ok
 returns-clause-ok g c =
     let begins = c.in-Some.ensures c.args.head.now.declared c.requires.ran.3.names in
-    let stands = usual-stands 4096 c.args.self.now.profile c.args.head.now.declared c.args.text.now _ c.args.start c.in-Some.len c.in-Some.usual (omega arith) refl begins in
-    carries-out _ g.T.Taker.has c.args.head.now c.args.text.now c.args.start _ begins.line (usual_read c.in-Some.usual) c.args.self.now _ stands begins.read
-    refl refl c.in_ok-carry.ensures c.in_ok-take_usual.ensures (c.in_ok-keep_broken_at.ensures.ok begins.line _ stands)
+    let stands = usual-stands 4096 c.args.self.now.profile c.args.head.now.declared c.args.text.now _ c.args.start c.in-Some.len c.in-Some.said (omega arith) refl begins in
+    carries-out _ g.T.Taker.has c.args.head.now c.args.text.now c.args.start _ begins.line (usual_read c.in-Some.said) c.args.self.now _ stands begins.read
+    refl refl c.in_ok-carry_on.ensures c.in_ok-take_usual.ensures (c.in_ok-keep_broken_at.ensures.ok begins.line _ stands)
