@@ -10,11 +10,11 @@ use Rattle.knit_base.specs.Reasons.{broken_if}
 use Rattle.carriage_model.specs.Rules.{too_many, tuck_too_many}
 use Rattle.carriage_model.specs.State.{State}
 use Rattle.face_data.specs.declared.sizes.SizeAsk.{SizeAsk}
-use Rattle.face_data.specs.Conditions.{size_of, unless, unmet_size, first_unmet_size}
+use Rattle.face_data.specs.Conditions.{size_of, broken_unless, unmet_size, first_unmet_size}
 use Rattle.face_data.specs.Segments.{Changed}
 use Rattle.face_data.specs.Sizes.{SizeRule, size_ask, size_asks}
 use Rattle.face_data.proofs.Conditions.{broken-unless}
-use Rattle.bed_rules.specs.Beds.{crowded, tuck_rules}
+use Rattle.bed_rules.specs.Beds.{crowded_needles, tuck_rules}
 
 both_test : (hold loops total : ℕ) → total ≡ loops → nat_lt hold loops ≡ not (nat_le total hold)
 both_test hold loops total is = grind arith
@@ -32,21 +32,21 @@ size_both n n2 t =
 
 -- two needles' loops are too many for one
 pub both-unmet : (profile : Profile) (n n2 : Needle) (at : ℕ) (t : State)
-    → too_many profile (length (t.stacks n2) + length (t.stacks n)) at ≡ unless (nat_le (size_of (n2 ∷ n ∷ []) t) profile.hold) (record { rule = TooManyLoops; at = at })
+    → too_many profile (length (t.stacks n2) + length (t.stacks n)) at ≡ broken_unless (nat_le (size_of (n2 ∷ n ∷ []) t) profile.hold) (record { rule = TooManyLoops; at = at })
 both-unmet profile n n2 at t =
     ap (λ b. broken_if b TooManyLoops at) (both_test profile.hold (length (t.stacks n2) + length (t.stacks n)) (size_of (n2 ∷ n ∷ []) t) (size_both n n2 t))
     ∙ broken-unless (nat_le (size_of (n2 ∷ n ∷ []) t) profile.hold) TooManyLoops at
 
 -- one more loop is too many
 pub one-unmet : (profile : Profile) (n : Needle) (t : State) → 1 ≤ profile.hold
-    → too_many profile (length (t.stacks n) + 1) 2 ≡ unless (nat_le (size_of (n ∷ []) t) (profile.hold - 1)) (record { rule = TooManyLoops; at = 2 })
+    → too_many profile (length (t.stacks n) + 1) 2 ≡ broken_unless (nat_le (size_of (n ∷ []) t) (profile.hold - 1)) (record { rule = TooManyLoops; at = 2 })
 one-unmet profile n t some =
     ap (λ b. broken_if b TooManyLoops 2) (one_test profile.hold (length (t.stacks n)) (size_of (n ∷ []) t) some (size_one n t))
     ∙ broken-unless (nat_le (size_of (n ∷ []) t) (profile.hold - 1)) TooManyLoops 2
 
 -- the same of a tuck, which puts one more loop on the needle where it has carriers
 pub tuck-unmet : (profile : Profile) (n : Needle) (cs : List CarrierNo) (t : State) → 1 ≤ profile.hold → 1 ≤ length cs
-    → tuck_too_many profile n cs t ≡ unless (nat_le (size_of (n ∷ []) t) (profile.hold - 1)) (record { rule = TooManyLoops; at = 2 })
+    → tuck_too_many profile n cs t ≡ broken_unless (nat_le (size_of (n ∷ []) t) (profile.hold - 1)) (record { rule = TooManyLoops; at = 2 })
 tuck-unmet profile n [] t some more = absurd (omega arith)
 tuck-unmet profile n (c ∷ cs) t some more = one-unmet profile n t some
 
@@ -62,7 +62,7 @@ one-listed before ask after changes rule wanted none more is same =
     more ∙ ap (λ (asks : List SizeAsk). asks ++ ask ∷ []) none ∙ ap (λ (a : SizeAsk). a ∷ []) (is ∙ ap (size_ask changes) same)
 
 -- the same of a tuck
-pub tuck-listed : (hold : ℕ) (n : Needle) (cs : List CarrierNo) → 1 ≤ length cs → crowded 2 (n ∷ []) (hold - 1) ∷ [] ≡ tuck_rules hold n cs
+pub tuck-listed : (hold : ℕ) (n : Needle) (cs : List CarrierNo) → 1 ≤ length cs → crowded_needles 2 (n ∷ []) (hold - 1) ∷ [] ≡ tuck_rules hold n cs
 tuck-listed hold n [] more = absurd (omega arith)
 tuck-listed hold n (c ∷ cs) more = refl
 

@@ -1,6 +1,6 @@
 //! What an instruction makes of the segments on needles.
 ghost use Rattle.std.specs.Prelude.{◌≡◌, [], ◌∷◌, IfOk};
-ghost use Rattle.bed_rules.specs.Beds.{changes_of, moved};
+ghost use Rattle.bed_rules.specs.Beds.{changes_of, changes_with_move};
 
 use face_data::{Segs, SymbolList, Symbols};
 use knit_base::{Instr, Needle, NoMemory};
@@ -28,7 +28,7 @@ fn emptied(alloc: Global, n: Needle) -> Result<SymbolList, NoMemory>
 
 // All segments of the first needle go over behind those of the second.
 fn moved(alloc: Global, n: Needle, n2: Needle, segments: &Symbols) -> Result<SymbolList, NoMemory>
-    ensures { IfOk result (λ changed. changed ≡ moved segments.now n n2) }
+    ensures { IfOk result (λ changed. changed ≡ changes_with_move segments.now n n2) }
 {
     let both = segments.segs_on_both(n2, n)?;
     let mut changed = emptied(alloc, n)?;

@@ -7,7 +7,7 @@ ghost use Rattle.carriage_model.specs.State.{State};
 ghost use Rattle.face_data.specs.Conditions.{first_unmet_size};
 ghost use Rattle.face_data.specs.Segments.{AreRead};
 ghost use Rattle.face_data.specs.Sizes.{size_asks};
-ghost use Rattle.bed_rules.specs.Beds.{size_rules, tuck_rules, crowded};
+ghost use Rattle.bed_rules.specs.Beds.{size_rules, tuck_rules, crowded_needles};
 
 use face_data::{SizeAsks, Symbols, ask_size};
 use knit_base::{Instr, Needle, NoMemory, Profile, Reason, Rule, Yarns};
@@ -61,7 +61,7 @@ fn room_for_both(
     at: u16,
     segments: &Symbols,
 ) -> Result<SizeAsks, NoMemory>
-    ensures rules { IfOk result (λ asks. asks ≡ size_asks segments.now (crowded at (n2 ∷ n ∷ []) profile.now.hold ∷ [])) }
+    ensures rules { IfOk result (λ asks. asks ≡ size_asks segments.now (crowded_needles at (n2 ∷ n ∷ []) profile.now.hold ∷ [])) }
     ensures broken { IfOk result (λ asks. (s t : State) (first : ℕ) → AreRead segments.now s first t.stacks → too_many profile.now (length (t.stacks n2) + length (t.stacks n)) at ≡ first_unmet_size asks s) }
 {
     let mut asks = SizeAsks::new(alloc);

@@ -22,9 +22,9 @@ use Rattle.knitout_reader.specs.Reading.{CodeReadsAs, ReadsAs, TokensReadAs, ins
 use Rattle.knitout_reader.specs.Shapes.{Shape, KnitShape, TuckShape, MissShape, SplitShape, XferShape, DropShape, AmissShape}
 use Rattle.knitout_reader.specs.Tokens.{before_comment, has_comment, tokens_of}
 use Rattle.knitout_reader.proofs.OneShape.{Fits, FitsNone}
-use Rattle.knitout_reader.proofs.Rules.{neither, unbroken}
+use Rattle.knitout_reader.proofs.Rules.{neither_reason, unbroken_test_fails}
 use Rattle.face_data.specs.Spots.{IsNumbered, number_place}
-use Rattle.block_summary.specs.NamedNeedles.{line_needles, named}
+use Rattle.block_summary.specs.NamedNeedles.{line_needles, needles_named}
 
 -- the needles of an instruction lie on the bed
 abbrev IsOnBeds : Profile → Read → Type 0
@@ -40,20 +40,20 @@ not_below a b e = grind (arith, ints)
 
 on_bed : (profile : Profile) (place : ℕ) (bed : Bed) (at : ℤ) → off_bed profile place at ≡ None → IsOnBed profile (needle_on bed at)
 on_bed profile place bed at e =
-    let within : (int_lt at profile.low ≡ false) × (int_lt profile.high at ≡ false) = or_false _ _ (unbroken _ _ _ e) in
+    let within : (int_lt at profile.low ≡ false) × (int_lt profile.high at ≡ false) = or_false _ _ (unbroken_test_fails _ _ _ e) in
     record { above = not_below _ _ within.0; below = not_below _ _ within.1 }
 
 shape_on_bed : (profile : Profile) (names : List (List ℕ)) (shape : Shape) → static_rule profile names shape ≡ None → AreOnBed profile (needles_of (instr_of names shape))
-shape_on_bed profile names (KnitShape dir bed at carriers) e = let first = neither (off_bed profile 2 at) _ e in (on_bed profile 2 bed at first.0, tt)
-shape_on_bed profile names (TuckShape dir bed at carriers) e = let first = neither (off_bed profile 2 at) _ e in (on_bed profile 2 bed at first.0, tt)
-shape_on_bed profile names (MissShape dir bed at carriers) e = let first = neither (off_bed profile 2 at) _ e in (on_bed profile 2 bed at first.0, tt)
+shape_on_bed profile names (KnitShape dir bed at carriers) e = let first = neither_reason (off_bed profile 2 at) _ e in (on_bed profile 2 bed at first.0, tt)
+shape_on_bed profile names (TuckShape dir bed at carriers) e = let first = neither_reason (off_bed profile 2 at) _ e in (on_bed profile 2 bed at first.0, tt)
+shape_on_bed profile names (MissShape dir bed at carriers) e = let first = neither_reason (off_bed profile 2 at) _ e in (on_bed profile 2 bed at first.0, tt)
 shape_on_bed profile names (SplitShape dir bed at bed2 at2 carriers) e =
-    let first = neither (off_bed profile 2 at) _ e in
-    let second = neither (off_bed profile 3 at2) _ first.1 in
+    let first = neither_reason (off_bed profile 2 at) _ e in
+    let second = neither_reason (off_bed profile 3 at2) _ first.1 in
     (on_bed profile 2 bed at first.0, (on_bed profile 3 bed2 at2 second.0, tt))
 shape_on_bed profile names (XferShape bed at bed2 at2) e =
-    let first = neither (off_bed profile 1 at) _ e in
-    let second = neither (off_bed profile 2 at2) _ first.1 in
+    let first = neither_reason (off_bed profile 1 at) _ e in
+    let second = neither_reason (off_bed profile 2 at2) _ first.1 in
     (on_bed profile 1 bed at first.0, (on_bed profile 2 bed2 at2 second.0, tt))
 shape_on_bed profile names (DropShape bed at) e = (on_bed profile 1 bed at e, tt)
 shape_on_bed profile names (AmissShape bed at) e = (on_bed profile 1 bed at e, tt)
@@ -104,12 +104,12 @@ line_numbered profile (read.Instr i) bounds on =
 line_numbered profile r bounds on = All-nil IsNumbered
 
 -- the needles that lines name, and the own sliders of those on which they form loops
-pub named_numbered : (profile : Profile) (names lines : List (List ℕ)) (readings : List Read) → IsLawfulProfile profile → AllZip (ReadsAs profile names) lines readings → All IsNumbered (named readings)
-unfolding named
+pub named_numbered : (profile : Profile) (names lines : List (List ℕ)) (readings : List Read) → IsLawfulProfile profile → AllZip (ReadsAs profile names) lines readings → All IsNumbered (needles_named readings)
+unfolding needles_named
 named_numbered profile names [] [] bounds reads = All-nil IsNumbered
 named_numbered profile names [] (r ∷ rs) bounds reads = absurd reads
 named_numbered profile names (line ∷ lines) [] bounds reads = absurd reads
 named_numbered profile names (line ∷ lines) (r ∷ rs) bounds reads =
-    All-append IsNumbered (line_needles r) (named rs)
+    All-append IsNumbered (line_needles r) (needles_named rs)
     (line_numbered profile r bounds (code_on_bed profile names (tokens_of (before_comment line)) (has_comment line) r reads.0))
     (named_numbered profile names lines rs bounds reads.1)

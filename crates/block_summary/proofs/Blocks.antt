@@ -27,7 +27,7 @@ use Rattle.face_data.specs.Composition.{composed}
 use Rattle.face_data.specs.Drafts.{no_lines}
 use Rattle.face_data.specs.Goodness.{IsGood}
 use Rattle.face_data.specs.Segments.{AreRead, Changed, segments_on}
-use Rattle.face_data.specs.Sets.{IsWithin}
+use Rattle.face_data.specs.Sets.{AreNeedlesWithin}
 use Rattle.face_data.specs.Stands.{StandsFor, outcome_of_run}
 use Rattle.face_data.specs.Summaries.{Summary}
 use Rattle.face_data.proofs.Items.{items_bound}
@@ -41,11 +41,11 @@ use Rattle.loop_history.proofs.TableLines.{HasStopped, IsRowAt, table_more, tabl
 use Rattle.block_summary.specs.declared.formed.FormedLoop.{FormedLoop}
 use Rattle.block_summary.specs.Asks.{fact_of_formed}
 use Rattle.block_summary.specs.DraftKnowledge.{stopped_at}
-use Rattle.block_summary.specs.declared.line.LineEnd.TheVariants.{GoesOn, Stops as StopsAt}
+use Rattle.block_summary.specs.declared.line.DraftedLineEnd.TheVariants.{GoesOn, Stops as StopsAt}
 use Rattle.block_summary.specs.LineEnds.{EndsAs, loop_of_line}
 use Rattle.block_summary.specs.LineSummaries.{NeedlesKnownInLine, SliderKnown, block_summary_of, line_summary}
-use Rattle.block_summary.specs.NamedNeedles.{line_needles, named}
-use Rattle.block_summary.specs.Prepared.{AddsLine, AreKnown, AreRowsOf, HasRead, IsMadeOf, row_of}
+use Rattle.block_summary.specs.NamedNeedles.{line_needles, needles_named}
+use Rattle.block_summary.specs.Prepared.{AddsLine, AreNeedlesKnown, AreRowsOf, DraftHasRead, IsMadeOf, loop_row_of}
 use Rattle.block_summary.proofs.FormedLoops.{loop-formed}
 use Rattle.block_summary.proofs.LineGoodness.{block_good, block_stands}
 
@@ -56,11 +56,11 @@ zip_at R (a ∷ xs) [] i x d all found = absurd all
 zip_at R (a ∷ xs) (y ∷ ys) zero x d all found = subst (λ z. R z y) (let same : a ≡ x = cc in same) all.0
 zip_at R (a ∷ xs) (y ∷ ys) (suc i) x d all found = zip_at R xs ys i x d all.1 found
 
-slider_known : (on : Option Needle) (known : List Needle) → IsWithin (option_to_list (option_map own_slider on)) known → SliderKnown known on
+slider_known : (on : Option Needle) (known : List Needle) → AreNeedlesWithin (option_to_list (option_map own_slider on)) known → SliderKnown known on
 slider_known None known within = tt
 slider_known (Some n) known within = within (own_slider n) (Contains-head (own_slider n) [])
 
-line_known : (r : Read) (known : List Needle) → IsWithin (line_needles r) known → NeedlesKnownInLine known r
+line_known : (r : Read) (known : List Needle) → AreNeedlesWithin (line_needles r) known → NeedlesKnownInLine known r
 unfolding line_needles
 line_known (read.Instr i) known within = record {
   needles = λ n there. within n (Contains-append_left (needles_of i) (option_to_list (option_map own_slider (forming_needle i))) n there);
@@ -68,17 +68,17 @@ line_known (read.Instr i) known within = record {
 }
 line_known r known within = tt
 
-within_named : (rs : List Read) (r : Read) → Contains rs r → IsWithin (line_needles r) (named rs)
-unfolding named
+within_named : (rs : List Read) (r : Read) → Contains rs r → AreNeedlesWithin (line_needles r) (needles_named rs)
+unfolding needles_named
 within_named [] r there = absurd (Contains-none r there)
 within_named (q ∷ rs) r there = elim (Contains-cons_cases q rs r there) [
-  | inl same ↦ subst (λ x. IsWithin (line_needles x) (line_needles q ++ named rs)) same (λ n h. Contains-append_left (line_needles q) (named rs) n h)
-  | inr later ↦ (λ n h. Contains-append_right (line_needles q) (named rs) n (within_named rs r later n h))
+  | inl same ↦ subst (λ x. AreNeedlesWithin (line_needles x) (line_needles q ++ needles_named rs)) same (λ n h. Contains-append_left (line_needles q) (needles_named rs) n h)
+  | inr later ↦ (λ n h. Contains-append_right (line_needles q) (needles_named rs) n (within_named rs r later n h))
 ]
 
 -- some needles are all that the lines name
-pub named_known : (rs : List Read) → AreKnown (named rs) rs
-named_known rs r there = line_known r (named rs) (within_named rs r there)
+pub named_known : (rs : List Read) → AreNeedlesKnown (needles_named rs) rs
+named_known rs r there = line_known r (needles_named rs) (within_named rs r there)
 
 -- the new loops that a needle holds are of earlier lines
 pub held_earlier : (carriers limit : ℕ) (known : List Needle) (s : Summary) (n : Needle) → IsGood carriers limit known s → All (IsOfEarlier s.lines) (segments_on s.changes n)
@@ -94,7 +94,7 @@ held_earlier carriers limit known s n good = elim (changed_or_own s.changes n) [
 
 -- the row of a line's loop
 row_at : (s : Summary) (formed : Option FormedLoop) (lines : ℕ) → s.lines ≡ lines → IfSome formed (λ (l : FormedLoop). All (IsOfEarlier s.lines) l.through) →
-    IfSome (option_map (row_of s.lines) formed) (IsRowAt lines)
+    IfSome (option_map (loop_row_of s.lines) formed) (IsRowAt lines)
 row_at s None lines same earlier = tt
 row_at s (Some l) lines same earlier = record { at = same; earlier = subst (λ k. All (IsOfEarlier k) l.through) same earlier }
 
@@ -108,7 +108,7 @@ formed_earlier carriers limit known s (read.Instr (Split dir n n2 [])) good = tt
 formed_earlier carriers limit known s (read.Instr (Split dir n n2 (c ∷ cs))) good = held_earlier carriers limit known s n good
 formed_earlier carriers limit known s r good = tt
 
-row_told : (s : State) (first offset : ℕ) (formed : Option FormedLoop) → fact_of_formed formed s first (first + offset) ≡ option_map (fact_of_row s first) (option_map (row_of offset) formed)
+row_told : (s : State) (first offset : ℕ) (formed : Option FormedLoop) → fact_of_formed formed s first (first + offset) ≡ option_map (fact_of_row s first) (option_map (loop_row_of offset) formed)
 row_told s first offset None = refl
 row_told s first offset (Some l) = refl
 
@@ -117,7 +117,7 @@ line_told segments (read.Instr instr) s t first line held = loop-formed segments
 line_told segments r s t first line held = refl
 
 -- at first no line is read
-pub read_none : (profile : Profile) (carriers : ℕ) (lines : List Read) (draft : Summary) (rows : List LoopRow) → draft ≡ no_lines → rows ≡ [] → HasRead profile carriers lines 0 draft rows
+pub read_none : (profile : Profile) (carriers : ℕ) (lines : List Read) (draft : Summary) (rows : List LoopRow) → draft ≡ no_lines → rows ≡ [] → DraftHasRead profile carriers lines 0 draft rows
 read_none profile carriers lines draft rows is none = record {
   is = is;
   lawful = λ r there. absurd (Contains-none r there);
@@ -136,20 +136,20 @@ lawful_more profile carriers xs r before here q there = elim (Contains-push_case
 
 -- the summary of lawful lines stands for them
 stands_for : (profile : Profile) (carriers : ℕ) (xs : List Read) → 1 ≤ profile.hold → ((q : Read) → Contains xs q → IsLawfulRead profile carriers q) → StandsFor profile (block_summary_of profile xs) xs
-stands_for profile carriers xs some lawful = block_stands profile carriers (named xs) xs some lawful (named_known xs)
+stands_for profile carriers xs some lawful = block_stands profile carriers (needles_named xs) xs some lawful (named_known xs)
 
 good_for : (profile : Profile) (carriers : ℕ) (xs : List Read) → 1 ≤ profile.hold → ((q : Read) → Contains xs q → IsLawfulRead profile carriers q) →
-    IsGood carriers profile.hold (named xs) (block_summary_of profile xs)
-good_for profile carriers xs some lawful = block_good profile carriers (named xs) xs some lawful (named_known xs)
+    IsGood carriers profile.hold (needles_named xs) (block_summary_of profile xs)
+good_for profile carriers xs some lawful = block_good profile carriers (needles_named xs) xs some lawful (named_known xs)
 
 more_read : (profile : Profile) (carriers : ℕ) (xs : List Read) (r : Read) (rows : List LoopRow) → 1 ≤ profile.hold → ((q : Read) → Contains xs q → IsLawfulRead profile carriers q) →
     TableStandsFor profile rows xs →
-    TableStandsFor profile (rows ++ option_to_list (option_map (row_of (block_summary_of profile xs).lines) (loop_of_line r (block_summary_of profile xs).changes))) (xs ++ r ∷ [])
+    TableStandsFor profile (rows ++ option_to_list (option_map (loop_row_of (block_summary_of profile xs).lines) (loop_of_line r (block_summary_of profile xs).changes))) (xs ++ r ∷ [])
 more_read profile carriers xs r rows some lawful table =
     let s : Summary = block_summary_of profile xs in
     let stands : StandsFor profile s xs = stands_for profile carriers xs some lawful in
-    table_read profile s rows xs r (option_map (row_of s.lines) (loop_of_line r s.changes)) stands table
-    (row_at s (loop_of_line r s.changes) (length xs) stands.lines_are (formed_earlier carriers profile.hold (named xs) s r (good_for profile carriers xs some lawful)))
+    table_read profile s rows xs r (option_map (loop_row_of s.lines) (loop_of_line r s.changes)) stands table
+    (row_at s (loop_of_line r s.changes) (length xs) stands.lines_are (formed_earlier carriers profile.hold (needles_named xs) s r (good_for profile carriers xs some lawful)))
     (λ u t first held sound.
     line_told s.changes r u t first (first + length xs) held
     ∙ ap (λ k. fact_of_formed (loop_of_line r s.changes) u first (first + k)) (sym stands.lines_are)
@@ -157,7 +157,7 @@ more_read profile carriers xs r rows some lawful table =
 
 -- One line more is read.
 pub read_more : (profile : Profile) (carriers : ℕ) (lines : List Read) (i : ℕ) (d : Read) (old new : Summary) (rows more : List LoopRow) (stop : Option Fault) → 1 ≤ profile.hold → i < length lines →
-    AddsLine profile carriers (get_or lines i d) old new rows more stop → stop ≡ None → HasRead profile carriers lines i old rows → HasRead profile carriers lines (i + 1) new more
+    AddsLine profile carriers (get_or lines i d) old new rows more stop → stop ≡ None → DraftHasRead profile carriers lines i old rows → DraftHasRead profile carriers lines (i + 1) new more
 read_more profile carriers lines i d old new rows more (Some fault) some within adds goes has = absurd (cc)
 read_more profile carriers lines i d old new rows more None some within adds goes has =
     let xs : List Read = take i lines in
@@ -168,13 +168,13 @@ read_more profile carriers lines i d old new rows more None some within adds goe
       lawful = subst (λ (qs : List Read). (q : Read) → Contains qs q → IsLawfulRead profile carriers q) (sym taken) (lawful_more profile carriers xs r has.lawful adds.lawful);
       table = subst (TableStandsFor profile more) (sym taken)
           (subst (λ (table : List LoopRow). TableStandsFor profile table (xs ++ r ∷ []))
-          (ap (λ (s : Summary). rows ++ option_to_list (option_map (row_of s.lines) (loop_of_line r s.changes))) (sym has.is) ∙ sym adds.added.1)
+          (ap (λ (s : Summary). rows ++ option_to_list (option_map (loop_row_of s.lines) (loop_of_line r s.changes))) (sym has.is) ∙ sym adds.added.1)
           (more_read profile carriers xs r rows some has.lawful has.table));
     }
 
 -- All lines are read.
 pub all_read : (profile : Profile) (carriers : ℕ) (lines : List Read) (i : ℕ) (draft : Summary) (rows : List LoopRow) → 1 ≤ profile.hold → length lines ≤ i →
-    HasRead profile carriers lines i draft rows → IsMadeOf profile carriers draft rows lines
+    DraftHasRead profile carriers lines i draft rows → IsMadeOf profile carriers draft rows lines
 all_read profile carriers lines i draft rows some past has =
     let all : take i lines ≡ lines = take_all i lines past in
     let is : draft ≡ block_summary_of profile lines = has.is ∙ ap (block_summary_of profile) all in
@@ -248,7 +248,7 @@ sound_ends profile s t first xs r ends sound stopped =
 
 -- A line at which the lines are known to stop, and whatever comes behind it.
 pub read_stopped : (profile : Profile) (carriers : ℕ) (lines : List Read) (i : ℕ) (d : Read) (old new : Summary) (rows more : List LoopRow) (stop : Option Fault) (fault : Fault) → 1 ≤ profile.hold → i < length lines →
-    AddsLine profile carriers (get_or lines i d) old new rows more stop → stop ≡ Some fault → HasRead profile carriers lines i old rows →
+    AddsLine profile carriers (get_or lines i d) old new rows more stop → stop ≡ Some fault → DraftHasRead profile carriers lines i old rows →
     IsMadeOf profile carriers (stopped_at fault (record new { lines = length lines })) more lines
 read_stopped profile carriers lines i d old new rows more None fault some within adds stops has = absurd (cc)
 read_stopped profile carriers lines i d old new rows more (Some found) fault some within adds stops has =
@@ -271,7 +271,7 @@ read_stopped profile carriers lines i d old new rows more (Some found) fault som
     let table : TableStandsFor profile rows ys =
     subst (λ (xs : List LoopRow). TableStandsFor profile xs ys) (append-nil rows)
     (table_more profile rows xs r None has.table tt (λ s t first ends sound. absurd (sound_ends profile s t first xs r ends sound (stopped s first)))) in
-    let good : (known : List Needle) → AreKnown known lines → IsGood carriers profile.hold known (stopped_at fault (record new { lines = length lines })) =
+    let good : (known : List Needle) → AreNeedlesKnown known lines → IsGood carriers profile.hold known (stopped_at fault (record new { lines = length lines })) =
     λ known knows. good_longer carriers profile.hold known fault new (length lines) (omega (arith, counted))
     (subst (λ (s : Summary). IsGood carriers profile.hold known s) is
     (block_good profile carriers known ys some lawful (λ q there. knows q (subst (λ (qs : List Read). Contains qs q) whole (Contains-append_left ys rest q there))))) in
@@ -302,12 +302,12 @@ stops_lines profile r old new fault ends = sym (ap (λ (s : Summary). s.lines) e
 
 -- what is known of the line's reading is known of any
 pub goes_added : (profile : Profile) (carriers : ℕ) (r q : Read) (old new : Summary) (rows more : List LoopRow) (formed : Option FormedLoop) (offset : ℕ) → r ≡ q → offset ≡ old.lines →
-    IsLawfulRead profile carriers q → EndsAs profile q old new (GoesOn formed) → more ≡ rows ++ option_to_list (option_map (row_of offset) formed) →
+    IsLawfulRead profile carriers q → EndsAs profile q old new (GoesOn formed) → more ≡ rows ++ option_to_list (option_map (loop_row_of offset) formed) →
     AddsLine profile carriers r old new rows more None
 goes_added profile carriers r q old new rows more formed offset same at lawful ends is =
     subst (λ x. AddsLine profile carriers x old new rows more None) (sym same) (record {
       lawful = lawful;
-      added = (ends.0, is ∙ (λ i. rows ++ option_to_list (option_map (row_of (at i)) (ends.1 i))));
+      added = (ends.0, is ∙ (λ i. rows ++ option_to_list (option_map (loop_row_of (at i)) (ends.1 i))));
     })
 
 -- the same where it stops
@@ -324,14 +324,14 @@ rows_wider lines more rows one are = record {
 }
 
 -- and one row more
-pub rows_more : (lines more : ℕ) (rows now : List LoopRow) (offset : ℕ) (formed : Option FormedLoop) → more ≡ lines + 1 → offset ≡ lines → now ≡ rows ++ option_to_list (option_map (row_of offset) formed) →
+pub rows_more : (lines more : ℕ) (rows now : List LoopRow) (offset : ℕ) (formed : Option FormedLoop) → more ≡ lines + 1 → offset ≡ lines → now ≡ rows ++ option_to_list (option_map (loop_row_of offset) formed) →
     AreRowsOf lines rows → AreRowsOf more now
 rows_more lines more rows now offset None one at is are = subst (λ (xs : List LoopRow). AreRowsOf more xs) (sym (is ∙ append-nil rows)) (rows_wider lines more rows one are)
 rows_more lines more rows now offset (Some l) one at is are =
     let wider : AreRowsOf more rows = rows_wider lines more rows one are in
     subst (λ (xs : List LoopRow). AreRowsOf more xs) (sym is) (record {
-      within = All-push (λ (row : LoopRow). row.offset < more) rows (row_of offset l) wider.within (omega (arith, one, at));
-      few = let few = are.few in omega (arith, few, one, length-append rows (row_of offset l ∷ []));
+      within = All-push (λ (row : LoopRow). row.offset < more) rows (loop_row_of offset l) wider.within (omega (arith, one, at));
+      few = let few = are.few in omega (arith, few, one, length-append rows (loop_row_of offset l ∷ []));
     })
 
 -- no rows of no line

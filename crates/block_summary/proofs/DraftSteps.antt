@@ -10,8 +10,8 @@ use Rattle.knit_base.specs.Yarns.{mask_of, contains_carrier, without_set}
 use Rattle.face_data.specs.declared.digest.Digest.{Digest}
 use Rattle.face_data.specs.Digests.{digest_of, effect_bearing, digest_bearing, IsPlainCondition}
 use Rattle.face_data.specs.Goodness.{IsInOrder, IsIrredundant}
-use Rattle.face_data.specs.Answers.Answer.{no_it_does_not, asks}
-use Rattle.face_data.specs.Composition.{from_bearing, settled}
+use Rattle.face_data.specs.Answers.ConditionAnswer.{no_it_does_not, asks}
+use Rattle.face_data.specs.Composition.{from_bearing, answer_of_kept}
 use Rattle.face_data.specs.Conditions.Ask.{carrier_in, last_near}
 use Rattle.face_data.specs.Bearings.{if_so}
 use Rattle.face_data.specs.declared.bearing.Bearing.TheVariants.{Implied, Refuted, Silent}
@@ -32,25 +32,25 @@ use Rattle.face_data.specs.declared.face.Effect.{Effect}
 use Rattle.face_data.specs.declared.face.Last.{Last}
 use Rattle.face_data.specs.declared.face.Seg.{Seg}
 use Rattle.face_data.specs.declared.face.Seg.TheVariants.{Entry, New}
-use Rattle.face_data.specs.Answers.{Answer, read_answer, size_answer, size_left}
-use Rattle.face_data.specs.Answers.Answer.{yes_it_does}
-use Rattle.face_data.specs.Composition.{merged, against_kept, composed, effect_of_both}
+use Rattle.face_data.specs.Answers.{ConditionAnswer, read_answer, size_answer, size_left}
+use Rattle.face_data.specs.Answers.ConditionAnswer.{yes_it_does}
+use Rattle.face_data.specs.Composition.{changes_merged, against_kept, composed, effect_of_both}
 use Rattle.face_data.specs.Conditions.Ask.{size_at_most}
 use Rattle.face_data.specs.Lasts.{lasts_of_both}
-use Rattle.face_data.specs.Segments.{Changed, change_at, segments_on, entries_of, new_of, names_through, new_through}
+use Rattle.face_data.specs.Segments.{Changed, change_at, segments_on, entry_needles_of, new_of, names_through, new_through}
 use Rattle.face_data.specs.Sizes.{SizeRule, size_ask}
 use Rattle.face_data.specs.declared.sizes.SizeAsk.{SizeAsk}
 use Rattle.face_data.proofs.Answers.{size_answer_over}
 use Rattle.face_data.proofs.ChangeLists.{none_in_order}
 use Rattle.std.proofs.lemmas.Int.{ints}
-use Rattle.face_data.specs.Summaries.{Asked, Summary}
+use Rattle.face_data.specs.Summaries.{AskedCondition, Summary}
 use Rattle.face_data.proofs.Places.{change_at-put}
 use Rattle.knit_base.specs.declared.instr.Instr.TheVariants.{Knit}
 use Rattle.knit_base.specs.declared.instr.Read.TheVariants as read
 use Rattle.knit_base.specs.declared.needle.Dir.{Dir}
 use Rattle.face_data.specs.declared.face.Ending.TheVariants.{Through}
-use Rattle.block_summary.specs.DraftKnowledge.{effect_in, Holds, HoldsAfter, HasAsked, IsBare, IsDraft, Took}
-use Rattle.block_summary.specs.LineSummaries.{asked_by, line_summary, near_asked, plainly_asked, slider_asked}
+use Rattle.block_summary.specs.DraftKnowledge.{effect_in, IsConditionKnown, HoldsAfter, HasAsked, IsBare, IsDraft, Took}
+use Rattle.block_summary.specs.LineSummaries.{conditions_of_instr, line_summary, near_asked, plainly_asked, slider_asked}
 use Rattle.face_data.proofs.Front.{AllHold}
 use Rattle.block_summary.proofs.LineFront.{front_knit}
 use Rattle.carrier_rules.specs.declared.conds.OfEach.TheVariants.{InAction}
@@ -66,21 +66,21 @@ hook_apart n m hook false e = refl
 
 -- what is written to a hook leaves each slider
 slider_left : (changes : List Changed) (n m : Needle) (segs : List Seg) → is_slider n.bed ≡ false →
-    segments_on (merged changes ((n, segs) ∷ [])) (own_slider m) ≡ segments_on changes (own_slider m)
+    segments_on (changes_merged changes ((n, segs) ∷ [])) (own_slider m) ≡ segments_on changes (own_slider m)
 slider_left changes n m segs hook =
     ap (λ o. unwrap_or o (Entry (own_slider m) ∷ []))
     (change_at-put changes n (own_slider m) segs ∙ ap (λ b. if b then Some segs else change_at changes (own_slider m)) (hook_apart n m hook (same_needle n (own_slider m)) refl))
 
 answer_left : (e : Effect) (la : List Last) (a b : List Changed) (s : Needle) → segments_on b s ≡ segments_on a s → read_answer e la b (size_at_most (s ∷ []) 0) ≡ read_answer e la a (size_at_most (s ∷ []) 0)
 unfolding read_answer
-answer_left e la a b s same = ap (λ (segs : List Seg). size_answer (flat_map (λ (n : Needle). entries_of segs) (s ∷ [])) (sum_by (λ (n : Needle). new_of segs) (s ∷ [])) 0) same
+answer_left e la a b s same = ap (λ (segs : List Seg). size_answer (flat_map (λ (n : Needle). entry_needles_of segs) (s ∷ [])) (sum_by (λ (n : Needle). new_of segs) (s ∷ [])) 0) same
 
 -- hooks whose sliders are known to hold nothing stay so
-pub bare_left : (kept : List Asked) (e : Effect) (la : List Last) (changes : List Changed) (n : Needle) (segs : List Seg) (o : Option Needle) → is_slider n.bed ≡ false → IsBare kept e la changes o →
-    IsBare kept e la (merged changes ((n, segs) ∷ [])) o
+pub bare_left : (kept : List AskedCondition) (e : Effect) (la : List Last) (changes : List Changed) (n : Needle) (segs : List Seg) (o : Option Needle) → is_slider n.bed ≡ false → IsBare kept e la changes o →
+    IsBare kept e la (changes_merged changes ((n, segs) ∷ [])) o
 bare_left kept e la changes n segs None hook bare = tt
 bare_left kept e la changes n segs (Some m) hook bare =
-    ap (against_kept kept) (answer_left e la changes (merged changes ((n, segs) ∷ [])) (own_slider m) (slider_left changes n m segs hook)) ∙ bare
+    ap (against_kept kept) (answer_left e la changes (changes_merged changes ((n, segs) ∷ [])) (own_slider m) (slider_left changes n m segs hook)) ∙ bare
 
 in_mask : (cs : List CarrierNo) (c : CarrierNo) → Contains cs c → bit_at (mask_of cs) c.0 ≡ 1
 in_mask [] c there = absurd (Contains-none c there)
@@ -103,13 +103,13 @@ ways false true true e = absurd (true≢false (sym e))
 ways false false false e = absurd (true≢false (sym e))
 ways false true false e = absurd (true≢false (sym e))
 
-came_answer : (kept : List Asked) (e : Effect) (la : List Last) (a : List Changed) (c : CarrierNo) → contains_carrier e.came c ≡ true → against_kept kept (read_answer e la a (carrier_in c)) ≡ yes_it_does
+came_answer : (kept : List AskedCondition) (e : Effect) (la : List Last) (a : List Changed) (c : CarrierNo) → contains_carrier e.came c ≡ true → against_kept kept (read_answer e la a (carrier_in c)) ≡ yes_it_does
 unfolding read_answer
 came_answer kept e la a c came =
     ap (λ b. against_kept kept (if b then yes_it_does else (if contains_carrier e.went c then no_it_does_not else asks (carrier_in c)))) came
 
-kept_answer : (kept : List Asked) (e : Effect) (la : List Last) (a : List Changed) (c : CarrierNo) → contains_carrier e.came c ≡ false → contains_carrier e.went c ≡ false →
-    against_kept kept (read_answer e la a (carrier_in c)) ≡ settled kept (carrier_in c)
+kept_answer : (kept : List AskedCondition) (e : Effect) (la : List Last) (a : List Changed) (c : CarrierNo) → contains_carrier e.came c ≡ false → contains_carrier e.went c ≡ false →
+    against_kept kept (read_answer e la a (carrier_in c)) ≡ answer_of_kept kept (carrier_in c)
 unfolding read_answer
 kept_answer kept e la a c came went =
     ap (λ b. against_kept kept (if b then yes_it_does else (if contains_carrier e.went c then no_it_does_not else asks (carrier_in c)))) came
@@ -124,7 +124,7 @@ pub in_set : (cs : List CarrierNo) (known : ℕ) (c : CarrierNo) → bit_and (ma
 in_set cs known c all there = ap (λ b. nat_eq b 1) (in_known cs known c all there)
 
 -- a carrier that came, or was asked for and didn't go, is known to be in action
-pub carrier_held : (kept : List Asked) (e : Effect) (la : List Last) (a : List Changed) (digest : Digest) (c : CarrierNo) → digest ≡ digest_of kept → IsIrredundant kept →
+pub carrier_held : (kept : List AskedCondition) (e : Effect) (la : List Last) (a : List Changed) (digest : Digest) (c : CarrierNo) → digest ≡ digest_of kept → IsIrredundant kept →
     contains_carrier (bit_or e.came (without_set digest.ins e.went)) c ≡ true → against_kept kept (read_answer e la a (carrier_in c)) ≡ yes_it_does
 carrier_held kept e la a digest c is each known =
     elim (ways (contains_carrier e.came c) (contains_carrier e.went c) (contains_carrier digest.ins c)
@@ -140,12 +140,12 @@ where_ok X E (Ok x) P p = p
 where_ok X E (Err e) P p = tt
 
 -- none of the hooks is known to be bare
-all_bare : (kept : List Asked) (e : Effect) (la : List Last) (changes : List Changed) (bare : List (Option Needle)) → All (λ (o : Option Needle). o ≡ None) bare → All (IsBare kept e la changes) bare
+all_bare : (kept : List AskedCondition) (e : Effect) (la : List Last) (changes : List Changed) (bare : List (Option Needle)) → All (λ (o : Option Needle). o ≡ None) bare → All (IsBare kept e la changes) bare
 all_bare kept e la changes bare none = All-weaker (λ (o : Option Needle). o ≡ None) (IsBare kept e la changes) (λ o same. subst (IsBare kept e la changes) (sym same) tt) bare none
 
 -- what stays known after a hook got other segments
-pub put_on_hook : (lines made : ℕ) (kept : List Asked) (e : Effect) (la : List Last) (a b : List Changed) (bare : List (Option Needle)) (n : Needle) (segs : List Seg) → is_slider n.bed ≡ false →
-    made ≤ lines → IsInOrder b → b ≡ merged a ((n, segs) ∷ []) → All (IsBare kept e la a) bare → IsDraft lines made kept e la b bare
+pub put_on_hook : (lines made : ℕ) (kept : List AskedCondition) (e : Effect) (la : List Last) (a b : List Changed) (bare : List (Option Needle)) (n : Needle) (segs : List Seg) → is_slider n.bed ≡ false →
+    made ≤ lines → IsInOrder b → b ≡ changes_merged a ((n, segs) ∷ []) → All (IsBare kept e la a) bare → IsDraft lines made kept e la b bare
 put_on_hook lines made kept e la a b bare n segs hook few order is bare_are = record {
   few = few;
   order = order;
@@ -153,18 +153,18 @@ put_on_hook lines made kept e la a b bare n segs hook few order is bare_are = re
 }
 
 -- where no hook is known to be bare
-pub put_anywhere : (lines made : ℕ) (kept : List Asked) (e : Effect) (la : List Last) (b : List Changed) (bare : List (Option Needle)) → made ≤ lines → IsInOrder b →
+pub put_anywhere : (lines made : ℕ) (kept : List AskedCondition) (e : Effect) (la : List Last) (b : List Changed) (bare : List (Option Needle)) → made ≤ lines → IsInOrder b →
     All (λ (o : Option Needle). o ≡ None) bare → IsDraft lines made kept e la b bare
 put_anywhere lines made kept e la b bare few order none = record { few = few; order = order; bare_are = all_bare kept e la b bare none }
 
 -- a condition on sizes doesn't ask what the lines did to rack, carriers, hook and last needles
-pub bare_effect : (kept : List Asked) (e f : Effect) (la lb : List Last) (a : List Changed) (o : Option Needle) → IsBare kept e la a o → IsBare kept f lb a o
+pub bare_effect : (kept : List AskedCondition) (e f : Effect) (la lb : List Last) (a : List Changed) (o : Option Needle) → IsBare kept e la a o → IsBare kept f lb a o
 unfolding read_answer
 bare_effect kept e f la lb a None bare = tt
 bare_effect kept e f la lb a (Some n) bare = bare
 
 -- lines that are carried out leave what is known of sliders
-pub moved_on : (lines made more_lines more_made : ℕ) (kept : List Asked) (e f : Effect) (la lb : List Last) (a : List Changed) (bare : List (Option Needle)) → more_made ≤ more_lines →
+pub moved_on : (lines made more_lines more_made : ℕ) (kept : List AskedCondition) (e f : Effect) (la lb : List Last) (a : List Changed) (bare : List (Option Needle)) → more_made ≤ more_lines →
     IsDraft lines made kept e la a bare → IsDraft more_lines more_made kept f lb a bare
 moved_on lines made more_lines more_made kept e f la lb a bare few draft = record {
   few = few;
@@ -173,41 +173,41 @@ moved_on lines made more_lines more_made kept e f la lb a bare few draft = recor
 }
 
 -- carriers that are known to be in action are asked for in vain
-pub carriers_asked : (kept : List Asked) (e : Effect) (la : List Last) (a : List Changed) (at : ℕ) (cs : List CarrierNo) → ((c : CarrierNo) → Contains cs c → Holds kept e la a (carrier_in c)) →
-    (d : Asked) → Contains (map plainly_asked (conds_of_each InAction at cs)) d → Holds kept e la a d.ask
+pub carriers_asked : (kept : List AskedCondition) (e : Effect) (la : List Last) (a : List Changed) (at : ℕ) (cs : List CarrierNo) → ((c : CarrierNo) → Contains cs c → IsConditionKnown kept e la a (carrier_in c)) →
+    (d : AskedCondition) → Contains (map plainly_asked (conds_of_each InAction at cs)) d → IsConditionKnown kept e la a d.ask
 carriers_asked kept e la a at [] known d there = absurd (Contains-none d there)
 carriers_asked kept e la a at (c ∷ cs) known d there = elim (Contains-cons_cases _ (map plainly_asked (conds_of_each InAction (at + 1) cs)) d there) [
-  | inl same ↦ subst (λ (x : Asked). Holds kept e la a x.ask) same (known c (Contains-head c cs))
+  | inl same ↦ subst (λ (x : AskedCondition). IsConditionKnown kept e la a x.ask) same (known c (Contains-head c cs))
   | inr later ↦ carriers_asked kept e la a (at + 1) cs (λ x h. known x (Contains-tail c cs x h)) d later
 ]
 
 -- floats that are known to be short enough are asked for in vain
-floats_asked_each : (kept : List Asked) (e : Effect) (la : List Last) (a : List Changed) (float : ℕ) (number : ℤ) (at : ℕ) (cs : List CarrierNo) →
-    ((c : CarrierNo) → Contains cs c → Holds kept e la a (last_near c number float)) →
-    (d : Asked) → Contains (map plainly_asked (floats_of_each float number at cs)) d → Holds kept e la a d.ask
+floats_asked_each : (kept : List AskedCondition) (e : Effect) (la : List Last) (a : List Changed) (float : ℕ) (number : ℤ) (at : ℕ) (cs : List CarrierNo) →
+    ((c : CarrierNo) → Contains cs c → IsConditionKnown kept e la a (last_near c number float)) →
+    (d : AskedCondition) → Contains (map plainly_asked (floats_of_each float number at cs)) d → IsConditionKnown kept e la a d.ask
 floats_asked_each kept e la a float number at [] known d there = absurd (Contains-none d there)
 floats_asked_each kept e la a float number at (c ∷ cs) known d there = elim (Contains-cons_cases _ (map plainly_asked (floats_of_each float number (at + 1) cs)) d there) [
-  | inl same ↦ subst (λ (x : Asked). Holds kept e la a x.ask) same (known c (Contains-head c cs))
+  | inl same ↦ subst (λ (x : AskedCondition). IsConditionKnown kept e la a x.ask) same (known c (Contains-head c cs))
   | inr later ↦ floats_asked_each kept e la a float number (at + 1) cs (λ x h. known x (Contains-tail c cs x h)) d later
 ]
 
 -- so are those of a knit, where there is a limit
-pub near_asked_knit : (kept : List Asked) (e : Effect) (la : List Last) (a : List Changed) (limit : Option ℕ) (dir : Dir) (n : Needle) (cs : List CarrierNo) →
-    ((float : ℕ) (c : CarrierNo) → limit ≡ Some float → Contains cs c → Holds kept e la a (last_near c n.at float)) →
-    (d : Asked) → Contains (near_asked limit (Knit dir n cs)) d → Holds kept e la a d.ask
+pub near_asked_knit : (kept : List AskedCondition) (e : Effect) (la : List Last) (a : List Changed) (limit : Option ℕ) (dir : Dir) (n : Needle) (cs : List CarrierNo) →
+    ((float : ℕ) (c : CarrierNo) → limit ≡ Some float → Contains cs c → IsConditionKnown kept e la a (last_near c n.at float)) →
+    (d : AskedCondition) → Contains (near_asked limit (Knit dir n cs)) d → IsConditionKnown kept e la a d.ask
 near_asked_knit kept e la a None dir n cs known d there = absurd (Contains-none d there)
 near_asked_knit kept e la a (Some float) dir n cs known d there = floats_asked_each kept e la a float n.at 3 cs (λ c h. known float c refl h) d there
 
 -- so is all that a knit asks for, where the slider is known to hold nothing
-pub knit_asked : (profile : Profile) (dir : Dir) (n : Needle) (c : CarrierNo) (cs : List CarrierNo) (kept : List Asked) (e : Effect) (la : List Last) (a : List Changed) →
-    ((x : CarrierNo) → Contains (c ∷ cs) x → Holds kept e la a (carrier_in x)) → Holds kept e la a (size_at_most (own_slider n ∷ []) 0) →
-    ((float : ℕ) (x : CarrierNo) → profile.float ≡ Some float → Contains (c ∷ cs) x → Holds kept e la a (last_near x n.at float)) →
-    AllHold e la a kept (asked_by profile (Knit dir n (c ∷ cs)))
+pub knit_asked : (profile : Profile) (dir : Dir) (n : Needle) (c : CarrierNo) (cs : List CarrierNo) (kept : List AskedCondition) (e : Effect) (la : List Last) (a : List Changed) →
+    ((x : CarrierNo) → Contains (c ∷ cs) x → IsConditionKnown kept e la a (carrier_in x)) → IsConditionKnown kept e la a (size_at_most (own_slider n ∷ []) 0) →
+    ((float : ℕ) (x : CarrierNo) → profile.float ≡ Some float → Contains (c ∷ cs) x → IsConditionKnown kept e la a (last_near x n.at float)) →
+    AllHold e la a kept (conditions_of_instr profile (Knit dir n (c ∷ cs)))
 knit_asked profile dir n c cs kept e la a carriers slider near d there =
     elim (Contains-append_cases (map plainly_asked (conds_of_each InAction 3 (c ∷ cs))) (slider_asked (Some n) ++ near_asked profile.float (Knit dir n (c ∷ cs))) d there) [
       | inl first ↦ carriers_asked kept e la a 3 (c ∷ cs) carriers d first
       | inr last ↦ elim (Contains-cons_cases _ (near_asked profile.float (Knit dir n (c ∷ cs))) d last) [
-        | inl same ↦ subst (λ (x : Asked). Holds kept e la a x.ask) same slider
+        | inl same ↦ subst (λ (x : AskedCondition). IsConditionKnown kept e la a x.ask) same slider
         | inr later ↦ near_asked_knit kept e la a profile.float dir n (c ∷ cs) near d later
       ]
     ]
@@ -217,14 +217,14 @@ pub no_limit : (float : ℕ) → None ≡ Some float → ⊥
 no_limit float e = absurd (cc)
 
 -- a knit whose conditions are known to hold, on what the code keeps where floats have no limit
-pub knit_more : (profile : Profile) (dir : Dir) (n : Needle) (c : CarrierNo) (cs : List CarrierNo) (old : Summary) (lines made : ℕ) (kept : List Asked) (a b : List Changed) (la : List Last) (e : Effect) (segs : List Seg) →
-    record { lines = lines; made = made; checks = kept; changes = a; lasts = la; ending = Through e } ≡ old → segs ≡ New lines ∷ [] → b ≡ merged a ((n, segs) ∷ []) → profile.float ≡ None →
+pub knit_more : (profile : Profile) (dir : Dir) (n : Needle) (c : CarrierNo) (cs : List CarrierNo) (old : Summary) (lines made : ℕ) (kept : List AskedCondition) (a b : List Changed) (la : List Last) (e : Effect) (segs : List Seg) →
+    record { lines = lines; made = made; checks = kept; changes = a; lasts = la; ending = Through e } ≡ old → segs ≡ New lines ∷ [] → b ≡ changes_merged a ((n, segs) ∷ []) → profile.float ≡ None →
     ((x : CarrierNo) → Contains (c ∷ cs) x → HoldsAfter old (carrier_in x)) → HoldsAfter old (size_at_most (own_slider n ∷ []) 0) →
     record { lines = lines + 1; made = made + 1; checks = kept; changes = b; lasts = la; ending = Through e } ≡ composed old (line_summary profile (read.Instr (Knit dir n (c ∷ cs))))
 knit_more profile dir n c cs old lines made kept a b la e segs seen one is free carriers slider =
     let draft : Summary = record { lines = lines; made = made; checks = kept; changes = a; lasts = la; ending = Through e } in
     let none : lasts_of profile.float (Knit dir n (c ∷ cs)) ≡ [] = ap (λ limit. lasts_of limit (Knit dir n (c ∷ cs))) free in
-    (λ i. record { lines = lines + 1; made = made + 1; checks = kept; changes = (is ∙ ap (λ xs. merged a ((n, xs) ∷ [])) one) i; lasts = lasts_of_both la (sym none i); ending = Through e })
+    (λ i. record { lines = lines + 1; made = made + 1; checks = kept; changes = (is ∙ ap (λ xs. changes_merged a ((n, xs) ∷ [])) one) i; lasts = lasts_of_both la (sym none i); ending = Through e })
     ∙ sym (front_knit profile draft e dir n c cs refl (knit_asked profile dir n c cs kept e la a
     (λ x there. subst (λ (s : Summary). HoldsAfter s (carrier_in x)) (sym seen) (carriers x there))
     (subst (λ (s : Summary). HoldsAfter s (size_at_most (own_slider n ∷ []) 0)) (sym seen) slider)
@@ -232,60 +232,60 @@ knit_more profile dir n c cs old lines made kept a b la e segs seen one is free 
     ∙ ap (λ (s : Summary). composed s (line_summary profile (read.Instr (Knit dir n (c ∷ cs))))) seen
 
 -- the effect tells
-pub effect_known : (kept : List Asked) (e : Effect) (la : List Last) (a : List Changed) (q : Ask) (r : Bearing) → IsPlainCondition q → r ≡ effect_bearing e q → (r ≡ Silent → ⊥) →
+pub effect_known : (kept : List AskedCondition) (e : Effect) (la : List Last) (a : List Changed) (q : Ask) (r : Bearing) → IsPlainCondition q → r ≡ effect_bearing e q → (r ≡ Silent → ⊥) →
     against_kept kept (read_answer e la a q) ≡ from_bearing r (asks q)
 effect_known kept e la a q Implied plain said loud = ap (against_kept kept) (read-plain e la a q plain ∙ ap (λ b. from_bearing b (asks q)) (sym said))
 effect_known kept e la a q Refuted plain said loud = ap (against_kept kept) (read-plain e la a q plain ∙ ap (λ b. from_bearing b (asks q)) (sym said))
 effect_known kept e la a q Silent plain said loud = absurd (loud refl)
 
 -- or else the digest
-pub digest_known : (kept : List Asked) (e : Effect) (la : List Last) (a : List Changed) (digest : Digest) (q : Ask) (r : Bearing) → IsPlainCondition q → Silent ≡ effect_bearing e q → digest ≡ digest_of kept →
+pub digest_known : (kept : List AskedCondition) (e : Effect) (la : List Last) (a : List Changed) (digest : Digest) (q : Ask) (r : Bearing) → IsPlainCondition q → Silent ≡ effect_bearing e q → digest ≡ digest_of kept →
     IsIrredundant kept → r ≡ digest_bearing digest q → against_kept kept (read_answer e la a q) ≡ from_bearing r (asks q)
 digest_known kept e la a digest q r plain silence is each said =
     ap (against_kept kept) (read-plain e la a q plain ∙ ap (λ b. from_bearing b (asks q)) (sym silence))
     ∙ settled-plain kept q plain each
     ∙ ap (λ b. from_bearing b (asks q)) (ap (λ (d : Digest). digest_bearing d q) (sym is) ∙ sym said)
 
-more_by : (r : Bearing) (rest more : Answer) → (rest ≡ yes_it_does → more ≡ yes_it_does) → from_bearing r rest ≡ yes_it_does → from_bearing r more ≡ yes_it_does
+more_by : (r : Bearing) (rest more : ConditionAnswer) → (rest ≡ yes_it_does → more ≡ yes_it_does) → from_bearing r rest ≡ yes_it_does → from_bearing r more ≡ yes_it_does
 more_by Implied rest more step h = refl
 more_by Refuted rest more step h = absurd (cc)
 more_by Silent rest more step h = step h
 
-settled_more : (kept : List Asked) (c : Asked) (q : Ask) → settled kept q ≡ yes_it_does → settled (kept ++ c ∷ []) q ≡ yes_it_does
-unfolding settled
+settled_more : (kept : List AskedCondition) (c : AskedCondition) (q : Ask) → answer_of_kept kept q ≡ yes_it_does → answer_of_kept (kept ++ c ∷ []) q ≡ yes_it_does
+unfolding answer_of_kept
 settled_more [] c q e = absurd (cc)
-settled_more (k ∷ ks) c q e = more_by (bearing k.ask q) (settled ks q) (settled (ks ++ c ∷ []) q) (settled_more ks c q) e
+settled_more (k ∷ ks) c q e = more_by (bearing k.ask q) (answer_of_kept ks q) (answer_of_kept (ks ++ c ∷ []) q) (settled_more ks c q) e
 
 -- a condition that is known to hold stays known
-pub held_more : (kept : List Asked) (c : Asked) (r : Answer) → against_kept kept r ≡ yes_it_does → against_kept (kept ++ c ∷ []) r ≡ yes_it_does
+pub held_more : (kept : List AskedCondition) (c : AskedCondition) (r : ConditionAnswer) → against_kept kept r ≡ yes_it_does → against_kept (kept ++ c ∷ []) r ≡ yes_it_does
 held_more kept c yes_it_does e = refl
 held_more kept c no_it_does_not e = e
 held_more kept c (asks q) e = settled_more kept c q e
 
-bare_more : (kept : List Asked) (c : Asked) (e : Effect) (la : List Last) (a : List Changed) (o : Option Needle) → IsBare kept e la a o → IsBare (kept ++ c ∷ []) e la a o
+bare_more : (kept : List AskedCondition) (c : AskedCondition) (e : Effect) (la : List Last) (a : List Changed) (o : Option Needle) → IsBare kept e la a o → IsBare (kept ++ c ∷ []) e la a o
 bare_more kept c e la a None bare = tt
 bare_more kept c e la a (Some n) bare = held_more kept c (read_answer e la a (size_at_most (own_slider n ∷ []) 0)) bare
 
 -- what stays known after a condition was kept
-pub kept_more : (lines made : ℕ) (kept now : List Asked) (e : Effect) (la : List Last) (a : List Changed) (bare : List (Option Needle)) (c : Asked) → now ≡ kept ++ c ∷ [] →
+pub kept_more : (lines made : ℕ) (kept now : List AskedCondition) (e : Effect) (la : List Last) (a : List Changed) (bare : List (Option Needle)) (c : AskedCondition) → now ≡ kept ++ c ∷ [] →
     IsDraft lines made kept e la a bare → IsDraft lines made now e la a bare
-kept_more lines made kept now e la a bare c is draft = subst (λ (ks : List Asked). IsDraft lines made ks e la a bare) (sym is) (record {
+kept_more lines made kept now e la a bare c is draft = subst (λ (ks : List AskedCondition). IsDraft lines made ks e la a bare) (sym is) (record {
   few = draft.few;
   order = draft.order;
   bare_are = All-weaker (IsBare kept e la a) (IsBare (kept ++ c ∷ []) e la a) (λ o p. bare_more kept c e la a o p) bare draft.bare_are;
 })
 
 -- the condition is left to ask
-pub left_to_ask : (old : Summary) (kept : List Asked) (e : Effect) (la : List Last) (a : List Changed) (lines made : ℕ) (q : Ask) (r : Bearing) →
+pub left_to_ask : (old : Summary) (kept : List AskedCondition) (e : Effect) (la : List Last) (a : List Changed) (lines made : ℕ) (q : Ask) (r : Bearing) →
     record { lines = lines; made = made; checks = kept; changes = a; lasts = la; ending = Through e } ≡ old →
-    against_kept old.checks (read_answer (effect_in old.ending) old.lasts old.changes q) ≡ from_bearing r (asks q) → r ≡ Silent → settled kept q ≡ asks q
+    against_kept old.checks (read_answer (effect_in old.ending) old.lasts old.changes q) ≡ from_bearing r (asks q) → r ≡ Silent → answer_of_kept kept q ≡ asks q
 left_to_ask old kept e la a lines made q r seen said silence =
     let left : against_kept kept (read_answer e la a q) ≡ asks q =
     subst (λ (s : Summary). against_kept s.checks (read_answer (effect_in s.ending) s.lasts s.changes q) ≡ asks q) (sym seen) (said ∙ ap (λ b. from_bearing b (asks q)) silence) in
     ap (against_kept kept) (sym ((against_asks kept (read_answer e la a q) q left).0)) ∙ left
 
 -- nothing is known of no line
-pub nothing_known : (kept : List Asked) (e : Effect) (la : List Last) (changes : List Changed) (bare : List (Option Needle)) → changes ≡ [] → All (λ (o : Option Needle). o ≡ None) bare →
+pub nothing_known : (kept : List AskedCondition) (e : Effect) (la : List Last) (changes : List Changed) (bare : List (Option Needle)) → changes ≡ [] → All (λ (o : Option Needle). o ≡ None) bare →
     IsDraft 0 0 kept e la changes bare
 nothing_known kept e la changes bare none empty =
     put_anywhere 0 0 kept e la changes bare (omega arith) (subst (λ (cs : List Changed). IsInOrder cs) (sym none) none_in_order) empty
@@ -309,7 +309,7 @@ sizes_left a rule ask most is_most is =
     ap (λ b. if b then no_it_does_not else size_left (names_through a rule.needles) (rule.most - new_through a rule.needles)) (le-ltb rule.most (new_through a rule.needles) room)
     ∙ (λ i. size_left (entries i) (left i))
 
-took_known : (old new : Summary) (ask : SizeAsk) (rule : SizeRule) (r : Answer) (goes : Bool) → ask ≡ size_ask old.changes rule →
+took_known : (old new : Summary) (ask : SizeAsk) (rule : SizeRule) (r : ConditionAnswer) (goes : Bool) → ask ≡ size_ask old.changes rule →
     size_answer (names_through old.changes rule.needles) (new_through old.changes rule.needles) rule.most ≡ r →
     Took (against_kept old.checks r) old new (record { line = old.lines; reason = ask.reason }) goes →
     HasAsked old new (record { line = old.lines; reason = rule.reason }) (size_at_most rule.needles rule.most) goes
@@ -332,7 +332,7 @@ took_left old new ask rule entries most goes is_most are is took =
     (subst (λ (ns : List Needle). Took (against_kept old.checks (size_left ns most)) old new (record { line = old.lines; reason = ask.reason }) goes) are took)
 
 -- asking changes the conditions alone
-pub took_rest : (r : Answer) (old new : Summary) (fault : Fault) (goes : Bool) → Took r old new fault goes → new ≡ record old { checks = new.checks }
+pub took_rest : (r : ConditionAnswer) (old new : Summary) (fault : Fault) (goes : Bool) → Took r old new fault goes → new ≡ record old { checks = new.checks }
 took_rest yes_it_does old new fault goes took = took.1 ∙ ap (λ (s : Summary). record old { checks = s.checks }) (sym took.1)
 took_rest no_it_does_not old new fault goes took = took.1 ∙ ap (λ (s : Summary). record old { checks = s.checks }) (sym took.1)
 took_rest (asks q) old new fault goes took = took.1 ∙ ap (λ (s : Summary). record old { checks = s.checks }) (sym took.1)
@@ -342,13 +342,13 @@ pub entries_none : (old : Summary) (entries : List Needle) (most : ℕ) (fault :
 entries_none old [] most fault none = (refl, refl)
 entries_none old (n ∷ entries) most fault none = absurd (omega (arith, none))
 
-left_to_kept : (kept : List Asked) (entries : List Needle) (most : ℕ) → 1 ≤ length entries → against_kept kept (size_left entries most) ≡ settled kept (size_at_most entries most)
+left_to_kept : (kept : List AskedCondition) (entries : List Needle) (most : ℕ) → 1 ≤ length entries → against_kept kept (size_left entries most) ≡ answer_of_kept kept (size_at_most entries most)
 left_to_kept kept [] most some = absurd (omega (arith, some))
 left_to_kept kept (n ∷ entries) most some = refl
 
 -- the kept conditions tell
-pub entries_known : (old : Summary) (lines made : ℕ) (kept : List Asked) (a : List Changed) (la : List Last) (e : Effect) (entries : List Needle) (most : ℕ) (fault : Fault) →
-    record { lines = lines; made = made; checks = kept; changes = a; lasts = la; ending = Through e } ≡ old → 1 ≤ length entries → settled kept (size_at_most entries most) ≡ yes_it_does →
+pub entries_known : (old : Summary) (lines made : ℕ) (kept : List AskedCondition) (a : List Changed) (la : List Last) (e : Effect) (entries : List Needle) (most : ℕ) (fault : Fault) →
+    record { lines = lines; made = made; checks = kept; changes = a; lasts = la; ending = Through e } ≡ old → 1 ≤ length entries → answer_of_kept kept (size_at_most entries most) ≡ yes_it_does →
     Took (against_kept old.checks (size_left entries most)) old old fault true
 entries_known old lines made kept a la e entries most fault seen some known =
     let says : against_kept old.checks (size_left entries most) ≡ yes_it_does =
@@ -356,9 +356,9 @@ entries_known old lines made kept a la e entries most fault seen some known =
     subst (λ r. Took r old old fault true) (sym says) (refl, refl)
 
 -- one more condition is kept
-pub entries_kept : (old : Summary) (lines made : ℕ) (kept now : List Asked) (a : List Changed) (la : List Last) (e : Effect) (entries : List Needle) (most : ℕ) (reason : Reason) →
+pub entries_kept : (old : Summary) (lines made : ℕ) (kept now : List AskedCondition) (a : List Changed) (la : List Last) (e : Effect) (entries : List Needle) (most : ℕ) (reason : Reason) →
     record { lines = lines; made = made; checks = kept; changes = a; lasts = la; ending = Through e } ≡ old → 1 ≤ length entries →
-    settled kept (size_at_most entries most) ≡ asks (size_at_most entries most) →
+    answer_of_kept kept (size_at_most entries most) ≡ asks (size_at_most entries most) →
     now ≡ kept ++ record { fault = record { line = lines; reason = reason }; ask = size_at_most entries most } ∷ [] →
     Took (against_kept old.checks (size_left entries most)) old (record { lines = lines; made = made; checks = now; changes = a; lasts = la; ending = Through e }) (record { line = old.lines; reason = reason }) true
 entries_kept old lines made kept now a la e entries most reason seen some silent more =
@@ -371,7 +371,7 @@ entries_kept old lines made kept now a la e entries most reason seen some silent
     )
 
 -- the conditions of lines that were drafted, one more line carried out
-pub goes_on : (lines made loops : ℕ) (kept : List Asked) (a : List Changed) (la : List Last) (e both effect : Effect) (old : Summary) →
+pub goes_on : (lines made loops : ℕ) (kept : List AskedCondition) (a : List Changed) (la : List Last) (e both effect : Effect) (old : Summary) →
     record { lines = lines; made = made; checks = kept; changes = a; lasts = la; ending = Through e } ≡ old → both ≡ effect_of_both e effect →
     record { lines = lines + 1; made = made + loops; checks = kept; changes = a; lasts = la; ending = Through both }
     ≡ record old { lines = old.lines + 1; made = old.made + loops; ending = Through (effect_of_both (effect_in old.ending) effect) }

@@ -20,28 +20,28 @@ use Rattle.face_data.specs.declared.face.Seg.{Seg}
 use Rattle.face_data.specs.declared.face.Seg.TheVariants.{Entry}
 use Rattle.face_data.specs.Answers.{read_answer, size_answer, size_left}
 use Rattle.face_data.specs.Composition.{against_kept, next, reads}
-use Rattle.face_data.specs.Conditions.{unless}
+use Rattle.face_data.specs.Conditions.{broken_unless}
 use Rattle.face_data.specs.Conditions.Ask.{carrier_in, size_at_most}
-use Rattle.face_data.specs.Segments.{Changed, change_at, entries_of, new_of}
-use Rattle.face_data.specs.Summaries.{Asked, Summary, raised}
+use Rattle.face_data.specs.Segments.{Changed, change_at, entry_needles_of, new_of}
+use Rattle.face_data.specs.Summaries.{AskedCondition, Summary, fault_raised}
 use Rattle.face_data.proofs.Front.{AllHold}
 use Rattle.face_data.proofs.Members.{Contains-head, Contains-tail}
 use Rattle.carrier_rules.specs.declared.conds.OfEach.TheVariants.{InAction}
 use Rattle.carrier_rules.specs.Carriers.{conds_of_each, early_of}
 use Rattle.slider_rules.specs.Sliders.{bare_slider}
 use Rattle.block_summary.specs.DraftKnowledge.{AreNearIn, HasAsked, HasAskedAll, HoldsAfter, Took, effect_in}
-use Rattle.block_summary.specs.LineSummaries.{asked_by, asked_of_sizes, near_asked, plainly_asked}
+use Rattle.block_summary.specs.LineSummaries.{conditions_of_instr, asked_of_sizes, near_asked, plainly_asked}
 use Rattle.block_summary.proofs.AskedHold.{near_after}
 use Rattle.block_summary.proofs.DraftSteps.{carriers_asked, near_asked_knit, took_rest}
 use Rattle.block_summary.proofs.LineSteps.{both_asked, first_stops, one_asked}
 
 -- conditions that are known to hold are passed over
-reads_past : (e : Effect) (la : List Last) (changes : List Changed) (lines : ℕ) (kept rest more : List Asked) → AllHold e la changes kept rest →
+reads_past : (e : Effect) (la : List Last) (changes : List Changed) (lines : ℕ) (kept rest more : List AskedCondition) → AllHold e la changes kept rest →
     reads e la changes lines kept (rest ++ more) ≡ reads e la changes lines kept more
 unfolding reads
 reads_past e la changes lines kept [] more hold = refl
 reads_past e la changes lines kept (c ∷ cs) more hold =
-    ap (λ r. next r kept (raised lines c.fault) (λ ks. reads e la changes lines ks (cs ++ more))) (hold c (Contains-head c cs))
+    ap (λ r. next r kept (fault_raised lines c.fault) (λ ks. reads e la changes lines ks (cs ++ more))) (hold c (Contains-head c cs))
     ∙ reads_past e la changes lines kept cs more (λ d there. hold d (Contains-tail c cs d there))
 
 -- the carriers of a knit are known to be in action
@@ -65,13 +65,13 @@ floats_known old limit dir n cs near = record {
 untouched_answer : (e : Effect) (la : List Last) (a : List Changed) (n : Needle) → change_at a n ≡ None → read_answer e la a (size_at_most (n ∷ []) 0) ≡ size_left (n ∷ []) 0
 unfolding read_answer size_answer
 untouched_answer e la a n none =
-    ap (λ (segs : List Seg). size_answer (flat_map (λ (m : Needle). entries_of segs) (n ∷ [])) (sum_by (λ (m : Needle). new_of segs) (n ∷ [])) 0)
+    ap (λ (segs : List Seg). size_answer (flat_map (λ (m : Needle). entry_needles_of segs) (n ∷ [])) (sum_by (λ (m : Needle). new_of segs) (n ∷ [])) 0)
     (ap (λ o. unwrap_or o (Entry n ∷ [])) none)
 
 -- the slider of a knit, which no line has changed, was asked about
 pub bare_asked : (old new : Summary) (n slider : Needle) (goes : Bool) (stop : Option Reason) → slider ≡ own_slider n → change_at old.changes slider ≡ None →
     Took (against_kept old.checks (size_left (slider ∷ []) 0)) old new (record { line = old.lines; reason = record { rule = SliderHolds; at = 2 } }) goes →
-    stop ≡ unless goes (record { rule = SliderHolds; at = 2 }) → HasAskedAll old new (asked_of_sizes (bare_slider n) ∷ []) stop
+    stop ≡ broken_unless goes (record { rule = SliderHolds; at = 2 }) → HasAskedAll old new (asked_of_sizes (bare_slider n) ∷ []) stop
 bare_asked old new n slider goes stop own none took is =
     let reason : Reason = record { rule = SliderHolds; at = 2 } in
     subst (λ s. HasAskedAll old new (asked_of_sizes (bare_slider n) ∷ []) s) (sym is)
@@ -85,7 +85,7 @@ knit_forms instr dir n [] is some = absurd (omega (arith, some))
 knit_forms instr dir n (c ∷ cs) is some = ap forming_needle is
 
 -- its slider was asked about, and its floats are known to be short enough
-slider_and_floats : (old mid new : Summary) (all : List Asked) (limit : Option ℕ) (dir : Dir) (n : Needle) (cs : List CarrierNo) (stop : Option Reason) → HasAskedAll old mid all None →
+slider_and_floats : (old mid new : Summary) (all : List AskedCondition) (limit : Option ℕ) (dir : Dir) (n : Needle) (cs : List CarrierNo) (stop : Option Reason) → HasAskedAll old mid all None →
     HasAskedAll mid new (asked_of_sizes (bare_slider n) ∷ []) stop → AreNearIn old limit n cs → HasAskedAll mid new (asked_of_sizes (bare_slider n) ∷ near_asked limit (Knit dir n cs)) stop
 slider_and_floats old mid new all limit dir n cs None first second near =
     let near_mid : AreNearIn mid limit n cs = near_after old mid all limit n cs first near in
@@ -97,7 +97,7 @@ slider_and_floats old mid new all limit dir n cs (Some reason) first second near
 -- the carriers of a knit were asked about, and then its slider, and its floats are known to be short enough
 pub knit_is_asked : (profile : Profile) (dir : Dir) (n : Needle) (cs : List CarrierNo) (old mid new : Summary) (stop : Option Reason) → 1 ≤ length cs →
     HasAskedAll old mid (map plainly_asked (conds_of_each InAction 3 cs)) None → HasAskedAll mid new (asked_of_sizes (bare_slider n) ∷ []) stop →
-    AreNearIn old profile.float n cs → HasAskedAll old new (asked_by profile (Knit dir n cs)) stop
+    AreNearIn old profile.float n cs → HasAskedAll old new (conditions_of_instr profile (Knit dir n cs)) stop
 knit_is_asked profile dir n [] old mid new stop some first second near = absurd (omega (arith, some))
 knit_is_asked profile dir n (c ∷ cs) old mid new stop some first second near =
     both_asked old mid new (map plainly_asked (conds_of_each InAction 3 (c ∷ cs))) (asked_of_sizes (bare_slider n) ∷ near_asked profile.float (Knit dir n (c ∷ cs))) stop first
@@ -106,9 +106,9 @@ knit_is_asked profile dir n (c ∷ cs) old mid new stop some first second near =
 -- the same of an instruction that is one
 pub knit_is_all_asked : (profile : Profile) (instr : Instr) (dir : Dir) (n : Needle) (cs : List CarrierNo) (old mid new : Summary) (stop : Option Reason) → instr ≡ Knit dir n cs → 1 ≤ length cs →
     HasAskedAll old mid (map plainly_asked (early_of instr)) None → HasAskedAll mid new (asked_of_sizes (bare_slider n) ∷ []) stop → AreNearIn old profile.float n cs →
-    HasAskedAll old new (asked_by profile instr) stop
+    HasAskedAll old new (conditions_of_instr profile instr) stop
 knit_is_all_asked profile instr dir n cs old mid new stop is some first second near =
-    subst (λ (i : Instr). HasAskedAll old new (asked_by profile i) stop) (sym is)
+    subst (λ (i : Instr). HasAskedAll old new (conditions_of_instr profile i) stop) (sym is)
     (knit_is_asked profile dir n cs old mid new stop some (subst (λ (i : Instr). HasAskedAll old mid (map plainly_asked (early_of i)) None) is first) second near)
 
 -- the lines before go through, where those with the conditions do
@@ -121,7 +121,7 @@ lines_before old mid rest few = subst (λ (s : Summary). s.lines < 2 ^ 32 - 1) (
 
 -- the one carrier of a knit was asked about
 pub carrier_asked : (old mid : Summary) (dir : Dir) (n : Needle) (c : CarrierNo) (goes : Bool) (stop : Option Reason) →
-    HasAsked old mid (record { line = old.lines; reason = record { rule = CarrierIsOut; at = 3 } }) (carrier_in c) goes → unless goes (record { rule = CarrierIsOut; at = 3 }) ≡ stop →
+    HasAsked old mid (record { line = old.lines; reason = record { rule = CarrierIsOut; at = 3 } }) (carrier_in c) goes → broken_unless goes (record { rule = CarrierIsOut; at = 3 }) ≡ stop →
     HasAskedAll old mid (map plainly_asked (early_of (Knit dir n (c ∷ [])))) stop
 carrier_asked old mid dir n c goes stop took is =
     subst (λ s. HasAskedAll old mid (map plainly_asked (early_of (Knit dir n (c ∷ [])))) s) is (one_asked old mid (record { rule = CarrierIsOut; at = 3 }) (carrier_in c) goes took)

@@ -23,8 +23,8 @@ use Rattle.loop_history.specs.declared.row.LoopRow.{LoopRow}
 use Rattle.face_data.specs.declared.face.Ending.TheVariants.{Through}
 use Rattle.block_summary.specs.DraftKnowledge.{HasAskedAll, effect_in, stopped_at}
 use Rattle.block_summary.specs.LineEnds.{loop_of_line}
-use Rattle.block_summary.specs.LineSummaries.{asked_by}
-use Rattle.block_summary.specs.Prepared.{AddsLine, AreRowsOf, IsAdded, IsKnitIfKnown, row_of}
+use Rattle.block_summary.specs.LineSummaries.{conditions_of_instr}
+use Rattle.block_summary.specs.Prepared.{AddsLine, AreRowsOf, IsLineAdded, IsKnitIfKnown, loop_row_of}
 use Rattle.block_summary.proofs.AskedHold.{asked_again}
 use Rattle.block_summary.proofs.Blocks.{one_more_line, rows_more}
 use Rattle.block_summary.proofs.KnitSteps.{through_before}
@@ -40,7 +40,7 @@ of_one P c x holds there = elim (Contains-cons_cases c [] x there) [
 -- the row of a knit of one carrier
 pub knit_row : (rows more : List LoopRow) (old : Summary) (offset : ℕ) (dir : Dir) (n : Needle) (c : CarrierNo) (yarns : List CarrierNo) (through : List Seg) →
     more ≡ rows ++ record { offset = offset; needle = n; dir = dir; yarns = yarns; through = through } ∷ [] → offset ≡ old.lines → yarns ≡ c ∷ [] → through ≡ segments_on old.changes n →
-    more ≡ rows ++ option_to_list (option_map (row_of old.lines) (loop_of_line (read.Instr (Knit dir n (c ∷ []))) old.changes))
+    more ≡ rows ++ option_to_list (option_map (loop_row_of old.lines) (loop_of_line (read.Instr (Knit dir n (c ∷ []))) old.changes))
 knit_row rows more old offset dir n c yarns through is at same drawn =
     is ∙ (λ i. rows ++ record { offset = at i; needle = n; dir = dir; yarns = same i; through = drawn i } ∷ [])
 
@@ -49,7 +49,7 @@ pub known_adds : (profile : Profile) (carriers : ℕ) (u : Usual) (dir : Dir) (n
     IsLawfulRead profile carriers (usual_read u) → known ≡ true → IsKnitIfKnown known dir n c old new rows more → AddsLine profile carriers (usual_read u) old new rows more None
 known_adds profile carriers u dir n c true old new rows more is free lawful sure added = record {
   lawful = lawful;
-  added = subst (λ (x : Usual). IsAdded profile (usual_read x) old new rows more None) (sym is) (added profile free);
+  added = subst (λ (x : Usual). IsLineAdded profile (usual_read x) old new rows more None) (sym is) (added profile free);
 }
 known_adds profile carriers u dir n c false old new rows more is free lawful sure added = absurd (cc)
 
@@ -72,15 +72,15 @@ not_known dir n c false old new rows more sure added = added
 
 -- A line more whose conditions were asked before.
 added_after : (profile : Profile) (instr : Instr) (old mid new : Summary) (rows more : List LoopRow) (stop : Option Fault) → old.ending ≡ Through (effect_in old.ending) →
-    HasAskedAll old mid (asked_by profile instr) None → IsAdded profile (read.Instr instr) mid new rows more stop → IsAdded profile (read.Instr instr) old new rows more stop
+    HasAskedAll old mid (conditions_of_instr profile instr) None → IsLineAdded profile (read.Instr instr) mid new rows more stop → IsLineAdded profile (read.Instr instr) old new rows more stop
 added_after profile instr old mid new rows more None through asked h = (
   h.0 ∙ asked_again profile instr old mid through asked,
-  h.1 ∙ ap (λ (s : Summary). rows ++ option_to_list (option_map (row_of s.lines) (loop_of_line (read.Instr instr) s.changes))) asked.rest_stays,
+  h.1 ∙ ap (λ (s : Summary). rows ++ option_to_list (option_map (loop_row_of s.lines) (loop_of_line (read.Instr instr) s.changes))) asked.rest_stays,
 )
 added_after profile instr old mid new rows more (Some fault) through asked h = (sym (asked_again profile instr old mid through asked) ∙ h.0, h.1)
 
 pub adds_after : (profile : Profile) (carriers : ℕ) (instr : Instr) (old mid now new : Summary) (rows some more : List LoopRow) (stop : Option Fault) → now ≡ mid → some ≡ rows →
-    mid.ending ≡ Through (effect_in mid.ending) → HasAskedAll old mid (asked_by profile instr) None → AddsLine profile carriers (read.Instr instr) now new some more stop →
+    mid.ending ≡ Through (effect_in mid.ending) → HasAskedAll old mid (conditions_of_instr profile instr) None → AddsLine profile carriers (read.Instr instr) now new some more stop →
     AddsLine profile carriers (read.Instr instr) old new rows more stop
 adds_after profile carriers instr old mid now new rows some more stop same rows_are through asked h =
     let here : AddsLine profile carriers (read.Instr instr) mid new rows more stop =
@@ -93,7 +93,7 @@ adds_after profile carriers instr old mid now new rows some more stop same rows_
 
 -- The line is known to stop.
 pub stops_first : (profile : Profile) (carriers : ℕ) (instr : Instr) (old mid new : Summary) (rows : List LoopRow) (reason : Reason) (fault : Fault) → mid.ending ≡ Through (effect_in mid.ending) →
-    IsLawfulRead profile carriers (read.Instr instr) → HasAskedAll old mid (asked_by profile instr) (Some reason) → fault ≡ record { line = mid.lines; reason = reason } →
+    IsLawfulRead profile carriers (read.Instr instr) → HasAskedAll old mid (conditions_of_instr profile instr) (Some reason) → fault ≡ record { line = mid.lines; reason = reason } →
     new ≡ record mid { lines = mid.lines + 1 } → AddsLine profile carriers (read.Instr instr) old new rows rows (Some fault)
 stops_first profile carriers instr old mid new rows reason fault through lawful asked at is = record {
   lawful = lawful;
@@ -101,7 +101,7 @@ stops_first profile carriers instr old mid new rows reason fault through lawful 
 }
 
 -- the lines are no more after asking
-pub lines_after : (old mid : Summary) (profile : Profile) (instr : Instr) (stop : Option Reason) → HasAskedAll old mid (asked_by profile instr) stop → mid.lines ≡ old.lines
+pub lines_after : (old mid : Summary) (profile : Profile) (instr : Instr) (stop : Option Reason) → HasAskedAll old mid (conditions_of_instr profile instr) stop → mid.lines ≡ old.lines
 lines_after old mid profile instr stop asked = ap (λ (s : Summary). s.lines) asked.rest_stays
 
 -- the rows of as many lines

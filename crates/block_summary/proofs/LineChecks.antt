@@ -16,7 +16,7 @@ use Rattle.knit_base.specs.declared.rule.Reason.{Reason}
 use Rattle.knit_base.specs.declared.rule.Rule.{Rule}
 use Rattle.knit_base.specs.declared.rule.Rule.TheVariants.{NotAligned, HookBusy, HookOther, FloatTooLong}
 use Rattle.knit_base.specs.declared.yarns.CarrierNo.{CarrierNo}
-use Rattle.knit_base.specs.Lawful.{IsLawful, AreOpposite}
+use Rattle.knit_base.specs.Lawful.{IsLawfulInstr, AreOpposite}
 use Rattle.knit_base.specs.Needle.{own_slider, is_front, is_slider, rack_facing}
 use Rattle.knit_base.specs.Yarns.{contains_carrier, mask_of}
 use Rattle.face_data.specs.declared.face.Cond.{Cond}
@@ -25,38 +25,38 @@ use Rattle.face_data.specs.declared.face.Effect.{Effect}
 use Rattle.face_data.specs.Conditions.{Ask, ask_of}
 use Rattle.face_data.specs.Conditions.Ask.{rack_is, hook_free, hook_is, last_near}
 use Rattle.face_data.specs.declared.face.Last.{Last}
-use Rattle.face_data.specs.Goodness.{AgreeOnLast, AskFits, IsSet, LiesIn, NeverFalls, names_in}
+use Rattle.face_data.specs.Goodness.{AgreeOnLast, AskFits, IsSet, NeedlesLieIn, NeverFalls, size_needles_in}
 use Rattle.face_data.specs.Lasts.{last_at, lasts_of_both}
 use Rattle.knit_base.specs.Instr.{forming_needle}
 use Rattle.face_data.specs.Segments.{Changed}
-use Rattle.face_data.specs.Sets.{IsWithin, NestedOrApart}
+use Rattle.face_data.specs.Sets.{AreNeedlesWithin, NestedOrApart}
 use Rattle.face_data.specs.Sizes.{SizeRule}
-use Rattle.face_data.specs.Summaries.{Asked}
+use Rattle.face_data.specs.Summaries.{AskedCondition}
 use Rattle.face_data.proofs.Members.{Contains-none, Contains-head, Contains-tail, Contains-cons_cases}
 use Rattle.carrier_rules.specs.declared.conds.OfEach.{OfEach}
 use Rattle.carrier_rules.specs.declared.conds.OfEach.TheVariants.{InAction, NotInAction, NotInHook}
 use Rattle.bed_rules.specs.Beds.{size_rules}
-use Rattle.carrier_rules.specs.Carriers.{cond_of, rule_of, conds_of_each, early_of, effect_of, floats_of_each, hook_reason, last_of, lasts_of}
+use Rattle.carrier_rules.specs.Carriers.{cond_of, rule_of, conds_of_each, early_of, effect_of, floats_of_each, hook_reason, carrier_last, lasts_of}
 use Rattle.rack_align.specs.Moves.{rack_ask}
 use Rattle.slider_rules.specs.Sliders.{bare_slider}
-use Rattle.block_summary.specs.LineSummaries.{asked_for, plainly_asked, asked_of_rack, asked_of_sizes, rack_asked, slider_asked, sizes_asked, near_asked, asked_by}
+use Rattle.block_summary.specs.LineSummaries.{asked_for, plainly_asked, asked_of_rack, asked_of_sizes, rack_asked, slider_asked, sizes_asked, near_asked, conditions_of_instr}
 use Rattle.block_summary.proofs.LineLasts.{set_put}
 use Rattle.face_data.proofs.Goodness.{NestedOrApart-comm}
 use Rattle.knit_base.proofs.Masks.{mask_of-below, contains_carrier-none}
 use Rattle.knit_base.proofs.Needles.{slider_bed-is_slider, slider_bed-is_front}
 
 -- the condition for the rule that is named at this token
-abbrev pub rule_asked : Rule → ℕ → Ask → Asked
+abbrev pub rule_asked : Rule → ℕ → Ask → AskedCondition
 rule_asked rule at ask = asked_for (record { rule = rule; at = at }) ask
 
 -- the needles of a condition are one of two lists, or none
 abbrev pub NamesAre : List Needle → List Needle → List Needle → Type 0
 NamesAre first second names = (names ≡ []) ⊎ ((names ≡ first) ⊎ (names ≡ second))
 
-nothing_within : (xs ys : List Needle) → xs ≡ [] → IsWithin xs ys
+nothing_within : (xs ys : List Needle) → xs ≡ [] → AreNeedlesWithin xs ys
 nothing_within xs ys none n there = absurd (Contains-none n (subst (λ zs. Contains zs n) none there))
 
-same_within : (xs ys : List Needle) → xs ≡ ys → IsWithin xs ys
+same_within : (xs ys : List Needle) → xs ≡ ys → AreNeedlesWithin xs ys
 same_within xs ys same n there = subst (λ zs. Contains zs n) same there
 
 nested_from : (first second xs ys : List Needle) → NestedOrApart first second → xs ≡ first → ys ≡ second → NestedOrApart xs ys
@@ -72,25 +72,25 @@ nested_among first second xs ys nested (inr (inr one)) (inr (inl two)) = NestedO
 nested_among first second xs ys nested (inr (inr one)) (inr (inr two)) = inl (same_within xs ys (one ∙ sym two))
 
 -- each condition of the list is so
-abbrev pub Each : (Asked → Type 0) → List Asked → Type 0
-Each P checks = (c : Asked) → Contains checks c → P c
+abbrev pub Each : (AskedCondition → Type 0) → List AskedCondition → Type 0
+Each P checks = (c : AskedCondition) → Contains checks c → P c
 
 -- no condition
-pub each_none : (P : Asked → Type 0) → Each P []
+pub each_none : (P : AskedCondition → Type 0) → Each P []
 each_none P c there = absurd (Contains-none c there)
 
-each_more : (P : Asked → Type 0) (c : Asked) (cs : List Asked) → P c → Each P cs → Each P (c ∷ cs)
+each_more : (P : AskedCondition → Type 0) (c : AskedCondition) (cs : List AskedCondition) → P c → Each P cs → Each P (c ∷ cs)
 each_more P c cs here later d there = elim (Contains-cons_cases c cs d there) [ inl same ↦ subst P same here | inr rest ↦ later d rest ]
 
 -- one condition
-pub each_one : (P : Asked → Type 0) (c : Asked) → P c → Each P (c ∷ [])
+pub each_one : (P : AskedCondition → Type 0) (c : AskedCondition) → P c → Each P (c ∷ [])
 each_one P c here = each_more P c [] here (each_none P)
 
-each_both : (P : Asked → Type 0) (xs ys : List Asked) → Each P xs → Each P ys → Each P (xs ++ ys)
+each_both : (P : AskedCondition → Type 0) (xs ys : List AskedCondition) → Each P xs → Each P ys → Each P (xs ++ ys)
 each_both P xs ys first second c there = elim (Contains-append_cases xs ys c there) [ inl here ↦ first c here | inr later ↦ second c later ]
 
 -- conditions of one line
-pub never_falls : (cs : List Asked) → Each (λ c. c.fault.line ≡ 0) cs → NeverFalls cs
+pub never_falls : (cs : List AskedCondition) → Each (λ c. c.fault.line ≡ 0) cs → NeverFalls cs
 never_falls [] each = tt
 never_falls (c ∷ cs) each = (
   (λ d there. let here : c.fault.line ≡ 0 = each c (Contains-head c cs) in omega arith),
@@ -98,15 +98,15 @@ never_falls (c ∷ cs) each = (
 )
 
 -- What a condition of the line is: of the line, fitting, with needles of two lists, which lie in what one needle holds at the end.
-pub record CheckIs (carriers hold : ℕ) (known first second : List Needle) (changes : List Changed) (c : Asked) : Type 0 where
+pub record CheckIs (carriers hold : ℕ) (known first second : List Needle) (changes : List Changed) (c : AskedCondition) : Type 0 where
   pub line : c.fault.line ≡ 0
   pub fits : AskFits carriers hold known c.ask
-  pub names : NamesAre first second (names_in c.ask)
-  pub lies : LiesIn changes (names_in c.ask)
+  pub names : NamesAre first second (size_needles_in c.ask)
+  pub lies : NeedlesLieIn changes (size_needles_in c.ask)
 
 -- a condition that isn't on sizes
 plain_is : (carriers hold : ℕ) (known first second : List Needle) (changes : List Changed) (reason : Reason) (q : Ask) → AskFits carriers hold known q →
-    names_in q ≡ [] → CheckIs carriers hold known first second changes (asked_for reason q)
+    size_needles_in q ≡ [] → CheckIs carriers hold known first second changes (asked_for reason q)
 plain_is carriers hold known first second changes reason q fits none = record {
   line = refl;
   fits = fits;
@@ -119,7 +119,7 @@ carrier_fits carriers hold known InAction c below = below
 carrier_fits carriers hold known NotInAction c below = below
 carrier_fits carriers hold known NotInHook c below = below
 
-carrier_names : (of_each : OfEach) (c : CarrierNo) → names_in (ask_of [] (cond_of of_each c)) ≡ []
+carrier_names : (of_each : OfEach) (c : CarrierNo) → size_needles_in (ask_of [] (cond_of of_each c)) ≡ []
 carrier_names InAction c = refl
 carrier_names NotInAction c = refl
 carrier_names NotInHook c = refl
@@ -143,7 +143,7 @@ idle_fits carriers effect none gone hook = record {
 }
 
 -- what a lawful instruction does to carriers and hook
-pub effect_fits : (profile : Profile) (carriers : ℕ) (instr : Instr) → IsLawful profile carriers instr → EffectFits carriers (effect_of instr)
+pub effect_fits : (profile : Profile) (carriers : ℕ) (instr : Instr) → IsLawfulInstr profile carriers instr → EffectFits carriers (effect_of instr)
 effect_fits profile carriers (CarryIn cs) lawful = record {
   apart = λ c came. contains_carrier-none c;
   came = mask_of-below carriers cs lawful.carriers.each;
@@ -172,7 +172,7 @@ effect_fits profile carriers (ReleaseHook cs) lawful = idle_fits carriers _ refl
 effect_fits profile carriers instr lawful = idle_fits carriers _ refl refl tt
 
 module _ (carriers hold : ℕ) (known first second : List Needle) (changes : List Changed) where
-  abbrev Is : Asked → Type 0
+  abbrev Is : AskedCondition → Type 0
   Is = CheckIs carriers hold known first second changes
 
   each_carrier : (of_each : OfEach) (at : ℕ) (cs : List CarrierNo) → All (λ c. c.0 < carriers) cs → Each Is (map plainly_asked (conds_of_each of_each at cs))
@@ -190,7 +190,7 @@ module _ (carriers hold : ℕ) (known first second : List Needle) (changes : Lis
   free_hook = each_one Is _ (plain_is carriers hold known first second changes (hook_reason HookBusy) hook_free tt refl)
 
   -- the conditions on carriers and the hook
-  pub conds_fit : (profile : Profile) (instr : Instr) → IsLawful profile carriers instr → Each Is (map plainly_asked (early_of instr))
+  pub conds_fit : (profile : Profile) (instr : Instr) → IsLawfulInstr profile carriers instr → Each Is (map plainly_asked (early_of instr))
   conds_fit profile (CarryIn cs) lawful = each_carrier NotInAction 1 cs lawful.carriers.each
   conds_fit profile (CarryOut cs) lawful =
       two_lists (conds_of_each InAction 1 cs) (conds_of_each NotInHook 1 cs) (each_carrier InAction 1 cs lawful.carriers.each) (each_carrier NotInHook 1 cs lawful.carriers.each)
@@ -217,7 +217,7 @@ module _ (carriers hold : ℕ) (known first second : List Needle) (changes : Lis
       (each_float float number (at + 1) cs (All-tail (λ d. d.0 < carriers) c cs all))
 
   -- those on floats
-  floats_fit : (profile : Profile) (limit : Option ℕ) (instr : Instr) → IsLawful profile carriers instr → Each Is (near_asked limit instr)
+  floats_fit : (profile : Profile) (limit : Option ℕ) (instr : Instr) → IsLawfulInstr profile carriers instr → Each Is (near_asked limit instr)
   floats_fit profile None instr lawful = each_none Is
   floats_fit profile (Some float) (Knit dir n cs) lawful = each_float float n.at 3 cs lawful.carriers.each
   floats_fit profile (Some float) (Tuck dir n cs) lawful = each_float float n.at 3 cs lawful.carriers.each
@@ -225,8 +225,8 @@ module _ (carriers hold : ℕ) (known first second : List Needle) (changes : Lis
   floats_fit profile (Some float) instr lawful = each_none Is
 
 -- a part of the line's conditions, and those before and behind it
-pub each_asked : (P : Asked → Type 0) (profile : Profile) (instr : Instr) → Each P (map plainly_asked (early_of instr)) → Each P (rack_asked instr) → Each P (slider_asked (forming_needle instr)) →
-    Each P (sizes_asked profile.hold instr) → Each P (near_asked profile.float instr) → Each P (asked_by profile instr)
+pub each_asked : (P : AskedCondition → Type 0) (profile : Profile) (instr : Instr) → Each P (map plainly_asked (early_of instr)) → Each P (rack_asked instr) → Each P (slider_asked (forming_needle instr)) →
+    Each P (sizes_asked profile.hold instr) → Each P (near_asked profile.float instr) → Each P (conditions_of_instr profile instr)
 each_asked P profile instr early rack slider sizes near =
     let on = slider_asked (forming_needle instr) in
     let last = sizes_asked profile.hold instr ++ near_asked profile.float instr in
@@ -235,10 +235,10 @@ each_asked P profile instr early rack slider sizes near =
     (each_both P on last slider (each_both P (sizes_asked profile.hold instr) (near_asked profile.float instr) sizes near)))
 
 -- all conditions of the line, where those on sizes are so
-pub checks_fit : (profile : Profile) (carriers : ℕ) (known first second : List Needle) (changes : List Changed) (instr : Instr) → IsLawful profile carriers instr →
+pub checks_fit : (profile : Profile) (carriers : ℕ) (known first second : List Needle) (changes : List Changed) (instr : Instr) → IsLawfulInstr profile carriers instr →
     Each (CheckIs carriers profile.hold known first second changes) (slider_asked (forming_needle instr)) →
     Each (CheckIs carriers profile.hold known first second changes) (sizes_asked profile.hold instr) →
-    Each (CheckIs carriers profile.hold known first second changes) (asked_by profile instr)
+    Each (CheckIs carriers profile.hold known first second changes) (conditions_of_instr profile instr)
 checks_fit profile carriers known first second changes instr lawful slider sizes =
     each_asked (CheckIs carriers profile.hold known first second changes) profile instr (conds_fit carriers profile.hold known first second changes profile instr lawful)
     (rack_fits carriers profile.hold known first second changes instr) slider sizes (floats_fit carriers profile.hold known first second changes profile profile.float instr lawful)
@@ -256,7 +256,7 @@ float_number (Split dir n n2 cs) = n.at
 float_number instr = pos 0
 
 module _ (number : ℤ) (float : ℕ) (lasts : List Last) where
-  abbrev IsFloat : Asked → Type 0
+  abbrev IsFloat : AskedCondition → Type 0
   IsFloat c = FloatIs number float lasts c.ask
 
   pub float_set : (q : Ask) → FloatIs number float lasts q → IsSet lasts q
@@ -309,14 +309,14 @@ module _ (number : ℤ) (float : ℕ) (lasts : List Last) where
 
 near_float : (limit : Option ℕ) (instr : Instr) → Each (IsFloat (float_number instr) (unwrap_or limit 0) (lasts_of_both [] (lasts_of limit instr))) (near_asked limit instr)
 near_float None instr = each_none (IsFloat (float_number instr) 0 [])
-near_float (Some float) (Knit dir n cs) = each_near n.at float (lasts_of_both [] (map (last_of (Some n.at)) cs)) 3 cs (set_put (Some n.at) cs)
-near_float (Some float) (Tuck dir n cs) = each_near n.at float (lasts_of_both [] (map (last_of (Some n.at)) cs)) 3 cs (set_put (Some n.at) cs)
-near_float (Some float) (Split dir n n2 cs) = each_near n.at float (lasts_of_both [] (map (last_of (Some n.at)) cs)) 4 cs (set_put (Some n.at) cs)
+near_float (Some float) (Knit dir n cs) = each_near n.at float (lasts_of_both [] (map (carrier_last (Some n.at)) cs)) 3 cs (set_put (Some n.at) cs)
+near_float (Some float) (Tuck dir n cs) = each_near n.at float (lasts_of_both [] (map (carrier_last (Some n.at)) cs)) 3 cs (set_put (Some n.at) cs)
+near_float (Some float) (Split dir n n2 cs) = each_near n.at float (lasts_of_both [] (map (carrier_last (Some n.at)) cs)) 4 cs (set_put (Some n.at) cs)
 near_float (Some float) instr = each_none (IsFloat (float_number instr) float (lasts_of_both [] (lasts_of (Some float) instr)))
 
 -- All conditions of the line on last needles are on its own floats.
 pub line_floats : (profile : Profile) (instr : Instr) →
-    Each (λ (c : Asked). FloatIs (float_number instr) (unwrap_or profile.float 0) (lasts_of_both [] (lasts_of profile.float instr)) c.ask) (asked_by profile instr)
+    Each (λ (c : AskedCondition). FloatIs (float_number instr) (unwrap_or profile.float 0) (lasts_of_both [] (lasts_of profile.float instr)) c.ask) (conditions_of_instr profile instr)
 line_floats profile instr =
     let number = float_number instr in
     let float = unwrap_or profile.float 0 in

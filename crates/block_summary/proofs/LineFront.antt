@@ -13,7 +13,7 @@ use Rattle.face_data.specs.declared.face.Effect.{Effect}
 use Rattle.face_data.specs.declared.face.Ending.TheVariants.{Through}
 use Rattle.face_data.specs.declared.face.Seg.{Seg}
 use Rattle.face_data.specs.declared.face.Seg.TheVariants.{New}
-use Rattle.face_data.specs.Composition.{composed, merged}
+use Rattle.face_data.specs.Composition.{composed, changes_merged}
 use Rattle.face_data.specs.Drafts.{no_effect}
 use Rattle.face_data.specs.declared.face.Last.{Last}
 use Rattle.face_data.specs.Items.{items, most_items}
@@ -23,7 +23,7 @@ use Rattle.face_data.specs.Summaries.{Summary}
 use Rattle.face_data.proofs.Front.{AllHold, composed-hold, effect-idle}
 use Rattle.face_data.proofs.Items.{items_bound}
 use Rattle.carrier_rules.specs.Carriers.{lasts_of}
-use Rattle.block_summary.specs.LineSummaries.{asked_by, line_summary, block_summary_of, NeedlesKnownInLine}
+use Rattle.block_summary.specs.LineSummaries.{conditions_of_instr, line_summary, block_summary_of, NeedlesKnownInLine}
 use Rattle.block_summary.proofs.LineGoodness.{block_good}
 use Rattle.block_summary.proofs.LineLasts.{both_put}
 
@@ -33,7 +33,7 @@ with_loop draft n segs lasts e = record {
   lines = draft.lines + 1;
   made = draft.made + 1;
   checks = draft.checks;
-  changes = merged draft.changes ((n, segs) ∷ []);
+  changes = changes_merged draft.changes ((n, segs) ∷ []);
   lasts = lasts_of_both draft.lasts lasts;
   ending = Through e;
 }
@@ -47,7 +47,7 @@ with_loop_put draft n segs lasts e = λ i. record (with_loop draft n segs lasts 
 
 -- A knit whose conditions are known to hold leaves its new loop alone on the needle.
 pub front_knit : (profile : Profile) (draft : Summary) (e : Effect) (dir : Dir) (n : Needle) (c : CarrierNo) (cs : List CarrierNo) → draft.ending ≡ Through e →
-    AllHold e draft.lasts draft.changes draft.checks (asked_by profile (Knit dir n (c ∷ cs))) →
+    AllHold e draft.lasts draft.changes draft.checks (conditions_of_instr profile (Knit dir n (c ∷ cs))) →
     composed draft (line_summary profile (read.Instr (Knit dir n (c ∷ cs)))) ≡ with_loop draft n (New draft.lines ∷ []) (lasts_of profile.float (Knit dir n (c ∷ cs))) e
 front_knit profile draft e dir n c cs goes known =
     composed-hold draft (line_summary profile (read.Instr (Knit dir n (c ∷ cs)))) e no_effect goes refl known
@@ -56,7 +56,7 @@ front_knit profile draft e dir n c cs goes known =
 
 -- A tuck puts it behind what the needle holds.
 pub front_tuck : (profile : Profile) (draft : Summary) (e : Effect) (dir : Dir) (n : Needle) (c : CarrierNo) (cs : List CarrierNo) → draft.ending ≡ Through e →
-    AllHold e draft.lasts draft.changes draft.checks (asked_by profile (Tuck dir n (c ∷ cs))) →
+    AllHold e draft.lasts draft.changes draft.checks (conditions_of_instr profile (Tuck dir n (c ∷ cs))) →
     composed draft (line_summary profile (read.Instr (Tuck dir n (c ∷ cs))))
     ≡ with_loop draft n (segments_on draft.changes n ++ New draft.lines ∷ []) (lasts_of profile.float (Tuck dir n (c ∷ cs))) e
 front_tuck profile draft e dir n c cs goes known =

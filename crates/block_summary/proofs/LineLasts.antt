@@ -10,14 +10,14 @@ use Rattle.knit_base.specs.declared.instr.Instr.{Instr}
 use Rattle.knit_base.specs.declared.instr.Instr.TheVariants.{CarryIn, CarryOut, HookIn, HookOut, Knit, Tuck, Split}
 use Rattle.knit_base.specs.declared.profile.Profile.{Profile}
 use Rattle.knit_base.specs.declared.yarns.CarrierNo.{CarrierNo}
-use Rattle.knit_base.specs.Lawful.{IsLawful}
+use Rattle.knit_base.specs.Lawful.{IsLawfulInstr}
 use Rattle.carriage_model.specs.State.{same_carrier, with_lasts}
 use Rattle.carriage_model.specs.Steps.{given_lasts, kept_lasts}
 use Rattle.face_data.specs.declared.face.Last.{Last}
 use Rattle.face_data.specs.Lasts.{AreAbove, AreInOrder, last_at, lasts_after, lasts_of_both, put_last}
 use Rattle.face_data.proofs.LastLists.{last_at-put, members_both, order_put}
 use Rattle.face_data.proofs.Members.{Contains-none, Contains-cons_cases}
-use Rattle.carrier_rules.specs.Carriers.{last_of, lasts_given, lasts_of}
+use Rattle.carrier_rules.specs.Carriers.{carrier_last, lasts_given, lasts_of}
 
 -- of two last needles of one carrier the second counts
 put_same : (hs : List Last) (l m : Last) → same_carrier l.carrier m.carrier ≡ true → put_last (put_last hs l) m ≡ put_last hs m
@@ -108,11 +108,11 @@ last_or false false at old o = refl
 
 -- the same last needle for each carrier of a list
 each_put : (at : Option ℤ) (hs : List Last) (cs : List CarrierNo) (old : CarrierNo → Option ℤ) (c : CarrierNo) →
-    lasts_after (lasts_of_both hs (map (last_of at) cs)) old c ≡ with_lasts (lasts_after hs old) cs at c
+    lasts_after (lasts_of_both hs (map (carrier_last at) cs)) old c ≡ with_lasts (lasts_after hs old) cs at c
 each_put at hs [] old c = refl
 each_put at hs (d ∷ ds) old c =
-    each_put at (put_last hs (last_of at d)) ds old c
-    ∙ ap (λ o. if list_any (same_carrier c) ds then at else unwrap_or o (old c)) (last_at-put hs (last_of at d) c)
+    each_put at (put_last hs (carrier_last at d)) ds old c
+    ∙ ap (λ o. if list_any (same_carrier c) ds then at else unwrap_or o (old c)) (last_at-put hs (carrier_last at d) c)
     ∙ ap (λ b. if list_any (same_carrier c) ds then at else unwrap_or (if b then Some at else last_at hs c) (old c)) (same_either_way c d)
     ∙ last_or (list_any (same_carrier c) ds) (same_carrier c d) at (old c) (last_at hs c)
 
@@ -135,21 +135,21 @@ set_more : (hs ls : List Last) (c : CarrierNo) → is_some (last_at hs c) ≡ tr
 set_more hs [] c set = set
 set_more hs (l ∷ ls) c set = set_more (put_last hs l) ls c (ap is_some (last_at-put hs l c) ∙ by_test (same_carrier l.carrier c) (λ here. rw here refl) (λ other. rw other set))
 
-set_each : (at : Option ℤ) (hs : List Last) (cs : List CarrierNo) (c : CarrierNo) → Contains cs c → is_some (last_at (lasts_of_both hs (map (last_of at) cs)) c) ≡ true
+set_each : (at : Option ℤ) (hs : List Last) (cs : List CarrierNo) (c : CarrierNo) → Contains cs c → is_some (last_at (lasts_of_both hs (map (carrier_last at) cs)) c) ≡ true
 set_each at hs [] c there = absurd (Contains-none c there)
 set_each at hs (d ∷ ds) c there = elim (Contains-cons_cases d ds c there) [
   | inl same ↦ (let here : same_carrier d c ≡ true = subst (λ x. same_carrier d x ≡ true) same (let own : same_carrier d d ≡ true = grind (arith, nat_tests) in own) in
-      set_more (put_last hs (last_of at d)) (map (last_of at) ds) c (ap is_some (last_at-put hs (last_of at d) c) ∙ ap (λ b. is_some (if b then Some at else last_at hs c)) here))
-  | inr later ↦ set_each at (put_last hs (last_of at d)) ds c later
+      set_more (put_last hs (carrier_last at d)) (map (carrier_last at) ds) c (ap is_some (last_at-put hs (carrier_last at d) c) ∙ ap (λ b. is_some (if b then Some at else last_at hs c)) here))
+  | inr later ↦ set_each at (put_last hs (carrier_last at d)) ds c later
 ]
 
 -- each carrier of a list that is put together has its last needle set
-pub set_put : (at : Option ℤ) (cs : List CarrierNo) (c : CarrierNo) → Contains cs c → is_some (last_at (lasts_of_both [] (map (last_of at) cs)) c) ≡ true
+pub set_put : (at : Option ℤ) (cs : List CarrierNo) (c : CarrierNo) → Contains cs c → is_some (last_at (lasts_of_both [] (map (carrier_last at) cs)) c) ≡ true
 set_put at cs c there = set_each at [] cs c there
 
-each_below : (carriers : ℕ) (at : Option ℤ) (cs : List CarrierNo) → All (λ (c : CarrierNo). c.0 < carriers) cs → (l : Last) → Contains (map (last_of at) cs) l → l.carrier.0 < carriers
+each_below : (carriers : ℕ) (at : Option ℤ) (cs : List CarrierNo) → All (λ (c : CarrierNo). c.0 < carriers) cs → (l : Last) → Contains (map (carrier_last at) cs) l → l.carrier.0 < carriers
 each_below carriers at [] all l there = absurd (Contains-none l there)
-each_below carriers at (c ∷ cs) all l there = elim (Contains-cons_cases (last_of at c) (map (last_of at) cs) l there) [
+each_below carriers at (c ∷ cs) all l there = elim (Contains-cons_cases (carrier_last at c) (map (carrier_last at) cs) l there) [
   | inl same ↦ subst (λ (x : Last). x.carrier.0 < carriers) same (All-head (λ (d : CarrierNo). d.0 < carriers) c cs all)
   | inr later ↦ each_below carriers at cs (All-tail (λ (d : CarrierNo). d.0 < carriers) c cs all) l later
 ]
@@ -157,7 +157,7 @@ each_below carriers at (c ∷ cs) all l there = elim (Contains-cons_cases (last_
 none_given : (carriers : ℕ) (l : Last) → Contains [] l → l.carrier.0 < carriers
 none_given carriers l there = absurd (Contains-none l there)
 
-given_below : (profile : Profile) (carriers : ℕ) (instr : Instr) → IsLawful profile carriers instr → (l : Last) → Contains (lasts_given instr) l → l.carrier.0 < carriers
+given_below : (profile : Profile) (carriers : ℕ) (instr : Instr) → IsLawfulInstr profile carriers instr → (l : Last) → Contains (lasts_given instr) l → l.carrier.0 < carriers
 given_below profile carriers (CarryIn cs) lawful = each_below carriers None cs lawful.carriers.each
 given_below profile carriers (CarryOut cs) lawful = each_below carriers None cs lawful.carriers.each
 given_below profile carriers (HookIn cs) lawful = each_below carriers None cs lawful.carriers.each
@@ -167,12 +167,12 @@ given_below profile carriers (Tuck dir n cs) lawful = each_below carriers (Some 
 given_below profile carriers (Split dir n n2 cs) lawful = each_below carriers (Some n.at) cs lawful.carriers.each
 given_below profile carriers instr lawful = none_given carriers
 
-lasts_below : (profile : Profile) (carriers : ℕ) (limit : Option ℕ) (instr : Instr) → IsLawful profile carriers instr → (l : Last) → Contains (lasts_of limit instr) l → l.carrier.0 < carriers
+lasts_below : (profile : Profile) (carriers : ℕ) (limit : Option ℕ) (instr : Instr) → IsLawfulInstr profile carriers instr → (l : Last) → Contains (lasts_of limit instr) l → l.carrier.0 < carriers
 lasts_below profile carriers None instr lawful = none_given carriers
 lasts_below profile carriers (Some float) instr lawful = given_below profile carriers instr lawful
 
 -- the carriers of a lawful line's last needles are declared
-pub lasts_declared : (profile : Profile) (carriers : ℕ) (limit : Option ℕ) (instr : Instr) → IsLawful profile carriers instr →
+pub lasts_declared : (profile : Profile) (carriers : ℕ) (limit : Option ℕ) (instr : Instr) → IsLawfulInstr profile carriers instr →
     (l : Last) → Contains (lasts_of_both [] (lasts_of limit instr)) l → l.carrier.0 < carriers
 lasts_declared profile carriers limit instr lawful =
     members_both (λ (l : Last). l.carrier.0 < carriers) [] (lasts_of limit instr) (none_given carriers) (lasts_below profile carriers limit instr lawful)

@@ -18,7 +18,7 @@ use Rattle.knit_base.specs.Needle.{same_needle, same_needle-true, own_slider, ra
 use Rattle.knit_base.specs.Reasons.{or_else}
 use Rattle.std.specs.Ordering.{int_eq}
 use Rattle.carriage_model.specs.declared.verdict.LoopFact.{LoopFact}
-use Rattle.carriage_model.specs.Loops.{formed, loop_of_instr, made_on}
+use Rattle.carriage_model.specs.Loops.{loop_formed, loop_of_instr, made_on}
 use Rattle.carriage_model.specs.Rules.{broken_instr, carrier_broken, float_broken, rack_broken, slider_broken, slider_broken_on, size_broken, tuck_too_many}
 use Rattle.carriage_model.specs.Run.{Ended, run_on}
 use Rattle.carriage_model.specs.Run.Ended.{Ends}
@@ -28,27 +28,27 @@ use Rattle.face_data.specs.declared.face.Cond.{Cond}
 use Rattle.face_data.specs.declared.face.Ending.TheVariants.{Through}
 use Rattle.face_data.specs.declared.face.Seg.{Seg}
 use Rattle.face_data.specs.declared.face.Seg.TheVariants.{Entry, New}
-use Rattle.face_data.specs.Conditions.{Ask, ask_of, holds, unless, first_unmet}
+use Rattle.face_data.specs.Conditions.{Ask, ask_of, holds, broken_unless, first_unmet}
 use Rattle.face_data.specs.Conditions.Ask.{rack_is, size_at_most}
 use Rattle.face_data.specs.Items.{set_items}
 use Rattle.face_data.specs.Lasts.{lasts_after, lasts_of_both}
 use Rattle.knit_base.specs.Instr.{forming_needle, formed_on}
 use Rattle.face_data.specs.Segments.{segments_on, read_segs, AreRead}
 use Rattle.face_data.specs.Stands.{StandsFor, outcome_of_run}
-use Rattle.face_data.specs.Summaries.{Asked, first_fault, after, outcome_of, raised}
+use Rattle.face_data.specs.Summaries.{AskedCondition, first_fault, state_after_changes, outcome_of, fault_raised}
 use Rattle.face_data.specs.Summaries.Outcome.{went_on, faulted}
 use Rattle.face_data.proofs.Drafts.{no_lines-applied}
 use Rattle.face_data.proofs.Gathering.{or_else as fault_or_else, first_fault-append}
 use Rattle.face_data.proofs.ChangeLists.{or_change, change_at-merged}
 use Rattle.face_data.proofs.Conditions.{broken-unless}
-use Rattle.carrier_rules.specs.Carriers.{early_of, effect_of, floats_asked, lasts_of}
+use Rattle.carrier_rules.specs.Carriers.{early_of, effect_of, float_conditions, lasts_of}
 use Rattle.carrier_rules.proofs.EachCarrier.{conds-broken, floats-broken}
 use Rattle.carrier_rules.proofs.Effects.{effect-is}
 use Rattle.slider_rules.proofs.Sliders.{slider-unmet}
 use Rattle.bed_rules.specs.Beds.{changes_of, segments_after, tuck_rules}
 use Rattle.bed_rules.proofs.Stacks.{changed-read}
 use Rattle.bed_rules.proofs.SizeRules.{both-unmet, one-unmet}
-use Rattle.block_summary.specs.LineSummaries.{asked_for, plainly_asked, rack_asked, asked_of_sizes, slider_asked, sizes_asked, near_asked, asked_by, gone_over, line_changes, line_summary}
+use Rattle.block_summary.specs.LineSummaries.{asked_for, plainly_asked, rack_asked, asked_of_sizes, slider_asked, sizes_asked, near_asked, conditions_of_instr, gone_over, line_changes, line_summary}
 use Rattle.block_summary.proofs.LineLasts.{lasts_put}
 
 -- the fault of a line that is broken for this reason
@@ -56,15 +56,15 @@ abbrev at_line : Option Reason → Option Fault
 at_line o = option_map (λ reason. record { line = 0; reason = reason }) o
 
 later_at_line : (met : Bool) (reason : Reason) (rest : Option Fault) (more : Option Reason) → rest ≡ at_line more →
-    (cond met rest (Some (record { line = 0; reason = reason }))) ≡ at_line (or_else (unless met reason) more)
+    (cond met rest (Some (record { line = 0; reason = reason }))) ≡ at_line (or_else (broken_unless met reason) more)
 later_at_line true reason rest more is = is
 later_at_line false reason rest more is = refl
 
 -- one condition
-alone_at_line : (ask : Ask) (reason : Reason) (s : State) → first_fault (asked_for reason ask ∷ []) s ≡ at_line (unless (holds ask s) reason)
+alone_at_line : (ask : Ask) (reason : Reason) (s : State) → first_fault (asked_for reason ask ∷ []) s ≡ at_line (broken_unless (holds ask s) reason)
 alone_at_line ask reason s = go (holds ask s)
   where
-    go : (met : Bool) → cond met None (Some (record { line = 0; reason = reason })) ≡ at_line (unless met reason)
+    go : (met : Bool) → cond met None (Some (record { line = 0; reason = reason })) ≡ at_line (broken_unless met reason)
     go true = refl
     go false = refl
 
@@ -74,7 +74,7 @@ plain_faults [] s = refl
 plain_faults (c ∷ cs) s = later_at_line (holds (ask_of [] c.1) s) c.0 (first_fault (map plainly_asked cs) s) (first_unmet cs s) (plain_faults cs s)
 
 -- two lists of conditions for two reasons
-both_at_line : (xs ys : List Asked) (first second : Option Reason) (s : State) → first_fault xs s ≡ at_line first → first_fault ys s ≡ at_line second →
+both_at_line : (xs ys : List AskedCondition) (first second : Option Reason) (s : State) → first_fault xs s ≡ at_line first → first_fault ys s ≡ at_line second →
     first_fault (xs ++ ys) s ≡ at_line (or_else first second)
 both_at_line xs ys first second s one two = first_fault-append xs ys s ∙ (λ i. fault_or_else (one i) (two i)) ∙ join first
   where
@@ -105,14 +105,14 @@ size_faults profile (Xfer n n2) s some = alone_at_line (size_at_most (n2 ∷ n �
 size_faults profile instr s some = refl
 
 near_faults : (profile : Profile) (instr : Instr) (s : State) → first_fault (near_asked profile.float instr) s ≡ at_line (float_broken profile instr s)
-near_faults profile instr s = plain_faults (floats_asked profile.float instr) s ∙ ap at_line (sym (floats-broken profile instr s))
+near_faults profile instr s = plain_faults (float_conditions profile.float instr) s ∙ ap at_line (sym (floats-broken profile instr s))
 
 -- The first condition of the line that doesn't hold is the first rule that the line breaks.
-pub line_faults : (profile : Profile) (instr : Instr) (s : State) → 1 ≤ profile.hold → first_fault (asked_by profile instr) s ≡ at_line (broken_instr profile instr s)
+pub line_faults : (profile : Profile) (instr : Instr) (s : State) → 1 ≤ profile.hold → first_fault (conditions_of_instr profile instr) s ≡ at_line (broken_instr profile instr s)
 line_faults profile instr s some =
-    let on : List Asked = slider_asked (forming_needle instr) in
-    let sizes : List Asked = sizes_asked profile.hold instr in
-    let near : List Asked = near_asked profile.float instr in
+    let on : List AskedCondition = slider_asked (forming_needle instr) in
+    let sizes : List AskedCondition = sizes_asked profile.hold instr in
+    let near : List AskedCondition = near_asked profile.float instr in
     let last : Option Reason = or_else (size_broken profile instr s) (float_broken profile instr s) in
     both_at_line (map plainly_asked (early_of instr)) (rack_asked instr ++ (on ++ (sizes ++ near)))
     (carrier_broken instr s) (or_else (rack_broken instr s) (or_else (slider_broken instr s) last)) s
@@ -166,7 +166,7 @@ own_read s first n = sym (append-nil (s.stacks n))
 
 -- the state that the line makes
 pub line_after : (profile : Profile) (instr : Instr) (s : State) (first : ℕ) →
-    after (effect_of instr) (lasts_of_both [] (lasts_of profile.float instr)) (line_changes instr) s first ≡ step profile first (read.Instr instr) s
+    state_after_changes (effect_of instr) (lasts_of_both [] (lasts_of profile.float instr)) (line_changes instr) s first ≡ step profile first (read.Instr instr) s
 line_after profile instr s first =
     let effect = effect-is instr in
     let lasts : (c : CarrierNo) → lasts_after (lasts_of_both [] (lasts_of profile.float instr)) s.lasts c ≡ kept_lasts profile.float instr s.lasts c
@@ -182,7 +182,7 @@ line_after profile instr s first =
       stacks = λ m. stacks m i;
     }
 
-fault_here : (first : ℕ) (reason : Reason) → raised first (record { line = 0; reason = reason }) ≡ record { line = first; reason = reason }
+fault_here : (first : ℕ) (reason : Reason) → fault_raised first (record { line = 0; reason = reason }) ≡ record { line = first; reason = reason }
 fault_here first reason = let same : first + 0 ≡ first = omega arith in λ i. record { line = same i; reason = reason }
 
 instr_outcome : (profile : Profile) (o : Option Reason) (instr : Instr) (s : State) (first : ℕ) →
@@ -196,7 +196,7 @@ made_if_none : (o : Option Reason) (fact : Option LoopFact) (count first : ℕ) 
 made_if_none None fact count first s t rest ends is = ap length (append-nil (option_to_list fact)) ∙ is
 made_if_none (Some reason) fact count first s t rest ends is = absurd (cc)
 
-formed_items : (k : ℕ) (dir : Dir) (n : Needle) (cs : List CarrierNo) (through : List ℕ) → length (option_to_list (formed k dir n cs through)) ≡ set_items (formed_on n cs)
+formed_items : (k : ℕ) (dir : Dir) (n : Needle) (cs : List CarrierNo) (through : List ℕ) → length (option_to_list (loop_formed k dir n cs through)) ≡ set_items (formed_on n cs)
 formed_items k dir n [] through = refl
 formed_items k dir n (c ∷ cs) through = refl
 

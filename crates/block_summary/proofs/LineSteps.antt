@@ -16,15 +16,15 @@ use Rattle.knit_base.specs.declared.rule.Fault.{Fault}
 use Rattle.knit_base.specs.declared.rule.Reason.{Reason}
 use Rattle.knit_base.specs.declared.yarns.CarrierNo.{CarrierNo}
 use Rattle.knit_base.specs.Instr.{forming_needle}
-use Rattle.knit_base.specs.Lawful.{IsLawful}
+use Rattle.knit_base.specs.Lawful.{IsLawfulInstr}
 use Rattle.face_data.specs.declared.face.Cond.{Cond}
 use Rattle.face_data.specs.declared.face.Cond.TheVariants.{LastNear}
 use Rattle.face_data.specs.declared.face.Ending.TheVariants.{Through, Broken}
 use Rattle.face_data.specs.declared.sizes.SizeAsk.{SizeAsk}
-use Rattle.face_data.specs.Answers.{Answer, read_answer}
-use Rattle.face_data.specs.Answers.Answer.{yes_it_does, no_it_does_not, asks}
-use Rattle.face_data.specs.Composition.{Gathering, against_kept, closed, composed, composed_at, effect_of_both, merged, next, reads}
-use Rattle.face_data.specs.Conditions.{Ask, ask_of, unless}
+use Rattle.face_data.specs.Answers.{ConditionAnswer, read_answer}
+use Rattle.face_data.specs.Answers.ConditionAnswer.{yes_it_does, no_it_does_not, asks}
+use Rattle.face_data.specs.Composition.{Gathering, against_kept, gathering_closed, composed, composed_at, effect_of_both, changes_merged, next, reads}
+use Rattle.face_data.specs.Conditions.{Ask, ask_of, broken_unless}
 use Rattle.face_data.specs.Conditions.Ask.{size_at_most}
 use Rattle.face_data.specs.Digests.{IsPlainCondition, IsUnsized}
 use Rattle.face_data.specs.Drafts.{no_effect}
@@ -33,45 +33,45 @@ use Rattle.face_data.specs.Items.{set_items}
 use Rattle.face_data.specs.Lasts.{lasts_of_both}
 use Rattle.face_data.specs.Segments.{Changed}
 use Rattle.face_data.specs.Sizes.{SizeRule, size_ask, size_asks}
-use Rattle.face_data.specs.Summaries.{Asked, Summary, raised}
+use Rattle.face_data.specs.Summaries.{AskedCondition, Summary, fault_raised}
 use Rattle.face_data.specs.Through.{changes_through}
 use Rattle.face_data.proofs.Front.{effect-idle}
-use Rattle.bed_rules.specs.Beds.{changes_of, crowded, size_rules}
+use Rattle.bed_rules.specs.Beds.{changes_of, crowded_needles, size_rules}
 use Rattle.carrier_rules.specs.declared.conds.OfEach.{OfEach}
 use Rattle.carrier_rules.specs.declared.conds.OfEach.TheVariants.{InAction, NotInAction, NotInHook}
-use Rattle.carrier_rules.specs.Carriers.{cond_of, conds_of, conds_of_each, early_in, early_of, effect_of, floats_asked, floats_in, floats_of_each, is_on_last, lasts_of, rule_of}
+use Rattle.carrier_rules.specs.Carriers.{cond_of, conds_of, conds_of_each, early_in, early_of, effect_of, float_conditions, floats_in, floats_of_each, is_on_last, lasts_of, rule_of}
 use Rattle.carrier_rules.proofs.EachCarrier.{early-is, floats-is}
 use Rattle.slider_rules.specs.Sliders.{bare_slider}
 use Rattle.block_summary.specs.declared.formed.FormedLoop.{FormedLoop}
 use Rattle.block_summary.specs.declared.instr_ask.InstrAsk.{InstrAsk}
 use Rattle.block_summary.specs.Asks.{formed_loop, instr_ask, needle_of_formed}
-use Rattle.block_summary.specs.DraftKnowledge.{CanBeAsked, HasAsked, HasAskedAll, HasAskedIf, HaveAsked, IsSmall, Took, effect_in, reads_after, reads_or_stops, stopped_at, with_loop_on, written}
-use Rattle.block_summary.specs.LineEnds.{carried}
-use Rattle.block_summary.specs.LineSummaries.{asked_by, asked_for, asked_of_rack, asked_of_sizes, line_changes, line_summary, near_asked, plainly_asked, rack_asked, sizes_asked, slider_asked, unasked}
+use Rattle.block_summary.specs.DraftKnowledge.{CanBeAsked, HasAsked, HasAskedAll, HasAskedIf, HaveAsked, IsSmall, Took, effect_in, reads_after, reads_or_stops, stopped_at, with_loop_on, changes_written}
+use Rattle.block_summary.specs.LineEnds.{summary_with_line}
+use Rattle.block_summary.specs.LineSummaries.{conditions_of_instr, asked_for, asked_of_rack, asked_of_sizes, line_changes, line_summary, near_asked, plainly_asked, rack_asked, sizes_asked, slider_asked, summary_asking_nothing}
 use Rattle.block_summary.proofs.DraftSteps.{took_rest}
 use Rattle.block_summary.proofs.FormedLoops.{needle-formed}
 use Rattle.block_summary.proofs.LineChanges.{line_changed, merged_nothing}
 use Rattle.block_summary.proofs.LineLasts.{both_put}
 
-fault_here : (lines : ℕ) (reason : Reason) → raised lines (record { line = 0; reason = reason }) ≡ record { line = lines; reason = reason }
+fault_here : (lines : ℕ) (reason : Reason) → fault_raised lines (record { line = 0; reason = reason }) ≡ record { line = lines; reason = reason }
 fault_here lines reason = let same : lines + 0 ≡ lines = omega arith in λ i. record { line = same i; reason = reason }
 
 -- One condition that was asked is one step of reading the conditions.
-asked_once : (old new : Summary) (reason : Reason) (ask : Ask) (goes : Bool) (left : List Asked) → HasAsked old new (record { line = old.lines; reason = reason }) ask goes →
-    reads_after old (asked_for reason ask ∷ left) ≡ reads_or_stops (unless goes reason) new left
+asked_once : (old new : Summary) (reason : Reason) (ask : Ask) (goes : Bool) (left : List AskedCondition) → HasAsked old new (record { line = old.lines; reason = reason }) ask goes →
+    reads_after old (asked_for reason ask ∷ left) ≡ reads_or_stops (broken_unless goes reason) new left
 unfolding reads
 asked_once old new reason ask goes left took = go (against_kept old.checks (read_answer (effect_in old.ending) old.lasts old.changes ask)) took
   where
-    go : (r : Answer) → Took r old new (record { line = old.lines; reason = reason }) goes →
-        next r old.checks (raised old.lines (record { line = 0; reason = reason })) (λ ks. reads (effect_in old.ending) old.lasts old.changes old.lines ks left)
-        ≡ reads_or_stops (unless goes reason) new left
-    go yes_it_does took = λ i. reads_or_stops (unless (sym took.0 i) reason) (sym took.1 i) left
+    go : (r : ConditionAnswer) → Took r old new (record { line = old.lines; reason = reason }) goes →
+        next r old.checks (fault_raised old.lines (record { line = 0; reason = reason })) (λ ks. reads (effect_in old.ending) old.lasts old.changes old.lines ks left)
+        ≡ reads_or_stops (broken_unless goes reason) new left
+    go yes_it_does took = λ i. reads_or_stops (broken_unless (sym took.0 i) reason) (sym took.1 i) left
     go no_it_does_not took =
         (λ i. record { checks = old.checks; stop = Some (fault_here old.lines reason i) })
-        ∙ (λ i. reads_or_stops (unless (sym took.0 i) reason) (sym took.1 i) left)
+        ∙ (λ i. reads_or_stops (broken_unless (sym took.0 i) reason) (sym took.1 i) left)
     go (asks q) took =
         (λ i. reads (effect_in old.ending) old.lasts old.changes old.lines (old.checks ++ record { fault = fault_here old.lines reason i; ask = q } ∷ []) left)
-        ∙ (λ i. reads_or_stops (unless (sym took.0 i) reason) (sym took.1 i) left)
+        ∙ (λ i. reads_or_stops (broken_unless (sym took.0 i) reason) (sym took.1 i) left)
 
 asked_rest : (old new : Summary) (reason : Reason) (ask : Ask) (goes : Bool) → HasAsked old new (record { line = old.lines; reason = reason }) ask goes → new ≡ record old { checks = new.checks }
 asked_rest old new reason ask goes took =
@@ -81,27 +81,27 @@ rest_of_both : (old mid new : Summary) → mid ≡ record old { checks = mid.che
 rest_of_both old mid new first second = second ∙ ap (λ (s : Summary). record s { checks = new.checks }) first
 
 -- at first all conditions are left
-pub all_left : (old : Summary) (all : List Asked) → HaveAsked old old all all
+pub all_left : (old : Summary) (all : List AskedCondition) → HaveAsked old old all all
 all_left old all = record { rest_stays = refl; so_far = λ more. refl }
 
 -- one of them is asked
-asked_next : (old mid new : Summary) (all left : List Asked) (reason : Reason) (ask : Ask) (goes : Bool) → HaveAsked old mid all (asked_for reason ask ∷ left) →
+asked_next : (old mid new : Summary) (all left : List AskedCondition) (reason : Reason) (ask : Ask) (goes : Bool) → HaveAsked old mid all (asked_for reason ask ∷ left) →
     HasAsked mid new (record { line = mid.lines; reason = reason }) ask goes → goes ≡ true → HaveAsked old new all left
 asked_next old mid new all left reason ask goes have took on = record {
   rest_stays = rest_of_both old mid new have.rest_stays (asked_rest mid new reason ask goes took);
-  so_far = λ more. have.so_far more ∙ asked_once mid new reason ask goes (left ++ more) took ∙ ap (λ b. reads_or_stops (unless b reason) new (left ++ more)) on;
+  so_far = λ more. have.so_far more ∙ asked_once mid new reason ask goes (left ++ more) took ∙ ap (λ b. reads_or_stops (broken_unless b reason) new (left ++ more)) on;
 }
 
 -- and can't hold
-asked_halt : (old mid new : Summary) (all left : List Asked) (reason : Reason) (ask : Ask) (goes : Bool) → HaveAsked old mid all (asked_for reason ask ∷ left) →
+asked_halt : (old mid new : Summary) (all left : List AskedCondition) (reason : Reason) (ask : Ask) (goes : Bool) → HaveAsked old mid all (asked_for reason ask ∷ left) →
     HasAsked mid new (record { line = mid.lines; reason = reason }) ask goes → goes ≡ false → HasAskedAll old new all (Some reason)
 asked_halt old mid new all left reason ask goes have took off = record {
   rest_stays = rest_of_both old mid new have.rest_stays (asked_rest mid new reason ask goes took);
-  asked_are = λ more. have.so_far more ∙ asked_once mid new reason ask goes (left ++ more) took ∙ ap (λ b. reads_or_stops (unless b reason) new (left ++ more)) off;
+  asked_are = λ more. have.so_far more ∙ asked_once mid new reason ask goes (left ++ more) took ∙ ap (λ b. reads_or_stops (broken_unless b reason) new (left ++ more)) off;
 }
 
 -- at last none is left
-pub none_left : (old new : Summary) (all : List Asked) → HaveAsked old new all [] → HasAskedAll old new all None
+pub none_left : (old new : Summary) (all : List AskedCondition) → HaveAsked old new all [] → HasAskedAll old new all None
 none_left old new all have = record { rest_stays = have.rest_stays; asked_are = have.so_far }
 
 -- no condition
@@ -110,21 +110,21 @@ none_asked old = record { rest_stays = refl; asked_are = λ more. refl }
 
 -- one condition
 pub one_asked : (old new : Summary) (reason : Reason) (ask : Ask) (goes : Bool) → HasAsked old new (record { line = old.lines; reason = reason }) ask goes →
-    HasAskedAll old new (asked_for reason ask ∷ []) (unless goes reason)
+    HasAskedAll old new (asked_for reason ask ∷ []) (broken_unless goes reason)
 one_asked old new reason ask goes took = record {
   rest_stays = asked_rest old new reason ask goes took;
   asked_are = λ more. asked_once old new reason ask goes more took;
 }
 
 -- two lists of conditions
-pub both_asked : (old mid new : Summary) (xs ys : List Asked) (stop : Option Reason) → HasAskedAll old mid xs None → HasAskedAll mid new ys stop → HasAskedAll old new (xs ++ ys) stop
+pub both_asked : (old mid new : Summary) (xs ys : List AskedCondition) (stop : Option Reason) → HasAskedAll old mid xs None → HasAskedAll mid new ys stop → HasAskedAll old new (xs ++ ys) stop
 both_asked old mid new xs ys stop first second = record {
   rest_stays = rest_of_both old mid new first.rest_stays second.rest_stays;
   asked_are = λ more. ap (reads_after old) (append_assoc xs ys more) ∙ first.asked_are (ys ++ more) ∙ second.asked_are more;
 }
 
 -- the first of which stops
-pub first_stops : (old new : Summary) (xs ys : List Asked) (reason : Reason) → HasAskedAll old new xs (Some reason) → HasAskedAll old new (xs ++ ys) (Some reason)
+pub first_stops : (old new : Summary) (xs ys : List AskedCondition) (reason : Reason) → HasAskedAll old new xs (Some reason) → HasAskedAll old new (xs ++ ys) (Some reason)
 first_stops old new xs ys reason first = record {
   rest_stays = first.rest_stays;
   asked_are = λ more. ap (reads_after old) (append_assoc xs ys more) ∙ first.asked_are (ys ++ more);
@@ -142,7 +142,7 @@ pub conds_next : (p : Cond → Bool) (old mid new : Summary) (conds : List (Reas
 conds_next p old mid new conds i d goes within have took on =
     go (p (get_or conds i d).1) (subst (λ (cs : List (Reason × Cond)). HaveAsked old mid all (map plainly_asked (passing p cs))) (drop_more conds i d within) have) took
   where
-    all : List Asked
+    all : List AskedCondition
     all = map plainly_asked (passing p conds)
 
     left : List (Reason × Cond)
@@ -161,7 +161,7 @@ pub conds_halt : (p : Cond → Bool) (old mid new : Summary) (conds : List (Reas
 conds_halt p old mid new conds i d goes within have took off =
     go (p (get_or conds i d).1) (subst (λ (cs : List (Reason × Cond)). HaveAsked old mid all (map plainly_asked (passing p cs))) (drop_more conds i d within) have) took
   where
-    all : List Asked
+    all : List AskedCondition
     all = map plainly_asked (passing p conds)
 
     left : List (Reason × Cond)
@@ -274,11 +274,11 @@ no_slider old rule is =
 -- one is
 pub one_slider : (old new : Summary) (ask : SizeAsk) (goes : Bool) (rule : Option SizeRule) →
     ((r : SizeRule) → ask ≡ size_ask old.changes r → HasAsked old new (record { line = old.lines; reason = r.reason }) (size_at_most r.needles r.most) goes) →
-    Some ask ≡ option_map (size_ask old.changes) rule → HasAskedAll old new (map asked_of_sizes (option_to_list rule)) (unless goes ask.reason)
+    Some ask ≡ option_map (size_ask old.changes) rule → HasAskedAll old new (map asked_of_sizes (option_to_list rule)) (broken_unless goes ask.reason)
 one_slider old new ask goes None took is = absurd (cc)
 one_slider old new ask goes (Some rule) took is =
     let same : ask ≡ size_ask old.changes rule = cc in
-    subst (λ reason. HasAskedAll old new (asked_of_sizes rule ∷ []) (unless goes reason)) (sym (ap (λ (q : SizeAsk). q.reason) same))
+    subst (λ reason. HasAskedAll old new (asked_of_sizes rule ∷ []) (broken_unless goes reason)) (sym (ap (λ (q : SizeAsk). q.reason) same))
     (one_asked old new rule.reason (size_at_most rule.needles rule.most) goes (took rule same))
 
 -- An instruction's conditions, part by part, as its answers have them: first those on carriers and the hook.
@@ -322,21 +322,21 @@ floats_were_asked profile instr ask changes conds old new stop is same asked =
     subst (λ (cs : List (Reason × Cond)). HasAskedAll old new (map plainly_asked cs) stop) (ap floats_in (same ∙ ap (λ (a : InstrAsk). a.carriers) is) ∙ floats-is profile.float instr) asked
 
 -- all but the first part
-abbrev after_early : Profile → Instr → List Asked
+abbrev after_early : Profile → Instr → List AskedCondition
 after_early profile instr = rack_asked instr ++ (slider_asked (forming_needle instr) ++ (sizes_asked profile.hold instr ++ near_asked profile.float instr))
 
 -- The first part stops the lines.
 pub stops_early : (profile : Profile) (instr : Instr) (old new : Summary) (reason : Reason) → HasAskedAll old new (map plainly_asked (early_of instr)) (Some reason) →
-    HasAskedAll old new (asked_by profile instr) (Some reason)
+    HasAskedAll old new (conditions_of_instr profile instr) (Some reason)
 stops_early profile instr old new reason first = first_stops old new (map plainly_asked (early_of instr)) (after_early profile instr) reason first
 
 -- Or the others are asked then.
 pub then_rack : (profile : Profile) (instr : Instr) (old mid new : Summary) (stop : Option Reason) → HasAskedAll old mid (map plainly_asked (early_of instr)) None →
-    HasAskedAll mid new (after_early profile instr) stop → HasAskedAll old new (asked_by profile instr) stop
+    HasAskedAll mid new (after_early profile instr) stop → HasAskedAll old new (conditions_of_instr profile instr) stop
 then_rack profile instr old mid new stop first rest = both_asked old mid new (map plainly_asked (early_of instr)) (after_early profile instr) stop first rest
 
 -- conditions that are asked change no needle
-pub same_changes_after : (old new : Summary) (all : List Asked) (stop : Option Reason) (changes : List Changed) → HasAskedAll old new all stop → old.changes ≡ changes → new.changes ≡ changes
+pub same_changes_after : (old new : Summary) (all : List AskedCondition) (stop : Option Reason) (changes : List Changed) → HasAskedAll old new all stop → old.changes ≡ changes → new.changes ≡ changes
 same_changes_after old new all stop changes asked same = ap (λ (s : Summary). s.changes) asked.rest_stays ∙ same
 
 -- the conditions of a lawful instruction can be asked
@@ -358,7 +358,7 @@ one_can : (c : Reason × Cond) → CanBeAsked c → All CanBeAsked (c ∷ [])
 one_can c can = All-cons CanBeAsked c [] can (All-nil CanBeAsked)
 
 -- those on carriers and the hook
-pub early_can : (profile : Profile) (carriers : ℕ) (instr : Instr) → carriers ≤ 64 → IsLawful profile carriers instr → All CanBeAsked (early_of instr)
+pub early_can : (profile : Profile) (carriers : ℕ) (instr : Instr) → carriers ≤ 64 → IsLawfulInstr profile carriers instr → All CanBeAsked (early_of instr)
 early_can profile carriers (CarryIn cs) few lawful = each_can NotInAction 1 cs carriers few lawful.carriers.each
 early_can profile carriers (CarryOut cs) few lawful =
     All-append CanBeAsked (conds_of_each InAction 1 cs) (conds_of_each NotInHook 1 cs) (each_can InAction 1 cs carriers few lawful.carriers.each) (each_can NotInHook 1 cs carriers few lawful.carriers.each)
@@ -375,7 +375,7 @@ near_can : (float : ℕ) (number : ℤ) (at : ℕ) (cs : List CarrierNo) → All
 near_can float number at [] = All-nil CanBeAsked
 near_can float number at (c ∷ cs) = All-cons CanBeAsked _ (floats_of_each float number (at + 1) cs) (tt, tt) (near_can float number (at + 1) cs)
 
-floats_can : (limit : Option ℕ) (instr : Instr) → All CanBeAsked (floats_asked limit instr)
+floats_can : (limit : Option ℕ) (instr : Instr) → All CanBeAsked (float_conditions limit instr)
 floats_can None instr = All-nil CanBeAsked
 floats_can (Some float) (Knit dir n cs) = near_can float n.at 3 cs
 floats_can (Some float) (Tuck dir n cs) = near_can float n.at 3 cs
@@ -384,9 +384,9 @@ floats_can (Some float) instr = All-nil CanBeAsked
 
 -- and those on floats
 pub all_can : (limit : Option ℕ) (instr : Instr) → All CanBeAsked (early_of instr) → All CanBeAsked (conds_of limit instr)
-all_can limit instr early = All-append CanBeAsked (early_of instr) (floats_asked limit instr) early (floats_can limit instr)
+all_can limit instr early = All-append CanBeAsked (early_of instr) (float_conditions limit instr) early (floats_can limit instr)
 
-pub conds_can : (profile : Profile) (carriers : ℕ) (limit : Option ℕ) (instr : Instr) → carriers ≤ 64 → IsLawful profile carriers instr → All CanBeAsked (conds_of limit instr)
+pub conds_can : (profile : Profile) (carriers : ℕ) (limit : Option ℕ) (instr : Instr) → carriers ≤ 64 → IsLawfulInstr profile carriers instr → All CanBeAsked (conds_of limit instr)
 conds_can profile carriers limit instr few lawful = all_can limit instr (early_can profile carriers instr few lawful)
 
 size_small : (changes : List Changed) (rule : SizeRule) → rule.most ≤ 64 → IsSmall (size_ask changes rule)
@@ -398,9 +398,9 @@ one_small changes rule few = All-cons IsSmall (size_ask changes rule) [] (size_s
 -- those on sizes
 pub sizes_small : (hold : ℕ) (instr : Instr) (changes : List Changed) → hold ≤ 64 → All IsSmall (size_asks changes (size_rules hold instr))
 sizes_small hold (Tuck dir n []) changes few = All-nil IsSmall
-sizes_small hold (Tuck dir n (c ∷ cs)) changes few = one_small changes (crowded 2 (n ∷ []) (hold - 1)) (let less : hold - 1 ≤ 64 = omega (arith, few) in less)
-sizes_small hold (Split dir n n2 cs) changes few = one_small changes (crowded 3 (n2 ∷ n ∷ []) hold) few
-sizes_small hold (Xfer n n2) changes few = one_small changes (crowded 2 (n2 ∷ n ∷ []) hold) few
+sizes_small hold (Tuck dir n (c ∷ cs)) changes few = one_small changes (crowded_needles 2 (n ∷ []) (hold - 1)) (let less : hold - 1 ≤ 64 = omega (arith, few) in less)
+sizes_small hold (Split dir n n2 cs) changes few = one_small changes (crowded_needles 3 (n2 ∷ n ∷ []) hold) few
+sizes_small hold (Xfer n n2) changes few = one_small changes (crowded_needles 2 (n2 ∷ n ∷ []) hold) few
 sizes_small hold instr changes few = All-nil IsSmall
 
 -- and on a slider
@@ -409,15 +409,15 @@ slider_small None changes = tt
 slider_small (Some n) changes = size_small changes (bare_slider n) (omega arith)
 
 -- the conditions of a line and their end, as composition has them
-pub gathered : (old new : Summary) (all : List Asked) (stop : Option Reason) → HasAskedAll old new all stop → reads_after old all ≡ reads_or_stops stop new []
-gathered old new all stop asked = ap (reads_after old) (sym (append-nil all)) ∙ asked.asked_are []
+pub asked_all_gathers : (old new : Summary) (all : List AskedCondition) (stop : Option Reason) → HasAskedAll old new all stop → reads_after old all ≡ reads_or_stops stop new []
+asked_all_gathers old new all stop asked = ap (reads_after old) (sym (append-nil all)) ∙ asked.asked_are []
 
 -- A line that is known to stop.
-pub line_stops : (profile : Profile) (instr : Instr) (old mid : Summary) (reason : Reason) → old.ending ≡ Through (effect_in old.ending) → HasAskedAll old mid (asked_by profile instr) (Some reason) →
+pub line_stops : (profile : Profile) (instr : Instr) (old mid : Summary) (reason : Reason) → old.ending ≡ Through (effect_in old.ending) → HasAskedAll old mid (conditions_of_instr profile instr) (Some reason) →
     composed old (line_summary profile (read.Instr instr)) ≡ stopped_at (record { line = mid.lines; reason = reason }) (record mid { lines = mid.lines + 1 })
 line_stops profile instr old mid reason through asked =
     ap (λ ending. composed_at ending old (line_summary profile (read.Instr instr))) through
-    ∙ ap (λ (g : Gathering). closed g (effect_in old.ending) old (line_summary profile (read.Instr instr))) (gathered old mid (asked_by profile instr) (Some reason) asked)
+    ∙ ap (λ (g : Gathering). gathering_closed g (effect_in old.ending) old (line_summary profile (read.Instr instr))) (asked_all_gathers old mid (conditions_of_instr profile instr) (Some reason) asked)
     ∙ ap (λ (s : Summary). stopped_at (record { line = mid.lines; reason = reason }) (record mid { lines = s.lines + 1 })) (sym asked.rest_stays)
 
 same_items : (formed : Option FormedLoop) → set_items formed ≡ set_items (needle_of_formed formed)
@@ -426,24 +426,24 @@ same_items (Some l) = refl
 
 -- A line that goes on.
 pub line_goes : (profile : Profile) (carriers : ℕ) (instr : Instr) (old mid : Summary) (ask : InstrAsk) → old.ending ≡ Through (effect_in old.ending) → IsInOrder old.changes →
-    IsLawful profile carriers instr → ask ≡ instr_ask profile instr old.changes → HasAskedAll old mid (asked_by profile instr) None →
-    carried mid ask ≡ composed old (line_summary profile (read.Instr instr))
+    IsLawfulInstr profile carriers instr → ask ≡ instr_ask profile instr old.changes → HasAskedAll old mid (conditions_of_instr profile instr) None →
+    summary_with_line mid ask ≡ composed old (line_summary profile (read.Instr instr))
 unfolding reads
 line_goes profile carriers instr old mid ask through order lawful is asked =
     let on : needle_of_formed (formed_loop instr old.changes) ≡ forming_needle instr = needle-formed old.changes instr in
-    let changed : with_loop_on (forming_needle instr) old.lines (written old.changes (changes_of instr old.changes)) ≡ merged old.changes (changes_through old.changes old.lines (line_changes instr)) =
+    let changed : with_loop_on (forming_needle instr) old.lines (changes_written old.changes (changes_of instr old.changes)) ≡ changes_merged old.changes (changes_through old.changes old.lines (line_changes instr)) =
     line_changed profile carriers instr old.changes old.lines lawful order in
-    ap (λ (s : Summary). carried s ask) asked.rest_stays
-    ∙ ap (carried (record old { checks = mid.checks })) is
+    ap (λ (s : Summary). summary_with_line s ask) asked.rest_stays
+    ∙ ap (summary_with_line (record old { checks = mid.checks })) is
     ∙ (λ i. record {
       lines = old.lines + 1;
       made = old.made + (same_items (formed_loop instr old.changes) ∙ ap set_items on) i;
       checks = mid.checks;
-      changes = (ap (λ o. with_loop_on o old.lines (written old.changes (changes_of instr old.changes))) on ∙ changed) i;
+      changes = (ap (λ o. with_loop_on o old.lines (changes_written old.changes (changes_of instr old.changes))) on ∙ changed) i;
       lasts = sym (both_put old.lasts (lasts_of profile.float instr)) i;
       ending = Through (effect_of_both (effect_in old.ending) (effect_of instr));
     })
-    ∙ ap (λ (g : Gathering). closed g (effect_in old.ending) old (line_summary profile (read.Instr instr))) (sym (gathered old mid (asked_by profile instr) None asked))
+    ∙ ap (λ (g : Gathering). gathering_closed g (effect_in old.ending) old (line_summary profile (read.Instr instr))) (sym (asked_all_gathers old mid (conditions_of_instr profile instr) None asked))
     ∙ ap (λ ending. composed_at ending old (line_summary profile (read.Instr instr))) (sym through)
 
 -- A line that breaks a rule by itself.
@@ -455,7 +455,7 @@ broken_stops profile old reason through =
     ∙ (λ i. record { lines = old.lines + 1; made = 0; checks = old.checks; changes = []; lasts = []; ending = Broken (fault_here old.lines reason i) })
 
 -- A line that asks and changes nothing.
-pub nothing_goes : (old : Summary) → old.ending ≡ Through (effect_in old.ending) → record old { lines = old.lines + 1 } ≡ composed old (unasked (Through no_effect))
+pub nothing_goes : (old : Summary) → old.ending ≡ Through (effect_in old.ending) → record old { lines = old.lines + 1 } ≡ composed old (summary_asking_nothing (Through no_effect))
 unfolding reads
 nothing_goes old through =
     let made : old.made ≡ old.made + 0 = omega arith in
@@ -467,13 +467,13 @@ nothing_goes old through =
       lasts = old.lasts;
       ending = (through ∙ ap Through (sym (effect-idle (effect_in old.ending)))) i;
     })
-    ∙ ap (λ ending. composed_at ending old (unasked (Through no_effect))) (sym through)
+    ∙ ap (λ ending. composed_at ending old (summary_asking_nothing (Through no_effect))) (sym through)
 
 -- a pause is one
-pause_is : (profile : Profile) → line_summary profile (read.Instr Pause) ≡ unasked (Through no_effect)
+pause_is : (profile : Profile) → line_summary profile (read.Instr Pause) ≡ summary_asking_nothing (Through no_effect)
 pause_is profile = go profile.float
   where
-    go : (limit : Option ℕ) → record (unasked (Through no_effect)) { checks = near_asked limit Pause; lasts = lasts_of_both [] (lasts_of limit Pause) } ≡ unasked (Through no_effect)
+    go : (limit : Option ℕ) → record (summary_asking_nothing (Through no_effect)) { checks = near_asked limit Pause; lasts = lasts_of_both [] (lasts_of limit Pause) } ≡ summary_asking_nothing (Through no_effect)
     go None = refl
     go (Some float) = refl
 
@@ -482,7 +482,7 @@ pause_goes profile old through = nothing_goes old through ∙ ap (composed old) 
 
 -- the changes of a line were put in, its loop and its last needles; then the line was counted
 pub carried_on : (old mid : Summary) (ask : InstrAsk) →
-    mid ≡ record old { changes = with_loop_on (needle_of_formed ask.formed) old.lines (written old.changes ask.changed); lasts = lasts_of_both old.lasts ask.lasts } →
-    record mid { lines = mid.lines + 1; made = mid.made + set_items ask.formed; ending = Through (effect_of_both (effect_in mid.ending) ask.effect) } ≡ carried old ask
+    mid ≡ record old { changes = with_loop_on (needle_of_formed ask.formed) old.lines (changes_written old.changes ask.changed); lasts = lasts_of_both old.lasts ask.lasts } →
+    record mid { lines = mid.lines + 1; made = mid.made + set_items ask.formed; ending = Through (effect_of_both (effect_in mid.ending) ask.effect) } ≡ summary_with_line old ask
 carried_on old mid ask is =
     ap (λ (s : Summary). record s { lines = s.lines + 1; made = s.made + set_items ask.formed; ending = Through (effect_of_both (effect_in s.ending) ask.effect) }) is

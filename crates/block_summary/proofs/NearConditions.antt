@@ -13,14 +13,14 @@ use Rattle.face_data.specs.declared.bearing.Bearing.TheVariants.{Implied, Refute
 use Rattle.face_data.specs.declared.face.Check.{Check}
 use Rattle.face_data.specs.declared.face.Cond.{Cond}
 use Rattle.face_data.specs.declared.face.Cond.TheVariants.{RackIs, CarrierIn, CarrierOut, HookFree, HookIs, HookLacks, SizeAtMost, LastNear}
-use Rattle.face_data.specs.Answers.Answer.{asks}
+use Rattle.face_data.specs.Answers.ConditionAnswer.{asks}
 use Rattle.face_data.specs.Bearings.{bearing, if_so}
-use Rattle.face_data.specs.Composition.{from_bearing, settled}
+use Rattle.face_data.specs.Composition.{from_bearing, answer_of_kept}
 use Rattle.face_data.specs.Conditions.{Ask, ask_of}
 use Rattle.face_data.specs.Conditions.Ask.{rack_is, carrier_in, carrier_out, hook_free, hook_is, hook_lacks, size_at_most, last_near}
 use Rattle.face_data.specs.Digests.{IsNearCond}
-use Rattle.face_data.specs.Summaries.{Asked}
-use Rattle.face_data.specs.View.{asked_of}
+use Rattle.face_data.specs.Summaries.{AskedCondition}
+use Rattle.face_data.specs.View.{asked_of_check}
 use Rattle.block_summary.proofs.AskedHold.{implies_itself}
 use Rattle.block_summary.proofs.FoundConditions.{implied_by, left_by_all, not_refuted}
 
@@ -60,7 +60,7 @@ silent_other names (SizeAtMost p most) c at float other = refl
 
 near_found : (names : List Needle) (checks : List Check) (c : CarrierNo) (at : ℤ) (float : ℕ) (found : Bool) →
     (found ≡ true → (k : Check) × Contains checks k × (k.cond ≡ LastNear c at float)) → (found ≡ false → (k : Check) → Contains checks k → k.cond ≢ LastNear c at float) →
-    settled (map (asked_of names) checks) (last_near c at float) ≡ from_bearing (if_so found Implied) (asks (last_near c at float))
+    answer_of_kept (map (asked_of_check names) checks) (last_near c at float) ≡ from_bearing (if_so found Implied) (asks (last_near c at float))
 near_found names checks c at float true so none =
     let w = so refl in
     implied_by names checks w.0 (last_near c at float) (λ p. never_refuted_near p c at float) w.1
@@ -71,7 +71,7 @@ near_found names checks c at float false so none =
 -- what is found by looking for the same condition is what the kept conditions say
 near_as_found : (names : List Needle) (checks : List Check) (cond : Cond) (found : Bool) → IsNearCond cond →
     (found ≡ true → (k : Check) × Contains checks k × (k.cond ≡ cond)) → (found ≡ false → (k : Check) → Contains checks k → k.cond ≢ cond) →
-    settled (map (asked_of names) checks) (ask_of [] cond) ≡ from_bearing (if_so found Implied) (asks (ask_of [] cond))
+    answer_of_kept (map (asked_of_check names) checks) (ask_of [] cond) ≡ from_bearing (if_so found Implied) (asks (ask_of [] cond))
 near_as_found names checks (LastNear c at float) found near so none = near_found names checks c at float found so none
 near_as_found names checks (RackIs q) found near so none = absurd near
 near_as_found names checks (CarrierIn c) found near so none = absurd near
@@ -82,12 +82,12 @@ near_as_found names checks (HookLacks c) found near so none = absurd near
 near_as_found names checks (SizeAtMost p most) found near so none = absurd near
 
 -- The same as the code puts it.
-pub near_says : (names : List Needle) (checks lent : List Check) (kept : List Asked) (cond : Cond) (found : Bool) (r : Bearing) → lent ≡ checks → map (asked_of names) checks ≡ kept → IsNearCond cond →
+pub near_says : (names : List Needle) (checks lent : List Check) (kept : List AskedCondition) (cond : Cond) (found : Bool) (r : Bearing) → lent ≡ checks → map (asked_of_check names) checks ≡ kept → IsNearCond cond →
     (found ≡ true → (k : Check) × Contains lent k × (k.cond ≡ cond)) → (found ≡ false → (k : Check) → Contains lent k → k.cond ≢ cond) →
-    if_so found Implied ≡ r → settled kept (ask_of [] cond) ≡ from_bearing r (asks (ask_of [] cond))
+    if_so found Implied ≡ r → answer_of_kept kept (ask_of [] cond) ≡ from_bearing r (asks (ask_of [] cond))
 near_says names checks lent kept cond found r same seen near so none is =
-    ap (λ (ks : List Asked). settled ks (ask_of [] cond)) (sym seen)
-    ∙ ap (λ (cs : List Check). settled (map (asked_of names) cs) (ask_of [] cond)) (sym same)
+    ap (λ (ks : List AskedCondition). answer_of_kept ks (ask_of [] cond)) (sym seen)
+    ∙ ap (λ (cs : List Check). answer_of_kept (map (asked_of_check names) cs) (ask_of [] cond)) (sym same)
     ∙ near_as_found names lent cond found near so none
     ∙ ap (λ b. from_bearing b (asks (ask_of [] cond))) is
 

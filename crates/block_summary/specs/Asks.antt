@@ -18,7 +18,7 @@ use Rattle.face_data.specs.Conditions.{first_unmet, unmet_rack, unmet_size_if_an
 use Rattle.face_data.specs.Lasts.{lasts_after}
 use Rattle.face_data.specs.Segments.{Changed, segments_on, read_segs}
 use Rattle.face_data.specs.Sizes.{size_ask, size_asks}
-use Rattle.face_data.specs.Summaries.{rack_after, ins_after, hook_after}
+use Rattle.face_data.specs.Summaries.{rack_after_effect, ins_after, hook_after}
 use Rattle.bed_rules.specs.Beds.{changes_of, segments_after, size_rules}
 use Rattle.carrier_rules.specs.Carriers.{conds_of, early_in, effect_of, floats_in, lasts_of}
 use Rattle.rack_align.specs.Moves.{rack_ask}
@@ -80,7 +80,7 @@ needle_of_formed formed = option_map (λ (l : FormedLoop). l.needle) formed
 -- segments stand for, the loop of the line with this offset among them.
 abbrev pub state_after : InstrAsk → List Changed → State → State → ℕ → ℕ → State
 state_after ask segments s t first offset = record {
-  rack = rack_after ask.effect.rack t.rack;
+  rack = rack_after_effect ask.effect.rack t.rack;
   ins = ins_after ask.effect t.ins;
   hook = hook_after ask.effect t.hook;
   lasts = lasts_after ask.lasts t.lasts;

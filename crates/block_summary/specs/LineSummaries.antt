@@ -15,65 +15,65 @@ use Rattle.face_data.specs.declared.face.Ending.{Ending}
 use Rattle.face_data.specs.declared.face.Ending.TheVariants.{Through, Broken}
 use Rattle.face_data.specs.declared.face.Seg.{Seg}
 use Rattle.face_data.specs.declared.face.Seg.TheVariants.{Entry, New}
-use Rattle.face_data.specs.Composition.{merged}
+use Rattle.face_data.specs.Composition.{changes_merged}
 use Rattle.face_data.specs.Conditions.{Ask, ask_of}
 use Rattle.face_data.specs.Conditions.Ask.{rack_is, size_at_most}
-use Rattle.face_data.specs.Drafts.{no_effect, drafted}
+use Rattle.face_data.specs.Drafts.{no_effect, drafted_summary}
 use Rattle.face_data.specs.Items.{set_items}
 use Rattle.knit_base.specs.Instr.{forming_needle, needles_of}
 use Rattle.knit_base.specs.Needle.{own_slider}
 use Rattle.knit_base.specs.declared.instr.Quarter.{Quarter}
 use Rattle.face_data.specs.Lasts.{lasts_of_both}
 use Rattle.face_data.specs.Segments.{Changed}
-use Rattle.face_data.specs.Sets.{IsWithin}
+use Rattle.face_data.specs.Sets.{AreNeedlesWithin}
 use Rattle.face_data.specs.Sizes.{SizeRule}
-use Rattle.face_data.specs.Summaries.{Asked, Summary}
+use Rattle.face_data.specs.Summaries.{AskedCondition, Summary}
 use Rattle.bed_rules.specs.Beds.{size_rules}
-use Rattle.carrier_rules.specs.Carriers.{early_of, effect_of, floats_asked, lasts_of}
+use Rattle.carrier_rules.specs.Carriers.{early_of, effect_of, float_conditions, lasts_of}
 use Rattle.rack_align.specs.Moves.{rack_ask}
 use Rattle.slider_rules.specs.Sliders.{bare_slider}
 
 -- a condition of the line
-abbrev pub asked_for : Reason → Ask → Asked
+abbrev pub asked_for : Reason → Ask → AskedCondition
 asked_for reason ask = record { fault = record { line = 0; reason = reason }; ask = ask }
 
 -- a condition on carriers or the hook
-abbrev pub plainly_asked : Reason × Cond → Asked
+abbrev pub plainly_asked : Reason × Cond → AskedCondition
 plainly_asked c = asked_for c.0 (ask_of [] c.1)
 
 -- a condition on the rack
-abbrev pub asked_of_rack : Reason × Quarter → Asked
+abbrev pub asked_of_rack : Reason × Quarter → AskedCondition
 asked_of_rack c = asked_for c.0 (rack_is c.1.0)
 
 -- a condition on sizes
-abbrev pub asked_of_sizes : SizeRule → Asked
+abbrev pub asked_of_sizes : SizeRule → AskedCondition
 asked_of_sizes rule = asked_for rule.reason (size_at_most rule.needles rule.most)
 
 -- loops go over to the needle that faces theirs
-abbrev pub rack_asked : Instr → List Asked
+abbrev pub rack_asked : Instr → List AskedCondition
 rack_asked instr = map asked_of_rack (option_to_list (rack_ask instr))
 
 -- the own slider of a needle on which a loop is formed is empty
-abbrev pub slider_asked : Option Needle → List Asked
+abbrev pub slider_asked : Option Needle → List AskedCondition
 slider_asked on = map asked_of_sizes (option_to_list (option_map bare_slider on))
 
 -- no needle comes to hold too many loops
-abbrev pub sizes_asked : ℕ → Instr → List Asked
+abbrev pub sizes_asked : ℕ → Instr → List AskedCondition
 sizes_asked hold instr = map asked_of_sizes (size_rules hold instr)
 
 -- no float is too long
-abbrev pub near_asked : Option ℕ → Instr → List Asked
-near_asked limit instr = map plainly_asked (floats_asked limit instr)
+abbrev pub near_asked : Option ℕ → Instr → List AskedCondition
+near_asked limit instr = map plainly_asked (float_conditions limit instr)
 
 -- all conditions of the instruction, in the order of the rules
-abbrev pub asked_by : Profile → Instr → List Asked
-asked_by profile instr =
+abbrev pub conditions_of_instr : Profile → Instr → List AskedCondition
+conditions_of_instr profile instr =
     map plainly_asked (early_of instr)
     ++ (rack_asked instr ++ (slider_asked (forming_needle instr) ++ (sizes_asked profile.hold instr ++ near_asked profile.float instr)))
 
 -- all loops of the first needle go over behind those of the second, and the first is left with these segments
 abbrev pub gone_over : Needle → Needle → List Seg → List Changed
-gone_over n n2 left = merged ((n2, Entry n2 ∷ Entry n ∷ []) ∷ []) ((n, left) ∷ [])
+gone_over n n2 left = changes_merged ((n2, Entry n2 ∷ Entry n ∷ []) ∷ []) ((n, left) ∷ [])
 
 -- the loop that the line forms of the carriers
 abbrev pub new_loop : List CarrierNo → List Seg
@@ -95,18 +95,18 @@ line_changes (Drop n) = (n, []) ∷ []
 line_changes instr = []
 
 -- a line that asks and changes nothing, whichever way it ends
-abbrev pub unasked : Ending → Summary
-unasked ending = record { lines = 1; made = 0; checks = []; changes = []; lasts = []; ending = ending }
+abbrev pub summary_asking_nothing : Ending → Summary
+summary_asking_nothing ending = record { lines = 1; made = 0; checks = []; changes = []; lasts = []; ending = ending }
 
 -- the summary of a line. It may ask for a thing twice, as where a carrier is named twice
 abbrev pub line_summary : Profile → Read → Summary
-line_summary profile read.Blank = unasked (Through no_effect)
-line_summary profile read.Comment = unasked (Through no_effect)
-line_summary profile (read.Broken reason) = unasked (Broken (record { line = 0; reason = reason }))
+line_summary profile read.Blank = summary_asking_nothing (Through no_effect)
+line_summary profile read.Comment = summary_asking_nothing (Through no_effect)
+line_summary profile (read.Broken reason) = summary_asking_nothing (Broken (record { line = 0; reason = reason }))
 line_summary profile (read.Instr i) = record {
   lines = 1;
   made = set_items (forming_needle i);
-  checks = asked_by profile i;
+  checks = conditions_of_instr profile i;
   changes = line_changes i;
   lasts = lasts_of_both [] (lasts_of profile.float i);
   ending = Through (effect_of i);
@@ -114,7 +114,7 @@ line_summary profile (read.Instr i) = record {
 
 -- the summary of a block of lines: each line's, read through those before it and held against what they ask
 abbrev pub block_summary_of : Profile → List Read → Summary
-block_summary_of profile lines = drafted (line_summary profile) lines
+block_summary_of profile lines = drafted_summary (line_summary profile) lines
 
 -- the own slider of a needle on which a loop is formed is known
 abbrev pub SliderKnown : List Needle → Option Needle → Type 0
@@ -123,7 +123,7 @@ SliderKnown known (Some n) = Contains known (own_slider n)
 
 -- the needles that the instruction names are known, and the own slider of one on which it forms a loop
 pub record NeedlesKnown (known : List Needle) (instr : Instr) : Type 0 where
-  pub needles : IsWithin (needles_of instr) known
+  pub needles : AreNeedlesWithin (needles_of instr) known
   pub slider : SliderKnown known (forming_needle instr)
 
 -- the same of a line

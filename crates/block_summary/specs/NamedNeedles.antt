@@ -13,6 +13,6 @@ line_needles (read.Instr i) = needles_of i ++ option_to_list (option_map own_sli
 line_needles r = []
 
 -- all that the lines name so
-unfoldable pub named : List Read → List Needle
-named [] = []
-named (r ∷ rs) = line_needles r ++ named rs
+unfoldable pub needles_named : List Read → List Needle
+needles_named [] = []
+needles_named (r ∷ rs) = line_needles r ++ needles_named rs

@@ -9,11 +9,11 @@ ghost use Rattle.knit_base.specs.Limits.{IsLawfulProfile};
 ghost use Rattle.knit_base.specs.Needle.{is_slider, own_slider};
 ghost use Rattle.knit_base.specs.Usual.{usual_read};
 ghost use Rattle.knitout_reader.specs.Reading.{ReadsAs};
-ghost use Rattle.knitout_reader.specs.Usual.{KnowsLast};
+ghost use Rattle.knitout_reader.specs.Usual.{KnowsLastCarrier};
 ghost use Rattle.face_data.specs.Segments.{change_at};
-ghost use Rattle.block_summary.specs.Prepared.{AddsLine, AreRowsOf, IsKnitIfKnown, row_of};
+ghost use Rattle.block_summary.specs.Prepared.{AddsLine, AreRowsOf, IsKnitIfKnown, loop_row_of};
 
-use crate::{Draft, FormedLoop, LineEnd};
+use crate::{Draft, DraftedLineEnd, FormedLoop};
 use knit_base::{CarrierNo, Dir, Fault, Instr, Needle, NoMemory, Read, Setting, Usual, Yarns};
 use knitout_reader::{LastNamed, read_line, usual_reading, usual_whole_line};
 use loop_history::{LoopRow, LoopTable};
@@ -28,10 +28,10 @@ pub fn add_line(
 ) -> Result<Option<Fault>, NoMemory>
     requires profile { IsLawfulProfile setting.now.profile }
     requires short { length line.now < 2 ^ 16 }
-    requires last { KnowsLast setting.now.declared last.old }
+    requires last { KnowsLastCarrier setting.now.declared last.old }
     requires few { draft.old.lines < 4096 }
     requires rows { AreRowsOf draft.old.lines loops.old }
-    ensures last { KnowsLast setting.now.declared last.new }
+    ensures last { KnowsLastCarrier setting.now.declared last.new }
     ensures added { IfOk result (λ stop. (r : Read) → ReadsAs setting.now.profile setting.now.declared line.now r → AddsLine setting.now.profile (length setting.now.declared) r draft.old draft.new loops.old loops.new stop) }
     ensures lines { OnOk result (draft.new.lines ≡ draft.old.lines + 1) }
     ensures rows { OnOk result (AreRowsOf draft.new.lines loops.new) }
@@ -81,8 +81,8 @@ fn add_read(
     let _carriers = setting.declared.len();
     let offset = draft.lines();
     match draft.line(read, &setting.profile)? {
-        LineEnd::Stops(fault) => Ok(Some(fault)),
-        LineEnd::GoesOn(formed) => {
+        DraftedLineEnd::Stops(fault) => Ok(Some(fault)),
+        DraftedLineEnd::GoesOn(formed) => {
             add_row(offset, formed, loops)?;
             Ok(None)
         }
@@ -164,8 +164,8 @@ fn add_transfer(
     let _carriers = setting.declared.len();
     let instr = Instr::Xfer(n, n2);
     match draft.transfer(&instr, n, n2, &setting.profile)? {
-        LineEnd::Stops(fault) => Ok(Some(fault)),
-        LineEnd::GoesOn(_) => Ok(None),
+        DraftedLineEnd::Stops(fault) => Ok(Some(fault)),
+        DraftedLineEnd::GoesOn(_) => Ok(None),
     }
 }
 
@@ -238,7 +238,7 @@ fn add_first_knit(
 fn add_row(offset: u32, formed: Option<FormedLoop>, loops: &mut LoopTable) -> Result<(), NoMemory>
     requires few { offset < 4096 }
     requires rows { AreRowsOf offset loops.old }
-    ensures { OnOk result (loops.new ≡ loops.old ++ option_to_list (option_map (row_of offset) formed)) }
+    ensures { OnOk result (loops.new ≡ loops.old ++ option_to_list (option_map (loop_row_of offset) formed)) }
 {
     match formed {
         None => Ok(()),

@@ -8,7 +8,7 @@ ghost use Rattle.face_data.specs.Conditions.{ask_of};
 ghost use Rattle.face_data.specs.Sizes.{SizeRule, size_ask, size_asks};
 ghost use Rattle.block_summary.specs.Asks.{instr_ask};
 ghost use Rattle.block_summary.specs.DraftKnowledge.{CanBeAsked, HasAskedAll, HasAskedIf, IsSmall};
-ghost use Rattle.block_summary.specs.LineSummaries.{asked_by, asked_of_rack, asked_of_sizes, plainly_asked};
+ghost use Rattle.block_summary.specs.LineSummaries.{conditions_of_instr, asked_of_rack, asked_of_sizes, plainly_asked};
 
 use crate::line::reason_unless;
 use crate::{Draft, InstrAsk};
@@ -21,7 +21,7 @@ impl Draft {
         requires carriers { All CanBeAsked ask.now.carriers }
         requires slider { IfSome ask.now.slider IsSmall }
         requires sizes { All IsSmall ask.now.sizes }
-        ensures { IfOk result (λ stop. (profile : Profile) (instr : Instr) → ask.now ≡ instr_ask profile instr self.old.changes → HasAskedAll self.old self.new (asked_by profile instr) stop) }
+        ensures { IfOk result (λ stop. (profile : Profile) (instr : Instr) → ask.now ≡ instr_ask profile instr self.old.changes → HasAskedAll self.old self.new (conditions_of_instr profile instr) stop) }
     {
         if let Some(reason) = self.ask_early(ask.carriers.as_slice())? {
             return Ok(Some(reason));

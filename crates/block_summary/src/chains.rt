@@ -16,7 +16,7 @@ use std::marker::Model;
 
 /// One needle of a kept condition: in which chain it is, the condition, and where the one before it in the chain may stand.
 #[derive(Clone, Copy, Debug, PartialEq, Eq)]
-pub struct Link {
+pub struct ConditionLink {
     pub chain: usize,
     pub cond: Cond,
     pub next: usize,
@@ -24,13 +24,13 @@ pub struct Link {
 
 /// Where the last link of each chain may stand. A chain without links may have any place.
 #[derive(Drop)]
-pub struct Lasts {
+pub struct ChainEnds {
     pub places: [usize; 256],
 }
 
-impl Lasts {
+impl ChainEnds {
     fn new() -> Self {
-        Lasts { places: [0; 256] }
+        ChainEnds { places: [0; 256] }
     }
 
     fn get(&self, chain: usize) -> usize
@@ -53,19 +53,19 @@ impl Lasts {
 /// chain, and from each link on to the one before it.
 #[derive(Drop)]
 pub struct Chains {
-    lasts: Lasts,
-    links: Vec<Link>,
+    lasts: ChainEnds,
+    links: Vec<ConditionLink>,
 }
 
 impl Model for Chains {
     ghost use Rattle.std.specs.Prelude.{vec_capacity};
-    ghost use Rattle.block_summary.specs.NeedleChains.{AreLasts, AreLinked, ChainsView};
+    ghost use Rattle.block_summary.specs.NeedleChains.{AreLasts, NeedleChainsLeadBack, ChainsView};
 
     ghost Value = { ChainsView };
 
     ghost view = { λ c. record { links = c.links.items; room = vec_capacity c.links } };
 
-    ghost invariant = { λ c. AreLasts c.lasts.places c.links.items × AreLinked c.links.items };
+    ghost invariant = { λ c. AreLasts c.lasts.places c.links.items × NeedleChainsLeadBack c.links.items };
 }
 
 impl Chains {
@@ -74,7 +74,7 @@ impl Chains {
         ensures { result.links ≡ [] }
     {
         Chains {
-            lasts: Lasts::new(),
+            lasts: ChainEnds::new(),
             links: Vec::new(alloc),
         }
     }
@@ -115,7 +115,8 @@ impl Chains {
         let next = self.lasts.get(chain);
         let place = self.links.len();
         self.lasts.set(chain, place);
-        self.links.push_reserved(Link { chain, cond, next });
+        self.links
+            .push_reserved(ConditionLink { chain, cond, next });
     }
 
     /// Whether a condition to which a link of this chain leads says that these needles hold at most so many loops together.

@@ -10,8 +10,8 @@ ghost use Rattle.knit_base.specs.Needle.{is_slider, own_slider};
 ghost use Rattle.knit_base.specs.Yarns.{contains_carrier};
 ghost use Rattle.face_data.specs.declared.face.Ending.TheVariants.{Through};
 ghost use Rattle.face_data.specs.Answers.{read_answer, size_left};
-ghost use Rattle.face_data.specs.Answers.Answer.{asks};
-ghost use Rattle.face_data.specs.Composition.{composed, against_kept, effect_of_both, from_bearing, merged};
+ghost use Rattle.face_data.specs.Answers.ConditionAnswer.{asks};
+ghost use Rattle.face_data.specs.Composition.{composed, against_kept, effect_of_both, from_bearing, changes_merged};
 ghost use Rattle.face_data.specs.Conditions.{ask_of};
 ghost use Rattle.face_data.specs.Digests.{CarrierFits, IsPlainCondition, IsUnsized};
 ghost use Rattle.face_data.specs.Goodness.{IsInOrder};
@@ -21,14 +21,14 @@ ghost use Rattle.face_data.specs.Sizes.{SizeRule, size_ask};
 ghost use Rattle.face_data.specs.Drafts.{no_effect, no_lines};
 ghost use Rattle.face_data.specs.Lasts.{put_last};
 ghost use Rattle.knit_base.specs.declared.profile.Profile.{Profile};
-ghost use Rattle.carrier_rules.specs.Carriers.{last_of};
+ghost use Rattle.carrier_rules.specs.Carriers.{carrier_last};
 ghost use Rattle.block_summary.specs.DraftKnowledge.{AreNearIn, HoldsAfter, HasAsked, IsSmall, Took, effect_in, stopped_at};
 ghost use Rattle.block_summary.specs.LineSummaries.{line_summary};
 
 mod near;
 
-use crate::kept::Kept;
-use crate::laid::{Laid, face_of};
+use crate::kept::KeptLineConditions;
+use crate::laid::{DraftChanges, face_of};
 use crate::room::new_loops_on;
 use face_data::{
     Bearing, Cond, Effect, Ending, Face, Last, Lasts, Seg, Segs, SizeAsk, Symbols, last_bearing,
@@ -47,12 +47,12 @@ pub struct Draft {
     alloc: Global,
     lines: u32,
     made: u32,
-    kept: Kept,
+    kept: KeptLineConditions,
     symbols: Symbols,
     effect: Effect,
     lasts: Lasts,
     bare: [Option<Needle>; 64],
-    laid: Laid,
+    laid: DraftChanges,
 }
 
 impl Model for Draft {
@@ -76,12 +76,12 @@ impl Draft {
             alloc,
             lines: 0,
             made: 0,
-            kept: Kept::new(alloc),
+            kept: KeptLineConditions::new(alloc),
             symbols: Symbols::new(alloc),
             effect: no_effect(),
             lasts: Lasts::new(alloc),
             bare: none_bare(),
-            laid: Laid::new(alloc),
+            laid: DraftChanges::new(alloc),
         }
     }
 
@@ -278,7 +278,7 @@ impl Draft {
 
     /// The needle holds these segments from now on.
     pub(crate) fn put(&mut self, n: Needle, segs: Segs) -> Result<(), NoMemory>
-        ensures { OnOk result (self.new ≡ record self.old { changes = merged self.old.changes ((n, segs) ∷ []) }) }
+        ensures { OnOk result (self.new ≡ record self.old { changes = changes_merged self.old.changes ((n, segs) ∷ []) }) }
     {
         if n.bed.is_slider() {
             return self.put_on_slider(n, segs);
@@ -289,7 +289,7 @@ impl Draft {
 
     // The same of a slider, or of any needle: no hook is known to be bare any more.
     fn put_on_slider(&mut self, n: Needle, segs: Segs) -> Result<(), NoMemory>
-        ensures { OnOk result (self.new ≡ record self.old { changes = merged self.old.changes ((n, segs) ∷ []) }) }
+        ensures { OnOk result (self.new ≡ record self.old { changes = changes_merged self.old.changes ((n, segs) ∷ []) }) }
     {
         self.bare = none_bare();
         self.symbols.swap(n, segs)?;
@@ -358,7 +358,7 @@ impl Draft {
             lines,
             0,
             &self.kept,
-            &Laid::new(self.alloc),
+            &DraftChanges::new(self.alloc),
             &[],
             ending,
         )

@@ -2,7 +2,7 @@
 ghost use Rattle.std.specs.Prelude.{◌≡◌, ℕ, ◌+◌, IfOk};
 ghost use Rattle.knit_base.specs.Limits.{IsLawfulProfile};
 ghost use Rattle.carriage_model.specs.Loops.{loop_of_instr};
-ghost use Rattle.carriage_model.specs.Machine.{HasPlaces};
+ghost use Rattle.carriage_model.specs.Machine.{HasCarrierPlaces};
 ghost use Rattle.carriage_model.specs.Rules.{broken_instr};
 ghost use Rattle.carriage_model.specs.State.{State};
 ghost use Rattle.knit_base.specs.declared.instr.Read.TheVariants as read;
@@ -43,7 +43,7 @@ pub fn ask_instr(
     segments: &Symbols,
 ) -> Result<InstrAsk, NoMemory>
     requires profile { IsLawfulProfile profile.now }
-    requires places { HasPlaces instr.now }
+    requires places { HasCarrierPlaces instr.now }
     ensures broken { IfOk result (λ ask. (s t : State) (first : ℕ) → AreRead segments.now s first t.stacks → broken_instr profile.now instr.now t ≡ first_unmet_of ask s t) }
     ensures step { IfOk result (λ ask. (s t : State) (first offset : ℕ) → AreRead segments.now s first t.stacks → step profile.now (first + offset) (read.Instr instr.now) t ≡ state_after ask segments.now s t first offset) }
     ensures formed { IfOk result (λ ask. (s t : State) (first offset : ℕ) → AreRead segments.now s first t.stacks → loop_of_instr (first + offset) instr.now t ≡ fact_of_formed ask.formed s first (first + offset)) }

@@ -2,7 +2,7 @@
 ghost use Rattle.std.specs.Prelude.{◌≡◌, ◌<◌, ◌^◌, [], ◌∷◌, ◌++◌, IfOk, OnErr, OnOk, length, map};
 ghost use Rattle.face_data.specs.View.{ArePacked, changed_of};
 
-use crate::kept::Kept;
+use crate::kept::KeptLineConditions;
 use face_data::{Change, Ending, Face, FaceView, Last, Part, Seg, Symbols};
 use knit_base::{Needle, NoMemory};
 use std::alloc::Global;
@@ -10,12 +10,12 @@ use std::marker::Model;
 
 /// Changes, whose segments stand one after the other in one list.
 #[derive(Drop)]
-pub struct Laid {
+pub struct DraftChanges {
     changes: Vec<Change>,
     segs: Vec<Seg>,
 }
 
-impl Model for Laid {
+impl Model for DraftChanges {
     ghost use Rattle.std.specs.Prelude.{List, map};
     ghost use Rattle.face_data.specs.Segments.{Changed};
     ghost use Rattle.face_data.specs.View.{ArePacked, changed_of};
@@ -27,12 +27,12 @@ impl Model for Laid {
     ghost invariant = { λ l. ArePacked l.segs.items l.changes.items };
 }
 
-impl Laid {
+impl DraftChanges {
     /// No changes. Takes no memory.
     pub fn new(alloc: Global) -> Self
         ensures { result ≡ [] }
     {
-        Laid {
+        DraftChanges {
             changes: Vec::new(alloc),
             segs: Vec::new(alloc),
         }
@@ -86,8 +86,8 @@ pub fn face_of(
     alloc: Global,
     lines: u32,
     made: u32,
-    kept: &Kept,
-    laid: &Laid,
+    kept: &KeptLineConditions,
+    laid: &DraftChanges,
     lasts: &[Last],
     ending: Ending,
 ) -> Result<Face, NoMemory>

@@ -36,6 +36,6 @@ mod room;
 pub use draft::Draft;
 pub use formed::FormedLoop;
 pub use instr_ask::{InstrAsk, ask_instr};
-pub use line::LineEnd;
+pub use line::DraftedLineEnd;
 pub use line_ask::{LineAsk, ask_line};
 pub use prepared::{MOST_LINES, PrepareFault, Prepared, prepare, prepare_part, prepare_with};

@@ -1,7 +1,7 @@
 //! One line more of a block that is drafted.
 ghost use Rattle.std.specs.Prelude.{◌≡◌, ℕ, ◌+◌, ◌-◌, ◌<◌, ◌≤◌, ◌^◌, ◌++◌, List, [], ◌∷◌, All, Option, MatchOption, not, false, length, IfOk, IfSome, OnOk, map};
 ghost use Rattle.std.specs.Option.{option_copied, option_map, option_to_list};
-ghost use Rattle.knit_base.specs.Lawful.{IsLawful, IsLawfulRead};
+ghost use Rattle.knit_base.specs.Lawful.{IsLawfulInstr, IsLawfulRead};
 ghost use Rattle.knit_base.specs.Limits.{IsLawfulProfile};
 ghost use Rattle.knit_base.specs.declared.instr.Read.TheVariants as read;
 ghost use Rattle.knit_base.specs.declared.instr.Instr.{Instr};
@@ -10,22 +10,22 @@ ghost use Rattle.knit_base.specs.Instr.{forming_needle};
 ghost use Rattle.knit_base.specs.Needle.{is_slider, own_slider};
 ghost use Rattle.face_data.specs.declared.face.Seg.TheVariants.{New};
 ghost use Rattle.face_data.specs.declared.face.Ending.TheVariants.{Through};
-ghost use Rattle.face_data.specs.Composition.{merged};
-ghost use Rattle.face_data.specs.Conditions.{ask_of, unless};
+ghost use Rattle.face_data.specs.Composition.{changes_merged};
+ghost use Rattle.face_data.specs.Conditions.{ask_of, broken_unless};
 ghost use Rattle.face_data.specs.Conditions.Ask.{carrier_in, size_at_most};
 ghost use Rattle.face_data.specs.Goodness.{IsInOrder};
 ghost use Rattle.face_data.specs.Segments.{change_at, segments_on};
 ghost use Rattle.face_data.specs.Sizes.{SizeRule, size_ask, size_asks};
-ghost use Rattle.carriage_model.specs.Machine.{HasPlaces};
-ghost use Rattle.bed_rules.specs.Beds.{moved};
+ghost use Rattle.carriage_model.specs.Machine.{HasCarrierPlaces};
+ghost use Rattle.bed_rules.specs.Beds.{changes_with_move};
 ghost use Rattle.carrier_rules.specs.declared.conds.OfEach.TheVariants.{InAction};
 ghost use Rattle.knit_base.specs.declared.profile.Profile.{Profile};
 ghost use Rattle.carrier_rules.specs.Carriers.{conds_of_each, early_in, early_of, floats_in, is_on_last};
 ghost use Rattle.slider_rules.specs.Sliders.{bare_slider};
 ghost use Rattle.block_summary.specs.Asks.{instr_ask};
-ghost use Rattle.block_summary.specs.DraftKnowledge.{AreNearIn, CanBeAsked, HasAsked, HasAskedAll, HasAskedIf, HoldsAfter, IsSmall, effect_in, written};
-ghost use Rattle.block_summary.specs.LineEnds.{EndsAs, carried};
-ghost use Rattle.block_summary.specs.LineSummaries.{asked_by, asked_of_rack, asked_of_sizes, plainly_asked};
+ghost use Rattle.block_summary.specs.DraftKnowledge.{AreNearIn, CanBeAsked, HasAsked, HasAskedAll, HasAskedIf, HoldsAfter, IsSmall, effect_in, changes_written};
+ghost use Rattle.block_summary.specs.LineEnds.{EndsAs, summary_with_line};
+ghost use Rattle.block_summary.specs.LineSummaries.{conditions_of_instr, asked_of_rack, asked_of_sizes, plainly_asked};
 
 use crate::draft::no_effect;
 use crate::{Draft, FormedLoop, InstrAsk, ask_instr};
@@ -37,7 +37,7 @@ use knit_base::{
 /// How a line ends that is read after others: the lines go on, with the loop that it forms, if it forms one, or they are known to
 /// stop at it.
 #[derive(Drop)]
-pub enum LineEnd {
+pub enum DraftedLineEnd {
     GoesOn(Option<FormedLoop>),
     Stops(Fault),
 }
@@ -45,7 +45,7 @@ pub enum LineEnd {
 impl Draft {
     /// One line more. Where the lines are known to stop at it, the conditions before that are kept, and the fault's line is counted
     /// from 0, the first line that was read.
-    pub fn line(&mut self, read: &Read, profile: &Profile) -> Result<LineEnd, NoMemory>
+    pub fn line(&mut self, read: &Read, profile: &Profile) -> Result<DraftedLineEnd, NoMemory>
         requires profile { IsLawfulProfile profile.now }
         requires lawful { (carriers : ℕ) × (carriers ≤ 64) × IsLawfulRead profile.now carriers read.now }
         requires few { self.old.lines < 2 ^ 32 - 1 }
@@ -53,18 +53,18 @@ impl Draft {
     {
         match read {
             Read::Instr(instr) => self.instr(instr, profile),
-            Read::Broken(reason) => Ok(LineEnd::Stops(self.stop(*reason))),
+            Read::Broken(reason) => Ok(DraftedLineEnd::Stops(self.stop(*reason))),
             Read::Blank | Read::Comment => {
                 self.pass();
-                Ok(LineEnd::GoesOn(None))
+                Ok(DraftedLineEnd::GoesOn(None))
             }
         }
     }
 
     // A knit asks only what isn't known of its carriers and its slider, a transfer its rack and room alone, and a pause nothing.
-    fn instr(&mut self, instr: &Instr, profile: &Profile) -> Result<LineEnd, NoMemory>
+    fn instr(&mut self, instr: &Instr, profile: &Profile) -> Result<DraftedLineEnd, NoMemory>
         requires profile { IsLawfulProfile profile.now }
-        requires lawful { (carriers : ℕ) × (carriers ≤ 64) × IsLawful profile.now carriers instr.now }
+        requires lawful { (carriers : ℕ) × (carriers ≤ 64) × IsLawfulInstr profile.now carriers instr.now }
         requires few { self.old.lines < 2 ^ 32 - 1 }
         ensures { IfOk result (EndsAs profile.now (read.Instr instr.now) self.old self.new) }
     {
@@ -73,7 +73,7 @@ impl Draft {
             Instr::Xfer(n, n2) => self.transfer(instr, *n, *n2, profile),
             Instr::Pause => {
                 self.pass();
-                Ok(LineEnd::GoesOn(None))
+                Ok(DraftedLineEnd::GoesOn(None))
             }
             _ => self.any_instr(instr, profile),
         }
@@ -87,9 +87,9 @@ impl Draft {
         n: Needle,
         yarns: &Yarns,
         profile: &Profile,
-    ) -> Result<LineEnd, NoMemory>
+    ) -> Result<DraftedLineEnd, NoMemory>
         requires profile { IsLawfulProfile profile.now }
-        requires lawful { (carriers : ℕ) × (carriers ≤ 64) × IsLawful profile.now carriers instr.now }
+        requires lawful { (carriers : ℕ) × (carriers ≤ 64) × IsLawfulInstr profile.now carriers instr.now }
         requires knit { instr.now ≡ Knit dir n yarns.now }
         requires few { self.old.lines < 2 ^ 32 - 1 }
         ensures { IfOk result (EndsAs profile.now (read.Instr instr.now) self.old self.new) }
@@ -98,7 +98,7 @@ impl Draft {
             return self.any_instr(instr, profile);
         }
         match self.usual_knit(dir, n, yarns, profile.float)? {
-            Some(formed) => Ok(LineEnd::GoesOn(Some(formed))),
+            Some(formed) => Ok(DraftedLineEnd::GoesOn(Some(formed))),
             None => self.first_knit(instr, dir, n, yarns, profile),
         }
     }
@@ -111,9 +111,9 @@ impl Draft {
         n: Needle,
         yarns: &Yarns,
         profile: &Profile,
-    ) -> Result<LineEnd, NoMemory>
+    ) -> Result<DraftedLineEnd, NoMemory>
         requires profile { IsLawfulProfile profile.now }
-        requires lawful { (carriers : ℕ) × (carriers ≤ 64) × IsLawful profile.now carriers instr.now }
+        requires lawful { (carriers : ℕ) × (carriers ≤ 64) × IsLawfulInstr profile.now carriers instr.now }
         requires knit { instr.now ≡ Knit dir n yarns.now }
         requires near { AreNearIn self.old profile.now.float n yarns.now }
         requires few { self.old.lines < 2 ^ 32 - 1 }
@@ -123,11 +123,11 @@ impl Draft {
             return self.any_instr(instr, profile);
         }
         if let Some(reason) = self.ask_knit(instr, n, yarns, profile)? {
-            return Ok(LineEnd::Stops(self.stop(reason)));
+            return Ok(DraftedLineEnd::Stops(self.stop(reason)));
         }
         self.note_bare(n);
         match self.usual_knit(dir, n, yarns, profile.float)? {
-            Some(formed) => Ok(LineEnd::GoesOn(Some(formed))),
+            Some(formed) => Ok(DraftedLineEnd::GoesOn(Some(formed))),
             None => self.any_instr(instr, profile),
         }
     }
@@ -140,12 +140,12 @@ impl Draft {
         yarns: &Yarns,
         profile: &Profile,
     ) -> Result<Option<Reason>, NoMemory>
-        requires places { HasPlaces instr.now }
+        requires places { HasCarrierPlaces instr.now }
         requires knit { (dir : Dir) × (instr.now ≡ Knit dir n yarns.now) }
         requires some { 1 ≤ length yarns.now }
         requires can { All CanBeAsked (early_of instr.now) }
         requires near { AreNearIn self.old profile.now.float n yarns.now }
-        ensures { IfOk result (HasAskedAll self.old self.new (asked_by profile.now instr.now)) }
+        ensures { IfOk result (HasAskedAll self.old self.new (conditions_of_instr profile.now instr.now)) }
     {
         if let Some(reason) = self.ask_carriers(instr, yarns, profile)? {
             return Ok(Some(reason));
@@ -160,7 +160,7 @@ impl Draft {
         yarns: &Yarns,
         profile: &Profile,
     ) -> Result<Option<Reason>, NoMemory>
-        requires places { HasPlaces instr.now }
+        requires places { HasCarrierPlaces instr.now }
         requires conds { early_of instr.now ≡ conds_of_each InAction 3 yarns.now }
         requires can { All CanBeAsked (early_of instr.now) }
         ensures { IfOk result (HasAskedAll self.old self.new (map plainly_asked (early_of instr.now))) }
@@ -206,7 +206,7 @@ impl Draft {
     ) -> Result<Option<Reason>, NoMemory>
         requires carrier { c.0 < 64 }
         requires untouched { change_at self.old.changes (own_slider n) ≡ None }
-        ensures { IfOk result (λ stop. (profile : Profile) (dir : Dir) → profile.float ≡ None → HasAskedAll self.old self.new (asked_by profile (Knit dir n (c ∷ []))) stop) }
+        ensures { IfOk result (λ stop. (profile : Profile) (dir : Dir) → profile.float ≡ None → HasAskedAll self.old self.new (conditions_of_instr profile (Knit dir n (c ∷ []))) stop) }
     {
         let is_out = Reason {
             rule: Rule::CarrierIsOut,
@@ -270,19 +270,19 @@ impl Draft {
         n: Needle,
         n2: Needle,
         profile: &Profile,
-    ) -> Result<LineEnd, NoMemory>
+    ) -> Result<DraftedLineEnd, NoMemory>
         requires profile { IsLawfulProfile profile.now }
-        requires lawful { (carriers : ℕ) × (carriers ≤ 64) × IsLawful profile.now carriers instr.now }
+        requires lawful { (carriers : ℕ) × (carriers ≤ 64) × IsLawfulInstr profile.now carriers instr.now }
         requires transfer { instr.now ≡ Xfer n n2 }
         requires few { self.old.lines < 2 ^ 32 - 1 }
         ensures { IfOk result (EndsAs profile.now (read.Instr instr.now) self.old self.new) }
     {
         if let Some(reason) = self.ask_transfer(instr, n, n2, profile.hold)? {
-            return Ok(LineEnd::Stops(self.stop(reason)));
+            return Ok(DraftedLineEnd::Stops(self.stop(reason)));
         }
         self.move_loops(n, n2)?;
         self.move_on(&no_effect(), 0);
-        Ok(LineEnd::GoesOn(None))
+        Ok(DraftedLineEnd::GoesOn(None))
     }
 
     // Asks the conditions of a transfer. Answers with the reason of one that can't hold.
@@ -295,7 +295,7 @@ impl Draft {
     ) -> Result<Option<Reason>, NoMemory>
         requires transfer { instr.now ≡ Xfer n n2 }
         requires hold { hold ≤ 64 }
-        ensures { IfOk result (λ stop. (profile : Profile) → profile.hold ≡ hold → HasAskedAll self.old self.new (asked_by profile instr.now) stop) }
+        ensures { IfOk result (λ stop. (profile : Profile) → profile.hold ≡ hold → HasAskedAll self.old self.new (conditions_of_instr profile instr.now) stop) }
     {
         if let Some(reason) = self.ask_rack(rack_align::ask(instr))? {
             return Ok(Some(reason));
@@ -314,7 +314,7 @@ impl Draft {
 
     // All loops of the first needle go over behind those of the second.
     fn move_loops(&mut self, n: Needle, n2: Needle) -> Result<(), NoMemory>
-        ensures changes { OnOk result (self.new ≡ record self.old { changes = written self.old.changes (moved self.old.changes n n2) }) }
+        ensures changes { OnOk result (self.new ≡ record self.old { changes = changes_written self.old.changes (changes_with_move self.old.changes n n2) }) }
         ensures rising { IsInOrder self.old.changes }
         ensures through { self.old.ending ≡ Through (effect_in self.old.ending) }
     {
@@ -323,19 +323,19 @@ impl Draft {
         self.put(n2, both)
     }
 
-    fn any_instr(&mut self, instr: &Instr, profile: &Profile) -> Result<LineEnd, NoMemory>
+    fn any_instr(&mut self, instr: &Instr, profile: &Profile) -> Result<DraftedLineEnd, NoMemory>
         requires profile { IsLawfulProfile profile.now }
-        requires lawful { (carriers : ℕ) × (carriers ≤ 64) × IsLawful profile.now carriers instr.now }
+        requires lawful { (carriers : ℕ) × (carriers ≤ 64) × IsLawfulInstr profile.now carriers instr.now }
         requires few { self.old.lines < 2 ^ 32 - 1 }
         ensures { IfOk result (EndsAs profile.now (read.Instr instr.now) self.old self.new) }
     {
         let ask = ask_instr(self.allocator(), instr, profile, self.contents())?;
         match self.ask_all(&ask)? {
-            Some(reason) => Ok(LineEnd::Stops(self.stop(reason))),
+            Some(reason) => Ok(DraftedLineEnd::Stops(self.stop(reason))),
             None => {
                 self.note_slider(instr.forming_needle());
                 self.carry_out(&ask)?;
-                Ok(LineEnd::GoesOn(ask.formed))
+                Ok(DraftedLineEnd::GoesOn(ask.formed))
             }
         }
     }
@@ -353,7 +353,7 @@ impl Draft {
     // What the instruction does, where all its conditions may hold.
     fn carry_out(&mut self, ask: &InstrAsk) -> Result<(), NoMemory>
         requires { self.old.lines < 2 ^ 32 - 1 }
-        ensures { OnOk result (self.new ≡ carried self.old ask.now) }
+        ensures { OnOk result (self.new ≡ summary_with_line self.old ask.now) }
     {
         self.write(ask.changed.as_slice())?;
         self.put_lasts(ask.lasts.as_slice())?;
@@ -372,7 +372,7 @@ impl Draft {
 
     // These needles hold these segments from now on.
     fn write(&mut self, changed: &[(Needle, Segs)]) -> Result<(), NoMemory>
-        ensures { OnOk result (self.new ≡ record self.old { changes = written self.old.changes changed.now }) }
+        ensures { OnOk result (self.new ≡ record self.old { changes = changes_written self.old.changes changed.now }) }
     {
         for change in changed {
             let mut segs = Segs::new(self.allocator());
@@ -384,7 +384,7 @@ impl Draft {
 
     // The needle holds one more loop, that of the line.
     fn add_loop(&mut self, n: Needle) -> Result<(), NoMemory>
-        ensures { OnOk result (self.new ≡ record self.old { changes = merged self.old.changes ((n, segments_on self.old.changes n ++ New self.old.lines ∷ []) ∷ []) }) }
+        ensures { OnOk result (self.new ≡ record self.old { changes = changes_merged self.old.changes ((n, segments_on self.old.changes n ++ New self.old.lines ∷ []) ∷ []) }) }
     {
         let mut segs = Segs::new(self.allocator());
         self.contents().append_segs(n, &mut segs)?;
@@ -398,7 +398,7 @@ impl Draft {
 
 // The reason, where a condition can't hold.
 pub(crate) fn reason_unless(goes: bool, reason: Reason) -> Option<Reason>
-    ensures { result ≡ unless goes reason }
+    ensures { result ≡ broken_unless goes reason }
 {
     if goes { None } else { Some(reason) }
 }

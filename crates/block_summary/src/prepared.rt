@@ -8,7 +8,7 @@ ghost use Rattle.knit_base.specs.Needle.{is_slider};
 ghost use Rattle.knit_base.specs.Usual.{usual_read};
 ghost use Rattle.knitout_reader.specs.Reading.{ReadsAs};
 ghost use Rattle.loop_history.specs.declared.row.LoopRow.{LoopRow};
-ghost use Rattle.block_summary.specs.Prepared.{AddsLine, AreReadings, AreRowsOf, IsKnitIfKnown, IsMadeOf, IsPreparedFor, row_of};
+ghost use Rattle.block_summary.specs.Prepared.{AddsLine, AreReadings, AreRowsOf, IsKnitIfKnown, IsMadeOf, IsPreparedFor, loop_row_of};
 ghost use Rattle.block_summary.specs.declared.prepared.PrepareFault.{PrepareFault};
 
 use crate::Draft;

@@ -1,13 +1,13 @@
 //! Needles that hold none but loops of the lines read so far.
 ghost use Rattle.std.specs.Prelude.{◌≡◌, ◌+◌, ◌≤◌, [], IfSome};
-ghost use Rattle.face_data.specs.Segments.{entries_of, new_of, segments_on};
+ghost use Rattle.face_data.specs.Segments.{entry_needles_of, new_of, segments_on};
 
 use face_data::{Seg, Symbols};
 use knit_base::Needle;
 
 /// How many loops the needle holds, where the lines made all of them. `None` says nothing.
 pub fn new_loops_on(contents: &Symbols, n: Needle) -> Option<u32>
-    ensures entries { IfSome result (λ count. entries_of (segments_on contents.now n) ≡ []) }
+    ensures entries { IfSome result (λ count. entry_needles_of (segments_on contents.now n) ≡ []) }
     ensures count { IfSome result (λ count. new_of (segments_on contents.now n) ≡ count) }
 {
     match contents.of(n) {
@@ -18,7 +18,7 @@ pub fn new_loops_on(contents: &Symbols, n: Needle) -> Option<u32>
 
 // The same of segments.
 fn new_loops(segs: &[Seg]) -> Option<u32>
-    ensures entries { IfSome result (λ count. entries_of segs.now ≡ []) }
+    ensures entries { IfSome result (λ count. entry_needles_of segs.now ≡ []) }
     ensures count { IfSome result (λ count. new_of segs.now ≡ count) }
 {
     let mut count = 0u32;

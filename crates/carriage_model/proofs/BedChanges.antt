@@ -7,14 +7,14 @@ use Rattle.std.proofs.Math.ListN.{set}
 use Rattle.knit_base.specs.declared.needle.Needle.{Needle}
 use Rattle.knit_base.specs.Needle.{same_needle, same_needle-true, is_front}
 use Rattle.carriage_model.specs.declared.beds.Beds.{Beds}
-use Rattle.carriage_model.specs.State.{with_stack, transferred}
-use Rattle.carriage_model.specs.Places.{Spans, place_in, stack_in}
-use Rattle.carriage_model.specs.Beds.{IsOn, SameBeds, Holds, HoldsAsBefore, loops_at}
+use Rattle.carriage_model.specs.State.{with_stack, stacks_transferred}
+use Rattle.carriage_model.specs.Places.{Spans, stack_place, stack_in}
+use Rattle.carriage_model.specs.Beds.{IsOn, SameBeds, BedsHold, HoldsAsBefore, loops_at}
 use Rattle.knit_base.proofs.Needles.{same_needle-false}
 use Rattle.carriage_model.proofs.Places.{set-stack, stack-at, place-within}
 
 -- what the code reads at the needle's place are the needle's loops
-pub read-stack : (beds : Beds) (n : Needle) (place : ℕ) (found : List ℕ) → IsOn beds n.at → place ≡ place_in beds.low beds.width n → found ≡ get_or beds.stacks.items place found → found ≡ loops_at beds n
+pub read-stack : (beds : Beds) (n : Needle) (place : ℕ) (found : List ℕ) → IsOn beds n.at → place ≡ stack_place beds.low beds.width n → found ≡ get_or beds.stacks.items place found → found ≡ loops_at beds n
 read-stack beds n place found on is read =
     let within : place < length beds.stacks.items = omega (arith, is, beds.full, place-within beds.low beds.width n on) in
     read ∙ get_or_default beds.stacks.items place found [] within ∙ ap (λ p. get_or beds.stacks.items p []) is ∙ sym (stack-at beds.low beds.width beds.stacks.items n on)
@@ -23,9 +23,9 @@ same-loops : (old new : Beds) → new.low ≡ old.low → new.width ≡ old.widt
 same-loops old new low width q = ap (λ l. stack_in l new.width new.stacks.items q) low ∙ ap (λ w. stack_in old.low w new.stacks.items q) width
 
 -- the stack at the needle's place was replaced by what is wanted there
-pub set-holds : (old new : Beds) (n : Needle) (place : ℕ) (loops wanted : List ℕ) → IsOn old n.at → place ≡ place_in old.low old.width n
+pub set-holds : (old new : Beds) (n : Needle) (place : ℕ) (loops wanted : List ℕ) → IsOn old n.at → place ≡ stack_place old.low old.width n
     → new.low ≡ old.low → new.width ≡ old.width → new.stacks.items ≡ set old.stacks.items place loops → loops ≡ wanted
-    → Holds old new (with_stack (loops_at old) n wanted)
+    → BedsHold old new (with_stack (loops_at old) n wanted)
 set-holds old new n place loops wanted on is low width items wants = record {
   same = record { low = low; width = width };
   stacks_are = λ q. same-loops old new low width q
@@ -34,10 +34,10 @@ set-holds old new n place loops wanted on is low width items wants = record {
 }
 
 -- the stacks at two needles' places were exchanged
-pub exchanged : (old new : Beds) (n n2 : Needle) (from to : ℕ) → IsOn old n.at → IsOn old n2.at → from ≡ place_in old.low old.width n → to ≡ place_in old.low old.width n2
+pub stacks_exchanged : (old new : Beds) (n n2 : Needle) (from to : ℕ) → IsOn old n.at → IsOn old n2.at → from ≡ stack_place old.low old.width n → to ≡ stack_place old.low old.width n2
     → new.low ≡ old.low → new.width ≡ old.width → new.stacks.items ≡ swap old.stacks.items from to
-    → Holds old new (with_stack (with_stack (loops_at old) n (loops_at old n2)) n2 (loops_at old n))
-exchanged old new n n2 from to on on2 is is2 low width items =
+    → BedsHold old new (with_stack (with_stack (loops_at old) n (loops_at old n2)) n2 (loops_at old n))
+stacks_exchanged old new n n2 from to on on2 is is2 low width items =
     let old-items : List (List ℕ) = old.stacks.items in
     let within : from < length old-items = omega (arith, is, old.full, place-within old.low old.width n on) in
     let within2 : to < length old-items = omega (arith, is2, old.full, place-within old.low old.width n2 on2) in
@@ -76,8 +76,8 @@ not-both n n2 q sides one other = sides (ap (λ (m : Needle). is_front m.bed) (s
 
 -- two needles exchanged their loops, of which the second had none
 pub exchange-transfers : (old new : Beds) (n n2 : Needle) → is_front n.bed ≢ is_front n2.bed → loops_at old n2 ≡ []
-    → Holds old new (with_stack (with_stack (loops_at old) n (loops_at old n2)) n2 (loops_at old n))
-    → Holds old new (transferred n n2 [] (loops_at old))
+    → BedsHold old new (with_stack (with_stack (loops_at old) n (loops_at old n2)) n2 (loops_at old n))
+    → BedsHold old new (stacks_transferred n n2 [] (loops_at old))
 exchange-transfers old new n n2 sides none holds = record {
   same = holds.same;
   stacks_are = λ q. holds.stacks_are q
@@ -87,7 +87,7 @@ exchange-transfers old new n n2 sides none holds = record {
 }
 
 -- taking one needle's loops leaves those of a needle on the other side
-pub other_stack : (old mid : Beds) (n n2 : Needle) → is_front n.bed ≢ is_front n2.bed → Holds old mid (with_stack (loops_at old) n []) → loops_at mid n2 ≡ loops_at old n2
+pub other_stack : (old mid : Beds) (n n2 : Needle) → is_front n.bed ≢ is_front n2.bed → BedsHold old mid (with_stack (loops_at old) n []) → loops_at mid n2 ≡ loops_at old n2
 other_stack old mid n n2 sides taken = taken.stacks_are n2 ∙ ap (λ b. cond b [] (loops_at old n2)) (apart n n2 sides)
 
 left-behind : (b b2 : Bool) (x y : List ℕ) → cond b [] (cond b2 x (cond b [] y)) ≡ cond b [] (cond b2 x y)
@@ -96,10 +96,10 @@ left-behind false b2 x y = refl
 
 -- the loops of the first needle were taken and came behind those of the second
 pub moved-transfers : (old mid later new : Beds) (n n2 : Needle) (moved : List ℕ) → is_front n.bed ≢ is_front n2.bed
-    → Holds old mid (with_stack (loops_at old) n []) → moved ≡ loops_at old n
-    → Holds mid later (with_stack (loops_at mid) n2 (loops_at mid n2 ++ moved))
-    → Holds later new (with_stack (loops_at later) n [])
-    → Holds old new (transferred n n2 [] (loops_at old))
+    → BedsHold old mid (with_stack (loops_at old) n []) → moved ≡ loops_at old n
+    → BedsHold mid later (with_stack (loops_at mid) n2 (loops_at mid n2 ++ moved))
+    → BedsHold later new (with_stack (loops_at later) n [])
+    → BedsHold old new (stacks_transferred n n2 [] (loops_at old))
 moved-transfers old mid later new n n2 moved sides taken is received emptied = record {
   same = record {
     low = emptied.same.low ∙ received.same.low ∙ taken.same.low;
@@ -123,11 +123,11 @@ same-anyway stacks n q true same = ap stacks (same_needle-true n q same)
 same-anyway stacks n q false other = refl
 
 -- the stack at the needle's place was replaced by itself
-pub same-holds : (old new : Beds) (n : Needle) (place : ℕ) (loops found : List ℕ) → IsOn old n.at → place ≡ place_in old.low old.width n
+pub same-holds : (old new : Beds) (n : Needle) (place : ℕ) (loops found : List ℕ) → IsOn old n.at → place ≡ stack_place old.low old.width n
     → new.low ≡ old.low → new.width ≡ old.width → new.stacks.items ≡ set old.stacks.items place loops → loops ≡ found → found ≡ get_or old.stacks.items place found
     → HoldsAsBefore old new
 same-holds old new n place loops found on is low width items unchanged read =
-    let holds : Holds old new (with_stack (loops_at old) n (loops_at old n)) =
+    let holds : BedsHold old new (with_stack (loops_at old) n (loops_at old n)) =
     set-holds old new n place loops (loops_at old n) on is low width items (unchanged ∙ read-stack old n place found on is read) in
     record { same = holds.same; stacks_are = λ q. holds.stacks_are q ∙ same-anyway (loops_at old) n q (same_needle n q) refl }
 
@@ -137,7 +137,7 @@ cond_twice false x y z = refl
 
 -- a needle's loops were taken, and put back
 pub returned-holds : (old mid later new : Beds) (n : Needle) (moved : List ℕ)
-    → Holds old mid (with_stack (loops_at old) n []) → moved ≡ loops_at old n → HoldsAsBefore mid later → Holds later new (with_stack (loops_at later) n moved)
+    → BedsHold old mid (with_stack (loops_at old) n []) → moved ≡ loops_at old n → HoldsAsBefore mid later → BedsHold later new (with_stack (loops_at later) n moved)
     → HoldsAsBefore old new
 returned-holds old mid later new n moved taken is unchanged back = record {
   same = record {
@@ -153,8 +153,8 @@ returned-holds old mid later new n moved taken is unchanged back = record {
 
 -- all loops went over, and others were put in their place
 pub left-holds : (old mid new : Beds) (n n2 : Needle) (left wanted : List ℕ)
-    → Holds old mid (transferred n n2 [] (loops_at old)) → Holds mid new (with_stack (loops_at mid) n left) → left ≡ wanted
-    → Holds old new (transferred n n2 wanted (loops_at old))
+    → BedsHold old mid (stacks_transferred n n2 [] (loops_at old)) → BedsHold mid new (with_stack (loops_at mid) n left) → left ≡ wanted
+    → BedsHold old new (stacks_transferred n n2 wanted (loops_at old))
 left-holds old mid new n n2 left wanted moved put is = record {
   same = record { low = put.same.low ∙ moved.same.low; width = put.same.width ∙ moved.same.width };
   stacks_are = λ q. put.stacks_are q

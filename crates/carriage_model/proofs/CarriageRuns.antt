@@ -11,7 +11,7 @@ use Rattle.knit_base.specs.declared.instr.Read.{Read}
 use Rattle.knit_base.specs.declared.rule.Reason.{Reason}
 use Rattle.carriage_model.specs.declared.carriage.Carriage.{Carriage}
 use Rattle.carriage_model.specs.declared.verdict.LoopFact.{LoopFact}
-use Rattle.carriage_model.specs.Carriage.{HasRun, StandsAfter, TellsRun, WentOver, StandsStill, loops_with, next_line}
+use Rattle.carriage_model.specs.Carriage.{HasRun, StandsAfter, TellsRun, WentOver, StandsStill, loops_with, next_carriage_line}
 use Rattle.carriage_model.specs.Verdict.{IsFinal, IsVerdict}
 use Rattle.carriage_model.specs.declared.verdict.Final.{Final}
 use Rattle.carriage_model.specs.declared.verdict.Verdict.TheVariants.{Sound}
@@ -132,19 +132,19 @@ run-still profile with_loops first reads old new here still = record {
 }
 
 next-is : (profile : Profile) (with_loops : Bool) (first : ℕ) (reads : List Read) (carriage : Carriage) → HasRun profile with_loops first reads carriage
-    → next_line carriage ≡ first + length reads
+    → next_carriage_line carriage ≡ first + length reads
 next-is profile with_loops first reads carriage here = omega (arith, here.first_line, here.lines)
 
 -- a line that breaks no rule was carried out
 pub run-sound : (profile : Profile) (with_loops : Bool) (first : ℕ) (reads : List Read) (r : Read) (old new : Carriage) → HasRun profile with_loops first reads old → old.fault ≡ None
     → ((s : State) → Represents old.machine s → None ≡ broken old.profile r s)
-    → WentOver (next_line old) r old new
+    → WentOver (next_carriage_line old) r old new
     → HasRun profile with_loops first (reads ++ r ∷ []) new
 run-sound profile with_loops first reads r old new here none sound over =
     let at : InState profile first reads old = standing profile with_loops first reads old here none in
     let s : State = at.state in
     let k : ℕ = first + length reads in
-    let next : next_line old ≡ k = next-is profile with_loops first reads old here in
+    let next : next_carriage_line old ≡ k = next-is profile with_loops first reads old here in
     let fits : broken profile r s ≡ None = ap (λ p. broken p r s) (sym here.same_profile) ∙ sym (sound s at.represented) in
     let loops : loops_made profile empty_state first (reads ++ r ∷ []) ≡ loops_made profile empty_state first reads ++ option_to_list (fact_made k r s) =
     sound-loops profile first reads r s at.ends fits in
@@ -156,16 +156,16 @@ run-sound profile with_loops first reads r old new here none sound over =
       needles = needles-kept profile old.machine new.machine here.needles over.kind;
       first_line = over.first_line ∙ here.first_line;
       lines = omega (arith, over.lines, here.lines, length-append reads (r ∷ []));
-      stands = subst (StandsAfter new) (sym ends) (over.fault ∙ none, subst (λ j. Represents new.machine (step profile j r s)) next (subst (λ p. Represents new.machine (step p (next_line old) r s)) here.same_profile (over.machine s (here.needles.floats ∙ ap (λ (p : Profile). is_some p.float) (sym here.same_profile)) at.represented)));
+      stands = subst (StandsAfter new) (sym ends) (over.fault ∙ none, subst (λ j. Represents new.machine (step profile j r s)) next (subst (λ p. Represents new.machine (step p (next_carriage_line old) r s)) here.same_profile (over.machine s (here.needles.floats ∙ ap (λ (p : Profile). is_some p.float) (sym here.same_profile)) at.represented)));
       made =
           over.made s
-          ∙ ap (λ made. made + length (option_to_list (fact_made (next_line old) r s))) here.made
+          ∙ ap (λ made. made + length (option_to_list (fact_made (next_carriage_line old) r s))) here.made
           ∙ ap (λ j. length (loops_made profile empty_state first reads) + length (option_to_list (fact_made j r s))) next
           ∙ sym (length-append (loops_made profile empty_state first reads) (option_to_list (fact_made k r s)))
           ∙ sym (ap length loops);
       loops =
           over.loops s at.represented
-          ∙ ap (λ loops. loops_with loops (fact_made (next_line old) r s)) here.loops
+          ∙ ap (λ loops. loops_with loops (fact_made (next_carriage_line old) r s)) here.loops
           ∙ ap (λ j. loops_with (loops_asked with_loops (loops_made profile empty_state first reads)) (fact_made j r s)) next
           ∙ loops_with-asked with_loops (loops_made profile empty_state first reads) (fact_made k r s)
           ∙ sym (ap (loops_asked with_loops) loops);
@@ -174,7 +174,7 @@ run-sound profile with_loops first reads r old new here none sound over =
 
 -- a line that breaks a rule stops the carriage
 pub run-broken : (profile : Profile) (with_loops : Bool) (first : ℕ) (reads : List Read) (r : Read) (old new : Carriage) (reason : Reason) → HasRun profile with_loops first reads old
-    → new ≡ record old { lines = old.lines + 1; fault = Some (record { line = next_line old; reason = reason }) } → old.fault ≡ None
+    → new ≡ record old { lines = old.lines + 1; fault = Some (record { line = next_carriage_line old; reason = reason }) } → old.fault ≡ None
     → ((s : State) → Represents old.machine s → Some reason ≡ broken old.profile r s)
     → HasRun profile with_loops first (reads ++ r ∷ []) new
 run-broken profile with_loops first reads r old new reason here is none broke =
@@ -307,7 +307,7 @@ plain-loops profile with_loops first reads carriage here plain =
     here.loops ∙ ap (λ (b : Bool). loops_asked b (loops_made profile empty_state first reads)) (plain_parts with_loops profile.float (sym here.plain ∙ plain)).0
 
 -- where floats have no limit nothing is asked of them
-pub unasked : (profile : Profile) (u : Usual) (s : State) → profile.float ≡ None → floats_asked profile u s ≡ None
-unasked profile (usual.Knit dir n c) s none = ap (λ (limit : Option ℕ). floats_far limit s n.at 3 (c ∷ [])) none
-unasked profile (usual.Tuck dir n c) s none = ap (λ (limit : Option ℕ). floats_far limit s n.at 3 (c ∷ [])) none
-unasked profile (usual.Xfer n n2) s none = refl
+pub no_limit_asks_no_floats : (profile : Profile) (u : Usual) (s : State) → profile.float ≡ None → floats_asked profile u s ≡ None
+no_limit_asks_no_floats profile (usual.Knit dir n c) s none = ap (λ (limit : Option ℕ). floats_far limit s n.at 3 (c ∷ [])) none
+no_limit_asks_no_floats profile (usual.Tuck dir n c) s none = ap (λ (limit : Option ℕ). floats_far limit s n.at 3 (c ∷ [])) none
+no_limit_asks_no_floats profile (usual.Xfer n n2) s none = refl

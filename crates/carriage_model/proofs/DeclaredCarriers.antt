@@ -7,7 +7,7 @@ use Rattle.std.proofs.lemmas.Nat.{or_lt, xor_lt, and_le_l, pow_pos}
 use Rattle.std.proofs.lemmas.Nat.Bits.{bit_at_above}
 use Rattle.std.proofs.lemmas.List.Elements.{All-nil, All-cons, All-head, All-tail, All-append}
 use Rattle.knit_base.proofs.Masks.{mask_of-below}
-use Rattle.knit_base.specs.Lawful.{IsLawful, IsLawfulRead}
+use Rattle.knit_base.specs.Lawful.{IsLawfulInstr, IsLawfulRead}
 use Rattle.knit_base.specs.Yarns.{mask_of, with_carriers, without_carriers}
 use Rattle.knit_base.specs.declared.instr.Instr.TheVariants.{CarryIn, CarryOut, HookIn, HookOut, ReleaseHook, Rack, Knit, Tuck, Split, Xfer, Drop}
 use Rattle.knit_base.specs.declared.instr.Instr.{Instr}
@@ -25,7 +25,7 @@ use Rattle.carriage_model.specs.State.{State, empty_state}
 use Rattle.carriage_model.specs.Rules.{broken}
 use Rattle.carriage_model.specs.Steps.{step, step_instr}
 use Rattle.carriage_model.specs.Run.{run, run_on, Ended, Ends, Stops}
-use Rattle.carriage_model.specs.Loops.{loops_made, made_on, fact_made, loop_of_instr, formed, fact_of}
+use Rattle.carriage_model.specs.Loops.{loops_made, made_on, fact_made, loop_of_instr, loop_formed, fact_of}
 use Rattle.carriage_model.specs.Verdict.{IsVerdict, HasDeclared, NamesDeclared, AreOfDeclared, IsOfDeclared}
 
 with-below : (d set : ℕ) (cs : List CarrierNo) → set < 2 ^ d → All (λ c. c.0 < d) cs → with_carriers set cs < 2 ^ d
@@ -39,7 +39,7 @@ record Below (d : ℕ) (s : State) : Type 0 where
   ins : s.ins < 2 ^ d
   hook : s.hook < 2 ^ d
 
-step_instr-below : (profile : Profile) (d k : ℕ) (i : Instr) (s : State) → IsLawful profile d i → Below d s → Below d (step_instr k i s)
+step_instr-below : (profile : Profile) (d k : ℕ) (i : Instr) (s : State) → IsLawfulInstr profile d i → Below d s → Below d (step_instr k i s)
 step_instr-below profile d k (CarryIn cs) s lawful below = record { ins = with-below d s.ins cs below.ins lawful.carriers.each; hook = below.hook }
 step_instr-below profile d k (CarryOut cs) s lawful below = record { ins = without-below d s.ins cs below.ins; hook = below.hook }
 step_instr-below profile d k (HookIn cs) s lawful below = record { ins = with-below d s.ins cs below.ins lawful.carriers.each; hook = mask_of-below d cs lawful.carriers.each }
@@ -91,12 +91,12 @@ names-declared profile d first lines rs v lawful is =
     verdict-declared d lines v (run profile empty_state first rs) (loops_made profile empty_state first rs) is
     (run-below profile d empty_state first rs lawful (record { ins = pow_pos d; hook = pow_pos d }))
 
-formed-declared : (d k : ℕ) (dir : Dir) (n : Needle) (cs : List CarrierNo) (through : List ℕ) → All (λ c. c.0 < d) cs → AreOfDeclared d (option_to_list (formed k dir n cs through))
+formed-declared : (d k : ℕ) (dir : Dir) (n : Needle) (cs : List CarrierNo) (through : List ℕ) → All (λ c. c.0 < d) cs → AreOfDeclared d (option_to_list (loop_formed k dir n cs through))
 formed-declared d k dir n [] through all = All-nil (IsOfDeclared d)
 formed-declared d k dir n (c ∷ cs) through all =
     All-cons (IsOfDeclared d) (record { line = k; needle = n; dir = dir; yarns = c ∷ cs; through = through }) [] all (All-nil (IsOfDeclared d))
 
-loop_of_instr-declared : (profile : Profile) (d k : ℕ) (i : Instr) (s : State) → IsLawful profile d i → AreOfDeclared d (option_to_list (loop_of_instr k i s))
+loop_of_instr-declared : (profile : Profile) (d k : ℕ) (i : Instr) (s : State) → IsLawfulInstr profile d i → AreOfDeclared d (option_to_list (loop_of_instr k i s))
 loop_of_instr-declared profile d k (Knit dir n cs) s lawful = formed-declared d k dir n cs (s.stacks n) lawful.carriers.each
 loop_of_instr-declared profile d k (Tuck dir n cs) s lawful = formed-declared d k dir n cs [] lawful.carriers.each
 loop_of_instr-declared profile d k (Split dir n n2 cs) s lawful = formed-declared d k dir n cs (s.stacks n) lawful.carriers.each

@@ -3,7 +3,7 @@ use Rattle.std.proofs.Common.{◌≡◌, ℕ, ◌+◌, ◌<◌, ◌≤◌, Bool,
 use Rattle.std.proofs.lemmas.List.Elements.{All-get_or, All-same}
 use Rattle.std.proofs.lemmas.Bool.{true≢false, ltb-false}
 use Rattle.std.proofs.lemmas.Int.{ints}
-use Rattle.knit_base.specs.Lawful.{IsLawful, IsLawfulRead, IsOnBed, AreOnBed}
+use Rattle.knit_base.specs.Lawful.{IsLawfulInstr, IsLawfulRead, IsOnBed, AreOnBed}
 use Rattle.knit_base.specs.Instr.{needles_of, formed_on, forming_needle}
 use Rattle.knit_base.specs.Limits.{IsLawfulProfile}
 use Rattle.knit_base.specs.Usual.{usual_read}
@@ -24,7 +24,7 @@ use Rattle.carriage_model.specs.declared.machine.Machine.{Machine}
 use Rattle.carriage_model.specs.State.{State}
 use Rattle.carriage_model.specs.Rules.{broken, broken_instr, carrier_broken, rack_broken, slider_broken, size_broken, float_broken, too_many}
 use Rattle.carriage_model.specs.Beds.{IsOn, AreOn}
-use Rattle.carriage_model.specs.Machine.{Represents, HasNeedlesOf, IsSameKind, HasNeedlesInLine, HasPlacesInLine, HasRoom, HasRoomInLine, HasCarrierInSet}
+use Rattle.carriage_model.specs.Machine.{Represents, HasNeedlesOf, IsSameKind, HasNeedlesInLine, HasPlacesInLine, HasLoopRoom, HasRoomInLine, HasCarrierInSet}
 
 -- the places of a lawful line's carriers fit in 16 bits
 pub line_has-places : (profile : Profile) (d : ℕ) (r : Read) → IsLawfulRead profile d r → HasPlacesInLine r
@@ -98,26 +98,26 @@ test-none true rule at e = absurd (true≢false (ap is_some e))
 test-none false rule at e = refl
 
 -- loops that are not too many are at most 64
-pub few : (profile : Profile) (loops at : ℕ) → IsLawfulProfile profile → too_many profile loops at ≡ None → loops ≤ 64
-few profile loops at limits sound = omega (arith, limits.hold, ltb-false profile.hold loops (test-none (nat_lt profile.hold loops) _ at sound))
+pub loops_at_most_64 : (profile : Profile) (loops at : ℕ) → IsLawfulProfile profile → too_many profile loops at ≡ None → loops ≤ 64
+loops_at_most_64 profile loops at limits sound = omega (arith, limits.hold, ltb-false profile.hold loops (test-none (nat_lt profile.hold loops) _ at sound))
 
 -- an instruction that breaks no rule puts too many loops on no needle
 pub size_unbroken : (profile : Profile) (i : Instr) (s : State) → broken_instr profile i s ≡ None → size_broken profile i s ≡ None
 size_unbroken profile i s sound =
     first-none (size_broken profile i s) (float_broken profile i s) (second-none (slider_broken i s) _ (second-none (rack_broken i s) _ (second-none (carrier_broken i s) _ sound)))
 
-instr_has-room : (profile : Profile) (d : ℕ) (i : Instr) (machine : Machine) (s : State) → IsLawfulProfile profile → IsLawful profile d i → Represents machine s → broken_instr profile i s ≡ None
-    → HasRoom machine i
+instr_has-room : (profile : Profile) (d : ℕ) (i : Instr) (machine : Machine) (s : State) → IsLawfulProfile profile → IsLawfulInstr profile d i → Represents machine s → broken_instr profile i s ≡ None
+    → HasLoopRoom machine i
 instr_has-room profile d (Tuck dir n []) machine s limits lawful here sound = tt
 instr_has-room profile d (Tuck dir n (c ∷ cs)) machine s limits lawful here sound =
-    omega (arith, ap length (here.stacks n), few profile (length (s.stacks n) + 1) 2 limits (size_unbroken profile (Tuck dir n (c ∷ cs)) s sound))
+    omega (arith, ap length (here.stacks n), loops_at_most_64 profile (length (s.stacks n) + 1) 2 limits (size_unbroken profile (Tuck dir n (c ∷ cs)) s sound))
 instr_has-room profile d (Split dir n n2 cs) machine s limits lawful here sound = record {
   sides = lawful.moved.sides;
-  room = omega (arith, ap length (here.stacks n), ap length (here.stacks n2), few profile (length (s.stacks n2) + length (s.stacks n)) 3 limits (size_unbroken profile (Split dir n n2 cs) s sound));
+  room = omega (arith, ap length (here.stacks n), ap length (here.stacks n2), loops_at_most_64 profile (length (s.stacks n2) + length (s.stacks n)) 3 limits (size_unbroken profile (Split dir n n2 cs) s sound));
 }
 instr_has-room profile d (Xfer n n2) machine s limits lawful here sound = record {
   sides = lawful.moved.sides;
-  room = omega (arith, ap length (here.stacks n), ap length (here.stacks n2), few profile (length (s.stacks n2) + length (s.stacks n)) 2 limits (size_unbroken profile (Xfer n n2) s sound));
+  room = omega (arith, ap length (here.stacks n), ap length (here.stacks n2), loops_at_most_64 profile (length (s.stacks n2) + length (s.stacks n)) 2 limits (size_unbroken profile (Xfer n n2) s sound));
 }
 instr_has-room profile d i machine s limits lawful here sound = tt
 

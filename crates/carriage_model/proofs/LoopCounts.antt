@@ -18,13 +18,13 @@ use Rattle.carriage_model.specs.declared.verdict.LoopFact.{LoopFact}
 use Rattle.carriage_model.specs.declared.verdict.Stack.{Stack}
 use Rattle.carriage_model.specs.declared.verdict.Verdict.{Verdict}
 use Rattle.carriage_model.specs.declared.verdict.Verdict.TheVariants as verdict
-use Rattle.carriage_model.specs.State.{State, empty_state, with_stack, transferred}
+use Rattle.carriage_model.specs.State.{State, empty_state, with_stack, stacks_transferred}
 use Rattle.carriage_model.specs.Rules.{broken, broken_instr}
 use Rattle.carriage_model.specs.Steps.{step, step_instr}
 use Rattle.carriage_model.specs.Run.{run, run_on, Ended, Ends, Stops}
 use Rattle.carriage_model.specs.Loops.{loops_made}
 use Rattle.carriage_model.specs.Verdict.{IsVerdict, loops_on, held_on, HoldsFew}
-use Rattle.carriage_model.proofs.LawfulLines.{few, size_unbroken}
+use Rattle.carriage_model.proofs.LawfulLines.{loops_at_most_64, size_unbroken}
 use Rattle.knit_base.proofs.Needles.{same_needle-refl}
 
 -- no needle holds more than 64 loops
@@ -38,7 +38,7 @@ chosen-few false x y here there = there
 with_stack-few : (stacks : Needle → List ℕ) (n : Needle) (loops : List ℕ) → length loops ≤ 64 → HoldFew stacks → HoldFew (with_stack stacks n loops)
 with_stack-few stacks n loops here all m = chosen-few (same_needle n m) loops (stacks m) here (all m)
 
-transferred-few : (stacks : Needle → List ℕ) (n n2 : Needle) (left : List ℕ) → length left ≤ 64 → length (stacks n2) + length (stacks n) ≤ 64 → HoldFew stacks → HoldFew (transferred n n2 left stacks)
+transferred-few : (stacks : Needle → List ℕ) (n n2 : Needle) (left : List ℕ) → length left ≤ 64 → length (stacks n2) + length (stacks n) ≤ 64 → HoldFew stacks → HoldFew (stacks_transferred n n2 left stacks)
 transferred-few stacks n n2 left one together all =
     let joined : length (stacks n2 ++ stacks n) ≤ 64 = omega (arith, length-append (stacks n2) (stacks n)) in
     with_stack-few (with_stack stacks n2 (stacks n2 ++ stacks n)) n left one (with_stack-few stacks n2 (stacks n2 ++ stacks n) joined all)
@@ -48,16 +48,16 @@ step_instr-few profile k (Knit dir n []) s limits sound all = with_stack-few s.s
 step_instr-few profile k (Knit dir n (c ∷ cs)) s limits sound all = with_stack-few s.stacks n (k ∷ []) (omega arith) all
 step_instr-few profile k (Tuck dir n []) s limits sound all = all
 step_instr-few profile k (Tuck dir n (c ∷ cs)) s limits sound all =
-    let room : length (s.stacks n) + 1 ≤ 64 = few profile (length (s.stacks n) + 1) 2 limits (size_unbroken profile (Tuck dir n (c ∷ cs)) s sound) in
+    let room : length (s.stacks n) + 1 ≤ 64 = loops_at_most_64 profile (length (s.stacks n) + 1) 2 limits (size_unbroken profile (Tuck dir n (c ∷ cs)) s sound) in
     let joined : length (s.stacks n ++ k ∷ []) ≤ 64 = omega (arith, length-append (s.stacks n) (k ∷ [])) in
     with_stack-few s.stacks n (s.stacks n ++ k ∷ []) joined all
 step_instr-few profile k (Split dir n n2 []) s limits sound all =
-    transferred-few s.stacks n n2 [] (omega arith) (few profile (length (s.stacks n2) + length (s.stacks n)) 3 limits (size_unbroken profile (Split dir n n2 []) s sound)) all
+    transferred-few s.stacks n n2 [] (omega arith) (loops_at_most_64 profile (length (s.stacks n2) + length (s.stacks n)) 3 limits (size_unbroken profile (Split dir n n2 []) s sound)) all
 step_instr-few profile k (Split dir n n2 (c ∷ cs)) s limits sound all =
     transferred-few s.stacks n n2 (k ∷ []) (omega arith)
-    (few profile (length (s.stacks n2) + length (s.stacks n)) 3 limits (size_unbroken profile (Split dir n n2 (c ∷ cs)) s sound)) all
+    (loops_at_most_64 profile (length (s.stacks n2) + length (s.stacks n)) 3 limits (size_unbroken profile (Split dir n n2 (c ∷ cs)) s sound)) all
 step_instr-few profile k (Xfer n n2) s limits sound all =
-    transferred-few s.stacks n n2 [] (omega arith) (few profile (length (s.stacks n2) + length (s.stacks n)) 2 limits (size_unbroken profile (Xfer n n2) s sound)) all
+    transferred-few s.stacks n n2 [] (omega arith) (loops_at_most_64 profile (length (s.stacks n2) + length (s.stacks n)) 2 limits (size_unbroken profile (Xfer n n2) s sound)) all
 step_instr-few profile k (Drop n) s limits sound all = with_stack-few s.stacks n [] (omega arith) all
 step_instr-few profile k i s limits sound all = all
 

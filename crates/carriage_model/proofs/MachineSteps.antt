@@ -10,9 +10,9 @@ use Rattle.knit_base.specs.declared.profile.Profile.{Profile}
 use Rattle.knit_base.specs.declared.needle.Needle.{Needle}
 use Rattle.knit_base.specs.declared.yarns.CarrierNo.{CarrierNo}
 use Rattle.carriage_model.specs.declared.machine.Machine.{Machine}
-use Rattle.carriage_model.specs.State.{State, same_carrier, transferred, with_lasts}
+use Rattle.carriage_model.specs.State.{State, same_carrier, stacks_transferred, with_lasts}
 use Rattle.carriage_model.specs.Steps.{given_lasts, kept_lasts, step, step_split, step_instr}
-use Rattle.carriage_model.specs.Beds.{Holds}
+use Rattle.carriage_model.specs.Beds.{BedsHold}
 use Rattle.carriage_model.specs.Machine.{Represents, HasNoted, IsSameKind, last_in, stack_of}
 
 -- the state for which the machine stands
@@ -34,23 +34,23 @@ same_stacks : (machine : Machine) (s : State) → Represents machine s → stack
 same_stacks machine s here i n = here.stacks n i
 
 transfer-represented : (old new : Machine) (n n2 : Needle) (left : List ℕ) (s : State) → Represents old s → IsSameButBeds old new
-    → Holds old.beds new.beds (transferred n n2 left (stack_of old))
-    → Represents new (record s { stacks = transferred n n2 left s.stacks })
+    → BedsHold old.beds new.beds (stacks_transferred n n2 left (stack_of old))
+    → Represents new (record s { stacks = stacks_transferred n n2 left s.stacks })
 transfer-represented old new n n2 left s before same holds = record {
   rack = ap (λ q. q.0) same.rack ∙ before.rack;
   ins = same.ins ∙ before.ins;
   hook = same.hook ∙ before.hook;
   lasts = λ keeps c fits. ap (λ ls. slice_index_or ls c.0 None) same.lasts ∙ before.lasts (sym same.floats ∙ keeps) c fits;
-  stacks = λ q. holds.stacks_are q ∙ ap (λ stacks. transferred n n2 left stacks q) (same_stacks old s before);
+  stacks = λ q. holds.stacks_are q ∙ ap (λ stacks. stacks_transferred n n2 left stacks q) (same_stacks old s before);
 }
 
 -- a transfer on the beds is one of the state
-pub transfer-step : (old new : Machine) (k : ℕ) (n n2 : Needle) (instr : Instr) → instr ≡ Xfer n n2 → IsSameButBeds old new → Holds old.beds new.beds (transferred n n2 [] (stack_of old))
+pub transfer-step : (old new : Machine) (k : ℕ) (n n2 : Needle) (instr : Instr) → instr ≡ Xfer n n2 → IsSameButBeds old new → BedsHold old.beds new.beds (stacks_transferred n n2 [] (stack_of old))
     → (s : State) → Represents old s → Represents new (step_instr k instr s)
 transfer-step old new k n n2 instr is same holds s before = subst (λ i. Represents new (step_instr k i s)) (sym is) (transfer-represented old new n n2 [] s before same holds)
 
 -- a split with carriers leaves the new loop
-pub split-step : (old new : Machine) (k : ℕ) (n n2 : Needle) (cs : List CarrierNo) → 0 < length cs → IsSameButBeds old new → Holds old.beds new.beds (transferred n n2 (k ∷ []) (stack_of old))
+pub split-step : (old new : Machine) (k : ℕ) (n n2 : Needle) (cs : List CarrierNo) → 0 < length cs → IsSameButBeds old new → BedsHold old.beds new.beds (stacks_transferred n n2 (k ∷ []) (stack_of old))
     → (s : State) → Represents old s → Represents new (step_split k n n2 cs s)
 split-step old new k n n2 [] some same holds s before = absurd (omega arith)
 split-step old new k n n2 (c ∷ cs) some same holds s before = transfer-represented old new n n2 (k ∷ []) s before same holds

@@ -16,7 +16,7 @@ use Rattle.carriage_model.specs.Rules.{broken, broken_instr}
 use Rattle.carriage_model.specs.Run.{Ended, Ends, run, run_on}
 use Rattle.carriage_model.specs.State.{State, empty_state}
 use Rattle.carriage_model.specs.Steps.{given_lasts, step, step_instr}
-use Rattle.carriage_model.specs.Unseen.{AreToldAlike, keeping_loops, keeping_run, keeping_step, noted}
+use Rattle.carriage_model.specs.Unseen.{AreToldAlike, keeping_loops, keeping_run, keeping_step, lasts_noted}
 use Rattle.carriage_model.specs.Verdict.{IsVerdict}
 
 -- the state with other last needles
@@ -93,7 +93,7 @@ same_effect k (Drop n) s lasts given = refl
 same_effect k (Amiss n) s lasts given = refl
 
 -- the line changes all but the last needles alike
-same_step : (profile : Profile) (k : ℕ) (r : Read) (s : State) (lasts : CarrierNo → Option ℤ) → keeping_step profile k r (with s lasts) ≡ with (step profile k r s) (noted r lasts)
+same_step : (profile : Profile) (k : ℕ) (r : Read) (s : State) (lasts : CarrierNo → Option ℤ) → keeping_step profile k r (with s lasts) ≡ with (step profile k r s) (lasts_noted r lasts)
 same_step profile k read.Blank s lasts = refl
 same_step profile k read.Comment s lasts = refl
 same_step profile k (read.Broken reason) s lasts = refl
@@ -103,7 +103,7 @@ same_loops : (profile : Profile) (s : State) (lasts : CarrierNo → Option ℤ) 
     → loops_made profile s k rs ≡ keeping_loops profile (with s lasts) k rs
 same_loops profile s lasts k [] free = refl
 same_loops profile s lasts k (r ∷ rs) free =
-    ap (made_on (broken profile r s) (fact_made k r s)) (same_loops profile (step profile k r s) (noted r lasts) (k + 1) rs free)
+    ap (made_on (broken profile r s) (fact_made k r s)) (same_loops profile (step profile k r s) (lasts_noted r lasts) (k + 1) rs free)
     ∙ ap (λ t. made_on (broken profile r s) (fact_made k r s) (keeping_loops profile t (k + 1) rs)) (sym (same_step profile k r s lasts))
     ∙ ap (λ fact. made_on (broken profile r s) fact (keeping_loops profile (keeping_step profile k r (with s lasts)) (k + 1) rs)) (sym (same_fact k r s lasts))
     ∙ ap (λ b. made_on b (fact_made k r (with s lasts)) (keeping_loops profile (keeping_step profile k r (with s lasts)) (k + 1) rs)) (sym (same_broken profile r s lasts free))
@@ -132,7 +132,7 @@ same_verdict profile s lasts k [] lines result loops free is = verdict_there lin
 same_verdict profile s lasts k (r ∷ rs) lines result loops free is =
     let later : IsVerdict lines result (run profile (step profile k r s) (k + 1) rs) loops → IsVerdict lines result (keeping_run profile (keeping_step profile k r (with s lasts)) (k + 1) rs) loops =
     (λ it. subst (λ t. IsVerdict lines result (keeping_run profile t (k + 1) rs) loops) (sym (same_step profile k r s lasts))
-    (same_verdict profile (step profile k r s) (noted r lasts) (k + 1) rs lines result loops free it)) in
+    (same_verdict profile (step profile k r s) (lasts_noted r lasts) (k + 1) rs lines result loops free it)) in
     subst (λ b. IsVerdict lines result (run_on k b (with s lasts) (keeping_run profile (keeping_step profile k r (with s lasts)) (k + 1) rs)) loops) (sym (same_broken profile r s lasts free))
     (verdict_on lines result k (broken profile r s) s lasts _ _ loops later is)
 

@@ -23,10 +23,10 @@ pub record SameBeds (old new : Beds) : Type 0 where
   pub width : new.width ≡ old.width
 
 -- the beds have the same needles, and these now hold these loops
-pub record Holds (old new : Beds) (stacks : Needle → List ℕ) : Type 0 where
+pub record BedsHold (old new : Beds) (stacks : Needle → List ℕ) : Type 0 where
   pub same : SameBeds old new
   pub stacks_are : (n : Needle) → loops_at new n ≡ stacks n
 
 -- the beds have the same needles, and these hold what they held
 abbrev pub HoldsAsBefore : Beds → Beds → Type 0
-HoldsAsBefore old new = Holds old new (loops_at old)
+HoldsAsBefore old new = BedsHold old new (loops_at old)

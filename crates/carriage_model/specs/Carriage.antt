@@ -27,8 +27,8 @@ abbrev pub is_stopped : Carriage → Bool
 is_stopped carriage = is_some carriage.fault
 
 -- the number of the line that comes next
-abbrev pub next_line : Carriage → ℕ
-next_line carriage = carriage.first + carriage.lines
+abbrev pub next_carriage_line : Carriage → ℕ
+next_carriage_line carriage = carriage.first + carriage.lines
 
 -- the carriage stands where a run ended: in its last state, or before the line that broke a rule
 abbrev pub StandsAfter : Carriage → Ended → Type 0

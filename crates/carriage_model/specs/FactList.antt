@@ -3,17 +3,17 @@
 use Rattle.std.specs.Prelude.{ℕ, ◌<◌, ◌≤◌, ◌^◌, List, length, All}
 use Rattle.std.specs.List.{slice_range}
 use Rattle.knit_base.specs.declared.yarns.CarrierNo.{CarrierNo}
-use Rattle.carriage_model.specs.declared.fact_list.Stretch.{Stretch}
+use Rattle.carriage_model.specs.declared.fact_list.ListStretch.{ListStretch}
 use Rattle.carriage_model.specs.declared.fact_list.FactHead.{FactHead}
 use Rattle.carriage_model.specs.declared.fact_list.FactRef.{FactRef}
 use Rattle.carriage_model.specs.declared.verdict.LoopFact.{LoopFact}
 
 -- the items of the stretch
-abbrev pub stretch_of : {X : Type 0} → List X → Stretch → List X
+abbrev pub stretch_of : {X : Type 0} → List X → ListStretch → List X
 stretch_of items stretch = slice_range items stretch.start stretch.end
 
 -- the stretch lies in a list of so many items
-pub record LiesIn (count : ℕ) (stretch : Stretch) : Type 0 where
+pub record LiesInList (count : ℕ) (stretch : ListStretch) : Type 0 where
   pub ordered : stretch.start ≤ stretch.end
   pub inside : stretch.end ≤ count
 
@@ -29,11 +29,11 @@ fact_with yarns through head = record {
 
 -- both stretches of the loop lie in their lists
 pub record HasStretches (yarns : List CarrierNo) (through : List ℕ) (head : FactHead) : Type 0 where
-  pub of_yarns : LiesIn (length yarns) head.yarns
-  pub of_through : LiesIn (length through) head.through
+  pub of_yarns : LiesInList (length yarns) head.yarns
+  pub of_through : LiesInList (length through) head.through
 
 -- the lists have what each loop names, and the loops can be counted in 32 bits
-pub record AreKept (heads : List FactHead) (yarns : List CarrierNo) (through : List ℕ) : Type 0 where
+pub record StoresFacts (heads : List FactHead) (yarns : List CarrierNo) (through : List ℕ) : Type 0 where
   pub few : length heads < 2 ^ 32
   pub stretches : All (HasStretches yarns through) heads
 

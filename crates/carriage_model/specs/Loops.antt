@@ -16,16 +16,16 @@ use Rattle.carriage_model.specs.Rules.{broken}
 use Rattle.carriage_model.specs.Steps.{step}
 
 -- a loop of these yarns, drawn through these loops. Without yarns there is no loop
-abbrev pub formed : ℕ → Dir → Needle → List CarrierNo → List ℕ → Option LoopFact
-formed k dir n [] through = None
-formed k dir n (c ∷ cs) through = Some (record { line = k; needle = n; dir = dir; yarns = c ∷ cs; through = through })
+abbrev pub loop_formed : ℕ → Dir → Needle → List CarrierNo → List ℕ → Option LoopFact
+loop_formed k dir n [] through = None
+loop_formed k dir n (c ∷ cs) through = Some (record { line = k; needle = n; dir = dir; yarns = c ∷ cs; through = through })
 
 -- The loop that the instruction of line k makes in this state: `tuck` draws it through nothing, `knit` and `split` through all
 -- loops on the needle. Other instructions make none.
 abbrev pub loop_of_instr : ℕ → Instr → State → Option LoopFact
-loop_of_instr k (Knit dir n cs) s = formed k dir n cs (s.stacks n)
-loop_of_instr k (Tuck dir n cs) s = formed k dir n cs []
-loop_of_instr k (Split dir n n2 cs) s = formed k dir n cs (s.stacks n)
+loop_of_instr k (Knit dir n cs) s = loop_formed k dir n cs (s.stacks n)
+loop_of_instr k (Tuck dir n cs) s = loop_formed k dir n cs []
+loop_of_instr k (Split dir n n2 cs) s = loop_formed k dir n cs (s.stacks n)
 loop_of_instr k instr s = None
 
 -- the loop that line k makes in this state, if it breaks no rule there

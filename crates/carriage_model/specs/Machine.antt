@@ -54,12 +54,12 @@ abbrev pub FitsPlaces : ℕ → List CarrierNo → Type 0
 FitsPlaces at cs = at + length cs < 2 ^ 16
 
 -- the places of the instruction's carriers fit in 16 bits
-abbrev pub HasPlaces : Instr → Type 0
-HasPlaces instr = FitsPlaces (yarns_at instr) (yarns_of instr)
+abbrev pub HasCarrierPlaces : Instr → Type 0
+HasCarrierPlaces instr = FitsPlaces (yarns_at instr) (yarns_of instr)
 
 -- the places of the line's carriers fit in 16 bits
 abbrev pub HasPlacesInLine : Read → Type 0
-HasPlacesInLine (read.Instr instr) = HasPlaces instr
+HasPlacesInLine (read.Instr instr) = HasCarrierPlaces instr
 HasPlacesInLine r = Unit {0}
 
 -- the machine has the needles that the instruction names
@@ -87,13 +87,13 @@ HasRoomForLoop machine None = Unit {0}
 HasRoomForLoop machine (Some n) = length (stack_of machine n) + 1 < 2 ^ 32
 
 -- the loops that the instruction adds to others have room on their needles: a tuck adds a loop, and a move all that it moves
-abbrev pub HasRoom : Machine → Instr → Type 0
-HasRoom machine (Tuck dir n cs) = HasRoomForLoop machine (formed_on n cs)
-HasRoom machine instr = CanMove machine (move_of instr)
+abbrev pub HasLoopRoom : Machine → Instr → Type 0
+HasLoopRoom machine (Tuck dir n cs) = HasRoomForLoop machine (formed_on n cs)
+HasLoopRoom machine instr = CanMove machine (move_of instr)
 
 -- the loops that the line adds to others have room on their needles
 abbrev pub HasRoomInLine : Machine → Read → Type 0
-HasRoomInLine machine (read.Instr instr) = HasRoom machine instr
+HasRoomInLine machine (read.Instr instr) = HasLoopRoom machine instr
 HasRoomInLine machine r = Unit {0}
 
 -- the number of the line's carrier, where it has one, is the place of a bit in a set

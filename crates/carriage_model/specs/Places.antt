@@ -22,8 +22,8 @@ first_of_bed width Back = 2 * width
 first_of_bed width BackSlider = 3 * width
 
 -- the place of a needle: the beds stand one after the other, each from its lowest needle on
-abbrev pub place_in : ℤ → ℕ → Needle → ℕ
-place_in low width n = first_of_bed width n.bed + unsigned_abs (n.at -ℤ low)
+abbrev pub stack_place : ℤ → ℕ → Needle → ℕ
+stack_place low width n = first_of_bed width n.bed + unsigned_abs (n.at -ℤ low)
 
 -- the bed and the needle whose stack stands at a place
 abbrev pub bed_at : ℕ → ℕ → Bed
@@ -35,4 +35,4 @@ needle_at low width place = record { bed = bed_at width place; at = low +ℤ pos
 
 -- the loops of a needle in such a list of stacks
 abbrev pub stack_in : ℤ → ℕ → List (List ℕ) → Needle → List ℕ
-stack_in low width stacks n = if is_spanned low width n.at then slice_index_or stacks (place_in low width n) [] else []
+stack_in low width stacks n = if is_spanned low width n.at then slice_index_or stacks (stack_place low width n) [] else []

@@ -23,8 +23,8 @@ abbrev pub carriers_out : State → ℕ → List CarrierNo → Option Reason
 carriers_out s at cs = first_broken (lacks_carrier s.ins) CarrierIsOut at cs
 
 -- A carrier that is brought in isn't in action yet. From the knitout specification.
-abbrev pub carriers_in : State → ℕ → List CarrierNo → Option Reason
-carriers_in s at cs = first_broken (contains_carrier s.ins) CarrierIsIn at cs
+abbrev pub carriers_already_in : State → ℕ → List CarrierNo → Option Reason
+carriers_already_in s at cs = first_broken (contains_carrier s.ins) CarrierIsIn at cs
 
 -- The yarn hook is free where a carrier comes in or goes out by it. This project's own rule.
 abbrev pub hook_busy : State → Option Reason
@@ -53,9 +53,9 @@ too_many profile loops at = broken_if (nat_lt profile.hold loops) TooManyLoops a
 -- The first rule on carriers and the hook that the instruction breaks. Where `knit`, `tuck`, `miss` and `split` have no
 -- carriers, they ask for none.
 abbrev pub carrier_broken : Instr → State → Option Reason
-carrier_broken (CarryIn cs) s = carriers_in s 1 cs
+carrier_broken (CarryIn cs) s = carriers_already_in s 1 cs
 carrier_broken (CarryOut cs) s = or_else (carriers_out s 1 cs) (carriers_hooked s 1 cs)
-carrier_broken (HookIn cs) s = or_else (carriers_in s 1 cs) (hook_busy s)
+carrier_broken (HookIn cs) s = or_else (carriers_already_in s 1 cs) (hook_busy s)
 carrier_broken (HookOut cs) s = or_else (carriers_out s 1 cs) (hook_busy s)
 carrier_broken (ReleaseHook cs) s = hook_other s cs
 carrier_broken Stitch s = None

@@ -26,8 +26,8 @@ abbrev pub with_stack : (Needle → List ℕ) → Needle → List ℕ → Needle
 with_stack stacks n loops m = if same_needle n m then loops else stacks m
 
 -- all loops of the first needle go over behind those of the second, in their order, and the first is left with these
-abbrev pub transferred : Needle → Needle → List ℕ → (Needle → List ℕ) → Needle → List ℕ
-transferred n n2 left stacks = with_stack (with_stack stacks n2 (stacks n2 ++ stacks n)) n left
+abbrev pub stacks_transferred : Needle → Needle → List ℕ → (Needle → List ℕ) → Needle → List ℕ
+stacks_transferred n n2 left stacks = with_stack (with_stack stacks n2 (stacks n2 ++ stacks n)) n left
 
 abbrev pub same_carrier : CarrierNo → CarrierNo → Bool
 same_carrier c d = nat_eq c.0 d.0

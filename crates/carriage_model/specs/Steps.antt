@@ -9,7 +9,7 @@ use Rattle.knit_base.specs.declared.needle.Needle.{Needle}
 use Rattle.knit_base.specs.declared.profile.Profile.{Profile}
 use Rattle.knit_base.specs.declared.yarns.CarrierNo.{CarrierNo}
 use Rattle.knit_base.specs.Yarns.{mask_of, with_carriers, without_carriers}
-use Rattle.carriage_model.specs.State.{State, with_lasts, with_stack, transferred}
+use Rattle.carriage_model.specs.State.{State, with_lasts, with_stack, stacks_transferred}
 
 -- the new loop alone is on the needle, drawn through the old ones. Without carriers the needle is left empty
 abbrev pub step_knit : ℕ → Needle → List CarrierNo → State → State
@@ -23,8 +23,8 @@ step_tuck k n (c ∷ cs) s = record s { stacks = with_stack s.stacks n (s.stacks
 
 -- the old loops go over to the second needle, and the new loop, drawn through them, stays. Without carriers they only go over
 abbrev pub step_split : ℕ → Needle → Needle → List CarrierNo → State → State
-step_split k n n2 [] s = record s { stacks = transferred n n2 [] s.stacks }
-step_split k n n2 (c ∷ cs) s = record s { stacks = transferred n n2 (k ∷ []) s.stacks }
+step_split k n n2 [] s = record s { stacks = stacks_transferred n n2 [] s.stacks }
+step_split k n n2 (c ∷ cs) s = record s { stacks = stacks_transferred n n2 (k ∷ []) s.stacks }
 
 -- the instruction of line k is carried out, but for the last needles
 abbrev pub step_instr : ℕ → Instr → State → State
@@ -41,7 +41,7 @@ step_instr k (Knit dir n cs) s = step_knit k n cs s
 step_instr k (Tuck dir n cs) s = step_tuck k n cs s
 step_instr k (Miss dir n cs) s = s
 step_instr k (Split dir n n2 cs) s = step_split k n n2 cs s
-step_instr k (Xfer n n2) s = record s { stacks = transferred n n2 [] s.stacks }
+step_instr k (Xfer n n2) s = record s { stacks = stacks_transferred n n2 [] s.stacks }
 step_instr k (Drop n) s = record s { stacks = with_stack s.stacks n [] }
 step_instr k (Amiss n) s = s
 

@@ -14,13 +14,13 @@ use Rattle.carriage_model.specs.Steps.{given_lasts, step}
 use Rattle.carriage_model.specs.Verdict.{IsVerdict}
 
 -- the last needles that the line gives carriers, whether floats have a limit or not
-abbrev pub noted : Read → (CarrierNo → Option ℤ) → CarrierNo → Option ℤ
-noted (read.Instr instr) lasts = given_lasts instr lasts
-noted r lasts = lasts
+abbrev pub lasts_noted : Read → (CarrierNo → Option ℤ) → CarrierNo → Option ℤ
+lasts_noted (read.Instr instr) lasts = given_lasts instr lasts
+lasts_noted r lasts = lasts
 
 -- line k is carried out, and the last needles are always kept
 abbrev pub keeping_step : Profile → ℕ → Read → State → State
-keeping_step profile k r s = record (step profile k r s) { lasts = noted r s.lasts }
+keeping_step profile k r s = record (step profile k r s) { lasts = lasts_noted r s.lasts }
 
 -- the run of the lines, of which the first is line k, with last needles that are always kept
 abbrev pub keeping_run : Profile → State → ℕ → List Read → Ended

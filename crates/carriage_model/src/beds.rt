@@ -1,7 +1,7 @@
 //! The loops on the needles of the beds, found by one index.
 ghost use Rattle.std.specs.Prelude.{◌≡◌, ◌≢◌, ◌+◌, ◌*◌, ◌<◌, ◌≤◌, ◌^◌, ℕ, pos, ◌≤ℤ◌, ◌+ℤ◌, length, [], ◌∷◌, ◌++◌, IfOk, OnOk, OnErr, slice_index_or};
 ghost use Rattle.knit_base.specs.Needle.{is_front};
-ghost use Rattle.carriage_model.specs.Places.{place_in, stack_in, first_of_bed, bed_at, needle_at};
+ghost use Rattle.carriage_model.specs.Places.{stack_place, stack_in, first_of_bed, bed_at, needle_at};
 ghost use Rattle.carriage_model.specs.Verdict.{AreStacks};
 
 use crate::{LoopLines, Stack, Stacks};
@@ -22,8 +22,8 @@ pub(crate) struct Beds {
 }
 
 impl Beds {
-    ghost use Rattle.carriage_model.specs.State.{with_stack, transferred};
-    ghost use Rattle.carriage_model.specs.Beds.{Holds, HoldsAsBefore, IsOn, loops_at};
+    ghost use Rattle.carriage_model.specs.State.{with_stack, stacks_transferred};
+    ghost use Rattle.carriage_model.specs.Beds.{BedsHold, HoldsAsBefore, IsOn, loops_at};
 
     /// The beds with no loop on them, from the lowest needle to the highest.
     pub fn new(alloc: Global, low: i16, high: i16) -> Result<Self, NoMemory>
@@ -74,7 +74,7 @@ impl Beds {
     /// The needle holds no loop.
     pub fn empty(&mut self, n: Needle)
         requires { IsOn self.old n.at }
-        ensures { Holds self.old self.new (with_stack (loops_at self.old) n []) }
+        ensures { BedsHold self.old self.new (with_stack (loops_at self.old) n []) }
     {
         let place = self.place(n);
         self.stacks[place].clear();
@@ -84,7 +84,7 @@ impl Beds {
     #[inline(always)]
     pub fn knit_off(&mut self, line: u32, n: Needle) -> Result<(), NoMemory>
         requires { IsOn self.old n.at }
-        ensures ok { OnOk result (Holds self.old self.new (with_stack (loops_at self.old) n (line ∷ []))) }
+        ensures ok { OnOk result (BedsHold self.old self.new (with_stack (loops_at self.old) n (line ∷ []))) }
         ensures err { OnErr result (HoldsAsBefore self.old self.new) }
     {
         let place = self.place(n);
@@ -95,7 +95,7 @@ impl Beds {
     pub fn join(&mut self, line: u32, n: Needle) -> Result<(), NoMemory>
         requires on { IsOn self.old n.at }
         requires room { length (loops_at self.old n) + 1 < 2 ^ 32 }
-        ensures ok { OnOk result (Holds self.old self.new (with_stack (loops_at self.old) n (loops_at self.old n ++ line ∷ []))) }
+        ensures ok { OnOk result (BedsHold self.old self.new (with_stack (loops_at self.old) n (loops_at self.old n ++ line ∷ []))) }
         ensures err { OnErr result (HoldsAsBefore self.old self.new) }
     {
         let place = self.place(n);
@@ -108,7 +108,7 @@ impl Beds {
         requires to { IsOn self.old n2.at }
         requires sides { is_front n.bed ≢ is_front n2.bed }
         requires room { length (loops_at self.old n2) + length (loops_at self.old n) < 2 ^ 32 }
-        ensures ok { OnOk result (Holds self.old self.new (transferred n n2 [] (loops_at self.old))) }
+        ensures ok { OnOk result (BedsHold self.old self.new (stacks_transferred n n2 [] (loops_at self.old))) }
         ensures err { OnErr result (HoldsAsBefore self.old self.new) }
     {
         if self.loops_on(n2) == 0 {
@@ -134,7 +134,7 @@ impl Beds {
         requires to { IsOn self.old n2.at }
         requires sides { is_front n.bed ≢ is_front n2.bed }
         requires room { length (loops_at self.old n2) + length (loops_at self.old n) < 2 ^ 32 }
-        ensures ok { OnOk result (Holds self.old self.new (transferred n n2 (line ∷ []) (loops_at self.old))) }
+        ensures ok { OnOk result (BedsHold self.old self.new (stacks_transferred n n2 (line ∷ []) (loops_at self.old))) }
         ensures err { OnErr result (HoldsAsBefore self.old self.new) }
     {
         let mut formed = LoopLines::new(self.alloc);
@@ -148,7 +148,7 @@ impl Beds {
     fn take(&mut self, n: Needle) -> LoopLines
         requires { IsOn self.old n.at }
         ensures loops { result ≡ loops_at self.old n }
-        ensures left { Holds self.old self.new (with_stack (loops_at self.old) n []) }
+        ensures left { BedsHold self.old self.new (with_stack (loops_at self.old) n []) }
     {
         let place = self.place(n);
         mem::replace(&mut self.stacks[place], LoopLines::new(self.alloc))
@@ -158,7 +158,7 @@ impl Beds {
     fn exchange(&mut self, n: Needle, n2: Needle)
         requires from { IsOn self.old n.at }
         requires to { IsOn self.old n2.at }
-        ensures { Holds self.old self.new (with_stack (with_stack (loops_at self.old) n (loops_at self.old n2)) n2 (loops_at self.old n)) }
+        ensures { BedsHold self.old self.new (with_stack (with_stack (loops_at self.old) n (loops_at self.old n2)) n2 (loops_at self.old n)) }
     {
         let from = self.place(n);
         let to = self.place(n2);
@@ -169,7 +169,7 @@ impl Beds {
     fn receive(&mut self, n: Needle, loops: &[u32]) -> Result<(), NoMemory>
         requires on { IsOn self.old n.at }
         requires room { length (loops_at self.old n) + length loops.now < 2 ^ 32 }
-        ensures ok { OnOk result (Holds self.old self.new (with_stack (loops_at self.old) n (loops_at self.old n ++ loops.now))) }
+        ensures ok { OnOk result (BedsHold self.old self.new (with_stack (loops_at self.old) n (loops_at self.old n ++ loops.now))) }
         ensures err { OnErr result (HoldsAsBefore self.old self.new) }
     {
         let place = self.place(n);
@@ -179,7 +179,7 @@ impl Beds {
     // The needle holds no loop, in the room of a stack that is done with.
     fn give_room(&mut self, n: Needle, done: LoopLines)
         requires { IsOn self.old n.at }
-        ensures { Holds self.old self.new (with_stack (loops_at self.old) n []) }
+        ensures { BedsHold self.old self.new (with_stack (loops_at self.old) n []) }
     {
         let mut room = done;
         room.clear();
@@ -189,7 +189,7 @@ impl Beds {
     // The needle holds these loops.
     fn put(&mut self, n: Needle, loops: LoopLines)
         requires { IsOn self.old n.at }
-        ensures { Holds self.old self.new (with_stack (loops_at self.old) n loops) }
+        ensures { BedsHold self.old self.new (with_stack (loops_at self.old) n loops) }
     {
         let place = self.place(n);
         self.stacks[place] = loops;
@@ -207,7 +207,7 @@ impl Beds {
     #[inline(always)]
     fn place(&self, n: Needle) -> usize
         requires { IsOn self.now n.at }
-        ensures is { result ≡ place_in self.now.low self.now.width n }
+        ensures is { result ≡ stack_place self.now.low self.now.width n }
         ensures within { result < length self.now.stacks.items }
     {
         let above = (i32::from(n.at) - i32::from(self.low)) as usize;

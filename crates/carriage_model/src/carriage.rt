@@ -4,7 +4,7 @@ ghost use Rattle.knit_base.specs.declared.instr.Read.{Read};
 ghost use Rattle.knit_base.specs.Lawful.{IsLawfulRead};
 ghost use Rattle.knit_base.specs.Limits.{IsLawfulProfile};
 ghost use Rattle.knit_base.specs.Usual.{usual_read};
-ghost use Rattle.carriage_model.specs.Carriage.{HasRun, IsRunning, RanOn, RunsAsBefore, TellsRun, WentOver, StandsStill, profile_of, line_count, next_line, is_stopped};
+ghost use Rattle.carriage_model.specs.Carriage.{HasRun, IsRunning, RanOn, RunsAsBefore, TellsRun, WentOver, StandsStill, profile_of, line_count, next_carriage_line, is_stopped};
 ghost use Rattle.carriage_model.specs.Machine.{HasCarrierInSet, HasNeedlesInLine, HasRoomInLine};
 
 use crate::facts::{loops_of, loops_of_usual};
@@ -61,7 +61,7 @@ impl Carriage {
     pub fn execute(&mut self, read: &Read) -> Result<(), NoMemory>
         requires running { IsRunning self.old }
         requires lawful { (carriers : ℕ) × IsLawfulRead (profile_of self.old) carriers read.now }
-        requires lines { next_line self.old + 1 < 2 ^ 32 }
+        requires lines { next_carriage_line self.old + 1 < 2 ^ 32 }
         ensures ok { OnOk result ((profile : Profile) (with_loops : Bool) (first : ℕ) (reads : List Read)
             → HasRun profile with_loops first reads self.old → HasRun profile with_loops first (reads ++ read.now ∷ []) self.new) }
         ensures err { OnErr result ((profile : Profile) (with_loops : Bool) (first : ℕ) (reads : List Read)
@@ -88,7 +88,7 @@ impl Carriage {
     pub fn carry_usual(&mut self, usual: Usual) -> Result<bool, NoMemory>
         requires running { IsRunning self.old }
         requires lawful { (carriers : ℕ) × (carriers ≤ 64) × IsLawfulRead (profile_of self.old) carriers (usual_read usual) }
-        requires lines { next_line self.old + 1 < 2 ^ 32 }
+        requires lines { next_carriage_line self.old + 1 < 2 ^ 32 }
         requires going { is_stopped self.old ≡ false }
         ensures over { IfOk result (λ over. over ≡ true → RanOn (usual_read usual) self.old self.new) }
         ensures going { IfOk result (λ over. over ≡ true → is_stopped self.new ≡ false) }
@@ -112,7 +112,7 @@ impl Carriage {
     pub fn carry_with_loop(&mut self, usual: Usual) -> Result<bool, NoMemory>
         requires running { IsRunning self.old }
         requires lawful { (carriers : ℕ) × (carriers ≤ 64) × IsLawfulRead (profile_of self.old) carriers (usual_read usual) }
-        requires lines { next_line self.old + 1 < 2 ^ 32 }
+        requires lines { next_carriage_line self.old + 1 < 2 ^ 32 }
         ensures over { IfOk result (λ over. over ≡ true → RanOn (usual_read usual) self.old self.new) }
         ensures same { IfOk result (λ over. over ≡ false → self.new ≡ self.old) }
         ensures err { OnErr result (RunsAsBefore self.old self.new) }
@@ -143,7 +143,7 @@ impl Carriage {
     /// Passes over so many lines behind one that broke a rule, whatever they say.
     pub fn pass_over(&mut self, count: u32)
         requires stopped { is_stopped self.old ≡ true }
-        requires lines { next_line self.old + count < 2 ^ 32 }
+        requires lines { next_carriage_line self.old + count < 2 ^ 32 }
         ensures { (profile : Profile) (with_loops : Bool) (first : ℕ) (reads more : List Read) → length more ≡ count
             → HasRun profile with_loops first reads self.old → HasRun profile with_loops first (reads ++ more) self.new }
     {

@@ -9,7 +9,7 @@ use std::marker::Model;
 
 /// The items of a list from one place to another, which isn't counted.
 #[derive(Clone, Copy)]
-pub(crate) struct Stretch {
+pub(crate) struct ListStretch {
     pub(crate) start: u32,
     pub(crate) end: u32,
 }
@@ -20,8 +20,8 @@ pub(crate) struct FactHead {
     pub(crate) line: u32,
     pub(crate) needle: Needle,
     pub(crate) dir: Dir,
-    pub(crate) yarns: Stretch,
-    pub(crate) through: Stretch,
+    pub(crate) yarns: ListStretch,
+    pub(crate) through: ListStretch,
 }
 
 /// A loop, as `LoopFact`, with lists that are lent.
@@ -48,11 +48,11 @@ impl Model for Facts {
 
     ghost Value = { List LoopFact };
 
-    ghost use Rattle.carriage_model.specs.FactList.{fact_with, AreKept};
+    ghost use Rattle.carriage_model.specs.FactList.{fact_with, StoresFacts};
 
     ghost view = { λ f. map (fact_with f.yarns.items f.through.items) f.heads.items };
 
-    ghost invariant = { λ f. AreKept f.heads.items f.yarns.items f.through.items };
+    ghost invariant = { λ f. StoresFacts f.heads.items f.yarns.items f.through.items };
 }
 
 impl Facts {
@@ -125,7 +125,7 @@ impl Facts {
 }
 
 // So many items behind so many others.
-fn stretch_behind(before: usize, count: usize) -> Result<Stretch, NoMemory>
+fn stretch_behind(before: usize, count: usize) -> Result<ListStretch, NoMemory>
     ensures start { IfOk result (λ stretch. stretch.start ≡ before) }
     ensures end { IfOk result (λ stretch. stretch.end ≡ before + count) }
 {
@@ -133,7 +133,7 @@ fn stretch_behind(before: usize, count: usize) -> Result<Stretch, NoMemory>
     if before > most || count > most - before {
         return Err(NoMemory);
     }
-    Ok(Stretch {
+    Ok(ListStretch {
         start: before as u32,
         end: (before + count) as u32,
     })

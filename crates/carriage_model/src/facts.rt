@@ -6,7 +6,7 @@ ghost use Rattle.knit_base.specs.Lawful.{IsLawfulRead};
 ghost use Rattle.knit_base.specs.Limits.{IsLawfulProfile};
 ghost use Rattle.knit_base.specs.Usual.{usual_read};
 ghost use Rattle.carriage_model.specs.State.{State, empty_state};
-ghost use Rattle.carriage_model.specs.Loops.{loops_made, fact_made, loop_of_instr, formed, fact_of};
+ghost use Rattle.carriage_model.specs.Loops.{loops_made, fact_made, loop_of_instr, loop_formed, fact_of};
 ghost use Rattle.carriage_model.specs.Verdict.{IsOfDeclared};
 
 use crate::machine::Machine;
@@ -174,7 +174,7 @@ fn formed(
     yarns: &Yarns,
     through: LoopLines,
 ) -> Result<Option<LoopFact>, NoMemory>
-    ensures { IfOk result (λ fact. fact ≡ formed line dir needle yarns.now through) }
+    ensures { IfOk result (λ fact. fact ≡ loop_formed line dir needle yarns.now through) }
 {
     if yarns.len() == 0 {
         return Ok(None);

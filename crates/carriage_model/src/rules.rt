@@ -4,13 +4,13 @@ ghost use Rattle.knit_base.specs.Reasons.{broken_if, first_broken, or_else};
 ghost use Rattle.knit_base.specs.Usual.{usual_read};
 ghost use Rattle.knit_base.specs.Yarns.{contains_carrier, lacks_carrier, AreCarriers, IsCarrier};
 ghost use Rattle.carriage_model.specs.State.{State, is_near};
-ghost use Rattle.carriage_model.specs.Rules.{broken, broken_instr, carrier_broken, rack_broken, slider_broken, size_broken, tuck_too_many, carriers_out, carriers_in, carriers_hooked, hook_busy, hook_other, not_aligned, slider_holds, too_many, float_broken, floats_asked, floats_far};
+ghost use Rattle.carriage_model.specs.Rules.{broken, broken_instr, carrier_broken, rack_broken, slider_broken, size_broken, tuck_too_many, carriers_out, carriers_already_in, carriers_hooked, hook_busy, hook_other, not_aligned, slider_holds, too_many, float_broken, floats_asked, floats_far};
 
 use crate::machine::Machine;
 use knit_base::{CarrierNo, Instr, Needle, Profile, Read, Reason, Rule, Usual, Yarns, is_in_set};
 
 impl Machine {
-    ghost use Rattle.carriage_model.specs.Machine.{Represents, HasPlaces, HasPlacesInLine, FitsPlaces, HasNeedles, HasNeedlesInLine, HasCarrierInSet, last_in, stack_of};
+    ghost use Rattle.carriage_model.specs.Machine.{Represents, HasCarrierPlaces, HasPlacesInLine, FitsPlaces, HasNeedles, HasNeedlesInLine, HasCarrierInSet, last_in, stack_of};
     ghost use Rattle.carriage_model.specs.Beds.{IsOn};
 
     /// The first rule that the line breaks.
@@ -111,7 +111,7 @@ impl Machine {
     fn broken_instr(&self, profile: &Profile, instr: &Instr) -> Option<Reason>
         requires floats { self.now.keeps_lasts ≡ is_some profile.now.float }
         requires needles { HasNeedles self.now instr.now }
-        requires places { HasPlaces instr.now }
+        requires places { HasCarrierPlaces instr.now }
         ensures { (s : State) → Represents self.now s → result ≡ broken_instr profile.now instr.now s }
     {
         self.carrier_broken(instr)
@@ -123,7 +123,7 @@ impl Machine {
 
     // The first rule on carriers and the hook that the instruction breaks.
     fn carrier_broken(&self, instr: &Instr) -> Option<Reason>
-        requires { HasPlaces instr.now }
+        requires { HasCarrierPlaces instr.now }
         ensures { (s : State) → Represents self.now s → result ≡ carrier_broken instr.now s }
     {
         match instr {
@@ -180,7 +180,7 @@ impl Machine {
     // A carrier's float to the loop that the instruction forms is too long.
     fn float_broken(&self, profile: &Profile, instr: &Instr) -> Option<Reason>
         requires floats { self.now.keeps_lasts ≡ is_some profile.now.float }
-        requires places { HasPlaces instr.now }
+        requires places { HasCarrierPlaces instr.now }
         ensures { (s : State) → Represents self.now s → result ≡ float_broken profile.now instr.now s }
     {
         match instr {
@@ -240,7 +240,7 @@ impl Machine {
     // A carrier of the list is in action.
     fn carriers_in(&self, at: u16, yarns: &Yarns) -> Option<Reason>
         requires { FitsPlaces at yarns.now }
-        ensures { (s : State) → Represents self.now s → result ≡ carriers_in s at yarns.now }
+        ensures { (s : State) → Represents self.now s → result ≡ carriers_already_in s at yarns.now }
     {
         let i = first_in_set(self.ins, yarns.as_slice())?;
         Some(Reason {

@@ -13,7 +13,7 @@ use knit_base::{CarrierNo, Dir, Instr, Needle, NoMemory, Read, Usual, Yarns};
 
 impl Machine {
     ghost use Rattle.carriage_model.specs.Beds.{IsOn};
-    ghost use Rattle.carriage_model.specs.Machine.{Represents, StandsAsBefore, IsSameKind, HasNoted, HasRoom, HasRoomInLine, HasRoomForLoop, HasNeedles, HasNeedlesInLine, HasCarrierInSet, CanGoOver, last_in};
+    ghost use Rattle.carriage_model.specs.Machine.{Represents, StandsAsBefore, IsSameKind, HasNoted, HasLoopRoom, HasRoomInLine, HasRoomForLoop, HasNeedles, HasNeedlesInLine, HasCarrierInSet, CanGoOver, last_in};
 
     /// Carries out this line, which breaks no rule. After `NoMemory` the machine stands as before, here and below.
     pub fn step(&mut self, line: u32, read: &Read) -> Result<(), NoMemory>
@@ -117,7 +117,7 @@ impl Machine {
 
     fn step_instr(&mut self, line: u32, instr: &Instr) -> Result<(), NoMemory>
         requires needles { HasNeedles self.old instr.now }
-        requires room { HasRoom self.old instr.now }
+        requires room { HasLoopRoom self.old instr.now }
         ensures ok { OnOk result ((s : State) → Represents self.old s → Represents self.new (step_instr line instr.now s)) }
         ensures kept { OnOk result (IsSameKind self.old self.new) }
         ensures err { OnErr result (StandsAsBefore self.old self.new) }

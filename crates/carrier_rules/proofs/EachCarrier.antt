@@ -14,15 +14,15 @@ use Rattle.knit_base.specs.declared.yarns.CarrierNo.{CarrierNo}
 use Rattle.knit_base.proofs.Reasons.{or_else-none}
 use Rattle.knit_base.specs.Reasons.{broken_if, first_broken, or_else}
 use Rattle.knit_base.specs.Yarns.{contains_carrier, lacks_carrier, mask_of}
-use Rattle.carriage_model.specs.Rules.{carriers_in, carriers_out, carriers_hooked, hook_busy, hook_other, carrier_broken, float_broken, floats_far}
+use Rattle.carriage_model.specs.Rules.{carriers_already_in, carriers_out, carriers_hooked, hook_busy, hook_other, carrier_broken, float_broken, floats_far}
 use Rattle.carriage_model.specs.State.{State, is_near}
 use Rattle.face_data.specs.declared.face.Cond.{Cond}
 use Rattle.face_data.specs.declared.face.Cond.TheVariants.{HookFree, HookIs, LastNear}
-use Rattle.face_data.specs.Conditions.{ask_of, holds, unless, first_unmet}
+use Rattle.face_data.specs.Conditions.{ask_of, holds, broken_unless, first_unmet}
 use Rattle.face_data.proofs.Conditions.{broken-unless, first_unmet-append}
 use Rattle.carrier_rules.specs.declared.conds.OfEach.{OfEach}
 use Rattle.carrier_rules.specs.declared.conds.OfEach.TheVariants.{InAction, NotInAction, NotInHook}
-use Rattle.carrier_rules.specs.Carriers.{cond_of, rule_of, conds_of_each, conds_of, early_in, early_of, floats_asked, floats_in, floats_of, floats_of_each, hook_reason, is_on_last}
+use Rattle.carrier_rules.specs.Carriers.{cond_of, rule_of, conds_of_each, conds_of, early_in, early_of, float_conditions, floats_in, floats_of, floats_of_each, hook_reason, is_on_last}
 
 -- whether what is asked fails of this carrier
 abbrev fails : OfEach → State → CarrierNo → Bool
@@ -30,15 +30,15 @@ fails InAction s c = lacks_carrier s.ins c
 fails NotInAction s c = contains_carrier s.ins c
 fails NotInHook s c = contains_carrier s.hook c
 
-unless-twice : (b : Bool) (reason : Reason) → unless (not b) reason ≡ cond b (Some reason) None
+unless-twice : (b : Bool) (reason : Reason) → broken_unless (not b) reason ≡ cond b (Some reason) None
 unless-twice true reason = refl
 unless-twice false reason = refl
 
-unless-lacks : (b : Bool) (reason : Reason) → unless b reason ≡ cond (not b) (Some reason) None
+unless-lacks : (b : Bool) (reason : Reason) → broken_unless b reason ≡ cond (not b) (Some reason) None
 unless-lacks true reason = refl
 unless-lacks false reason = refl
 
-unmet-here : (of_each : OfEach) (s : State) (c : CarrierNo) (reason : Reason) → unless (holds (ask_of [] (cond_of of_each c)) s) reason ≡ cond (fails of_each s c) (Some reason) None
+unmet-here : (of_each : OfEach) (s : State) (c : CarrierNo) (reason : Reason) → broken_unless (holds (ask_of [] (cond_of of_each c)) s) reason ≡ cond (fails of_each s c) (Some reason) None
 unmet-here InAction s c reason = unless-lacks (contains_carrier s.ins c) reason
 unmet-here NotInAction s c reason = unless-twice (contains_carrier s.ins c) reason
 unmet-here NotInHook s c reason = unless-twice (contains_carrier s.hook c) reason
@@ -75,12 +75,12 @@ hook_test hook = grind arith
 pub busy-unmet : (s : State) → hook_busy s ≡ first_unmet ((hook_reason HookBusy, HookFree) ∷ []) s
 busy-unmet s =
     let reason : Reason = hook_reason HookBusy in
-    ap (λ b. broken_if b HookBusy 0) (hook_test s.hook) ∙ broken-unless (nat_eq s.hook 0) HookBusy 0 ∙ sym (or_else-none (unless (nat_eq s.hook 0) reason))
+    ap (λ b. broken_if b HookBusy 0) (hook_test s.hook) ∙ broken-unless (nat_eq s.hook 0) HookBusy 0 ∙ sym (or_else-none (broken_unless (nat_eq s.hook 0) reason))
 
 -- the hook holds these yarns, as one condition
 pub other-unmet : (s : State) (cs : List CarrierNo) → hook_other s cs ≡ first_unmet ((hook_reason HookOther, HookIs (mask_of cs)) ∷ []) s
 other-unmet s cs =
-    broken-unless (nat_eq s.hook (mask_of cs)) HookOther 0 ∙ sym (or_else-none (unless (nat_eq s.hook (mask_of cs)) (hook_reason HookOther)))
+    broken-unless (nat_eq s.hook (mask_of cs)) HookOther 0 ∙ sym (or_else-none (broken_unless (nat_eq s.hook (mask_of cs)) (hook_reason HookOther)))
 
 -- two lists of conditions are two rules, one after the other
 pub both-broken : (cs ds : List (Reason × Cond)) (s : State) (first second : Option Reason) → first ≡ first_unmet cs s → second ≡ first_unmet ds s → or_else first second ≡ first_unmet (cs ++ ds) s
@@ -91,7 +91,7 @@ both-broken cs ds s first second one two =
 pub conds-broken : (instr : Instr) (s : State) → carrier_broken instr s ≡ first_unmet (early_of instr) s
 conds-broken (CarryIn cs) s = each-broken NotInAction s 1 cs
 conds-broken (CarryOut cs) s = both-broken (conds_of_each InAction 1 cs) (conds_of_each NotInHook 1 cs) s (carriers_out s 1 cs) (carriers_hooked s 1 cs) (each-broken InAction s 1 cs) (each-broken NotInHook s 1 cs)
-conds-broken (HookIn cs) s = both-broken (conds_of_each NotInAction 1 cs) ((hook_reason HookBusy, HookFree) ∷ []) s (carriers_in s 1 cs) (hook_busy s) (each-broken NotInAction s 1 cs) (busy-unmet s)
+conds-broken (HookIn cs) s = both-broken (conds_of_each NotInAction 1 cs) ((hook_reason HookBusy, HookFree) ∷ []) s (carriers_already_in s 1 cs) (hook_busy s) (each-broken NotInAction s 1 cs) (busy-unmet s)
 conds-broken (HookOut cs) s = both-broken (conds_of_each InAction 1 cs) ((hook_reason HookBusy, HookFree) ∷ []) s (carriers_out s 1 cs) (hook_busy s) (each-broken InAction s 1 cs) (busy-unmet s)
 conds-broken (ReleaseHook cs) s = other-unmet s cs
 conds-broken (Knit dir n cs) s = each-broken InAction s 3 cs
@@ -125,7 +125,7 @@ each-far float number s at cs =
     ∙ ap (λ a. first_unmet (floats_of_each float number a cs) s) start
 
 -- the float that is too long is the first condition on floats that isn't met
-floats-limit : (profile : Profile) (limit : Option ℕ) (instr : Instr) (s : State) → float_broken (record profile { float = limit }) instr s ≡ first_unmet (floats_asked limit instr) s
+floats-limit : (profile : Profile) (limit : Option ℕ) (instr : Instr) (s : State) → float_broken (record profile { float = limit }) instr s ≡ first_unmet (float_conditions limit instr) s
 floats-limit profile None (Knit dir n cs) s = refl
 floats-limit profile None (Tuck dir n cs) s = refl
 floats-limit profile None (Split dir n n2 cs) s = refl
@@ -135,7 +135,7 @@ floats-limit profile (Some float) (Tuck dir n cs) s = each-far float n.at s 3 cs
 floats-limit profile (Some float) (Split dir n n2 cs) s = each-far float n.at s 4 cs
 floats-limit profile (Some float) instr s = refl
 
-pub floats-broken : (profile : Profile) (instr : Instr) (s : State) → float_broken profile instr s ≡ first_unmet (floats_asked profile.float instr) s
+pub floats-broken : (profile : Profile) (instr : Instr) (s : State) → float_broken profile instr s ≡ first_unmet (float_conditions profile.float instr) s
 floats-broken profile instr s = floats-limit profile profile.float instr s
 
 -- which conditions are on last needles
@@ -161,14 +161,14 @@ floats-far : (float : ℕ) (number : ℤ) (at : ℕ) (cs : List CarrierNo) → f
 floats-far float number at [] = refl
 floats-far float number at (c ∷ cs) = ap (λ rest. (record { rule = FloatTooLong; at = at }, LastNear c number float) ∷ rest) (floats-far float number (at + 1) cs)
 
-early-floats : (limit : Option ℕ) (instr : Instr) → early_in (floats_asked limit instr) ≡ []
+early-floats : (limit : Option ℕ) (instr : Instr) → early_in (float_conditions limit instr) ≡ []
 early-floats None instr = refl
 early-floats (Some float) (Knit dir n cs) = early-far float n.at 3 cs
 early-floats (Some float) (Tuck dir n cs) = early-far float n.at 3 cs
 early-floats (Some float) (Split dir n n2 cs) = early-far float n.at 4 cs
 early-floats (Some float) instr = refl
 
-floats-floats : (limit : Option ℕ) (instr : Instr) → floats_in (floats_asked limit instr) ≡ floats_asked limit instr
+floats-floats : (limit : Option ℕ) (instr : Instr) → floats_in (float_conditions limit instr) ≡ float_conditions limit instr
 floats-floats None instr = refl
 floats-floats (Some float) (Knit dir n cs) = floats-far float n.at 3 cs
 floats-floats (Some float) (Tuck dir n cs) = floats-far float n.at 3 cs
@@ -218,7 +218,7 @@ floats-front instr more = refl
 
 -- the conditions that are asked early, and those on floats
 pub early-is : (limit : Option ℕ) (instr : Instr) → early_in (conds_of limit instr) ≡ early_of instr
-early-is limit instr = early-front instr (floats_asked limit instr) ∙ ap (λ rest. early_of instr ++ rest) (early-floats limit instr) ∙ append-nil (early_of instr)
+early-is limit instr = early-front instr (float_conditions limit instr) ∙ ap (λ rest. early_of instr ++ rest) (early-floats limit instr) ∙ append-nil (early_of instr)
 
-pub floats-is : (limit : Option ℕ) (instr : Instr) → floats_in (conds_of limit instr) ≡ floats_asked limit instr
-floats-is limit instr = floats-front instr (floats_asked limit instr) ∙ floats-floats limit instr
+pub floats-is : (limit : Option ℕ) (instr : Instr) → floats_in (conds_of limit instr) ≡ float_conditions limit instr
+floats-is limit instr = floats-front instr (float_conditions limit instr) ∙ floats-floats limit instr

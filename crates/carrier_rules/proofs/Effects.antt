@@ -11,7 +11,7 @@ use Rattle.face_data.specs.Summaries.{IsEffectOf}
 use Rattle.carriage_model.specs.State.{same_carrier, with_lasts}
 use Rattle.carriage_model.specs.Steps.{given_lasts, kept_lasts}
 use Rattle.face_data.specs.Lasts.{last_at, lasts_after}
-use Rattle.carrier_rules.specs.Carriers.{effect_of, last_of, lasts_given, lasts_of}
+use Rattle.carrier_rules.specs.Carriers.{effect_of, carrier_last, lasts_given, lasts_of}
 use Rattle.knit_base.proofs.Masks.{bit_or-none, without_set-none}
 use Rattle.face_data.proofs.Drafts.{ins-nobody}
 
@@ -31,11 +31,11 @@ either_of true t at old o e = refl
 either_of false t at old o e = e
 
 -- the last needles are those of the list's carriers
-pub lasts-each : (at : Option ℤ) (cs : List CarrierNo) (old : CarrierNo → Option ℤ) (c : CarrierNo) → lasts_after (map (last_of at) cs) old c ≡ with_lasts old cs at c
+pub lasts-each : (at : Option ℤ) (cs : List CarrierNo) (old : CarrierNo → Option ℤ) (c : CarrierNo) → lasts_after (map (carrier_last at) cs) old c ≡ with_lasts old cs at c
 lasts-each at [] old c = refl
 lasts-each at (d ∷ ds) old c =
-    ap (λ b. unwrap_or (if b then Some at else last_at (map (last_of at) ds) c) (old c)) (same_either_way c d)
-    ∙ either_of (same_carrier c d) (list_any (same_carrier c) ds) at (old c) (last_at (map (last_of at) ds) c) (lasts-each at ds old c)
+    ap (λ b. unwrap_or (if b then Some at else last_at (map (carrier_last at) ds) c) (old c)) (same_either_way c d)
+    ∙ either_of (same_carrier c d) (list_any (same_carrier c) ds) at (old c) (last_at (map (carrier_last at) ds) c) (lasts-each at ds old c)
 
 -- the last needles are those that the instruction gives
 lasts-given : (instr : Instr) (old : CarrierNo → Option ℤ) (c : CarrierNo) → lasts_after (lasts_given instr) old c ≡ given_lasts instr old c

@@ -61,13 +61,13 @@ floats_of float (Split dir n n2 cs) = floats_of_each float n.at 4 cs
 floats_of float instr = []
 
 -- the same, where there is a limit
-abbrev pub floats_asked : Option ℕ → Instr → List (Reason × Cond)
-floats_asked None instr = []
-floats_asked (Some float) instr = floats_of float instr
+abbrev pub float_conditions : Option ℕ → Instr → List (Reason × Cond)
+float_conditions None instr = []
+float_conditions (Some float) instr = floats_of float instr
 
 -- all conditions of the instruction: those on floats come last
 abbrev pub conds_of : Option ℕ → Instr → List (Reason × Cond)
-conds_of limit instr = early_of instr ++ floats_asked limit instr
+conds_of limit instr = early_of instr ++ float_conditions limit instr
 
 -- the condition is on a last needle
 abbrev pub is_on_last : Cond → Bool
@@ -83,18 +83,18 @@ abbrev pub early_in : List (Reason × Cond) → List (Reason × Cond)
 early_in conds = filter (λ c. not (is_on_last c.1)) conds
 
 -- the carrier with this last needle
-abbrev pub last_of : Option ℤ → CarrierNo → Last
-last_of at c = record { carrier = c; at = at }
+abbrev pub carrier_last : Option ℤ → CarrierNo → Last
+carrier_last at c = record { carrier = c; at = at }
 
 -- the last needles that the instruction gives carriers
 abbrev pub lasts_given : Instr → List Last
-lasts_given (CarryIn cs) = map (last_of None) cs
-lasts_given (CarryOut cs) = map (last_of None) cs
-lasts_given (HookIn cs) = map (last_of None) cs
-lasts_given (HookOut cs) = map (last_of None) cs
-lasts_given (Knit dir n cs) = map (last_of (Some n.at)) cs
-lasts_given (Tuck dir n cs) = map (last_of (Some n.at)) cs
-lasts_given (Split dir n n2 cs) = map (last_of (Some n.at)) cs
+lasts_given (CarryIn cs) = map (carrier_last None) cs
+lasts_given (CarryOut cs) = map (carrier_last None) cs
+lasts_given (HookIn cs) = map (carrier_last None) cs
+lasts_given (HookOut cs) = map (carrier_last None) cs
+lasts_given (Knit dir n cs) = map (carrier_last (Some n.at)) cs
+lasts_given (Tuck dir n cs) = map (carrier_last (Some n.at)) cs
+lasts_given (Split dir n n2 cs) = map (carrier_last (Some n.at)) cs
 lasts_given instr = []
 
 -- the same where floats have a limit, and else none

@@ -2,7 +2,7 @@
 ghost use Rattle.std.specs.Prelude.{◌≡◌, ◌<◌, ◌^◌, ◌+◌, [], ◌∷◌, ◌++◌, length, IfOk, OnOk};
 ghost use Rattle.knit_base.specs.declared.rule.Rule.TheVariants.{HookBusy, HookOther};
 ghost use Rattle.knit_base.specs.Yarns.{mask_of};
-ghost use Rattle.carriage_model.specs.Machine.{HasPlaces, FitsPlaces};
+ghost use Rattle.carriage_model.specs.Machine.{HasCarrierPlaces, FitsPlaces};
 ghost use Rattle.face_data.specs.declared.face.Cond.TheVariants.{HookFree, HookIs};
 ghost use Rattle.carrier_rules.specs.declared.conds.OfEach.TheVariants.{InAction, NotInHook};
 ghost use Rattle.carrier_rules.specs.Carriers.{cond_of, rule_of, conds_of_each, conds_of, early_of, floats_of, floats_of_each, hook_reason};
@@ -43,7 +43,7 @@ impl OfEach {
 
 /// The conditions of the instruction, in the order of the rules.
 pub fn conds_of(alloc: Global, instr: &Instr, profile: &Profile) -> Result<CondList, NoMemory>
-    requires { HasPlaces instr.now }
+    requires { HasCarrierPlaces instr.now }
     ensures { IfOk result (λ conds. conds ≡ conds_of profile.now.float instr.now) }
 {
     let mut conds = early_of(alloc, instr)?;
@@ -56,7 +56,7 @@ pub fn conds_of(alloc: Global, instr: &Instr, profile: &Profile) -> Result<CondL
 // Adds those on floats.
 fn add_floats(conds: &mut CondList, float: u16, instr: &Instr) -> Result<(), NoMemory>
     requires room { length conds.old < 2 ^ 17 }
-    requires places { HasPlaces instr.now }
+    requires places { HasCarrierPlaces instr.now }
     ensures { OnOk result (conds.new ≡ conds.old ++ floats_of float instr.now) }
 {
     match instr {
@@ -92,7 +92,7 @@ fn ask_near(
 
 // Those that are asked before the rack, in the order of the rules.
 fn early_of(alloc: Global, instr: &Instr) -> Result<CondList, NoMemory>
-    requires { HasPlaces instr.now }
+    requires { HasCarrierPlaces instr.now }
     ensures conds { IfOk result (λ conds. conds ≡ early_of instr.now) }
     ensures few { IfOk result (λ conds. length conds < 2 ^ 17) }
 {

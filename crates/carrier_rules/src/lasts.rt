@@ -1,6 +1,6 @@
 //! What an instruction does to the last needles of carriers.
 ghost use Rattle.std.specs.Prelude.{◌≡◌, IfOk, map};
-ghost use Rattle.carrier_rules.specs.Carriers.{last_of, lasts_given, lasts_of};
+ghost use Rattle.carrier_rules.specs.Carriers.{carrier_last, lasts_given, lasts_of};
 
 use face_data::{Last, LastList};
 use knit_base::{Instr, NoMemory, Profile, Yarns};
@@ -30,7 +30,7 @@ fn lasts_given(alloc: Global, instr: &Instr) -> Result<LastList, NoMemory>
 
 // The same last needle for each carrier, or none.
 fn of_each(alloc: Global, yarns: &Yarns, at: Option<i16>) -> Result<LastList, NoMemory>
-    ensures { IfOk result (λ lasts. lasts ≡ map (last_of at) yarns.now) }
+    ensures { IfOk result (λ lasts. lasts ≡ map (carrier_last at) yarns.now) }
 {
     let mut lasts = LastList::new(alloc);
     for c in yarns.as_slice() {

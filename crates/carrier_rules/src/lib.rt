@@ -13,7 +13,7 @@ mod effect;
 mod lasts;
 
 ghost use Rattle.std.specs.Prelude.{◌≡◌, IfOk};
-ghost use Rattle.carriage_model.specs.Machine.{HasPlaces};
+ghost use Rattle.carriage_model.specs.Machine.{HasCarrierPlaces};
 ghost use Rattle.carriage_model.specs.State.{State};
 ghost use Rattle.face_data.specs.Conditions.{first_unmet};
 ghost use Rattle.carriage_model.specs.Rules.{carrier_broken, float_broken};
@@ -37,7 +37,7 @@ pub struct CarrierAsk {
 
 /// What the instruction asks of carriers and of the hook, and what it changes.
 pub fn ask(alloc: Global, instr: &Instr, profile: &Profile) -> Result<CarrierAsk, NoMemory>
-    requires { HasPlaces instr.now }
+    requires { HasCarrierPlaces instr.now }
     ensures broken { IfOk result (λ ask. (s : State) → carrier_broken instr.now s ≡ first_unmet (early_in ask.conds) s) }
     ensures floats { IfOk result (λ ask. (s : State) → float_broken profile.now instr.now s ≡ first_unmet (floats_in ask.conds) s) }
     ensures conds { IfOk result (λ ask. ask.conds ≡ conds_of profile.now.float instr.now) }

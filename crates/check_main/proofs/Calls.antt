@@ -13,7 +13,7 @@ use Rattle.verdict_report.specs.Refusals.{refusal_text}
 use Rattle.input_answers.specs.declared.ending.Answer.{Answer}
 use Rattle.input_answers.specs.declared.outcome.Status.{Status}
 use Rattle.input_answers.specs.Answers.{Refuses}
-use Rattle.input_answers.specs.Asked.{Ask, reads_file, reads_input}
+use Rattle.input_answers.specs.Asked.{AsksCommand, reads_file, reads_input}
 use Rattle.input_answers.specs.Due.{Due}
 use Rattle.input_answers.proofs.Asks.{asked-command, asked-lawful}
 use Rattle.check_main.specs.Calls.{HasGiven, HasReadFor, IsCalled, IsDueFor}
@@ -45,7 +45,7 @@ if-err (Ok a) P p = tt
 if-err (Err e) P p = p
 
 -- no more was read than any words that ask for the command allow
-pub read-within : (words : List (List ℕ)) (command : Command) (chosen : Chosen) (source : SourceUse) → Ask words command chosen → HasReadFor command source → HasReadWithin words source
+pub read-within : (words : List (List ℕ)) (command : Command) (chosen : Chosen) (source : SourceUse) → AsksCommand words command chosen → HasReadFor command source → HasReadWithin words source
 read-within words command chosen source ask read = record {
   refused = λ are. absurd (asked-lawful words command chosen ask are);
   idle = λ other limits also idle. read.idle (subst (λ (x : Command). reads_input x ≡ false) (asked-command words command other chosen limits ask also) idle);
@@ -53,7 +53,7 @@ read-within words command chosen source ask read = record {
 }
 
 -- an answer for the command is one for words that ask for it, and so is what was read where there is none
-pub ended-for : {E : Type 0} (words : List (List ℕ)) (command : Command) (chosen : Chosen) (source : SourceUse) (answer : Result Answer E) (P : Type 0) → Ask words command chosen
+pub ended-for : {E : Type 0} (words : List (List ℕ)) (command : Command) (chosen : Chosen) (source : SourceUse) (answer : Result Answer E) (P : Type 0) → AsksCommand words command chosen
     → IfOk answer (IsDueFor command chosen source) → OnErr answer (HasReadFor command source) → (IfOk answer (IsCalled words source) → OnErr answer (HasReadWithin words source) → P) → P
 ended-for words command chosen source answer P ask due read ends =
     ends (IfOk-weaker answer _ _ (λ a is. is words ask) due) (on_err_weaker answer (read-within words command chosen source ask) read)
@@ -72,7 +72,7 @@ file-input (command.Tally from to) reads = absurd (false≢true reads)
 file-input (command.Make rows start) reads = absurd (false≢true reads)
 
 -- an answer to a file that was read to its end
-pub called-file : (words : List (List ℕ)) (command : Command) (chosen : Chosen) (source : SourceUse) (answer : Answer) (input said : List ℕ) (ends : Status) → Ask words command chosen
+pub called-file : (words : List (List ℕ)) (command : Command) (chosen : Chosen) (source : SourceUse) (answer : Answer) (input said : List ℕ) (ends : Status) → AsksCommand words command chosen
     → reads_file command ≡ true → HasGiven source input → Due command chosen input said ends
     → answer.text.items ≡ said → answer.outcome.status ≡ ends → played_by answer.outcome ≡ nothing_played → IsCalled words source answer
 called-file words command chosen source answer input said ends ask reads given due text status plays =

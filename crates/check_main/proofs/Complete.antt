@@ -21,7 +21,7 @@ use Rattle.input_answers.specs.Asked.{reads_file, reads_input, reads_script}
 use Rattle.file_run.specs.Bodies.{body_of}
 use Rattle.input_answers.specs.CheckReport.{IsCheckReport}
 use Rattle.input_answers.specs.Due as due
-use Rattle.input_answers.specs.Due.{Due, Fits, HasHead, checks_body}
+use Rattle.input_answers.specs.Due.{Due, BodyFits, HasHead, checks_body}
 use Rattle.input_answers.specs.DueGroups as due_groups
 use Rattle.input_answers.specs.DueGroups.{DueGroups}
 use Rattle.input_answers.specs.DueLive as due_live
@@ -39,7 +39,7 @@ use Rattle.input_answers.proofs.Exclusions.{fits-not_large, good-not_bad, head-n
 use Rattle.tally_tree.specs.Docs.{DocView, HasBlocks}
 use Rattle.check_main.specs.Top as top
 use Rattle.check_main.specs.Top.{Called, Ran, SinkUse, SourceUse}
-use Rattle.check_main.specs.Complete.{EndsWell, Gives, IsFile, IsGroupScriptThatFits, IsSavedText, IsSavedTextWith, IsScriptThatFits, IsStatusOf, IsUnhindered, IsWithinLimits, WasDone}
+use Rattle.check_main.specs.Complete.{EndsWell, Gives, IsFile, IsGroupScriptThatFits, IsSavedText, IsSavedTextWith, IsScriptThatFits, IsFileStatus, IsUnhindered, IsWithinLimits, WasDone}
 
 -- a source at its end gave all that it had
 gave_all : (had : List ℕ) (left : Option (List ℕ)) (input : List ℕ) → Consumes (Some had) left input → IsAtEnd left → input ≡ had
@@ -79,7 +79,7 @@ file_head (Make rows start) chosen input reads within = absurd (cc)
 
 -- and a body that fits where it is checked
 file_fits : (command : Command) (chosen : Chosen) (input : List ℕ) → checks_body command ≡ true → IsWithinLimits command chosen input
-    → Fits chosen.block (length (body_of (lines_of input)))
+    → BodyFits chosen.block (length (body_of (lines_of input)))
 file_fits (Check loops json) chosen input checks within = within.fits
 file_fits Text chosen input checks within = absurd (cc)
 file_fits Passes chosen input checks within = within.fits
@@ -141,7 +141,7 @@ groups_fit command chosen input is within = subst (λ (x : Command). IsWithinLim
 
 -- the status is that of the verdict which is reported
 checked : (chosen : Chosen) (input text : List ℕ) (loops json : Bool) (head : Head) (result : Status) → HasHead input head
-    → IsCheckReport chosen.profile loops json head.declared (lines_of input) text result → IsStatusOf chosen input result
+    → IsCheckReport chosen.profile loops json head.declared (lines_of input) text result → IsFileStatus chosen input result
 checked chosen input text loops json head result has report =
     record { head = head; has = has; verdict_given = report.verdict_given; made = report.made; judged = report.judged; ended = report.ended }
 
@@ -177,7 +177,7 @@ live_done output chosen input played text result within (due_live.bad_head scrip
     absurd (head-not_bad script.text within.head fault said (subst (λ (s : Script). IsHead s.text within.head) same within.has.head_is) bad tells)
 live_done output chosen input played text result within (due_live.too_large script head said has large) =
     let same = only_script (lines_of input) script within.script has.spelt within.has.spelt in
-    absurd (fits-not_large chosen.block (length (body_of script.text)) said (subst (λ (s : Script). Fits chosen.block (length (body_of s.text))) same within.fits) large)
+    absurd (fits-not_large chosen.block (length (body_of script.text)) said (subst (λ (s : Script). BodyFits chosen.block (length (body_of s.text))) same within.fits) large)
 live_done output chosen input played text result within (due_live.edited head opening _ _ has fits opens legal alone report) = refl
 
 groups_done : (chosen : Chosen) (input : List ℕ) (played : Played) (text : List ℕ) (result : Status) → IsGroupScriptThatFits chosen.block input → DueGroups chosen input played text result → result ≡ Done
@@ -188,7 +188,7 @@ groups_done chosen input played text result within (due_groups.bad_head script f
     absurd (head-not_bad script.text within.head fault said (subst (λ (s : GroupScript). IsHead s.text within.head) same within.has.head_is) bad tells)
 groups_done chosen input played text result within (due_groups.too_large script head said has large) =
     let same = group_runs.only_groups (lines_of input) script within.script has.spelt within.has.spelt in
-    absurd (fits-not_large chosen.block (length (body_of script.text)) said (subst (λ (s : GroupScript). Fits chosen.block (length (body_of s.text))) same within.fits) large)
+    absurd (fits-not_large chosen.block (length (body_of script.text)) said (subst (λ (s : GroupScript). BodyFits chosen.block (length (body_of s.text))) same within.fits) large)
 groups_done chosen input played text result within (due_groups.edited head opening did _ has fits opens legal report) = refl
 
 -- of a saved text
@@ -212,7 +212,7 @@ tally_done from to input text result within (due_tally.ended head profile blocks
     (subst (λ (d : DocView). HasBlocks d from to) (λ i. saved_doc (same.0 i) (same.1 i) (same.2 i) (same.3 i)) within.has) due_here
 
 -- of a made program
-made_done : (chosen : Chosen) (rows start : ℕ) (text : List ℕ) (result : Status) → Fits chosen.block (length (body_of (made_lines rows start))) → DueMade chosen rows start text result → result ≡ Done
+made_done : (chosen : Chosen) (rows start : ℕ) (text : List ℕ) (result : Status) → BodyFits chosen.block (length (body_of (made_lines rows start))) → DueMade chosen rows start text result → result ≡ Done
 made_done chosen rows start text result fits (due_made.too_large said large) = absurd (fits-not_large chosen.block (length (body_of (made_lines rows start))) said fits large)
 made_done chosen rows start text result fits (due_made.summary head told is fit report) = refl
 

@@ -9,7 +9,7 @@ use Rattle.std.proofs.lemmas.List.Elements.{All-cons, All-nil}
 use Rattle.std.proofs.lemmas.Str.{is_utf8-from_IsUtf8}
 use Rattle.knit_base.specs.Limits.{IsLawfulProfile}
 use Rattle.knit_base.specs.Lines.{lines_of}
-use Rattle.knit_base.specs.Spelling.{labelled}
+use Rattle.knit_base.specs.Spelling.{labelled_number}
 use Rattle.edit_journal.specs.declared.edit.BlockAt.{BlockAt}
 use Rattle.knit_maker.proofs.PlainLines.{is_printed, plain-text, plain-utf8}
 use Rattle.knit_ports.specs.declared.limit.TheConstants.{INPUT_LIMIT}
@@ -19,10 +19,10 @@ use Rattle.machine_profile.specs.declared.Options.{Options}
 use Rattle.machine_profile.specs.Bounds.{IsChosen}
 use Rattle.command_words.specs.declared.command.Command.{Command}
 use Rattle.command_words.specs.declared.command.Command.TheVariants.{Check, Text, Passes, Live, Save, Groups, Replay, Tally, Make}
-use Rattle.command_words.specs.Request.{request_of}
+use Rattle.command_words.specs.Request.{words_request}
 use Rattle.journal_file.proofs.PlainLines.{has_none, no_feed}
-use Rattle.journal_file.specs.SavedParts.{IsFirstText, IsShortLine, IsWritten}
-use Rattle.journal_file.specs.Spelling.{block_lines, blocks_lines, counted, entries_lines, head_lines, needle_limits, other_limits, profile_line, profile_text, spelling, text_lines}
+use Rattle.journal_file.specs.SavedParts.{IsFirstText, IsShortLine, IsSpelledEntry}
+use Rattle.journal_file.specs.Spelling.{block_lines, blocks_lines, count_spelling, entries_lines, head_lines, needle_limits, other_limits, profile_line, profile_text, saved_spelling, text_lines}
 use Rattle.script_reader.specs.declared.command.Command.TheVariants.{Verdict}
 use Rattle.script_reader.specs.declared.command.Script.{Script}
 use Rattle.script_reader.specs.declared.step.GroupScript.{GroupScript}
@@ -30,7 +30,7 @@ use Rattle.script_reader.specs.declared.step.Step.TheVariants.{One, Undo}
 use Rattle.script_reader.specs.Groups.{IsGroupScript}
 use Rattle.script_reader.specs.Script.{IsScript}
 use Rattle.script_reader.proofs.Bools.{first_true, second_true}
-use Rattle.input_answers.specs.Asked.{Ask}
+use Rattle.input_answers.specs.Asked.{AsksCommand}
 use Rattle.check_main.specs.Complete.{Gives, IsFile, IsFileThatFits, IsGroupScriptThatFits, IsSavedText, IsScriptThatFits, IsUnhindered}
 use Rattle.check_main.specs.Top.{SinkUse, SourceUse}
 
@@ -73,7 +73,7 @@ fits_file = record { file = is_file; fits = record { lines = omega arith; blocks
 gives : (input : List ℕ) → length input ≤ INPUT_LIMIT → Gives (giving input) input
 gives input few = record { left = refl; few = few; no_fault = λ rose. omega (arith, rose) }
 
-asks : (words : List (List ℕ)) (command : Command) → request_of words ≡ Some (record { command = command; options = no_options }) → Ask words command usual
+asks : (words : List (List ℕ)) (command : Command) → words_request words ≡ Some (record { command = command; options = no_options }) → AsksCommand words command usual
 asks words command is = record { request = record { command = command; options = no_options }; in_grammar = is; commands = refl; within = refl; values = usual_chosen }
 
 -- a program that drops a loop is checked, grouped, and written anew
@@ -174,7 +174,7 @@ saved_body = codes "drop f1" ∷ []
 
 -- the beginning of that program, with no entry, as it is saved
 abbrev saved_file : List ℕ
-saved_file = spelling saved_head usual.profile (record { block = 0; stamp = 0; text = saved_body } ∷ []) []
+saved_file = saved_spelling saved_head usual.profile (record { block = 0; stamp = 0; text = saved_body } ∷ []) []
 
 usual_lawful : IsLawfulProfile usual.profile
 usual_lawful = record { lowest = omega (arith, ints); ordered = omega (arith, ints); highest = omega (arith, ints); rack = omega arith; some = omega arith; hold = omega arith; float = tt }
@@ -197,7 +197,7 @@ saved_text = record {
         blocks_few = omega arith;
         lines_few = omega arith;
         texts = All-cons IsFirstText saved_body [] (record { some = omega arith; few = omega arith; lines = all_short saved_body refl }) (All-nil IsFirstText);
-        written = All-nil IsWritten;
+        written = All-nil IsSpelledEntry;
       };
       come = tt;
     };
@@ -211,19 +211,19 @@ both_few a b m n first second = omega (arith, first, second, length-append a b)
 decimal_few : (n : ℕ) → n < 2 ^ 64 → length (decimal n) ≤ 20
 decimal_few n fits = length-decimal-le 20 n (omega arith) (omega (arith, fits)) fits
 
-labelled_few : (label : List ℕ) (n : ℕ) → length label ≤ 20 → n < 2 ^ 64 → length (labelled label n) ≤ 20 + 20
+labelled_few : (label : List ℕ) (n : ℕ) → length label ≤ 20 → n < 2 ^ 64 → length (labelled_number label n) ≤ 20 + 20
 labelled_few label n short fits = both_few label (decimal n) 20 20 short (decimal_few n fits)
 
-counted_few : (label : List ℕ) (n : ℕ) → length label ≤ 20 → n < 2 ^ 64 → length (counted label n) ≤ 20 + 20 + 1
-counted_few label n short fits = both_few (labelled label n) (codes "\n") (20 + 20) 1 (labelled_few label n short fits) (omega arith)
+counted_few : (label : List ℕ) (n : ℕ) → length label ≤ 20 → n < 2 ^ 64 → length (count_spelling label n) ≤ 20 + 20 + 1
+counted_few label n short fits = both_few (labelled_number label n) (codes "\n") (20 + 20) 1 (labelled_few label n short fits) (omega arith)
 
 needles_few : length (needle_limits usual.profile) ≤ 21 + 21
 needles_few = both_few (codes "-" ++ decimal 1024) (codes " " ++ decimal 1023) 21 21 (both_few (codes "-") (decimal 1024) 1 20 (omega arith) (decimal_few 1024 (omega arith)))
     (both_few (codes " ") (decimal 1023) 1 20 (omega arith) (decimal_few 1023 (omega arith)))
 
 others_few : length (other_limits usual.profile) ≤ 40 + (40 + 40)
-others_few = both_few (labelled (codes " ") 8) (labelled (codes " ") 16 ++ labelled (codes " ") 0) 40 (40 + 40) (labelled_few (codes " ") 8 (omega arith) (omega arith))
-    (both_few (labelled (codes " ") 16) (labelled (codes " ") 0) 40 40 (labelled_few (codes " ") 16 (omega arith) (omega arith)) (labelled_few (codes " ") 0 (omega arith) (omega arith)))
+others_few = both_few (labelled_number (codes " ") 8) (labelled_number (codes " ") 16 ++ labelled_number (codes " ") 0) 40 (40 + 40) (labelled_few (codes " ") 8 (omega arith) (omega arith))
+    (both_few (labelled_number (codes " ") 16) (labelled_number (codes " ") 0) 40 40 (labelled_few (codes " ") 16 (omega arith) (omega arith)) (labelled_few (codes " ") 0 (omega arith) (omega arith)))
 
 abbrev saved_blocks : List BlockAt
 saved_blocks = record { block = 0; stamp = 0; text = saved_body } ∷ []
@@ -234,14 +234,14 @@ profile_few = both_few (profile_text usual.profile) (codes "\n") (8 + (42 + 120)
     (omega arith)
 
 head_few : length (head_lines saved_head) ≤ 41 + 100
-head_few = both_few (counted (codes "head ") 2) (text_lines saved_head) 41 100 (counted_few (codes "head ") 2 (omega arith) (omega arith)) (omega arith)
+head_few = both_few (count_spelling (codes "head ") 2) (text_lines saved_head) 41 100 (counted_few (codes "head ") 2 (omega arith) (omega arith)) (omega arith)
 
 blocks_few : length (blocks_lines saved_blocks) ≤ 41 + (41 + 100)
-blocks_few = both_few (counted (codes "blocks ") 1) (flat_map block_lines saved_blocks) 41 (41 + 100) (counted_few (codes "blocks ") 1 (omega arith) (omega arith))
-    (omega (arith, both_few (counted (codes "block ") 1) (text_lines saved_body) 41 50 (counted_few (codes "block ") 1 (omega arith) (omega arith)) (omega arith), length-append (block_lines (record { block = 0; stamp = 0; text = saved_body })) []))
+blocks_few = both_few (count_spelling (codes "blocks ") 1) (flat_map block_lines saved_blocks) 41 (41 + 100) (counted_few (codes "blocks ") 1 (omega arith) (omega arith))
+    (omega (arith, both_few (count_spelling (codes "block ") 1) (text_lines saved_body) 41 50 (counted_few (codes "block ") 1 (omega arith) (omega arith)) (omega arith), length-append (block_lines (record { block = 0; stamp = 0; text = saved_body })) []))
 
 entries_few : length (entries_lines []) ≤ 41 + 0
-entries_few = both_few (counted (codes "entries ") 0) [] 41 0 (counted_few (codes "entries ") 0 (omega arith) (omega arith)) (omega arith)
+entries_few = both_few (count_spelling (codes "entries ") 0) [] 41 0 (counted_few (codes "entries ") 0 (omega arith) (omega arith)) (omega arith)
 
 saved_few : length saved_file ≤ INPUT_LIMIT
 saved_few =

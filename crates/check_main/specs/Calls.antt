@@ -6,7 +6,7 @@ use Rattle.knit_ports.specs.Whole.{GaveAtMost}
 use Rattle.machine_profile.specs.declared.Chosen.{Chosen}
 use Rattle.command_words.specs.declared.command.Command.{Command}
 use Rattle.input_answers.specs.declared.ending.Answer.{Answer}
-use Rattle.input_answers.specs.Asked.{Ask, reads_file, reads_input}
+use Rattle.input_answers.specs.Asked.{AsksCommand, reads_file, reads_input}
 use Rattle.knit_base.specs.Lines.{lines_of}
 use Rattle.input_answers.specs.Played.{played_by}
 use Rattle.check_main.specs.declared.top.Reading.{Reading}
@@ -21,7 +21,7 @@ IsCalled words source answer = Called words source (played_by answer.outcome) an
 
 -- it is due for all words that ask for this command with these limits
 abbrev pub IsDueFor : Command → Chosen → SourceUse → Answer → Type 0
-IsDueFor command chosen source answer = (words : List (List ℕ)) → Ask words command chosen → IsCalled words source answer
+IsDueFor command chosen source answer = (words : List (List ℕ)) → AsksCommand words command chosen → IsCalled words source answer
 
 -- no more was read than the command ever does
 pub record HasReadFor (command : Command) (source : SourceUse) : Type 0 where

@@ -17,10 +17,10 @@ use Rattle.script_reader.specs.declared.command.Script.{Script}
 use Rattle.script_reader.specs.declared.step.GroupScript.{GroupScript}
 use Rattle.input_answers.specs.declared.outcome.Status.{Status}
 use Rattle.input_answers.specs.declared.outcome.Status.TheVariants.{Done, NoMemory}
-use Rattle.input_answers.specs.Asked.{Ask, reads_input}
+use Rattle.input_answers.specs.Asked.{AsksCommand, reads_input}
 use Rattle.file_run.specs.Bodies.{IsJudged, body_of}
 use Rattle.input_answers.specs.CheckReport.{status_of}
-use Rattle.input_answers.specs.Due.{Fits, HasHead}
+use Rattle.input_answers.specs.Due.{BodyFits, HasHead}
 use Rattle.input_answers.specs.DueGroups.{HasGroupScript}
 use Rattle.input_answers.specs.DueLive.{HasScript}
 use Rattle.input_answers.specs.DueReplay.{IsSaved}
@@ -36,21 +36,21 @@ pub record IsFile (input : List ℕ) : Type 0 where
 -- the input is a file whose body, in blocks of this size, isn't too large
 pub record IsFileThatFits (size : ℕ) (input : List ℕ) : Type 0 where
   pub file : IsFile input
-  pub fits : Fits size (length (body_of (lines_of input)))
+  pub fits : BodyFits size (length (body_of (lines_of input)))
 
 -- the input is a script, and its opening text has a head and a body that isn't too large
 pub record IsScriptThatFits (size : ℕ) (input : List ℕ) : Type 0 where
   pub script : Script
   pub head : Head
   pub has : HasScript input script head
-  pub fits : Fits size (length (body_of script.text))
+  pub fits : BodyFits size (length (body_of script.text))
 
 -- the same of a script of groups
 pub record IsGroupScriptThatFits (size : ℕ) (input : List ℕ) : Type 0 where
   pub script : GroupScript
   pub head : Head
   pub has : HasGroupScript input script head
-  pub fits : Fits size (length (body_of script.text))
+  pub fits : BodyFits size (length (body_of script.text))
 
 -- the input is a saved text
 pub record IsSavedText (input : List ℕ) : Type 0 where
@@ -76,7 +76,7 @@ IsWithinLimits Groups chosen input = IsGroupScriptThatFits chosen.block input
 IsWithinLimits (Serve json) chosen input = Unit {0}
 IsWithinLimits Replay chosen input = IsSavedText input
 IsWithinLimits (Tally from to) chosen input = IsSavedTextWith from to input
-IsWithinLimits (Make rows start) chosen input = Fits chosen.block (length (body_of (made_lines rows start)))
+IsWithinLimits (Make rows start) chosen input = BodyFits chosen.block (length (body_of (made_lines rows start)))
 
 -- The source had this input left, and told it; the input has at most 16,777,216 bytes. No read failed: each that fails raises the count of faults,
 -- up to its last value, and no other changes it.
@@ -88,13 +88,13 @@ pub record Gives (source : SourceUse) (input : List ℕ) : Type 0 where
 -- Nothing hinders the run: the words ask for this command with these limits, what it works on is within the grammars and limits, the source gives
 -- it, and no write failed. Of a command that reads nothing the input may be anything.
 pub record IsUnhindered (words : List (List ℕ)) (command : Command) (chosen : Chosen) (input : List ℕ) (source : SourceUse) (sink : SinkUse) : Type 0 where
-  pub asked : Ask words command chosen
+  pub asked : AsksCommand words command chosen
   pub within : IsWithinLimits command chosen input
   pub given : reads_input command ≡ true → Gives source input
   pub no_fault : ¬ Rose sink.faults_before sink.faults_after
 
 -- the status says what one carriage makes of the file: done where it is sound, broken where a line breaks a rule
-pub record IsStatusOf (chosen : Chosen) (input : List ℕ) (result : Status) : Type 0 where
+pub record IsFileStatus (chosen : Chosen) (input : List ℕ) (result : Status) : Type 0 where
   pub head : Head
   pub has : HasHead input head
   pub verdict_given : Verdict
@@ -104,9 +104,9 @@ pub record IsStatusOf (chosen : Chosen) (input : List ℕ) (result : Status) : T
 
 -- what was asked for was done: for a file that is checked the status is that of its verdict
 abbrev pub WasDone : Command → Chosen → List ℕ → Status → Type 0
-WasDone (Check loops json) chosen input result = IsStatusOf chosen input result
+WasDone (Check loops json) chosen input result = IsFileStatus chosen input result
 WasDone Text chosen input result = result ≡ Done
-WasDone Passes chosen input result = IsStatusOf chosen input result
+WasDone Passes chosen input result = IsFileStatus chosen input result
 WasDone Live chosen input result = result ≡ Done
 WasDone Save chosen input result = result ≡ Done
 WasDone Groups chosen input result = result ≡ Done

@@ -13,7 +13,7 @@ use Rattle.verdict_report.specs.declared.refusal.Refusal.TheVariants as refusal
 use Rattle.verdict_report.specs.Refusals.{refusal_text}
 use Rattle.input_answers.specs.declared.outcome.Status.{Status}
 use Rattle.input_answers.specs.declared.outcome.Status.TheVariants.{Usage, ReadFault, TooLarge, WriteFault, NoMemory}
-use Rattle.input_answers.specs.Asked.{Ask, AreRefused, reads_file, reads_input, reads_script}
+use Rattle.input_answers.specs.Asked.{AsksCommand, AreRefused, reads_file, reads_input, reads_script}
 use Rattle.input_answers.specs.Due.{Due}
 use Rattle.input_answers.specs.DueGroups.{DueGroups}
 use Rattle.input_answers.specs.DueLive.{DueLive}
@@ -56,41 +56,41 @@ pub data Called (words : List (List ℕ)) (source : SourceUse) : Played → List
   -- the words are refused, and the source isn't touched
   usage : AreRefused words → IsUntouched source → Called words source nothing_played (refusal_text refusal.Usage) Usage
   -- a program is made, and the source isn't touched
-  made : (rows start : ℕ) (chosen : Chosen) (text : List ℕ) (status : Status) → Ask words (Make rows start) chosen → IsUntouched source
+  made : (rows start : ℕ) (chosen : Chosen) (text : List ℕ) (status : Status) → AsksCommand words (Make rows start) chosen → IsUntouched source
       → DueMade chosen rows start text status → Called words source nothing_played text status
   -- a file was read to its end
-  whole : (command : Command) (chosen : Chosen) (input text : List ℕ) (status : Status) → Ask words command chosen → reads_file command ≡ true
+  whole : (command : Command) (chosen : Chosen) (input text : List ℕ) (status : Status) → AsksCommand words command chosen → reads_file command ≡ true
       → Consumes source.left_before source.left_after input → IsAtEnd source.left_after → length input ≤ INPUT_LIMIT
       → Due command chosen input text status → Called words source nothing_played text status
   -- a script was read to its end
-  live : (command : Command) (chosen : Chosen) (input : List ℕ) (played : Played) (text : List ℕ) (status : Status) → Ask words command chosen → reads_script command ≡ true
+  live : (command : Command) (chosen : Chosen) (input : List ℕ) (played : Played) (text : List ℕ) (status : Status) → AsksCommand words command chosen → reads_script command ≡ true
       → Consumes source.left_before source.left_after input → IsAtEnd source.left_after → length input ≤ INPUT_LIMIT
       → DueLive (output_of command) chosen input played text status → Called words source played text status
   -- a script of groups was read to its end
-  groups : (chosen : Chosen) (input : List ℕ) (played : Played) (text : List ℕ) (status : Status) → Ask words Groups chosen
+  groups : (chosen : Chosen) (input : List ℕ) (played : Played) (text : List ℕ) (status : Status) → AsksCommand words Groups chosen
       → Consumes source.left_before source.left_after input → IsAtEnd source.left_after → length input ≤ INPUT_LIMIT
       → DueGroups chosen input played text status → Called words source played text status
   -- a saved text was read to its end
-  replay : (chosen : Chosen) (input text : List ℕ) (status : Status) → Ask words Replay chosen
+  replay : (chosen : Chosen) (input text : List ℕ) (status : Status) → AsksCommand words Replay chosen
       → Consumes source.left_before source.left_after input → IsAtEnd source.left_after → length input ≤ INPUT_LIMIT
       → DueReplay input text status → Called words source nothing_played text status
   -- a saved text was read to its end, of which a tally is asked
-  tally : (from to : ℕ) (chosen : Chosen) (input text : List ℕ) (status : Status) → Ask words (Tally from to) chosen
+  tally : (from to : ℕ) (chosen : Chosen) (input text : List ℕ) (status : Status) → AsksCommand words (Tally from to) chosen
       → Consumes source.left_before source.left_after input → IsAtEnd source.left_after → length input ≤ INPUT_LIMIT
       → DueTally from to input text status → Called words source nothing_played text status
   -- the source was read to one byte past the limit
-  large : (command : Command) (chosen : Chosen) (input : List ℕ) → Ask words command chosen → reads_input command ≡ true
+  large : (command : Command) (chosen : Chosen) (input : List ℕ) → AsksCommand words command chosen → reads_input command ≡ true
       → Consumes source.left_before source.left_after input → length input ≡ INPUT_LIMIT + 1
       → Called words source nothing_played (refusal_text refusal.TooManyBytes) TooLarge
   -- a read failed before that
-  broke : (command : Command) (chosen : Chosen) → Ask words command chosen → reads_input command ≡ true
+  broke : (command : Command) (chosen : Chosen) → AsksCommand words command chosen → reads_input command ≡ true
       → Rose source.faults_before source.faults_after → GaveAtMost INPUT_LIMIT source.left_before source.left_after
       → Called words source nothing_played (refusal_text refusal.ReadFault) ReadFault
 
 -- how much was read: nothing where the words are refused or ask for no input, and never more than a byte past the limit
 pub record HasReadWithin (words : List (List ℕ)) (source : SourceUse) : Type 0 where
   pub refused : AreRefused words → IsUntouched source
-  pub idle : (command : Command) (chosen : Chosen) → Ask words command chosen → reads_input command ≡ false → IsUntouched source
+  pub idle : (command : Command) (chosen : Chosen) → AsksCommand words command chosen → reads_input command ≡ false → IsUntouched source
   pub within : GaveAtMost (INPUT_LIMIT + 1) source.left_before source.left_after
 
 -- what the program did, what its sessions did, and the status with which it ended
@@ -104,5 +104,5 @@ pub data Ran (words : List (List ℕ)) (source : SourceUse) (sink : SinkUse) (pl
   -- memory ran out, the sink took nothing, and no more was read than ever is
   stopped : result ≡ NoMemory → played ≡ nothing_played → Keeps sink.taken_before sink.taken_after → HasReadWithin words source → Ran words source sink played result
   -- a conversation was answered: there are pieces that were heard and said in step, with this status; which, and which calls failed, the port told alone
-  conversed : (json : Bool) (chosen : Chosen) (pieces : List Piece) → Ask words (Serve json) chosen → played ≡ nothing_played → Served json chosen pieces result
+  conversed : (json : Bool) (chosen : Chosen) (pieces : List Piece) → AsksCommand words (Serve json) chosen → played ≡ nothing_played → Served json chosen pieces result
       → Ran words source sink played result

@@ -4,7 +4,7 @@ ghost use Rattle.machine_profile.specs.declared.Chosen.{Chosen};
 ghost use Rattle.command_words.specs.declared.command.Command.{Command};
 ghost use Rattle.check_main.specs.Calls.{HasGiven, HasReadFor, IsCalled, IsDueFor, IsReading};
 ghost use Rattle.check_main.specs.Complete.{EndsWell, IsUnhindered};
-ghost use Rattle.input_answers.specs.Asked.{Ask, has_sessions, reads_file, reads_input};
+ghost use Rattle.input_answers.specs.Asked.{AsksCommand, has_sessions, reads_file, reads_input};
 ghost use Rattle.input_answers.specs.Played.{played_by};
 ghost use Rattle.check_main.specs.Top.{HasReadWithin, Ran, SourceUse, sink_use, source_use};
 ghost use Rattle.knit_ports.specs.Whole.{GaveAtMost};
@@ -91,7 +91,7 @@ fn carry_out<R: Threads + Wait + Sync, S: Source, K: Sink, G: Gate + Sync>(
     sink: &mut K,
     gate: &G,
 ) -> Outcome
-    ensures { (words : List (List ℕ)) → Ask words plan.now.command plan.now.chosen → Ran words (source_use S.left S.faults source.old source.new)
+    ensures { (words : List (List ℕ)) → AsksCommand words plan.now.command plan.now.chosen → Ran words (source_use S.left S.faults source.old source.new)
         (sink_use K.taken K.faults sink.old sink.new) (played_by result) result.status }
 {
     match plan.command {
@@ -123,7 +123,7 @@ pub(crate) fn run_alone<R: Threads + Sync, S: Source, K: Sink>(
     sink: &mut K,
 ) -> Outcome
     requires { has_sessions plan.now.command ≡ false }
-    ensures ran { (words : List (List ℕ)) → Ask words plan.now.command plan.now.chosen → Ran words (source_use S.left S.faults source.old source.new)
+    ensures ran { (words : List (List ℕ)) → AsksCommand words plan.now.command plan.now.chosen → Ran words (source_use S.left S.faults source.old source.new)
         (sink_use K.taken K.faults sink.old sink.new) (played_by result) result.status }
     ensures complete { (words : List (List ℕ)) (input : List ℕ)
         → IsUnhindered words plan.now.command plan.now.chosen input (source_use S.left S.faults source.old source.new)

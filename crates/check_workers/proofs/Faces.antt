@@ -9,13 +9,13 @@ use Rattle.knit_base.specs.declared.profile.Profile.{Profile}
 use Rattle.knitout_reader.specs.Reading.{ReadsAs}
 use Rattle.knitout_reader.proofs.SomeReading.{each-reads}
 use Rattle.face_data.specs.Composition.{composed}
-use Rattle.face_data.specs.Sets.{IsWithin}
+use Rattle.face_data.specs.Sets.{AreNeedlesWithin}
 use Rattle.face_data.specs.Stands.{StandsFor}
 use Rattle.face_data.specs.Summaries.{Summary}
 use Rattle.face_data.proofs.Goodness.{composed_good, good_within}
 use Rattle.face_data.proofs.Stands.{stands_both}
-use Rattle.block_summary.specs.Prepared.{AreKnown, AreReadings}
-use Rattle.block_summary.specs.NamedNeedles.{named}
+use Rattle.block_summary.specs.Prepared.{AreNeedlesKnown, AreReadings}
+use Rattle.block_summary.specs.NamedNeedles.{needles_named}
 use Rattle.block_summary.proofs.Blocks.{named_known}
 use Rattle.check_workers.specs.Faces.{IsFaceOf}
 
@@ -36,7 +36,7 @@ split_readings profile names (line ∷ first) second (r ∷ lines) read =
     record { xs = r ∷ later.xs; ys = later.ys; both = ap (λ rs. r ∷ rs) later.both; of_first = (read.0, later.of_first); of_second = later.of_second }
 
 -- needles of both lists among those of one
-within_one : (known : List Needle) → IsWithin (known ++ known) known
+within_one : (known : List Needle) → AreNeedlesWithin (known ++ known) known
 within_one known n there = elim (Contains-append_cases known known n there) [ inl here ↦ here | inr here ↦ here ]
 
 -- the face of one text, and of the one behind it
@@ -45,11 +45,11 @@ pub face_both : (profile : Profile) (names first second : List (List ℕ)) (a b 
 face_both profile names first second a b of_first of_second = record {
   stands = λ lines read. (let split = split_readings profile names first second lines read in
       subst (StandsFor profile (composed a b)) (sym split.both)
-      (stands_both profile (length names) profile.hold (named split.xs) (named split.ys) a b split.xs split.ys
-      (of_first.good split.xs split.of_first (named split.xs) (named_known split.xs)) (of_second.good split.ys split.of_second (named split.ys) (named_known split.ys))
+      (stands_both profile (length names) profile.hold (needles_named split.xs) (needles_named split.ys) a b split.xs split.ys
+      (of_first.good split.xs split.of_first (needles_named split.xs) (named_known split.xs)) (of_second.good split.ys split.of_second (needles_named split.ys) (named_known split.ys))
       (of_first.stands split.xs split.of_first) (of_second.stands split.ys split.of_second)));
   good = λ lines read known knows. (let split = split_readings profile names first second lines read in
-      let knows_both : AreKnown known (split.xs ++ split.ys) = subst (AreKnown known) split.both knows in
+      let knows_both : AreNeedlesKnown known (split.xs ++ split.ys) = subst (AreNeedlesKnown known) split.both knows in
       good_within (length names) profile.hold (known ++ known) known (composed a b) (within_one known)
       (composed_good (length names) profile.hold known known a b
       (of_first.good split.xs split.of_first known (λ r there. knows_both r (Contains-append_left split.xs split.ys r there)))

@@ -7,13 +7,13 @@ use Rattle.face_data.specs.Goodness.{IsGood}
 use Rattle.face_data.specs.Spots.{IsNumbered}
 use Rattle.face_data.specs.Stands.{StandsFor}
 use Rattle.face_data.specs.Summaries.{Summary}
-use Rattle.block_summary.specs.Prepared.{AreKnown, AreReadings}
+use Rattle.block_summary.specs.Prepared.{AreNeedlesKnown, AreReadings}
 
 -- However the lines of the text are read with these names of carriers, the face stands for them, and it is good for the carriers, the limit on the loops of a
 -- needle and whatever needles are known that the lines name.
 pub record IsFaceOf (profile : Profile) (names text : List (List ℕ)) (face : Summary) : Type 0 where
   pub stands : (lines : List Read) → AreReadings profile names text lines → StandsFor profile face lines
-  pub good : (lines : List Read) → AreReadings profile names text lines → (known : List Needle) → AreKnown known lines → IsGood (length names) profile.hold known face
+  pub good : (lines : List Read) → AreReadings profile names text lines → (known : List Needle) → AreNeedlesKnown known lines → IsGood (length names) profile.hold known face
 
 -- both summaries are good for the same machine, whose needles have numbers of 16 bits
 pub record AreOfOneMachine (first second : Summary) : Type 0 where

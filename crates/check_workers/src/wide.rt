@@ -4,7 +4,7 @@ ghost use Rattle.std.specs.Thread.{IsSync};
 ghost use Rattle.knit_base.specs.Limits.{IsLawfulProfile};
 ghost use Rattle.block_summary.specs.Prepared.{IsPreparedFor};
 ghost use Rattle.block_summary.specs.declared.prepared.PrepareFault.{PrepareFault};
-ghost use Rattle.check_workers.specs.Pieces.{CanCut, CanJoin, IsOfBoth, IsPartOf, lines_of_pieces, place_of};
+ghost use Rattle.check_workers.specs.Pieces.{CanCut, CanJoin, IsOfBoth, IsPieceOf, lines_of_pieces, piece_start};
 
 use crate::pairs::join_faces;
 use block_summary::{MOST_LINES, PrepareFault, Prepared, prepare_part};
@@ -71,7 +71,7 @@ fn place_of(text: &BlockText, pieces: u32, i: u32) -> u32
     requires few { length text.now ≤ 4096 }
     requires pieces { (1 ≤ pieces) × (pieces ≤ 64) }
     requires inside { i ≤ pieces }
-    ensures { result ≡ place_of (length text.now) pieces i }
+    ensures { result ≡ piece_start (length text.now) pieces i }
 {
     text.len() * i / pieces
 }
@@ -87,7 +87,7 @@ fn prepare_pieces<R: Threads + Sync>(
     setting: &Setting,
 ) -> Result<Made, NoMemory>
     requires { CanCut setting.now text.now pieces from to }
-    ensures { IfOk result (λ made. IsPartOf setting.now (lines_of_pieces text.now pieces from to) (made.face, made.loops)) }
+    ensures { IfOk result (λ made. IsPieceOf setting.now (lines_of_pieces text.now pieces from to) (made.face, made.loops)) }
 {
     let _carriers = setting.declared.len();
     if to - from < 2 {
@@ -100,11 +100,11 @@ fn prepare_pieces<R: Threads + Sync>(
         rt,
         move || -> Result<Made, NoMemory>
             requires { IsSync R.row × CanCut setting.now text.now pieces from middle }
-            ensures { IfOk result (λ made. IsPartOf setting.entry.now (lines_of_pieces text.entry.now pieces from middle) (made.face, made.loops)) }
+            ensures { IfOk result (λ made. IsPieceOf setting.entry.now (lines_of_pieces text.entry.now pieces from middle) (made.face, made.loops)) }
         { prepare_pieces(rt, alloc, text, pieces, from, middle, setting) },
         move || -> Result<Made, NoMemory>
             requires { IsSync R.row × CanCut setting.now text.now pieces middle to }
-            ensures { IfOk result (λ made. IsPartOf setting.entry.now (lines_of_pieces text.entry.now pieces middle to) (made.face, made.loops)) }
+            ensures { IfOk result (λ made. IsPieceOf setting.entry.now (lines_of_pieces text.entry.now pieces middle to) (made.face, made.loops)) }
         { prepare_pieces(rt, alloc, text, pieces, middle, to, setting) },
     );
     both(rt, alloc, front?, back?)
@@ -123,7 +123,7 @@ fn prepare_piece<R: Threads>(
     requires ordered { start ≤ end }
     requires inside { end ≤ length text.now }
     requires few { length text.now ≤ 4096 }
-    ensures { IfOk result (λ made. IsPartOf setting.now (slice_range text.now start end) (made.face, made.loops)) }
+    ensures { IfOk result (λ made. IsPieceOf setting.now (slice_range text.now start end) (made.face, made.loops)) }
 {
     prepare_counted::<Brand, R>(rt, Blank::new(1), alloc, text, start, end, setting)
 }
@@ -142,7 +142,7 @@ fn prepare_counted<L: Ledger, R: Threads>(
     requires inside { end ≤ length text.now }
     requires few { length text.now ≤ 4096 }
     requires blank { (blank.name ≡ L.name) × (blank.parts ≡ L.parts) × (0 < L.parts) }
-    ensures { IfOk result (λ made. IsPartOf setting.now (slice_range text.now start end) (made.face, made.loops)) }
+    ensures { IfOk result (λ made. IsPieceOf setting.now (slice_range text.now start end) (made.face, made.loops)) }
 {
     let mut steps = Steps::<L>::start(rt, blank);
     let (face, loops) = prepare_part(alloc, text, start, end, setting, &mut steps)?;

@@ -4,12 +4,12 @@ use Rattle.std.specs.Prelude.{⊤, is_some, nat_le, slice_get}
 use Rattle.std.specs.List.{AllByRecursion, list_all, list_any}
 use Rattle.std.specs.Str.{bytes_eq}
 use Rattle.std.proofs.lemmas.Bool.{false≢true, true≢false}
-use Rattle.command_words.specs.Grammar.{Flag, Item, Name, Place, Setting, Text, are_distinct, begins_with_hyphen, is_end_of_options, is_flag, items_of, name_of, names_in, option_items, option_name, option_text, option_value, places_in, put, same_name, value_in, word_items}
+use Rattle.command_words.specs.Grammar.{Flag, Item, Name, Place, Setting, Text, are_distinct, begins_with_hyphen, is_end_of_options, is_flag, items_of, option_with_name, option_names_in, option_items, option_name, option_text, option_value, positional_words, put, same_name, value_in, word_items}
 use Rattle.command_words.specs.Taken.{is_value, taken_of}
-use Rattle.command_words.specs.Given.{IsGiven, IsLawful, are_lawful, is_on, now_of, plain_or_none}
+use Rattle.command_words.specs.Given.{IsGivenByItems, AreLawfulItems, are_lawful, is_on, now_of, plain_or_none}
 use Rattle.command_words.specs.Numbers.{is_number, number_or_none}
 use Rattle.command_words.specs.declared.given.Given.{Given}
-use Rattle.command_words.specs.Grammar.{Low, High, Rack, Hold, Block, Float, Loops, Json, spelling}
+use Rattle.command_words.specs.Grammar.{Low, High, Rack, Hold, Block, Float, Loops, Json, option_spelling}
 use Rattle.command_words.proofs.Rows.{stands_is}
 use Rattle.command_words.proofs.Walks.{MayWait}
 use Rattle.std.proofs.lemmas.Slice.Eq.{bytes_eq-Decides}
@@ -45,7 +45,7 @@ option_keeps H (Some n) (Some v) f g k items all e = by_test (is_flag n)
 word_keeps : (H : Item → Type 0) (word : Text) (t : Option Text) (f g : Option Name → Option (List Item)) → ((w : Option Name) → MayWait w → Keeps H (f w) (g w))
     → Keeps H (word_items word t f) (word_items word t g)
 word_keeps H word None f g k items all e = put_keeps H (Place word) (f None) (g None) (k None tt) items all e
-word_keeps H word (Some text) f g k items all e = option_keeps H (name_of (option_name text)) (option_value text) f g k items all e
+word_keeps H word (Some text) f g k items all e = option_keeps H (option_with_name (option_name text)) (option_value text) f g k items all e
 
 -- a word that doesn't begin with `-` is no flag
 no_hyphen : (word : Text) → begins_with_hyphen word ≡ false → is_value word ≡ true
@@ -102,16 +102,16 @@ lax_strict (word ∷ words) (Some n) may items all e = by_test (is_value word)
 -- ---- the test
 
 same_self : (n : Name) → same_name n n ≡ true
-same_self n = (bytes_eq-Decides (spelling n) (spelling n)).1 refl
+same_self n = (bytes_eq-Decides (option_spelling n) (option_spelling n)).1 refl
 
 -- a name that stands at the head doesn't stand again
 not_again : (m n : Name) (ns : List Name) → same_name m n ≡ true → list_any (same_name m) ns ≡ false → list_any (λ k. same_name k n) ns ≡ false
 not_again m n [] same none = refl
 not_again m n (k ∷ ns) same none = by_test (same_name k n)
     (λ here.
-    let mn : spelling m ≡ spelling n = (bytes_eq-Decides (spelling m) (spelling n)).0 same in
-    let kn : spelling k ≡ spelling n = (bytes_eq-Decides (spelling k) (spelling n)).0 here in
-    let mk : same_name m k ≡ true = (bytes_eq-Decides (spelling m) (spelling k)).1 (mn ∙ sym kn) in
+    let mn : option_spelling m ≡ option_spelling n = (bytes_eq-Decides (option_spelling m) (option_spelling n)).0 same in
+    let kn : option_spelling k ≡ option_spelling n = (bytes_eq-Decides (option_spelling k) (option_spelling n)).0 here in
+    let mk : same_name m k ≡ true = (bytes_eq-Decides (option_spelling m) (option_spelling k)).1 (mn ∙ sym kn) in
     absurd (true≢false (rw mk at none)))
     (λ other. rw other (not_again m n ns same (rest (same_name m k) (list_any (same_name m) ns) none)))
   where
@@ -133,22 +133,22 @@ not_of false e = refl
 
 -- where the head names m, the numbers of the rest are those of the whole
 numbers_after : (m : Name) (x : Item) (xs : List Item) → ((n : Name) → value_in n (x ∷ xs) ≡ Rattle.std.specs.Prelude.if◌then◌else◌ (same_name m n) (value_in m (x ∷ [])) (value_in n xs))
-    → list_any (same_name m) (names_in xs) ≡ false
+    → list_any (same_name m) (option_names_in xs) ≡ false
     → ((n : Name) → is_flag n ≡ false → number_or_none (value_in n (x ∷ xs)) ≡ true) → (n : Name) → is_flag n ≡ false → number_or_none (value_in n xs) ≡ true
 numbers_after m x xs is fresh h n flag = by_test (same_name m n)
-    (λ same. none_of (value_in n xs) (sym (stands_is n xs) ∙ not_again m n (names_in xs) same fresh))
+    (λ same. none_of (value_in n xs) (sym (stands_is n xs) ∙ not_again m n (option_names_in xs) same fresh))
     (λ other.
     let step : Rattle.std.specs.Prelude.if◌then◌else◌ (same_name m n) (value_in m (x ∷ [])) (value_in n xs) ≡ value_in n xs = rw other refl in
     ap number_or_none (sym (is n ∙ step)) ∙ h n flag)
 
-all_numbers : (items : List Item) → are_distinct (names_in items) ≡ true → ((n : Name) → is_flag n ≡ false → number_or_none (value_in n items) ≡ true) → AllByRecursion HasNumber items
+all_numbers : (items : List Item) → are_distinct (option_names_in items) ≡ true → ((n : Name) → is_flag n ≡ false → number_or_none (value_in n items) ≡ true) → AllByRecursion HasNumber items
 all_numbers [] distinct h = tt
 all_numbers (Place w ∷ xs) distinct h = (tt, all_numbers xs distinct h)
 all_numbers (Flag m ∷ xs) distinct h =
-    let parts = both_of (not (list_any (same_name m) (names_in xs))) (are_distinct (names_in xs)) distinct in
+    let parts = both_of (not (list_any (same_name m) (option_names_in xs))) (are_distinct (option_names_in xs)) distinct in
     (tt, all_numbers xs parts.1 (numbers_after m (Flag m) xs (λ n. rw (same_self m) refl) (not_of _ parts.0) h))
 all_numbers (Setting m v ∷ xs) distinct h =
-    let parts = both_of (not (list_any (same_name m) (names_in xs))) (are_distinct (names_in xs)) distinct in
+    let parts = both_of (not (list_any (same_name m) (option_names_in xs))) (are_distinct (option_names_in xs)) distinct in
     ((λ flag. rw (same_self m) at (h m flag)), all_numbers xs parts.1 (numbers_after m (Setting m v) xs (λ n. rw (same_self m) refl) (not_of _ parts.0) h))
 
 plain_places : (ps : List Text) → length ps ≤ 3 → plain_or_none (slice_get ps 0) ≡ true → plain_or_none (slice_get ps 1) ≡ true → plain_or_none (slice_get ps 2) ≡ true
@@ -166,7 +166,7 @@ place_plain (p ∷ ps) zero none = by_test (begins_with_hyphen p) (λ bad. absur
 place_plain (p ∷ ps) (suc i) none = by_test (begins_with_hyphen p) (λ bad. absurd (true≢false (rw bad at none))) (λ good. place_plain ps i (rw good at none))
 
 -- the test passes exactly where the items are lawful
-pub lawful_from : (items : List Item) (g : Given) → are_distinct (names_in items) ≡ true → length (places_in items) ≤ 3 → IsGiven items g → are_lawful g ≡ true → IsLawful items
+pub lawful_from : (items : List Item) (g : Given) → are_distinct (option_names_in items) ≡ true → length (positional_words items) ≤ 3 → IsGivenByItems items g → are_lawful g ≡ true → AreLawfulItems items
 lawful_from items g distinct few is test =
     let low = both_of (number_or_none (now_of g.low)) _ test in
     let high = both_of (number_or_none (now_of g.high)) _ low.1 in
@@ -180,7 +180,7 @@ lawful_from items g distinct few is test =
       fit = record {
         distinct = distinct;
         few = few;
-        plain = plain_places (places_in items) few (ap plain_or_none (sym is.first) ∙ one.0) (ap plain_or_none (sym is.second) ∙ two.0) (ap plain_or_none (sym is.third) ∙ two.1);
+        plain = plain_places (positional_words items) few (ap plain_or_none (sym is.first) ∙ one.0) (ap plain_or_none (sym is.second) ∙ two.0) (ap plain_or_none (sym is.third) ∙ two.1);
       };
       numbers = λ n flag. go n flag (ap number_or_none (sym is.low) ∙ low.0) (ap number_or_none (sym is.high) ∙ high.0) (ap number_or_none (sym is.rack) ∙ rack.0)
           (ap number_or_none (sym is.hold) ∙ hold.0) (ap number_or_none (sym is.block) ∙ block.0) (ap number_or_none (sym is.float) ∙ float.0);
@@ -198,7 +198,7 @@ lawful_from items g distinct few is test =
     go Json flag a b c d e f = absurd (true≢false flag)
 
 -- lawful items pass the test
-pub test_from : (items : List Item) (g : Given) → IsGiven items g → IsLawful items → are_lawful g ≡ true
+pub test_from : (items : List Item) (g : Given) → IsGivenByItems items g → AreLawfulItems items → are_lawful g ≡ true
 test_from items g is lawful =
     rw (
       ap number_or_none is.low ∙ lawful.numbers Low refl,
@@ -207,9 +207,9 @@ test_from items g is lawful =
       ap number_or_none is.hold ∙ lawful.numbers Hold refl,
       ap number_or_none is.block ∙ lawful.numbers Block refl,
       ap number_or_none is.float ∙ lawful.numbers Float refl,
-      ap plain_or_none is.first ∙ place_plain (places_in items) 0 lawful.fit.plain,
-      ap plain_or_none is.second ∙ place_plain (places_in items) 1 lawful.fit.plain,
-      ap plain_or_none is.third ∙ place_plain (places_in items) 2 lawful.fit.plain,
+      ap plain_or_none is.first ∙ place_plain (positional_words items) 0 lawful.fit.plain,
+      ap plain_or_none is.second ∙ place_plain (positional_words items) 1 lawful.fit.plain,
+      ap plain_or_none is.third ∙ place_plain (positional_words items) 2 lawful.fit.plain,
     ) refl
 
 every : (items : List Item) → AllByRecursion (λ x. ⊤) items
@@ -217,7 +217,7 @@ every [] = tt
 every (x ∷ xs) = (tt, every xs)
 
 -- what clap found of lawful words is what the grammar reads
-pub read_from : (words : List Text) (items : List Item) → taken_of None words ≡ Some items → IsLawful items → items_of None words ≡ Some items
+pub read_from : (words : List Text) (items : List Item) → taken_of None words ≡ Some items → AreLawfulItems items → items_of None words ≡ Some items
 read_from words items is lawful = lax_strict words None tt items (all_numbers items lawful.fit.distinct lawful.numbers) is
 
 -- what the grammar reads is what clap found
@@ -255,7 +255,7 @@ option_gives (Some n) (Some v) f g items e = by_test (is_flag n)
 
 word_gives : (word : Text) (t : Option Text) (f : Option Name → Option (List Item)) → ((w : Option Name) → MayWait w → Gives (f w)) → Gives (word_items word t f)
 word_gives word None f g items e = put_gives (Place word) (f None) tt (g None tt) items e
-word_gives word (Some text) f g items e = option_gives (name_of (option_name text)) (option_value text) f g items e
+word_gives word (Some text) f g items e = option_gives (option_with_name (option_name text)) (option_value text) f g items e
 
 all_places : (words : List Text) → AllByRecursion OptionOnly (map Place words)
 all_places [] = tt
@@ -280,14 +280,14 @@ flag_is_on n (Place w ∷ xs) flag all = flag_is_on n xs flag all.1
 flag_is_on n (Flag m ∷ xs) flag all = by_test (same_name m n) (λ same. rw same refl) (λ other. rw other (flag_is_on n xs flag all.1))
 flag_is_on n (Setting m v ∷ xs) flag all = by_test (same_name m n)
     (λ same.
-    let spelt : spelling m ≡ spelling n = (bytes_eq-Decides (spelling m) (spelling n)).0 same in
-    let name : name_of (spelling m) ≡ name_of (spelling n) = ap name_of spelt in
+    let spelt : option_spelling m ≡ option_spelling n = (bytes_eq-Decides (option_spelling m) (option_spelling n)).0 same in
+    let name : option_with_name (option_spelling m) ≡ option_with_name (option_spelling n) = ap option_with_name spelt in
     let one : Some m ≡ Some n = sym (named m) ∙ name ∙ named n in
     let clash : is_flag m ≡ is_flag n = ap (λ o. is_flag (Rattle.std.specs.Prelude.unwrap_or o m)) one in
     absurd (true≢false (sym flag ∙ sym clash ∙ all.0)))
     (λ other. rw other (flag_is_on n xs flag all.1))
   where
-    named : (k : Name) → name_of (spelling k) ≡ Some k
+    named : (k : Name) → option_with_name (option_spelling k) ≡ Some k
     named Low = refl
     named High = refl
     named Rack = refl

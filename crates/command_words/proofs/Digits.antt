@@ -15,22 +15,22 @@ use Rattle.std.specs.Prelude.{unsigned_abs}
 use Rattle.command_words.specs.Grammar.{Text}
 use Rattle.command_words.specs.Numbers.{digits_of, is_number}
 use Rattle.knit_base.proofs.Places.{by_test}
-use Rattle.command_words.proofs.Rows.{both}
+use Rattle.command_words.proofs.Rows.{both_hold}
 
 all_digits : (ds : List ℕ) → list_all is_ascii_digit ds ≡ true → AllDigits 10 ds
 all_digits [] e = tt
 all_digits (d ∷ ds) e =
-    let parts = both (is_ascii_digit d) (list_all is_ascii_digit ds) e in
-    let low : 48 ≤ d = let p = both (nat_le 48 d) (nat_le d 57) parts.0 in grind (arith, p) in
-    let high : d ≤ 57 = let p = both (nat_le 48 d) (nat_le d 57) parts.0 in grind (arith, p) in
+    let parts = both_hold (is_ascii_digit d) (list_all is_ascii_digit ds) e in
+    let low : 48 ≤ d = let p = both_hold (nat_le 48 d) (nat_le d 57) parts.0 in grind (arith, p) in
+    let high : d ≤ 57 = let p = both_hold (nat_le 48 d) (nat_le d 57) parts.0 in grind (arith, p) in
     let value = digit_value_digit d (low, high) in
     (omega (arith, value), all_digits ds parts.1)
 
 -- the digits of a number
 pub digits_are : (text : Text) → is_number text ≡ true → IsNumeral 10 (digits_of text) × (length (digits_of text) ≤ 10)
 digits_are text e =
-    let outer = both (nat_le 1 (length (digits_of text))) _ e in
-    let inner = both (nat_le (length (digits_of text)) 10) _ outer.1 in
+    let outer = both_hold (nat_le 1 (length (digits_of text))) _ e in
+    let inner = both_hold (nat_le (length (digits_of text)) 10) _ outer.1 in
     let some : 0 < length (digits_of text) = let p = outer.0 in grind (arith, p) in
     let few : length (digits_of text) ≤ 10 = let p = inner.0 in grind (arith, p) in
     ((some, all_digits (digits_of text) inner.1), few)
@@ -59,8 +59,8 @@ pub value_small : (ds : List ℕ) → AllDigits 10 ds → length ds ≤ 10 → d
 value_small ds all few = omega (arith, digits_value-lt 10 ds all, pow-le-pow_right {n = 10} (omega arith) few)
 
 -- what is a number has a numeral behind its sign, and its value fits 64 bits
-pub parses : (text : Text) → is_number text ≡ true → IsNumeral 10 (without_leading_sign text) × FitsSigned w64 (signed_digits_value 10 text)
-parses text e =
+pub number_parses : (text : Text) → is_number text ≡ true → IsNumeral 10 (without_leading_sign text) × FitsSigned w64 (signed_digits_value 10 text)
+number_parses text e =
     let same = digits_same text e in
     let are = digits_are text e in
     let small = value_small (digits_of text) are.0.1 are.1 in

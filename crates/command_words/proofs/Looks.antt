@@ -51,8 +51,8 @@ after_one (y ∷ ys) u = by_test (y == 45)
     short (y ∷ ys) (length ys) c.0 c.1 (other_second y ys e) (rw e refl) (rw e refl) refl c.2 (rw e refl) refl)
 
 -- every text has one of these looks
-pub looks : (word : Text) → IsUtf8 word → Looks word
-looks [] u = plain (record { other = refl; long = refl; short = refl }) refl
-looks (x ∷ xs) u = by_test (x == 45)
+pub every_word_looks : (word : Text) → IsUtf8 word → Looks word
+every_word_looks [] u = plain (record { other = refl; long = refl; short = refl }) refl
+every_word_looks (x ∷ xs) u = by_test (x == 45)
     (λ e. let same : x ≡ 45 = grind (arith, e) in subst (λ k. Looks (k ∷ xs)) (sym same) (after_one xs (subst (λ k. IsUtf8 (k ∷ xs)) same u)))
     (λ e. plain (record { other = other_head x xs e; long = rw e refl; short = rw e refl }) (rw e refl))

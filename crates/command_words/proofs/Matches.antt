@@ -12,12 +12,12 @@ use Rattle.clap.specs.Faults.{default_fault, defaults_fault, entered_fault, faul
 use Rattle.clap.specs.declared.parser.matches.ValueSource.TheVariants.{DefaultValue}
 use Rattle.clap.specs.Walk.{more_values}
 use Rattle.command_words.specs.Arguments.{check_app}
-use Rattle.command_words.specs.Grammar.{Name, Text, Low, High, Rack, Hold, Block, Float, Loops, Json, is_flag, spelling}
-use Rattle.command_words.proofs.Rules.{Spot, first, second, third, rule, shape, spot_id, spot_rule}
+use Rattle.command_words.specs.Grammar.{Name, Text, Low, High, Rack, Hold, Block, Float, Loops, Json, is_flag, option_spelling}
+use Rattle.command_words.proofs.Rules.{Spot, first, second, third, rule_of_option, command_shape, spot_id, spot_rule}
 use Rattle.knit_base.proofs.Places.{by_test}
 use Rattle.command_words.proofs.Rows.{added_row, at_row_none, has_row_is, or_first}
 use Rattle.command_words.proofs.Turns.{Fails, at, end_of, faults_from, place_of}
-use Rattle.command_words.proofs.WalkItems.{Stands, single}
+use Rattle.command_words.proofs.WalkItems.{Stands, single_value}
 use Rattle.command_words.proofs.Walks.{walk_for}
 
 -- ---- the start
@@ -48,23 +48,23 @@ all_defaults rows [] h = refl
 all_defaults rows (a ∷ rest) h = rw (h.0 rows) (all_defaults (with_default rows a) rest h.1)
 
 -- no default is at fault
-pub no_defaults_fault : (rows : List Row) → defaults_fault rows shape.rules ≡ []
-no_defaults_fault rows = all_defaults rows shape.rules (
-  (λ r. no_default_fault r (rule Low) refl),
+pub no_defaults_fault : (rows : List Row) → defaults_fault rows command_shape.rules ≡ []
+no_defaults_fault rows = all_defaults rows command_shape.rules (
+  (λ r. no_default_fault r (rule_of_option Low) refl),
   (
-    (λ r. no_default_fault r (rule High) refl),
+    (λ r. no_default_fault r (rule_of_option High) refl),
     (
-      (λ r. no_default_fault r (rule Rack) refl),
+      (λ r. no_default_fault r (rule_of_option Rack) refl),
       (
-        (λ r. no_default_fault r (rule Hold) refl),
+        (λ r. no_default_fault r (rule_of_option Hold) refl),
         (
-          (λ r. no_default_fault r (rule Block) refl),
+          (λ r. no_default_fault r (rule_of_option Block) refl),
           (
-            (λ r. no_default_fault r (rule Float) refl),
+            (λ r. no_default_fault r (rule_of_option Float) refl),
             (
-              (λ r. flag_default_fault r (rule Loops) refl),
+              (λ r. flag_default_fault r (rule_of_option Loops) refl),
               (
-                (λ r. flag_default_fault r (rule Json) refl),
+                (λ r. flag_default_fault r (rule_of_option Json) refl),
                 ((λ r. no_default_fault r (spot_rule first) refl), ((λ r. no_default_fault r (spot_rule second) refl), ((λ r. no_default_fault r (spot_rule third) refl), tt))),
               ),
             ),
@@ -93,13 +93,13 @@ none_within [] b c d none e f = rw (none, e) f
 
 -- where the walk fails, the command does
 pub fault_fails : (words : List Text) → Fails (faults_from start words) → Fails (fault_of check_app words)
-fault_fails words h = fails_within (walk_fault shape [] start words) _ _ _ (below (end_of start words).stopped) h
+fault_fails words h = fails_within (walk_fault command_shape [] start words) _ _ _ (below (end_of start words).stopped) h
 
 -- where the walk comes to its end with no fault, the command has none
 pub fault_none : (words : List Text) → faults_from start words ≡ [] → (end_of start words).stopped ≡ None → fault_of check_app words ≡ []
 fault_none words none at_top =
-    none_within (walk_fault shape [] start words) _ _ _ (below (end_of start words).stopped) none
-    (rw (no_defaults_fault (settled shape.rules (end_of start words).held).rows, at_top) refl)
+    none_within (walk_fault command_shape [] start words) _ _ _ (below (end_of start words).stopped) none
+    (rw (no_defaults_fault (settled command_shape.rules (end_of start words).held).rows, at_top) refl)
 
 -- ---- the rows
 
@@ -130,48 +130,48 @@ default_row k rows a v is = by_test (has_row a.id rows)
 -- ---- what the matches hold
 
 -- the rows with the flags that don't stand, which are `false`
-abbrev pub matched : List Row → List Row
-matched rows = with_default (with_default rows (rule Loops)) (rule Json)
+abbrev pub rows_with_flags : List Row → List Row
+rows_with_flags rows = with_default (with_default rows (rule_of_option Loops)) (rule_of_option Json)
 
 -- what the command finds are these rows
-pub finished_is : (h : Held) → finished shape.rules h ≡ matched (settled shape.rules h).rows
+pub finished_is : (h : Held) → finished command_shape.rules h ≡ rows_with_flags (settled command_shape.rules h).rows
 finished_is h =
-    let rows = (settled shape.rules h).rows in
-    let low = no_default rows (rule Low) refl in
-    let high = no_default (with_default rows (rule Low)) (rule High) refl ∙ low in
-    let rack = no_default (with_default (with_default rows (rule Low)) (rule High)) (rule Rack) refl ∙ high in
-    let hold = no_default (with_default (with_default (with_default rows (rule Low)) (rule High)) (rule Rack)) (rule Hold) refl ∙ rack in
-    let block = no_default (with_default (with_default (with_default (with_default rows (rule Low)) (rule High)) (rule Rack)) (rule Hold)) (rule Block) refl ∙ hold in
-    let float = no_default (with_default (with_default (with_default (with_default (with_default rows (rule Low)) (rule High)) (rule Rack)) (rule Hold)) (rule Block)) (rule Float) refl ∙ block in
-    let flags = ap matched float in
-    let all = matched (with_default (with_default (with_default (with_default (with_default (with_default rows (rule Low)) (rule High)) (rule Rack)) (rule Hold)) (rule Block)) (rule Float)) in
+    let rows = (settled command_shape.rules h).rows in
+    let low = no_default rows (rule_of_option Low) refl in
+    let high = no_default (with_default rows (rule_of_option Low)) (rule_of_option High) refl ∙ low in
+    let rack = no_default (with_default (with_default rows (rule_of_option Low)) (rule_of_option High)) (rule_of_option Rack) refl ∙ high in
+    let hold = no_default (with_default (with_default (with_default rows (rule_of_option Low)) (rule_of_option High)) (rule_of_option Rack)) (rule_of_option Hold) refl ∙ rack in
+    let block = no_default (with_default (with_default (with_default (with_default rows (rule_of_option Low)) (rule_of_option High)) (rule_of_option Rack)) (rule_of_option Hold)) (rule_of_option Block) refl ∙ hold in
+    let float = no_default (with_default (with_default (with_default (with_default (with_default rows (rule_of_option Low)) (rule_of_option High)) (rule_of_option Rack)) (rule_of_option Hold)) (rule_of_option Block)) (rule_of_option Float) refl ∙ block in
+    let flags = ap rows_with_flags float in
+    let all = rows_with_flags (with_default (with_default (with_default (with_default (with_default (with_default rows (rule_of_option Low)) (rule_of_option High)) (rule_of_option Rack)) (rule_of_option Hold)) (rule_of_option Block)) (rule_of_option Float)) in
     no_default (with_default (with_default all (spot_rule first)) (spot_rule second)) (spot_rule third) refl
     ∙ no_default (with_default all (spot_rule first)) (spot_rule second) refl ∙ no_default all (spot_rule first) refl ∙ flags
 
 -- the values of an option, a flag and a positional
-pub option_matched : (n : Name) (rows : List Row) → is_flag n ≡ false → all_of (spelling n) (matched rows) ≡ all_of (spelling n) rows
-option_matched Low rows flag = default_row _ (with_default rows (rule Loops)) (rule Json) _ refl ∙ sym (none_first _) ∙ default_row _ rows (rule Loops) _ refl ∙ sym (none_first _)
-option_matched High rows flag = default_row _ (with_default rows (rule Loops)) (rule Json) _ refl ∙ sym (none_first _) ∙ default_row _ rows (rule Loops) _ refl ∙ sym (none_first _)
-option_matched Rack rows flag = default_row _ (with_default rows (rule Loops)) (rule Json) _ refl ∙ sym (none_first _) ∙ default_row _ rows (rule Loops) _ refl ∙ sym (none_first _)
-option_matched Hold rows flag = default_row _ (with_default rows (rule Loops)) (rule Json) _ refl ∙ sym (none_first _) ∙ default_row _ rows (rule Loops) _ refl ∙ sym (none_first _)
-option_matched Block rows flag = default_row _ (with_default rows (rule Loops)) (rule Json) _ refl ∙ sym (none_first _) ∙ default_row _ rows (rule Loops) _ refl ∙ sym (none_first _)
-option_matched Float rows flag = default_row _ (with_default rows (rule Loops)) (rule Json) _ refl ∙ sym (none_first _) ∙ default_row _ rows (rule Loops) _ refl ∙ sym (none_first _)
+pub option_matched : (n : Name) (rows : List Row) → is_flag n ≡ false → all_of (option_spelling n) (rows_with_flags rows) ≡ all_of (option_spelling n) rows
+option_matched Low rows flag = default_row _ (with_default rows (rule_of_option Loops)) (rule_of_option Json) _ refl ∙ sym (none_first _) ∙ default_row _ rows (rule_of_option Loops) _ refl ∙ sym (none_first _)
+option_matched High rows flag = default_row _ (with_default rows (rule_of_option Loops)) (rule_of_option Json) _ refl ∙ sym (none_first _) ∙ default_row _ rows (rule_of_option Loops) _ refl ∙ sym (none_first _)
+option_matched Rack rows flag = default_row _ (with_default rows (rule_of_option Loops)) (rule_of_option Json) _ refl ∙ sym (none_first _) ∙ default_row _ rows (rule_of_option Loops) _ refl ∙ sym (none_first _)
+option_matched Hold rows flag = default_row _ (with_default rows (rule_of_option Loops)) (rule_of_option Json) _ refl ∙ sym (none_first _) ∙ default_row _ rows (rule_of_option Loops) _ refl ∙ sym (none_first _)
+option_matched Block rows flag = default_row _ (with_default rows (rule_of_option Loops)) (rule_of_option Json) _ refl ∙ sym (none_first _) ∙ default_row _ rows (rule_of_option Loops) _ refl ∙ sym (none_first _)
+option_matched Float rows flag = default_row _ (with_default rows (rule_of_option Loops)) (rule_of_option Json) _ refl ∙ sym (none_first _) ∙ default_row _ rows (rule_of_option Loops) _ refl ∙ sym (none_first _)
 option_matched Loops rows flag = absurd (true≢false flag)
 option_matched Json rows flag = absurd (true≢false flag)
 
 -- they leave the positional words as they are
-pub spot_matched : (s : Spot) (rows : List Row) → all_of (spot_id s) (matched rows) ≡ all_of (spot_id s) rows
-spot_matched first rows = default_row _ (with_default rows (rule Loops)) (rule Json) _ refl ∙ sym (none_first _) ∙ default_row _ rows (rule Loops) _ refl ∙ sym (none_first _)
-spot_matched second rows = default_row _ (with_default rows (rule Loops)) (rule Json) _ refl ∙ sym (none_first _) ∙ default_row _ rows (rule Loops) _ refl ∙ sym (none_first _)
-spot_matched third rows = default_row _ (with_default rows (rule Loops)) (rule Json) _ refl ∙ sym (none_first _) ∙ default_row _ rows (rule Loops) _ refl ∙ sym (none_first _)
+pub spot_matched : (s : Spot) (rows : List Row) → all_of (spot_id s) (rows_with_flags rows) ≡ all_of (spot_id s) rows
+spot_matched first rows = default_row _ (with_default rows (rule_of_option Loops)) (rule_of_option Json) _ refl ∙ sym (none_first _) ∙ default_row _ rows (rule_of_option Loops) _ refl ∙ sym (none_first _)
+spot_matched second rows = default_row _ (with_default rows (rule_of_option Loops)) (rule_of_option Json) _ refl ∙ sym (none_first _) ∙ default_row _ rows (rule_of_option Loops) _ refl ∙ sym (none_first _)
+spot_matched third rows = default_row _ (with_default rows (rule_of_option Loops)) (rule_of_option Json) _ refl ∙ sym (none_first _) ∙ default_row _ rows (rule_of_option Loops) _ refl ∙ sym (none_first _)
 
 -- `--loops` is what stands, or `false`
-pub loops_matched : (rows : List Row) → all_of (spelling Loops) (matched rows) ≡ or_first (all_of (spelling Loops) rows) (Some (codes "false" ∷ []))
-loops_matched rows = default_row _ (with_default rows (rule Loops)) (rule Json) _ refl ∙ sym (none_first _) ∙ default_row _ rows (rule Loops) _ refl
+pub loops_matched : (rows : List Row) → all_of (option_spelling Loops) (rows_with_flags rows) ≡ or_first (all_of (option_spelling Loops) rows) (Some (codes "false" ∷ []))
+loops_matched rows = default_row _ (with_default rows (rule_of_option Loops)) (rule_of_option Json) _ refl ∙ sym (none_first _) ∙ default_row _ rows (rule_of_option Loops) _ refl
 
 -- `--json` is what stands, or `false`
-pub json_matched : (rows : List Row) → all_of (spelling Json) (matched rows) ≡ or_first (all_of (spelling Json) rows) (Some (codes "false" ∷ []))
-json_matched rows = default_row _ (with_default rows (rule Loops)) (rule Json) _ refl ∙ ap (λ o. or_first o (Some (codes "false" ∷ []))) (default_row _ rows (rule Loops) _ refl ∙ sym (none_first _))
+pub json_matched : (rows : List Row) → all_of (option_spelling Json) (rows_with_flags rows) ≡ or_first (all_of (option_spelling Json) rows) (Some (codes "false" ∷ []))
+json_matched rows = default_row _ (with_default rows (rule_of_option Loops)) (rule_of_option Json) _ refl ∙ ap (λ o. or_first o (Some (codes "false" ∷ []))) (default_row _ rows (rule_of_option Loops) _ refl ∙ sym (none_first _))
 
 -- `get_str` reads the first value
 pub first_is : (k : Text) (rows : List Row) → first_of k rows ≡ option_and_then (λ vs. slice_get vs 0) (all_of k rows)
@@ -182,6 +182,6 @@ first_is k rows = go (find (λ r. bytes_eq r.id k) rows)
     go (Some r) = refl
 
 -- the first of a single value is that value
-pub first_single : (o : Option Text) → option_and_then (λ vs. slice_get vs 0) (single o) ≡ o
+pub first_single : (o : Option Text) → option_and_then (λ vs. slice_get vs 0) (single_value o) ≡ o
 first_single None = refl
 first_single (Some v) = refl

@@ -8,7 +8,7 @@ use Rattle.std.proofs.lemmas.List.Folds.{list_any-append}
 use Rattle.clap.specs.Walk.{Row, all_of, at_row, has_row, with_values, without, more_values}
 use Rattle.clap.specs.declared.builder.value_parser.Reading.{Reading}
 use Rattle.clap.specs.declared.parser.matches.ValueSource.TheVariants.{CommandLine}
-use Rattle.command_words.specs.Grammar.{Name, Text, Item, Flag, Setting, Place, are_distinct, names_in, places_in, same_name, spelling, value_in, Low, High, Rack, Hold, Block, Float, Loops, Json}
+use Rattle.command_words.specs.Grammar.{Name, Text, Item, Flag, Setting, Place, are_distinct, option_names_in, positional_words, same_name, option_spelling, value_in, Low, High, Rack, Hold, Block, Float, Loops, Json}
 use Rattle.command_words.proofs.Rules.{Spot, first, second, third, spot_at, spot_id}
 use Rattle.knit_base.proofs.Places.{by_test}
 
@@ -31,9 +31,9 @@ abbrev pub row : Text → Reading → Text → Row
 row id how v = record { id = id; values = v ∷ []; count = None; source = Some CommandLine; reading = how }
 
 -- a value under an id that has no row is a row more
-pub fresh : (id : Text) (how : Reading) (v : Text) (rows : List Row) → has_row id rows ≡ false
+pub fresh_row_appends : (id : Text) (how : Reading) (v : Text) (rows : List Row) → has_row id rows ≡ false
     → with_values id how CommandLine (v ∷ []) (without id rows) ≡ rows ++ row id how v ∷ []
-fresh id how v rows none =
+fresh_row_appends id how v rows none =
     let same : without id rows ≡ rows = at_row_none id (λ _. []) [] rows none ∙ append-nil rows in
     ap (with_values id how CommandLine (v ∷ [])) same ∙ at_row_none id (more_values CommandLine (v ∷ [])) (row id how v ∷ []) rows none
 
@@ -69,21 +69,21 @@ value_in_more n (Setting m v ∷ xs) ys = by_test (same_name m n)
 value_in_more n (Place w ∷ xs) ys = value_in_more n xs ys
 
 -- the names of two lists of items, one after the other
-pub names_in_more : (xs ys : List Item) → names_in (xs ++ ys) ≡ names_in xs ++ names_in ys
+pub names_in_more : (xs ys : List Item) → option_names_in (xs ++ ys) ≡ option_names_in xs ++ option_names_in ys
 names_in_more [] ys = refl
 names_in_more (Flag m ∷ xs) ys = ap (λ l. m ∷ l) (names_in_more xs ys)
 names_in_more (Setting m v ∷ xs) ys = ap (λ l. m ∷ l) (names_in_more xs ys)
 names_in_more (Place w ∷ xs) ys = names_in_more xs ys
 
 -- the positional words of two lists of items, one after the other
-pub places_in_more : (xs ys : List Item) → places_in (xs ++ ys) ≡ places_in xs ++ places_in ys
+pub places_in_more : (xs ys : List Item) → positional_words (xs ++ ys) ≡ positional_words xs ++ positional_words ys
 places_in_more [] ys = refl
 places_in_more (Flag m ∷ xs) ys = places_in_more xs ys
 places_in_more (Setting m v ∷ xs) ys = places_in_more xs ys
 places_in_more (Place w ∷ xs) ys = ap (λ l. w ∷ l) (places_in_more xs ys)
 
 -- the name stands among the items where it has a value
-pub stands_is : (n : Name) (xs : List Item) → list_any (λ m. same_name m n) (names_in xs) ≡ is_some (value_in n xs)
+pub stands_is : (n : Name) (xs : List Item) → list_any (λ m. same_name m n) (option_names_in xs) ≡ is_some (value_in n xs)
 stands_is n [] = refl
 stands_is n (Flag m ∷ xs) = by_test (same_name m n)
     (λ e. rw e refl)
@@ -103,30 +103,30 @@ and_right true b e = e
 and_right false b e = refl
 
 -- each of the two holds where both do
-pub both : (a b : Bool) → (a && b) ≡ true → (a ≡ true) × (b ≡ true)
-both true b e = (refl, e)
-both false b e = absurd (false≢true e)
+pub both_hold : (a b : Bool) → (a && b) ≡ true → (a ≡ true) × (b ≡ true)
+both_hold true b e = (refl, e)
+both_hold false b e = absurd (false≢true e)
 
 -- a name that stands may not stand again, and one that doesn't may
-pub twice : (n : Name) (ns ms : List Name) → list_any (λ m. same_name m n) ns ≡ true → are_distinct (ns ++ n ∷ ms) ≡ false
-twice n [] ms e = absurd (false≢true e)
-twice n (m ∷ ns) ms e = by_test (same_name m n)
+pub name_twice_not_distinct : (n : Name) (ns ms : List Name) → list_any (λ m. same_name m n) ns ≡ true → are_distinct (ns ++ n ∷ ms) ≡ false
+name_twice_not_distinct n [] ms e = absurd (false≢true e)
+name_twice_not_distinct n (m ∷ ns) ms e = by_test (same_name m n)
     (λ same.
     let here : list_any (same_name m) (ns ++ n ∷ ms) ≡ true =
     list_any-append (same_name m) ns (n ∷ ms) ∙ or_right (list_any (same_name m) ns) _ (rw same refl) in
     rw here refl)
-    (λ other. and_right (not (list_any (same_name m) (ns ++ n ∷ ms))) _ (twice n ns ms (rw other at e)))
+    (λ other. and_right (not (list_any (same_name m) (ns ++ n ∷ ms))) _ (name_twice_not_distinct n ns ms (rw other at e)))
 
 -- a name more that doesn't stand yet leaves them distinct
-pub once : (n : Name) (ns : List Name) → list_any (λ m. same_name m n) ns ≡ false → are_distinct ns ≡ true → are_distinct (ns ++ n ∷ []) ≡ true
-once n [] none distinct = refl
-once n (m ∷ ns) none distinct = by_test (same_name m n)
+pub name_once_distinct : (n : Name) (ns : List Name) → list_any (λ m. same_name m n) ns ≡ false → are_distinct ns ≡ true → are_distinct (ns ++ n ∷ []) ≡ true
+name_once_distinct n [] none distinct = refl
+name_once_distinct n (m ∷ ns) none distinct = by_test (same_name m n)
     (λ same. absurd (true≢false (rw same at none)))
     (λ other.
-    let parts = both (not (list_any (same_name m) ns)) (are_distinct ns) distinct in
+    let parts = both_hold (not (list_any (same_name m) ns)) (are_distinct ns) distinct in
     let fewer : list_any (same_name m) ns ≡ false = not_true _ parts.0 in
     let here : list_any (same_name m) (ns ++ n ∷ []) ≡ false = list_any-append (same_name m) ns (n ∷ []) ∙ rw (fewer, other) refl in
-    rw here (once n ns (rw other at none) parts.1))
+    rw here (name_once_distinct n ns (rw other at none) parts.1))
   where
     not_true : (b : Bool) → not b ≡ true → b ≡ false
     not_true true e = absurd (false≢true e)
@@ -135,7 +135,7 @@ once n (m ∷ ns) none distinct = by_test (same_name m n)
 -- ---- ids
 
 -- no option has the id of a positional word
-pub names_apart : (n : Name) (s : Spot) → bytes_eq (spelling n) (spot_id s) ≡ false
+pub names_apart : (n : Name) (s : Spot) → bytes_eq (option_spelling n) (spot_id s) ≡ false
 names_apart Low first = refl
 names_apart Low second = refl
 names_apart Low third = refl
@@ -162,7 +162,7 @@ names_apart Json second = refl
 names_apart Json third = refl
 
 -- no positional word has the id of an option
-pub spots_apart : (s : Spot) (n : Name) → bytes_eq (spot_id s) (spelling n) ≡ false
+pub spots_apart : (s : Spot) (n : Name) → bytes_eq (spot_id s) (option_spelling n) ≡ false
 spots_apart first Low = refl
 spots_apart first High = refl
 spots_apart first Rack = refl

@@ -9,7 +9,7 @@ use Rattle.std.proofs.lemmas.Bool.{false≢true, true≢false}
 use Rattle.clap.specs.Kinds.{Kinds, or_else}
 use Rattle.clap.specs.declared.error.kind.ErrorKind.TheVariants as kind
 use Rattle.command_words.specs.Arguments.{check_app, flag_rule, option_rule}
-use Rattle.command_words.specs.Grammar.{Name, Text, Low, High, Rack, Hold, Block, Float, Loops, Json, spelling, is_flag, name_of}
+use Rattle.command_words.specs.Grammar.{Name, Text, Low, High, Rack, Hold, Block, Float, Loops, Json, option_spelling, is_flag, option_with_name}
 
 -- the three positional words
 pub data Spot : Type 0 where
@@ -30,26 +30,26 @@ spot_rule second = with_index 2 (filled (new_rule (codes "rows")))
 spot_rule third = with_index 3 (filled (new_rule (codes "start")))
 
 -- the rule of an option or a flag
-abbrev pub rule : Name → Rule
-rule Low = filled (option_rule (codes "low"))
-rule High = filled (option_rule (codes "high"))
-rule Rack = filled (option_rule (codes "rack"))
-rule Hold = filled (option_rule (codes "hold"))
-rule Block = filled (option_rule (codes "block"))
-rule Float = filled (option_rule (codes "float"))
-rule Loops = filled (flag_rule (codes "loops"))
-rule Json = filled (flag_rule (codes "json"))
+abbrev pub rule_of_option : Name → Rule
+rule_of_option Low = filled (option_rule (codes "low"))
+rule_of_option High = filled (option_rule (codes "high"))
+rule_of_option Rack = filled (option_rule (codes "rack"))
+rule_of_option Hold = filled (option_rule (codes "hold"))
+rule_of_option Block = filled (option_rule (codes "block"))
+rule_of_option Float = filled (option_rule (codes "float"))
+rule_of_option Loops = filled (flag_rule (codes "loops"))
+rule_of_option Json = filled (flag_rule (codes "json"))
 
 -- all rules of the command, in their order
 abbrev pub rules : List Rule
-rules = rule Low ∷ rule High ∷ rule Rack ∷ rule Hold ∷ rule Block ∷ rule Float ∷ rule Loops ∷ rule Json ∷ spot_rule first ∷ spot_rule second ∷ spot_rule third ∷ []
+rules = rule_of_option Low ∷ rule_of_option High ∷ rule_of_option Rack ∷ rule_of_option Hold ∷ rule_of_option Block ∷ rule_of_option Float ∷ rule_of_option Loops ∷ rule_of_option Json ∷ spot_rule first ∷ spot_rule second ∷ spot_rule third ∷ []
 
 -- the shape of the command
-abbrev pub shape : Shape
-shape = (built check_app).top
+abbrev pub command_shape : Shape
+command_shape = (built check_app).top
 
 -- its rules are these
-pub rules_are : shape.rules ≡ rules
+pub rules_are : command_shape.rules ≡ rules
 rules_are = refl
 
 -- the command is a simple one
@@ -67,7 +67,7 @@ spot_at second = 1
 spot_at third = 2
 
 -- the rule under the id of an option
-pub by_id : (n : Name) → arg_by_id shape.rules (spelling n) ≡ Some (rule n)
+pub by_id : (n : Name) → arg_by_id command_shape.rules (option_spelling n) ≡ Some (rule_of_option n)
 by_id Low = refl
 by_id High = refl
 by_id Rack = refl
@@ -78,15 +78,15 @@ by_id Loops = refl
 by_id Json = refl
 
 -- the rule under the id of a positional word
-pub by_spot_id : (s : Spot) → arg_by_id shape.rules (spot_id s) ≡ Some (spot_rule s)
+pub by_spot_id : (s : Spot) → arg_by_id command_shape.rules (spot_id s) ≡ Some (spot_rule s)
 by_spot_id first = refl
 by_spot_id second = refl
 by_spot_id third = refl
 
 -- the rules by their long names, test by test
-long_by_tests : (a b c d e f g h : Bool) → cond (a || false) (Some (rule Low)) (cond (b || false) (Some (rule High)) (cond (c || false) (Some (rule Rack))
-    (cond (d || false) (Some (rule Hold)) (cond (e || false) (Some (rule Block)) (cond (f || false) (Some (rule Float)) (cond (g || false) (Some (rule Loops)) (cond (h || false) (Some (rule Json)) None)))))))
-    ≡ option_map rule (cond a (Some Low) (cond b (Some High) (cond c (Some Rack) (cond d (Some Hold) (cond e (Some Block) (cond f (Some Float) (cond g (Some Loops) (cond h (Some Json) None))))))))
+long_by_tests : (a b c d e f g h : Bool) → cond (a || false) (Some (rule_of_option Low)) (cond (b || false) (Some (rule_of_option High)) (cond (c || false) (Some (rule_of_option Rack))
+    (cond (d || false) (Some (rule_of_option Hold)) (cond (e || false) (Some (rule_of_option Block)) (cond (f || false) (Some (rule_of_option Float)) (cond (g || false) (Some (rule_of_option Loops)) (cond (h || false) (Some (rule_of_option Json)) None)))))))
+    ≡ option_map rule_of_option (cond a (Some Low) (cond b (Some High) (cond c (Some Rack) (cond d (Some Hold) (cond e (Some Block) (cond f (Some Float) (cond g (Some Loops) (cond h (Some Json) None))))))))
 long_by_tests true b c d e f g h = refl
 long_by_tests false true c d e f g h = refl
 long_by_tests false false true d e f g h = refl
@@ -98,22 +98,22 @@ long_by_tests false false false false false false false true = refl
 long_by_tests false false false false false false false false = refl
 
 -- the rule of the name behind `--`
-pub by_long : (t : Text) → arg_by_long shape.rules t ≡ option_map rule (name_of t)
-by_long t = long_by_tests (bytes_eq (spelling Low) t) (bytes_eq (spelling High) t) (bytes_eq (spelling Rack) t) (bytes_eq (spelling Hold) t)
-    (bytes_eq (spelling Block) t) (bytes_eq (spelling Float) t) (bytes_eq (spelling Loops) t) (bytes_eq (spelling Json) t)
+pub by_long : (t : Text) → arg_by_long command_shape.rules t ≡ option_map rule_of_option (option_with_name t)
+by_long t = long_by_tests (bytes_eq (option_spelling Low) t) (bytes_eq (option_spelling High) t) (bytes_eq (option_spelling Rack) t) (bytes_eq (option_spelling Hold) t)
+    (bytes_eq (option_spelling Block) t) (bytes_eq (option_spelling Float) t) (bytes_eq (option_spelling Loops) t) (bytes_eq (option_spelling Json) t)
 
 -- no letter has a rule
-pub by_short : (x : ℕ) → arg_by_short shape.rules x ≡ None
+pub by_short : (x : ℕ) → arg_by_short command_shape.rules x ≡ None
 by_short x = refl
 
 -- the rule at the place of a positional word
-pub by_index : (s : Spot) → arg_by_index shape.rules (1 + spot_at s) ≡ Some (spot_rule s)
+pub by_index : (s : Spot) → arg_by_index command_shape.rules (1 + spot_at s) ≡ Some (spot_rule s)
 by_index first = refl
 by_index second = refl
 by_index third = refl
 
 -- there is no fourth positional word
-pub past_index : arg_by_index shape.rules 4 ≡ None
+pub past_index : arg_by_index command_shape.rules 4 ≡ None
 past_index = refl
 
 -- an option's use with one value, and a flag's with none, fail only where it was used before
@@ -122,7 +122,7 @@ no_more [] = refl
 no_more (k ∷ ks) = refl
 
 -- a value of an option is at fault only where it stands already
-pub option_use : (n : Name) (v : Text) (rows : List Row) → is_flag n ≡ false → use_fault false (rule n) (v ∷ []) rows ≡ repeat_fault false (spelling n) rows
+pub option_use : (n : Name) (v : Text) (rows : List Row) → is_flag n ≡ false → use_fault false (rule_of_option n) (v ∷ []) rows ≡ repeat_fault false (option_spelling n) rows
 option_use Low v rows flag = no_more _
 option_use High v rows flag = no_more _
 option_use Rack v rows flag = no_more _
@@ -133,7 +133,7 @@ option_use Loops v rows bad = absurd (true≢false bad)
 option_use Json v rows bad = absurd (true≢false bad)
 
 -- so is a flag
-pub flag_use : (n : Name) (rows : List Row) → is_flag n ≡ true → use_fault false (rule n) [] rows ≡ repeat_fault false (spelling n) rows
+pub flag_use : (n : Name) (rows : List Row) → is_flag n ≡ true → use_fault false (rule_of_option n) [] rows ≡ repeat_fault false (option_spelling n) rows
 flag_use Loops rows flag = no_more _
 flag_use Json rows flag = no_more _
 flag_use Low rows bad = absurd (false≢true bad)
@@ -150,7 +150,7 @@ spot_use second v rows = no_more _
 spot_use third v rows = no_more _
 
 -- an option that waits has no value yet, and its use would fail
-pub waiting_use : (n : Name) (rows : List Row) → is_flag n ≡ false → use_fault false (rule n) [] rows ≡ kind.InvalidValue ∷ []
+pub waiting_use : (n : Name) (rows : List Row) → is_flag n ≡ false → use_fault false (rule_of_option n) [] rows ≡ kind.InvalidValue ∷ []
 waiting_use Low rows flag = refl
 waiting_use High rows flag = refl
 waiting_use Rack rows flag = refl
@@ -161,7 +161,7 @@ waiting_use Loops rows bad = absurd (true≢false bad)
 waiting_use Json rows bad = absurd (true≢false bad)
 
 -- an option takes a value where it is no flag
-pub takes_its_value : (n : Name) → takes_values (rule n) ≡ not (is_flag n)
+pub takes_its_value : (n : Name) → takes_values (rule_of_option n) ≡ not (is_flag n)
 takes_its_value Low = refl
 takes_its_value High = refl
 takes_its_value Rack = refl
@@ -172,7 +172,7 @@ takes_its_value Loops = refl
 takes_its_value Json = refl
 
 -- the id of an option is its name
-pub rule_id : (n : Name) → (rule n).id ≡ spelling n
+pub rule_id : (n : Name) → (rule_of_option n).id ≡ option_spelling n
 rule_id Low = refl
 rule_id High = refl
 rule_id Rack = refl

@@ -9,8 +9,8 @@ use Rattle.clap.specs.Faults.{settle_fault, use_fault, turn_fault, walk_fault, f
 use Rattle.clap.specs.Kinds.{Kinds, or_else}
 use Rattle.clap.specs.declared.error.kind.ErrorKind.{ErrorKind}
 use Rattle.std.proofs.lemmas.Bool.{true≢false}
-use Rattle.command_words.specs.Grammar.{Name, Text, Low, High, Rack, Hold, Block, Float, Loops, Json, spelling, is_flag, name_of}
-use Rattle.command_words.proofs.Rules.{Spot, first, second, third, shape, rule, spot_rule, spot_id, spot_at, by_long, by_index, takes_its_value, rule_id}
+use Rattle.command_words.specs.Grammar.{Name, Text, Low, High, Rack, Hold, Block, Float, Loops, Json, option_spelling, is_flag, option_with_name}
+use Rattle.command_words.proofs.Rules.{Spot, first, second, third, command_shape, rule_of_option, spot_rule, spot_id, spot_at, by_long, by_index, takes_its_value, rule_id}
 
 -- there is a fault
 abbrev pub Fails : Kinds → Type 0
@@ -31,27 +31,27 @@ at h waiting position is_trailing = record { held = h; waiting = waiting; positi
 
 -- the walk after the words
 abbrev pub end_of : Walk → List Text → Walk
-end_of w words = fold (walked shape.rules []) w words
+end_of w words = fold (walked command_shape.rules []) w words
 
 -- the faults of the words from here on, and of what is left at their end
 abbrev pub faults_from : Walk → List Text → Kinds
-faults_from w words = or_else (walk_fault shape [] w words) (settle_fault shape.rules false (end_of w words).held)
+faults_from w words = or_else (walk_fault command_shape [] w words) (settle_fault command_shape.rules false (end_of w words).held)
 
 -- at the end what is pending is settled
-pub faults_at_end : (w : Walk) → faults_from w [] ≡ settle_fault shape.rules false w.held
+pub faults_at_end : (w : Walk) → faults_from w [] ≡ settle_fault command_shape.rules false w.held
 unfolding walk_fault
 faults_at_end w = refl
 
 -- a word without a fault is passed
-pub faults_step : (w after : Walk) (word : Text) (words : List Text) → turn_fault shape [] w word ≡ [] → walked shape.rules [] w word ≡ after
+pub faults_step : (w after : Walk) (word : Text) (words : List Text) → turn_fault command_shape [] w word ≡ [] → walked command_shape.rules [] w word ≡ after
     → faults_from w (word ∷ words) ≡ faults_from after words
 unfolding walk_fault
 faults_step w after word words none moves =
-    ap (λ ks. or_else (or_else ks (walk_fault shape [] (walked shape.rules [] w word) words)) (settle_fault shape.rules false (end_of w (word ∷ words)).held)) none
+    ap (λ ks. or_else (or_else ks (walk_fault command_shape [] (walked command_shape.rules [] w word) words)) (settle_fault command_shape.rules false (end_of w (word ∷ words)).held)) none
     ∙ ap (λ v. faults_from v words) moves
 
 -- a word at fault ends the walk
-pub faults_stuck : (w : Walk) (word : Text) (words : List Text) → Fails (turn_fault shape [] w word) → Fails (faults_from w (word ∷ words))
+pub faults_stuck : (w : Walk) (word : Text) (words : List Text) → Fails (turn_fault command_shape [] w word) → Fails (faults_from w (word ∷ words))
 unfolding walk_fault
 faults_stuck w word words h = fails_first _ _ (fails_first _ _ h)
 
@@ -68,13 +68,13 @@ abbrev pub dashes : Text
 dashes = 45 ∷ 45 ∷ []
 
 -- it is no fault
-pub turn_dashes : (h : Held) (waiting : Waiting) (p : ℕ) → turn_fault shape [] (at h waiting p false) dashes ≡ []
+pub turn_dashes : (h : Held) (waiting : Waiting) (p : ℕ) → turn_fault command_shape [] (at h waiting p false) dashes ≡ []
 turn_dashes h idle p = refl
 turn_dashes h (option id) p = refl
 turn_dashes h positional p = refl
 
 -- and what follows it is positional
-pub move_dashes : (h : Held) (waiting : Waiting) (p : ℕ) → walked shape.rules [] (at h waiting p false) dashes ≡ at h waiting p true
+pub move_dashes : (h : Held) (waiting : Waiting) (p : ℕ) → walked command_shape.rules [] (at h waiting p false) dashes ≡ at h waiting p true
 unfolding walked
 move_dashes h idle p = refl
 move_dashes h (option id) p = refl
@@ -84,75 +84,75 @@ move_dashes h positional p = refl
 
 -- an unknown option is a fault
 pub unknown_stuck : (h : Held) (waiting : Waiting) (p : ℕ) (word name : Text) (v : Option Text) → bytes_eq word dashes ≡ false → long_of word ≡ Some (name, v)
-    → name_of name ≡ None → Fails (turn_fault shape [] (at h waiting p false) word)
+    → option_with_name name ≡ None → Fails (turn_fault command_shape [] (at h waiting p false) word)
 unknown_stuck h waiting p word name v other is unknown =
-    let found : arg_by_long shape.rules name ≡ None = by_long name ∙ ap (option_map rule) unknown in
+    let found : arg_by_long command_shape.rules name ≡ None = by_long name ∙ ap (option_map rule_of_option) unknown in
     rw (no_subcommand waiting word, other, is, found) (fails_here _ _)
 
 -- the facts of a word that begins with `--` and names an option
 pub record IsLong (word name : Text) (v : Option Text) (n : Name) : Type 0 where
   pub other : bytes_eq word dashes ≡ false
   pub long : long_of word ≡ Some (name, v)
-  pub names : name_of name ≡ Some n
+  pub names : option_with_name name ≡ Some n
 
 -- an option by its long name has its rule
-pub long_rule : (word name : Text) (v : Option Text) (n : Name) → IsLong word name v n → arg_by_long shape.rules name ≡ Some (rule n)
-long_rule word name v n is = by_long name ∙ ap (option_map rule) is.names
+pub long_rule : (word name : Text) (v : Option Text) (n : Name) → IsLong word name v n → arg_by_long command_shape.rules name ≡ Some (rule_of_option n)
+long_rule word name v n is = by_long name ∙ ap (option_map rule_of_option) is.names
 
 -- a flag with a value
 pub valued_flag_stuck : (h : Held) (waiting : Waiting) (p : ℕ) (word name v : Text) (n : Name) → IsLong word name (Some v) n → is_flag n ≡ true
-    → Fails (turn_fault shape [] (at h waiting p false) word)
+    → Fails (turn_fault command_shape [] (at h waiting p false) word)
 valued_flag_stuck h waiting p word name v n is flag =
     rw (no_subcommand waiting word, is.other, is.long, long_rule word name (Some v) n is, takes_its_value n, flag) (fails_here _ _)
 
 -- where what is pending fails, so does any option that is known
 pub long_stuck : (h : Held) (waiting : Waiting) (p : ℕ) (word name : Text) (v : Option Text) (n : Name) → IsLong word name v n
-    → Fails (settle_fault shape.rules false h) → Fails (turn_fault shape [] (at h waiting p false) word)
+    → Fails (settle_fault command_shape.rules false h) → Fails (turn_fault command_shape [] (at h waiting p false) word)
 long_stuck h waiting p word name (Some v) n is bad = go (is_flag n) refl
   where
-    go : (b : Bool) → is_flag n ≡ b → Fails (turn_fault shape [] (at h waiting p false) word)
+    go : (b : Bool) → is_flag n ≡ b → Fails (turn_fault command_shape [] (at h waiting p false) word)
     go true flag = valued_flag_stuck h waiting p word name v n is flag
     go false flag = rw (no_subcommand waiting word, is.other, is.long, long_rule word name (Some v) n is, takes_its_value n, flag) (fails_first _ _ (fails_first _ _ bad))
 long_stuck h waiting p word name None n is bad = go (is_flag n) refl
   where
-    go : (b : Bool) → is_flag n ≡ b → Fails (turn_fault shape [] (at h waiting p false) word)
+    go : (b : Bool) → is_flag n ≡ b → Fails (turn_fault command_shape [] (at h waiting p false) word)
     go true flag = rw (no_subcommand waiting word, is.other, is.long, long_rule word name None n is, takes_its_value n, flag) (fails_first _ _ (fails_first _ _ bad))
     go false flag = rw (no_subcommand waiting word, is.other, is.long, long_rule word name None n is, takes_its_value n, flag) (fails_first _ _ bad)
 
 -- an option with its value after `=`, and a flag
 pub joined_turn : (h : Held) (p : ℕ) (word name v : Text) (n : Name) → IsLong word name (Some v) n → is_flag n ≡ false
-    → turn_fault shape [] (at h idle p false) word ≡ or_else (or_else (settle_fault shape.rules false h) (use_fault false (rule n) (v ∷ []) (settled shape.rules h).rows)) []
+    → turn_fault command_shape [] (at h idle p false) word ≡ or_else (or_else (settle_fault command_shape.rules false h) (use_fault false (rule_of_option n) (v ∷ []) (settled command_shape.rules h).rows)) []
 joined_turn h p word name v n is flag = rw (is.other, is.long, long_rule word name (Some v) n is, takes_its_value n, flag) refl
 
 -- and is kept
 pub joined_move : (h : Held) (p : ℕ) (word name v : Text) (n : Name) → IsLong word name (Some v) n → is_flag n ≡ false
-    → walked shape.rules [] (at h idle p false) word ≡ at (reacted shape.rules (rule n) (v ∷ []) h) idle p false
+    → walked command_shape.rules [] (at h idle p false) word ≡ at (reacted command_shape.rules (rule_of_option n) (v ∷ []) h) idle p false
 unfolding walked
 joined_move h p word name v n is flag = rw (is.other, is.long, long_rule word name (Some v) n is, takes_its_value n, flag) refl
 
 -- a flag isn't at fault where what is pending and it itself aren't
 pub flag_turn : (h : Held) (p : ℕ) (word name : Text) (n : Name) → IsLong word name None n → is_flag n ≡ true
-    → turn_fault shape [] (at h idle p false) word ≡ or_else (or_else (settle_fault shape.rules false h) (use_fault false (rule n) [] (settled shape.rules h).rows)) []
+    → turn_fault command_shape [] (at h idle p false) word ≡ or_else (or_else (settle_fault command_shape.rules false h) (use_fault false (rule_of_option n) [] (settled command_shape.rules h).rows)) []
 flag_turn h p word name n is flag = rw (is.other, is.long, long_rule word name None n is, takes_its_value n, flag) refl
 
 -- and is kept
 pub flag_move : (h : Held) (p : ℕ) (word name : Text) (n : Name) → IsLong word name None n → is_flag n ≡ true
-    → walked shape.rules [] (at h idle p false) word ≡ at (reacted shape.rules (rule n) [] h) idle p false
+    → walked command_shape.rules [] (at h idle p false) word ≡ at (reacted command_shape.rules (rule_of_option n) [] h) idle p false
 unfolding walked
 flag_move h p word name n is flag = rw (is.other, is.long, long_rule word name None n is, takes_its_value n, flag) refl
 
 -- an option that waits for its value
-abbrev pub awaiting : Name → Held → Held
-awaiting n h = record (settled shape.rules h) { pending = Some (spelling n, []) }
+abbrev pub held_awaiting : Name → Held → Held
+held_awaiting n h = record (settled command_shape.rules h) { pending = Some (option_spelling n, []) }
 
 -- an option without `=` isn't at fault where what is pending isn't
 pub option_turn : (h : Held) (p : ℕ) (word name : Text) (n : Name) → IsLong word name None n → is_flag n ≡ false
-    → turn_fault shape [] (at h idle p false) word ≡ or_else (settle_fault shape.rules false h) []
+    → turn_fault command_shape [] (at h idle p false) word ≡ or_else (settle_fault command_shape.rules false h) []
 option_turn h p word name n is flag = rw (is.other, is.long, long_rule word name None n is, takes_its_value n, flag) refl
 
 -- and waits for its value
 pub option_move : (h : Held) (p : ℕ) (word name : Text) (n : Name) → IsLong word name None n → is_flag n ≡ false
-    → walked shape.rules [] (at h idle p false) word ≡ at (awaiting n h) (option (spelling n)) p false
+    → walked command_shape.rules [] (at h idle p false) word ≡ at (held_awaiting n h) (option (option_spelling n)) p false
 unfolding walked
 option_move h p word name n is flag = rw (is.other, is.long, long_rule word name None n is, takes_its_value n, flag, rule_id n) refl
 
@@ -160,7 +160,7 @@ option_move h p word name n is flag = rw (is.other, is.long, long_rule word name
 
 -- letters behind a single `-` are a fault
 pub short_stuck : (h : Held) (waiting : Waiting) (p : ℕ) (word flags : Text) (k x : ℕ) (xs : List ℕ) → bytes_eq word dashes ≡ false → long_of word ≡ None → short_of word ≡ Some flags
-    → length flags ≡ suc k → chars flags ≡ x ∷ xs → h.skip ≡ 0 → Fails (turn_fault shape [] (at h waiting p false) word)
+    → length flags ≡ suc k → chars flags ≡ x ∷ xs → h.skip ≡ 0 → Fails (turn_fault command_shape [] (at h waiting p false) word)
 unfolding flags_fault
 short_stuck h waiting p word flags k x xs other long short some begins skip = rw (no_subcommand waiting word, other, long, short, skip, some, begins) (fails_here _ _)
 
@@ -182,7 +182,7 @@ not_several second = refl
 not_several third = refl
 
 -- a positional word is at fault where what is pending is
-pub place_fault : (s : Spot) (h : Held) → positional_fault shape.rules false (spot_rule s) h ≡ settle_fault shape.rules false h
+pub place_fault : (s : Spot) (h : Held) → positional_fault command_shape.rules false (spot_rule s) h ≡ settle_fault command_shape.rules false h
 place_fault s h = rw (not_several s) (and_false _ _)
 
 -- the place that comes next: a positional, or none
@@ -198,46 +198,46 @@ next_place third = None
 
 -- a positional word isn't at fault where what is pending and it itself aren't
 pub place_turn : (h : Held) (s : Spot) (word : Text) → IsPlainWord word
-    → turn_fault shape [] (at h idle (place_of (Some s)) false) word ≡ settle_fault shape.rules false h
+    → turn_fault command_shape [] (at h idle (place_of (Some s)) false) word ≡ settle_fault command_shape.rules false h
 place_turn h s word is = rw (is.other, is.long, is.short, by_index s) (place_fault s h)
 
 -- a fourth positional word is a fault
-pub past_stuck : (h : Held) (word : Text) → IsPlainWord word → Fails (turn_fault shape [] (at h idle 4 false) word)
+pub past_stuck : (h : Held) (word : Text) → IsPlainWord word → Fails (turn_fault command_shape [] (at h idle 4 false) word)
 past_stuck h word is = rw (is.other, is.long, is.short) (fails_here _ _)
 
 -- the word is held for the positional
-abbrev pub placed : Spot → Text → Held → Held
-placed s word h = record (settled shape.rules h) { pending = Some (spot_id s, word ∷ []) }
+abbrev pub held_positional : Spot → Text → Held → Held
+held_positional s word h = record (settled command_shape.rules h) { pending = Some (spot_id s, word ∷ []) }
 
 held_unless : (b : Bool) (h k : Held) → cond (b && false) h k ≡ k
 held_unless true h k = refl
 held_unless false h k = refl
 
 -- what is kept of a positional word
-pub place_held : (h : Held) (s : Spot) (word : Text) → positional_held shape.rules (spot_rule s) word h ≡ placed s word h
-place_held h first word = ap (pushed (spot_id first) word) (held_unless (is_pending (spot_rule first) h.pending) h (settled shape.rules h))
-place_held h second word = ap (pushed (spot_id second) word) (held_unless (is_pending (spot_rule second) h.pending) h (settled shape.rules h))
-place_held h third word = ap (pushed (spot_id third) word) (held_unless (is_pending (spot_rule third) h.pending) h (settled shape.rules h))
+pub place_held : (h : Held) (s : Spot) (word : Text) → positional_held command_shape.rules (spot_rule s) word h ≡ held_positional s word h
+place_held h first word = ap (pushed (spot_id first) word) (held_unless (is_pending (spot_rule first) h.pending) h (settled command_shape.rules h))
+place_held h second word = ap (pushed (spot_id second) word) (held_unless (is_pending (spot_rule second) h.pending) h (settled command_shape.rules h))
+place_held h third word = ap (pushed (spot_id third) word) (held_unless (is_pending (spot_rule third) h.pending) h (settled command_shape.rules h))
 
 -- a positional word is kept
 pub place_move : (h : Held) (s : Spot) (word : Text) → IsPlainWord word
-    → walked shape.rules [] (at h idle (place_of (Some s)) false) word ≡ at (placed s word h) idle (place_of (next_place s)) false
+    → walked command_shape.rules [] (at h idle (place_of (Some s)) false) word ≡ at (held_positional s word h) idle (place_of (next_place s)) false
 unfolding walked
 place_move h first word is = rw (is.other, is.long, is.short) (ap (λ (k : Held). at k idle 2 false) (place_held h first word))
 place_move h second word is = rw (is.other, is.long, is.short) (ap (λ (k : Held). at k idle 3 false) (place_held h second word))
 place_move h third word is = rw (is.other, is.long, is.short) (ap (λ (k : Held). at k idle 4 false) (place_held h third word))
 
 -- after `--`
-pub trailing_turn : (h : Held) (s : Spot) (waiting : Waiting) (word : Text) → turn_fault shape [] (at h waiting (place_of (Some s)) true) word ≡ settle_fault shape.rules false h
+pub trailing_turn : (h : Held) (s : Spot) (waiting : Waiting) (word : Text) → turn_fault command_shape [] (at h waiting (place_of (Some s)) true) word ≡ settle_fault command_shape.rules false h
 trailing_turn h s waiting word = rw (by_index s) (place_fault s h)
 
 -- behind `--` a fourth positional word is a fault
-pub trailing_stuck : (h : Held) (waiting : Waiting) (word : Text) → Fails (turn_fault shape [] (at h waiting 4 true) word)
+pub trailing_stuck : (h : Held) (waiting : Waiting) (word : Text) → Fails (turn_fault command_shape [] (at h waiting 4 true) word)
 trailing_stuck h waiting word = fails_here _ _
 
 -- behind `--` every word is kept as positional
 pub trailing_move : (h : Held) (s : Spot) (waiting : Waiting) (word : Text)
-    → walked shape.rules [] (at h waiting (place_of (Some s)) true) word ≡ at (placed s word h) idle (place_of (next_place s)) true
+    → walked command_shape.rules [] (at h waiting (place_of (Some s)) true) word ≡ at (held_positional s word h) idle (place_of (next_place s)) true
 unfolding walked
 trailing_move h first waiting word = ap (λ (k : Held). at k idle 2 true) (place_held h first word)
 trailing_move h second waiting word = ap (λ (k : Held). at k idle 3 true) (place_held h second word)
@@ -245,16 +245,16 @@ trailing_move h third waiting word = ap (λ (k : Held). at k idle 4 true) (place
 
 -- the value of an option that waits
 abbrev pub given : Name → Text → Held → Held
-given n word h = record h { pending = Some (spelling n, word ∷ []) }
+given n word h = record h { pending = Some (option_spelling n, word ∷ []) }
 
 -- the value that an option waits for isn't at fault where it itself isn't
 pub value_turn : (h : Held) (rows : List Row) (n : Name) (p : ℕ) (word : Text) → IsPlainWord word
-    → turn_fault shape [] (at (record h { pending = Some (spelling n, []) }) (option (spelling n)) p false) word ≡ []
+    → turn_fault command_shape [] (at (record h { pending = Some (option_spelling n, []) }) (option (option_spelling n)) p false) word ≡ []
 value_turn h rows n p word is = rw (is.other, is.long, is.short) refl
 
 -- and is kept
 pub value_move : (h : Held) (n : Name) (p : ℕ) (word : Text) → IsPlainWord word → is_flag n ≡ false
-    → walked shape.rules [] (at (record h { pending = Some (spelling n, []) }) (option (spelling n)) p false) word ≡ at (given n word h) idle p false
+    → walked command_shape.rules [] (at (record h { pending = Some (option_spelling n, []) }) (option (option_spelling n)) p false) word ≡ at (given n word h) idle p false
 unfolding walked
 value_move h Low p word is flag = rw (is.other, is.long, is.short) refl
 value_move h High p word is flag = rw (is.other, is.long, is.short) refl

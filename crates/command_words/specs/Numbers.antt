@@ -15,8 +15,8 @@ is_number text =
     nat_le 1 (length (digits_of text)) && (nat_le (length (digits_of text)) 10 && list_all is_ascii_digit (digits_of text))
 
 -- the number that a text writes
-abbrev pub number_of : Text → Option ℤ
-number_of text = if is_number text then Some (signed_digits_value 10 text) else None
+abbrev pub number_in_text : Text → Option ℤ
+number_in_text text = if is_number text then Some (signed_digits_value 10 text) else None
 
 -- a count that lies within its bounds
 abbrev pub count_within : ℕ → ℕ → ℤ → Option ℕ
@@ -24,8 +24,8 @@ count_within least greatest (pos n) = if nat_le least n && nat_le n greatest the
 count_within least greatest (negsuc n) = None
 
 -- the count that a text writes, where it lies within its bounds
-abbrev pub count_of : ℕ → ℕ → Text → Option ℕ
-count_of least greatest text = option_and_then (count_within least greatest) (number_of text)
+abbrev pub count_in_text : ℕ → ℕ → Text → Option ℕ
+count_in_text least greatest text = option_and_then (count_within least greatest) (number_in_text text)
 
 -- the text, where there is one, is a number
 abbrev pub number_or_none : Option Text → Bool

@@ -1,8 +1,8 @@
 //! The texts that clap finds, and the test of what clap leaves open.
 ghost use Rattle.std.specs.Prelude.{◌≡◌, ◌≤◌, IfOk, IsErrOf, List, Some, length, map, string_bytes, true};
 ghost use Rattle.clap.specs.Matches.{first_value, found_of};
-ghost use Rattle.command_words.specs.Grammar.{Item, are_distinct, items_of, names_in, places_in};
-ghost use Rattle.command_words.specs.Given.{Fit, IsGiven, IsLawful, are_lawful, is_on, now_of, plain_or_none};
+ghost use Rattle.command_words.specs.Grammar.{Item, are_distinct, items_of, option_names_in, positional_words};
+ghost use Rattle.command_words.specs.Given.{ItemsFit, IsGivenByItems, AreLawfulItems, are_lawful, is_on, now_of, plain_or_none};
 ghost use Rattle.command_words.specs.Numbers.{number_or_none};
 ghost use Rattle.command_words.specs.Taken.{taken_of};
 
@@ -41,9 +41,9 @@ fn is_set(matches: &ArgMatches<'_>, name: &str) -> bool
 /// What clap finds. It takes a lone `-` as a value and, after `--`, positional words that begin with `-`.
 fn parsed<'a>(alloc: Global, words: &'a [String]) -> Result<Given<'a>, WordFault>
     ensures ok { IfOk result (λ given. (items : List Item) × (taken_of None (map string_bytes words.now) ≡ Some items)
-        × (are_distinct (names_in items) ≡ true) × (length (places_in items) ≤ 3) × IsGiven items given) }
+        × (are_distinct (option_names_in items) ≡ true) × (length (positional_words items) ≤ 3) × IsGivenByItems items given) }
     ensures usage { IsErrOf result WordFault.Usage → (items : List Item) → taken_of None (map string_bytes words.now) ≡ Some items
-        → Fit items → ⊥ }
+        → ItemsFit items → ⊥ }
 {
     let reader = reader(alloc)?;
     let matches = reader.try_get_matches_from(words)?;
@@ -100,9 +100,9 @@ fn is_lawful(given: &Given<'_>) -> bool
 /// The texts of a command line. `Usage`: its words spell nothing that the grammar takes.
 pub fn read_words<'a>(alloc: Global, words: &'a [String]) -> Result<Given<'a>, WordFault>
     ensures ok { IfOk result (λ given. (items : List Item) × (items_of None (map string_bytes words.now) ≡ Some items)
-        × IsLawful items × IsGiven items given) }
+        × AreLawfulItems items × IsGivenByItems items given) }
     ensures usage { IsErrOf result WordFault.Usage → (items : List Item) → items_of None (map string_bytes words.now) ≡ Some items
-        → IsLawful items → ⊥ }
+        → AreLawfulItems items → ⊥ }
 {
     let given = match parsed(alloc, words) {
         Ok(given) => given,

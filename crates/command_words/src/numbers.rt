@@ -2,7 +2,7 @@
 ghost use Rattle.std.specs.Prelude.{◌≡◌, ◌≤◌, IfSome};
 ghost use Rattle.std.specs.Char.{is_ascii_digit};
 ghost use Rattle.std.specs.List.{list_all};
-ghost use Rattle.command_words.specs.Numbers.{count_of, digits_of, is_number, number_of};
+ghost use Rattle.command_words.specs.Numbers.{count_in_text, digits_of, is_number, number_in_text};
 
 /// How many digits a number has at most.
 const MAX_DIGITS: usize = 10;
@@ -33,7 +33,7 @@ pub fn is_numeral(text: &str) -> bool
 
 /// The number that a text writes, if it writes one. A `+` is no part of a number.
 pub fn number(text: &str) -> Option<i64>
-    ensures { result ≡ number_of text.now }
+    ensures { result ≡ number_in_text text.now }
 {
     if !is_numeral(text) {
         return None;
@@ -46,7 +46,7 @@ pub fn number(text: &str) -> Option<i64>
 
 /// The count that a text writes, where it lies within its bounds.
 pub fn count(text: &str, least: u32, greatest: u32) -> Option<u32>
-    ensures value { result ≡ count_of least greatest text.now }
+    ensures value { result ≡ count_in_text least greatest text.now }
     ensures bounds { IfSome result (λ n. (least ≤ n) × (n ≤ greatest)) }
 {
     let value = number(text)?;

@@ -1,8 +1,8 @@
 //! From the texts to the request: the two tables and the numbers.
 ghost use Rattle.std.specs.Prelude.{◌≡◌, IfOk, IfSome, IsErrOf, None, Some, map, option_and_then, string_bytes};
 ghost use Rattle.command_words.specs.Given.{has_limits, now_of, parts_given};
-ghost use Rattle.command_words.specs.Numbers.{number_of};
-ghost use Rattle.command_words.specs.Request.{IsLawfulCommand, command_of, command_of_numbers, command_of_word, goes_with, make_of, options_of, request_from_parts, request_of, tally_of};
+ghost use Rattle.command_words.specs.Numbers.{number_in_text};
+ghost use Rattle.command_words.specs.Request.{IsLawfulCommand, command_of, command_of_numbers, command_of_word, goes_with, make_of, options_of, request_from_parts, words_request, tally_of};
 
 use crate::given::{Given, read_words};
 use crate::numbers::{count, number};
@@ -95,7 +95,7 @@ fn command_in(given: &Given<'_>) -> Option<Command>
 
 /// The number of an option that stands.
 fn number_in(value: Option<&str>) -> Option<i64>
-    ensures { result ≡ option_and_then number_of (now_of value.entry) }
+    ensures { result ≡ option_and_then number_in_text (now_of value.entry) }
 {
     match value {
         Some(text) => number(text),
@@ -163,9 +163,9 @@ fn requested(given: &Given<'_>) -> Option<Request>
 /// Reads the words after the program's name, from left to right. `Usage`: they are outside the grammar of the command line.
 /// `NoMemory`: memory ran out. Whether the options lie within their bounds is for `machine_profile` to say.
 pub fn request(alloc: Global, words: &[String]) -> Result<Request, WordFault>
-    ensures ok { IfOk result (λ request. request_of (map string_bytes words.now) ≡ Some request) }
+    ensures ok { IfOk result (λ request. words_request (map string_bytes words.now) ≡ Some request) }
     ensures lawful { IfOk result (λ request. IsLawfulCommand request.command) }
-    ensures usage { IsErrOf result WordFault.Usage → request_of (map string_bytes words.now) ≡ None }
+    ensures usage { IsErrOf result WordFault.Usage → words_request (map string_bytes words.now) ≡ None }
 {
     let given = match read_words(alloc, words) {
         Ok(given) => given,

@@ -23,8 +23,8 @@ use Rattle.edit_journal.specs.declared.opening.Opening.{Opening}
 use Rattle.edit_journal.specs.Documents.{body, document_of}
 use Rattle.face_data.specs.declared.face.FaceView.{FaceView}
 use Rattle.face_data.specs.declared.face.Seg.{Seg}
-use Rattle.face_data.specs.Segments.{OffsetFits, entries_of}
-use Rattle.face_data.specs.Summaries.{Outcome, applied}
+use Rattle.face_data.specs.Segments.{OffsetFits, entry_needles_of}
+use Rattle.face_data.specs.Summaries.{Outcome, summary_outcome}
 use Rattle.face_data.specs.Summaries.Outcome.{went_on, faulted}
 use Rattle.face_data.specs.Verdicts.{verdict_of, verdict_on}
 use Rattle.face_data.specs.View.{summary_of}
@@ -34,8 +34,8 @@ use Rattle.loop_history.specs.Entries.{AreEntriesOf}
 use Rattle.loop_history.specs.Rows.{fact_of_row}
 use Rattle.loop_history.specs.Tables.{IsRowOf, TableStandsFor}
 use Rattle.tree_shape.proofs.RowWalks.{all_get}
-use Rattle.edit_book.specs.Books.{BookView, IsLawful, document}
-use Rattle.edit_book.specs.Entered.{IsBehind, entries_held, stops_by}
+use Rattle.edit_book.specs.Books.{BookView, AreLawfulLeaves, document}
+use Rattle.edit_book.specs.Entered.{IsStateBehind, entries_held, stops_by}
 use Rattle.edit_book.specs.Verdicts.{IsLoopOn, setting_of}
 use Rattle.carriage_model.proofs.LoopOfLine.{later_lines}
 use Rattle.summary_tree.proofs.NeedleEntries.{own_fit}
@@ -53,8 +53,8 @@ found_among s (m ∷ ms) n there =
     (λ other. ap (λ t. cond t (Some (s.stacks m)) (lookup (same_needle n) (entries_held s ms))) other
     ∙ ⊎_elim (λ (here : m ≡ n). let same : same_needle n m ≡ true = same_needle-same n m (sym here) in absurd (cc)) (λ (later : Contains ms n). found_among s ms n later) (Contains-cons_cases m ms n there))
 
-entries_told : (s : State) (segs : List Seg) (entries : List (Needle × List ℕ)) → entries ≡ entries_held s (entries_of segs) → AreEntriesOf s entries segs
-entries_told s segs entries is n there = sym (ap (λ (found : Option (List ℕ)). unwrap_or found []) (ap (lookup (same_needle n)) is ∙ found_among s (entries_of segs) n there))
+entries_told : (s : State) (segs : List Seg) (entries : List (Needle × List ℕ)) → entries ≡ entries_held s (entry_needles_of segs) → AreEntriesOf s entries segs
+entries_told s segs entries is n there = sym (ap (λ (found : Option (List ℕ)). unwrap_or found []) (ap (lookup (same_needle n)) is ∙ found_among s (entry_needles_of segs) n there))
 
 -- the row that is found has the offset
 found_has : (within place : ℕ) (rows : List LoopRow) (row : LoopRow) → position (at_offset within) rows ≡ Some place → slice_get rows place ≡ Some row → row.offset ≡ within
@@ -64,7 +64,7 @@ found_has within place rows row found there =
 -- the brief on the root tells where the document stops
 pub goes_told : (leaves : List Leaf) (view : FaceView) (first line lines made held : ℕ) (rack : Quarter) → IsRootOf leaves view → brief.Sound lines made held rack ≡ brief_of (verdict_of (summary_of view) first)
     → false ≡ stops_by line (applied_each leaves empty_state first)
-goes_told leaves view first line lines made held rack root is = go (applied (summary_of view) empty_state first) is ∙ ap (stops_by line) (root.whole.runs_all empty_state first)
+goes_told leaves view first line lines made held rack root is = go (summary_outcome (summary_of view) empty_state first) is ∙ ap (stops_by line) (root.whole.runs_all empty_state first)
   where
     go : (o : Outcome) → brief.Sound lines made held rack ≡ brief_of (verdict_on o (summary_of view) first) → false ≡ stops_by line o
     go (went_on s) h = refl
@@ -72,18 +72,18 @@ goes_told leaves view first line lines made held rack root is = go (applied (sum
 
 pub stops_told : (leaves : List Leaf) (view : FaceView) (first line : ℕ) (fault : Fault) → IsRootOf leaves view → brief.Broken fault ≡ brief_of (verdict_of (summary_of view) first)
     → nat_le fault.line line ≡ stops_by line (applied_each leaves empty_state first)
-stops_told leaves view first line fault root is = go (applied (summary_of view) empty_state first) is ∙ ap (stops_by line) (root.whole.runs_all empty_state first)
+stops_told leaves view first line fault root is = go (summary_outcome (summary_of view) empty_state first) is ∙ ap (stops_by line) (root.whole.runs_all empty_state first)
   where
     go : (o : Outcome) → brief.Broken fault ≡ brief_of (verdict_on o (summary_of view) first) → nat_le fault.line line ≡ stops_by line o
     go (went_on s) h = absurd (cc)
     go (faulted f) h = let same : fault ≡ f = cc in ap (λ x. nat_le x.line line) same
 
 -- a line's place is reckoned from the first line, whatever names it
-pub placed : (leaves : List Leaf) (line first here : ℕ) (place : Option (ℕ × ℕ)) → first ≡ here → place_of_line leaves (line - first) ≡ place → place_of_line leaves (line - here) ≡ place
-placed leaves line first here place same found = ap (λ (n : ℕ). place_of_line leaves (line - n)) (sym same) ∙ found
+pub place_from_first_line : (leaves : List Leaf) (line first here : ℕ) (place : Option (ℕ × ℕ)) → first ≡ here → place_of_line leaves (line - first) ≡ place → place_of_line leaves (line - here) ≡ place
+place_from_first_line leaves line first here place same found = ap (λ (n : ℕ). place_of_line leaves (line - n)) (sym same) ∙ found
 
 module _ (o : Opening) (es : List Entry) (line : ℕ) (v : BookView) (room : Bool) (tree : TreeView)
-    (s : IsLawful o es tree.leaves) (view : record { opening = o; entries = es; journal_room = room; tree = tree } ≡ v) where
+    (s : AreLawfulLeaves o es tree.leaves) (view : record { opening = o; entries = es; journal_room = room; tree = tree } ≡ v) where
   abbrev all : AllRead (setting_at o es) tree.leaves (document_of o es).blocks
   all = all_read (setting_at o es) tree.leaves (document_of o es).blocks s.leaves_are
 
@@ -170,10 +170,10 @@ module _ (o : Opening) (es : List Entry) (line : ℕ) (v : BookView) (room : Boo
         row_behind = omega (arith, same_line)
 
         -- the loop of the row is the line's
-        pub row_told : (entries : List (Needle × List ℕ)) (fact : LoopFact) → ((t : State) → IsBehind v at t → entries ≡ entries_held t (entries_of row.through))
+        pub row_told : (entries : List (Needle × List ℕ)) (fact : LoopFact) → ((t : State) → IsStateBehind v at t → entries ≡ entries_held t (entry_needles_of row.through))
             → ((t : State) → AreEntriesOf t entries row.through → fact ≡ fact_of_row t (line - within) row) → IsLoopOn (setting_of v.opening (document v)) (body (document v)) line (Some fact)
         row_told entries fact held resolved =
-            let behind_here : IsBehind v at begins.state = subst (λ (w : BookView). IsBehind w at begins.state) view begins.behind in
+            let behind_here : IsStateBehind v at begins.state = subst (λ (w : BookView). IsStateBehind w at begins.state) view begins.behind in
             let is : fact ≡ fact_of_row begins.state start row =
             resolved begins.state (entries_told begins.state row.through entries (held begins.state behind_here)) ∙ ap (λ n. fact_of_row begins.state n row) first_is in
             told (Some fact) (ap (λ (f : LoopFact). Some f) is ∙ sym (told_there ∙ row_found o.setting.profile begins.state start within place leaf.1 row begins.reads table goes_there hit row_is))

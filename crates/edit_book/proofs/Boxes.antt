@@ -3,7 +3,7 @@ use Rattle.std.proofs.Common.{◌≡◌, ℕ, List, Option, Some, length, take, 
 use Rattle.std.specs.List.{slice_get}
 use Rattle.face_data.specs.declared.face.FaceView.{FaceView}
 use Rattle.edit_book.proofs.Rooms.{same_tree}
-use Rattle.summary_tree.specs.Leaves.{Leaf, IsRootOf, lines_of, place_of_line}
+use Rattle.summary_tree.specs.Leaves.{Leaf, IsRootOf, leaf_line_count, place_of_line}
 use Rattle.summary_tree.specs.Trees.{IsSameTree, TreeView}
 
 module _ (kept lent : TreeView) (is : lent ≡ kept) where
@@ -13,8 +13,8 @@ module _ (kept lent : TreeView) (is : lent ≡ kept) where
   pub count_of : length lent.leaves ≡ length kept.leaves
   count_of = ap length leaves_of
 
-  pub lines_are : lines_of lent.leaves ≡ lines_of kept.leaves
-  lines_are = ap lines_of leaves_of
+  pub lines_are : leaf_line_count lent.leaves ≡ leaf_line_count kept.leaves
+  lines_are = ap leaf_line_count leaves_of
 
   pub root_of : (view : FaceView) → IsRootOf lent.leaves view → IsRootOf kept.leaves view
   root_of view root = subst (λ (leaves : List Leaf). IsRootOf leaves view) leaves_of root
@@ -25,8 +25,8 @@ module _ (kept lent : TreeView) (is : lent ≡ kept) where
   pub leaf_of : (at : ℕ) (leaf : Leaf) → slice_get lent.leaves at ≡ Some leaf → slice_get kept.leaves at ≡ Some leaf
   leaf_of at leaf there = sym (ap (λ (leaves : List Leaf). slice_get leaves at) leaves_of) ∙ there
 
-  pub before_of : (at before : ℕ) → before ≡ lines_of (take at lent.leaves) → before ≡ lines_of (take at kept.leaves)
-  before_of at before told = told ∙ ap (λ (leaves : List Leaf). lines_of (take at leaves)) leaves_of
+  pub before_of : (at before : ℕ) → before ≡ leaf_line_count (take at lent.leaves) → before ≡ leaf_line_count (take at kept.leaves)
+  before_of at before told = told ∙ ap (λ (leaves : List Leaf). leaf_line_count (take at leaves)) leaves_of
 
 -- the leaves stay where room is made in what is lent, and it is lent again
 pub leaves_again : (kept lent held again : TreeView) → lent ≡ kept → IsSameTree lent held → again ≡ held → again.leaves ≡ kept.leaves

@@ -14,9 +14,9 @@ use Rattle.script_reader.specs.declared.command.Command.{Command}
 use Rattle.script_reader.specs.declared.command.Command.TheVariants as command
 use Rattle.edit_book.specs.declared.reply.Reply.{Reply}
 use Rattle.edit_book.specs.declared.reply.Reply.TheVariants.{Unseen, BlockLong, NoMemory}
-use Rattle.edit_book.specs.Memory.{Memory, head_of, named, unless_long, asked, IsAnswered, asked_entry, version_of, base_of}
+use Rattle.edit_book.specs.Memory.{Memory, known_header_stamp, block_id_of_name, unless_long, asked_of_book, IsRequestAnswered, asked_entry, version_of, base_of}
 use Rattle.edit_book.specs.Replies.{Request, Look, Put, Add, Cut, LoopAt, VerdictNow, LookHead, Texts, PutHead, refusal_of, IsAccepted, IsGranted, IsDue, IsReply, entry_of, accepted_block, edit_of}
-use Rattle.edit_book.proofs.Refusals.{Refuses, refuses}
+use Rattle.edit_book.proofs.Refusals.{Refuses, refusal_may_come}
 
 -- the reply carries the version of the journal before it or, with an entry, after it
 abbrev pub Carries : ℕ → ℕ → Request → Reply → Type 0
@@ -46,9 +46,9 @@ carries_due : (n v : ℕ) (opening : Opening) (d : Document) (request : Request)
 carries_due n v opening d request reply None r due = carries_granted n opening d v request reply due
 carries_due n v opening d request reply (Some refusal) r due = carries_refusal n v request reply refusal r due
 
-pub carries : (n : ℕ) (opening : Opening) (journal : List Entry) (request : Request) (reply : Reply) → IsReply opening journal request reply → Carries n (length journal) request reply
-carries n opening journal request reply due = let d = document_of opening journal in
-    carries_due n (length journal) opening d request reply (refusal_of d journal request) (refuses d journal request).fact due
+pub reply_carries : (n : ℕ) (opening : Opening) (journal : List Entry) (request : Request) (reply : Reply) → IsReply opening journal request reply → Carries n (length journal) request reply
+reply_carries n opening journal request reply due = let d = document_of opening journal in
+    carries_due n (length journal) opening d request reply (refusal_of d journal request) (refusal_may_come d journal request).fact due
 
 -- a refusal of the session itself carries no version
 abbrev pub Alone : Result Request Reply → Type 0
@@ -65,18 +65,18 @@ alone_option : (o : Option ℕ) (name : BlockName) (ask : ℕ → Result Request
 alone_option None name ask f = (refl, refl)
 alone_option (Some id) name ask f = f id
 
-pub alone : (m : Memory) (c : Command) → Alone (asked m c)
-alone m (command.Look name) = alone_option (named m name) name (λ id. Ok (Look id)) (λ id. tt)
-alone m (command.Put name text) = alone_option (named m name) name _
-    (λ id. alone_option (m.stamps id) name (λ seen. unless_long text (Put id seen (head_of m) text)) (λ seen. alone_long text (Put id seen (head_of m) text)))
-alone m (command.Add place.Start text) = alone_long text (Add Start (head_of m) text)
-alone m (command.Add (place.After name) text) =
-    alone_option (named m name) name (λ id. unless_long text (Add (After id) (head_of m) text)) (λ id. alone_long text (Add (After id) (head_of m) text))
-alone m (command.Cut name) = alone_option (named m name) name _ (λ id. alone_option (m.stamps id) name (λ seen. Ok (Cut id seen)) (λ seen. tt))
-alone m (command.LoopAt line) = tt
-alone m command.Verdict = tt
-alone m command.LookHead = tt
-alone m (command.PutHead names) = tt
+pub asked_is_alone : (m : Memory) (c : Command) → Alone (asked_of_book m c)
+asked_is_alone m (command.Look name) = alone_option (block_id_of_name m name) name (λ id. Ok (Look id)) (λ id. tt)
+asked_is_alone m (command.Put name text) = alone_option (block_id_of_name m name) name _
+    (λ id. alone_option (m.stamps id) name (λ seen. unless_long text (Put id seen (known_header_stamp m) text)) (λ seen. alone_long text (Put id seen (known_header_stamp m) text)))
+asked_is_alone m (command.Add place.Start text) = alone_long text (Add Start (known_header_stamp m) text)
+asked_is_alone m (command.Add (place.After name) text) =
+    alone_option (block_id_of_name m name) name (λ id. unless_long text (Add (After id) (known_header_stamp m) text)) (λ id. alone_long text (Add (After id) (known_header_stamp m) text))
+asked_is_alone m (command.Cut name) = alone_option (block_id_of_name m name) name _ (λ id. alone_option (m.stamps id) name (λ seen. Ok (Cut id seen)) (λ seen. tt))
+asked_is_alone m (command.LoopAt line) = tt
+asked_is_alone m command.Verdict = tt
+asked_is_alone m command.LookHead = tt
+asked_is_alone m (command.PutHead names) = tt
 
 -- want of memory enters nothing
 pub short_entry : (n : ℕ) (a : Result Request Reply) → asked_entry n a NoMemory ≡ None
@@ -94,17 +94,17 @@ entry_number n (Ok request) r e h = go (option_and_then (edit_of request) (accep
 
 module _ (opening : Opening) where
   -- an answer with an entry carries the version behind it
-  pub answer_enters : (n : ℕ) (before : List Entry) (a : Result Request Reply) (r : Reply) (e : Entry) → IsAnswered opening before a r → asked_entry n a r ≡ Some e → (base_of r ≡ Some (length before)) × (version_of r ≡ Some (length before + 1))
+  pub answer_enters : (n : ℕ) (before : List Entry) (a : Result Request Reply) (r : Reply) (e : Entry) → IsRequestAnswered opening before a r → asked_entry n a r ≡ Some e → (base_of r ≡ Some (length before)) × (version_of r ≡ Some (length before + 1))
   answer_enters n before (Err refusal) r e h some = absurd (cc)
-  answer_enters n before (Ok request) r e h some = ⊎_elim (λ q. let none = q.0 in absurd (cc)) (λ q. (q.4, q.3)) (carries n opening before request r h)
+  answer_enters n before (Ok request) r e h some = ⊎_elim (λ q. let none = q.0 in absurd (cc)) (λ q. (q.4, q.3)) (reply_carries n opening before request r h)
 
   -- an answer without one carries the journal's version, or none
-  pub answer_stays : (n : ℕ) (before : List Entry) (a : Result Request Reply) (r : Reply) → Alone a → IsAnswered opening before a r → asked_entry n a r ≡ None
+  pub answer_stays : (n : ℕ) (before : List Entry) (a : Result Request Reply) (r : Reply) → Alone a → IsRequestAnswered opening before a r → asked_entry n a r ≡ None
       → ((base_of r ≡ Some (length before)) × (version_of r ≡ Some (length before))) ⊎ ((base_of r ≡ None) × (version_of r ≡ None))
   answer_stays n before (Err refusal) r al h none = inr (ap base_of h ∙ al.1, ap version_of h ∙ al.0)
-  answer_stays n before (Ok request) r al h none = ⊎_elim (λ q. inl (q.2, q.1)) (λ q. let some = q.1 in absurd (cc)) (carries n opening before request r h)
+  answer_stays n before (Ok request) r al h none = ⊎_elim (λ q. inl (q.2, q.1)) (λ q. let some = q.1 in absurd (cc)) (reply_carries n opening before request r h)
 
   -- an answer without a version is one at every journal
-  pub answer_free : (before after : List Entry) (a : Result Request Reply) (r : Reply) → IsAnswered opening before a r → base_of r ≡ None → IsAnswered opening after a r
+  pub answer_free : (before after : List Entry) (a : Result Request Reply) (r : Reply) → IsRequestAnswered opening before a r → base_of r ≡ None → IsRequestAnswered opening after a r
   answer_free before after (Err refusal) r h none = h
-  answer_free before after (Ok request) r h none = ⊎_elim (λ q. let some = q.2 in absurd (cc)) (λ q. let some = q.4 in absurd (cc)) (carries 0 opening before request r h)
+  answer_free before after (Ok request) r h none = ⊎_elim (λ q. let some = q.2 in absurd (cc)) (λ q. let some = q.4 in absurd (cc)) (reply_carries 0 opening before request r h)

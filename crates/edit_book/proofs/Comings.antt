@@ -8,14 +8,14 @@ use Rattle.edit_journal.specs.declared.opening.Opening.{Opening}
 use Rattle.edit_journal.specs.Documents.{Block, Document, HasAnchor, after, body, document_of, stamp_at}
 use Rattle.edit_journal.specs.Entries.{entry_limit}
 use Rattle.edit_book.specs.declared.reply.Reply.TheVariants.{Stale}
-use Rattle.edit_book.specs.Books.{Fits, IsLawfulOutline}
-use Rattle.edit_book.specs.Outlines.{MayCome, OutlineView, outlined}
+use Rattle.edit_book.specs.Books.{BookFits, IsLawfulOutline}
+use Rattle.edit_book.specs.Outlines.{MayCome, OutlineView, outline_document}
 use Rattle.edit_book.specs.Replies.{block_limit, line_limit, Add, Cut, Put, PutHead, refusal_of, refused_entries, refused_head, refused_name, refused_stamp}
 use Rattle.edit_book.proofs.Adds.{add_count, add_free, add_longer, has_anchor, lines_more}
 use Rattle.edit_book.proofs.Counts.{cut_fewer}
 use Rattle.edit_book.proofs.Cuts.{cut_count, cut_free}
 use Rattle.edit_book.proofs.PreparedTexts.{head_seen}
-use Rattle.edit_book.proofs.Puts.{named_there, or_else_none, put_count, put_free, under}
+use Rattle.edit_book.proofs.Puts.{named_there, or_else_none, put_count, put_free, count_within_limit}
 
 -- a stamp that nothing refuses is the block's
 pub seen_now : (d : Document) (es : List Entry) (id seen : ℕ) → refused_name d es id ≡ None → refused_stamp d es id seen ≡ None → stamp_at d.blocks id ≡ Some seen
@@ -27,15 +27,15 @@ seen_now d es id seen named stamped =
     go b true is none = ap Some (eqb-true b.stamp seen is)
     go b false is none = absurd (let some = ap (λ (t : Bool). cond t None (Some (Stale (length es) id seen b.stamp))) (sym is) ∙ none in cc)
 
-module _ (o : Opening) (es : List Entry) (fits : Fits (document_of o es) es) where
+module _ (o : Opening) (es : List Entry) (fits : BookFits (document_of o es) es) where
   pub put_may : (id seen head : ℕ) (text : List (List ℕ)) → refusal_of (document_of o es) es (Put id seen head text) ≡ None → MayCome o es (edit.Put id seen text)
   put_may id seen head text free =
       let f = put_free (document_of o es) es id seen head text free in
       record {
         fits = seen_now (document_of o es) es id seen f.named f.stamped;
-        room = omega (arith, under _ _ _ _ f.room);
+        room = omega (arith, count_within_limit _ _ _ _ f.room);
         blocks = omega (arith, put_count (document_of o es).blocks id (length es + 1) text, fits.blocks_fit);
-        lines = under _ _ _ _ f.lines;
+        lines = count_within_limit _ _ _ _ f.lines;
       }
 
   pub add_may : (anchor : Anchor) (head : ℕ) (text : List (List ℕ)) → refusal_of (document_of o es) es (Add anchor head text) ≡ None → MayCome o es (edit.Add anchor (document_of o es).drawn text)
@@ -44,9 +44,9 @@ module _ (o : Opening) (es : List Entry) (fits : Fits (document_of o es) es) whe
       let f = add_free d es anchor head text free in
       record {
         fits = (refl, has_anchor d es anchor f.anchored);
-        room = omega (arith, under _ _ _ _ f.entries);
-        blocks = omega (arith, add_count anchor d.blocks (record { id = d.drawn; stamp = length es + 1; lines = text }), under _ _ _ _ f.blocks);
-        lines = under _ _ _ _ f.lines;
+        room = omega (arith, count_within_limit _ _ _ _ f.entries);
+        blocks = omega (arith, add_count anchor d.blocks (record { id = d.drawn; stamp = length es + 1; lines = text }), count_within_limit _ _ _ _ f.blocks);
+        lines = count_within_limit _ _ _ _ f.lines;
       }
 
   pub cut_may : (id seen : ℕ) → refusal_of (document_of o es) es (Cut id seen) ≡ None → MayCome o es (edit.Cut id seen)
@@ -55,7 +55,7 @@ module _ (o : Opening) (es : List Entry) (fits : Fits (document_of o es) es) whe
       let f = cut_free d es id seen free in
       record {
         fits = seen_now d es id seen f.0 f.1;
-        room = omega (arith, under _ _ _ _ f.2);
+        room = omega (arith, count_within_limit _ _ _ _ f.2);
         blocks = omega (arith, cut_count d.blocks id, fits.blocks_fit);
         lines = omega (arith, cut_fewer d.blocks id, fits.lines_fit);
       }
@@ -66,48 +66,48 @@ module _ (o : Opening) (es : List Entry) (fits : Fits (document_of o es) es) whe
       let f = or_else_none (refused_head d es seen) (refused_entries es) free in
       record {
         fits = head_seen d es seen f.0;
-        room = omega (arith, under _ _ _ _ f.1);
+        room = omega (arith, count_within_limit _ _ _ _ f.1);
         blocks = fits.blocks_fit;
         lines = fits.lines_fit;
       }
 
 -- what is asked of an outline
 module _ (v : OutlineView) (lawful : IsLawfulOutline v.opening v.entries) (room : length v.entries < entry_limit) where
-  pub put_yes : (id seen count : ℕ) (text : List (List ℕ)) → stamp_at (outlined v).blocks id ≡ Some seen → count ≡ length (body (after (outlined v) (length v.entries + 1) (edit.Put id seen text))) → nat_le count line_limit ≡ true
+  pub put_yes : (id seen count : ℕ) (text : List (List ℕ)) → stamp_at (outline_document v).blocks id ≡ Some seen → count ≡ length (body (after (outline_document v) (length v.entries + 1) (edit.Put id seen text))) → nat_le count line_limit ≡ true
       → MayCome v.opening v.entries (edit.Put id seen text)
   put_yes id seen count text stamp count_is few = record {
     fits = stamp;
     room = room;
-    blocks = omega (arith, put_count (outlined v).blocks id (length v.entries + 1) text, lawful.fits.blocks_fit);
+    blocks = omega (arith, put_count (outline_document v).blocks id (length v.entries + 1) text, lawful.fits.blocks_fit);
     lines = omega (arith, leb-true count line_limit few, count_is);
   }
 
-  pub cut_yes : (id seen : ℕ) → stamp_at (outlined v).blocks id ≡ Some seen → MayCome v.opening v.entries (edit.Cut id seen)
+  pub cut_yes : (id seen : ℕ) → stamp_at (outline_document v).blocks id ≡ Some seen → MayCome v.opening v.entries (edit.Cut id seen)
   cut_yes id seen stamp = record {
     fits = stamp;
     room = room;
-    blocks = omega (arith, cut_count (outlined v).blocks id, lawful.fits.blocks_fit);
-    lines = omega (arith, cut_fewer (outlined v).blocks id, lawful.fits.lines_fit);
+    blocks = omega (arith, cut_count (outline_document v).blocks id, lawful.fits.blocks_fit);
+    lines = omega (arith, cut_fewer (outline_document v).blocks id, lawful.fits.lines_fit);
   }
 
-  pub head_yes : (seen : ℕ) (names : List (List ℕ)) → (outlined v).header.stamp ≡ seen → MayCome v.opening v.entries (edit.Head seen names)
+  pub head_yes : (seen : ℕ) (names : List (List ℕ)) → (outline_document v).header.stamp ≡ seen → MayCome v.opening v.entries (edit.Head seen names)
   head_yes seen names stamp = record { fits = stamp; room = room; blocks = lawful.fits.blocks_fit; lines = lawful.fits.lines_fit }
 
-  pub add_yes : (anchor : Anchor) (id count : ℕ) (text : List (List ℕ)) → id ≡ (outlined v).drawn → HasAnchor (outlined v) anchor → length (outlined v).blocks < block_limit → count ≡ length (body (outlined v))
+  pub add_yes : (anchor : Anchor) (id count : ℕ) (text : List (List ℕ)) → id ≡ (outline_document v).drawn → HasAnchor (outline_document v) anchor → length (outline_document v).blocks < block_limit → count ≡ length (body (outline_document v))
       → nat_le (count + length text) line_limit ≡ true → MayCome v.opening v.entries (edit.Add anchor id text)
   add_yes anchor id count text id_is has few count_is enough = record {
     fits = (id_is, has);
     room = room;
-    blocks = omega (arith, add_longer (outlined v) anchor (record { id = id; stamp = length v.entries + 1; lines = text }) has, few);
-    lines = omega (arith, lines_more (outlined v) anchor (length v.entries + 1) id text has, count_is, leb-true (count + length text) line_limit enough);
+    blocks = omega (arith, add_longer (outline_document v) anchor (record { id = id; stamp = length v.entries + 1; lines = text }) has, few);
+    lines = omega (arith, lines_more (outline_document v) anchor (length v.entries + 1) id text has, count_is, leb-true (count + length text) line_limit enough);
   }
 
 -- no block comes in where there are as many as there may be
-pub add_full : (v : OutlineView) (anchor : Anchor) (id : ℕ) (text : List (List ℕ)) → block_limit ≤ length (outlined v).blocks → MayCome v.opening v.entries (edit.Add anchor id text) → ⊥
+pub add_full : (v : OutlineView) (anchor : Anchor) (id : ℕ) (text : List (List ℕ)) → block_limit ≤ length (outline_document v).blocks → MayCome v.opening v.entries (edit.Add anchor id text) → ⊥
 add_full v anchor id text full comes =
-    let longer = add_longer (outlined v) anchor (record { id = id; stamp = length v.entries + 1; lines = text }) comes.fits.1 in omega (arith, longer, comes.blocks, full)
+    let longer = add_longer (outline_document v) anchor (record { id = id; stamp = length v.entries + 1; lines = text }) comes.fits.1 in omega (arith, longer, comes.blocks, full)
 
 -- nor where it has too many lines
-pub add_over : (v : OutlineView) (anchor : Anchor) (id count : ℕ) (text : List (List ℕ)) → count ≡ length (body (outlined v)) → nat_le (count + length text) line_limit ≡ false → MayCome v.opening v.entries (edit.Add anchor id text) → ⊥
+pub add_over : (v : OutlineView) (anchor : Anchor) (id count : ℕ) (text : List (List ℕ)) → count ≡ length (body (outline_document v)) → nat_le (count + length text) line_limit ≡ false → MayCome v.opening v.entries (edit.Add anchor id text) → ⊥
 add_over v anchor id count text count_is over comes =
-    let more = lines_more (outlined v) anchor (length v.entries + 1) id text comes.fits.1 in omega (arith, more, comes.lines, count_is, leb-false (count + length text) line_limit over)
+    let more = lines_more (outline_document v) anchor (length v.entries + 1) id text comes.fits.1 in omega (arith, more, comes.lines, count_is, leb-false (count + length text) line_limit over)

@@ -1,6 +1,6 @@
 -- How many lines a document has after an edit.
 use Rattle.std.proofs.Common.{◌≡◌, ℕ, ◌+◌, ◌≤◌, Bool, true, false, cond, ◌==◌, List, [], ◌∷◌, ◌++◌, length, Some, None, option_map, ap, refl, length-append, arith}
-use Rattle.edit_journal.specs.Documents.{Block, block_of, with_text, without, lines_in}
+use Rattle.edit_journal.specs.Documents.{Block, block_of, with_text, blocks_without, lines_in}
 
 put_counts : (bs : List Block) (id i n : ℕ) (text : List (List ℕ)) → Some n ≡ option_map (λ b. length b.lines) (block_of bs id)
     → (length (lines_in (with_text id i text bs)) + n ≡ length (lines_in bs) + length text) × (n ≤ length (lines_in bs))
@@ -32,30 +32,30 @@ lines_had bs id n h = (put_counts bs id 0 n [] h).1
 
 pub ruleset put_counted = (lines_had, lines_put, put_keeps)
 
-pub lines_cut : (bs : List Block) (id n : ℕ) → Some n ≡ option_map (λ b. length b.lines) (block_of bs id) → length (lines_in (without id bs)) + n ≡ length (lines_in bs)
+pub lines_cut : (bs : List Block) (id n : ℕ) → Some n ≡ option_map (λ b. length b.lines) (block_of bs id) → length (lines_in (blocks_without id bs)) + n ≡ length (lines_in bs)
 lines_cut [] id n h = absurd (cc)
 lines_cut (b ∷ bs) id n h = go (b.id == id) (lines_cut bs id n) h
   where
-    go : (t : Bool) → (Some n ≡ option_map (λ x. length x.lines) (block_of bs id) → length (lines_in (without id bs)) + n ≡ length (lines_in bs))
-        → Some n ≡ option_map (λ x. length x.lines) (cond t (Some b) (block_of bs id)) → length (lines_in (cond t bs (b ∷ without id bs))) + n ≡ length (b.lines ++ lines_in bs)
+    go : (t : Bool) → (Some n ≡ option_map (λ x. length x.lines) (block_of bs id) → length (lines_in (blocks_without id bs)) + n ≡ length (lines_in bs))
+        → Some n ≡ option_map (λ x. length x.lines) (cond t (Some b) (block_of bs id)) → length (lines_in (cond t bs (b ∷ blocks_without id bs))) + n ≡ length (b.lines ++ lines_in bs)
     go true ih h = let is : n ≡ length b.lines = cc in omega (arith, length-append b.lines (lines_in bs))
-    go false ih h = omega (arith, ih h, length-append b.lines (lines_in bs), length-append b.lines (lines_in (without id bs)))
+    go false ih h = omega (arith, ih h, length-append b.lines (lines_in bs), length-append b.lines (lines_in (blocks_without id bs)))
 
-pub cut_keeps : (bs : List Block) (id : ℕ) → None ≡ option_map (λ b. length b.lines) (block_of bs id) → without id bs ≡ bs
+pub cut_keeps : (bs : List Block) (id : ℕ) → None ≡ option_map (λ b. length b.lines) (block_of bs id) → blocks_without id bs ≡ bs
 cut_keeps [] id h = refl
 cut_keeps (b ∷ bs) id h = go (b.id == id) (cut_keeps bs id) h
   where
-    go : (t : Bool) → (None ≡ option_map (λ x. length x.lines) (block_of bs id) → without id bs ≡ bs)
-        → None ≡ option_map (λ x. length x.lines) (cond t (Some b) (block_of bs id)) → cond t bs (b ∷ without id bs) ≡ b ∷ bs
+    go : (t : Bool) → (None ≡ option_map (λ x. length x.lines) (block_of bs id) → blocks_without id bs ≡ bs)
+        → None ≡ option_map (λ x. length x.lines) (cond t (Some b) (block_of bs id)) → cond t bs (b ∷ blocks_without id bs) ≡ b ∷ bs
     go true ih h = absurd (cc)
     go false ih h = ap (λ (l : List Block). b ∷ l) (ih h)
 
 pub ruleset cut_counted = (lines_cut, cut_keeps, lines_had)
 
-pub cut_fewer : (bs : List Block) (id : ℕ) → length (lines_in (without id bs)) ≤ length (lines_in bs)
+pub cut_fewer : (bs : List Block) (id : ℕ) → length (lines_in (blocks_without id bs)) ≤ length (lines_in bs)
 cut_fewer [] id = omega arith
 cut_fewer (b ∷ bs) id = go (b.id == id) (cut_fewer bs id)
   where
-    go : (t : Bool) → length (lines_in (without id bs)) ≤ length (lines_in bs) → length (lines_in (cond t bs (b ∷ without id bs))) ≤ length (b.lines ++ lines_in bs)
+    go : (t : Bool) → length (lines_in (blocks_without id bs)) ≤ length (lines_in bs) → length (lines_in (cond t bs (b ∷ blocks_without id bs))) ≤ length (b.lines ++ lines_in bs)
     go true ih = omega (arith, length-append b.lines (lines_in bs))
-    go false ih = omega (arith, ih, length-append b.lines (lines_in bs), length-append b.lines (lines_in (without id bs)))
+    go false ih = omega (arith, ih, length-append b.lines (lines_in bs), length-append b.lines (lines_in (blocks_without id bs)))

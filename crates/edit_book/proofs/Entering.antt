@@ -9,23 +9,23 @@ use Rattle.edit_journal.specs.declared.opening.Opening.{Opening}
 use Rattle.edit_journal.specs.Documents.{Document, HasAnchor, after, body, document_of}
 use Rattle.edit_book.specs.declared.block_state.BlockState.{BlockState}
 use Rattle.edit_book.specs.declared.block_state.BlockState.TheVariants.{There, CutBy}
-use Rattle.edit_book.specs.Books.{Each, Stands, ids_of}
-use Rattle.edit_book.specs.Orders.{is_id, place_of}
-use Rattle.edit_book.specs.Outlines.{MayCome, OutlineView, outlined}
+use Rattle.edit_book.specs.Books.{Each, OutlineStands, ids_of}
+use Rattle.edit_book.specs.Orders.{is_id, anchor_position}
+use Rattle.edit_book.specs.Outlines.{MayCome, OutlineView, outline_document}
 use Rattle.edit_book.proofs.Adds.{add_longer, add_stands, lines_more, place_within}
 use Rattle.edit_book.proofs.Cuts.{cut_stands}
 use Rattle.edit_book.proofs.HeaderPuts.{head_stands}
 use Rattle.edit_book.proofs.Puts.{has_place, ids_count, put_stands, stamped_there, there_drawn}
 
-module _ (o : Opening) (es : List Entry) (states : List BlockState) (ids : List ℕ) (had : ℕ) (v : OutlineView) (room : Bool) (s : Stands o es states ids had) (view : record { opening = o; entries = es; journal_room = room } ≡ v) where
+module _ (o : Opening) (es : List Entry) (states : List BlockState) (ids : List ℕ) (had : ℕ) (v : OutlineView) (room : Bool) (s : OutlineStands o es states ids had) (view : record { opening = o; entries = es; journal_room = room } ≡ v) where
   here : (e : Edit) → MayCome v.opening v.entries e → MayCome o es e
   here e comes = subst (λ (w : OutlineView). MayCome w.opening w.entries e) (sym view) comes
 
   number : (version : ℕ) → version ≡ length v.entries → length es + 1 ≡ version + 1
   number version version_is = ap (λ (w : OutlineView). length w.entries + 1) view ∙ ap (λ (k : ℕ). k + 1) (sym version_is)
 
-  lines_here : (lines : ℕ) (e : Edit) → lines ≡ length (body (after (outlined v) (length v.entries + 1) e)) → lines ≡ length (body (after (document_of o es) (length es + 1) e))
-  lines_here lines e is = subst (λ (w : OutlineView). lines ≡ length (body (after (outlined w) (length w.entries + 1) e))) (sym view) is
+  lines_here : (lines : ℕ) (e : Edit) → lines ≡ length (body (after (outline_document v) (length v.entries + 1) e)) → lines ≡ length (body (after (document_of o es) (length es + 1) e))
+  lines_here lines e is = subst (λ (w : OutlineView). lines ≡ length (body (after (outline_document w) (length w.entries + 1) e))) (sym view) is
 
   -- there is place for one more entry
   pub room_here : (e : Edit) → MayCome v.opening v.entries e → length es < 1048576
@@ -37,10 +37,10 @@ module _ (o : Opening) (es : List Entry) (states : List BlockState) (ids : List 
       omega (arith, s.drawn, there_drawn (document_of o es).blocks (document_of o es).drawn id b.0 s.lawful.has_ids.drawn b.1)
 
   pub put_entered : (session id seen version lines : ℕ) (text : List (List ℕ)) (longer : List Entry) → MayCome v.opening v.entries (edit.Put id seen text) → length text ≤ 4096 → version ≡ length v.entries
-      → lines ≡ length (body (after (outlined v) (length v.entries + 1) (edit.Put id seen text))) → longer ≡ es ++ record { session = session; edit = edit.Put id seen text } ∷ []
-      → Stands o longer (set states id (There (version + 1))) ids lines
+      → lines ≡ length (body (after (outline_document v) (length v.entries + 1) (edit.Put id seen text))) → longer ≡ es ++ record { session = session; edit = edit.Put id seen text } ∷ []
+      → OutlineStands o longer (set states id (There (version + 1))) ids lines
   put_entered session id seen version lines text longer comes short version_is lines_is longer_is =
-      subst (λ (p : List Entry × ℕ). Stands o p.0 (set states id (There p.1)) ids lines) (λ i. (sym longer_is i, number version version_is i))
+      subst (λ (p : List Entry × ℕ). OutlineStands o p.0 (set states id (There p.1)) ids lines) (λ i. (sym longer_is i, number version version_is i))
       (put_stands o es states ids had session id seen lines text s (here (edit.Put id seen text) comes) (lines_here lines (edit.Put id seen text) lines_is) short)
 
   pub cut_within : (id seen : ℕ) → MayCome v.opening v.entries (edit.Cut id seen) → id < length states
@@ -54,16 +54,16 @@ module _ (o : Opening) (es : List Entry) (states : List BlockState) (ids : List 
       has_place (document_of o es).blocks id b.0 ids b.1 s.order none
 
   pub cut_entered : (session id seen at version lines : ℕ) (longer : List Entry) (left : List ℕ) → MayCome v.opening v.entries (edit.Cut id seen) → position (is_id id) ids ≡ Some at → version ≡ length v.entries
-      → lines ≡ length (body (after (outlined v) (length v.entries + 1) (edit.Cut id seen))) → longer ≡ es ++ record { session = session; edit = edit.Cut id seen } ∷ [] → left ≡ remove ids at
-      → Stands o longer (set states id (CutBy (version + 1))) left lines
+      → lines ≡ length (body (after (outline_document v) (length v.entries + 1) (edit.Cut id seen))) → longer ≡ es ++ record { session = session; edit = edit.Cut id seen } ∷ [] → left ≡ remove ids at
+      → OutlineStands o longer (set states id (CutBy (version + 1))) left lines
   cut_entered session id seen at version lines longer left comes place version_is lines_is longer_is left_is =
-      subst (λ (p : List Entry × ℕ × List ℕ). Stands o p.0 (set states id (CutBy p.1)) p.2 lines) (λ i. (sym longer_is i, number version version_is i, sym left_is i))
+      subst (λ (p : List Entry × ℕ × List ℕ). OutlineStands o p.0 (set states id (CutBy p.1)) p.2 lines) (λ i. (sym longer_is i, number version version_is i, sym left_is i))
       (cut_stands o es states ids had session id seen at lines s (here (edit.Cut id seen) comes) place (lines_here lines (edit.Cut id seen) lines_is))
 
   pub head_entered : (session seen : ℕ) (names : List (List ℕ)) (longer : List Entry) → MayCome v.opening v.entries (edit.Head seen names) → length names ≤ 64
-      → longer ≡ es ++ record { session = session; edit = edit.Head seen names } ∷ [] → Stands o longer states ids had
+      → longer ≡ es ++ record { session = session; edit = edit.Head seen names } ∷ [] → OutlineStands o longer states ids had
   head_entered session seen names longer comes few longer_is =
-      subst (λ (l : List Entry). Stands o l states ids had) (sym longer_is) (head_stands o es states ids had session seen names s (here (edit.Head seen names) comes).room few)
+      subst (λ (l : List Entry). OutlineStands o l states ids had) (sym longer_is) (head_stands o es states ids had session seen names s (here (edit.Head seen names) comes).room few)
 
   module _ (anchor : Anchor) (id : ℕ) (text : List (List ℕ)) (comes : MayCome v.opening v.entries (edit.Add anchor id text)) where
     comes_here : MayCome o es (edit.Add anchor id text)
@@ -89,21 +89,21 @@ module _ (o : Opening) (es : List Entry) (states : List BlockState) (ids : List 
     pub new_id : Each (λ (k : ℕ). k < id) ids
     new_id = subst (λ (p : ℕ × List ℕ). Each (λ (k : ℕ). k < p.0) p.1) (λ i. (sym comes_here.fits.0 i, sym s.order i)) s.lawful.has_ids.drawn
 
-    module _ (at : ℕ) (at_is : at ≡ place_of anchor (ids_of (outlined v).blocks)) where
-      at_here : at ≡ place_of anchor (ids_of (document_of o es).blocks)
-      at_here = at_is ∙ ap (λ (w : OutlineView). place_of anchor (ids_of (outlined w).blocks)) (sym view)
+    module _ (at : ℕ) (at_is : at ≡ anchor_position anchor (ids_of (outline_document v).blocks)) where
+      at_here : at ≡ anchor_position anchor (ids_of (document_of o es).blocks)
+      at_here = at_is ∙ ap (λ (w : OutlineView). anchor_position anchor (ids_of (outline_document w).blocks)) (sym view)
 
       pub add_within : at ≤ length ids
       add_within = omega (arith, at_here, place_within (document_of o es) anchor has, same)
 
       pub add_entered : (session version lines : ℕ) (longer : List Entry) (later : List BlockState) (left : List ℕ) → length text ≤ 4096 → version ≡ length v.entries → lines ≡ had + length text
-          → longer ≡ es ++ record { session = session; edit = edit.Add anchor id text } ∷ [] → later ≡ states ++ There (version + 1) ∷ [] → left ≡ insert ids at id → Stands o longer later left lines
+          → longer ≡ es ++ record { session = session; edit = edit.Add anchor id text } ∷ [] → later ≡ states ++ There (version + 1) ∷ [] → left ≡ insert ids at id → OutlineStands o longer later left lines
       add_entered session version lines longer later left short version_is lines_is longer_is later_is left_is =
           let d : Document = document_of o es in
           let next : id ≡ d.drawn = comes_here.fits.0 in
           let lines_there : lines ≡ length (body (after d (length es + 1) (edit.Add anchor d.drawn text))) = lines_is ∙ sym add_lines ∙ ap (λ (n : ℕ). length (body (after d (length es + 1) (edit.Add anchor n text)))) next in
           let entries_are : es ++ record { session = session; edit = edit.Add anchor d.drawn text } ∷ [] ≡ longer = ap (λ (n : ℕ). es ++ record { session = session; edit = edit.Add anchor n text } ∷ []) (sym next) ∙ sym longer_is in
           let states_are : states ++ There (length es + 1) ∷ [] ≡ later = ap (λ (n : ℕ). states ++ There n ∷ []) (number version version_is) ∙ sym later_is in
-          let ids_are : insert ids (place_of anchor (ids_of d.blocks)) d.drawn ≡ left = (λ i. insert ids (sym at_here i) (sym next i)) ∙ sym left_is in
-          subst (λ (p : List Entry × List BlockState × List ℕ). Stands o p.0 p.1 p.2 lines) (λ i. (entries_are i, states_are i, ids_are i))
+          let ids_are : insert ids (anchor_position anchor (ids_of d.blocks)) d.drawn ≡ left = (λ i. insert ids (sym at_here i) (sym next i)) ∙ sym left_is in
+          subst (λ (p : List Entry × List BlockState × List ℕ). OutlineStands o p.0 p.1 p.2 lines) (λ i. (entries_are i, states_are i, ids_are i))
           (add_stands o es states ids had session anchor lines text s (subst (λ (n : ℕ). MayCome o es (edit.Add anchor n text)) next comes_here) lines_there short)

@@ -15,7 +15,7 @@ use Rattle.face_data.proofs.Members.{Contains-cons_cases, Contains-none}
 use Rattle.edit_book.specs.declared.reply.Again.{Again}
 use Rattle.edit_book.specs.Books.{AreDistinct, Each, HasText, IsLeafOf, ids_of}
 use Rattle.edit_book.specs.Headers.{ArePreparedAgain, IsPreparedAgain}
-use Rattle.edit_book.specs.HeaderTrees.{AreTaken, FitBlocks, FitsBlock, IsTaken, lines_left}
+use Rattle.edit_book.specs.HeaderTrees.{AreLeavesTaken, FitBlocks, FitsBlock, IsLeafTaken, lines_left}
 use Rattle.edit_book.specs.Orders.{is_id}
 use Rattle.edit_book.specs.Work.{is_for, lines_anew}
 use Rattle.edit_book.proofs.Puts.{has_place, place_is}
@@ -37,9 +37,9 @@ other_blocks a (b ∷ bs) none = go (b.id == a.block) refl none (other_blocks a 
     go false is none rest = (other_block b a is, rest none)
 
 -- a summary of another text than its block has is for none of the blocks
-pub stale : (a : Again) (bs : List Block) → AreDistinct (ids_of bs) → (stamp_at bs a.block ≡ Some a.stamp → ⊥) → Each (λ b. is_for b a ≡ false) bs
-stale a [] apart differs = tt
-stale a (b ∷ bs) apart differs = go (b.id == a.block) refl differs (stale a bs apart.1)
+pub stale_summary_unused : (a : Again) (bs : List Block) → AreDistinct (ids_of bs) → (stamp_at bs a.block ≡ Some a.stamp → ⊥) → Each (λ b. is_for b a ≡ false) bs
+stale_summary_unused a [] apart differs = tt
+stale_summary_unused a (b ∷ bs) apart differs = go (b.id == a.block) refl differs (stale_summary_unused a bs apart.1)
   where
     go : (t : Bool) → (b.id == a.block) ≡ t → (option_map (λ x. x.stamp) (cond t (Some b) (block_of bs a.block)) ≡ Some a.stamp → ⊥) → ((stamp_at bs a.block ≡ Some a.stamp → ⊥) → Each (λ x. is_for x a ≡ false) bs)
         → Each (λ x. is_for x a ≡ false) (b ∷ bs)
@@ -48,27 +48,27 @@ stale a (b ∷ bs) apart differs = go (b.id == a.block) refl differs (stale a bs
     go false is differs rest = (other_block b a is, rest differs)
 
 -- what was taken for a block stays taken with one more summary that isn't for it
-taken_more : (again : List Again) (a : Again) (t : Option Leaf) (b : Block) → is_for b a ≡ false → IsTaken again t b → IsTaken (again ++ a ∷ []) t b
+taken_more : (again : List Again) (a : Again) (t : Option Leaf) (b : Block) → is_for b a ≡ false → IsLeafTaken again t b → IsLeafTaken (again ++ a ∷ []) t b
 taken_more again a None b other none =
     list_any-append (is_for b) again (a ∷ []) ∙ ap (λ x. x || list_any (is_for b) (a ∷ [])) none ∙ ap (λ x. x || false) other
 taken_more again a (Some leaf) b other h = record { one = h.one; among = Contains-append_left again (a ∷ []) h.one h.among; for_block = h.for_block; leaf_is = h.leaf_is }
 
-pub taken_past : (again : List Again) (a : Again) (taken : List (Option Leaf)) (bs : List Block) → Each (λ b. is_for b a ≡ false) bs → AreTaken again taken bs → AreTaken (again ++ a ∷ []) taken bs
+pub taken_past : (again : List Again) (a : Again) (taken : List (Option Leaf)) (bs : List Block) → Each (λ b. is_for b a ≡ false) bs → AreLeavesTaken again taken bs → AreLeavesTaken (again ++ a ∷ []) taken bs
 taken_past again a [] [] others h = tt
 taken_past again a [] (b ∷ bs) others h = absurd h
 taken_past again a (t ∷ taken) [] others h = absurd h
 taken_past again a (t ∷ taken) (b ∷ bs) others h = (taken_more again a t b others.0 h.0, taken_past again a taken bs others.1 h.1)
 
 -- a summary of the text that its block has is taken for the block
-taken_here : (again : List Again) (a : Again) (taken : List (Option Leaf)) (bs : List Block) → AreDistinct (ids_of bs) → stamp_at bs a.block ≡ Some a.stamp → AreTaken again taken bs
-    → AreTaken (again ++ a ∷ []) (set taken (position_or_len (is_id a.block) (ids_of bs)) (Some (a.prepared.face, a.prepared.loops))) bs
+taken_here : (again : List Again) (a : Again) (taken : List (Option Leaf)) (bs : List Block) → AreDistinct (ids_of bs) → stamp_at bs a.block ≡ Some a.stamp → AreLeavesTaken again taken bs
+    → AreLeavesTaken (again ++ a ∷ []) (set taken (position_or_len (is_id a.block) (ids_of bs)) (Some (a.prepared.face, a.prepared.loops))) bs
 taken_here again a [] [] apart is h = tt
 taken_here again a [] (b ∷ bs) apart is h = absurd h
 taken_here again a (t ∷ taken) [] apart is h = absurd h
 taken_here again a (t ∷ taken) (b ∷ bs) apart is h = go (b.id == a.block) refl is (λ later. taken_here again a taken bs apart.1 later h.1)
   where
-    go : (u : Bool) → (b.id == a.block) ≡ u → option_map (λ x. x.stamp) (cond u (Some b) (block_of bs a.block)) ≡ Some a.stamp → (stamp_at bs a.block ≡ Some a.stamp → AreTaken (again ++ a ∷ []) (set taken (position_or_len (is_id a.block) (ids_of bs)) (Some (a.prepared.face, a.prepared.loops))) bs)
-        → AreTaken (again ++ a ∷ []) (set (t ∷ taken) (cond (not u) (1 + position_or_len (is_id a.block) (ids_of bs)) 0) (Some (a.prepared.face, a.prepared.loops))) (b ∷ bs)
+    go : (u : Bool) → (b.id == a.block) ≡ u → option_map (λ x. x.stamp) (cond u (Some b) (block_of bs a.block)) ≡ Some a.stamp → (stamp_at bs a.block ≡ Some a.stamp → AreLeavesTaken (again ++ a ∷ []) (set taken (position_or_len (is_id a.block) (ids_of bs)) (Some (a.prepared.face, a.prepared.loops))) bs)
+        → AreLeavesTaken (again ++ a ∷ []) (set (t ∷ taken) (cond (not u) (1 + position_or_len (is_id a.block) (ids_of bs)) 0) (Some (a.prepared.face, a.prepared.loops))) (b ∷ bs)
     go true same is rest =
         let id_is : a.block ≡ b.id = sym (eqb-true b.id a.block same) in
         let stamp_is : a.stamp ≡ b.stamp = cc in (
@@ -101,19 +101,19 @@ stamp_placed bs id stamp ids ids_are is = go (block_of bs id) refl is
 
 -- the place of a summary's block, by its id
 pub taken_at : (again : List Again) (a : Again) (taken : List (Option Leaf)) (bs : List Block) (ids : List ℕ) (at : ℕ) → ids ≡ ids_of bs → AreDistinct (ids_of bs) → stamp_at bs a.block ≡ Some a.stamp
-    → position (is_id a.block) ids ≡ Some at → AreTaken again taken bs → AreTaken (again ++ a ∷ []) (set taken at (Some (a.prepared.face, a.prepared.loops))) bs
+    → position (is_id a.block) ids ≡ Some at → AreLeavesTaken again taken bs → AreLeavesTaken (again ++ a ∷ []) (set taken at (Some (a.prepared.face, a.prepared.loops))) bs
 taken_at again a taken bs ids at ids_are apart is place h =
-    subst (λ (n : ℕ). AreTaken (again ++ a ∷ []) (set taken n (Some (a.prepared.face, a.prepared.loops))) bs)
+    subst (λ (n : ℕ). AreLeavesTaken (again ++ a ∷ []) (set taken n (Some (a.prepared.face, a.prepared.loops))) bs)
     (sym ((place_is ids a.block at place).0 ∙ ap (position_or_len (is_id a.block)) ids_are)) (taken_here again a taken bs apart is h)
 
 -- nothing is taken of no summary
-none_taken : (bs : List Block) → AreTaken [] (replicate (length bs) None) bs
+none_taken : (bs : List Block) → AreLeavesTaken [] (replicate (length bs) None) bs
 none_taken [] = tt
 none_taken (b ∷ bs) = (refl, none_taken bs)
 
-pub taken_first : (taken : List (Option Leaf)) (many : ℕ) (bs : List Block) → taken ≡ replicate many None → many ≡ length bs → AreTaken [] taken bs
+pub taken_first : (taken : List (Option Leaf)) (many : ℕ) (bs : List Block) → taken ≡ replicate many None → many ≡ length bs → AreLeavesTaken [] taken bs
 taken_first taken many bs taken_are many_is =
-    subst (λ (l : List (Option Leaf)). AreTaken [] l bs) (sym (taken_are ∙ ap (λ (n : ℕ). replicate n None) many_is)) (none_taken bs)
+    subst (λ (l : List (Option Leaf)). AreLeavesTaken [] l bs) (sym (taken_are ∙ ap (λ (n : ℕ). replicate n None) many_is)) (none_taken bs)
 
 -- what holds of each summary holds of one of them
 again_at : (o : Opening) (es : List Entry) (names : List (List ℕ)) (again : List Again) (a : Again) → ArePreparedAgain o es names again → Contains again a → IsPreparedAgain o es names a
@@ -127,7 +127,7 @@ prepared_leaf setting prepared lines is h = subst (λ (l : List (List ℕ)). IsL
 
 module _ (o : Opening) (es : List Entry) (setting : Setting) (again : List Again) (same : setting.profile ≡ o.setting.profile) (all : ArePreparedAgain o es setting.declared again) where
   -- a summary that is for a block is of the block's own text
-  own_leaf : (t : Option Leaf) (b : Block) → HasText o es b → IsTaken again t b → FitsBlock setting t b
+  own_leaf : (t : Option Leaf) (b : Block) → HasText o es b → IsLeafTaken again t b → FitsBlock setting t b
   own_leaf None b text h = tt
   own_leaf (Some leaf) b text h =
       let a : Again = h.one in
@@ -139,14 +139,14 @@ module _ (o : Opening) (es : List Entry) (setting : Setting) (again : List Again
       subst (λ (l : Leaf). IsLeafOf setting l b.lines) (sym h.leaf_is)
       (prepared_leaf setting a.prepared b.lines here.0 (subst (λ p. IsPreparedFor p setting.declared a.prepared) (sym same) here.1))
 
-  pub own_leaves : (taken : List (Option Leaf)) (bs : List Block) → Each (HasText o es) bs → AreTaken again taken bs → FitBlocks setting taken bs
+  pub own_leaves : (taken : List (Option Leaf)) (bs : List Block) → Each (HasText o es) bs → AreLeavesTaken again taken bs → FitBlocks setting taken bs
   own_leaves [] [] texts h = tt
   own_leaves [] (b ∷ bs) texts h = absurd h
   own_leaves (t ∷ taken) [] texts h = absurd h
   own_leaves (t ∷ taken) (b ∷ bs) texts h = (own_leaf t b texts.0 h.0, own_leaves taken bs texts.1 h.1)
 
 -- the blocks for which nothing is taken are those without a summary
-pub left_anew : (again : List Again) (taken : List (Option Leaf)) (bs : List Block) → AreTaken again taken bs → lines_left taken bs ≤ lines_anew again bs
+pub left_anew : (again : List Again) (taken : List (Option Leaf)) (bs : List Block) → AreLeavesTaken again taken bs → lines_left taken bs ≤ lines_anew again bs
 left_anew again [] [] h = omega arith
 left_anew again [] (b ∷ bs) h = absurd h
 left_anew again (t ∷ taken) [] h = absurd h

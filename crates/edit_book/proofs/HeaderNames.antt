@@ -6,10 +6,10 @@ use Rattle.edit_journal.specs.declared.edit.Edit.{Edit}
 use Rattle.edit_journal.specs.declared.edit.Edit.TheVariants as edit
 use Rattle.edit_journal.specs.declared.edit.Entry.{Entry}
 use Rattle.edit_journal.specs.declared.opening.Opening.{Opening}
-use Rattle.edit_journal.specs.Documents.{Document, after, after_all, document_of, names_at, names_given, opened}
+use Rattle.edit_journal.specs.Documents.{Document, after, after_all, document_of, names_at, names_given, document_opened}
 use Rattle.edit_journal.proofs.Known.{all_known, names_longer}
 use Rattle.edit_journal.specs.Entries.{entry_at, names_for}
-use Rattle.edit_book.specs.Headers.{AreRising, changes_header, header_entries, last_not_above, last_or}
+use Rattle.edit_book.specs.Headers.{AreNumbersRising, changes_header, header_entries, last_not_above, last_or}
 
 -- one entry
 stamp_after : (d : Document) (i : ℕ) (e : Edit) (ns : List ℕ) → last_or (after d i e).header.stamp ns ≡ last_or d.header.stamp (cond (changes_header e) (i ∷ ns) ns)
@@ -52,24 +52,24 @@ up_to v i (suc k) (e ∷ es) many within = go (changes_header e.edit) (up_to v (
 pub names_up_to : (o : Opening) (es : List Entry) (v : ℕ) → names_given o es (last_not_above v (header_entries 1 es)) ≡ Some (names_at o es v)
 names_up_to o es v =
     let d : Document = document_of o (take v es) in
-    let stamp : last_not_above v (header_entries 1 es) ≡ d.header.stamp = ap (last_or 0) (up_to v 1 v es (omega arith) (omega arith)) ∙ sym (stamp_from (opened o) 1 (take v es)) in
+    let stamp : last_not_above v (header_entries 1 es) ≡ d.header.stamp = ap (last_or 0) (up_to v 1 v es (omega arith) (omega arith)) ∙ sym (stamp_from (document_opened o) 1 (take v es)) in
     ap (names_given o es) stamp
     ∙ subst (λ (l : List Entry). names_given o l d.header.stamp ≡ Some d.header.names) (take-append-drop v es) (names_longer o (take v es) (drop v es) d.header.stamp d.header.names (all_known o (take v es)).header)
 
 -- the numbers of the entries that changed the header rise
-rises_behind : (n i : ℕ) (es : List Entry) → n < i → AreRising (n ∷ header_entries i es)
+rises_behind : (n i : ℕ) (es : List Entry) → n < i → AreNumbersRising (n ∷ header_entries i es)
 rises_behind n i [] less = tt
 rises_behind n i (e ∷ es) less = go (changes_header e.edit) (rises_behind i (i + 1) es (omega arith)) (rises_behind n (i + 1) es (omega arith))
   where
-    go : (b : Bool) → AreRising (i ∷ header_entries (i + 1) es) → AreRising (n ∷ header_entries (i + 1) es) → AreRising (n ∷ cond b (i ∷ header_entries (i + 1) es) (header_entries (i + 1) es))
+    go : (b : Bool) → AreNumbersRising (i ∷ header_entries (i + 1) es) → AreNumbersRising (n ∷ header_entries (i + 1) es) → AreNumbersRising (n ∷ cond b (i ∷ header_entries (i + 1) es) (header_entries (i + 1) es))
     go true own others = (less, own)
     go false own others = others
 
-rising_tail : (n : ℕ) (ns : List ℕ) → AreRising (n ∷ ns) → AreRising ns
+rising_tail : (n : ℕ) (ns : List ℕ) → AreNumbersRising (n ∷ ns) → AreNumbersRising ns
 rising_tail n [] r = tt
 rising_tail n (m ∷ ms) r = r.1
 
-pub header_rises : (es : List Entry) → AreRising (header_entries 1 es)
+pub header_rises : (es : List Entry) → AreNumbersRising (header_entries 1 es)
 header_rises es = rising_tail 0 (header_entries 1 es) (rises_behind 0 1 es (omega arith))
 
 -- the names that an entry with this number gave, and those of the opening where there is no such entry

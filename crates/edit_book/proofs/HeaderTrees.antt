@@ -8,7 +8,7 @@ use Rattle.face_data.specs.Items.{most_items}
 use Rattle.edit_book.specs.declared.reply.Again.{Again}
 use Rattle.edit_book.specs.Books.{BookView, IsLawfulBook, IsLawfulSetting, IsLeafOf, document}
 use Rattle.edit_book.specs.Headers.{ArePreparedAgain}
-use Rattle.edit_book.specs.HeaderTrees.{AreLeavesOf, AreTaken, FitBlocks, FitsBlock, lines_for, lines_left}
+use Rattle.edit_book.specs.HeaderTrees.{AreLeavesOf, AreLeavesTaken, FitBlocks, FitsBlock, lines_for, lines_left}
 use Rattle.edit_book.specs.Verdicts.{setting_of}
 use Rattle.edit_book.specs.Work.{header_limit, lines_anew, start_limit, with_names}
 use Rattle.edit_book.proofs.HandedOver.{left_anew, own_leaves}
@@ -116,7 +116,7 @@ header_work setting leaves d again before read now h less steps =
 
 -- the tree that is made of the blocks of a book, under other names
 module _ (v : BookView) (lawful : IsLawfulBook v) (names : List (List ℕ)) (again : List Again) (setting : Setting) (setting_is : setting ≡ with_names names (setting_of v.opening (document v)))
-    (taken : List (Option Leaf)) (h : AreTaken again taken (document v).blocks) where
+    (taken : List (Option Leaf)) (h : AreLeavesTaken again taken (document v).blocks) where
   pub all_fit : ArePreparedAgain v.opening v.entries names again → FitBlocks setting taken (document v).blocks
   all_fit all =
       subst (λ (s : Setting). FitBlocks s taken (document v).blocks) (sym setting_is)

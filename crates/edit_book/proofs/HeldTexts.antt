@@ -6,7 +6,7 @@ use Rattle.edit_journal.specs.declared.edit.BlockAt.{BlockAt}
 use Rattle.edit_journal.specs.declared.edit.Entry.{Entry}
 use Rattle.edit_journal.specs.declared.opening.Opening.{Opening}
 use Rattle.edit_journal.specs.Documents.{Block, block_of, document_of, stamp_at}
-use Rattle.edit_book.specs.Books.{AreDistinct, BookView, IsLawful, document, ids_of}
+use Rattle.edit_book.specs.Books.{AreDistinct, BookView, AreLawfulLeaves, document, ids_of}
 use Rattle.edit_book.specs.Headers.{blocks_at}
 use Rattle.edit_book.proofs.Blocks.{lawful_of}
 use Rattle.edit_book.proofs.LinePlaces.{block_at}
@@ -57,7 +57,7 @@ abbrev pub IsTextAt : BookView → ℕ → List (List ℕ) → Type 0
 IsTextAt v at text = (b : Block) → slice_get (document v).blocks at ≡ Some b → text ≡ b.lines
 
 module _ (o : Opening) (es : List Entry) (v : BookView) (room : Bool) (tree : TreeView)
-    (s : IsLawful o es tree.leaves) (view : record { opening = o; entries = es; journal_room = room; tree = tree } ≡ v) where
+    (s : AreLawfulLeaves o es tree.leaves) (view : record { opening = o; entries = es; journal_room = room; tree = tree } ≡ v) where
   -- the (ids_of (document_of o es).blocks) that are kept are those of the blocks
   pub ids_are : (ids_of (document_of o es).blocks) ≡ ids_of (document v).blocks
   ids_are = ap (λ (w : BookView). ids_of (document w).blocks) view
@@ -65,12 +65,12 @@ module _ (o : Opening) (es : List Entry) (v : BookView) (room : Bool) (tree : Tr
   pub ids_kept : length (ids_of (document_of o es).blocks) ≡ length (document v).blocks
   ids_kept = ap length ids_are ∙ ids_count (document v).blocks
 
-  pub held : (at id : ℕ) → slice_get (ids_of (document_of o es).blocks) at ≡ Some id → BlockHere (document v).blocks at id
-  held at id is = block_here (document v).blocks at id (lawful_of o es tree room v s view).has_ids.differ (ap (λ (l : List ℕ). slice_get l at) (sym ids_are) ∙ is)
+  pub held_block_here : (at id : ℕ) → slice_get (ids_of (document_of o es).blocks) at ≡ Some id → BlockHere (document v).blocks at id
+  held_block_here at id is = block_here (document v).blocks at id (lawful_of o es tree room v s view).has_ids.differ (ap (λ (l : List ℕ). slice_get l at) (sym ids_are) ∙ is)
 
   pub held_text : (at id : ℕ) (text again : List (List ℕ)) → slice_get (ids_of (document_of o es).blocks) at ≡ Some id → option_map (λ (b : Block). b.lines) (block_of (document v).blocks id) ≡ Some text → again ≡ text → IsTextAt v at again
   held_text at id text again is text_is same b there =
-      let h = held at id is in
+      let h = held_block_here at id is in
       let one : Some h.block.lines ≡ Some text = sym (text_here (document v).blocks at id h) ∙ text_is in
       let two : Some h.block ≡ Some b = sym h.there ∙ there in
       let texts : h.block.lines ≡ text = cc in

@@ -19,14 +19,14 @@ use Rattle.carriage_model.specs.Steps.{step}
 use Rattle.carriage_model.proofs.LoopOfLine.{IsOfLine, fact_made-line, later_lines, made_on-other, other_line}
 use Rattle.face_data.specs.Composition.{and_then}
 use Rattle.face_data.specs.Stands.{StandsFor, outcome_of_run}
-use Rattle.face_data.specs.Summaries.{Outcome, applied}
+use Rattle.face_data.specs.Summaries.{Outcome, summary_outcome}
 use Rattle.face_data.specs.Summaries.Outcome.{went_on}
 use Rattle.face_data.proofs.Stands.{loops_made-append}
 use Rattle.loop_history.specs.declared.row.LoopRow.{LoopRow}
 use Rattle.loop_history.specs.Rows.{fact_of_row, facts_of_rows, rows_run}
 use Rattle.loop_history.specs.Tables.{TableStandsFor}
 use Rattle.loop_history.proofs.TableLines.{StopsAmong, stops_among}
-use Rattle.value_tree.specs.Found.{found_in, further}
+use Rattle.value_tree.specs.Found.{found_in, place_further}
 use Rattle.edit_book.specs.Entered.{stops_by}
 use Rattle.edit_book.proofs.Puts.{first_place}
 use Rattle.summary_tree.specs.Leaves.{EachStandsFor, Leaf, all_lines, applied_each, leaf_lines, place_of_line}
@@ -206,7 +206,7 @@ begins_in profile (l ∷ leaves) (xs ∷ blocks) s first offset at within stand 
     own : leaf_lines l ≡ length xs
     own = stand.0.lines_are
 
-    go : (t : Bool) → nat_lt offset (leaf_lines l) ≡ t → (o : Option (ℕ × ℕ)) → found_in leaf_lines leaves (offset - leaf_lines l) ≡ o → cond t (Some (0, offset)) (further 1 o) ≡ Some (at, within)
+    go : (t : Bool) → nat_lt offset (leaf_lines l) ≡ t → (o : Option (ℕ × ℕ)) → found_in leaf_lines leaves (offset - leaf_lines l) ≡ o → cond t (Some (0, offset)) (place_further 1 o) ≡ Some (at, within)
         → ((u : State) (k : ℕ) → found_in leaf_lines leaves (offset - length xs) ≡ Some (k, within) → GoesPast (first + length xs + (offset - length xs)) (run profile u (first + length xs) (all_lines blocks))
         → BeginsIn profile leaves u (first + length xs) (offset - length xs) k within (loops_made profile u (first + length xs) (all_lines blocks)))
         → BeginsIn profile (l ∷ leaves) s first offset at within (loops_made profile s first (xs ++ all_lines blocks))
@@ -235,7 +235,7 @@ in_no_block profile (l ∷ leaves) (xs ∷ blocks) offset stand found =
     own : leaf_lines l ≡ length xs
     own = stand.0.lines_are
 
-    go : (t : Bool) → nat_lt offset (leaf_lines l) ≡ t → (o : Option (ℕ × ℕ)) → found_in leaf_lines leaves (offset - leaf_lines l) ≡ o → cond t (Some (0, offset)) (further 1 o) ≡ None
+    go : (t : Bool) → nat_lt offset (leaf_lines l) ≡ t → (o : Option (ℕ × ℕ)) → found_in leaf_lines leaves (offset - leaf_lines l) ≡ o → cond t (Some (0, offset)) (place_further 1 o) ≡ None
         → (found_in leaf_lines leaves (offset - leaf_lines l) ≡ None → length (all_lines blocks) ≤ offset - leaf_lines l) → length (xs ++ all_lines blocks) ≤ offset
     go true is o there e rest = absurd (cc)
     go false is None there e rest = omega (arith, rest there, ltb-false offset (leaf_lines l) is, own, length-append xs (all_lines blocks))
@@ -250,7 +250,7 @@ each_runs profile (l ∷ leaves) [] s first stand = absurd stand
 each_runs profile (l ∷ leaves) (xs ∷ blocks) s first stand = go (run profile s first xs) refl (λ u. each_runs profile leaves blocks u (first + length xs) stand.1)
   where
     go : (ended : Ended) → run profile s first xs ≡ ended → ((u : State) → applied_each leaves u (first + length xs) ≡ outcome_of_run (run profile u (first + length xs) (all_lines blocks)))
-        → and_then (applied l.0 s first) (λ t. applied_each leaves t (first + l.0.lines)) ≡ outcome_of_run (run profile s first (xs ++ all_lines blocks))
+        → and_then (summary_outcome l.0 s first) (λ t. applied_each leaves t (first + l.0.lines)) ≡ outcome_of_run (run profile s first (xs ++ all_lines blocks))
     go (Ends u) is rest =
         ap (λ (o : Outcome). and_then o (λ t. applied_each leaves t (first + l.0.lines))) (stand.0.outcome s first ∙ ap outcome_of_run is)
         ∙ ap (λ n. applied_each leaves u (first + n)) stand.0.lines_are

@@ -5,27 +5,27 @@ use Rattle.std.proofs.lemmas.Bool.{eqb-true, ltb-true, ltb-false}
 use Rattle.std.proofs.lemmas.Bool.{eq-eqb}
 use Rattle.knit_base.specs.declared.setting.Setting.{Setting}
 use Rattle.edit_journal.specs.Documents.{Block, block_of, lines_in}
-use Rattle.value_tree.specs.Found.{found_in, further}
+use Rattle.value_tree.specs.Found.{found_in, place_further}
 use Rattle.edit_book.specs.Books.{AreDistinct, IsLeafOf, ids_of}
 use Rattle.edit_book.specs.Orders.{is_id}
 use Rattle.edit_book.specs.Replies.{lines_before}
 use Rattle.edit_book.proofs.Trees.{leaf_count}
-use Rattle.summary_tree.specs.Leaves.{Leaf, leaf_lines, lines_of, place_of_line}
+use Rattle.summary_tree.specs.Leaves.{Leaf, leaf_lines, leaf_line_count, place_of_line}
 
 -- the lines before a block are those of the leaves before its own
 pub lines_at : (setting : Setting) (leaves : List Leaf) (bs : List Block) (id : ℕ) (b : Block) → AllZip (λ (l : Leaf) (x : Block). IsLeafOf setting l x.lines) leaves bs → block_of bs id ≡ Some b
-    → lines_of (take (position_or_len (is_id id) (ids_of bs)) leaves) ≡ lines_before id bs
+    → leaf_line_count (take (position_or_len (is_id id) (ids_of bs)) leaves) ≡ lines_before id bs
 lines_at setting [] [] id b h there = absurd (cc)
 lines_at setting [] (x ∷ bs) id b h there = absurd h
 lines_at setting (l ∷ leaves) [] id b h there = absurd h
 lines_at setting (l ∷ leaves) (x ∷ bs) id b h there = go (x.id == id) (lines_at setting leaves bs id b h.1) there
   where
-    go : (t : Bool) → (block_of bs id ≡ Some b → lines_of (take (position_or_len (is_id id) (ids_of bs)) leaves) ≡ lines_before id bs) → cond t (Some x) (block_of bs id) ≡ Some b
-        → lines_of (take (cond (not t) (1 + position_or_len (is_id id) (ids_of bs)) 0) (l ∷ leaves)) ≡ cond t 0 (length x.lines + lines_before id bs)
+    go : (t : Bool) → (block_of bs id ≡ Some b → leaf_line_count (take (position_or_len (is_id id) (ids_of bs)) leaves) ≡ lines_before id bs) → cond t (Some x) (block_of bs id) ≡ Some b
+        → leaf_line_count (take (cond (not t) (1 + position_or_len (is_id id) (ids_of bs)) 0) (l ∷ leaves)) ≡ cond t 0 (length x.lines + lines_before id bs)
     go true ih there = refl
     go false ih there = simp one-add (let rest = ih there in omega (arith, rest, leaf_count setting l x.lines h.0))
 
-pub lines_taken : (n : ℕ) (leaves : List Leaf) → lines_of (take n leaves) ≤ lines_of leaves
+pub lines_taken : (n : ℕ) (leaves : List Leaf) → leaf_line_count (take n leaves) ≤ leaf_line_count leaves
 lines_taken zero leaves = omega arith
 lines_taken (suc n) [] = omega arith
 lines_taken (suc n) (l ∷ leaves) = omega (arith, lines_taken n leaves)
@@ -63,7 +63,7 @@ line_there setting (l ∷ leaves) (b ∷ bs) offset at within h found =
     own : leaf_lines l ≡ length b.lines
     own = leaf_count setting l b.lines h.0
 
-    go : (t : Bool) → nat_lt offset (leaf_lines l) ≡ t → (o : Option (ℕ × ℕ)) → found_in leaf_lines leaves (offset - leaf_lines l) ≡ o → cond t (Some (0, offset)) (further 1 o) ≡ Some (at, within)
+    go : (t : Bool) → nat_lt offset (leaf_lines l) ≡ t → (o : Option (ℕ × ℕ)) → found_in leaf_lines leaves (offset - leaf_lines l) ≡ o → cond t (Some (0, offset)) (place_further 1 o) ≡ Some (at, within)
         → ((k : ℕ) → found_in leaf_lines leaves (offset - leaf_lines l) ≡ Some (k, within) → StandsIn bs (offset - leaf_lines l) k within) → StandsIn (b ∷ bs) offset at within
     go true is o there e rest =
         let first : 0 ≡ at = ap (λ (x : Option (ℕ × ℕ)). (unwrap_or x (0, 0)).0) e in
@@ -100,7 +100,7 @@ line_none setting (l ∷ leaves) (b ∷ bs) offset h found =
     own : leaf_lines l ≡ length b.lines
     own = leaf_count setting l b.lines h.0
 
-    go : (t : Bool) → nat_lt offset (leaf_lines l) ≡ t → (o : Option (ℕ × ℕ)) → found_in leaf_lines leaves (offset - leaf_lines l) ≡ o → cond t (Some (0, offset)) (further 1 o) ≡ None
+    go : (t : Bool) → nat_lt offset (leaf_lines l) ≡ t → (o : Option (ℕ × ℕ)) → found_in leaf_lines leaves (offset - leaf_lines l) ≡ o → cond t (Some (0, offset)) (place_further 1 o) ≡ None
         → (found_in leaf_lines leaves (offset - leaf_lines l) ≡ None → slice_get (lines_in bs) (offset - leaf_lines l) ≡ None) → slice_get (b.lines ++ lines_in bs) offset ≡ None
     go true is o there e rest = absurd (cc)
     go false is None there e rest =
@@ -144,7 +144,7 @@ place_within [] offset at within found = absurd (cc)
 place_within (l ∷ leaves) offset at within found =
     go (nat_lt offset (leaf_lines l)) (found_in leaf_lines leaves (offset - leaf_lines l)) refl found (λ k there. place_within leaves (offset - leaf_lines l) k within there)
   where
-    go : (t : Bool) → (o : Option (ℕ × ℕ)) → found_in leaf_lines leaves (offset - leaf_lines l) ≡ o → cond t (Some (0, offset)) (further 1 o) ≡ Some (at, within)
+    go : (t : Bool) → (o : Option (ℕ × ℕ)) → found_in leaf_lines leaves (offset - leaf_lines l) ≡ o → cond t (Some (0, offset)) (place_further 1 o) ≡ Some (at, within)
         → ((k : ℕ) → found_in leaf_lines leaves (offset - leaf_lines l) ≡ Some (k, within) → k < length leaves) → at < suc (length leaves)
     go true o there e rest = let first : 0 ≡ at = ap (λ (x : Option (ℕ × ℕ)). (unwrap_or x (0, 0)).0) e in omega (arith, first)
     go false None there e rest = absurd (cc)

@@ -6,16 +6,16 @@ use Rattle.knit_base.specs.declared.setting.Setting.{Setting}
 use Rattle.edit_journal.specs.declared.edit.Entry.{Entry}
 use Rattle.edit_journal.specs.declared.opening.Opening.{Opening}
 use Rattle.edit_journal.specs.Documents.{Block, block_of, document_of, stamp_at}
-use Rattle.value_tree.specs.Found.{found_in, further}
+use Rattle.value_tree.specs.Found.{found_in, place_further}
 use Rattle.edit_book.specs.declared.listed.BlockPlace.{BlockPlace}
 use Rattle.edit_book.specs.declared.listed.LinePlace.{LinePlace}
-use Rattle.edit_book.specs.Books.{BookView, IsLawful, IsLeafOf, document, ids_of}
-use Rattle.edit_book.specs.Listing.{place_of, place_within, places, places_from}
-use Rattle.edit_book.proofs.HeldTexts.{held, ids_are, stamp_here, text_here}
+use Rattle.edit_book.specs.Books.{BookView, AreLawfulLeaves, IsLeafOf, document, ids_of}
+use Rattle.edit_book.specs.Listing.{line_place_of, place_within, block_places, places_from}
+use Rattle.edit_book.proofs.HeldTexts.{held_block_here, ids_are, stamp_here, text_here}
 use Rattle.edit_book.proofs.LinePlaces.{lines_taken}
 use Rattle.edit_book.proofs.Puts.{ids_count}
 use Rattle.edit_book.proofs.Trees.{leaf_count, leaf_each, setting_at, zip_lines}
-use Rattle.summary_tree.specs.Leaves.{Leaf, leaf_lines, lines_of, place_of_line}
+use Rattle.summary_tree.specs.Leaves.{Leaf, leaf_lines, leaf_line_count, place_of_line}
 use Rattle.summary_tree.specs.Trees.{TreeView}
 
 -- a block that begins at this line
@@ -24,17 +24,17 @@ row first b = record { block = b.id; stamp = b.stamp; first = first; lines = len
 
 -- the block at a place begins behind the lines of the leaves before it
 pub listed : (setting : Setting) (leaves : List Leaf) (bs : List Block) (first at : ℕ) (b : Block) → AllZip (λ (l : Leaf) (x : Block). IsLeafOf setting l x.lines) leaves bs → slice_get bs at ≡ Some b
-    → slice_get (places_from first bs) at ≡ Some (row (first + lines_of (take at leaves)) b)
+    → slice_get (places_from first bs) at ≡ Some (row (first + leaf_line_count (take at leaves)) b)
 listed setting [] [] first zero b h there = absurd (cc)
 listed setting [] [] first (suc at) b h there = absurd (cc)
 listed setting [] (x ∷ bs) first at b h there = absurd h
 listed setting (l ∷ leaves) [] first at b h there = absurd h
 listed setting (l ∷ leaves) (x ∷ bs) first zero b h there =
     let same : x ≡ b = cc in
-    let begins : first ≡ first + lines_of (take zero (l ∷ leaves)) = omega arith in
+    let begins : first ≡ first + leaf_line_count (take zero (l ∷ leaves)) = omega arith in
     λ i. Some (row (begins i) (same i))
 listed setting (l ∷ leaves) (x ∷ bs) first (suc at) b h there =
-    let begins : first + length x.lines + lines_of (take at leaves) ≡ first + lines_of (take (suc at) (l ∷ leaves)) = omega (arith, leaf_count setting l x.lines h.0) in
+    let begins : first + length x.lines + leaf_line_count (take at leaves) ≡ first + leaf_line_count (take (suc at) (l ∷ leaves)) = omega (arith, leaf_count setting l x.lines h.0) in
     listed setting leaves bs (first + length x.lines) at b h.1 there ∙ ap (λ (n : ℕ). Some (row n b)) begins
 
 pub unlisted : (bs : List Block) (first at : ℕ) → slice_get (ids_of bs) at ≡ None → slice_get (places_from first bs) at ≡ None
@@ -58,7 +58,7 @@ within setting (l ∷ leaves) (b ∷ bs) offset at inner id h found there =
     here : Bool → Option LinePlace → Option LinePlace
     here t rest = cond t (Some (record { block = b.id; line = offset + 1 })) rest
 
-    go : (t : Bool) → nat_lt offset (leaf_lines l) ≡ t → (o : Option (ℕ × ℕ)) → found_in leaf_lines leaves (offset - leaf_lines l) ≡ o → cond t (Some (0, offset)) (further 1 o) ≡ Some (at, inner)
+    go : (t : Bool) → nat_lt offset (leaf_lines l) ≡ t → (o : Option (ℕ × ℕ)) → found_in leaf_lines leaves (offset - leaf_lines l) ≡ o → cond t (Some (0, offset)) (place_further 1 o) ≡ Some (at, inner)
         → ((k : ℕ) → found_in leaf_lines leaves (offset - leaf_lines l) ≡ Some (k, inner) → slice_get (ids_of bs) k ≡ Some id → place_within bs (offset - leaf_lines l) ≡ Some (record { block = id; line = inner + 1 }))
         → place_within (b ∷ bs) offset ≡ Some (record { block = id; line = inner + 1 })
     go true is o got e rest =
@@ -94,7 +94,7 @@ outside setting (l ∷ leaves) (b ∷ bs) offset h found =
     here : Bool → Option LinePlace → Option LinePlace
     here t rest = cond t (Some (record { block = b.id; line = offset + 1 })) rest
 
-    go : (t : Bool) → nat_lt offset (leaf_lines l) ≡ t → (o : Option (ℕ × ℕ)) → found_in leaf_lines leaves (offset - leaf_lines l) ≡ o → cond t (Some (0, offset)) (further 1 o) ≡ None
+    go : (t : Bool) → nat_lt offset (leaf_lines l) ≡ t → (o : Option (ℕ × ℕ)) → found_in leaf_lines leaves (offset - leaf_lines l) ≡ o → cond t (Some (0, offset)) (place_further 1 o) ≡ None
         → (found_in leaf_lines leaves (offset - leaf_lines l) ≡ None → place_within bs (offset - leaf_lines l) ≡ None) → place_within (b ∷ bs) offset ≡ None
     go true is o got e rest = absurd (cc)
     go false is (Some p) got e rest = absurd (cc)
@@ -104,13 +104,13 @@ outside setting (l ∷ leaves) (b ∷ bs) offset h found =
         ∙ rest got
 
 -- the number of a line within its leaf is one of the leaf's
-inner_few : (leaves : List Leaf) (offset at inner : ℕ) → place_of_line leaves offset ≡ Some (at, inner) → inner < lines_of leaves
+inner_few : (leaves : List Leaf) (offset at inner : ℕ) → place_of_line leaves offset ≡ Some (at, inner) → inner < leaf_line_count leaves
 inner_few [] offset at inner found = absurd (cc)
 inner_few (l ∷ leaves) offset at inner found =
     go (nat_lt offset (leaf_lines l)) refl (found_in leaf_lines leaves (offset - leaf_lines l)) refl found (λ k got. inner_few leaves (offset - leaf_lines l) k inner got)
   where
-    go : (t : Bool) → nat_lt offset (leaf_lines l) ≡ t → (o : Option (ℕ × ℕ)) → found_in leaf_lines leaves (offset - leaf_lines l) ≡ o → cond t (Some (0, offset)) (further 1 o) ≡ Some (at, inner)
-        → ((k : ℕ) → found_in leaf_lines leaves (offset - leaf_lines l) ≡ Some (k, inner) → inner < lines_of leaves) → inner < lines_of (l ∷ leaves)
+    go : (t : Bool) → nat_lt offset (leaf_lines l) ≡ t → (o : Option (ℕ × ℕ)) → found_in leaf_lines leaves (offset - leaf_lines l) ≡ o → cond t (Some (0, offset)) (place_further 1 o) ≡ Some (at, inner)
+        → ((k : ℕ) → found_in leaf_lines leaves (offset - leaf_lines l) ≡ Some (k, inner) → inner < leaf_line_count leaves) → inner < leaf_line_count (l ∷ leaves)
     go true is o got e rest =
         let same : offset ≡ inner = ap (λ (x : Option (ℕ × ℕ)). (unwrap_or x (0, 0)).1) e in
         omega (arith, ltb-true offset (leaf_lines l) is, same)
@@ -126,24 +126,24 @@ got_within (x ∷ ids) zero id there = omega arith
 got_within (x ∷ ids) (suc at) id there = let rest = got_within ids at id there in omega (arith, rest)
 
 module _ (o : Opening) (es : List Entry) (v : BookView) (room : Bool) (tree : TreeView)
-    (s : IsLawful o es tree.leaves) (view : record { opening = o; entries = es; journal_room = room; tree = tree } ≡ v) where
+    (s : AreLawfulLeaves o es tree.leaves) (view : record { opening = o; entries = es; journal_room = room; tree = tree } ≡ v) where
   -- the block of this id and text, at its place
   pub listed_here : (at id stamp before : ℕ) (text : List (List ℕ)) → slice_get (ids_of (document_of o es).blocks) at ≡ Some id → stamp_at (document v).blocks id ≡ Some stamp
-      → option_map (λ (b : Block). b.lines) (block_of (document v).blocks id) ≡ Some text → before ≡ lines_of (take at tree.leaves)
-      → Some (record { block = id; stamp = stamp; first = o.setting.first + before; lines = length text }) ≡ slice_get (places v.opening (document v)) at
+      → option_map (λ (b : Block). b.lines) (block_of (document v).blocks id) ≡ Some text → before ≡ leaf_line_count (take at tree.leaves)
+      → Some (record { block = id; stamp = stamp; first = o.setting.first + before; lines = length text }) ≡ slice_get (block_places v.opening (document v)) at
   listed_here at id stamp before text there stamp_is text_is told =
-      let here = held o es v room tree s view at id there in
+      let here = held_block_here o es v room tree s view at id there in
       let one : Some here.block.stamp ≡ Some stamp = sym (stamp_here (document v).blocks at id here) ∙ stamp_is in
       let two : Some here.block.lines ≡ Some text = sym (text_here (document v).blocks at id here) ∙ text_is in
       let stamps : here.block.stamp ≡ stamp = cc in
       let texts : here.block.lines ≡ text = cc in
-      let all : (b : Block) → slice_get (document v).blocks at ≡ Some b → slice_get (places v.opening (document v)) at ≡ Some (row (o.setting.first + lines_of (take at tree.leaves)) b) =
+      let all : (b : Block) → slice_get (document v).blocks at ≡ Some b → slice_get (block_places v.opening (document v)) at ≡ Some (row (o.setting.first + leaf_line_count (take at tree.leaves)) b) =
       subst
-      (λ (w : BookView). (b : Block) → slice_get (document w).blocks at ≡ Some b → slice_get (places w.opening (document w)) at ≡ Some (row (o.setting.first + lines_of (take at tree.leaves)) b))
+      (λ (w : BookView). (b : Block) → slice_get (document w).blocks at ≡ Some b → slice_get (block_places w.opening (document w)) at ≡ Some (row (o.setting.first + leaf_line_count (take at tree.leaves)) b))
       view (λ b got. listed (setting_at o es) tree.leaves (document_of o es).blocks o.setting.first at b s.leaves_are got) in
       sym (all here.block here.there ∙ (λ i. Some (record { block = here.own i; stamp = stamps i; first = o.setting.first + sym told i; lines = length (texts i) })))
 
-  pub unlisted_here : (at : ℕ) → slice_get (ids_of (document_of o es).blocks) at ≡ None → None ≡ slice_get (places v.opening (document v)) at
+  pub unlisted_here : (at : ℕ) → slice_get (ids_of (document_of o es).blocks) at ≡ None → None ≡ slice_get (block_places v.opening (document v)) at
   unlisted_here at none = sym (unlisted (document v).blocks v.opening.setting.first at (ap (λ (l : List ℕ). slice_get l at) (sym (ids_are o es v room tree s view)) ∙ none))
 
   -- and has a leaf
@@ -153,27 +153,27 @@ module _ (o : Opening) (es : List Entry) (v : BookView) (room : Bool) (tree : Tr
       omega (arith, within, ids_count (document_of o es).blocks, leaf_each o es tree.leaves s)
 
   -- its first line has a number of 32 bits
-  pub begins_within : (at before : ℕ) → before ≡ lines_of (take at tree.leaves) → o.setting.first + before < 2 ^ 32
+  pub begins_within : (at before : ℕ) → before ≡ leaf_line_count (take at tree.leaves) → o.setting.first + before < 2 ^ 32
   begins_within at before told =
-      let all : lines_of tree.leaves ≤ 1048576 = omega (arith, zip_lines (setting_at o es) tree.leaves (document_of o es).blocks s.leaves_are, s.fits.lines_fit) in
+      let all : leaf_line_count tree.leaves ≤ 1048576 = omega (arith, zip_lines (setting_at o es) tree.leaves (document_of o es).blocks s.leaves_are, s.fits.lines_fit) in
       omega (arith, told, lines_taken at tree.leaves, all, s.setting.first)
 
   -- a line of the file that stands in the block of a leaf
   pub placed_here : (line at inner id : ℕ) → o.setting.first ≤ line → place_of_line tree.leaves (line - o.setting.first) ≡ Some (at, inner) → slice_get (ids_of (document_of o es).blocks) at ≡ Some id
-      → Some (record { block = id; line = inner + 1 }) ≡ place_of v.opening (document v) line
+      → Some (record { block = id; line = inner + 1 }) ≡ line_place_of v.opening (document v) line
   placed_here line at inner id later found there = sym
-      (subst (λ (w : BookView). place_of w.opening (document w) line ≡ Some (record { block = id; line = inner + 1 })) view
+      (subst (λ (w : BookView). line_place_of w.opening (document w) line ≡ Some (record { block = id; line = inner + 1 })) view
       (ap (λ (t : Bool). cond t None (place_within (document_of o es).blocks (line - o.setting.first))) (le-ltb line o.setting.first later)
       ∙ within (setting_at o es) tree.leaves (document_of o es).blocks (line - o.setting.first) at inner id s.leaves_are found there))
 
   -- the number of the line within it
   pub inner_within : (offset at inner : ℕ) → place_of_line tree.leaves offset ≡ Some (at, inner) → inner + 1 < 2 ^ 32
   inner_within offset at inner found =
-      let all : lines_of tree.leaves ≤ 1048576 = omega (arith, zip_lines (setting_at o es) tree.leaves (document_of o es).blocks s.leaves_are, s.fits.lines_fit) in
+      let all : leaf_line_count tree.leaves ≤ 1048576 = omega (arith, zip_lines (setting_at o es) tree.leaves (document_of o es).blocks s.leaves_are, s.fits.lines_fit) in
       omega (arith, inner_few tree.leaves offset at inner found, all)
 
-  pub unplaced_here : (line : ℕ) → o.setting.first ≤ line → place_of_line tree.leaves (line - o.setting.first) ≡ None → None ≡ place_of v.opening (document v) line
+  pub unplaced_here : (line : ℕ) → o.setting.first ≤ line → place_of_line tree.leaves (line - o.setting.first) ≡ None → None ≡ line_place_of v.opening (document v) line
   unplaced_here line later found = sym
-      (subst (λ (w : BookView). place_of w.opening (document w) line ≡ None) view
+      (subst (λ (w : BookView). line_place_of w.opening (document w) line ≡ None) view
       (ap (λ (t : Bool). cond t None (place_within (document_of o es).blocks (line - o.setting.first))) (le-ltb line o.setting.first later)
       ∙ outside (setting_at o es) tree.leaves (document_of o es).blocks (line - o.setting.first) s.leaves_are found))

@@ -6,13 +6,13 @@ use Rattle.edit_journal.specs.declared.opening.Opening.{Opening}
 use Rattle.edit_journal.specs.Documents.{Block, Document, block_of, body, document_of, stamp_at}
 use Rattle.edit_book.specs.declared.reply.Reply.{Reply}
 use Rattle.edit_book.specs.declared.reply.Reply.TheVariants.{Shown}
-use Rattle.edit_book.specs.Books.{BookView, IsLawful, document, ids_of}
+use Rattle.edit_book.specs.Books.{BookView, AreLawfulLeaves, document, ids_of}
 use Rattle.edit_book.specs.Orders.{is_id}
 use Rattle.edit_book.specs.Replies.{Look, Request, IsAnswer, IsDue, IsGranted, lines_before, refusal_of, refused_name}
 use Rattle.edit_book.proofs.LinePlaces.{StandsIn, block_at, id_at, line_none, line_there, lines_at, lines_taken}
 use Rattle.edit_book.proofs.Puts.{has_place, named_there, place_is}
 use Rattle.edit_book.proofs.Trees.{setting_at, zip_lines}
-use Rattle.summary_tree.specs.Leaves.{lines_of, place_of_line}
+use Rattle.summary_tree.specs.Leaves.{leaf_line_count, place_of_line}
 use Rattle.summary_tree.specs.Trees.{TreeView}
 use Rattle.std.proofs.Common.{Bool}
 
@@ -56,7 +56,7 @@ text_count d id text is = go (block_of d.blocks id) refl is
     go (Some b) there is = let same : b.lines ≡ text = cc in (b, there, same)
 
 module _ (o : Opening) (es : List Entry) (id : ℕ) (v : BookView) (room : Bool) (tree : TreeView)
-    (s : IsLawful o es tree.leaves) (view : record { opening = o; entries = es; journal_room = room; tree = tree } ≡ v) (free : refused_name (document v) v.entries id ≡ None) where
+    (s : AreLawfulLeaves o es tree.leaves) (view : record { opening = o; entries = es; journal_room = room; tree = tree } ≡ v) (free : refused_name (document v) v.entries id ≡ None) where
   free_here : refused_name (document_of o es) es id ≡ None
   free_here = subst (λ (w : BookView). refused_name (document w) w.entries id ≡ None) (sym view) free
 
@@ -64,20 +64,20 @@ module _ (o : Opening) (es : List Entry) (id : ℕ) (v : BookView) (room : Bool)
   look_unplaced none = let b = named_there (document_of o es) es id free_here in has_place (document_of o es).blocks id b.0 (ids_of (document_of o es).blocks) b.1 refl none
 
   -- the number of the block's first line
-  pub look_first : (at before : ℕ) → position (is_id id) (ids_of (document_of o es).blocks) ≡ Some at → before ≡ lines_of (take at tree.leaves) → (o.setting.first + before ≡ v.opening.setting.first + lines_before id (document v).blocks) × (o.setting.first + before < 2 ^ 32)
+  pub look_first : (at before : ℕ) → position (is_id id) (ids_of (document_of o es).blocks) ≡ Some at → before ≡ leaf_line_count (take at tree.leaves) → (o.setting.first + before ≡ v.opening.setting.first + lines_before id (document v).blocks) × (o.setting.first + before < 2 ^ 32)
   look_first at before place is =
       let b = named_there (document_of o es) es id free_here in
       let at_is : at ≡ position_or_len (is_id id) (ids_of (document_of o es).blocks) = (place_is (ids_of (document_of o es).blocks) id at place).0 in
       let told : before ≡ lines_before id (document_of o es).blocks =
-      is ∙ ap (λ (n : ℕ). lines_of (take n tree.leaves)) at_is ∙ lines_at (setting_at o es) tree.leaves (document_of o es).blocks id b.0 s.leaves_are b.1 in
-      let all : lines_of tree.leaves ≤ 1048576 = omega (arith, zip_lines (setting_at o es) tree.leaves (document_of o es).blocks s.leaves_are, s.fits.lines_fit) in (
+      is ∙ ap (λ (n : ℕ). leaf_line_count (take n tree.leaves)) at_is ∙ lines_at (setting_at o es) tree.leaves (document_of o es).blocks id b.0 s.leaves_are b.1 in
+      let all : leaf_line_count tree.leaves ≤ 1048576 = omega (arith, zip_lines (setting_at o es) tree.leaves (document_of o es).blocks s.leaves_are, s.fits.lines_fit) in (
         ap (λ (n : ℕ). o.setting.first + n) told ∙ ap (λ (w : BookView). w.opening.setting.first + lines_before id (document w).blocks) view,
         omega (arith, is, lines_taken at tree.leaves, all, s.setting.first),
       )
 
 -- a line that stands in a block
 module _ (o : Opening) (es : List Entry) (offset at within : ℕ) (v : BookView) (room : Bool) (tree : TreeView)
-    (s : IsLawful o es tree.leaves) (view : record { opening = o; entries = es; journal_room = room; tree = tree } ≡ v) (found : place_of_line tree.leaves offset ≡ Some (at, within)) where
+    (s : AreLawfulLeaves o es tree.leaves) (view : record { opening = o; entries = es; journal_room = room; tree = tree } ≡ v) (found : place_of_line tree.leaves offset ≡ Some (at, within)) where
   here : StandsIn (document_of o es).blocks offset at within
   here = line_there (setting_at o es) tree.leaves (document_of o es).blocks offset at within s.leaves_are found
 
@@ -108,7 +108,7 @@ module _ (o : Opening) (es : List Entry) (offset at within : ℕ) (v : BookView)
       subst (λ (w : BookView). slice_get (body (document w)) offset ≡ Some line) view (here.line ∙ ap (λ (t : List (List ℕ)). slice_get t within) (sym (text_is id text there is)) ∙ got)
 
 -- a line that stands in none
-pub no_line : (o : Opening) (es : List Entry) (offset : ℕ) (v : BookView) (room : Bool) (tree : TreeView) → IsLawful o es tree.leaves
+pub no_line : (o : Opening) (es : List Entry) (offset : ℕ) (v : BookView) (room : Bool) (tree : TreeView) → AreLawfulLeaves o es tree.leaves
     → record { opening = o; entries = es; journal_room = room; tree = tree } ≡ v → place_of_line tree.leaves offset ≡ None → slice_get (body (document v)) offset ≡ None
 no_line o es offset v room tree s view none =
     subst (λ (w : BookView). slice_get (body (document w)) offset ≡ None) view (line_none (setting_at o es) tree.leaves (document_of o es).blocks offset s.leaves_are none)

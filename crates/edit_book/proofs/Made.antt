@@ -14,7 +14,7 @@ use Rattle.face_data.specs.declared.face.FaceView.{FaceView}
 use Rattle.face_data.specs.Summaries.{Summary}
 use Rattle.face_data.specs.Verdicts.{verdict_of}
 use Rattle.face_data.specs.View.{summary_of}
-use Rattle.edit_book.specs.Books.{BookView, document, HasLeaves, IsLawful, IsLawfulOutline, IsLeafOf, ids_of}
+use Rattle.edit_book.specs.Books.{BookView, document, HasLeaves, AreLawfulLeaves, IsLawfulOutline, IsLeafOf, ids_of}
 use Rattle.edit_book.specs.Outlines.{MayCome}
 use Rattle.edit_book.specs.Headers.{IsPreparedUnder}
 use Rattle.edit_book.specs.Orders.{is_id}
@@ -36,7 +36,7 @@ use Rattle.summary_tree.specs.Leaves.{Leaf, AreGoodFor, AreSound, IsRootOf}
 use Rattle.summary_tree.specs.Trees.{TreeView, change_steps}
 
 -- the place of a block lies within the leaves
-pub at_fits : (o : Opening) (es : List Entry) (leaves : List Leaf) (id at : ℕ) → IsLawful o es leaves → position (is_id id) (ids_of (document_of o es).blocks) ≡ Some at → (at < length leaves) × (at < 65536)
+pub at_fits : (o : Opening) (es : List Entry) (leaves : List Leaf) (id at : ℕ) → AreLawfulLeaves o es leaves → position (is_id id) (ids_of (document_of o es).blocks) ≡ Some at → (at < length leaves) × (at < 65536)
 at_fits o es leaves id at s place =
     let p = place_is (ids_of (document_of o es).blocks) id at place in
     let many = leaf_each o es leaves s in
@@ -44,7 +44,7 @@ at_fits o es leaves id at s place =
     (omega (arith, p.1, many, same), omega (arith, p.1, same, s.fits.blocks_fit))
 
 module _ (o : Opening) (es : List Entry) (session id seen head : ℕ) (prepared : Prepared) (v : BookView) (room : Bool) (tree : TreeView)
-    (s : IsLawful o es tree.leaves) (view : record { opening = o; entries = es; journal_room = room; tree = tree } ≡ v)
+    (s : AreLawfulLeaves o es tree.leaves) (view : record { opening = o; entries = es; journal_room = room; tree = tree } ≡ v)
     (free : refusal_of (document v) v.entries (Put id seen head prepared.text) ≡ None) where
   free_here : refusal_of (document_of o es) es (Put id seen head prepared.text) ≡ None
   free_here = subst (λ (w : BookView). refusal_of (document w) w.entries (Put id seen head prepared.text) ≡ None) (sym view) free
@@ -67,7 +67,7 @@ module _ (o : Opening) (es : List Entry) (session id seen head : ℕ) (prepared 
 
     module _ (at : ℕ) (place : position (is_id id) (ids_of (document_of o es).blocks) ≡ Some at) (longer : List Entry) (longer_is : longer ≡ es ++ record { session = session; edit = edit.Put id seen prepared.text } ∷ [])
         (outlined : IsLawfulOutline o longer) where
-      put_keeps : IsLawful o longer (set tree.leaves at (prepared.face, prepared.loops))
+      put_keeps : AreLawfulLeaves o longer (set tree.leaves at (prepared.face, prepared.loops))
       put_keeps =
           with_leaves o longer (set tree.leaves at (prepared.face, prepared.loops)) outlined
           (subst (λ (l : List Entry). HasLeaves o (document_of o l) (set tree.leaves at (prepared.face, prepared.loops))) (sym longer_is)
@@ -79,10 +79,10 @@ module _ (o : Opening) (es : List Entry) (session id seen head : ℕ) (prepared 
             subst (λ (p : List Leaf × Summary). AreSound (set p.0 at (p.1, prepared.loops))) (λ i. (sym leaves_are i, sym summary_is i))
             (sound_of o longer (set tree.leaves at (prepared.face, prepared.loops)) put_keeps)
 
-        pub put_made : (now : List Leaf) → now ≡ set leaves at (summary, prepared.loops) → IsLawful o longer now
+        pub put_made : (now : List Leaf) → now ≡ set leaves at (summary, prepared.loops) → AreLawfulLeaves o longer now
         put_made now now_is =
             let all : set tree.leaves at (prepared.face, prepared.loops) ≡ now = (λ i. set (sym leaves_are i) at (sym summary_is i, prepared.loops)) ∙ sym now_is in
-            subst (IsLawful o longer) all put_keeps
+            subst (AreLawfulLeaves o longer) all put_keeps
 
         pub put_work : (now : List Leaf) (before after : ℕ) → now ≡ set leaves at (summary, prepared.loops)
             → ((carriers limit : ℕ) (known : List Needle) → AreGoodFor carriers limit known now → after ≤ before + change_steps (length leaves) (most_items carriers limit (length known)))
@@ -99,7 +99,7 @@ module _ (o : Opening) (es : List Entry) (session id seen head : ℕ) (prepared 
 -- an accepted edit is the turn that is due
 pub turn_made : (o : Opening) (es : List Entry) (session block version : ℕ) (request : Request) (change : Edit) (v : BookView) (room : Bool) (tree : TreeView) (brief : Brief) (longer : List Entry) (leaves : List Leaf) (root : FaceView) (first : ℕ)
     → record { opening = o; entries = es; journal_room = room; tree = tree } ≡ v → refusal_of (document v) v.entries request ≡ None → edit_of request block ≡ Some change → version ≡ length v.entries
-    → longer ≡ es ++ record { session = session; edit = change } ∷ [] → IsLawful o longer leaves → IsRootOf leaves root → first ≡ o.setting.first → brief ≡ brief_of (verdict_of (summary_of root) first)
+    → longer ≡ es ++ record { session = session; edit = change } ∷ [] → AreLawfulLeaves o longer leaves → IsRootOf leaves root → first ≡ o.setting.first → brief ≡ brief_of (verdict_of (summary_of root) first)
     → ((r : Reply) → IsAccepted o (document_of o es) (length es) block change r → IsGranted o (document_of o es) (length es) request r)
     → IsTurn v.opening v.entries session request (Accepted (version + 1) block brief) longer
 turn_made o es session block version request change v room tree brief longer leaves root first view free edit_is version_is longer_is lawful is_root first_is brief_is grant =

@@ -16,14 +16,14 @@ use Rattle.edit_book.specs.declared.reply.BookCommand.{BookCommand}
 use Rattle.edit_book.specs.declared.reply.BookCommand.TheVariants as ask
 use Rattle.edit_book.specs.declared.reply.Reply.{Reply}
 use Rattle.edit_book.specs.declared.reply.Reply.TheVariants as reply
-use Rattle.edit_book.specs.Replies.{Request, Look, Put, Add, Cut, LoopAt, VerdictNow, LookHead, Texts, PutHead, or_else, cut_number, refused_name, refusal_of, IsDue, IsGranted, IsReply, entry_of, request_of, accepted_block}
-use Rattle.edit_book.specs.Turns.{IsRight}
-use Rattle.turn_book.specs.Journal.{listed}
-use Rattle.edit_book.specs.Asking.{AsksBlocks, IsAskedBy, IsOfBlocks, ShowsNames, TellsNoHeader}
-use Rattle.edit_book.specs.Memory.{first_memory, head_told, opening_stamp, told_by}
+use Rattle.edit_book.specs.Replies.{Request, Look, Put, Add, Cut, LoopAt, VerdictNow, LookHead, Texts, PutHead, refusal_or_else, cut_number, refused_name, refusal_of, IsDue, IsGranted, IsReply, entry_of, request_of_command, accepted_block}
+use Rattle.edit_book.specs.Turns.{IsRightReply}
+use Rattle.turn_book.specs.Journal.{entry_list}
+use Rattle.edit_book.specs.Asking.{AsksBlocks, CommandAsks, IsOfBlocks, ShowsNames, TellsNoHeader}
+use Rattle.edit_book.specs.Memory.{first_memory, head_told, opening_stamp, stamp_told_by}
 use Rattle.edit_book.specs.Session.{HasNames, Remembers, Teaches}
 use Rattle.edit_book.specs.declared.sessions.session.Session.{Session}
-use Rattle.edit_book.proofs.Refusals.{Refuses, refuses}
+use Rattle.edit_book.proofs.Refusals.{Refuses, refusal_may_come}
 
 below_head : (block : ℕ) → block < head_id → block ≡ head_id → ⊥
 below_head block below e = omega (arith, e)
@@ -32,7 +32,7 @@ below_head block below e = omega (arith, e)
 no_head : (block stamp head : ℕ) → (block ≡ head_id → ⊥) → head_told (Some (block, stamp)) head ≡ head
 no_head block stamp head ne = ap (λ (t : Bool). cond t stamp head) (ne_eqb block head_id ne)
 
-pub head_kept : (c : Command) (r : Reply) (head : ℕ) → TellsNoHeader r → head_told (told_by c r) head ≡ head
+pub head_kept : (c : Command) (r : Reply) (head : ℕ) → TellsNoHeader r → head_told (stamp_told_by c r) head ≡ head
 head_kept c (reply.Shown version block stamp first text) head ne = no_head block stamp head ne
 head_kept (command.Put name text) (reply.Accepted version block brief) head ne = no_head block version head ne
 head_kept (command.Add place text) (reply.Accepted version block brief) head ne = no_head block version head ne
@@ -56,7 +56,7 @@ of_blocks command.LookHead look put = look refl
 of_blocks (command.PutHead names) look put = put names refl
 of_blocks c look put = tt
 
-pub asks_blocks : (c : Command) (request : Request) → IsOfBlocks c → IsAskedBy c request → AsksBlocks request
+pub asks_blocks : (c : Command) (request : Request) → IsOfBlocks c → CommandAsks c request → AsksBlocks request
 asks_blocks c (Look id) of asked = tt
 asks_blocks c (Put id seen head text) of asked = tt
 asks_blocks c (Add anchor head text) of asked = tt
@@ -66,12 +66,12 @@ asks_blocks c VerdictNow of asked = tt
 asks_blocks c Texts of asked = tt
 asks_blocks c LookHead of asked = other c of asked
   where
-    other : (c : Command) → IsOfBlocks c → IsAskedBy c LookHead → ⊥
+    other : (c : Command) → IsOfBlocks c → CommandAsks c LookHead → ⊥
     other command.LookHead of asked = of
     other c of asked = asked
 asks_blocks c (PutHead seen given) of asked = other c of asked
   where
-    other : (c : Command) → IsOfBlocks c → IsAskedBy c (PutHead seen given) → ⊥
+    other : (c : Command) → IsOfBlocks c → CommandAsks c (PutHead seen given) → ⊥
     other (command.PutHead names) of asked = of
     other c of asked = asked
 
@@ -98,13 +98,13 @@ name_drawn d journal id none = go (ltb id d.drawn) refl none
     go true is none = ltb-true id d.drawn is
     go false is none = absurd (cc)
 
-pub first_none : {A : Type 0} (a b : Option A) → or_else a b ≡ None → a ≡ None
+pub first_none : {A : Type 0} (a b : Option A) → refusal_or_else a b ≡ None → a ≡ None
 first_none None b is = refl
 first_none (Some x) b is = absurd (cc)
 
 -- no reply to what is asked of blocks tells a stamp of the header
 tells_block : (o : Opening) (journal : List Entry) (request : Request) (r : Reply) → AsksBlocks request → (document_of o journal).drawn < head_id → IsReply o journal request r → TellsNoHeader r
-tells_block o journal request r asks below due = due_block (length journal) (refusal_of d journal request) (IsGranted o d (length journal) request r) r (refuses d journal request).fact (grants request asks) due
+tells_block o journal request r asks below due = due_block (length journal) (refusal_of d journal request) (IsGranted o d (length journal) request r) r (refusal_may_come d journal request).fact (grants request asks) due
   where
     d : Document
     d = document_of o journal
@@ -126,47 +126,47 @@ tells_block o journal request r asks below due = due_block (length journal) (ref
 -- a reply of a turn, with the journal before it and its entry, if it has one
 module _ (o : Opening) (n : ℕ) (r : Reply) (before : List Entry) (added : Option Entry) where
   -- after a turn that was asked for blocks
-  pub names_beside : (c : Command) (request : BookCommand) (head : ℕ) (names : List (List ℕ)) → AsksBlocks (request_of request) → IsRight o before n request r added → names_given o before head ≡ Some names
-      → names_given o (before ++ listed added) (head_told (told_by c r) head) ≡ Some names
-  names_beside c request head names asks right given = ap (names_given o (before ++ listed added)) (head_kept c r head tells) ∙ names_longer o before (listed added) head names given
+  pub names_beside : (c : Command) (request : BookCommand) (head : ℕ) (names : List (List ℕ)) → AsksBlocks (request_of_command request) → IsRightReply o before n request r added → names_given o before head ≡ Some names
+      → names_given o (before ++ entry_list added) (head_told (stamp_told_by c r) head) ≡ Some names
+  names_beside c request head names asks right given = ap (names_given o (before ++ entry_list added)) (head_kept c r head tells) ∙ names_longer o before (entry_list added) head names given
     where
       tells : TellsNoHeader r
-      tells = ⊎_elim (λ short. subst TellsNoHeader (sym short.0) tt) (λ due. tells_block o before (request_of request) r asks due.2 due.0) right
+      tells = ⊎_elim (λ short. subst TellsNoHeader (sym short.0) tt) (λ due. tells_block o before (request_of_command request) r asks due.2 due.0) right
 
   -- after a look at the header, of the names that its line gives
-  pub names_looked : (head : ℕ) (names : List (List ℕ)) → ShowsNames r names → IsRight o before n ask.LookHead r added → names_given o (before ++ listed added) (head_told (told_by command.LookHead r) head) ≡ Some names
+  pub names_looked : (head : ℕ) (names : List (List ℕ)) → ShowsNames r names → IsRightReply o before n ask.LookHead r added → names_given o (before ++ entry_list added) (head_told (stamp_told_by command.LookHead r) head) ≡ Some names
   names_looked head names shows right = ⊎_elim (λ short. absurd (subst (λ (x : Reply). ShowsNames x names) short.0 shows)) (λ due. shown due.0) right
     where
       d : Document
       d = document_of o before
 
-      shown : IsGranted o d (length before) LookHead r → names_given o (before ++ listed added) (head_told (told_by command.LookHead r) head) ≡ Some names
+      shown : IsGranted o d (length before) LookHead r → names_given o (before ++ entry_list added) (head_told (stamp_told_by command.LookHead r) head) ≡ Some names
       shown g =
-          let stamp : head_told (told_by command.LookHead r) head ≡ d.header.stamp = ap (λ (x : Reply). head_told (told_by command.LookHead x) head) g.0 in
-          ap (names_given o (before ++ listed added)) stamp
-          ∙ names_longer o before (listed added) d.header.stamp names ((all_known o before).header ∙ (sym g.1 ∙ subst (λ (x : Reply). ShowsNames x names) g.0 shows))
+          let stamp : head_told (stamp_told_by command.LookHead r) head ≡ d.header.stamp = ap (λ (x : Reply). head_told (stamp_told_by command.LookHead x) head) g.0 in
+          ap (names_given o (before ++ entry_list added)) stamp
+          ∙ names_longer o before (entry_list added) d.header.stamp names ((all_known o before).header ∙ (sym g.1 ∙ subst (λ (x : Reply). ShowsNames x names) g.0 shows))
 
   -- after other names were accepted, of these
-  pub names_put : (seen : ℕ) (given names : List (List ℕ)) (again : List Again) (version block : ℕ) (brief : Brief) → r ≡ reply.Accepted version block brief → IsRight o before n (ask.PutHead seen names again) r added
-      → names_given o (before ++ listed added) (head_told (told_by (command.PutHead given) r) seen) ≡ Some names
+  pub names_put : (seen : ℕ) (given names : List (List ℕ)) (again : List Again) (version block : ℕ) (brief : Brief) → r ≡ reply.Accepted version block brief → IsRightReply o before n (ask.PutHead seen names again) r added
+      → names_given o (before ++ entry_list added) (head_told (stamp_told_by (command.PutHead given) r) seen) ≡ Some names
   names_put seen given names again version block brief is right = ⊎_elim (λ short. let not : reply.Accepted version block brief ≡ reply.NoMemory = sym is ∙ short.0 in absurd (cc)) put right
     where
-      put : IsReply o before (PutHead seen names) r × (added ≡ entry_of n (PutHead seen names) r) × ((document_of o before).drawn < head_id) → names_given o (before ++ listed added) (head_told (told_by (command.PutHead given) r) seen) ≡ Some names
+      put : IsReply o before (PutHead seen names) r × (added ≡ entry_of n (PutHead seen names) r) × ((document_of o before).drawn < head_id) → names_given o (before ++ entry_list added) (head_told (stamp_told_by (command.PutHead given) r) seen) ≡ Some names
       put due =
           let d = document_of o before in
           let e : Entry = record { session = n; edit = edit.Head seen names } in
           let g : IsGranted o d (length before) (PutHead seen names) r =
-          granted_of (length before) (refusal_of d before (PutHead seen names)) (IsGranted o d (length before) (PutHead seen names) r) r block (refuses d before (PutHead seen names)).fact (ap accepted_block is) due.0 in
-          let stamp : head_told (told_by (command.PutHead given) r) seen ≡ length before + 1 = ap (λ (x : Reply). head_told (told_by (command.PutHead given) x) seen) g.1 in
+          granted_of (length before) (refusal_of d before (PutHead seen names)) (IsGranted o d (length before) (PutHead seen names) r) r block (refusal_may_come d before (PutHead seen names)).fact (ap accepted_block is) due.0 in
+          let stamp : head_told (stamp_told_by (command.PutHead given) r) seen ≡ length before + 1 = ap (λ (x : Reply). head_told (stamp_told_by (command.PutHead given) x) seen) g.1 in
           let one : added ≡ Some e = due.1 ∙ ap (entry_of n (PutHead seen names)) g.1 in
-          let all : before ++ listed added ≡ before ++ e ∷ [] = ap (λ (a : Option Entry). before ++ listed a) one in
+          let all : before ++ entry_list added ≡ before ++ e ∷ [] = ap (λ (a : Option Entry). before ++ entry_list a) one in
           subst (λ (p : List Entry × ℕ). names_given o p.0 p.1 ≡ Some names) (λ i. (sym all i, sym stamp i)) (names_newest o before e (length before + 1) names refl refl)
 
   -- and after they were refused, of those before
-  pub names_refused : (seen : ℕ) (given names kept : List (List ℕ)) (again : List Again) → ((version block : ℕ) (brief : Brief) → r ≡ reply.Accepted version block brief → ⊥) → IsRight o before n (ask.PutHead seen names again) r added
-      → names_given o before seen ≡ Some kept → names_given o (before ++ listed added) (head_told (told_by (command.PutHead given) r) seen) ≡ Some kept
+  pub names_refused : (seen : ℕ) (given names kept : List (List ℕ)) (again : List Again) → ((version block : ℕ) (brief : Brief) → r ≡ reply.Accepted version block brief → ⊥) → IsRightReply o before n (ask.PutHead seen names again) r added
+      → names_given o before seen ≡ Some kept → names_given o (before ++ entry_list added) (head_told (stamp_told_by (command.PutHead given) r) seen) ≡ Some kept
   names_refused seen given names kept again refused right had =
-      ap (names_given o (before ++ listed added)) (head_kept (command.PutHead given) r seen tells) ∙ names_longer o before (listed added) seen kept had
+      ap (names_given o (before ++ entry_list added)) (head_kept (command.PutHead given) r seen tells) ∙ names_longer o before (entry_list added) seen kept had
     where
       d : Document
       d = document_of o before
@@ -174,6 +174,6 @@ module _ (o : Opening) (n : ℕ) (r : Reply) (before : List Entry) (added : Opti
       tells : TellsNoHeader r
       tells = ⊎_elim
           (λ short. subst TellsNoHeader (sym short.0) tt)
-          (λ due. due_block (length before) (refusal_of d before (PutHead seen names)) (IsGranted o d (length before) (PutHead seen names) r) r (refuses d before (PutHead seen names)).fact
+          (λ due. due_block (length before) (refusal_of d before (PutHead seen names)) (IsGranted o d (length before) (PutHead seen names) r) r (refusal_may_come d before (PutHead seen names)).fact
           (λ none g. absurd (refused (length before + 1) head_id g.0 g.1)) due.0)
           right

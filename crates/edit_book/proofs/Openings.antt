@@ -14,12 +14,12 @@ use Rattle.edit_journal.specs.Documents.{Block, block_of, body, document_of, lin
 use Rattle.edit_book.specs.declared.block_state.BlockState.{BlockState}
 use Rattle.edit_book.specs.declared.block_state.BlockState.TheVariants.{There, CutBy}
 use Rattle.edit_book.specs.declared.header.Header.{Header}
-use Rattle.edit_book.specs.declared.start.Kept.{Kept}
-use Rattle.edit_book.specs.Books.{AreDistinct, Each, HasText, IsLawfulSetting, IsLeafOf, Stands, ids_of, state_of}
+use Rattle.edit_book.specs.declared.start.StartedBlocks.{StartedBlocks}
+use Rattle.edit_book.specs.Books.{AreDistinct, Each, HasText, IsLawfulSetting, IsLeafOf, OutlineStands, ids_of, block_state_of}
 use Rattle.edit_book.specs.HeaderTrees.{AreLeavesOf}
-use Rattle.edit_book.specs.Outlines.{OutlineView, outlined}
+use Rattle.edit_book.specs.Outlines.{OutlineView, outline_document}
 use Rattle.edit_book.specs.Headers.{HasHeader}
-use Rattle.edit_book.specs.Opened.{HasKept, IsAdded, leaves_of, texts_in}
+use Rattle.edit_book.specs.Opened.{HasKept, IsBlockAdded, leaves_of, prepared_texts}
 use Rattle.edit_book.specs.Replies.{block_limit, cut_number, line_limit}
 use Rattle.edit_book.specs.Verdicts.{setting_of}
 use Rattle.edit_book.specs.Work.{start_limit}
@@ -60,7 +60,7 @@ opened_lines n [] = refl
 opened_lines n (t ∷ texts) = ap (λ (l : List (List ℕ)). t ++ l) (opened_lines (n + 1) texts)
 
 -- the lines of the first blocks
-pub lines_of_texts : (blocks : List Prepared) → flat_map (λ (text : List (List ℕ)). text) (texts_in blocks) ≡ flat_map (λ (block : Prepared). block.text) blocks
+pub lines_of_texts : (blocks : List Prepared) → flat_map (λ (text : List (List ℕ)). text) (prepared_texts blocks) ≡ flat_map (λ (block : Prepared). block.text) blocks
 lines_of_texts [] = refl
 lines_of_texts (b ∷ blocks) = ap (λ (l : List (List ℕ)). b.text ++ l) (lines_of_texts blocks)
 
@@ -98,20 +98,20 @@ texts_short (t ∷ texts) zero all = All-head (λ (text : List (List ℕ)). leng
 texts_short (t ∷ texts) (suc id) all = texts_short texts id (All-tail (λ (text : List (List ℕ)). length text ≤ 4096) t texts all)
 
 -- the texts of blocks that were prepared are short
-pub prepared_short : (setting : Setting) (blocks : List Prepared) → All (IsPreparedFor setting.profile setting.declared) blocks → All (λ (text : List (List ℕ)). length text ≤ 4096) (texts_in blocks)
+pub prepared_short : (setting : Setting) (blocks : List Prepared) → All (IsPreparedFor setting.profile setting.declared) blocks → All (λ (text : List (List ℕ)). length text ≤ 4096) (prepared_texts blocks)
 prepared_short setting [] all = All-nil (λ (text : List (List ℕ)). length text ≤ 4096)
 prepared_short setting (b ∷ blocks) all =
-    All-cons (λ (text : List (List ℕ)). length text ≤ 4096) b.text (texts_in blocks) (All-head (IsPreparedFor setting.profile setting.declared) b blocks all).few
+    All-cons (λ (text : List (List ℕ)). length text ≤ 4096) b.text (prepared_texts blocks) (All-head (IsPreparedFor setting.profile setting.declared) b blocks all).few
     (prepared_short setting blocks (All-tail (IsPreparedFor setting.profile setting.declared) b blocks all))
 
 pub opened_leaves : (setting : Setting) (n : ℕ) (blocks : List Prepared) → All (IsPreparedFor setting.profile setting.declared) blocks
-    → AllZip (λ (l : Leaf) (b : Block). IsLeafOf setting l b.lines) (leaves_of blocks) (opened_from n (texts_in blocks))
+    → AllZip (λ (l : Leaf) (b : Block). IsLeafOf setting l b.lines) (leaves_of blocks) (opened_from n (prepared_texts blocks))
 opened_leaves setting n [] all = tt
 opened_leaves setting n (b ∷ blocks) all =
     (All-head (IsPreparedFor setting.profile setting.declared) b blocks all, opened_leaves setting (n + 1) blocks (All-tail (IsPreparedFor setting.profile setting.declared) b blocks all))
 
 -- what is kept of no block, and of one more
-pub kept_more : (blocks : List Prepared) (block : Prepared) (old new : Kept) → HasKept blocks old → IsAdded old new block → HasKept (blocks ++ block ∷ []) new
+pub kept_more : (blocks : List Prepared) (block : Prepared) (old new : StartedBlocks) → HasKept blocks old → IsBlockAdded old new block → HasKept (blocks ++ block ∷ []) new
 kept_more blocks block old new h added = record {
   texts = added.texts ∙ ap (λ (l : List (List (List ℕ))). l ++ block.text ∷ []) h.texts ∙ sym (map-append (λ (b : Prepared). b.text) blocks (block ∷ []));
   leaves = added.leaves ∙ ap (λ (l : List Leaf). l ++ (block.face, block.loops) ∷ []) h.leaves ∙ sym (map-append (λ (b : Prepared). let leaf : Leaf = (b.face, b.loops) in leaf) blocks (block ∷ []));
@@ -120,9 +120,9 @@ kept_more blocks block old new h added = record {
 -- the outline of these texts
 pub opened_stands : (setting : Setting) (texts : List (List (List ℕ))) (states : List BlockState) (ids : List ℕ) (count : ℕ) → IsLawfulSetting setting → All (λ (text : List (List ℕ)). length text ≤ 4096) texts → length texts ≤ block_limit
     → length (flat_map (λ (text : List (List ℕ)). text) texts) ≤ line_limit → states ≡ replicate (length texts) (There 0) → ids ≡ numbers_below (length texts) → count ≡ length (flat_map (λ (text : List (List ℕ)). text) texts)
-    → Stands (record { setting = setting; texts = texts }) [] states ids count
+    → OutlineStands (record { setting = setting; texts = texts }) [] states ids count
 opened_stands setting texts states ids count lawful all few lines states_is ids_is count_is =
-    subst (λ (p : List BlockState × List ℕ). Stands o [] p.0 p.1 count) (λ i. (sym states_is i, sym (ids_is ∙ opened_ids texts) i)) here
+    subst (λ (p : List BlockState × List ℕ). OutlineStands o [] p.0 p.1 count) (λ i. (sym states_is i, sym (ids_is ∙ opened_ids texts) i)) here
   where
     o : Opening
     o = record { setting = setting; texts = texts }
@@ -132,14 +132,14 @@ opened_stands setting texts states ids count lawful all few lines states_is ids_
     short id (suc zero) = tt
     short id (suc (suc n)) = tt
 
-    there : (id : ℕ) → id < length texts → slice_get (replicate (length texts) (There 0)) id ≡ Some (state_of (document_of o []) [] id)
+    there : (id : ℕ) → id < length texts → slice_get (replicate (length texts) (There 0)) id ≡ Some (block_state_of (document_of o []) [] id)
     there id within =
         let b = opened_block 0 id texts (omega arith) (omega (arith, within)) in
         opened_states (length texts) id within
         ∙ ap (λ (n : ℕ). Some (There n)) (sym b.2)
         ∙ ap (λ (x : Option Block). Some (option_map_or (λ y. There y.stamp) x (CutBy (cut_number [] id)))) (sym b.1)
 
-    here : Stands o [] (replicate (length texts) (There 0)) (ids_of (opened_from 0 texts)) count
+    here : OutlineStands o [] (replicate (length texts) (There 0)) (ids_of (opened_from 0 texts)) count
     here = record {
       lawful = record {
         has_ids = record {
@@ -168,7 +168,7 @@ opened_header o entries made kept none is setting_is changed =
     subst (λ (p : List Entry × Header). HasHeader o p.0 0 p.1) (λ i. (sym none i, sym is i)) (record { stamp = refl; setting = setting_is; changed = changed })
 
 -- blocks that were prepared for what a document is read by, with the texts of its blocks: as many as these, with their lines
-pub prepared_count : (blocks : List Prepared) (bs : List Block) → texts_in blocks ≡ map (λ (b : Block). b.lines) bs → length blocks ≡ length bs
+pub prepared_count : (blocks : List Prepared) (bs : List Block) → prepared_texts blocks ≡ map (λ (b : Block). b.lines) bs → length blocks ≡ length bs
 prepared_count blocks bs same = sym (length-map blocks (λ (b : Prepared). b.text)) ∙ ap length same ∙ length-map bs (λ (b : Block). b.lines)
 
 prepared_lines : (bs : List Block) → flat_map (λ (text : List (List ℕ)). text) (map (λ (b : Block). b.lines) bs) ≡ lines_in bs
@@ -176,18 +176,18 @@ prepared_lines [] = refl
 prepared_lines (b ∷ bs) = ap (λ (l : List (List ℕ)). b.lines ++ l) (prepared_lines bs)
 
 -- and each leaf is made of the lines of its block
-pub prepared_leaves : (setting : Setting) (blocks : List Prepared) (bs : List Block) → texts_in blocks ≡ map (λ (b : Block). b.lines) bs → All (IsPreparedFor setting.profile setting.declared) blocks → AreLeavesOf setting (leaves_of blocks) bs
+pub prepared_leaves : (setting : Setting) (blocks : List Prepared) (bs : List Block) → prepared_texts blocks ≡ map (λ (b : Block). b.lines) bs → All (IsPreparedFor setting.profile setting.declared) blocks → AreLeavesOf setting (leaves_of blocks) bs
 prepared_leaves setting [] [] same all = tt
 prepared_leaves setting [] (b ∷ bs) same all = absurd (cc)
 prepared_leaves setting (p ∷ blocks) [] same all = absurd (cc)
 prepared_leaves setting (p ∷ blocks) (b ∷ bs) same all =
     let first : p.text ≡ b.lines = cc in
-    let rest : texts_in blocks ≡ map (λ (x : Block). x.lines) bs = cc in (
+    let rest : prepared_texts blocks ≡ map (λ (x : Block). x.lines) bs = cc in (
       subst (λ (text : List (List ℕ)). IsLeafOf setting (p.face, p.loops) text) first (All-head (IsPreparedFor setting.profile setting.declared) p blocks all),
       prepared_leaves setting blocks bs rest (All-tail (IsPreparedFor setting.profile setting.declared) p blocks all),
     )
 
-pub prepared_work : (setting : Setting) (blocks : List Prepared) (bs : List Block) (before now : ℕ) → texts_in blocks ≡ map (λ (b : Block). b.lines) bs → now ≤ before + start_limit setting (length bs) (lines_in bs)
+pub prepared_work : (setting : Setting) (blocks : List Prepared) (bs : List Block) (before now : ℕ) → prepared_texts blocks ≡ map (λ (b : Block). b.lines) bs → now ≤ before + start_limit setting (length bs) (lines_in bs)
     → now ≤ before + start_limit setting (length blocks) (flat_map (λ (block : Prepared). block.text) blocks)
 prepared_work setting blocks bs before now same steps =
     let lines : lines_in bs ≡ flat_map (λ (block : Prepared). block.text) blocks = sym (prepared_lines bs) ∙ ap (flat_map (λ (text : List (List ℕ)). text)) (sym same) ∙ lines_of_texts blocks in
@@ -195,27 +195,27 @@ prepared_work setting blocks bs before now same steps =
 
 -- what an outline at version 0 is, by its parts
 pub opened_as : (o : OutlineView) (setting : Setting) (texts : List (List (List ℕ))) → o.opening.setting ≡ setting → o.opening.texts ≡ texts → o.entries ≡ []
-    → (setting_of o.opening (outlined o) ≡ setting) × ((outlined o).blocks ≡ opened_from 0 texts)
+    → (setting_of o.opening (outline_document o) ≡ setting) × ((outline_document o).blocks ≡ opened_from 0 texts)
 opened_as o setting texts setting_is texts_is none = (
   ap (λ (es : List Entry). setting_of o.opening (document_of o.opening es)) none ∙ setting_is,
   ap (λ (es : List Entry). (document_of o.opening es).blocks) none ∙ ap (opened_from 0) texts_is,
 )
 
 -- the leaves of the first blocks are made of the lines of its blocks
-pub opened_made : (o : OutlineView) (setting : Setting) (blocks : List Prepared) (kept : Kept) → All (IsPreparedFor setting.profile setting.declared) blocks → HasKept blocks kept
-    → o.opening.setting ≡ setting → o.opening.texts ≡ kept.texts → o.entries ≡ [] → AreLeavesOf (setting_of o.opening (outlined o)) kept.leaves.items (outlined o).blocks
+pub opened_made : (o : OutlineView) (setting : Setting) (blocks : List Prepared) (kept : StartedBlocks) → All (IsPreparedFor setting.profile setting.declared) blocks → HasKept blocks kept
+    → o.opening.setting ≡ setting → o.opening.texts ≡ kept.texts → o.entries ≡ [] → AreLeavesOf (setting_of o.opening (outline_document o)) kept.leaves.items (outline_document o).blocks
 opened_made o setting blocks kept all h setting_is texts_is none =
-    let is = opened_as o setting (texts_in blocks) setting_is (texts_is ∙ h.texts) none in
+    let is = opened_as o setting (prepared_texts blocks) setting_is (texts_is ∙ h.texts) none in
     subst (λ (p : Setting × List Leaf × List Block). AreLeavesOf p.0 p.1 p.2) (λ i. (sym is.0 i, sym h.leaves i, sym is.1 i)) (opened_leaves setting 0 blocks all)
 
 -- a start takes no more steps than it may
-pub opened_work : (o : OutlineView) (setting : Setting) (blocks : List Prepared) (kept : Kept) (before now : ℕ) → HasKept blocks kept → o.opening.setting ≡ setting → o.opening.texts ≡ kept.texts → o.entries ≡ []
-    → now ≤ before + start_limit (setting_of o.opening (outlined o)) (length (outlined o).blocks) (body (outlined o))
+pub opened_work : (o : OutlineView) (setting : Setting) (blocks : List Prepared) (kept : StartedBlocks) (before now : ℕ) → HasKept blocks kept → o.opening.setting ≡ setting → o.opening.texts ≡ kept.texts → o.entries ≡ []
+    → now ≤ before + start_limit (setting_of o.opening (outline_document o)) (length (outline_document o).blocks) (body (outline_document o))
     → now ≤ before + start_limit setting (length blocks) (flat_map (λ (block : Prepared). block.text) blocks)
 opened_work o setting blocks kept before now h setting_is texts_is none steps =
-    let is = opened_as o setting (texts_in blocks) setting_is (texts_is ∙ h.texts) none in
-    let many : length (opened_from 0 (texts_in blocks)) ≡ length blocks = opened_count 0 (texts_in blocks) ∙ length-map blocks (λ (b : Prepared). b.text) in
-    let lines : lines_in (opened_from 0 (texts_in blocks)) ≡ flat_map (λ (block : Prepared). block.text) blocks = opened_lines 0 (texts_in blocks) ∙ lines_of_texts blocks in
+    let is = opened_as o setting (prepared_texts blocks) setting_is (texts_is ∙ h.texts) none in
+    let many : length (opened_from 0 (prepared_texts blocks)) ≡ length blocks = opened_count 0 (prepared_texts blocks) ∙ length-map blocks (λ (b : Prepared). b.text) in
+    let lines : lines_in (opened_from 0 (prepared_texts blocks)) ≡ flat_map (λ (block : Prepared). block.text) blocks = opened_lines 0 (prepared_texts blocks) ∙ lines_of_texts blocks in
     subst (λ (p : Setting × ℕ × List (List ℕ)). now ≤ before + start_limit p.0 p.1 p.2) (λ i. (is.0 i, (ap length is.1 ∙ many) i, (ap lines_in is.1 ∙ lines) i)) steps
 
 pub nothing_left : {X : Type 0} (l : List X) → length l ≡ 0 → l ≡ []
@@ -223,7 +223,7 @@ nothing_left [] h = refl
 nothing_left (x ∷ xs) h = absurd (omega (arith, h))
 
 -- there is room for one of the blocks behind those that were kept
-pub room_left : (kept_blocks rest blocks : List Prepared) (block : Prepared) (kept : Kept) → kept_blocks ++ block ∷ rest ≡ blocks → HasKept kept_blocks kept → length blocks ≤ block_limit → length kept.texts < block_limit
+pub room_left : (kept_blocks rest blocks : List Prepared) (block : Prepared) (kept : StartedBlocks) → kept_blocks ++ block ∷ rest ≡ blocks → HasKept kept_blocks kept → length blocks ≤ block_limit → length kept.texts < block_limit
 room_left kept_blocks rest blocks block kept all h few =
     let texts : length kept.texts ≡ length kept_blocks = ap length h.texts ∙ length-map kept_blocks (λ (b : Prepared). b.text) in
     omega (arith, texts, ap length all, length-append kept_blocks (block ∷ rest), few)

@@ -8,19 +8,19 @@ use Rattle.edit_journal.specs.declared.edit.Edit.TheVariants as edit
 use Rattle.edit_journal.specs.declared.edit.Entry.{Entry}
 use Rattle.edit_journal.specs.declared.opening.Opening.{Opening}
 use Rattle.edit_journal.specs.Entries.{text_for}
-use Rattle.edit_journal.specs.Documents.{Block, Document, block_of, stamp_at, with_text, after, after_all, document_of, body, opened, text_at}
+use Rattle.edit_journal.specs.Documents.{Block, Document, block_of, stamp_at, with_text, after, after_all, document_of, body, document_opened, text_at}
 use Rattle.edit_journal.proofs.Known.{text_longer}
 use Rattle.edit_book.specs.declared.block_state.BlockState.{BlockState}
 use Rattle.edit_book.specs.declared.block_state.BlockState.TheVariants.{There, CutBy}
 use Rattle.edit_book.specs.declared.reply.Reply.{Reply}
 use Rattle.edit_book.specs.declared.reply.Reply.TheVariants.{Gone, NoBlock, Full}
 use Rattle.edit_book.specs.declared.reply.Which.{Which}
-use Rattle.edit_book.specs.Books.{AreBlockwise, Each, AreDistinct, ids_of, state_of, HasIds, HasText, HasShortTexts, Fits, IsLawfulSetting, Stands}
+use Rattle.edit_book.specs.Books.{AreBlockwise, Each, AreDistinct, ids_of, block_state_of, HasIds, HasText, HasShortTexts, BookFits, IsLawfulSetting, OutlineStands}
 use Rattle.edit_book.specs.Outlines.{MayCome}
 use Rattle.edit_book.specs.Orders.{is_id}
-use Rattle.edit_book.specs.Replies.{Put, or_else, cuts_block, cut_from, cut_number, refused_name, refused_stamp, refused_head, refused_over, refused_entries, refused_lines, refusal_of}
+use Rattle.edit_book.specs.Replies.{Put, refusal_or_else, cuts_block, cut_from, cut_number, refused_name, refused_stamp, refused_head, refused_over, refused_entries, refused_lines, refusal_of}
 use Rattle.edit_book.specs.Verdicts.{setting_of}
-use Rattle.edit_book.proofs.Blocks.{undrawn}
+use Rattle.edit_book.proofs.Blocks.{undrawn_block_absent}
 
 -- one more entry
 after_all_snoc : (d : Document) (i : ℕ) (es : List Entry) (e : Entry) → after_all d i (es ++ e ∷ []) ≡ after (after_all d i es) (i + length es) e.edit
@@ -28,7 +28,7 @@ after_all_snoc d i [] e = ap (λ (k : ℕ). after d k e.edit) (omega arith)
 after_all_snoc d i (x ∷ es) e = after_all_snoc (after d i x.edit) (i + 1) es e ∙ ap (λ (k : ℕ). after (after_all (after d i x.edit) (i + 1) es) k e.edit) (omega arith)
 
 pub doc_snoc : (opening : Opening) (es : List Entry) (e : Entry) → document_of opening (es ++ e ∷ []) ≡ after (document_of opening es) (length es + 1) e.edit
-doc_snoc opening es e = after_all_snoc (opened opening) 1 es e ∙ ap (λ (k : ℕ). after (document_of opening es) k e.edit) (omega arith)
+doc_snoc opening es e = after_all_snoc (document_opened opening) 1 es e ∙ ap (λ (k : ℕ). after (document_of opening es) k e.edit) (omega arith)
 
 cut_from_snoc : (i found : ℕ) (es : List Entry) (e : Entry) (id : ℕ) → cut_from i found (es ++ e ∷ []) id ≡ cond (cuts_block e.edit id) (i + length es) (cut_from i found es id)
 cut_from_snoc i found [] e id = ap (λ (k : ℕ). cond (cuts_block e.edit id) k found) (omega arith)
@@ -126,7 +126,7 @@ put_zip {X} R (x ∷ items) (b ∷ bs) id i text item new h = go (b.id == id) (p
     go true rest = (new, h.1)
     go false rest = simp one-add (h.0, rest)
 
-pub or_else_none : {A : Type 0} (a b : Option A) → or_else a b ≡ None → (a ≡ None) × (b ≡ None)
+pub or_else_none : {A : Type 0} (a b : Option A) → refusal_or_else a b ≡ None → (a ≡ None) × (b ≡ None)
 or_else_none None b h = (refl, h)
 or_else_none (Some a) b h = absurd (cc)
 
@@ -141,14 +141,14 @@ pub record IsFreePut (d : Document) (entries : List Entry) (id seen head : ℕ) 
 pub put_free : (d : Document) (entries : List Entry) (id seen head : ℕ) (text : List (List ℕ)) → refusal_of d entries (Put id seen head text) ≡ None → IsFreePut d entries id seen head text
 put_free d entries id seen head text h =
     let lines : Option Reply = refused_lines d entries (edit.Put id seen text) in
-    let a = or_else_none (refused_name d entries id) (or_else (refused_stamp d entries id seen) (or_else (refused_head d entries head) (or_else (refused_entries entries) lines))) h in
-    let b = or_else_none (refused_stamp d entries id seen) (or_else (refused_head d entries head) (or_else (refused_entries entries) lines)) a.1 in
-    let c = or_else_none (refused_head d entries head) (or_else (refused_entries entries) lines) b.1 in
+    let a = or_else_none (refused_name d entries id) (refusal_or_else (refused_stamp d entries id seen) (refusal_or_else (refused_head d entries head) (refusal_or_else (refused_entries entries) lines))) h in
+    let b = or_else_none (refused_stamp d entries id seen) (refusal_or_else (refused_head d entries head) (refusal_or_else (refused_entries entries) lines)) a.1 in
+    let c = or_else_none (refused_head d entries head) (refusal_or_else (refused_entries entries) lines) b.1 in
     let e = or_else_none (refused_entries entries) lines c.1 in
     record { named = a.0; stamped = b.0; headed = c.0; room = e.0; lines = e.1 }
 
-pub under : (v limit count : ℕ) (what : Which) → refused_over v what limit count ≡ None → count ≤ limit
-under v limit count what h = go (nat_le count limit) refl h
+pub count_within_limit : (v limit count : ℕ) (what : Which) → refused_over v what limit count ≡ None → count ≤ limit
+count_within_limit v limit count what h = go (nat_le count limit) refl h
   where
     go : (t : Bool) → nat_le count limit ≡ t → cond t None (Some (Full v what limit)) ≡ None → count ≤ limit
     go true is h = leb-true count limit is
@@ -215,14 +215,14 @@ put_short id seen session k text h = go (id == k)
 
 -- the states after a put
 put_states : (d : Document) (es : List Entry) (states : List BlockState) (id seen session i : ℕ) (text : List (List ℕ)) (b : Block) → block_of d.blocks id ≡ Some b → id < length states
-    → ((k : ℕ) → k < d.drawn → slice_get states k ≡ Some (state_of d es k))
-    → (k : ℕ) → k < d.drawn → slice_get (set states id (There i)) k ≡ Some (state_of (after d i (edit.Put id seen text)) (es ++ record { session = session; edit = edit.Put id seen text } ∷ []) k)
+    → ((k : ℕ) → k < d.drawn → slice_get states k ≡ Some (block_state_of d es k))
+    → (k : ℕ) → k < d.drawn → slice_get (set states id (There i)) k ≡ Some (block_state_of (after d i (edit.Put id seen text)) (es ++ record { session = session; edit = edit.Put id seen text } ∷ []) k)
 put_states d es states id seen session i text b there fits all k drawn = go (k == id) refl
   where
-    go : (t : Bool) → (k == id) ≡ t → slice_get (set states id (There i)) k ≡ Some (state_of (after d i (edit.Put id seen text)) (es ++ record { session = session; edit = edit.Put id seen text } ∷ []) k)
+    go : (t : Bool) → (k == id) ≡ t → slice_get (set states id (There i)) k ≡ Some (block_state_of (after d i (edit.Put id seen text)) (es ++ record { session = session; edit = edit.Put id seen text } ∷ []) k)
     go true is =
         let same : k ≡ id = eqb-true k id is in
-        subst (λ (n : ℕ). slice_get (set states id (There i)) n ≡ Some (state_of (after d i (edit.Put id seen text)) (es ++ record { session = session; edit = edit.Put id seen text } ∷ []) n)) (sym same)
+        subst (λ (n : ℕ). slice_get (set states id (There i)) n ≡ Some (block_state_of (after d i (edit.Put id seen text)) (es ++ record { session = session; edit = edit.Put id seen text } ∷ []) n)) (sym same)
         (set_there states id (There i) fits ∙ ap (λ (o : Option Block). Some (option_map_or (λ x. There x.stamp) o (CutBy (cut_number (es ++ record { session = session; edit = edit.Put id seen text } ∷ []) id)))) (sym (put_block d.blocks id i text b there)))
     go false is =
         let ne : k ≢ id = eqb-false k id is in
@@ -244,13 +244,13 @@ pub there_drawn : (bs : List Block) (drawn id : ℕ) (b : Block) → Each (λ i.
 there_drawn bs drawn id b below there = go (nat_le drawn id) refl
   where
     go : (t : Bool) → nat_le drawn id ≡ t → id < drawn
-    go true is = let none : block_of bs id ≡ None = undrawn bs drawn id below (leb-true drawn id is) in absurd (cc)
+    go true is = let none : block_of bs id ≡ None = undrawn_block_absent bs drawn id below (leb-true drawn id is) in absurd (cc)
     go false is = leb-false drawn id is
 
 pub put_stands : (o : Opening) (es : List Entry) (states : List BlockState) (ids : List ℕ) (had session id seen lines : ℕ) (text : List (List ℕ))
-    → Stands o es states ids had → MayCome o es (edit.Put id seen text)
+    → OutlineStands o es states ids had → MayCome o es (edit.Put id seen text)
     → lines ≡ length (body (after (document_of o es) (length es + 1) (edit.Put id seen text))) → length text ≤ 4096
-    → Stands o (es ++ record { session = session; edit = edit.Put id seen text } ∷ []) (set states id (There (length es + 1))) ids lines
+    → OutlineStands o (es ++ record { session = session; edit = edit.Put id seen text } ∷ []) (set states id (There (length es + 1))) ids lines
 put_stands o es states ids had session id seen lines text s comes lines_is short =
     let e : Entry = record { session = session; edit = edit.Put id seen text } in
     let d : Document = document_of o es in
@@ -266,7 +266,7 @@ put_stands o es states ids had session id seen lines text s comes lines_is short
           differ = subst AreDistinct (sym same_ids) s.lawful.has_ids.differ;
           drawn = subst (Each (λ k. k < d.drawn)) (sym same_ids) s.lawful.has_ids.drawn;
         });
-        fits = subst (λ (x : Document). Fits x (es ++ e ∷ [])) (sym next) (record {
+        fits = subst (λ (x : Document). BookFits x (es ++ e ∷ [])) (sym next) (record {
           entries_fit = omega (arith, long, comes.room);
           blocks_fit = comes.blocks;
           lines_fit = comes.lines;
@@ -278,7 +278,7 @@ put_stands o es states ids had session id seen lines text s comes lines_is short
         setting = subst (λ (x : Document). IsLawfulSetting (setting_of o x)) (sym next) s.lawful.setting;
       };
       drawn = length-set states id (There i) ∙ (s.drawn ∙ ap (λ (x : Document). x.drawn) (sym next));
-      states_are = subst (λ (x : Document). (k : ℕ) → k < x.drawn → slice_get (set states id (There i)) k ≡ Some (state_of x (es ++ e ∷ []) k)) (sym next)
+      states_are = subst (λ (x : Document). (k : ℕ) → k < x.drawn → slice_get (set states id (There i)) k ≡ Some (block_state_of x (es ++ e ∷ []) k)) (sym next)
           (put_states d es states id seen session i text b.0 b.1 (omega (arith, drawn, s.drawn)) s.states_are);
       order = s.order ∙ (sym same_ids ∙ ap (λ (x : Document). ids_of x.blocks) (sym next));
       lines = lines_is ∙ ap (λ (x : Document). length (body x)) (sym next);

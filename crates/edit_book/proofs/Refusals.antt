@@ -12,7 +12,7 @@ use Rattle.edit_book.specs.declared.reply.Which.TheVariants.{Entries, Blocks, Li
 use Rattle.edit_book.specs.declared.reply.Reply.{Reply}
 use Rattle.edit_book.specs.declared.reply.Reply.TheVariants.{Stale, Gone}
 use Rattle.edit_book.specs.Memory.{version_of, base_of}
-use Rattle.edit_book.specs.Replies.{Request, Look, Put, Add, Cut, LoopAt, VerdictNow, LookHead, Texts, PutHead, or_else, refused_name, refused_anchor, refused_stamp, refused_head, refused_over, refused_entries, refused_blocks, refused_lines, refusal_of, cut_number, accepted_block}
+use Rattle.edit_book.specs.Replies.{Request, Look, Put, Add, Cut, LoopAt, VerdictNow, LookHead, Texts, PutHead, refusal_or_else, refused_name, refused_anchor, refused_stamp, refused_head, refused_over, refused_entries, refused_blocks, refused_lines, refusal_of, cut_number, accepted_block}
 use Rattle.edit_book.specs.Session.{Teaches}
 
 -- a refusal that carries this version, and tells no stamp
@@ -22,7 +22,7 @@ Refuses v reply = (version_of reply ≡ Some v) × (base_of reply ≡ Some v) ×
 pub record MayRefuse (v : ℕ) (o : Option Reply) : Type 0 where
   pub fact : IfSome o (Refuses v)
 
-refuses_or : {v : ℕ} {a b : Option Reply} → MayRefuse v a → MayRefuse v b → MayRefuse v (or_else a b)
+refuses_or : {v : ℕ} {a b : Option Reply} → MayRefuse v a → MayRefuse v b → MayRefuse v (refusal_or_else a b)
 refuses_or {a = None} p q = q
 refuses_or {a = Some a} p q = p
 
@@ -63,17 +63,17 @@ refuses_anchor : (d : Document) (journal : List Entry) (anchor : Anchor) → May
 refuses_anchor d journal Start = record { fact = tt }
 refuses_anchor d journal (After id) = refuses_name d journal id
 
-pub refuses : (d : Document) (journal : List Entry) (request : Request) → MayRefuse (length journal) (refusal_of d journal request)
-refuses d journal (Look id) = refuses_name d journal id
-refuses d journal (Put id seen head text) =
+pub refusal_may_come : (d : Document) (journal : List Entry) (request : Request) → MayRefuse (length journal) (refusal_of d journal request)
+refusal_may_come d journal (Look id) = refuses_name d journal id
+refusal_may_come d journal (Put id seen head text) =
     refuses_or (refuses_name d journal id) (refuses_or (refuses_stamp d journal id seen) (refuses_or (refuses_head d journal head)
     (refuses_or (refuses_entries journal) (refuses_lines d journal (edit.Put id seen text)))))
-refuses d journal (Add anchor head text) =
+refusal_may_come d journal (Add anchor head text) =
     refuses_or (refuses_anchor d journal anchor) (refuses_or (refuses_head d journal head)
     (refuses_or (refuses_entries journal) (refuses_or (refuses_blocks d journal) (refuses_lines d journal (edit.Add anchor d.drawn text)))))
-refuses d journal (Cut id seen) = refuses_or (refuses_name d journal id) (refuses_or (refuses_stamp d journal id seen) (refuses_entries journal))
-refuses d journal (LoopAt line) = record { fact = tt }
-refuses d journal VerdictNow = record { fact = tt }
-refuses d journal LookHead = record { fact = tt }
-refuses d journal Texts = record { fact = tt }
-refuses d journal (PutHead seen names) = refuses_or (refuses_head d journal seen) (refuses_entries journal)
+refusal_may_come d journal (Cut id seen) = refuses_or (refuses_name d journal id) (refuses_or (refuses_stamp d journal id seen) (refuses_entries journal))
+refusal_may_come d journal (LoopAt line) = record { fact = tt }
+refusal_may_come d journal VerdictNow = record { fact = tt }
+refusal_may_come d journal LookHead = record { fact = tt }
+refusal_may_come d journal Texts = record { fact = tt }
+refusal_may_come d journal (PutHead seen names) = refuses_or (refuses_head d journal seen) (refuses_entries journal)

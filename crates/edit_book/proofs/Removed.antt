@@ -4,12 +4,12 @@ use Rattle.std.specs.Prelude.{remove}
 use Rattle.knit_base.specs.declared.needle.Needle.{Needle}
 use Rattle.knit_base.specs.declared.setting.Setting.{Setting}
 use Rattle.face_data.specs.Items.{most_items}
-use Rattle.tree_shape.specs.Fewest.{removed}
+use Rattle.tree_shape.specs.Fewest.{list_removed}
 use Rattle.edit_journal.specs.declared.edit.Edit.TheVariants as edit
 use Rattle.edit_journal.specs.declared.edit.Entry.{Entry}
 use Rattle.edit_journal.specs.declared.opening.Opening.{Opening}
 use Rattle.edit_journal.specs.Documents.{Document, body, document_of}
-use Rattle.edit_book.specs.Books.{BookView, HasLeaves, IsLawful, IsLawfulOutline, IsLeafOf, document, ids_of}
+use Rattle.edit_book.specs.Books.{BookView, HasLeaves, AreLawfulLeaves, IsLawfulOutline, IsLeafOf, document, ids_of}
 use Rattle.edit_book.specs.Orders.{is_id}
 use Rattle.edit_book.specs.Outlines.{MayCome}
 use Rattle.edit_book.specs.Replies.{Cut, refusal_of}
@@ -25,7 +25,7 @@ use Rattle.summary_tree.specs.Leaves.{AreGoodFor, Leaf}
 use Rattle.summary_tree.specs.Trees.{TreeView, change_steps}
 
 module _ (o : Opening) (es : List Entry) (session id seen : ℕ) (v : BookView) (room : Bool) (tree : TreeView)
-    (s : IsLawful o es tree.leaves) (view : record { opening = o; entries = es; journal_room = room; tree = tree } ≡ v)
+    (s : AreLawfulLeaves o es tree.leaves) (view : record { opening = o; entries = es; journal_room = room; tree = tree } ≡ v)
     (free : refusal_of (document v) v.entries (Cut id seen) ≡ None) where
   cut_free_here : refusal_of (document_of o es) es (Cut id seen) ≡ None
   cut_free_here = subst (λ (w : BookView). refusal_of (document w) w.entries (Cut id seen) ≡ None) (sym view) free
@@ -39,11 +39,11 @@ module _ (o : Opening) (es : List Entry) (session id seen : ℕ) (v : BookView) 
   cut_comes = cut_may o es s.fits id seen cut_free_here
 
   module _ (at : ℕ) (place : position (is_id id) (ids_of (document_of o es).blocks) ≡ Some at) (longer : List Entry) (longer_is : longer ≡ es ++ record { session = session; edit = edit.Cut id seen } ∷ [])
-      (outlined : IsLawfulOutline o longer) (leaves now : List Leaf) (leaves_are : leaves ≡ tree.leaves) (now_is : now ≡ removed at leaves) where
-    pub cut_made : IsLawful o longer now
+      (outlined : IsLawfulOutline o longer) (leaves now : List Leaf) (leaves_are : leaves ≡ tree.leaves) (now_is : now ≡ list_removed at leaves) where
+    pub cut_made : AreLawfulLeaves o longer now
     cut_made =
         let all : remove tree.leaves at ≡ now = ap (λ (l : List Leaf). remove l at) (sym leaves_are) ∙ sym (removed_is at leaves) ∙ sym now_is in
-        subst (IsLawful o longer) all
+        subst (AreLawfulLeaves o longer) all
         (with_leaves o longer (remove tree.leaves at) outlined
         (subst (λ (l : List Entry). HasLeaves o (document_of o l) (remove tree.leaves at)) (sym longer_is) (cut_items IsLeafOf o es tree.leaves session id seen at s.leaves_are place)))
 

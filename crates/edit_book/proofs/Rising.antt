@@ -1,15 +1,15 @@
 -- Rising numbers, and the last of them that isn't above a limit.
 use Rattle.std.proofs.Common.{◌≡◌, ℕ, zero, suc, ◌+◌, ◌<◌, ◌≤◌, Bool, true, false, cond, nat_le, List, [], ◌∷◌, filter, take, length, get_or, subst, sym, ap, ◌∙◌, refl, arith}
-use Rattle.edit_book.specs.Headers.{AreRising, last_not_above, last_or}
+use Rattle.edit_book.specs.Headers.{AreNumbersRising, last_not_above, last_or}
 
-next_at_least : (xs : List ℕ) → AreRising xs → (k d : ℕ) → suc k < length xs → get_or xs k d ≤ get_or xs (suc k) d
+next_at_least : (xs : List ℕ) → AreNumbersRising xs → (k d : ℕ) → suc k < length xs → get_or xs k d ≤ get_or xs (suc k) d
 next_at_least [] r k d within = absurd (omega arith)
 next_at_least (n ∷ []) r k d within = absurd (omega arith)
 next_at_least (n ∷ m ∷ ns) r zero d within = let less = r.0 in omega arith
 next_at_least (n ∷ m ∷ ns) r (suc k) d within = next_at_least (m ∷ ns) r.1 k d (omega arith)
 
 -- each is at most the next
-pub rising_next : (xs : List ℕ) → AreRising xs → (k d : ℕ) → k + 1 < length xs → get_or xs k d ≤ get_or xs (k + 1) d
+pub rising_next : (xs : List ℕ) → AreNumbersRising xs → (k d : ℕ) → k + 1 < length xs → get_or xs k d ≤ get_or xs (k + 1) d
 rising_next xs r k d within =
     let same : suc k ≡ k + 1 = omega arith in
     subst (λ (m : ℕ). get_or xs k d ≤ get_or xs m d) same (next_at_least xs r k d (omega arith))

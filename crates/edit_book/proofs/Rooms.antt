@@ -5,24 +5,24 @@ use Rattle.edit_journal.specs.declared.edit.Entry.{Entry}
 use Rattle.edit_journal.specs.declared.opening.Opening.{Opening}
 use Rattle.edit_journal.specs.Documents.{document_of}
 use Rattle.face_data.specs.Summaries.{Summary}
-use Rattle.edit_book.specs.Books.{BookView, HasMoreRoom, IsReady, ids_of}
+use Rattle.edit_book.specs.Books.{BookView, HasMoreRoom, IsReadyToPut, ids_of}
 use Rattle.edit_book.specs.Orders.{is_id}
 use Rattle.summary_tree.specs.Trees.{CanReplace, IsSameTree, Meets, NeedView, TreeView}
 use Rattle.summary_tree.proofs.Needs.{replace_met}
 
 -- what holds where a call succeeds
-pub made : {A E : Type 0} (r : Result A E) (P : Type 0) → is_err r ≡ false → OnOk r P → P
-made (Ok x) P is h = h
-made (Err e) P is h = absurd (cc)
+pub ok_holds : {A E : Type 0} (r : Result A E) (P : Type 0) → is_err r ≡ false → OnOk r P → P
+ok_holds (Ok x) P is h = h
+ok_holds (Err e) P is h = absurd (cc)
 
 pub not_failed : {A E : Type 0} (r : Result A E) → is_err r ≡ true → IsOk r → ⊥
 not_failed (Ok x) is h = absurd (cc)
 not_failed (Err e) is h = absurd (cc)
 
 -- and where it fails
-pub failed : {A E : Type 0} (r : Result A E) (P : Type 0) → is_err r ≡ true → OnErr r P → P
-failed (Ok x) P is h = absurd (cc)
-failed (Err e) P is h = h
+pub err_holds : {A E : Type 0} (r : Result A E) (P : Type 0) → is_err r ≡ true → OnErr r P → P
+err_holds (Ok x) P is h = absurd (cc)
+err_holds (Err e) P is h = h
 
 pub same_tree : (tree : TreeView) → IsSameTree tree tree
 same_tree tree = record {
@@ -32,18 +32,18 @@ same_tree tree = record {
 
 -- what a book has that is ready for a put
 pub ready_at : (o : Opening) (es : List Entry) (id at : ℕ) (v : BookView) (room : Bool) (tree : TreeView) (summary : Summary)
-    → record { opening = o; entries = es; journal_room = room; tree = tree } ≡ v → position (is_id id) (ids_of (document_of o es).blocks) ≡ Some at → IsReady v id summary
+    → record { opening = o; entries = es; journal_room = room; tree = tree } ≡ v → position (is_id id) (ids_of (document_of o es).blocks) ≡ Some at → IsReadyToPut v id summary
     → (room ≡ true) × CanReplace tree at summary
 ready_at o es id at v room tree summary view place ready =
-    let here = subst (λ (w : BookView). IsReady w id summary) (sym view) ready in
+    let here = subst (λ (w : BookView). IsReadyToPut w id summary) (sym view) ready in
     subst (λ (p : Option ℕ). IfSome p (λ at. (room ≡ true) × CanReplace tree at summary)) place here
 
 -- and when it is
 pub ready_by : (o : Opening) (es : List Entry) (id at : ℕ) (v : BookView) (room : Bool) (tree : TreeView) (summary : Summary)
     → record { opening = o; entries = es; journal_room = room; tree = tree } ≡ v → position (is_id id) (ids_of (document_of o es).blocks) ≡ Some at → room ≡ true → CanReplace tree at summary
-    → IsReady v id summary
+    → IsReadyToPut v id summary
 ready_by o es id at v room tree summary view place enough can =
-    subst (λ (w : BookView). IsReady w id summary) view
+    subst (λ (w : BookView). IsReadyToPut w id summary) view
     (subst (λ (p : Option ℕ). IfSome p (λ at. (room ≡ true) × CanReplace tree at summary)) (sym place) (enough, can))
 
 -- a tree that has the room that another has, and is the same but for that, is ready for what the other is

@@ -16,12 +16,12 @@ use Rattle.face_data.specs.Goodness.{IsGoodFace}
 use Rattle.face_data.specs.View.{summary_of}
 use Rattle.loop_history.specs.Tables.{TableStandsFor}
 use Rattle.block_summary.specs.Prepared.{AreReadings, IsMadeOf}
-use Rattle.block_summary.specs.NamedNeedles.{named}
+use Rattle.block_summary.specs.NamedNeedles.{needles_named}
 use Rattle.block_summary.proofs.Blocks.{named_known}
-use Rattle.edit_book.specs.Books.{IsLawful, IsLawfulSetting, IsLeafOf}
+use Rattle.edit_book.specs.Books.{AreLawfulLeaves, IsLawfulSetting, IsLeafOf}
 use Rattle.edit_book.specs.Verdicts.{setting_of}
 use Rattle.block_summary.proofs.BedNeedles.{named_numbered}
-use Rattle.summary_tree.specs.Leaves.{Leaf, AreSound, EachStandsFor, IsGoodFor, IsRootOf, all_lines, lines_of}
+use Rattle.summary_tree.specs.Leaves.{Leaf, AreSound, EachStandsFor, IsGoodFor, IsRootOf, all_lines, leaf_line_count}
 
 -- what the document of these entries is read by
 abbrev pub setting_at : Opening → List Entry → Setting
@@ -48,9 +48,9 @@ good_leaf : (setting : Setting) (leaf : Leaf) (lines : List (List ℕ)) → IsLa
 good_leaf setting leaf lines lawful h =
     let r = reads_of setting leaf lines h in
     record {
-      known = named r.readings;
+      known = needles_named r.readings;
       numbered = named_numbered setting.profile setting.declared lines r.readings lawful.profile r.read;
-      good = r.made.good (named r.readings) (named_known r.readings);
+      good = r.made.good (needles_named r.readings) (named_known r.readings);
     }
 
 pub zip_good : (setting : Setting) (leaves : List Leaf) (bs : List Block) → IsLawfulSetting setting → AllZip (λ (l : Leaf) (b : Block). IsLeafOf setting l b.lines) leaves bs
@@ -66,17 +66,17 @@ leaf_count setting leaf lines h =
     let r = reads_of setting leaf lines h in
     r.made.stands.lines_are ∙ AllZip-long (ReadsAs setting.profile setting.declared) lines r.readings r.read
 
-pub zip_lines : (setting : Setting) (leaves : List Leaf) (bs : List Block) → AllZip (λ (l : Leaf) (b : Block). IsLeafOf setting l b.lines) leaves bs → lines_of leaves ≡ length (lines_in bs)
+pub zip_lines : (setting : Setting) (leaves : List Leaf) (bs : List Block) → AllZip (λ (l : Leaf) (b : Block). IsLeafOf setting l b.lines) leaves bs → leaf_line_count leaves ≡ length (lines_in bs)
 zip_lines setting [] [] h = refl
 zip_lines setting [] (b ∷ bs) h = absurd h
 zip_lines setting (l ∷ leaves) [] h = absurd h
 zip_lines setting (l ∷ leaves) (b ∷ bs) h = omega (arith, leaf_count setting l b.lines h.0, zip_lines setting leaves bs h.1, length-append b.lines (lines_in bs))
 
 -- there is a leaf for each block
-pub leaf_each : (o : Opening) (es : List Entry) (leaves : List Leaf) → IsLawful o es leaves → length leaves ≡ length (document_of o es).blocks
+pub leaf_each : (o : Opening) (es : List Entry) (leaves : List Leaf) → AreLawfulLeaves o es leaves → length leaves ≡ length (document_of o es).blocks
 leaf_each o es leaves s = zip_count (λ (l : Leaf) (b : Block). IsLeafOf (setting_at o es) l b.lines) leaves (document_of o es).blocks s.leaves_are
 
-pub sound_of : (o : Opening) (es : List Entry) (leaves : List Leaf) → IsLawful o es leaves → AreSound leaves
+pub sound_of : (o : Opening) (es : List Entry) (leaves : List Leaf) → AreLawfulLeaves o es leaves → AreSound leaves
 sound_of o es leaves s = record {
   carriers = length (setting_at o es).declared;
   limit = o.setting.profile.hold;
@@ -109,10 +109,10 @@ all_read setting (l ∷ leaves) (b ∷ bs) h =
     }
 
 -- the root has the lines of the body
-pub root_lines : (o : Opening) (es : List Entry) (leaves : List Leaf) (view : FaceView) → IsLawful o es leaves → IsRootOf leaves view → view.lines ≡ length (body (document_of o es))
+pub root_lines : (o : Opening) (es : List Entry) (leaves : List Leaf) (view : FaceView) → AreLawfulLeaves o es leaves → IsRootOf leaves view → view.lines ≡ length (body (document_of o es))
 root_lines o es leaves view s root = root.whole.lines ∙ zip_lines (setting_at o es) leaves (document_of o es).blocks s.leaves_are
 
-pub root_good : (o : Opening) (es : List Entry) (leaves : List Leaf) (view : FaceView) → IsLawful o es leaves → IsRootOf leaves view → IsGoodFace (summary_of view)
+pub root_good : (o : Opening) (es : List Entry) (leaves : List Leaf) (view : FaceView) → AreLawfulLeaves o es leaves → IsRootOf leaves view → IsGoodFace (summary_of view)
 root_good o es leaves view s root =
     let good = root.good (length (setting_at o es).declared) o.setting.profile.hold (zip_good (setting_at o es) leaves (document_of o es).blocks s.setting s.leaves_are) in
     record {
@@ -124,9 +124,9 @@ root_good o es leaves view s root =
       good = good.good;
     }
 
-pub root_fits : (o : Opening) (es : List Entry) (leaves : List Leaf) (view : FaceView) → IsLawful o es leaves → IsRootOf leaves view → o.setting.first + view.lines < 2 ^ 32
+pub root_fits : (o : Opening) (es : List Entry) (leaves : List Leaf) (view : FaceView) → AreLawfulLeaves o es leaves → IsRootOf leaves view → o.setting.first + view.lines < 2 ^ 32
 root_fits o es leaves view s root = omega (arith, root_lines o es leaves view s root, s.fits.lines_fit, s.setting.first)
 
 -- each line of the leaves has a number of 32 bits
-pub lines_fit : (o : Opening) (es : List Entry) (leaves : List Leaf) → IsLawful o es leaves → o.setting.first + lines_of leaves < 2 ^ 32
+pub lines_fit : (o : Opening) (es : List Entry) (leaves : List Leaf) → AreLawfulLeaves o es leaves → o.setting.first + leaf_line_count leaves < 2 ^ 32
 lines_fit o es leaves s = omega (arith, zip_lines (setting_at o es) leaves (document_of o es).blocks s.leaves_are, s.fits.lines_fit, s.setting.first)

@@ -15,13 +15,13 @@ use Rattle.edit_journal.specs.Documents.{body, document_of}
 use Rattle.face_data.specs.declared.face.FaceView.{FaceView}
 use Rattle.face_data.specs.Verdicts.{verdict_of}
 use Rattle.face_data.specs.View.{summary_of}
-use Rattle.face_data.proofs.EmptyBeds.{judged}
-use Rattle.edit_book.specs.Books.{IsLawful}
+use Rattle.face_data.proofs.EmptyBeds.{told_verdict_holds}
+use Rattle.edit_book.specs.Books.{AreLawfulLeaves}
 use Rattle.edit_book.specs.Verdicts.{HasVerdict, IsBriefOn}
 use Rattle.edit_book.proofs.Trees.{all_read, root_good, setting_at, zip_count}
 use Rattle.summary_tree.specs.Leaves.{Leaf, IsRootOf, all_lines}
 
-pub root_verdict : (o : Opening) (es : List Entry) (leaves : List Leaf) (view : FaceView) (told : Verdict) → IsLawful o es leaves → IsRootOf leaves view → told ≡ verdict_of (summary_of view) o.setting.first
+pub root_verdict : (o : Opening) (es : List Entry) (leaves : List Leaf) (view : FaceView) (told : Verdict) → AreLawfulLeaves o es leaves → IsRootOf leaves view → told ≡ verdict_of (summary_of view) o.setting.first
     → HasVerdict (setting_at o es) (body (document_of o es)) told
 root_verdict o es leaves view told s root is =
     let all = all_read (setting_at o es) leaves (document_of o es).blocks s.leaves_are in
@@ -34,11 +34,11 @@ root_verdict o es leaves view told s root is =
         read = all.read;
         made = refl;
         judged = subst (λ (n : ℕ). IsVerdict n told (run o.setting.profile empty_state o.setting.first reads) made) (sym many)
-            (judged o.setting.profile (summary_of view) reads o.setting.first told (root_good o es leaves view s root).good.fair.in_order is (root.whole.stands o.setting.profile all.blocks all.stand));
+            (told_verdict_holds o.setting.profile (summary_of view) reads o.setting.first told (root_good o es leaves view s root).good.fair.in_order is (root.whole.stands o.setting.profile all.blocks all.stand));
       },
     )
 
-pub root_brief : (o : Opening) (es : List Entry) (leaves : List Leaf) (view : FaceView) (brief : Brief) → IsLawful o es leaves → IsRootOf leaves view
+pub root_brief : (o : Opening) (es : List Entry) (leaves : List Leaf) (view : FaceView) (brief : Brief) → AreLawfulLeaves o es leaves → IsRootOf leaves view
     → brief ≡ brief_of (verdict_of (summary_of view) o.setting.first) → IsBriefOn (setting_at o es) (body (document_of o es)) brief
 root_brief o es leaves view brief s root is =
     (verdict_of (summary_of view) o.setting.first, root_verdict o es leaves view (verdict_of (summary_of view) o.setting.first) s root refl, is)

@@ -13,22 +13,22 @@ use Rattle.knitout_reader.specs.Tokens.{before_comment, has_comment, tokens_of}
 use Rattle.knitout_reader.proofs.OneShape.{one-reading}
 use Rattle.knitout_reader.proofs.SomeReading.{each-reads}
 use Rattle.face_data.specs.Items.{most_items}
-use Rattle.face_data.specs.Sets.{IsWithin}
+use Rattle.face_data.specs.Sets.{AreNeedlesWithin}
 use Rattle.face_data.proofs.Members.{Contains-cons_cases, Contains-head, Contains-none, Contains-tail}
 use Rattle.block_summary.specs.LineSummaries.{NeedlesKnownInLine, SliderKnown}
-use Rattle.block_summary.specs.Prepared.{AreKnown, AreReadings}
-use Rattle.block_summary.specs.NamedNeedles.{named}
+use Rattle.block_summary.specs.Prepared.{AreNeedlesKnown, AreReadings}
+use Rattle.block_summary.specs.NamedNeedles.{needles_named}
 use Rattle.block_summary.proofs.Blocks.{named_known}
 use Rattle.edit_journal.specs.declared.edit.Anchor.{Anchor}
 use Rattle.edit_journal.specs.declared.edit.Anchor.TheVariants.{Start, After}
 use Rattle.edit_journal.specs.declared.edit.Edit.{Edit}
 use Rattle.edit_journal.specs.declared.edit.Entry.{Entry}
 use Rattle.edit_journal.specs.declared.opening.Opening.{Opening}
-use Rattle.edit_journal.specs.Documents.{Block, Document, after, body, document_of, lines_in, with_after, with_new, with_text, without}
-use Rattle.edit_book.specs.Books.{BookView, Each, IsLawful, IsLeafOf}
+use Rattle.edit_journal.specs.Documents.{Block, Document, after, body, document_of, lines_in, with_after, blocks_with_new, with_text, blocks_without}
+use Rattle.edit_book.specs.Books.{BookView, Each, AreLawfulLeaves, IsLeafOf}
 use Rattle.edit_book.specs.Replies.{Request}
 use Rattle.edit_book.specs.Headers.{changes_header}
-use Rattle.edit_book.specs.Work.{edit_limit, limit_at, needles_in, once, start_limit, work_limit}
+use Rattle.edit_book.specs.Work.{edit_limit, limit_at, needles_in, needles_once, start_limit, work_limit}
 use Rattle.edit_book.proofs.KeptHeaders.{setting_stays}
 use Rattle.edit_book.proofs.Puts.{doc_snoc}
 use Rattle.edit_book.proofs.Trees.{setting_at, zip_count}
@@ -44,22 +44,22 @@ any_there n (m ∷ ms) h = go (same_needle n m) refl h (any_there n ms)
     go false is h later = Contains-tail m ms n (later h)
 
 -- no needle is left out
-once_keeps : (ns : List Needle) → IsWithin ns (once ns)
+once_keeps : (ns : List Needle) → AreNeedlesWithin ns (needles_once ns)
 once_keeps [] n there = there
 once_keeps (m ∷ ms) n there = go (list_any (same_needle m) ms) refl (once_keeps ms)
   where
-    go : (t : Bool) → list_any (same_needle m) ms ≡ t → IsWithin ms (once ms) → Contains (cond t (once ms) (m ∷ once ms)) n
+    go : (t : Bool) → list_any (same_needle m) ms ≡ t → AreNeedlesWithin ms (needles_once ms) → Contains (cond t (needles_once ms) (m ∷ needles_once ms)) n
     go true is rest =
         ⊎_elim (λ (same : m ≡ n). rest n (subst (λ (k : Needle). Contains ms k) same (any_there m ms is))) (λ (later : Contains ms n). rest n later) (Contains-cons_cases m ms n there)
     go false is rest =
-        ⊎_elim (λ (same : m ≡ n). subst (λ (k : Needle). Contains (m ∷ once ms) k) same (Contains-head m (once ms))) (λ (later : Contains ms n). Contains-tail m (once ms) n (rest n later))
+        ⊎_elim (λ (same : m ≡ n). subst (λ (k : Needle). Contains (m ∷ needles_once ms) k) same (Contains-head m (needles_once ms))) (λ (later : Contains ms n). Contains-tail m (needles_once ms) n (rest n later))
         (Contains-cons_cases m ms n there)
 
-slider_wider : (on : Option Needle) (known wider : List Needle) → IsWithin known wider → SliderKnown known on → SliderKnown wider on
+slider_wider : (on : Option Needle) (known wider : List Needle) → AreNeedlesWithin known wider → SliderKnown known on → SliderKnown wider on
 slider_wider None known wider within is = tt
 slider_wider (Some n) known wider within is = within (own_slider n) is
 
-known_wider : (r : Read) (known wider : List Needle) → IsWithin known wider → NeedlesKnownInLine known r → NeedlesKnownInLine wider r
+known_wider : (r : Read) (known wider : List Needle) → AreNeedlesWithin known wider → NeedlesKnownInLine known r → NeedlesKnownInLine wider r
 known_wider (read.Instr i) known wider within is = record {
   needles = λ n there. within n (is.needles n there);
   slider = slider_wider (forming_needle i) known wider within is.slider;
@@ -72,7 +72,7 @@ pub record KnowsLine (setting : Setting) (known : List Needle) (line : List ℕ)
   pub read : ReadsAs setting.profile setting.declared line reading
   pub knows : NeedlesKnownInLine known reading
 
-zip_known : (setting : Setting) (known : List Needle) (lines : List (List ℕ)) (readings : List Read) → AreReadings setting.profile setting.declared lines readings → AreKnown known readings
+zip_known : (setting : Setting) (known : List Needle) (lines : List (List ℕ)) (readings : List Read) → AreReadings setting.profile setting.declared lines readings → AreNeedlesKnown known readings
     → Each (KnowsLine setting known) lines
 zip_known setting known [] [] reads all = tt
 zip_known setting known [] (r ∷ rs) reads all = tt
@@ -84,7 +84,7 @@ zip_known setting known (line ∷ lines) (r ∷ rs) reads all =
 pub lines_known : (setting : Setting) (lines : List (List ℕ)) → Each (KnowsLine setting (needles_in setting lines)) lines
 lines_known setting lines =
     let rs = each-reads setting.profile setting.declared lines in
-    zip_known setting (needles_in setting lines) lines rs.0 rs.1 (λ r there. known_wider r (named rs.0) (once (named rs.0)) (once_keeps (named rs.0)) (named_known rs.0 r there))
+    zip_known setting (needles_in setting lines) lines rs.0 rs.1 (λ r there. known_wider r (needles_named rs.0) (needles_once (needles_named rs.0)) (once_keeps (needles_named rs.0)) (named_known rs.0 r there))
 
 -- a line has one reading
 line_once : (profile : Profile) (names : List (List ℕ)) (tokens : List (List ℕ)) (comment : Bool) (r other : Read) → CodeReadsAs profile names tokens comment r → CodeReadsAs profile names tokens comment other → other ≡ r
@@ -105,16 +105,16 @@ read_once profile names (line ∷ lines) (r ∷ rs) (q ∷ qs) one two =
     λ i. first i ∷ later i
 
 -- The needles in lines are those of any readings.
-pub needles_are : (setting : Setting) (lines : List (List ℕ)) (readings : List Read) → AreReadings setting.profile setting.declared lines readings → needles_in setting lines ≡ once (named readings)
+pub needles_are : (setting : Setting) (lines : List (List ℕ)) (readings : List Read) → AreReadings setting.profile setting.declared lines readings → needles_in setting lines ≡ needles_once (needles_named readings)
 needles_are setting lines readings reads =
     let some = each-reads setting.profile setting.declared lines in
-    ap (λ (rs : List Read). once (named rs)) (read_once setting.profile setting.declared lines readings some.0 reads some.1)
+    ap (λ (rs : List Read). needles_once (needles_named rs)) (read_once setting.profile setting.declared lines readings some.0 reads some.1)
 
 -- readings of lines that name these needles alone
 record Known (setting : Setting) (known : List Needle) (lines : List (List ℕ)) : Type 0 where
   readings : List Read
   read : AreReadings setting.profile setting.declared lines readings
-  knows : AreKnown known readings
+  knows : AreNeedlesKnown known readings
 
 readings_known : (setting : Setting) (known : List Needle) (lines : List (List ℕ)) → Each (KnowsLine setting known) lines → Known setting known lines
 readings_known setting known [] h = record { readings = []; read = tt; knows = λ r there. absurd (Contains-none r there) }
@@ -148,15 +148,15 @@ module _ (P : List ℕ → Type 0) where
       go true own others rest = each_join P text (lines_in bs) k others
       go false own others rest = each_join P b.lines (lines_in (with_text id i text bs)) own rest
 
-  pub cut_lines : (bs : List Block) (id : ℕ) → Each P (lines_in bs) → Each P (lines_in (without id bs))
+  pub cut_lines : (bs : List Block) (id : ℕ) → Each P (lines_in bs) → Each P (lines_in (blocks_without id bs))
   cut_lines [] id h = tt
   cut_lines (b ∷ bs) id h =
       let both = each_split P b.lines (lines_in bs) h in
       go (b.id == id) both.0 both.1 (cut_lines bs id both.1)
     where
-      go : (t : Bool) → Each P b.lines → Each P (lines_in bs) → Each P (lines_in (without id bs)) → Each P (lines_in (cond t bs (b ∷ without id bs)))
+      go : (t : Bool) → Each P b.lines → Each P (lines_in bs) → Each P (lines_in (blocks_without id bs)) → Each P (lines_in (cond t bs (b ∷ blocks_without id bs)))
       go true own others rest = others
-      go false own others rest = each_join P b.lines (lines_in (without id bs)) own rest
+      go false own others rest = each_join P b.lines (lines_in (blocks_without id bs)) own rest
 
   after_lines : (bs : List Block) (id : ℕ) (new : Block) → Each P (lines_in bs) → Each P new.lines → Each P (lines_in (with_after id new bs))
   after_lines [] id new h k = tt
@@ -168,7 +168,7 @@ module _ (P : List ℕ → Type 0) where
       go true own others rest = each_join P b.lines (new.lines ++ lines_in bs) own (each_join P new.lines (lines_in bs) k others)
       go false own others rest = each_join P b.lines (lines_in (with_after id new bs)) own rest
 
-  pub new_lines : (anchor : Anchor) (bs : List Block) (new : Block) → Each P (lines_in bs) → Each P new.lines → Each P (lines_in (with_new anchor new bs))
+  pub new_lines : (anchor : Anchor) (bs : List Block) (new : Block) → Each P (lines_in bs) → Each P new.lines → Each P (lines_in (blocks_with_new anchor new bs))
   new_lines Start bs new h k = each_join P new.lines (lines_in bs) k h
   new_lines (After id) bs new h k = after_lines bs id new h k
 
@@ -192,7 +192,7 @@ leaves_work setting leaves bs before now h steps =
 
 -- An edit of a block takes no more steps than it may.
 pub edit_work : (o : Opening) (es : List Entry) (session count blocks before now : ℕ) (request : Request) (change : Edit) (lines : List (List ℕ)) (v : BookView) (room : Bool) (tree : TreeView) (longer : List Entry) (leaves : List Leaf)
-    → record { opening = o; entries = es; journal_room = room; tree = tree } ≡ v → longer ≡ es ++ record { session = session; edit = change } ∷ [] → changes_header change ≡ false → IsLawful o longer leaves
+    → record { opening = o; entries = es; journal_room = room; tree = tree } ≡ v → longer ≡ es ++ record { session = session; edit = change } ∷ [] → changes_header change ≡ false → AreLawfulLeaves o longer leaves
     → limit_at (setting_at o es) (document_of o es) request ≡ edit_limit (setting_at o es) blocks lines → count ≡ blocks
     → Each (KnowsLine (setting_at o es) (needles_in (setting_at o es) lines)) (body (after (document_of o es) (length es + 1) change))
     → ((carriers limit : ℕ) (known : List Needle) → AreGoodFor carriers limit known leaves → now ≤ before + change_steps count (most_items carriers limit (length known)))

@@ -22,16 +22,16 @@ AsksBlocks (PutHead seen names) = ⊥
 AsksBlocks request = Unit {0}
 
 -- what is asked is what the command says, of whatever block and with whatever stamp
-abbrev pub IsAskedBy : Command → Request → Type 0
-IsAskedBy (command.Look name) (Look id) = Unit {0}
-IsAskedBy (command.Put name text) (Put id seen head lines) = Unit {0}
-IsAskedBy (command.Add place text) (Add anchor head lines) = Unit {0}
-IsAskedBy (command.Cut name) (Cut id seen) = Unit {0}
-IsAskedBy (command.LoopAt line) (LoopAt asked) = Unit {0}
-IsAskedBy command.Verdict VerdictNow = Unit {0}
-IsAskedBy command.LookHead LookHead = Unit {0}
-IsAskedBy (command.PutHead names) (PutHead seen given) = Unit {0}
-IsAskedBy c request = ⊥
+abbrev pub CommandAsks : Command → Request → Type 0
+CommandAsks (command.Look name) (Look id) = Unit {0}
+CommandAsks (command.Put name text) (Put id seen head lines) = Unit {0}
+CommandAsks (command.Add place text) (Add anchor head lines) = Unit {0}
+CommandAsks (command.Cut name) (Cut id seen) = Unit {0}
+CommandAsks (command.LoopAt line) (LoopAt asked) = Unit {0}
+CommandAsks command.Verdict VerdictNow = Unit {0}
+CommandAsks command.LookHead LookHead = Unit {0}
+CommandAsks (command.PutHead names) (PutHead seen given) = Unit {0}
+CommandAsks c request = ⊥
 
 -- the reply tells no stamp of the header
 abbrev pub TellsNoHeader : Reply → Type 0

@@ -35,8 +35,8 @@ abbrev pub document : BookView → Document
 document book = document_of book.opening book.entries
 
 -- where a block that was drawn is: there, with its stamp, or cut by an entry
-abbrev pub state_of : Document → List Entry → ℕ → BlockState
-state_of d entries id = option_map_or (λ b. There b.stamp) (block_of d.blocks id) (CutBy (cut_number entries id))
+abbrev pub block_state_of : Document → List Entry → ℕ → BlockState
+block_state_of d entries id = option_map_or (λ b. There b.stamp) (block_of d.blocks id) (CutBy (cut_number entries id))
 
 -- P holds of each
 abbrev pub Each : {X : Type 0} → (X → Type 0) → List X → Type 0
@@ -57,7 +57,7 @@ pub record HasIds (d : Document) : Type 0 where
   pub drawn : Each (λ id. id < d.drawn) (ids_of d.blocks)
 
 -- the limits of a book
-pub record Fits (d : Document) (entries : List Entry) : Type 0 where
+pub record BookFits (d : Document) (entries : List Entry) : Type 0 where
   pub entries_fit : length entries ≤ entry_limit
   pub blocks_fit : length d.blocks ≤ block_limit
   pub lines_fit : length (body d) ≤ line_limit
@@ -92,15 +92,15 @@ HasLeaves opening d leaves = AreBlockwise IsLeafOf opening d leaves
 -- what always holds of an outline
 pub record IsLawfulOutline (opening : Opening) (entries : List Entry) : Type 0 where
   pub has_ids : HasIds (document_of opening entries)
-  pub fits : Fits (document_of opening entries) entries
+  pub fits : BookFits (document_of opening entries) entries
   pub texts : Each (HasText opening entries) (document_of opening entries).blocks
   pub short : HasShortTexts opening entries
   pub setting : IsLawfulSetting (setting_of opening (document_of opening entries))
 
 -- what always holds of a book with these leaves
-pub record IsLawful (opening : Opening) (entries : List Entry) (leaves : List Leaf) : Type 0 where
+pub record AreLawfulLeaves (opening : Opening) (entries : List Entry) (leaves : List Leaf) : Type 0 where
   pub has_ids : HasIds (document_of opening entries)
-  pub fits : Fits (document_of opening entries) entries
+  pub fits : BookFits (document_of opening entries) entries
   pub texts : Each (HasText opening entries) (document_of opening entries).blocks
   pub short : HasShortTexts opening entries
   pub leaves_are : HasLeaves opening (document_of opening entries) leaves
@@ -108,25 +108,25 @@ pub record IsLawful (opening : Opening) (entries : List Entry) (leaves : List Le
 
 -- what an outline keeps beside its opening and its journal stands for the document: the states of the blocks drawn, the ids in their
 -- order, and the count of lines
-pub record Stands (opening : Opening) (entries : List Entry) (states : List BlockState) (ids : List ℕ) (count : ℕ) : Type 0 where
+pub record OutlineStands (opening : Opening) (entries : List Entry) (states : List BlockState) (ids : List ℕ) (count : ℕ) : Type 0 where
   pub lawful : IsLawfulOutline opening entries
   pub drawn : length states ≡ (document_of opening entries).drawn
-  pub states_are : (id : ℕ) → id < (document_of opening entries).drawn → slice_get states id ≡ Some (state_of (document_of opening entries) entries id)
+  pub states_are : (id : ℕ) → id < (document_of opening entries).drawn → slice_get states id ≡ Some (block_state_of (document_of opening entries) entries id)
   pub order : ids ≡ ids_of (document_of opening entries).blocks
   pub lines : count ≡ length (body (document_of opening entries))
 
 abbrev pub IsLawfulBook : BookView → Type 0
-IsLawfulBook book = IsLawful book.opening book.entries book.tree.leaves
+IsLawfulBook book = AreLawfulLeaves book.opening book.entries book.tree.leaves
 
 -- a put of a text with this summary at the block takes no memory; where the block isn't there no room is needed
-abbrev pub IsReady : BookView → ℕ → Summary → Type 0
-IsReady book id summary = IfSome (position (is_id id) (ids_of (document book).blocks)) (λ at. (book.journal_room ≡ true) × CanReplace book.tree at summary)
+abbrev pub IsReadyToPut : BookView → ℕ → Summary → Type 0
+IsReadyToPut book id summary = IfSome (position (is_id id) (ids_of (document book).blocks)) (λ at. (book.journal_room ≡ true) × CanReplace book.tree at summary)
 
 -- only room was added to a book: its blocks have the same faces, and what was ready for a put is ready
 pub record HasMoreRoom (old new : BookView) : Type 0 where
   pub tree : IsSameTree old.tree new.tree
-  pub ready : (id : ℕ) (summary : Summary) → IsReady old id summary → IsReady new id summary
+  pub ready : (id : ℕ) (summary : Summary) → IsReadyToPut old id summary → IsReadyToPut new id summary
 
 -- a book whose journal stays has the room that it had, and more at most
-abbrev pub KeepsRoom : BookView → BookView → Type 0
-KeepsRoom old new = new.entries ≡ old.entries → HasMoreRoom old new
+abbrev pub KeepsBookRoom : BookView → BookView → Type 0
+KeepsBookRoom old new = new.entries ≡ old.entries → HasMoreRoom old new

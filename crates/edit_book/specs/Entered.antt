@@ -8,8 +8,8 @@ use Rattle.summary_tree.specs.Leaves.{applied_each}
 use Rattle.edit_book.specs.Books.{BookView}
 
 -- the leaves before this position are carried out from empty beds, and this is the state behind them
-abbrev pub IsBehind : BookView → ℕ → State → Type 0
-IsBehind book at s = applied_each (take at book.tree.leaves) empty_state book.opening.setting.first ≡ went_on s
+abbrev pub IsStateBehind : BookView → ℕ → State → Type 0
+IsStateBehind book at s = applied_each (take at book.tree.leaves) empty_state book.opening.setting.first ≡ went_on s
 
 -- each of the needles with the loops that it holds
 abbrev pub entries_held : State → List Needle → List (Needle × List ℕ)

@@ -3,7 +3,7 @@ use Rattle.std.proofs.Common.{ℕ, List, [], ◌∷◌, ◌++◌}
 use Rattle.edit_journal.specs.declared.edit.Entry.{Entry}
 use Rattle.edit_journal.specs.declared.opening.Opening.{Opening}
 use Rattle.edit_journal.proofs.Known.{names_longer, text_longer}
-use Rattle.edit_book.specs.Turns.{AreFitAgain, IsFit}
+use Rattle.edit_book.specs.Turns.{AreFitAgain, IsFitBookCommand}
 use Rattle.edit_book.specs.declared.reply.Again.{Again}
 use Rattle.edit_book.specs.declared.reply.BookCommand.{BookCommand}
 use Rattle.edit_book.specs.declared.reply.BookCommand.TheVariants as command
@@ -15,7 +15,7 @@ again_longer o es more names (a ∷ again) f = (
   again_longer o es more names again f.1,
 )
 
-pub fits_longer : (o : Opening) (es more : List Entry) (c : BookCommand) → IsFit o es c → IsFit o (es ++ more) c
+pub fits_longer : (o : Opening) (es more : List Entry) (c : BookCommand) → IsFitBookCommand o es c → IsFitBookCommand o (es ++ more) c
 fits_longer o es more (command.Look block) f = tt
 fits_longer o es more (command.Put block seen head prepared) f = record { names = f.names; given = names_longer o es more head f.names f.given; prepared_for = f.prepared_for }
 fits_longer o es more (command.Add anchor head prepared) f = record { names = f.names; given = names_longer o es more head f.names f.given; prepared_for = f.prepared_for }

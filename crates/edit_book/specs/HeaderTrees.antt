@@ -6,7 +6,7 @@ use Rattle.edit_journal.specs.Documents.{Block}
 use Rattle.summary_tree.specs.Leaves.{Leaf}
 use Rattle.edit_book.specs.declared.reply.Again.{Again}
 use Rattle.edit_book.specs.Books.{IsLeafOf}
-use Rattle.edit_book.specs.Work.{is_for, is_known}
+use Rattle.edit_book.specs.Work.{is_for, is_prepared_again}
 
 -- the leaf is that of a summary for the block, which is one of these
 pub record IsHandedOver (again : List Again) (b : Block) (leaf : Leaf) : Type 0 where
@@ -16,12 +16,12 @@ pub record IsHandedOver (again : List Again) (b : Block) (leaf : Leaf) : Type 0 
   pub leaf_is : leaf ≡ (one.prepared.face, one.prepared.loops)
 
 -- what is taken of these summaries for a block: the leaf of one that is for it, or nothing where none is
-abbrev pub IsTaken : List Again → Option Leaf → Block → Type 0
-IsTaken again None b = is_known again b ≡ false
-IsTaken again (Some leaf) b = IsHandedOver again b leaf
+abbrev pub IsLeafTaken : List Again → Option Leaf → Block → Type 0
+IsLeafTaken again None b = is_prepared_again again b ≡ false
+IsLeafTaken again (Some leaf) b = IsHandedOver again b leaf
 
-abbrev pub AreTaken : List Again → List (Option Leaf) → List Block → Type 0
-AreTaken again taken blocks = AllZip (IsTaken again) taken blocks
+abbrev pub AreLeavesTaken : List Again → List (Option Leaf) → List Block → Type 0
+AreLeavesTaken again taken blocks = AllZip (IsLeafTaken again) taken blocks
 
 -- a leaf that was taken is made of the block's lines
 abbrev pub FitsBlock : Setting → Option Leaf → Block → Type 0

@@ -42,10 +42,10 @@ header_entries i [] = []
 header_entries i (e ∷ es) = if changes_header e.edit then i ∷ header_entries (i + 1) es else header_entries (i + 1) es
 
 -- each number is above those before it
-abbrev pub AreRising : List ℕ → Type 0
-AreRising [] = Unit {0}
-AreRising (n ∷ []) = Unit {0}
-AreRising (n ∷ m ∷ ns) = (n < m) × AreRising (m ∷ ns)
+abbrev pub AreNumbersRising : List ℕ → Type 0
+AreNumbersRising [] = Unit {0}
+AreNumbersRising (n ∷ []) = Unit {0}
+AreNumbersRising (n ∷ m ∷ ns) = (n < m) × AreNumbersRising (m ∷ ns)
 
 -- the last of these numbers, or else this one
 abbrev pub last_or : ℕ → List ℕ → ℕ

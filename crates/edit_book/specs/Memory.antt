@@ -31,19 +31,19 @@ abbrev pub first_memory : Opening → Memory
 first_memory opening = record { stamps = opening_stamp (length opening.texts); adds = [] }
 
 -- the stamp of the header that the session knows
-abbrev pub head_of : Memory → ℕ
-head_of m = unwrap_or (m.stamps head_id) 0
+abbrev pub known_header_stamp : Memory → ℕ
+known_header_stamp m = unwrap_or (m.stamps head_id) 0
 
 abbrev pub with_stamp : ℕ → ℕ → (ℕ → Option ℕ) → ℕ → Option ℕ
 with_stamp block stamp stamps id = if id == block then Some stamp else stamps id
 
 -- the block of which a reply tells the stamp, and that stamp
-abbrev pub told_by : Command → Reply → Option (ℕ × ℕ)
-told_by c (reply.Shown version block stamp first text) = Some (block, stamp)
-told_by (command.Put name text) (reply.Accepted version block brief) = Some (block, version)
-told_by (command.Add place text) (reply.Accepted version block brief) = Some (block, version)
-told_by (command.PutHead names) (reply.Accepted version block brief) = Some (block, version)
-told_by c r = None
+abbrev pub stamp_told_by : Command → Reply → Option (ℕ × ℕ)
+stamp_told_by c (reply.Shown version block stamp first text) = Some (block, stamp)
+stamp_told_by (command.Put name text) (reply.Accepted version block brief) = Some (block, version)
+stamp_told_by (command.Add place text) (reply.Accepted version block brief) = Some (block, version)
+stamp_told_by (command.PutHead names) (reply.Accepted version block brief) = Some (block, version)
+stamp_told_by c r = None
 
 abbrev pub with_told : Option (ℕ × ℕ) → (ℕ → Option ℕ) → ℕ → Option ℕ
 with_told None stamps = stamps
@@ -65,28 +65,28 @@ with_add c r adds = adds
 
 -- what the session remembers after a reply to its command
 abbrev pub memory_after : Memory → Command → Reply → Memory
-memory_after m c r = record { stamps = with_told (told_by c r) m.stamps; adds = with_add c r m.adds }
+memory_after m c r = record { stamps = with_told (stamp_told_by c r) m.stamps; adds = with_add c r m.adds }
 
 -- what it remembers where the block with this id got this stamp, and it knows that otherwise than by a command of its own
 abbrev pub with_put : ℕ → ℕ → Memory → Memory
 with_put block stamp m = record { stamps = with_stamp block stamp m.stamps; adds = m.adds }
 
 -- so many more adds, none of which made a block
-abbrev pub missed : ℕ → List (Option ℕ) → List (Option ℕ)
-missed zero adds = adds
-missed (suc n) adds = missed n (adds ++ None ∷ [])
+abbrev pub ids_with_missed_adds : ℕ → List (Option ℕ) → List (Option ℕ)
+ids_with_missed_adds zero adds = adds
+ids_with_missed_adds (suc n) adds = ids_with_missed_adds n (adds ++ None ∷ [])
 
 abbrev pub with_missed : ℕ → Memory → Memory
-with_missed count m = record { stamps = m.stamps; adds = missed count m.adds }
+with_missed count m = record { stamps = m.stamps; adds = ids_with_missed_adds count m.adds }
 
 -- the block that a name means: Own(n) is that of the n-th add, from 1
 abbrev pub own_block : List (Option ℕ) → ℕ → Option ℕ
 own_block adds zero = None
 own_block adds (suc n) = option_and_then (λ o. o) (slice_get adds n)
 
-abbrev pub named : Memory → BlockName → Option ℕ
-named m (Id id) = Some id
-named m (Own n) = own_block m.adds n
+abbrev pub block_id_of_name : Memory → BlockName → Option ℕ
+block_id_of_name m (Id id) = Some id
+block_id_of_name m (Own n) = own_block m.adds n
 
 abbrev pub text_limit : ℕ
 text_limit = 4096
@@ -97,7 +97,7 @@ unless_long text request = if nat_le (length text) text_limit then Ok request el
 
 -- what is asked of the block that a name means
 abbrev pub if_named : Memory → BlockName → (ℕ → Result Request Reply) → Result Request Reply
-if_named m name ask = option_map_or ask (named m name) (Err (reply.Unseen name))
+if_named m name ask = option_map_or ask (block_id_of_name m name) (Err (reply.Unseen name))
 
 -- and of its stamp
 abbrev pub if_seen : Memory → BlockName → (ℕ → ℕ → Result Request Reply) → Result Request Reply
@@ -109,23 +109,23 @@ if_anchored m Start ask = ask anchor.Start
 if_anchored m (After name) ask = if_named m name (λ id. ask (anchor.After id))
 
 -- what a command asks of the book, or the reply that the session has without it
-abbrev pub asked : Memory → Command → Result Request Reply
-asked m (command.Look name) = if_named m name (λ id. Ok (Look id))
-asked m (command.Put name text) = if_seen m name (λ id seen. unless_long text (Put id seen (head_of m) text))
-asked m (command.Add place text) = if_anchored m place (λ anchor. unless_long text (Add anchor (head_of m) text))
-asked m (command.Cut name) = if_seen m name (λ id seen. Ok (Cut id seen))
-asked m (command.LoopAt line) = Ok (LoopAt line)
-asked m command.Verdict = Ok VerdictNow
-asked m command.LookHead = Ok LookHead
-asked m (command.PutHead names) = Ok (PutHead (head_of m) names)
+abbrev pub asked_of_book : Memory → Command → Result Request Reply
+asked_of_book m (command.Look name) = if_named m name (λ id. Ok (Look id))
+asked_of_book m (command.Put name text) = if_seen m name (λ id seen. unless_long text (Put id seen (known_header_stamp m) text))
+asked_of_book m (command.Add place text) = if_anchored m place (λ anchor. unless_long text (Add anchor (known_header_stamp m) text))
+asked_of_book m (command.Cut name) = if_seen m name (λ id seen. Ok (Cut id seen))
+asked_of_book m (command.LoopAt line) = Ok (LoopAt line)
+asked_of_book m command.Verdict = Ok VerdictNow
+asked_of_book m command.LookHead = Ok LookHead
+asked_of_book m (command.PutHead names) = Ok (PutHead (known_header_stamp m) names)
 
-abbrev pub IsAnswered : Opening → List Entry → Result Request Reply → Reply → Type 0
-IsAnswered opening journal (Ok request) r = IsReply opening journal request r
-IsAnswered opening journal (Err refusal) r = r ≡ refusal
+abbrev pub IsRequestAnswered : Opening → List Entry → Result Request Reply → Reply → Type 0
+IsRequestAnswered opening journal (Ok request) r = IsReply opening journal request r
+IsRequestAnswered opening journal (Err refusal) r = r ≡ refusal
 
 -- the answer to a command at a journal, with what the session remembers
 abbrev pub Answers : Opening → List Entry → Memory → Command → Reply → Type 0
-Answers opening journal m c r = IsAnswered opening journal (asked m c) r
+Answers opening journal m c r = IsRequestAnswered opening journal (asked_of_book m c) r
 
 -- the entry of an accepted reply
 abbrev pub asked_entry : ℕ → Result Request Reply → Reply → Option Entry

@@ -5,13 +5,13 @@ use Rattle.edit_journal.specs.declared.edit.Edit.{Edit}
 use Rattle.edit_journal.specs.declared.edit.Edit.TheVariants as edit
 use Rattle.edit_journal.specs.declared.edit.Entry.{Entry}
 use Rattle.edit_journal.specs.declared.opening.Opening.{Opening}
-use Rattle.edit_journal.specs.Documents.{Document, Fits, after, body, document_of}
+use Rattle.edit_journal.specs.Documents.{Document, EditFits, after, body, document_of}
 use Rattle.edit_journal.specs.Entries.{JournalView, entry_limit}
 use Rattle.edit_book.specs.Replies.{block_limit, line_limit}
 
 -- the texts of these blocks
-abbrev pub texts_of : List BlockAt → List (List (List ℕ))
-texts_of blocks = map (λ (block : BlockAt). block.text) blocks
+abbrev pub block_texts_of : List BlockAt → List (List (List ℕ))
+block_texts_of blocks = map (λ (block : BlockAt). block.text) blocks
 
 -- what the outline began with and the entries since, and whether there is room for one more entry
 pub record OutlineView : Type 0 where
@@ -24,8 +24,8 @@ abbrev pub outline_view : Opening → JournalView → OutlineView
 outline_view opening journal = record { opening = opening; entries = journal.entries; journal_room = journal.room }
 
 -- the document of the outline's version
-abbrev pub outlined : OutlineView → Document
-outlined outline = document_of outline.opening outline.entries
+abbrev pub outline_document : OutlineView → Document
+outline_document outline = document_of outline.opening outline.entries
 
 -- the document after one more edit
 abbrev pub next_document : Opening → List Entry → Edit → Document
@@ -33,7 +33,7 @@ next_document opening entries e = after (document_of opening entries) (length en
 
 -- the edit may come next: it fits the document, and the document with it keeps the limits
 pub record MayCome (opening : Opening) (entries : List Entry) (e : Edit) : Type 0 where
-  pub fits : Fits (document_of opening entries) e
+  pub fits : EditFits (document_of opening entries) e
   pub room : length entries < entry_limit
   pub blocks : length (next_document opening entries e).blocks ≤ block_limit
   pub lines : length (body (next_document opening entries e)) ≤ line_limit

@@ -37,16 +37,16 @@ pub data Request : Type 0 where
   PutHead : (seen : ℕ) (names : List (List ℕ)) → Request
 
 -- what a command asks
-abbrev pub request_of : BookCommand → Request
-request_of (command.Look block) = Look block
-request_of (command.Put block seen head prepared) = Put block seen head prepared.text
-request_of (command.Add anchor head prepared) = Add anchor head prepared.text
-request_of (command.Cut block seen) = Cut block seen
-request_of (command.LoopAt line) = LoopAt line
-request_of command.Verdict = VerdictNow
-request_of command.LookHead = LookHead
-request_of command.Texts = Texts
-request_of (command.PutHead seen names again) = PutHead seen names
+abbrev pub request_of_command : BookCommand → Request
+request_of_command (command.Look block) = Look block
+request_of_command (command.Put block seen head prepared) = Put block seen head prepared.text
+request_of_command (command.Add anchor head prepared) = Add anchor head prepared.text
+request_of_command (command.Cut block seen) = Cut block seen
+request_of_command (command.LoopAt line) = LoopAt line
+request_of_command command.Verdict = VerdictNow
+request_of_command command.LookHead = LookHead
+request_of_command command.Texts = Texts
+request_of_command (command.PutHead seen names again) = PutHead seen names
 
 abbrev pub block_limit : ℕ
 block_limit = 65536
@@ -54,9 +54,9 @@ block_limit = 65536
 abbrev pub line_limit : ℕ
 line_limit = 1048576
 
-abbrev pub or_else : {A : Type 0} → Option A → Option A → Option A
-or_else None b = b
-or_else (Some a) b = Some a
+abbrev pub refusal_or_else : {A : Type 0} → Option A → Option A → Option A
+refusal_or_else None b = b
+refusal_or_else (Some a) b = Some a
 
 -- the edit takes out the block with this id
 abbrev pub cuts_block : Edit → ℕ → Bool
@@ -111,17 +111,17 @@ refused_lines d entries e = refused_over (length entries) which.Lines line_limit
 abbrev pub refusal_of : Document → List Entry → Request → Option Reply
 refusal_of d entries (Look id) = refused_name d entries id
 refusal_of d entries (Put id seen head text) =
-    or_else (refused_name d entries id) (or_else (refused_stamp d entries id seen) (or_else (refused_head d entries head)
-    (or_else (refused_entries entries) (refused_lines d entries (edit.Put id seen text)))))
+    refusal_or_else (refused_name d entries id) (refusal_or_else (refused_stamp d entries id seen) (refusal_or_else (refused_head d entries head)
+    (refusal_or_else (refused_entries entries) (refused_lines d entries (edit.Put id seen text)))))
 refusal_of d entries (Add anchor head text) =
-    or_else (refused_anchor d entries anchor) (or_else (refused_head d entries head)
-    (or_else (refused_entries entries) (or_else (refused_blocks d entries) (refused_lines d entries (edit.Add anchor d.drawn text)))))
-refusal_of d entries (Cut id seen) = or_else (refused_name d entries id) (or_else (refused_stamp d entries id seen) (refused_entries entries))
+    refusal_or_else (refused_anchor d entries anchor) (refusal_or_else (refused_head d entries head)
+    (refusal_or_else (refused_entries entries) (refusal_or_else (refused_blocks d entries) (refused_lines d entries (edit.Add anchor d.drawn text)))))
+refusal_of d entries (Cut id seen) = refusal_or_else (refused_name d entries id) (refusal_or_else (refused_stamp d entries id seen) (refused_entries entries))
 refusal_of d entries (LoopAt line) = None
 refusal_of d entries VerdictNow = None
 refusal_of d entries LookHead = None
 refusal_of d entries Texts = None
-refusal_of d entries (PutHead seen names) = or_else (refused_head d entries seen) (refused_entries entries)
+refusal_of d entries (PutHead seen names) = refusal_or_else (refused_head d entries seen) (refused_entries entries)
 
 -- the lines before the block
 abbrev pub lines_before : ℕ → List Block → ℕ

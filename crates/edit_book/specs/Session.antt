@@ -6,7 +6,7 @@ use Rattle.edit_book.specs.declared.reply.Reply.{Reply}
 use Rattle.edit_book.specs.declared.reply.Reply.TheVariants.{Accepted, Shown}
 use Rattle.edit_book.specs.declared.sessions.learned.Learned.{Learned}
 use Rattle.edit_book.specs.declared.sessions.session.Session.{Session}
-use Rattle.edit_book.specs.Memory.{Memory, head_of, opening_stamp, own_block}
+use Rattle.edit_book.specs.Memory.{Memory, known_header_stamp, opening_stamp, own_block}
 use Rattle.edit_journal.specs.declared.edit.Entry.{Entry}
 use Rattle.edit_journal.specs.declared.opening.Opening.{Opening}
 use Rattle.edit_journal.specs.Documents.{names_given}
@@ -22,7 +22,7 @@ HasNames opening seen s = names_given opening seen s.learned.head ≡ Some s.hea
 -- What was learned is what is remembered. The count of adds stops at its last value, which no name reaches.
 pub record HasLearned (l : Learned) (m : Memory) : Type 0 where
   pub stamps : (id : ℕ) → stamp_of l.opening (get nat_eq l.stamps) id ≡ m.stamps id
-  pub head : l.head ≡ head_of m
+  pub head : l.head ≡ known_header_stamp m
   pub made : (n : ℕ) → n < 2 ^ 32 → get nat_eq l.made n ≡ own_block m.adds n
   pub adds : l.adds ≡ min (length m.adds) (2 ^ 64 - 1)
 
@@ -31,7 +31,7 @@ abbrev pub Remembers : Session → Memory → Type 0
 Remembers s m = HasLearned s.learned m
 
 -- room for so many more stamps, and as many blocks of its own
-pub record HasRoom (count : ℕ) (l : Learned) : Type 0 where
+pub record HasStampRoom (count : ℕ) (l : Learned) : Type 0 where
   pub stamps : count ≤ spare l.stamps
   pub made : count ≤ spare l.made
 

@@ -7,7 +7,7 @@ use Rattle.knit_base.specs.declared.setting.Setting.{Setting}
 use Rattle.knit_base.specs.Needle.{same_needle}
 use Rattle.knitout_reader.proofs.SomeReading.{each-reads}
 use Rattle.face_data.specs.Items.{most_items}
-use Rattle.block_summary.specs.NamedNeedles.{named}
+use Rattle.block_summary.specs.NamedNeedles.{needles_named}
 use Rattle.summary_tree.specs.Trees.{change_steps}
 use Rattle.edit_journal.specs.declared.edit.Entry.{Entry}
 use Rattle.edit_journal.specs.declared.opening.Opening.{Opening}
@@ -19,14 +19,14 @@ use Rattle.edit_book.specs.Replies.{Request, Look, Put, Add, Cut, LoopAt, Verdic
 use Rattle.edit_book.specs.Verdicts.{setting_of}
 
 -- each needle once
-abbrev pub once : List Needle → List Needle
-once [] = []
-once (n ∷ ns) = if list_any (same_needle n) ns then once ns else n ∷ once ns
+abbrev pub needles_once : List Needle → List Needle
+needles_once [] = []
+needles_once (n ∷ ns) = if list_any (same_needle n) ns then needles_once ns else n ∷ needles_once ns
 
 -- The needles that the lines name, and the own sliders of those on which they form loops. Lines have one reading each; `Book::setting` says
 -- that the needles are those of any readings.
 abbrev pub needles_in : Setting → List (List ℕ) → List Needle
-needles_in setting lines = once (named (each-reads setting.profile setting.declared lines).0)
+needles_in setting lines = needles_once (needles_named (each-reads setting.profile setting.declared lines).0)
 
 -- how many items a summary of these lines has at most
 abbrev pub most_of_lines : Setting → List (List ℕ) → ℕ
@@ -53,13 +53,13 @@ abbrev pub is_for : Block → Again → Bool
 is_for b a = (a.block == b.id) && (a.stamp == b.stamp)
 
 -- one of these is
-abbrev pub is_known : List Again → Block → Bool
-is_known again b = list_any (is_for b) again
+abbrev pub is_prepared_again : List Again → Block → Bool
+is_prepared_again again b = list_any (is_for b) again
 
 -- how many lines the blocks have whose summary isn't handed over
 abbrev pub lines_anew : List Again → List Block → ℕ
 lines_anew again [] = 0
-lines_anew again (b ∷ bs) = (if is_known again b then 0 else length b.lines) + lines_anew again bs
+lines_anew again (b ∷ bs) = (if is_prepared_again again b then 0 else length b.lines) + lines_anew again bs
 
 -- for other names of the header, where these summaries are handed over: other lines are read once, and the tree is made anew
 abbrev pub header_limit : Setting → Document → List Again → ℕ

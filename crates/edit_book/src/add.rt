@@ -3,9 +3,9 @@ ghost use Rattle.std.specs.Prelude.{◌≡◌, ◌+◌, ◌<◌, ◌≤◌, ◌+
 ghost use Rattle.edit_book.specs.Headers.{IsPreparedUnder};
 ghost use Rattle.edit_journal.specs.Documents.{HasAnchor, after, body};
 ghost use Rattle.edit_journal.specs.declared.edit.Edit.TheVariants as edit;
-ghost use Rattle.edit_book.specs.Books.{IsLawfulOutline, KeepsRoom, document, ids_of};
-ghost use Rattle.edit_book.specs.Orders.{place_of};
-ghost use Rattle.edit_book.specs.Outlines.{MayCome, outlined};
+ghost use Rattle.edit_book.specs.Books.{IsLawfulOutline, KeepsBookRoom, document, ids_of};
+ghost use Rattle.edit_book.specs.Orders.{anchor_position};
+ghost use Rattle.edit_book.specs.Outlines.{MayCome, outline_document};
 ghost use Rattle.edit_book.specs.Replies as request;
 ghost use Rattle.edit_book.specs.Replies.{refused_anchor, refusal_of, IsTurn};
 ghost use Rattle.edit_book.specs.Work.{work_limit};
@@ -34,7 +34,7 @@ impl Book {
         requires prepared { IsPreparedUnder self.old.opening self.old.entries head prepared }
         ensures opening { self.new.opening ≡ self.old.opening }
         ensures turned { IsTurn self.old.opening self.old.entries session (request.Add anchor head prepared.text) result self.new.entries }
-        ensures kept { KeepsRoom self.old self.new }
+        ensures kept { KeepsBookRoom self.old self.new }
         ensures steps { steps.new ≤ steps.old + work_limit self.old.opening self.old.entries (request.Add anchor head prepared.text) }
     {
         if let Some(refusal) = self.outline.refused_add(anchor, head, &prepared) {
@@ -59,7 +59,7 @@ impl Book {
         requires free { refusal_of (document self.old) self.old.entries (request.Add anchor head prepared.text) ≡ None }
         ensures opening { self.new.opening ≡ self.old.opening }
         ensures turned { IsTurn self.old.opening self.old.entries session (request.Add anchor head prepared.text) result self.new.entries }
-        ensures kept { KeepsRoom self.old self.new }
+        ensures kept { KeepsBookRoom self.old self.new }
         ensures steps { steps.new ≤ steps.old + work_limit self.old.opening self.old.entries (request.Add anchor head prepared.text) }
     {
         let version = self.version() + 1;
@@ -91,7 +91,7 @@ impl Outline {
         prepared: &Prepared,
     ) -> Option<Reply>
         requires { IsPreparedUnder self.now.opening self.now.entries head prepared.now }
-        ensures { result ≡ refusal_of (outlined self.now) self.now.entries (request.Add anchor head prepared.now.text) }
+        ensures { result ≡ refusal_of (outline_document self.now) self.now.entries (request.Add anchor head prepared.now.text) }
     {
         if let Some(refusal) = self.refused_anchor(anchor) {
             return Some(refusal);
@@ -149,17 +149,17 @@ impl Outline {
     #[tactic(auto, using(crate::proofs::Adds::added))]
     fn lines_after_add(&self, anchor: Anchor, id: u32, text: &BlockText) -> u32
         requires short { length text.now ≤ 4096 }
-        requires anchor { refused_anchor (outlined self.now) self.now.entries anchor ≡ None }
-        requires id { id ≡ (outlined self.now).drawn }
-        ensures { result ≡ length (body (after (outlined self.now) (length self.now.entries + 1) (edit.Add anchor id text.now))) }
+        requires anchor { refused_anchor (outline_document self.now) self.now.entries anchor ≡ None }
+        requires id { id ≡ (outline_document self.now).drawn }
+        ensures { result ≡ length (body (after (outline_document self.now) (length self.now.entries + 1) (edit.Add anchor id text.now))) }
     {
         self.lines + text.len()
     }
 
     /// The place of a new block.
     pub fn place_after(&self, anchor: Anchor) -> usize
-        requires { HasAnchor (outlined self.now) anchor }
-        ensures place { result ≡ place_of anchor (ids_of (outlined self.now).blocks) }
+        requires { HasAnchor (outline_document self.now) anchor }
+        ensures place { result ≡ anchor_position anchor (ids_of (outline_document self.now).blocks) }
         ensures few { result ≤ 65536 }
     {
         let _lines = self.lines;

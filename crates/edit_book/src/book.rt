@@ -3,13 +3,13 @@ ghost use Rattle.std.specs.Prelude.{◌≡◌, ℕ, ◌<◌, ◌≤◌, List, If
 ghost use Rattle.std.specs.Option.{option_copied};
 ghost use Rattle.knit_base.specs.declared.instr.Read.{Read};
 ghost use Rattle.knit_base.specs.Limits.{IsLawfulProfile};
-ghost use Rattle.block_summary.specs.NamedNeedles.{named};
+ghost use Rattle.block_summary.specs.NamedNeedles.{needles_named};
 ghost use Rattle.block_summary.specs.Prepared.{AreReadings};
 ghost use Rattle.edit_journal.specs.Documents.{block_of, body, stamp_at, names_at as names_given_at, text_at as text_given};
 ghost use Rattle.edit_book.specs.Books.{document, IsLawfulBook};
 ghost use Rattle.edit_journal.specs.Entries.{entry_limit, head_id};
 ghost use Rattle.edit_book.specs.Verdicts.{IsBriefOn, setting_of};
-ghost use Rattle.edit_book.specs.Work.{needles_in, once};
+ghost use Rattle.edit_book.specs.Work.{needles_in, needles_once};
 
 use crate::Outline;
 use carriage_model::Brief;
@@ -31,7 +31,7 @@ pub struct Book {
 impl Model for Book {
     ghost use Rattle.std.specs.Coded.{codes};
     ghost use Rattle.tree_shape.specs.View.{tree_code};
-    ghost use Rattle.edit_book.specs.Books.{BookView, IsLawful, book_view};
+    ghost use Rattle.edit_book.specs.Books.{BookView, AreLawfulLeaves, book_view};
 
     ghost Value = { BookView };
 
@@ -39,7 +39,7 @@ impl Model for Book {
 
     ghost view = { λ b. book_view b.outline b.tree.value };
 
-    ghost invariant = { λ b. IsLawful b.outline.opening b.outline.entries b.tree.value.leaves };
+    ghost invariant = { λ b. AreLawfulLeaves b.outline.opening b.outline.entries b.tree.value.leaves };
 }
 
 impl Book {
@@ -64,7 +64,7 @@ impl Book {
     pub fn setting(&self) -> &Setting
         ensures setting { result.now ≡ setting_of self.now.opening (document self.now) }
         ensures lawful { IsLawfulProfile result.now.profile }
-        ensures needles { (lines : List (List ℕ)) (readings : List Read) → AreReadings result.now.profile result.now.declared lines readings → needles_in result.now lines ≡ once (named readings) }
+        ensures needles { (lines : List (List ℕ)) (readings : List Read) → AreReadings result.now.profile result.now.declared lines readings → needles_in result.now lines ≡ needles_once (needles_named readings) }
     {
         self.outline.setting()
     }

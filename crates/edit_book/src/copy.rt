@@ -2,7 +2,7 @@
 ghost use Rattle.std.specs.Prelude.{◌≡◌, ◌+◌, ◌<◌, ◌≤◌, IfOk, Some, length, slice_get};
 ghost use Rattle.edit_book.specs.Books.{document};
 ghost use Rattle.edit_book.specs.Headers.{header_entries};
-ghost use Rattle.edit_book.specs.Outlines.{outlined};
+ghost use Rattle.edit_book.specs.Outlines.{outline_document};
 ghost use Rattle.edit_book.specs.Verdicts.{setting_of};
 ghost use Rattle.edit_book.specs.Work.{copy_limit};
 
@@ -112,7 +112,7 @@ impl Outline {
     }
 
     fn copied_header(&self) -> Result<Box<Header>, NoMemory>
-        ensures setting { IfOk result (λ header. header.value.setting ≡ setting_of self.now.opening (outlined self.now)) }
+        ensures setting { IfOk result (λ header. header.value.setting ≡ setting_of self.now.opening (outline_document self.now)) }
         ensures entries { IfOk result (λ header. header.value.entries.items ≡ header_entries 1 self.now.entries) }
     {
         let header = Header {

@@ -2,8 +2,8 @@
 ghost use Rattle.std.specs.Prelude.{◌≡◌, ◌+◌, ◌<◌, ◌≤◌, ◌++◌, ◌∷◌, [], true, None, OnErr, OnOk, length};
 ghost use Rattle.edit_journal.specs.Documents.{after, body};
 ghost use Rattle.edit_journal.specs.declared.edit.Edit.TheVariants as edit;
-ghost use Rattle.edit_book.specs.Books.{IsLawfulOutline, KeepsRoom, document};
-ghost use Rattle.edit_book.specs.Outlines.{MayCome, outlined};
+ghost use Rattle.edit_book.specs.Books.{IsLawfulOutline, KeepsBookRoom, document};
+ghost use Rattle.edit_book.specs.Outlines.{MayCome, outline_document};
 ghost use Rattle.edit_book.specs.Replies as request;
 ghost use Rattle.edit_book.specs.Replies.{refusal_of, IsTurn};
 ghost use Rattle.edit_book.specs.Work.{work_limit};
@@ -28,7 +28,7 @@ impl Book {
         requires { session < 64 }
         ensures opening { self.new.opening ≡ self.old.opening }
         ensures turned { IsTurn self.old.opening self.old.entries session (request.Cut block seen) result self.new.entries }
-        ensures kept { KeepsRoom self.old self.new }
+        ensures kept { KeepsBookRoom self.old self.new }
         ensures steps { steps.new ≤ steps.old + work_limit self.old.opening self.old.entries (request.Cut block seen) }
     {
         if let Some(refusal) = self.outline.refused_cut(block, seen) {
@@ -49,7 +49,7 @@ impl Book {
         requires { refusal_of (document self.old) self.old.entries (request.Cut id seen) ≡ None }
         ensures opening { self.new.opening ≡ self.old.opening }
         ensures turned { IsTurn self.old.opening self.old.entries session (request.Cut id seen) result self.new.entries }
-        ensures kept { KeepsRoom self.old self.new }
+        ensures kept { KeepsBookRoom self.old self.new }
         ensures steps { steps.new ≤ steps.old + work_limit self.old.opening self.old.entries (request.Cut id seen) }
     {
         let version = self.version() + 1;
@@ -76,7 +76,7 @@ impl Book {
 impl Outline {
     /// The refusal of a cut, if it is refused.
     pub(crate) fn refused_cut(&self, block: u32, seen: u32) -> Option<Reply>
-        ensures { result ≡ refusal_of (outlined self.now) self.now.entries (request.Cut block seen) }
+        ensures { result ≡ refusal_of (outline_document self.now) self.now.entries (request.Cut block seen) }
     {
         if let Some(refusal) = self.refused_name(block) {
             return Some(refusal);
@@ -116,8 +116,8 @@ impl Outline {
     // The lines of the body after a cut.
     #[tactic(auto, using(crate::proofs::Counts::cut_counted))]
     fn lines_after_cut(&self, id: u32, seen: u32) -> u32
-        ensures fewer { result ≤ length (body (outlined self.now)) }
-        ensures lines { result ≡ length (body (after (outlined self.now) (length self.now.entries + 1) (edit.Cut id seen))) }
+        ensures fewer { result ≤ length (body (outline_document self.now)) }
+        ensures lines { result ≡ length (body (after (outline_document self.now) (length self.now.entries + 1) (edit.Cut id seen))) }
     {
         match self.lines_of(id) {
             Some(had) => self.lines - had,

@@ -1,6 +1,6 @@
 //! What a book keeps of its header.
 ghost use Rattle.std.specs.Prelude.{◌≡◌, nat_le};
-ghost use Rattle.edit_book.specs.Headers.{AreRising, last_not_above};
+ghost use Rattle.edit_book.specs.Headers.{AreNumbersRising, last_not_above};
 
 use knit_base::Setting;
 
@@ -14,7 +14,7 @@ pub(crate) struct Header {
 impl Header {
     /// The header's stamp at a version: the last of the numbers that isn't above it, or 0.
     pub fn stamp_at(&self, version: u32) -> u32
-        requires { AreRising self.now.entries.items }
+        requires { AreNumbersRising self.now.entries.items }
         ensures { result ≡ last_not_above version self.now.entries.items }
     {
         let count = self.entries.partition_point(

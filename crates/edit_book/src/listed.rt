@@ -1,7 +1,7 @@
 //! The blocks in their order, and the block in which a line of the file stands.
 ghost use Rattle.std.specs.Prelude.{◌≡◌, length, slice_get};
 ghost use Rattle.edit_book.specs.Books.{document};
-ghost use Rattle.edit_book.specs.Listing.{place_of, places};
+ghost use Rattle.edit_book.specs.Listing.{line_place_of, block_places};
 
 use crate::Book;
 
@@ -31,7 +31,7 @@ impl Book {
 
     /// The block at a place of the order, the first being 0. Takes no memory.
     pub fn block_at(&self, at: u32) -> Option<BlockPlace>
-        ensures { result ≡ slice_get (places self.now.opening (document self.now)) at }
+        ensures { result ≡ slice_get (block_places self.now.opening (document self.now)) at }
     {
         let Some(block) = self.outline.id_at(at) else {
             return None;
@@ -52,7 +52,7 @@ impl Book {
 
     /// Where the line with this number in the file stands. One of the head, or behind the last, stands in no block. Takes no memory.
     pub fn place_of(&self, line: u32) -> Option<LinePlace>
-        ensures { result ≡ place_of self.now.opening (document self.now) line }
+        ensures { result ≡ line_place_of self.now.opening (document self.now) line }
     {
         let first = self.outline.first();
         if line < first {

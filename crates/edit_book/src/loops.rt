@@ -3,9 +3,9 @@ ghost use Rattle.std.specs.Prelude.{◌≡◌, ◌+◌, ◌<◌, ◌≤◌, ◌^
 ghost use Rattle.carriage_model.specs.State.{State, empty_state};
 ghost use Rattle.summary_tree.specs.Leaves.{applied_each};
 ghost use Rattle.edit_journal.specs.Documents.{body};
-ghost use Rattle.face_data.specs.Segments.{entries_of};
+ghost use Rattle.face_data.specs.Segments.{entry_needles_of};
 ghost use Rattle.edit_book.specs.Books.{document};
-ghost use Rattle.edit_book.specs.Entered.{IsBehind, entries_held, stops_by};
+ghost use Rattle.edit_book.specs.Entered.{IsStateBehind, entries_held, stops_by};
 ghost use Rattle.edit_book.specs.Replies as request;
 ghost use Rattle.edit_book.specs.Replies.{IsAnswer};
 ghost use Rattle.edit_book.specs.Verdicts.{IsLoopOn, setting_of};
@@ -74,7 +74,7 @@ impl Book {
     // The needles whose stacks the segments stand for, with the loops that they hold where the leaf at a position begins.
     fn entries_at(&self, at: u32, through: &[Seg]) -> Result<Entries, NoMemory>
         requires { at < length self.now.tree.leaves }
-        ensures { IfOk result (λ entries. (s : State) → IsBehind self.now at s → entries ≡ entries_held s (entries_of through.now)) }
+        ensures { IfOk result (λ entries. (s : State) → IsStateBehind self.now at s → entries ≡ entries_held s (entry_needles_of through.now)) }
     {
         let mut entries = Entries::new(self.outline.alloc());
         for seg in through {
@@ -85,7 +85,7 @@ impl Book {
 
     fn add_entry(&self, at: u32, seg: Seg, entries: &mut Entries) -> Result<(), NoMemory>
         requires { at < length self.now.tree.leaves }
-        ensures { OnOk result ((s : State) → IsBehind self.now at s → entries.new ≡ entries.old ++ entries_held s (entries_of (seg ∷ []))) }
+        ensures { OnOk result ((s : State) → IsStateBehind self.now at s → entries.new ≡ entries.old ++ entries_held s (entry_needles_of (seg ∷ []))) }
     {
         let Seg::Entry(n) = seg else {
             return Ok(());

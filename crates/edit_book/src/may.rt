@@ -2,7 +2,7 @@
 ghost use Rattle.std.specs.Prelude.{◌≡◌, ℕ, ◌≤◌, ◌<◌, All, List, Some, true, false, IfOk, flat_map, length, map, slice_get};
 ghost use Rattle.edit_journal.specs.Documents.{HasAnchor};
 ghost use Rattle.edit_journal.specs.declared.edit.Edit.TheVariants as edit;
-ghost use Rattle.edit_book.specs.Outlines.{MayCome, outlined};
+ghost use Rattle.edit_book.specs.Outlines.{MayCome, outline_document};
 ghost use Rattle.edit_book.specs.Replies.{block_limit, line_limit};
 
 use crate::Outline;
@@ -73,8 +73,8 @@ impl Outline {
 
     // Whether a new block's anchor is there.
     fn has_anchor(&self, anchor: Anchor) -> bool
-        ensures yes { result ≡ true → HasAnchor (outlined self.now) anchor }
-        ensures not { result ≡ false → HasAnchor (outlined self.now) anchor → ⊥ }
+        ensures yes { result ≡ true → HasAnchor (outline_document self.now) anchor }
+        ensures not { result ≡ false → HasAnchor (outline_document self.now) anchor → ⊥ }
     {
         match anchor {
             Anchor::Start => true,
@@ -85,7 +85,7 @@ impl Outline {
     /// The texts of the blocks that are there, in their order. They keep the limits of a document.
     #[tactic(auto, using(crate::proofs::Looks::take_next))]
     pub fn texts(&self) -> Result<Vec<BlockText>, NoMemory>
-        ensures texts { IfOk result (λ texts. texts.items ≡ map (λ b. b.lines) (outlined self.now).blocks) }
+        ensures texts { IfOk result (λ texts. texts.items ≡ map (λ b. b.lines) (outline_document self.now).blocks) }
         ensures few { IfOk result (λ texts. length texts.items ≤ block_limit) }
         ensures short { IfOk result (λ texts. All (λ (text : List (List ℕ)). length text ≤ 4096) texts.items) }
         ensures lines { IfOk result (λ texts. length (flat_map (λ (text : List (List ℕ)). text) texts.items) ≤ line_limit) }
@@ -100,8 +100,8 @@ impl Outline {
 
     // A copy of the text of the block at a place.
     fn copied_text(&self, at: u32) -> Result<BlockText, NoMemory>
-        requires { at < length (outlined self.now).blocks }
-        ensures { IfOk result (λ text. slice_get (map (λ b. b.lines) (outlined self.now).blocks) at ≡ Some text) }
+        requires { at < length (outline_document self.now).blocks }
+        ensures { IfOk result (λ text. slice_get (map (λ b. b.lines) (outline_document self.now).blocks) at ≡ Some text) }
     {
         let _ids = self.ids();
         let Some(block) = self.id_at(at) else {

@@ -1,7 +1,7 @@
 //! The outline of an opening.
 ghost use Rattle.std.specs.Prelude.{◌≡◌, ℕ, ◌+◌, ◌<◌, ◌≤◌, ◌^◌, [], List, All, IfOk, flat_map, length, replicate};
 ghost use Rattle.knit_base.specs.Limits.{IsLawfulProfile};
-ghost use Rattle.edit_book.specs.Outlines.{texts_of};
+ghost use Rattle.edit_book.specs.Outlines.{block_texts_of};
 ghost use Rattle.edit_book.specs.Replies.{block_limit, line_limit};
 ghost use Rattle.edit_book.specs.declared.block_state.BlockState.TheVariants as state;
 
@@ -54,7 +54,7 @@ impl Outline {
 
 /// The texts of these blocks, which share their lines where they are shared. The only error is want of memory.
 pub fn block_texts(alloc: Global, blocks: &TextList) -> Result<ListOf<BlockText>, NoMemory>
-    ensures { IfOk result (λ texts. texts ≡ texts_of blocks.now) }
+    ensures { IfOk result (λ texts. texts ≡ block_texts_of blocks.now) }
 {
     let mut texts = ListOf::with_capacity(alloc, blocks.len())?;
     for block in blocks.as_slice() {

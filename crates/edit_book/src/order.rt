@@ -21,13 +21,13 @@ pub(crate) struct Order {
 
 impl Model for Order {
     ghost use Rattle.tree_shape.specs.View.{leaves_of_tree};
-    ghost use Rattle.edit_book.specs.Orders.{AreKept, OrderView, number_at, order_view};
+    ghost use Rattle.edit_book.specs.Orders.{LeavesHaveIds, OrderView, number_at, order_view};
 
     ghost Value = { OrderView };
 
     ghost view = { λ o. order_view o.shape o.ids.items o.leaves.items };
 
-    ghost invariant = { λ o. AreKept (leaves_of_tree o.shape.tree) (number_at o.ids.items) (number_at o.leaves.items) };
+    ghost invariant = { λ o. LeavesHaveIds (leaves_of_tree o.shape.tree) (number_at o.ids.items) (number_at o.leaves.items) };
 }
 
 impl Order {

@@ -4,9 +4,9 @@ ghost use Rattle.std.specs.Option.{option_copied};
 ghost use Rattle.knit_base.specs.Limits.{IsLawfulProfile};
 ghost use Rattle.edit_journal.specs.Documents.{block_of, stamp_at, names_at as names_given_at, text_at as text_given};
 ghost use Rattle.edit_journal.specs.Entries.{entry_limit, head_id};
-ghost use Rattle.edit_book.specs.Books.{IsLawfulOutline, ids_of, state_of};
+ghost use Rattle.edit_book.specs.Books.{IsLawfulOutline, ids_of, block_state_of};
 ghost use Rattle.edit_book.specs.Orders.{is_id};
-ghost use Rattle.edit_book.specs.Outlines.{outlined};
+ghost use Rattle.edit_book.specs.Outlines.{outline_document};
 ghost use Rattle.edit_book.specs.Verdicts.{setting_of};
 ghost use Rattle.edit_book.specs.Work.{with_names};
 
@@ -34,7 +34,7 @@ pub struct Outline {
 }
 
 impl Model for Outline {
-    ghost use Rattle.edit_book.specs.Books.{Stands};
+    ghost use Rattle.edit_book.specs.Books.{OutlineStands};
     ghost use Rattle.edit_book.specs.Headers.{HasHeader};
     ghost use Rattle.edit_book.specs.Outlines.{OutlineView, outline_view};
 
@@ -42,7 +42,7 @@ impl Model for Outline {
 
     ghost view = { λ b. outline_view b.opening b.journal };
 
-    ghost invariant = { λ b. Stands b.opening b.journal.entries b.states.items b.order.ids b.lines × HasHeader b.opening b.journal.entries b.head b.header.value };
+    ghost invariant = { λ b. OutlineStands b.opening b.journal.entries b.states.items b.order.ids b.lines × HasHeader b.opening b.journal.entries b.head b.header.value };
 }
 
 impl Outline {
@@ -56,14 +56,14 @@ impl Outline {
 
     /// How many blocks are there.
     pub fn len(&self) -> u32
-        ensures { result ≡ length (outlined self.now).blocks }
+        ensures { result ≡ length (outline_document self.now).blocks }
     {
         self.order.len()
     }
 
     /// What the document is read by at its version: the opening's setting, with the names that the header now has.
     pub fn setting(&self) -> &Setting
-        ensures setting { result.now ≡ setting_of self.now.opening (outlined self.now) }
+        ensures setting { result.now ≡ setting_of self.now.opening (outline_document self.now) }
         ensures lawful { IsLawfulProfile result.now.profile }
     {
         &self.header.setting
@@ -117,7 +117,7 @@ impl Outline {
 
     /// The header's stamp: the number of the entry that changed it last, or 0.
     pub(crate) fn header_stamp(&self) -> u32
-        ensures { result ≡ (outlined self.now).header.stamp }
+        ensures { result ≡ (outline_document self.now).header.stamp }
     {
         self.head
     }
@@ -137,7 +137,7 @@ impl Outline {
 
     /// What the document is read by under these names.
     pub fn setting_under(&self, declared: &Declared) -> Result<Setting, NoMemory>
-        ensures { IfOk result (λ setting. setting ≡ with_names declared.now (setting_of self.now.opening (outlined self.now))) }
+        ensures { IfOk result (λ setting. setting ≡ with_names declared.now (setting_of self.now.opening (outline_document self.now))) }
     {
         Ok(Setting {
             profile: self.opening.setting.profile,
@@ -160,16 +160,16 @@ impl Outline {
     /// How many ids were drawn: each block's id is below it.
     #[tactic(auto, using(crate::proofs::Blocks::lawful))]
     pub(crate) fn ids(&self) -> u32
-        ensures ids { result ≡ (outlined self.now).drawn }
+        ensures ids { result ≡ (outline_document self.now).drawn }
         ensures lawful { IsLawfulOutline self.now.opening self.now.entries }
-        ensures below_head { (outlined self.now).drawn < head_id }
+        ensures below_head { (outline_document self.now).drawn < head_id }
     {
         self.states.len() as u32
     }
 
     // Where a block is, if its id was drawn.
     pub(crate) fn state(&self, id: u32) -> Option<BlockState>
-        ensures { result ≡ (if nat_lt id (outlined self.now).drawn then Some (state_of (outlined self.now) self.now.entries id) else None) }
+        ensures { result ≡ (if nat_lt id (outline_document self.now).drawn then Some (block_state_of (outline_document self.now) self.now.entries id) else None) }
     {
         self.states.get(id as usize).copied()
     }
@@ -177,7 +177,7 @@ impl Outline {
     /// The stamp of a block, if it is there.
     #[tactic(auto, using(crate::proofs::Blocks::stamp_states))]
     pub(crate) fn stamp(&self, id: u32) -> Option<u32>
-        ensures { result ≡ stamp_at (outlined self.now).blocks id }
+        ensures { result ≡ stamp_at (outline_document self.now).blocks id }
     {
         let _ids = self.ids();
         match self.state(id) {
@@ -190,7 +190,7 @@ impl Outline {
     /// The text of a block, if it is there.
     #[tactic(auto, using(crate::proofs::Blocks::block_texts))]
     pub(crate) fn text_of(&self, id: u32) -> Option<&BlockText>
-        ensures text { option_copied result ≡ option_map (λ b. b.lines) (block_of (outlined self.now).blocks id) }
+        ensures text { option_copied result ≡ option_map (λ b. b.lines) (block_of (outline_document self.now).blocks id) }
         ensures short { IfSome result (λ text. length text.now ≤ 4096) }
     {
         let _ids = self.ids();
@@ -202,14 +202,14 @@ impl Outline {
 
     /// The place of the block with this id.
     pub fn place(&self, id: u32) -> Option<usize>
-        ensures { result ≡ position (is_id id) (ids_of (outlined self.now).blocks) }
+        ensures { result ≡ position (is_id id) (ids_of (outline_document self.now).blocks) }
     {
         self.order.position(id)
     }
 
     /// The id of the block at a place.
     pub(crate) fn id_at(&self, at: u32) -> Option<u32>
-        ensures { result ≡ slice_get (ids_of (outlined self.now).blocks) at }
+        ensures { result ≡ slice_get (ids_of (outline_document self.now).blocks) at }
     {
         self.order.get(at)
     }

@@ -3,8 +3,8 @@ ghost use Rattle.std.specs.Prelude.{◌≡◌, ◌≢◌, ℕ, List, ◌+◌, �
 ghost use Rattle.edit_journal.specs.Documents.{after, block_of, body};
 ghost use Rattle.edit_journal.specs.declared.edit.Edit.TheVariants as edit;
 ghost use Rattle.edit_book.specs.Headers.{IsPreparedUnder};
-ghost use Rattle.edit_book.specs.Books.{IsLawfulOutline, IsReady, KeepsRoom, document};
-ghost use Rattle.edit_book.specs.Outlines.{MayCome, outlined};
+ghost use Rattle.edit_book.specs.Books.{IsLawfulOutline, IsReadyToPut, KeepsBookRoom, document};
+ghost use Rattle.edit_book.specs.Outlines.{MayCome, outline_document};
 ghost use Rattle.edit_book.specs.Replies as request;
 ghost use Rattle.edit_book.specs.Replies.{refusal_of, IsTurn};
 ghost use Rattle.edit_book.specs.Work.{work_limit};
@@ -35,9 +35,9 @@ impl Book {
         requires prepared { IsPreparedUnder self.old.opening self.old.entries head prepared }
         ensures opening { self.new.opening ≡ self.old.opening }
         ensures turned { IsTurn self.old.opening self.old.entries session (request.Put block seen head prepared.text) result self.new.entries }
-        ensures kept { KeepsRoom self.old self.new }
+        ensures kept { KeepsBookRoom self.old self.new }
         ensures steps { steps.new ≤ steps.old + work_limit self.old.opening self.old.entries (request.Put block seen head prepared.text) }
-        ensures ready { IsReady self.old block prepared.face → result ≢ Reply.NoMemory }
+        ensures ready { IsReadyToPut self.old block prepared.face → result ≢ Reply.NoMemory }
     {
         if let Some(refusal) = self.outline.refused_put(block, seen, head, &prepared) {
             return refusal;
@@ -60,9 +60,9 @@ impl Book {
         requires free { refusal_of (document self.old) self.old.entries (request.Put id seen head prepared.text) ≡ None }
         ensures opening { self.new.opening ≡ self.old.opening }
         ensures turned { IsTurn self.old.opening self.old.entries session (request.Put id seen head prepared.text) result self.new.entries }
-        ensures kept { KeepsRoom self.old self.new }
+        ensures kept { KeepsBookRoom self.old self.new }
         ensures steps { steps.new ≤ steps.old + work_limit self.old.opening self.old.entries (request.Put id seen head prepared.text) }
-        ensures ready { IsReady self.old id prepared.face → result ≢ Reply.NoMemory }
+        ensures ready { IsReadyToPut self.old id prepared.face → result ≢ Reply.NoMemory }
     {
         let version = self.version() + 1;
         let Prepared { text, face, loops } = prepared;
@@ -95,7 +95,7 @@ impl Outline {
         prepared: &Prepared,
     ) -> Option<Reply>
         requires { IsPreparedUnder self.now.opening self.now.entries head prepared.now }
-        ensures { result ≡ refusal_of (outlined self.now) self.now.entries (request.Put block seen head prepared.now.text) }
+        ensures { result ≡ refusal_of (outline_document self.now) self.now.entries (request.Put block seen head prepared.now.text) }
     {
         if let Some(refusal) = self.refused_name(block) {
             return Some(refusal);
@@ -149,7 +149,7 @@ impl Outline {
     // The lines of the body after a put.
     fn lines_after_put(&self, id: u32, seen: u32, text: &BlockText) -> u32
         requires { length text.now ≤ 4096 }
-        ensures { result ≡ length (body (after (outlined self.now) (length self.now.entries + 1) (edit.Put id seen text.now))) }
+        ensures { result ≡ length (body (after (outline_document self.now) (length self.now.entries + 1) (edit.Put id seen text.now))) }
     {
         self.lines_with(id, text.len())
     }
@@ -158,7 +158,7 @@ impl Outline {
     #[tactic(auto, using(crate::proofs::Counts::put_counted))]
     pub(crate) fn lines_with(&self, id: u32, lines: u32) -> u32
         requires { lines ≤ 4096 }
-        ensures { (seen : ℕ) → (text : List (List ℕ)) → length text ≡ lines → result ≡ length (body (after (outlined self.now) (length self.now.entries + 1) (edit.Put id seen text))) }
+        ensures { (seen : ℕ) → (text : List (List ℕ)) → length text ≡ lines → result ≡ length (body (after (outline_document self.now) (length self.now.entries + 1) (edit.Put id seen text))) }
     {
         match self.lines_of(id) {
             Some(had) => self.lines - had + lines,
@@ -168,7 +168,7 @@ impl Outline {
 
     /// How many lines a block has, if it is there.
     pub(crate) fn lines_of(&self, id: u32) -> Option<u32>
-        ensures { result ≡ option_map (λ b. length b.lines) (block_of (outlined self.now).blocks id) }
+        ensures { result ≡ option_map (λ b. length b.lines) (block_of (outline_document self.now).blocks id) }
     {
         match self.text_of(id) {
             Some(text) => Some(text.len()),

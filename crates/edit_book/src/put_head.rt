@@ -4,10 +4,10 @@ ghost use Rattle.knit_base.specs.Limits.{IsLawfulProfile};
 ghost use Rattle.edit_journal.specs.Documents.{Block};
 ghost use Rattle.edit_book.specs.declared.reply.Again.{Again};
 ghost use Rattle.edit_journal.specs.declared.edit.Edit.TheVariants as edit;
-ghost use Rattle.edit_book.specs.Books.{IsLawfulOutline, IsLeafOf, KeepsRoom, document};
+ghost use Rattle.edit_book.specs.Books.{IsLawfulOutline, IsLeafOf, KeepsBookRoom, document};
 ghost use Rattle.edit_book.specs.Outlines.{MayCome};
 ghost use Rattle.edit_book.specs.Headers.{ArePreparedAgain};
-ghost use Rattle.edit_book.specs.HeaderTrees.{AreLeavesOf, AreTaken, FitBlocks, FitsBlock, lines_for, lines_left};
+ghost use Rattle.edit_book.specs.HeaderTrees.{AreLeavesOf, AreLeavesTaken, FitBlocks, FitsBlock, lines_for, lines_left};
 ghost use Rattle.edit_book.specs.Replies as request;
 ghost use Rattle.edit_book.specs.Replies.{refusal_of, IsTurn};
 ghost use Rattle.edit_book.specs.Verdicts.{setting_of};
@@ -41,7 +41,7 @@ impl Book {
         requires again { ArePreparedAgain self.old.opening self.old.entries declared again }
         ensures opening { self.new.opening ≡ self.old.opening }
         ensures turned { IsTurn self.old.opening self.old.entries session (request.PutHead seen declared) result self.new.entries }
-        ensures kept { KeepsRoom self.old self.new }
+        ensures kept { KeepsBookRoom self.old self.new }
         ensures steps { steps.new ≤ steps.old + header_limit (with_names declared (setting_of self.old.opening (document self.old))) (document self.old) again }
     {
         if let Some(refusal) = self.outline.refused_head(seen) {
@@ -63,7 +63,7 @@ impl Book {
         requires leaves { AreLeavesOf (with_names declared (setting_of self.old.opening (document self.old))) tree.leaves (document self.old).blocks }
         ensures opening { self.new.opening ≡ self.old.opening }
         ensures turned { IsTurn self.old.opening self.old.entries session (request.PutHead seen declared) result self.new.entries }
-        ensures kept { KeepsRoom self.old self.new }
+        ensures kept { KeepsBookRoom self.old self.new }
     {
         let version = self.version() + 1;
         if self.outline.enter_head(session, seen, declared).is_err() {
@@ -99,7 +99,7 @@ impl Book {
 
     // What is handed over of each block, by its place.
     fn taken_leaves(&self, again: AgainList) -> Result<Vec<Option<(Face, LoopTable)>>, NoMemory>
-        ensures { IfOk result (λ taken. AreTaken again taken.items (document self.now).blocks) }
+        ensures { IfOk result (λ taken. AreLeavesTaken again taken.items (document self.now).blocks) }
     {
         let mut taken = no_leaves(self.outline.alloc(), self.outline.len())?;
         for item in again.into_vec() {
@@ -111,7 +111,7 @@ impl Book {
     // Takes a summary for its block, if it is of the text that the block has.
     fn take_leaf(&self, item: Again, taken: &mut Vec<Option<(Face, LoopTable)>>)
         requires { length taken.old.items ≡ length (document self.now).blocks }
-        ensures { (again : List Again) → AreTaken again taken.old.items (document self.now).blocks → AreTaken (again ++ item ∷ []) taken.new.items (document self.now).blocks }
+        ensures { (again : List Again) → AreLeavesTaken again taken.old.items (document self.now).blocks → AreLeavesTaken (again ++ item ∷ []) taken.new.items (document self.now).blocks }
     {
         let Again {
             block,

@@ -1,9 +1,9 @@
 //! The refusal of a command, before anything is done.
 ghost use Rattle.std.specs.Prelude.{◌≡◌, length};
 ghost use Rattle.edit_book.specs.Books.{document};
-ghost use Rattle.edit_book.specs.Outlines.{outlined};
-ghost use Rattle.edit_book.specs.Replies.{refusal_of, refused_name as name_refusal, refused_anchor as anchor_refusal, refused_stamp as stamp_refusal, refused_head as head_refusal, refused_entries as entries_refusal, refused_blocks as blocks_refusal, refused_over as over, request_of, line_limit};
-ghost use Rattle.edit_book.specs.Turns.{IsFit};
+ghost use Rattle.edit_book.specs.Outlines.{outline_document};
+ghost use Rattle.edit_book.specs.Replies.{refusal_of, refused_name as name_refusal, refused_anchor as anchor_refusal, refused_stamp as stamp_refusal, refused_head as head_refusal, refused_entries as entries_refusal, refused_blocks as blocks_refusal, refused_over as over, request_of_command, line_limit};
+ghost use Rattle.edit_book.specs.Turns.{IsFitBookCommand};
 ghost use Rattle.edit_book.specs.declared.reply.Which.TheVariants as which;
 
 use crate::block_state::BlockState;
@@ -13,8 +13,8 @@ use edit_journal::{Anchor, HEAD};
 impl Book {
     /// The refusal that a command is answered with at this version, if it is refused. Takes no memory.
     pub fn refusal(&self, command: &BookCommand) -> Option<Reply>
-        requires { IsFit self.now.opening self.now.entries command.now }
-        ensures { result ≡ refusal_of (document self.now) self.now.entries (request_of command.now) }
+        requires { IsFitBookCommand self.now.opening self.now.entries command.now }
+        ensures { result ≡ refusal_of (document self.now) self.now.entries (request_of_command command.now) }
     {
         match command {
             BookCommand::Look(block) => self.outline.refused_name(*block),
@@ -46,7 +46,7 @@ impl Book {
 
 impl Outline {
     pub(crate) fn refused_name(&self, block: u32) -> Option<Reply>
-        ensures { result ≡ name_refusal (outlined self.now) self.now.entries block }
+        ensures { result ≡ name_refusal (outline_document self.now) self.now.entries block }
     {
         let version = self.version();
         let ids = self.ids();
@@ -62,7 +62,7 @@ impl Outline {
     }
 
     pub(crate) fn refused_anchor(&self, anchor: Anchor) -> Option<Reply>
-        ensures { result ≡ anchor_refusal (outlined self.now) self.now.entries anchor }
+        ensures { result ≡ anchor_refusal (outline_document self.now) self.now.entries anchor }
     {
         match anchor {
             Anchor::Start => None,
@@ -72,7 +72,7 @@ impl Outline {
 
     #[tactic(auto, using(crate::proofs::Blocks::stamps))]
     pub(crate) fn refused_stamp(&self, block: u32, seen: u32) -> Option<Reply>
-        ensures { result ≡ stamp_refusal (outlined self.now) self.now.entries block seen }
+        ensures { result ≡ stamp_refusal (outline_document self.now) self.now.entries block seen }
     {
         let version = self.version();
         match self.stamp(block) {
@@ -94,7 +94,7 @@ impl Outline {
 
     /// Whether the header has another stamp than this.
     pub(crate) fn refused_head(&self, seen: u32) -> Option<Reply>
-        ensures { result ≡ head_refusal (outlined self.now) self.now.entries seen }
+        ensures { result ≡ head_refusal (outline_document self.now) self.now.entries seen }
     {
         if self.head == seen {
             return None;
@@ -122,7 +122,7 @@ impl Outline {
     }
 
     pub(crate) fn refused_blocks(&self) -> Option<Reply>
-        ensures { result ≡ blocks_refusal (outlined self.now) self.now.entries }
+        ensures { result ≡ blocks_refusal (outline_document self.now) self.now.entries }
     {
         let version = self.version();
         if self.order.len() < 65536 {

@@ -5,8 +5,8 @@ ghost use Rattle.block_summary.specs.Prepared.{IsPreparedFor};
 ghost use Rattle.block_summary.specs.declared.prepared.Prepared.{Prepared};
 ghost use Rattle.edit_journal.specs.Documents.{Block, body};
 ghost use Rattle.edit_book.specs.HeaderTrees.{AreLeavesOf};
-ghost use Rattle.edit_book.specs.Opened.{HasKept, IsAdded};
-ghost use Rattle.edit_book.specs.Outlines.{outlined};
+ghost use Rattle.edit_book.specs.Opened.{HasKept, IsBlockAdded};
+ghost use Rattle.edit_book.specs.Outlines.{outline_document};
 ghost use Rattle.edit_book.specs.Replies.{block_limit, line_limit};
 ghost use Rattle.edit_book.specs.Verdicts.{setting_of};
 ghost use Rattle.edit_book.specs.Work.{start_limit};
@@ -22,16 +22,16 @@ use summary_tree::Tree;
 
 /// What is kept of the first blocks.
 #[derive(Drop)]
-pub(crate) struct Kept {
+pub(crate) struct StartedBlocks {
     texts: ListOf<BlockText>,
     leaves: Vec<(Face, LoopTable)>,
 }
 
-impl Kept {
-    fn new(alloc: Global) -> Kept
+impl StartedBlocks {
+    fn new(alloc: Global) -> StartedBlocks
         ensures { HasKept [] result }
     {
-        Kept {
+        StartedBlocks {
             texts: ListOf::new(alloc),
             leaves: Vec::new(alloc),
         }
@@ -40,7 +40,7 @@ impl Kept {
     // One block more.
     fn add(&mut self, block: Prepared) -> Result<(), NoMemory>
         requires { length self.old.texts < block_limit }
-        ensures { OnOk result (IsAdded self.old self.new block) }
+        ensures { OnOk result (IsBlockAdded self.old self.new block) }
     {
         let Prepared { text, face, loops } = block;
         self.texts.push(text)?;
@@ -48,11 +48,11 @@ impl Kept {
         Ok(())
     }
 
-    fn of(alloc: Global, blocks: Vec<Prepared>) -> Result<Kept, NoMemory>
+    fn of(alloc: Global, blocks: Vec<Prepared>) -> Result<StartedBlocks, NoMemory>
         requires { length blocks.items ≤ block_limit }
         ensures { IfOk result (HasKept blocks.items) }
     {
-        let mut kept = Kept::new(alloc);
+        let mut kept = StartedBlocks::new(alloc);
         for block in blocks {
             kept.add(block)?;
         }
@@ -79,7 +79,7 @@ impl Book {
         ensures entries { IfOk result (λ book. book.entries ≡ []) }
         ensures steps { steps.new ≤ steps.old + start_limit setting (length blocks.items) (flat_map (λ (block : Prepared). block.text) blocks.items) }
     {
-        let Kept { texts, leaves } = Kept::of(alloc, blocks)?;
+        let StartedBlocks { texts, leaves } = StartedBlocks::of(alloc, blocks)?;
         let outline = Outline::start(alloc, setting, texts)?;
         Book::of_leaves(outline, leaves, steps)
     }
@@ -91,14 +91,14 @@ impl Book {
         blocks: Vec<Prepared>,
         steps: &mut Steps<L>,
     ) -> Result<Book, NoMemory>
-        requires texts { map (λ (block : Prepared). block.text) blocks.items ≡ map (λ (b : Block). b.lines) (outlined outline).blocks }
-        requires prepared { All (IsPreparedFor outline.opening.setting.profile (outlined outline).header.names) blocks.items }
+        requires texts { map (λ (block : Prepared). block.text) blocks.items ≡ map (λ (b : Block). b.lines) (outline_document outline).blocks }
+        requires prepared { All (IsPreparedFor outline.opening.setting.profile (outline_document outline).header.names) blocks.items }
         ensures opening { IfOk result (λ book. book.opening ≡ outline.opening) }
         ensures entries { IfOk result (λ book. book.entries ≡ outline.entries) }
-        ensures steps { steps.new ≤ steps.old + start_limit (setting_of outline.opening (outlined outline)) (length blocks.items) (flat_map (λ (block : Prepared). block.text) blocks.items) }
+        ensures steps { steps.new ≤ steps.old + start_limit (setting_of outline.opening (outline_document outline)) (length blocks.items) (flat_map (λ (block : Prepared). block.text) blocks.items) }
     {
         let _ids = outline.ids();
-        let Kept { texts: _, leaves } = Kept::of(outline.alloc(), blocks)?;
+        let StartedBlocks { texts: _, leaves } = StartedBlocks::of(outline.alloc(), blocks)?;
         Book::of_leaves(outline, leaves, steps)
     }
 
@@ -108,10 +108,10 @@ impl Book {
         leaves: Vec<(Face, LoopTable)>,
         steps: &mut Steps<L>,
     ) -> Result<Book, NoMemory>
-        requires { AreLeavesOf (setting_of outline.opening (outlined outline)) leaves.items (outlined outline).blocks }
+        requires { AreLeavesOf (setting_of outline.opening (outline_document outline)) leaves.items (outline_document outline).blocks }
         ensures opening { IfOk result (λ book. book.opening ≡ outline.opening) }
         ensures entries { IfOk result (λ book. book.entries ≡ outline.entries) }
-        ensures steps { steps.new ≤ steps.old + start_limit (setting_of outline.opening (outlined outline)) (length (outlined outline).blocks) (body (outlined outline)) }
+        ensures steps { steps.new ≤ steps.old + start_limit (setting_of outline.opening (outline_document outline)) (length (outline_document outline).blocks) (body (outline_document outline)) }
     {
         let _ids = outline.ids();
         let tree = Tree::start(outline.alloc(), leaves, steps)?;

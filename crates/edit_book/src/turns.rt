@@ -8,7 +8,7 @@ use std::sync::ledger::Ledger;
 use turn_book::Booked;
 
 impl Booked for Book {
-    ghost use Rattle.edit_book.specs.Turns.{IsRight, IsFit};
+    ghost use Rattle.edit_book.specs.Turns.{IsRightReply, IsFitBookCommand};
     ghost use Rattle.edit_book.specs.Work.{command_limit};
     ghost use Rattle.edit_book.specs.Fitting.{fits_longer};
 
@@ -26,9 +26,9 @@ impl Booked for Book {
 
     ghost number_of = { λ entry. entry.session };
 
-    ghost right = { IsRight };
+    ghost right = { IsRightReply };
 
-    ghost fits = { IsFit };
+    ghost fits = { IsFitBookCommand };
 
     ghost bound = { command_limit };
 

@@ -10,7 +10,7 @@ use Rattle.edit_journal.specs.Entries.{head_id}
 use Rattle.edit_book.specs.Replies.{Request, Look, Put, Add, Cut, LoopAt, VerdictNow, LookHead, Texts, PutHead, IsAccepted, IsDue, IsGranted, IsReply, accepted_block, edit_of, refusal_of}
 use Rattle.edit_book.specs.declared.reply.Reply.{Reply}
 use Rattle.edit_book.specs.declared.reply.Reply.TheVariants as reply
-use Rattle.edit_book.proofs.Refusals.{MayRefuse, refuses}
+use Rattle.edit_book.proofs.Refusals.{MayRefuse, refusal_may_come}
 
 -- the edit that an accepted reply leaves, which asks for a new block with the next id
 pub record IsEditAsked (d : Document) (v : ℕ) (request : Request) (version block : ℕ) : Type 0 where
@@ -52,17 +52,17 @@ due_free v (Some refusal) granted version block brief may due = let none : accep
 pub accepted_edit : (o : Opening) (journal : List Entry) (request : Request) (version block : ℕ) (brief : Brief) → IsReply o journal request (reply.Accepted version block brief)
     → (refusal_of (document_of o journal) journal request ≡ None) × IsEditAsked (document_of o journal) (length journal) request version block
 accepted_edit o journal request version block brief due = let d = document_of o journal in
-    let free = due_free (length journal) (refusal_of d journal request) (IsGranted o d (length journal) request (reply.Accepted version block brief)) version block brief (refuses d journal request) due in
+    let free = due_free (length journal) (refusal_of d journal request) (IsGranted o d (length journal) request (reply.Accepted version block brief)) version block brief (refusal_may_come d journal request) due in
     (free.0, granted_edit o d (length journal) request version block brief free.1)
 
 -- the block of an accepted put is the one that was asked for
 pub put_block : (o : Opening) (journal : List Entry) (id seen head : ℕ) (text : List (List ℕ)) (version block : ℕ) (brief : Brief) → IsReply o journal (Put id seen head text) (reply.Accepted version block brief) → block ≡ id
 put_block o journal id seen head text version block brief due = let d = document_of o journal in
-    let free = due_free (length journal) (refusal_of d journal (Put id seen head text)) (IsGranted o d (length journal) (Put id seen head text) (reply.Accepted version block brief)) version block brief (refuses d journal (Put id seen head text)) due in
+    let free = due_free (length journal) (refusal_of d journal (Put id seen head text)) (IsGranted o d (length journal) (Put id seen head text) (reply.Accepted version block brief)) version block brief (refusal_may_come d journal (Put id seen head text)) due in
     (accepted_as o d (length journal) id (edit.Put id seen text) version block brief free.1).1
 
 -- and that of an accepted cut
 pub cut_block : (o : Opening) (journal : List Entry) (id seen version block : ℕ) (brief : Brief) → IsReply o journal (Cut id seen) (reply.Accepted version block brief) → block ≡ id
 cut_block o journal id seen version block brief due = let d = document_of o journal in
-    let free = due_free (length journal) (refusal_of d journal (Cut id seen)) (IsGranted o d (length journal) (Cut id seen) (reply.Accepted version block brief)) version block brief (refuses d journal (Cut id seen)) due in
+    let free = due_free (length journal) (refusal_of d journal (Cut id seen)) (IsGranted o d (length journal) (Cut id seen) (reply.Accepted version block brief)) version block brief (refusal_may_come d journal (Cut id seen)) due in
     (accepted_as o d (length journal) id (edit.Cut id seen) version block brief free.1).1

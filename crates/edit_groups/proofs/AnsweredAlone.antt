@@ -11,7 +11,7 @@ use Rattle.script_reader.specs.declared.command.Command.TheVariants as command
 use Rattle.script_reader.specs.declared.command.Place.{Place}
 use Rattle.script_reader.specs.declared.step.Step.{Step}
 use Rattle.script_reader.specs.declared.step.Step.TheVariants as step
-use Rattle.edit_book.specs.Memory.{Memory, IsAnswered, asked, asked_entry, memory_after, with_missed}
+use Rattle.edit_book.specs.Memory.{Memory, IsRequestAnswered, asked_of_book, asked_entry, memory_after, with_missed}
 use Rattle.edit_book.specs.Replies.{Request}
 use Rattle.edit_book.specs.Session.{HasLearned, Teaches}
 use Rattle.edit_book.specs.declared.reply.Reply.{Reply}
@@ -23,10 +23,10 @@ use Rattle.turn_book.specs.Turn.{Catches}
 use Rattle.turn_book.proofs.WholePass.{none_foreign, taken_whole}
 use Rattle.edit_groups.specs.Alone.{IsAnsweredAt, IsSessionAt}
 use Rattle.edit_groups.specs.Answers.{edits_in}
-use Rattle.edit_groups.specs.Chunks.{entries_of}
-use Rattle.edit_groups.specs.Sessions.{core, missed_memory, short, step_memory}
-use Rattle.edit_groups.specs.Shared.{session_of}
-use Rattle.edit_groups.specs.Turns.{IsDone}
+use Rattle.edit_groups.specs.Chunks.{entries_of_chunks}
+use Rattle.edit_groups.specs.Sessions.{group_core, missed_memory, short_reply, step_memory}
+use Rattle.edit_groups.specs.Shared.{session_of_chunk}
+use Rattle.edit_groups.specs.Turns.{IsStepDone}
 use Rattle.edit_groups.specs.declared.chunk.Chunk.{Chunk}
 use Rattle.edit_groups.specs.declared.reply.GroupReply.{GroupReply}
 use Rattle.edit_groups.specs.declared.reply.GroupReply.TheVariants as group
@@ -37,18 +37,18 @@ each_end P [] ys each = each
 each_end P (x ∷ xs) ys each = each_end P xs ys each.1
 
 -- what a pass with all numbers sees behind its own step is that step
-seen_whole : (v : View Opening Chunk) (all : List Chunk) → v.first ≡ 0 → v.past ≡ v.count → Catches session_of v all → all ≡ v.seen
+seen_whole : (v : View Opening Chunk) (all : List Chunk) → v.first ≡ 0 → v.past ≡ v.count → Catches session_of_chunk v all → all ≡ v.seen
 seen_whole v all low high c = let more : List Chunk = c.seen.0 in
-    let few = each_end (λ (k : Chunk). session_of k < v.count) v.seen more (subst (Each (λ (k : Chunk). session_of k < v.count)) c.seen.1 c.numbers) in
-    c.seen.1 ∙ (ap (λ (l : List Chunk). v.seen ++ l) (none_foreign session_of v.first v.past v.count more low high c.seen.2 few) ∙ append-nil v.seen)
+    let few = each_end (λ (k : Chunk). session_of_chunk k < v.count) v.seen more (subst (Each (λ (k : Chunk). session_of_chunk k < v.count)) c.seen.1 c.numbers) in
+    c.seen.1 ∙ (ap (λ (l : List Chunk). v.seen ++ l) (none_foreign session_of_chunk v.first v.past v.count more low high c.seen.2 few) ∙ append-nil v.seen)
 
 -- so its step is answered at the steps that it had seen
-pub answered_whole : (o : Opening) (n : ℕ) (m : Memory) (c : Step) (r : GroupReply) (v u : View Opening Chunk) (all : List Chunk) (s t : GroupSession) → v.first ≡ 0 → v.past ≡ v.count → u.first ≡ 0 → u.past ≡ u.count → u.count ≡ v.count → Catches session_of u all
-    → s.session.number ≡ n → IsSessionAt o v.seen m s → IsDone o m c r v u s t → IsAnsweredAt o n m c r v.seen all t
+pub answered_whole : (o : Opening) (n : ℕ) (m : Memory) (c : Step) (r : GroupReply) (v u : View Opening Chunk) (all : List Chunk) (s t : GroupSession) → v.first ≡ 0 → v.past ≡ v.count → u.first ≡ 0 → u.past ≡ u.count → u.count ≡ v.count → Catches session_of_chunk u all
+    → s.session.number ≡ n → IsSessionAt o v.seen m s → IsStepDone o m c r v u s t → IsAnsweredAt o n m c r v.seen all t
 answered_whole o n m c r v u all s t low high low_then high_then counts catches number at d =
     let same : all ≡ u.seen = seen_whole u all low_then high_then catches in
-    let few = subst (λ (p : ℕ × List Chunk). Each (λ (k : Chunk). session_of k < p.0) p.1) (λ i. (counts i, same i)) catches.numbers in
-    let whole = taken_whole (core o) s.session.number m c d.heard v u v.count low high few d.taken in
+    let few = subst (λ (p : ℕ × List Chunk). Each (λ (k : Chunk). session_of_chunk k < p.0) p.1) (λ i. (counts i, same i)) catches.numbers in
+    let whole = taken_whole (group_core o) s.session.number m c d.heard v u v.count low high few d.taken in
     subst (λ (k : ℕ). IsAnsweredAt o k m c r v.seen all t) number (record {
       heard = d.heard;
       reply_is = d.reply_is;
@@ -87,7 +87,7 @@ all_missed m (c ∷ cs) =
     ∙ missed_more m c (adds_in cs)
     ∙ ap (λ (k : ℕ). with_missed k m) (sym (sum_by-cons (λ (x : Command). adds_of (command_line_in x)) c cs))
 
-lost_memory : (m : Memory) (c : Step) → step_memory m c short ≡ with_missed (adds_in (commands_of_step c)) m
+lost_memory : (m : Memory) (c : Step) → step_memory m c short_reply ≡ with_missed (adds_in (commands_of_step c)) m
 lost_memory m (step.One c) = all_missed m (c ∷ [])
 lost_memory m (step.Group cs) = all_missed m cs
 lost_memory m step.Undo = all_missed m []
@@ -98,17 +98,17 @@ with_learned s l = record { session = record { number = s.session.number; learne
 
 module _ (o : Opening) (known : List Chunk) (m : Memory) (s : GroupSession) (l : Learned) (at : IsSessionAt o known m s) (head : l.head ≡ s.session.learned.head) where
   stands_on : (then : Memory) → HasLearned l then → IsSessionAt o known then (with_learned s l)
-  stands_on then learned = record { remembers = learned; names = ap (names_given o (entries_of known)) head ∙ at.names; last = at.last }
+  stands_on then learned = record { remembers = learned; names = ap (names_given o (entries_of_chunks known)) head ∙ at.names; last = at.last }
 
   -- the session's own refusal of a command
-  refused_alone : (c : Command) (r : Reply) → asked m c ≡ Err r → HasLearned l (memory_after m c r) → IsAnsweredAt o s.session.number m (step.One c) (group.One r) known known (with_learned s l)
+  refused_alone : (c : Command) (r : Reply) → asked_of_book m c ≡ Err r → HasLearned l (memory_after m c r) → IsAnsweredAt o s.session.number m (step.One c) (group.One r) known known (with_learned s l)
   refused_alone c r asks learned = record {
     heard = record { reply = group.One r; before = length known; edits = [] };
     reply_is = refl;
     given = inr (record {
       answer = record {
         told = r;
-        answered = subst (λ (a : Result Request Reply). IsAnswered o (entries_of known) a r) (sym asks) refl;
+        answered = subst (λ (a : Result Request Reply). IsRequestAnswered o (entries_of_chunks known) a r) (sym asks) refl;
         reply_is = refl;
         edits_are = ap (λ (a : Result Request Reply). edits_in (asked_entry s.session.number a r)) (sym asks);
       };
@@ -118,20 +118,20 @@ module _ (o : Opening) (known : List Chunk) (m : Memory) (s : GroupSession) (l :
     stands = stands_on (memory_after m c r) learned;
   }
 
-  pub put_refused : (name : BlockName) (text : List (List ℕ)) (r : Reply) → asked m (command.Put name text) ≡ Err r → (Teaches r → ⊥) → HasLearned l m
+  pub put_refused : (name : BlockName) (text : List (List ℕ)) (r : Reply) → asked_of_book m (command.Put name text) ≡ Err r → (Teaches r → ⊥) → HasLearned l m
       → IsAnsweredAt o s.session.number m (step.One (command.Put name text)) (group.One r) known known (with_learned s l)
   put_refused name text r asks untaught learned = refused_alone (command.Put name text) r asks (subst (HasLearned l) (sym (untaught_put m name text r untaught)) learned)
 
-  pub add_refused : (place : Place) (text : List (List ℕ)) (r : Reply) → asked m (command.Add place text) ≡ Err r → (Teaches r → ⊥) → HasLearned l (with_missed 1 m)
+  pub add_refused : (place : Place) (text : List (List ℕ)) (r : Reply) → asked_of_book m (command.Add place text) ≡ Err r → (Teaches r → ⊥) → HasLearned l (with_missed 1 m)
       → IsAnsweredAt o s.session.number m (step.One (command.Add place text)) (group.One r) known known (with_learned s l)
   add_refused place text r asks untaught learned = refused_alone (command.Add place text) r asks (subst (HasLearned l) (sym (untaught_add m place text r untaught)) learned)
 
   -- want of memory for a step with so many adds
   pub lost_answered : (c : Step) (adds : ℕ) → adds ≡ adds_in (commands_of_step c) → HasLearned l (with_missed adds m) → IsAnsweredAt o s.session.number m c group.NoMemory known known (with_learned s l)
   lost_answered c adds counted learned = record {
-    heard = short;
+    heard = short_reply;
     reply_is = refl;
     given = inl refl;
     after_is = sym (append-nil known);
-    stands = stands_on (step_memory m c short) (subst (HasLearned l) (ap (λ (k : ℕ). with_missed k m) counted ∙ sym (lost_memory m c)) learned);
+    stands = stands_on (step_memory m c short_reply) (subst (HasLearned l) (ap (λ (k : ℕ). with_missed k m) counted ∙ sym (lost_memory m c)) learned);
   }

@@ -10,7 +10,7 @@ use Rattle.script_reader.specs.declared.command.Command.{Command}
 use Rattle.script_reader.specs.declared.command.Command.TheVariants as command
 use Rattle.script_reader.specs.declared.command.Place.{Place}
 use Rattle.script_reader.specs.declared.command.Place.TheVariants as place
-use Rattle.edit_book.specs.Memory.{Memory, asked, head_of, named, unless_long}
+use Rattle.edit_book.specs.Memory.{Memory, asked_of_book, known_header_stamp, block_id_of_name, unless_long}
 use Rattle.edit_book.specs.Replies.{Request, Look, Put, Add, Cut, LoopAt, VerdictNow, LookHead, Texts, PutHead, edit_of}
 use Rattle.edit_book.specs.declared.reply.Reply.{Reply}
 use Rattle.edit_book.specs.declared.reply.Reply.TheVariants.{Unseen, BlockLong}
@@ -40,32 +40,32 @@ short_text text q request is = go (nat_le (length text) 4096) is
 pub record IsPutAsked (m : Memory) (name : BlockName) (text : List (List ℕ)) (request : Request) : Type 0 where
   pub id : ℕ
   pub seen : ℕ
-  pub known : named m name ≡ Some id
-  pub request_is : request ≡ Put id seen (head_of m) text
+  pub known : block_id_of_name m name ≡ Some id
+  pub request_is : request ≡ Put id seen (known_header_stamp m) text
 
-pub put_asked : (m : Memory) (name : BlockName) (text : List (List ℕ)) (request : Request) → asked m (command.Put name text) ≡ Ok request → IsPutAsked m name text request
+pub put_asked : (m : Memory) (name : BlockName) (text : List (List ℕ)) (request : Request) → asked_of_book m (command.Put name text) ≡ Ok request → IsPutAsked m name text request
 put_asked m name text request is =
-    let b = of_block (named m name) name (λ id. option_map_or (λ seen. unless_long text (Put id seen (head_of m) text)) (m.stamps id) (Err (Unseen name))) request is in
-    let s = of_block (m.stamps b.id) name (λ seen. unless_long text (Put b.id seen (head_of m) text)) request b.asks in
-    record { id = b.id; seen = s.id; known = b.known; request_is = short_text text (Put b.id s.id (head_of m) text) request s.asks }
+    let b = of_block (block_id_of_name m name) name (λ id. option_map_or (λ seen. unless_long text (Put id seen (known_header_stamp m) text)) (m.stamps id) (Err (Unseen name))) request is in
+    let s = of_block (m.stamps b.id) name (λ seen. unless_long text (Put b.id seen (known_header_stamp m) text)) request b.asks in
+    record { id = b.id; seen = s.id; known = b.known; request_is = short_text text (Put b.id s.id (known_header_stamp m) text) request s.asks }
 
 pub record IsAddAsked (m : Memory) (text : List (List ℕ)) (request : Request) : Type 0 where
   pub anchor : Anchor
-  pub request_is : request ≡ Add anchor (head_of m) text
+  pub request_is : request ≡ Add anchor (known_header_stamp m) text
 
-pub add_asked : (m : Memory) (at : Place) (text : List (List ℕ)) (request : Request) → asked m (command.Add at text) ≡ Ok request → IsAddAsked m text request
-add_asked m place.Start text request is = record { anchor = Start; request_is = short_text text (Add Start (head_of m) text) request is }
-add_asked m (place.After name) text request is = let b = of_block (named m name) name (λ id. unless_long text (Add (After id) (head_of m) text)) request is in
-    record { anchor = After b.id; request_is = short_text text (Add (After b.id) (head_of m) text) request b.asks }
+pub add_asked : (m : Memory) (at : Place) (text : List (List ℕ)) (request : Request) → asked_of_book m (command.Add at text) ≡ Ok request → IsAddAsked m text request
+add_asked m place.Start text request is = record { anchor = Start; request_is = short_text text (Add Start (known_header_stamp m) text) request is }
+add_asked m (place.After name) text request is = let b = of_block (block_id_of_name m name) name (λ id. unless_long text (Add (After id) (known_header_stamp m) text)) request is in
+    record { anchor = After b.id; request_is = short_text text (Add (After b.id) (known_header_stamp m) text) request b.asks }
 
 pub record IsCutAsked (request : Request) : Type 0 where
   pub id : ℕ
   pub seen : ℕ
   pub request_is : request ≡ Cut id seen
 
-pub cut_asked : (m : Memory) (name : BlockName) (request : Request) → asked m (command.Cut name) ≡ Ok request → IsCutAsked request
+pub cut_asked : (m : Memory) (name : BlockName) (request : Request) → asked_of_book m (command.Cut name) ≡ Ok request → IsCutAsked request
 cut_asked m name request is =
-    let b = of_block (named m name) name (λ id. option_map_or (λ seen. Ok (Cut id seen)) (m.stamps id) (Err (Unseen name))) request is in
+    let b = of_block (block_id_of_name m name) name (λ id. option_map_or (λ seen. Ok (Cut id seen)) (m.stamps id) (Err (Unseen name))) request is in
     let s = of_block (m.stamps b.id) name (λ seen. Ok (Cut b.id seen)) request b.asks in
     record { id = b.id; seen = s.id; request_is = ok_is (Cut b.id s.id) request s.asks }
 
@@ -74,15 +74,15 @@ abbrev is_put_request : Request → Bool
 is_put_request (Put id seen head text) = true
 is_put_request q = false
 
-asked_kind : (m : Memory) (c : Command) (request : Request) → asked m c ≡ Ok request → is_put_command c ≡ is_put_request request
-asked_kind m (command.Look name) request is = let b = of_block (named m name) name (λ id. Ok (Look id)) request is in ap is_put_request (sym (ok_is (Look b.id) request b.asks))
+asked_kind : (m : Memory) (c : Command) (request : Request) → asked_of_book m c ≡ Ok request → is_put_command c ≡ is_put_request request
+asked_kind m (command.Look name) request is = let b = of_block (block_id_of_name m name) name (λ id. Ok (Look id)) request is in ap is_put_request (sym (ok_is (Look b.id) request b.asks))
 asked_kind m (command.Put name text) request is = ap is_put_request (sym (put_asked m name text request is).request_is)
 asked_kind m (command.Add at text) request is = ap is_put_request (sym (add_asked m at text request is).request_is)
 asked_kind m (command.Cut name) request is = ap is_put_request (sym (cut_asked m name request is).request_is)
 asked_kind m (command.LoopAt line) request is = ap is_put_request (sym (ok_is (LoopAt line) request is))
 asked_kind m command.Verdict request is = ap is_put_request (sym (ok_is VerdictNow request is))
 asked_kind m command.LookHead request is = ap is_put_request (sym (ok_is LookHead request is))
-asked_kind m (command.PutHead names) request is = ap is_put_request (sym (ok_is (PutHead (head_of m) names) request is))
+asked_kind m (command.PutHead names) request is = ap is_put_request (sym (ok_is (PutHead (known_header_stamp m) names) request is))
 
 some_is : (a b : Edit) → Some a ≡ Some b → a ≡ b
 some_is a b is = cc
@@ -99,5 +99,5 @@ edit_kind Texts block e is = absurd (cc)
 edit_kind (PutHead seen names) block e is = ap is_put (some_is (edit.Head seen names) e is)
 
 -- a command's edit is a put where the command is one
-pub put_kind : (m : Memory) (c : Command) (request : Request) (block : ℕ) (e : Edit) → asked m c ≡ Ok request → edit_of request block ≡ Some e → is_put_command c ≡ is_put e
+pub put_kind : (m : Memory) (c : Command) (request : Request) (block : ℕ) (e : Edit) → asked_of_book m c ≡ Ok request → edit_of request block ≡ Some e → is_put_command c ≡ is_put e
 put_kind m c request block e asks is = asked_kind m c request asks ∙ edit_kind request block e is

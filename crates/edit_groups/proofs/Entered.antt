@@ -7,14 +7,14 @@ use Rattle.edit_journal.specs.declared.edit.Edit.{Edit}
 use Rattle.edit_journal.specs.declared.edit.Edit.TheVariants as edit
 use Rattle.edit_journal.specs.declared.edit.Entry.{Entry}
 use Rattle.edit_journal.specs.declared.opening.Opening.{Opening}
-use Rattle.edit_journal.specs.Documents.{AreKnown, Block, Document, block_of, document_of, text_at}
+use Rattle.edit_journal.specs.Documents.{AreTextsKnown, Block, Document, block_of, document_of, text_at}
 use Rattle.edit_journal.specs.Entries.{entry_at}
 use Rattle.edit_journal.proofs.Known.{all_known, text_longer}
-use Rattle.edit_book.specs.Memory.{IsAnswered, asked_entry}
-use Rattle.edit_book.specs.Replies.{Request, Look, Put, Add, Cut, LoopAt, VerdictNow, LookHead, Texts, PutHead, accepted_block, cut_number, edit_of, entry_of, or_else, refusal_of, refused_entries, refused_head, refused_lines, refused_name, refused_stamp}
+use Rattle.edit_book.specs.Memory.{IsRequestAnswered, asked_entry}
+use Rattle.edit_book.specs.Replies.{Request, Look, Put, Add, Cut, LoopAt, VerdictNow, LookHead, Texts, PutHead, accepted_block, cut_number, edit_of, entry_of, refusal_or_else, refusal_of, refused_entries, refused_head, refused_lines, refused_name, refused_stamp}
 use Rattle.edit_book.specs.declared.reply.Reply.{Reply}
 use Rattle.edit_book.specs.declared.reply.Reply.TheVariants as reply
-use Rattle.edit_groups.specs.Answers.{AreAccepted, undoing}
+use Rattle.edit_groups.specs.Answers.{AreAccepted, request_undoing}
 use Rattle.edit_groups.specs.Chunks.{Undoable, undoable_edit, undoable_in}
 use Rattle.edit_groups.specs.Groups.{IsUndoable}
 use Rattle.edit_groups.proofs.Accepted.{IsEditAsked, accepted_edit}
@@ -59,17 +59,17 @@ accepted_in session request (reply.Unseen name) e is = absurd (cc)
 accepted_in session request (reply.BlockLong lines) e is = absurd (cc)
 accepted_in session request reply.NoMemory e is = absurd (cc)
 
-pub entered : (session : ℕ) (asked : Result Request Reply) (told : Reply) (e : Entry) → asked_entry session asked told ≡ Some e → IsEntered session asked told e
-entered session (Ok request) told e is = accepted_in session request told e is
-entered session (Err refusal) told e is = absurd (cc)
+pub entry_is_entered : (session : ℕ) (asked : Result Request Reply) (told : Reply) (e : Entry) → asked_entry session asked told ≡ Some e → IsEntered session asked told e
+entry_is_entered session (Ok request) told e is = accepted_in session request told e is
+entry_is_entered session (Err refusal) told e is = absurd (cc)
 
 -- both of two refusals don't apply
-or_none : (a b : Option Reply) → or_else a b ≡ None → (a ≡ None) × (b ≡ None)
+or_none : (a b : Option Reply) → refusal_or_else a b ≡ None → (a ≡ None) × (b ≡ None)
 or_none None b is = (refl, is)
 or_none (Some a) b is = absurd (cc)
 
 -- the text that a put replaces is known
-replaced : (o : Opening) (journal : List Entry) (blocks : List Block) (id seen : ℕ) (b : Block) → AreKnown o journal blocks → block_of blocks id ≡ Some b → b.stamp ≡ seen → text_at o journal id seen ≡ Some b.lines
+replaced : (o : Opening) (journal : List Entry) (blocks : List Block) (id seen : ℕ) (b : Block) → AreTextsKnown o journal blocks → block_of blocks id ≡ Some b → b.stamp ≡ seen → text_at o journal id seen ≡ Some b.lines
 replaced o journal [] id seen b known is stamp = absurd (cc)
 replaced o journal (x ∷ blocks) id seen b known is stamp = go (λ r. replaced o journal blocks id seen b known.1 r stamp) (x.id == id) refl is
   where
@@ -102,8 +102,8 @@ stamp_seen d journal id seen b some free = go (b.stamp == seen) refl (ap stale (
 
 put_replaces : (o : Opening) (journal : List Entry) (id seen head : ℕ) (text : List (List ℕ)) → refusal_of (document_of o journal) journal (Put id seen head text) ≡ None → (old : List (List ℕ)) × (text_at o journal id seen ≡ Some old)
 put_replaces o journal id seen head text free = let d : Document = document_of o journal in
-    let names = or_none (refused_name d journal id) (or_else (refused_stamp d journal id seen) (or_else (refused_head d journal head) (or_else (refused_entries journal) (refused_lines d journal (edit.Put id seen text))))) free in
-    let stamps = or_none (refused_stamp d journal id seen) (or_else (refused_head d journal head) (or_else (refused_entries journal) (refused_lines d journal (edit.Put id seen text)))) names.1 in
+    let names = or_none (refused_name d journal id) (refusal_or_else (refused_stamp d journal id seen) (refusal_or_else (refused_head d journal head) (refusal_or_else (refused_entries journal) (refused_lines d journal (edit.Put id seen text))))) free in
+    let stamps = or_none (refused_stamp d journal id seen) (refusal_or_else (refused_head d journal head) (refusal_or_else (refused_entries journal) (refused_lines d journal (edit.Put id seen text)))) names.1 in
     let there = named_there d journal id names.0 in
     (there.0.lines, replaced o journal d.blocks id seen there.0 (all_known o journal).blocks there.1 (stamp_seen d journal id seen there.0 there.1 stamps.0))
 
@@ -138,11 +138,11 @@ edit_undone o journal session request version block e free asks = go e.edit requ
     go (edit.Put id seen text) (PutHead seen' names) asks free is = absurd (cc)
 
 -- what undoes an entry that was accepted alone
-pub one_undone : (o : Opening) (journal : List Entry) (session : ℕ) (asked : Result Request Reply) (told : Reply) (e : Entry) → IsAnswered o journal asked told → asked_entry session asked told ≡ Some e
+pub one_undone : (o : Opening) (journal : List Entry) (session : ℕ) (asked : Result Request Reply) (told : Reply) (e : Entry) → IsRequestAnswered o journal asked told → asked_entry session asked told ≡ Some e
     → IfSome (undoable_in (length journal + 1) (e.edit ∷ [])) (IsUndoable o (journal ++ e ∷ []))
 one_undone o journal session asked told e answered is =
-    let x = entered session asked told e is in
-    let due = subst (λ (p : Result Request Reply × Reply). IsAnswered o journal p.0 p.1) (λ i. (x.asked_is i, x.told_is i)) answered in
+    let x = entry_is_entered session asked told e is in
+    let due = subst (λ (p : Result Request Reply × Reply). IsRequestAnswered o journal p.0 p.1) (λ i. (x.asked_is i, x.told_is i)) answered in
     edit_undone o journal session x.request x.version x.block e (accepted_edit o journal x.request x.version x.block x.brief due).0 x.edit_is
 
 -- and of those that were accepted one after the other
@@ -168,7 +168,7 @@ edit_longer journal more (suc i) f is = go (slice_get journal i) refl is
     go None none is = absurd (cc)
     go (Some x) some is = ap (option_map (λ (e : Entry). e.edit)) (got_longer journal more i x some) ∙ is
 
-undone_longer : (o : Opening) (journal more : List Entry) (n : ℕ) (f : Edit) → IsSome (undoing o journal n f) → IsSome (undoing o (journal ++ more) n f)
+undone_longer : (o : Opening) (journal more : List Entry) (n : ℕ) (f : Edit) → IsSome (request_undoing o journal n f) → IsSome (request_undoing o (journal ++ more) n f)
 undone_longer o journal more n (edit.Put id seen text) is = go (text_at o journal id seen) refl is
   where
     go : (t : Option (List (List ℕ))) → text_at o journal id seen ≡ t → IsSome (option_map (Put id n (document_of o journal).header.stamp) t) → IsSome (option_map (Put id n (document_of o (journal ++ more)).header.stamp) (text_at o (journal ++ more) id seen))

@@ -7,16 +7,16 @@ use Rattle.edit_journal.proofs.Known.{names_longer}
 use Rattle.script_reader.specs.declared.step.Step.{Step}
 use Rattle.edit_book.specs.Memory.{Memory}
 use Rattle.turn_book.specs.declared.view.View.{View}
-use Rattle.turn_book.specs.Journal.{listed}
-use Rattle.turn_book.specs.Taken.{IsTaken}
-use Rattle.edit_groups.specs.Chunks.{entries_of}
-use Rattle.edit_groups.specs.Sessions.{Heard, core}
+use Rattle.turn_book.specs.Journal.{entry_list}
+use Rattle.turn_book.specs.Taken.{IsCommandTaken}
+use Rattle.edit_groups.specs.Chunks.{entries_of_chunks}
+use Rattle.edit_groups.specs.Sessions.{HeardReply, group_core}
 use Rattle.edit_groups.specs.declared.chunk.Chunk.{Chunk}
 use Rattle.edit_groups.proofs.Undoable.{entries_append}
 
 -- what an entry gave it gave, whatever came behind it
-pub names_along : (o : Opening) (n : ℕ) (m : Memory) (c : Step) (h : Heard) (v w : View Opening Chunk) (head : ℕ) (names : List (List ℕ)) → IsTaken (core o) n m c h v w → names_given o (entries_of v.seen) head ≡ Some names → names_given o (entries_of w.seen) head ≡ Some names
+pub names_along : (o : Opening) (n : ℕ) (m : Memory) (c : Step) (h : HeardReply) (v w : View Opening Chunk) (head : ℕ) (names : List (List ℕ)) → IsCommandTaken (group_core o) n m c h v w → names_given o (entries_of_chunks v.seen) head ≡ Some names → names_given o (entries_of_chunks w.seen) head ≡ Some names
 names_along o n m c h v w head names t given =
     subst (λ (j : List Entry). names_given o j head ≡ Some names)
-    (sym (ap entries_of t.seen ∙ entries_append (v.seen ++ t.more) (listed t.added) ∙ ap (λ (l : List Entry). l ++ entries_of (listed t.added)) (entries_append v.seen t.more)))
-    (names_longer o (entries_of v.seen ++ entries_of t.more) (entries_of (listed t.added)) head names (names_longer o (entries_of v.seen) (entries_of t.more) head names given))
+    (sym (ap entries_of_chunks t.seen ∙ entries_append (v.seen ++ t.more) (entry_list t.added) ∙ ap (λ (l : List Entry). l ++ entries_of_chunks (entry_list t.added)) (entries_append v.seen t.more)))
+    (names_longer o (entries_of_chunks v.seen ++ entries_of_chunks t.more) (entries_of_chunks (entry_list t.added)) head names (names_longer o (entries_of_chunks v.seen) (entries_of_chunks t.more) head names given))

@@ -8,14 +8,14 @@ use Rattle.edit_journal.specs.declared.edit.Edit.TheVariants as edit
 use Rattle.script_reader.specs.declared.command.Command.{Command}
 use Rattle.script_reader.specs.declared.command.Command.TheVariants as command
 use Rattle.edit_book.specs.Asking.{TellsNoHeader}
-use Rattle.edit_book.specs.Memory.{Memory, head_told, memory_after, named, own_block, told_by, with_add}
+use Rattle.edit_book.specs.Memory.{Memory, head_told, memory_after, block_id_of_name, own_block, stamp_told_by, with_add}
 use Rattle.edit_book.specs.Session.{HasLearned}
 use Rattle.edit_book.specs.declared.reply.Reply.{Reply}
 use Rattle.edit_book.specs.declared.reply.Reply.TheVariants as reply
 use Rattle.edit_book.specs.declared.sessions.learned.Learned.{Learned}
 use Rattle.edit_book.proofs.NamesKept.{head_kept}
 use Rattle.edit_groups.specs.Sessions.{block_in, done_memory, missed_memory}
-use Rattle.edit_groups.specs.Turns.{AreTold, IsTaught, IsToldOf, ids_drawn, taught_block}
+use Rattle.edit_groups.specs.Turns.{AreEditsOfGroup, IsTaught, IsToldOf, ids_drawn, taught_block}
 use Rattle.edit_groups.proofs.GroupTold.{few_ids}
 
 pub missed_push : (m : Memory) (cs : List Command) (c : Command) → missed_memory m (cs ++ c ∷ []) ≡ memory_after (missed_memory m cs) c reply.NoMemory
@@ -32,7 +32,7 @@ own_kept : (adds : List (Option ℕ)) (x : Option ℕ) (n id : ℕ) → own_bloc
 own_kept adds x zero id is = absurd (cc)
 own_kept adds x (suc n) id is = own_more adds x n id is
 
-names_kept : (m : Memory) (c : Command) (r : Reply) (name : BlockName) (id : ℕ) → named m name ≡ Some id → named (memory_after m c r) name ≡ Some id
+names_kept : (m : Memory) (c : Command) (r : Reply) (name : BlockName) (id : ℕ) → block_id_of_name m name ≡ Some id → block_id_of_name (memory_after m c r) name ≡ Some id
 names_kept m c r (Id block) id is = is
 names_kept m (command.Add place text) r (Own n) id is = own_kept m.adds _ n id is
 names_kept m (command.Look name) r (Own n) id is = is
@@ -46,9 +46,9 @@ names_kept m (command.PutHead names) r (Own n) id is = is
 -- what an edit teaches, with the block that the session takes for its own
 record IsEditTaught (m : Memory) (next_id version : ℕ) (brief : Brief) (c : Command) (e : Edit) (stamp block : ℕ) : Type 0 where
   memory : memory_after m c (reply.Accepted version block brief) ≡ memory_after m c (reply.Accepted version (block_in e) brief)
-  head : head_told (told_by c (reply.Accepted version block brief)) stamp ≡ stamp
+  head : head_told (stamp_told_by c (reply.Accepted version block brief)) stamp ≡ stamp
 
-edit_taught : (m now : Memory) (next_id version : ℕ) (brief : Brief) (c : Command) (e : Edit) (head block : ℕ) → IsToldOf m next_id c e → ((name : BlockName) (id : ℕ) → named m name ≡ Some id → named now name ≡ Some id) → block ≡ taught_block now c next_id
+edit_taught : (m now : Memory) (next_id version : ℕ) (brief : Brief) (c : Command) (e : Edit) (head block : ℕ) → IsToldOf m next_id c e → ((name : BlockName) (id : ℕ) → block_id_of_name m name ≡ Some id → block_id_of_name now name ≡ Some id) → block ≡ taught_block now c next_id
     → IsEditTaught now next_id version brief c e head block
 edit_taught m now next_id version brief (command.Put name text) (edit.Put id seen lines) head block told names is =
     let same : block ≡ id = is ∙ ap (λ (o : Option ℕ). unwrap_or o 0) (names name id told.0) in
@@ -83,8 +83,8 @@ pub record IsLearning (m : Memory) (from : ℕ) (brief : Brief) (cs : List Comma
   pub now : Memory
   pub learned : HasLearned l now
   pub behind : done_memory now version brief (drop i cs) (drop i edits) ≡ done_memory m from brief cs edits
-  pub told : AreTold m next_id (drop i cs) (drop i edits)
-  pub names : (name : BlockName) (id : ℕ) → named m name ≡ Some id → named now name ≡ Some id
+  pub told : AreEditsOfGroup m next_id (drop i cs) (drop i edits)
+  pub names : (name : BlockName) (id : ℕ) → block_id_of_name m name ≡ Some id → block_id_of_name now name ≡ Some id
   pub head_is : l.head ≡ head
   pub numbers : version + length (drop i cs) < 2 ^ 32
   pub ids_fit : next_id + length (drop i cs) < 2 ^ 32
@@ -102,15 +102,15 @@ pub learning_goes_on : (m : Memory) (from : ℕ) (brief : Brief) (cs : List Comm
     → drop i cs ≡ c ∷ drop (i + 1) cs
     → ((x : Memory) → HasLearned l x → block ≡ taught_block x c next_id)
     → ((x : Memory) → HasLearned l x → HasLearned new (memory_after x c (reply.Accepted version block brief)))
-    → new.head ≡ head_told (told_by c (reply.Accepted version block brief)) l.head
+    → new.head ≡ head_told (stamp_told_by c (reply.Accepted version block brief)) l.head
     → later ≡ min (version + 1) (2 ^ 32 - 1) → next ≡ min (next_id + ids_drawn c) (2 ^ 32 - 1)
     → IsLearning m from brief cs edits head (i + 1) new later next
-learning_goes_on m from brief cs edits head i l new version next_id c block later next g rest block_is learns head_is later_is next_is = go (drop i edits) refl (subst (λ (z : List Command). AreTold m next_id z (drop i edits)) rest g.told)
+learning_goes_on m from brief cs edits head i l new version next_id c block later next g rest block_is learns head_is later_is next_is = go (drop i edits) refl (subst (λ (z : List Command). AreEditsOfGroup m next_id z (drop i edits)) rest g.told)
   where
     count : length (drop i cs) ≡ length (drop (i + 1) cs) + 1
     count = let is = ap length rest in omega (arith, is)
 
-    go : (es : List Edit) → drop i edits ≡ es → AreTold m next_id (c ∷ drop (i + 1) cs) es → IsLearning m from brief cs edits head (i + 1) new later next
+    go : (es : List Edit) → drop i edits ≡ es → AreEditsOfGroup m next_id (c ∷ drop (i + 1) cs) es → IsLearning m from brief cs edits head (i + 1) new later next
     go [] none told = absurd told
     go (e ∷ es) some told =
         let tail : drop (i + 1) edits ≡ es = next_drop edits i e es some in
@@ -126,7 +126,7 @@ learning_goes_on m from brief cs edits head i l new version next_id c block late
               ∙ ap (λ (z : Memory). done_memory z (version + 1) brief (drop (i + 1) cs) es) t.memory
               ∙ ap (λ (z : List Command × List Edit). done_memory g.now version brief z.0 z.1) (λ k. (sym rest k, sym some k))
               ∙ g.behind;
-          told = subst (λ (z : List Edit × ℕ). AreTold m z.1 (drop (i + 1) cs) z.0) (λ k. (sym tail k, sym id_is k)) told.1;
+          told = subst (λ (z : List Edit × ℕ). AreEditsOfGroup m z.1 (drop (i + 1) cs) z.0) (λ k. (sym tail k, sym id_is k)) told.1;
           names = λ name id is. names_kept g.now c (reply.Accepted version block brief) name id (g.names name id is);
           head_is = head_is ∙ t.head ∙ g.head_is;
           numbers = let few = g.numbers in omega (arith, version_is, few, count);

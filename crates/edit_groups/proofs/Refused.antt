@@ -5,11 +5,11 @@ use Rattle.edit_journal.specs.declared.edit.Edit.{Edit}
 use Rattle.edit_journal.specs.declared.edit.Entry.{Entry}
 use Rattle.edit_journal.specs.declared.opening.Opening.{Opening}
 use Rattle.edit_journal.specs.Documents.{Document, document_of}
-use Rattle.edit_book.specs.Replies.{Request, IsDue, IsGranted, IsReply, accepted_block, edit_of, entry_of, refusal_of, request_of}
-use Rattle.edit_book.specs.Turns.{IsFit}
+use Rattle.edit_book.specs.Replies.{Request, IsDue, IsGranted, IsReply, accepted_block, edit_of, entry_of, refusal_of, request_of_command}
+use Rattle.edit_book.specs.Turns.{IsFitBookCommand}
 use Rattle.edit_book.specs.declared.reply.BookCommand.{BookCommand}
 use Rattle.edit_book.specs.declared.reply.Reply.{Reply}
-use Rattle.edit_book.proofs.Refusals.{Refuses, refuses}
+use Rattle.edit_book.proofs.Refusals.{Refuses, refusal_may_come}
 use Rattle.edit_groups.specs.Carried.{IsFirstRefused}
 use Rattle.edit_groups.specs.Groups.{AreFitEdits, IsFitEdit, edit_asked}
 use Rattle.edit_groups.specs.declared.reply.GroupEdit.{GroupEdit}
@@ -24,24 +24,24 @@ begins : (edits : List GroupEdit) (first : GroupEdit) → Some first ≡ slice_g
 begins [] first is = absurd (cc)
 begins (e ∷ es) first is = let same : first ≡ e = cc in record { rest = es; edits_are = ap (λ (x : GroupEdit). x ∷ es) (sym same) }
 
-pub first_fits : (o : Opening) (journal : List Entry) (edits : List GroupEdit) (c : BookCommand) → Some (Ready c) ≡ slice_get edits 0 → AreFitEdits o journal edits → IsFit o journal c
+pub first_fits : (o : Opening) (journal : List Entry) (edits : List GroupEdit) (c : BookCommand) → Some (Ready c) ≡ slice_get edits 0 → AreFitEdits o journal edits → IsFitBookCommand o journal c
 first_fits o journal edits c is fit = let b = begins edits (Ready c) is in (subst (AreFitEdits o journal) b.edits_are fit).0.1
 
 -- a refusal of the book
-pub first_refused : (o : Opening) (journal : List Entry) (edits : List GroupEdit) (c : BookCommand) (r : Option Reply) → Some (Ready c) ≡ slice_get edits 0 → r ≡ refusal_of (document_of o journal) journal (request_of c)
+pub first_refused : (o : Opening) (journal : List Entry) (edits : List GroupEdit) (c : BookCommand) (r : Option Reply) → Some (Ready c) ≡ slice_get edits 0 → r ≡ refusal_of (document_of o journal) journal (request_of_command c)
     → IfSome r (IsFirstRefused o journal (map edit_asked edits))
 first_refused o journal edits c None is refusal = tt
 first_refused o journal edits c (Some told) is refusal =
     let b = begins edits (Ready c) is in
     let d : Document = document_of o journal in
-    let none : accepted_block told ≡ None = (subst (λ (x : Option Reply). IfSome x (λ r. accepted_block r ≡ None)) (sym refusal) (blocks (refusal_of d journal (request_of c)) (refuses d journal (request_of c)).fact)) in
+    let none : accepted_block told ≡ None = (subst (λ (x : Option Reply). IfSome x (λ r. accepted_block r ≡ None)) (sym refusal) (blocks (refusal_of d journal (request_of_command c)) (refusal_may_come d journal (request_of_command c)).fact)) in
     record {
-      here = Ok (request_of c);
+      here = Ok (request_of_command c);
       back = map edit_asked b.rest;
       asked_are = ap (map edit_asked) b.edits_are;
       refused = λ session. record {
-        answered = subst (λ (x : Option Reply). IsDue x (IsGranted o d (length journal) (request_of c) told) told) refusal refl;
-        none = ap (λ (x : Option ℕ). option_map (λ (e : Edit). record { session = session; edit = e }) (option_and_then (edit_of (request_of c)) x)) none;
+        answered = subst (λ (x : Option Reply). IsDue x (IsGranted o d (length journal) (request_of_command c) told) told) refusal refl;
+        none = ap (λ (x : Option ℕ). option_map (λ (e : Edit). record { session = session; edit = e }) (option_and_then (edit_of (request_of_command c)) x)) none;
       };
     }
   where

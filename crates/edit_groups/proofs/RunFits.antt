@@ -9,32 +9,32 @@ use Rattle.edit_journal.specs.declared.edit.Edit.{Edit}
 use Rattle.edit_journal.specs.declared.edit.Edit.TheVariants as edit
 use Rattle.edit_journal.specs.declared.edit.Entry.{Entry}
 use Rattle.edit_journal.specs.declared.opening.Opening.{Opening}
-use Rattle.edit_journal.specs.Documents.{Block, Document, Fits, HasAnchor, after, after_all, block_of, document_of, opened, stamp_at}
+use Rattle.edit_journal.specs.Documents.{Block, Document, EditFits, HasAnchor, after, after_all, block_of, document_of, document_opened, stamp_at}
 use Rattle.edit_journal.specs.Entries.{head_id}
 use Rattle.script_reader.specs.declared.step.Step.{Step}
-use Rattle.edit_book.specs.Memory.{Memory, IsAnswered, asked, asked_entry, first_memory}
-use Rattle.edit_book.specs.Replies.{Request, Look, Put, Add, Cut, LoopAt, VerdictNow, LookHead, Texts, PutHead, IsReply, cut_number, edit_of, or_else, refusal_of, refused_anchor, refused_blocks, refused_entries, refused_head, refused_lines, refused_name, refused_stamp}
+use Rattle.edit_book.specs.Memory.{Memory, IsRequestAnswered, asked_of_book, asked_entry, first_memory}
+use Rattle.edit_book.specs.Replies.{Request, Look, Put, Add, Cut, LoopAt, VerdictNow, LookHead, Texts, PutHead, IsReply, cut_number, edit_of, refusal_or_else, refusal_of, refused_anchor, refused_blocks, refused_entries, refused_head, refused_lines, refused_name, refused_stamp}
 use Rattle.edit_book.specs.declared.reply.Reply.{Reply}
 use Rattle.edit_book.specs.declared.reply.Reply.TheVariants as reply
 use Rattle.edit_book.proofs.Puts.{doc_snoc}
 use Rattle.turn_book.specs.Legal.{EachEntry}
 use Rattle.turn_book.proofs.AcceptedEntries.{entries_hold}
-use Rattle.edit_groups.specs.Answers.{AreAccepted, Asked, One, Group, Undo, IsOne, IsStep, done, refused, nothing, undone, edits_in}
-use Rattle.edit_groups.specs.Chunks.{Undoable, chunk_of, entries_by, entries_of, undoable}
+use Rattle.edit_groups.specs.Answers.{AreAccepted, AskedStep, One, Group, Undo, IsCommandAnswered, IsStep, done, refused, nothing, undone, edits_in}
+use Rattle.edit_groups.specs.Chunks.{Undoable, chunk_of, entries_by, entries_of_chunks, undoable_of_session}
 use Rattle.edit_groups.specs.Laws.{AreFitting}
-use Rattle.edit_groups.specs.Sessions.{Heard, IsHeard, IsLegalRun, core, step_asked}
+use Rattle.edit_groups.specs.Sessions.{HeardReply, IsStepHeard, IsLegalRun, group_core, step_asked}
 use Rattle.edit_groups.specs.declared.chunk.Chunk.{Chunk}
 use Rattle.edit_groups.specs.declared.reply.GroupReply.{GroupReply}
 use Rattle.edit_groups.proofs.Accepted.{IsEditAsked, accepted_edit}
 use Rattle.edit_groups.proofs.CoreLaws.{is_core}
-use Rattle.edit_groups.proofs.Entered.{entered}
+use Rattle.edit_groups.proofs.Entered.{entry_is_entered}
 use Rattle.edit_groups.proofs.Undoable.{entries_push}
 
-first_of : (a b : Option Reply) → or_else a b ≡ None → a ≡ None
+first_of : (a b : Option Reply) → refusal_or_else a b ≡ None → a ≡ None
 first_of None b is = refl
 first_of (Some x) b is = absurd (cc)
 
-rest_of : (a b : Option Reply) → or_else a b ≡ None → b ≡ None
+rest_of : (a b : Option Reply) → refusal_or_else a b ≡ None → b ≡ None
 rest_of None b is = is
 rest_of (Some x) b is = absurd (cc)
 
@@ -83,7 +83,7 @@ block_added (edit.Add anchor block text) = block
 block_added e = 0
 
 -- an accepted edit fits the document before it
-accepted_fits : (o : Opening) (journal : List Entry) (request : Request) (version block : ℕ) (brief : Brief) (e : Edit) → IsReply o journal request (reply.Accepted version block brief) → edit_of request block ≡ Some e → Fits (document_of o journal) e
+accepted_fits : (o : Opening) (journal : List Entry) (request : Request) (version block : ℕ) (brief : Brief) (e : Edit) → IsReply o journal request (reply.Accepted version block brief) → edit_of request block ≡ Some e → EditFits (document_of o journal) e
 accepted_fits o journal request version block brief e due is = go request a.0 is a.1.here a.1.next
   where
     d : Document
@@ -92,19 +92,19 @@ accepted_fits o journal request version block brief e due is = go request a.0 is
     a : (refusal_of d journal request ≡ None) × IsEditAsked d (length journal) request version block
     a = accepted_edit o journal request version block brief due
 
-    go : (q : Request) → refusal_of d journal q ≡ None → edit_of q block ≡ Some e → edit_of q block ≡ Some a.1.e → edit_of q d.drawn ≡ Some a.1.e → Fits d e
+    go : (q : Request) → refusal_of d journal q ≡ None → edit_of q block ≡ Some e → edit_of q block ≡ Some a.1.e → edit_of q d.drawn ≡ Some a.1.e → EditFits d e
     go (Put id seen head text) free is here next =
         let named = first_of (refused_name d journal id) _ free in
         let stamp = first_of (refused_stamp d journal id seen) _ (rest_of (refused_name d journal id) _ free) in
-        subst (Fits d) (some_edit (edit.Put id seen text) e is) (stamp_seen d journal id seen named stamp)
+        subst (EditFits d) (some_edit (edit.Put id seen text) e is) (stamp_seen d journal id seen named stamp)
     go (Add anchor head text) free is here next =
         let same : d.drawn ≡ block = ap block_added (some_edit (edit.Add anchor d.drawn text) a.1.e next ∙ sym (some_edit (edit.Add anchor block text) a.1.e here)) in
-        subst (Fits d) (some_edit (edit.Add anchor block text) e is) (sym same, has_anchor d journal anchor (first_of (refused_anchor d journal anchor) _ free))
+        subst (EditFits d) (some_edit (edit.Add anchor block text) e is) (sym same, has_anchor d journal anchor (first_of (refused_anchor d journal anchor) _ free))
     go (Cut id seen) free is here next =
         let named = first_of (refused_name d journal id) _ free in
         let stamp = first_of (refused_stamp d journal id seen) _ (rest_of (refused_name d journal id) _ free) in
-        subst (Fits d) (some_edit (edit.Cut id seen) e is) (stamp_seen d journal id seen named stamp)
-    go (PutHead seen names) free is here next = subst (Fits d) (some_edit (edit.Head seen names) e is) (head_seen d journal seen (first_of (refused_head d journal seen) _ free))
+        subst (EditFits d) (some_edit (edit.Cut id seen) e is) (stamp_seen d journal id seen named stamp)
+    go (PutHead seen names) free is here next = subst (EditFits d) (some_edit (edit.Head seen names) e is) (head_seen d journal seen (first_of (refused_head d journal seen) _ free))
     go (Look id) free is here next = absurd (cc)
     go (LoopAt line) free is here next = absurd (cc)
     go VerdictNow free is here next = absurd (cc)
@@ -112,9 +112,9 @@ accepted_fits o journal request version block brief e due is = go request a.0 is
     go Texts free is here next = absurd (cc)
 
 -- so does that of an answer
-answer_fits : (o : Opening) (n : ℕ) (journal : List Entry) (a : Result Request Reply) (told : Reply) (e : Entry) → IsAnswered o journal a told → asked_entry n a told ≡ Some e → Fits (document_of o journal) e.edit
-answer_fits o n journal a told e answered some = let x = entered n a told e some in
-    accepted_fits o journal x.request x.version x.block x.brief e.edit (subst (λ (z : Result Request Reply × Reply). IsAnswered o journal z.0 z.1) (λ i. (x.asked_is i, x.told_is i)) answered) x.edit_is
+answer_fits : (o : Opening) (n : ℕ) (journal : List Entry) (a : Result Request Reply) (told : Reply) (e : Entry) → IsRequestAnswered o journal a told → asked_entry n a told ≡ Some e → EditFits (document_of o journal) e.edit
+answer_fits o n journal a told e answered some = let x = entry_is_entered n a told e some in
+    accepted_fits o journal x.request x.version x.block x.brief e.edit (subst (λ (z : Result Request Reply × Reply). IsRequestAnswered o journal z.0 z.1) (λ i. (x.asked_is i, x.told_is i)) answered) x.edit_is
 
 -- which entries fit is told by their edits
 same_edits : (d : Document) (i n : ℕ) (es : List Entry) → AreFitting d i es → AreFitting d i (entries_by n (map (λ (e : Entry). e.edit) es))
@@ -151,14 +151,14 @@ accepted_fit o n journal (a ∷ asks) entries h =
 abbrev FitBehind : Opening → List Entry → ℕ → List Edit → Type 0
 FitBehind o journal n edits = AreFitting (document_of o journal) (length journal + 1) (entries_by n edits)
 
-one_fits : (o : Opening) (n : ℕ) (journal : List Entry) (a : Result Request Reply) (r : GroupReply) (edits : List Edit) → IsOne o n journal a r edits → FitBehind o journal n edits
+one_fits : (o : Opening) (n : ℕ) (journal : List Entry) (a : Result Request Reply) (r : GroupReply) (edits : List Edit) → IsCommandAnswered o n journal a r edits → FitBehind o journal n edits
 one_fits o n journal a r edits one = subst (FitBehind o journal n) (sym one.edits_are) (go (asked_entry n a one.told) refl)
   where
     go : (x : Option Entry) → asked_entry n a one.told ≡ x → FitBehind o journal n (edits_in x)
     go None none = tt
     go (Some e) some = (answer_fits o n journal a one.told e one.answered some, tt)
 
-step_fits : (o : Opening) (n : ℕ) (journal : List Entry) (last : Option Undoable) (asks : Asked) (r : GroupReply) (edits : List Edit) → IsStep o n journal last asks r edits → FitBehind o journal n edits
+step_fits : (o : Opening) (n : ℕ) (journal : List Entry) (last : Option Undoable) (asks : AskedStep) (r : GroupReply) (edits : List Edit) → IsStep o n journal last asks r edits → FitBehind o journal n edits
 step_fits o n journal last (One a) r edits one = one_fits o n journal a r edits one
 step_fits o n journal last (Group all) r edits (done entries brief accepted at) = same_edits (document_of o journal) (length journal + 1) n entries (accepted_fit o n journal all entries accepted)
 step_fits o n journal last (Group all) r edits (refused front a back entries told are accepted answered none) = tt
@@ -167,34 +167,34 @@ step_fits o n journal last Undo r edits (undone some request s es undoes one) = 
 
 -- a step that is accepted fits behind those before it
 abbrev StepFits : Opening → List Chunk → Chunk → Type 0
-StepFits o before c = FitBehind o (entries_of before) c.session c.edits
+StepFits o before c = FitBehind o (entries_of_chunks before) c.session c.edits
 
-heard_fits : (o : Opening) (n : ℕ) (before : List Chunk) (m : Memory) (c : Step) (h : Heard) (k : Chunk) → IsHeard o n before m c h → chunk_of n h.edits ≡ Some k → StepFits o before k
+heard_fits : (o : Opening) (n : ℕ) (before : List Chunk) (m : Memory) (c : Step) (h : HeardReply) (k : Chunk) → IsStepHeard o n before m c h → chunk_of n h.edits ≡ Some k → StepFits o before k
 heard_fits o n before m c h k heard is = go h.edits refl is
   where
     go : (es : List Edit) → h.edits ≡ es → chunk_of n es ≡ Some k → StepFits o before k
     go [] none is = absurd (cc)
     go (e ∷ es) some is = let same : record { session = n; edits = e ∷ es; earlier = false } ≡ k = cc in
         subst (StepFits o before) same
-        (subst (FitBehind o (entries_of before) n) some (step_fits o n (entries_of before) (undoable n before) (step_asked m c) h.reply h.edits heard.answer))
+        (subst (FitBehind o (entries_of_chunks before) n) some (step_fits o n (entries_of_chunks before) (undoable_of_session n before) (step_asked m c) h.reply h.edits heard.answer))
 
-all_fit : (o : Opening) (before rest : List Chunk) → EachEntry (StepFits o) before rest → AreFitting (document_of o (entries_of before)) (length (entries_of before) + 1) (entries_of rest)
+all_fit : (o : Opening) (before rest : List Chunk) → EachEntry (StepFits o) before rest → AreFitting (document_of o (entries_of_chunks before)) (length (entries_of_chunks before) + 1) (entries_of_chunks rest)
 all_fit o before [] each = tt
 all_fit o before (k ∷ rest) each =
-    let journal = entries_of before in
+    let journal = entries_of_chunks before in
     let es = entries_by k.session k.edits in
-    let next : entries_of (before ++ k ∷ []) ≡ journal ++ es = entries_push before k in
-    fit_append (document_of o journal) (length journal + 1) es (entries_of rest) each.0
-    (subst (λ (p : Document × ℕ). AreFitting p.0 p.1 (entries_of rest))
+    let next : entries_of_chunks (before ++ k ∷ []) ≡ journal ++ es = entries_push before k in
+    fit_append (document_of o journal) (length journal + 1) es (entries_of_chunks rest) each.0
+    (subst (λ (p : Document × ℕ). AreFitting p.0 p.1 (entries_of_chunks rest))
     (λ i. ((ap (document_of o) next ∙ behind journal es) i, (ap (λ (j : List Entry). length j + 1) next ∙ counted journal es) i))
     (all_fit o (before ++ k ∷ []) rest each.1))
   where
     behind : (xs ys : List Entry) → document_of o (xs ++ ys) ≡ after_all (document_of o xs) (length xs + 1) ys
-    behind xs ys = after_append (opened o) 1 xs ys ∙ ap (λ (k : ℕ). after_all (document_of o xs) k ys) (omega arith)
+    behind xs ys = after_append (document_opened o) 1 xs ys ∙ ap (λ (k : ℕ). after_all (document_of o xs) k ys) (omega arith)
 
     counted : (xs ys : List Entry) → length (xs ++ ys) + 1 ≡ length xs + 1 + length ys
     counted xs ys = omega (arith, length-append xs ys)
 
-pub run_fits : (o : Opening) (scripts : List (List Step)) (chunks : List Chunk) (replies : List (List GroupReply)) → IsLegalRun o scripts chunks replies → AreFitting (opened o) 1 (entries_of chunks)
+pub run_fits : (o : Opening) (scripts : List (List Step)) (chunks : List Chunk) (replies : List (List GroupReply)) → IsLegalRun o scripts chunks replies → AreFitting (document_opened o) 1 (entries_of_chunks chunks)
 run_fits o scripts chunks replies run =
-    all_fit o [] chunks (entries_hold (core o) (is_core o) (StepFits o) (λ n before m c h k heard is. heard_fits o n before m c h k heard is) (first_memory o) scripts chunks run.heard run.legal)
+    all_fit o [] chunks (entries_hold (group_core o) (is_core o) (StepFits o) (λ n before m c h k heard is. heard_fits o n before m c h k heard is) (first_memory o) scripts chunks run.heard run.legal)

@@ -3,12 +3,12 @@ use Rattle.std.specs.Prelude.{false, ◌≡◌, ◌⊎◌, ℕ, ◌+◌, List, [
 use Rattle.edit_journal.specs.declared.edit.Edit.{Edit}
 use Rattle.edit_journal.specs.declared.edit.Entry.{Entry}
 use Rattle.edit_journal.specs.declared.opening.Opening.{Opening}
-use Rattle.edit_book.specs.Memory.{IsAnswered, asked_entry}
+use Rattle.edit_book.specs.Memory.{IsRequestAnswered, asked_entry}
 use Rattle.edit_book.specs.Replies.{Request}
 use Rattle.edit_book.specs.declared.reply.Reply.{Reply}
 use Rattle.carriage_model.specs.declared.verdict.Brief.{Brief}
 use Rattle.edit_groups.specs.Answers.{AreAccepted, IsBriefAt}
-use Rattle.edit_groups.specs.Chunks.{entries_by, entries_of}
+use Rattle.edit_groups.specs.Chunks.{entries_by, entries_of_chunks}
 use Rattle.edit_groups.specs.declared.chunk.Chunk.{Chunk}
 use Rattle.edit_groups.specs.declared.reply.GroupReply.{GroupReply}
 use Rattle.edit_groups.specs.declared.reply.GroupReply.TheVariants as group
@@ -16,14 +16,14 @@ use Rattle.edit_groups.specs.declared.group.Stop.{Stop}
 use Rattle.edit_groups.specs.declared.group.Stop.TheVariants as stop
 
 -- what was asked is answered so, and isn't accepted
-pub record IsRefused (opening : Opening) (session : ℕ) (journal : List Entry) (asked : Result Request Reply) (told : Reply) : Type 0 where
-  pub answered : IsAnswered opening journal asked told
+pub record IsAskedRefused (opening : Opening) (session : ℕ) (journal : List Entry) (asked : Result Request Reply) (told : Reply) : Type 0 where
+  pub answered : IsRequestAnswered opening journal asked told
   pub none : asked_entry session asked told ≡ None
 
 -- what was asked is accepted, and leaves this edit, the last of the journal
 pub record IsEditDone (opening : Opening) (session : ℕ) (journal : List Entry) (asked : Result Request Reply) (e : Edit) (after : List Entry) : Type 0 where
   pub told : Reply
-  pub answered : IsAnswered opening journal asked told
+  pub answered : IsRequestAnswered opening journal asked told
   pub entered : asked_entry session asked told ≡ Some (record { session = session; edit = e })
   pub journal_is : after ≡ journal ++ record { session = session; edit = e } ∷ []
 
@@ -41,7 +41,7 @@ pub record IsStopped (opening : Opening) (session : ℕ) (journal : List Entry) 
   pub asked_are : asked ≡ front ++ here ∷ back
   pub number : at ≡ length front + 1
   pub accepted : AreAccepted opening session journal front entries
-  pub refused : IsRefused opening session (journal ++ entries) here told
+  pub refused : IsAskedRefused opening session (journal ++ entries) here told
 
 abbrev pub IsStopOf : Opening → ℕ → List Entry → List (Result Request Reply) → Stop → Type 0
 IsStopOf opening session journal asked (stop.Refused at told) = IsStopped opening session journal asked at told
@@ -56,11 +56,11 @@ stop_reply base stop.NoMemory = group.NoMemory
 abbrev pub IsTakenOver : Opening → List Chunk → ℕ → List Entry → List Edit → GroupReply → List Chunk → Type 0
 IsTakenOver opening before session journal edits r after =
     ((r ≡ group.NoMemory) × (after ≡ before))
-    ⊎ ((brief : Brief) × (r ≡ group.Done (length journal) (length (entries_of before) + 1) brief) × IsBriefAt opening journal brief × (after ≡ before ++ record { session = session; edits = edits; earlier = false } ∷ []))
+    ⊎ ((brief : Brief) × (r ≡ group.Done (length journal) (length (entries_of_chunks before) + 1) brief) × IsBriefAt opening journal brief × (after ≡ before ++ record { session = session; edits = edits; earlier = false } ∷ []))
 
 -- the first is refused so, whoever asks
 pub record IsFirstRefused (opening : Opening) (journal : List Entry) (asked : List (Result Request Reply)) (told : Reply) : Type 0 where
   pub here : Result Request Reply
   pub back : List (Result Request Reply)
   pub asked_are : asked ≡ here ∷ back
-  pub refused : (session : ℕ) → IsRefused opening session journal here told
+  pub refused : (session : ℕ) → IsAskedRefused opening session journal here told

@@ -10,8 +10,8 @@ abbrev pub entries_by : ℕ → List Edit → List Entry
 entries_by session edits = map (λ e. record { session = session; edit = e }) edits
 
 -- the journal of these steps: their edits in order
-abbrev pub entries_of : List Chunk → List Entry
-entries_of chunks = flat_map (λ c. entries_by c.session c.edits) chunks
+abbrev pub entries_of_chunks : List Chunk → List Entry
+entries_of_chunks chunks = flat_map (λ c. entries_by c.session c.edits) chunks
 
 -- the step that leaves these edits now, if there are some
 abbrev pub chunk_of : ℕ → List Edit → Option Chunk
@@ -54,8 +54,8 @@ undoable_from session number found [] = found
 undoable_from session number found (c ∷ cs) = undoable_from session (number + length c.edits) (if c.session == session then undoable_of number c else found) cs
 
 -- what can be undone of the session's last step
-abbrev pub undoable : ℕ → List Chunk → Option Undoable
-undoable session chunks = undoable_from session 1 None chunks
+abbrev pub undoable_of_session : ℕ → List Chunk → Option Undoable
+undoable_of_session session chunks = undoable_from session 1 None chunks
 
 -- the edit puts a text into a block
 abbrev pub is_put : Edit → Bool
@@ -65,6 +65,6 @@ is_put (edit.Cut block seen) = false
 is_put (edit.Head seen names) = false
 
 -- what would be undone is a put
-abbrev pub puts : Option Undoable → Bool
-puts None = false
-puts (Some last) = is_put last.edit
+abbrev pub is_put_undo : Option Undoable → Bool
+is_put_undo None = false
+is_put_undo (Some last) = is_put last.edit

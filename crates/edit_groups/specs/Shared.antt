@@ -8,9 +8,9 @@ use Rattle.edit_groups.specs.declared.reply.Told.{Told}
 use Rattle.turn_book.specs.Passes.{first_book}
 use Rattle.turn_book.specs.declared.pass.Shared.{Shared}
 
-abbrev pub opening_of : Shared GroupView GroupCommand Told Chunk Opening → Opening
-opening_of shared = (first_book shared).opening
+abbrev pub group_book_opening : Shared GroupView GroupCommand Told Chunk Opening → Opening
+group_book_opening shared = (first_book shared).opening
 
 -- the session that made a step
-abbrev pub session_of : Chunk → ℕ
-session_of chunk = chunk.session
+abbrev pub session_of_chunk : Chunk → ℕ
+session_of_chunk chunk = chunk.session

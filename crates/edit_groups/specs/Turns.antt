@@ -9,23 +9,23 @@ use Rattle.script_reader.specs.declared.command.Command.{Command}
 use Rattle.script_reader.specs.declared.command.Command.TheVariants as command
 use Rattle.script_reader.specs.declared.step.Step.{Step}
 use Rattle.script_reader.specs.declared.step.Step.TheVariants as step
-use Rattle.edit_book.specs.Memory.{Memory, head_told, named}
+use Rattle.edit_book.specs.Memory.{Memory, head_told, block_id_of_name}
 use Rattle.edit_book.specs.Session.{HasNames, Remembers}
 use Rattle.edit_book.specs.Turns as book
 use Rattle.edit_book.specs.declared.reply.BookCommand.{BookCommand}
 use Rattle.edit_book.specs.declared.reply.Reply.{Reply}
 use Rattle.edit_book.specs.declared.reply.Reply.TheVariants as reply
-use Rattle.edit_groups.specs.Alone.{KnowsLast}
-use Rattle.edit_groups.specs.Chunks.{entries_of}
-use Rattle.edit_groups.specs.Sessions.{Heard, core, put_memory, step_memory}
+use Rattle.edit_groups.specs.Alone.{KnowsLastUndo}
+use Rattle.edit_groups.specs.Chunks.{entries_of_chunks}
+use Rattle.edit_groups.specs.Sessions.{HeardReply, group_core, put_memory, step_memory}
 use Rattle.edit_groups.specs.declared.chunk.Chunk.{Chunk}
 use Rattle.edit_groups.specs.declared.reply.GroupReply.{GroupReply}
 use Rattle.edit_groups.specs.declared.reply.GroupReply.TheVariants as group
 use Rattle.edit_groups.specs.declared.reply.Told.{Told}
 use Rattle.edit_groups.specs.declared.session.GroupSession.{GroupSession}
 use Rattle.turn_book.specs.declared.view.View.{View}
-use Rattle.turn_book.specs.Journal.{Foreign, listed}
-use Rattle.turn_book.specs.Taken.{IsTaken}
+use Rattle.turn_book.specs.Journal.{Foreign, entry_list}
+use Rattle.turn_book.specs.Taken.{IsCommandTaken}
 
 -- the step of one entry
 abbrev pub step_of : Option Entry → Option Chunk
@@ -37,8 +37,8 @@ pub record IsOneTurn (opening : Opening) (session : ℕ) (c : BookCommand) (r : 
   pub more : List Chunk
   pub added : Option Entry
   pub foreign : Foreign (λ (k : Chunk). k.session) v.first v.past more
-  pub right : book.IsRight opening (entries_of (v.seen ++ more)) session c r added
-  pub seen : w.seen ≡ (v.seen ++ more) ++ listed (step_of added)
+  pub right : book.IsRightReply opening (entries_of_chunks (v.seen ++ more)) session c r added
+  pub seen : w.seen ≡ (v.seen ++ more) ++ entry_list (step_of added)
   pub first : w.first ≡ v.first
   pub past : w.past ≡ v.past
 
@@ -49,9 +49,9 @@ one_reply r = group.One r
 
 -- one command was answered so
 pub record IsOneHeard (opening : Opening) (session : ℕ) (m : Memory) (c : Command) (r : Reply) (v w : View Opening Chunk) : Type 0 where
-  pub heard : Heard
+  pub heard : HeardReply
   pub reply_is : one_reply r ≡ heard.reply
-  pub taken : IsTaken (core opening) session m (step.One c) heard v w
+  pub taken : IsCommandTaken (group_core opening) session m (step.One c) heard v w
 
 abbrev pub is_put_command : Command → Bool
 is_put_command (command.Put name text) = true
@@ -69,7 +69,7 @@ is_one_put (c ∷ next ∷ more) = false
 
 -- the edit is that of the command, with the block that its name means, or with the next id, and not with the header's
 abbrev pub IsToldOf : Memory → ℕ → Command → Edit → Type 0
-IsToldOf m next_id (command.Put name text) (edit.Put block seen lines) = (named m name ≡ Some block) × (block ≢ head_id)
+IsToldOf m next_id (command.Put name text) (edit.Put block seen lines) = (block_id_of_name m name ≡ Some block) × (block ≢ head_id)
 IsToldOf m next_id (command.Add place text) (edit.Add anchor block lines) = (next_id ≡ block) × (block ≢ head_id)
 IsToldOf m next_id (command.Cut name) (edit.Cut block seen) = Unit {0}
 IsToldOf m next_id c e = ⊥
@@ -81,18 +81,18 @@ ids_drawn c = 0
 
 -- the block of an edit that was done: the one that a put's name means, or the next id
 abbrev pub taught_block : Memory → Command → ℕ → ℕ
-taught_block m (command.Put name text) next_id = unwrap_or (named m name) 0
+taught_block m (command.Put name text) next_id = unwrap_or (block_id_of_name m name) 0
 taught_block m c next_id = next_id
 
 -- these are the edits of the commands of a group, where so many ids were drawn before them
-abbrev pub AreTold : Memory → ℕ → List Command → List Edit → Type 0
-AreTold m next_id [] [] = Unit {0}
-AreTold m next_id (c ∷ cs) (e ∷ es) = IsToldOf m next_id c e × AreTold m (next_id + ids_drawn c) cs es
-AreTold m next_id cs es = ⊥
+abbrev pub AreEditsOfGroup : Memory → ℕ → List Command → List Edit → Type 0
+AreEditsOfGroup m next_id [] [] = Unit {0}
+AreEditsOfGroup m next_id (c ∷ cs) (e ∷ es) = IsToldOf m next_id c e × AreEditsOfGroup m (next_id + ids_drawn c) cs es
+AreEditsOfGroup m next_id cs es = ⊥
 
 -- and their numbers and ids are within the range of numbers
 pub record IsTaught (m : Memory) (from ids : ℕ) (cs : List Command) (edits : List Edit) : Type 0 where
-  pub told : AreTold m ids cs edits
+  pub told : AreEditsOfGroup m ids cs edits
   pub numbers : from + length cs < 2 ^ 32
   pub ids_fit : ids + length cs < 2 ^ 32
 
@@ -102,9 +102,9 @@ IsTaughtWhereDone m ids cs r edits = Unit {0}
 
 -- a group was answered so
 pub record IsGroupHeard (opening : Opening) (session : ℕ) (m : Memory) (cs : List Command) (told : Told) (v w : View Opening Chunk) : Type 0 where
-  pub heard : Heard
+  pub heard : HeardReply
   pub reply_is : told.reply ≡ heard.reply
-  pub taken : IsTaken (core opening) session m (step.Group cs) heard v w
+  pub taken : IsCommandTaken (group_core opening) session m (step.Group cs) heard v w
   pub taught : IsTaughtWhereDone m told.ids cs heard.reply heard.edits
 
 -- what is remembered after an undo, where it is known whether that was to put a text back
@@ -122,16 +122,16 @@ undone_head true r head = put_head r head
 undone_head false r head = head
 
 -- the session remembers something, and the names that it keeps are those of its stamp of the header
-pub record IsKept (opening : Opening) (seen : List Chunk) (s : GroupSession) : Type 0 where
+pub record IsSessionKept (opening : Opening) (seen : List Chunk) (s : GroupSession) : Type 0 where
   pub memory : Memory
   pub remembers : Remembers s.session memory
-  pub names : HasNames opening (entries_of seen) s.session
+  pub names : HasNames opening (entries_of_chunks seen) s.session
 
 -- The session s has heard this reply to its step, and is t since. Where it knew whether an undo would put a text back, it remembers the reply, and knows the same of this step.
-pub record IsDone (opening : Opening) (m : Memory) (c : Step) (r : GroupReply) (v w : View Opening Chunk) (s t : GroupSession) : Type 0 where
-  pub heard : Heard
+pub record IsStepDone (opening : Opening) (m : Memory) (c : Step) (r : GroupReply) (v w : View Opening Chunk) (s t : GroupSession) : Type 0 where
+  pub heard : HeardReply
   pub reply_is : r ≡ heard.reply
-  pub taken : IsTaken (core opening) s.session.number m c heard v w
-  pub kept : IsKept opening w.seen t
-  pub remembers : KnowsLast v.seen s → Remembers t.session (step_memory m c heard)
-  pub last : KnowsLast v.seen s → KnowsLast w.seen t
+  pub taken : IsCommandTaken (group_core opening) s.session.number m c heard v w
+  pub kept : IsSessionKept opening w.seen t
+  pub remembers : KnowsLastUndo v.seen s → Remembers t.session (step_memory m c heard)
+  pub last : KnowsLastUndo v.seen s → KnowsLastUndo w.seen t

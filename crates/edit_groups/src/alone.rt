@@ -10,8 +10,8 @@ ghost use Rattle.script_reader.specs.declared.step.Step.TheVariants as step;
 ghost use Rattle.edit_book.specs.Memory.{Memory, text_limit};
 ghost use Rattle.edit_book.specs.Session.{HasNames};
 ghost use Rattle.edit_groups.specs.Alone.{IsAnsweredAt, IsSessionAt};
-ghost use Rattle.edit_groups.specs.Chunks.{entries_of};
-ghost use Rattle.edit_groups.specs.Shared.{opening_of};
+ghost use Rattle.edit_groups.specs.Chunks.{entries_of_chunks};
+ghost use Rattle.edit_groups.specs.Shared.{group_book_opening};
 ghost use Rattle.edit_groups.specs.declared.chunk.Chunk as chunks;
 ghost use Rattle.edit_groups.specs.declared.reply.GroupReply.TheVariants as reply;
 ghost use Rattle.turn_book.specs.Passes.{IsPassOf, view_of};
@@ -41,15 +41,15 @@ pub fn do_alone<R: Threads + Wait + Sync>(
     requires of_this { IsPassOf shared.now pass.old }
     requires whole { ((view_of pass.old).first ≡ 0) × ((view_of pass.old).past ≡ (view_of pass.old).count) }
     requires number { session.old.session.number < (view_of pass.old).past }
-    requires setting { (opening_of shared.now).setting ≡ setting.now }
+    requires setting { (group_book_opening shared.now).setting ≡ setting.now }
     requires profile { IsLawfulProfile setting.now.profile }
     requires step { is_lawful_step step.now ≡ true }
-    requires names { HasNames (opening_of shared.now) (entries_of (view_of pass.old).seen) session.old.session }
+    requires names { HasNames (group_book_opening shared.now) (entries_of_chunks (view_of pass.old).seen) session.old.session }
     ensures of_this { IsPassOf shared.now pass.new }
     ensures whole { ((view_of pass.new).first ≡ 0) × ((view_of pass.new).past ≡ (view_of pass.new).count) }
     ensures number { session.new.session.number ≡ session.old.session.number }
-    ensures answered { (m : Memory) → IsSessionAt (opening_of shared.now) (view_of pass.old).seen m session.old
-        → IsAnsweredAt (opening_of shared.now) session.old.session.number m step.now result (view_of pass.old).seen (view_of pass.new).seen session.new }
+    ensures answered { (m : Memory) → IsSessionAt (group_book_opening shared.now) (view_of pass.old).seen m session.old
+        → IsAnsweredAt (group_book_opening shared.now) session.old.session.number m step.now result (view_of pass.old).seen (view_of pass.new).seen session.new }
 {
     let reply = do_step(rt, alloc, shared, pass, setting, session, step);
     // What the pass has then seen has entries of its numbers alone.

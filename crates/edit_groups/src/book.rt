@@ -1,12 +1,12 @@
 //! A book on which groups of edits are carried out, and edits undone.
 ghost use Rattle.std.specs.Prelude.{◌≡◌, ◌<◌, ◌≤◌, ◌+◌, [], ◌∷◌, IfOk, Ok, length};
 ghost use Rattle.std.specs.Option.{option_to_list};
-ghost use Rattle.edit_book.specs.Replies.{edit_of, request_of};
-ghost use Rattle.edit_book.specs.Turns.{IsFit};
+ghost use Rattle.edit_book.specs.Replies.{edit_of, request_of_command};
+ghost use Rattle.edit_book.specs.Turns.{IsFitBookCommand};
 ghost use Rattle.edit_book.specs.Work.{command_limit};
 ghost use Rattle.edit_groups.specs.Answers as asked;
-ghost use Rattle.edit_groups.specs.Chunks.{earlier_steps, entries_of, undoable_in};
-ghost use Rattle.edit_groups.specs.Groups.{IsTaken, number_kept};
+ghost use Rattle.edit_groups.specs.Chunks.{earlier_steps, entries_of_chunks, undoable_in};
+ghost use Rattle.edit_groups.specs.Groups.{IsStepTaken, number_kept};
 
 use crate::chunk::{Chunk, ChunkList, EditList};
 use crate::reply::GroupReply;
@@ -31,13 +31,13 @@ pub struct GroupBook {
 impl Model for GroupBook {
     ghost use Rattle.std.specs.Coded.{codes};
     ghost use Rattle.tree_shape.specs.View.{tree_code};
-    ghost use Rattle.edit_groups.specs.Groups.{GroupView, IsKept};
+    ghost use Rattle.edit_groups.specs.Groups.{GroupView, IsGroupBookKept};
 
     ghost Value = { GroupView };
 
     ghost view = { λ b. record { opening = b.book.opening; chunks = b.chunks.items } };
 
-    ghost invariant = { λ b. IsKept b.book b.chunks.items b.undoable };
+    ghost invariant = { λ b. IsGroupBookKept b.book b.chunks.items b.undoable };
 }
 
 impl GroupBook {
@@ -73,7 +73,7 @@ impl GroupBook {
     /// The book, whose journal has the edits of all accepted steps. Takes no memory.
     pub fn book(&self) -> &Book
         ensures opening { result.now.opening ≡ self.now.opening }
-        ensures entries { result.now.entries ≡ entries_of self.now.chunks }
+        ensures entries { result.now.entries ≡ entries_of_chunks self.now.chunks }
     {
         &self.book
     }
@@ -81,7 +81,7 @@ impl GroupBook {
     /// The book, and the edits of each step that was accepted. Takes no memory.
     pub fn into_parts(self) -> (Book, ChunkList)
         ensures opening { result.0.opening ≡ self.opening }
-        ensures entries { result.0.entries ≡ entries_of self.chunks }
+        ensures entries { result.0.entries ≡ entries_of_chunks self.chunks }
         ensures chunks { result.1 ≡ self.chunks }
     {
         let GroupBook { book, chunks, .. } = self;
@@ -96,10 +96,10 @@ impl GroupBook {
         steps: &mut Steps<L>,
     ) -> GroupReply
         requires number { number < 64 }
-        requires fits { IsFit self.old.opening (entries_of self.old.chunks) command }
+        requires fits { IsFitBookCommand self.old.opening (entries_of_chunks self.old.chunks) command }
         ensures opening { self.new.opening ≡ self.old.opening }
-        ensures taken { IsTaken self.old.opening self.old.chunks number (asked.One (Ok (request_of command))) result self.new.chunks }
-        ensures steps { steps.new ≤ steps.old + command_limit self.old.opening (entries_of self.old.chunks) command }
+        ensures taken { IsStepTaken self.old.opening self.old.chunks number (asked.One (Ok (request_of_command command))) result self.new.chunks }
+        ensures steps { steps.new ≤ steps.old + command_limit self.old.opening (entries_of_chunks self.old.chunks) command }
     {
         let Ok(edits) = edits_asked(self.alloc, &command, self.book.ids()) else {
             return GroupReply::NoMemory;
@@ -164,7 +164,7 @@ pub(crate) fn edits_asked(
     command: &BookCommand,
     ids: u32,
 ) -> Result<EditList, NoMemory>
-    ensures { IfOk result (λ edits. edits ≡ option_to_list (edit_of (request_of command.now) ids)) }
+    ensures { IfOk result (λ edits. edits ≡ option_to_list (edit_of (request_of_command command.now) ids)) }
 {
     match command {
         BookCommand::Put {

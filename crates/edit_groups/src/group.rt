@@ -3,9 +3,9 @@ ghost use Rattle.std.specs.Prelude.{◌≡◌, ◌⊎◌, ◌<◌, ◌≤◌, �
 ghost use Rattle.edit_book.specs.Books.{document};
 ghost use Rattle.edit_book.specs.declared.reply.Reply.TheVariants as reply;
 ghost use Rattle.edit_groups.specs.Answers as asked;
-ghost use Rattle.edit_groups.specs.Carried.{IsCarriedOut, IsEditDone, IsFirstRefused, IsRefused, IsStopOf, IsTakenOver, stop_reply};
-ghost use Rattle.edit_groups.specs.Chunks.{entries_by, entries_of, undoable_in};
-ghost use Rattle.edit_groups.specs.Groups.{AreFitEdits, IsFitEdit, IsTaken, IsUndoable, each_limit, edit_asked, edit_limit, group_limit};
+ghost use Rattle.edit_groups.specs.Carried.{IsCarriedOut, IsEditDone, IsFirstRefused, IsAskedRefused, IsStopOf, IsTakenOver, stop_reply};
+ghost use Rattle.edit_groups.specs.Chunks.{entries_by, entries_of_chunks, undoable_in};
+ghost use Rattle.edit_groups.specs.Groups.{AreFitEdits, IsFitEdit, IsStepTaken, IsUndoable, each_limit, edit_asked, group_edit_limit, group_limit};
 ghost use Rattle.edit_groups.specs.declared.group.Stop.TheVariants as stop;
 
 use crate::book::{GroupBook, edits_asked, number_undoable};
@@ -44,11 +44,11 @@ impl GroupBook {
         steps: &mut Steps<L>,
     ) -> GroupReply
         requires number { number < 64 }
-        requires fits { AreFitEdits self.old.opening (entries_of self.old.chunks) edits }
+        requires fits { AreFitEdits self.old.opening (entries_of_chunks self.old.chunks) edits }
         requires some { (0 < length edits) × (length edits ≤ 64) }
         ensures opening { self.new.opening ≡ self.old.opening }
-        ensures taken { IsTaken self.old.opening self.old.chunks number (asked.Group (map edit_asked edits)) result self.new.chunks }
-        ensures steps { steps.new ≤ steps.old + group_limit self.old.opening (entries_of self.old.chunks) edits }
+        ensures taken { IsStepTaken self.old.opening self.old.chunks number (asked.Group (map edit_asked edits)) result self.new.chunks }
+        ensures steps { steps.new ≤ steps.old + group_limit self.old.opening (entries_of_chunks self.old.chunks) edits }
     {
         let base = self.book.version();
         if let Some(reply) = refused_at_once(&self.book, &edits) {
@@ -68,9 +68,9 @@ impl GroupBook {
     fn take_over(&mut self, number: u32, copy: Book, edits: EditList) -> GroupReply
         requires number { number < 64 }
         requires opening { copy.opening ≡ self.old.opening }
-        requires journal { copy.entries ≡ entries_of self.old.chunks ++ entries_by number edits }
+        requires journal { copy.entries ≡ entries_of_chunks self.old.chunks ++ entries_by number edits }
         requires some { 0 < length edits }
-        requires undone { IfSome (undoable_in (length (entries_of self.old.chunks) + 1) edits) (IsUndoable self.old.opening (entries_of self.old.chunks ++ entries_by number edits)) }
+        requires undone { IfSome (undoable_in (length (entries_of_chunks self.old.chunks) + 1) edits) (IsUndoable self.old.opening (entries_of_chunks self.old.chunks ++ entries_by number edits)) }
         ensures opening { self.new.opening ≡ self.old.opening }
         ensures taken { IsTakenOver self.old.opening self.old.chunks number copy.entries edits result self.new.chunks }
     {
@@ -169,8 +169,8 @@ fn carry_out_one<L: Ledger>(
     requires fits { IsFitEdit book.old.opening book.old.entries edit }
     ensures opening { book.new.opening ≡ book.old.opening }
     ensures done { IfOk result (λ e. IsEditDone book.old.opening number book.old.entries (edit_asked edit) e book.new.entries) }
-    ensures refused { IfErr result (λ told. (told ≡ reply.NoMemory) ⊎ IsRefused book.old.opening number book.old.entries (edit_asked edit) told) }
-    ensures steps { steps.new ≤ steps.old + edit_limit book.old.opening (document book.old) edit }
+    ensures refused { IfErr result (λ told. (told ≡ reply.NoMemory) ⊎ IsAskedRefused book.old.opening number book.old.entries (edit_asked edit) told) }
+    ensures steps { steps.new ≤ steps.old + group_edit_limit book.old.opening (document book.old) edit }
 {
     let command = match edit {
         GroupEdit::Ready(command) => command,

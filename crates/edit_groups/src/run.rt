@@ -6,8 +6,8 @@ ghost use Rattle.knit_base.specs.Limits.{IsLawfulProfile};
 ghost use Rattle.edit_journal.specs.declared.opening.Opening.{Opening};
 ghost use Rattle.script_reader.specs.Groups.{is_lawful_step};
 ghost use Rattle.edit_groups.specs.Sessions.{IsLegalRun};
-ghost use Rattle.edit_groups.specs.Shared.{opening_of, session_of};
-ghost use Rattle.edit_groups.specs.Talks.{AreHeard, IsHeardAlong, IsReady, replies_of};
+ghost use Rattle.edit_groups.specs.Shared.{group_book_opening, session_of_chunk};
+ghost use Rattle.edit_groups.specs.Talks.{AreSessionsHeard, IsHeardAlong, IsGroupTalkReady, group_talk_replies};
 ghost use Rattle.turn_book.specs.Journal.{Foreign};
 ghost use Rattle.turn_book.specs.Passes.{IsPassOf, view_of};
 ghost use Rattle.turn_book.specs.Ready.{AreReady};
@@ -41,15 +41,15 @@ pub fn run_groups<G: Gate + Sync, R: Threads + Wait + Sync>(
 ) -> Result<(Pass<GroupBook>, GroupReplies), Pass<GroupBook>>
     requires of_this { IsPassOf shared.now pass }
     requires range { (view_of pass).first + length scripts.now ≡ (view_of pass).past }
-    requires setting { (opening_of shared.now).setting ≡ setting.now }
+    requires setting { (group_book_opening shared.now).setting ≡ setting.now }
     requires profile { IsLawfulProfile setting.now.profile }
-    requires blocks { length (opening_of shared.now).texts ≡ blocks }
+    requires blocks { length (group_book_opening shared.now).texts ≡ blocks }
     requires steps { list_all (list_all is_lawful_step) scripts.now ≡ true }
     ensures unstarted { IfErr result (λ rest. rest ≡ pass) }
     ensures of_this { IfOk result (λ r. IsPassOf shared.now r.0) }
     ensures range { IfOk result (λ r. ((view_of r.0).first ≡ (view_of pass).first) × ((view_of r.0).past ≡ (view_of pass).past)) }
-    ensures heard { Foreign session_of (view_of pass).first (view_of pass).past (view_of pass).seen → IfOk result (λ r. AreHeard (opening_of shared.now) (view_of pass).first (view_of r.0).seen scripts.now r.1) }
-    ensures legal { (view_of pass).first ≡ 0 → (view_of pass).past ≡ (view_of pass).count → (view_of pass).seen ≡ [] → IfOk result (λ r. IsLegalRun (opening_of shared.now) scripts.now (view_of r.0).seen r.1) }
+    ensures heard { Foreign session_of_chunk (view_of pass).first (view_of pass).past (view_of pass).seen → IfOk result (λ r. AreSessionsHeard (group_book_opening shared.now) (view_of pass).first (view_of r.0).seen scripts.now r.1) }
+    ensures legal { (view_of pass).first ≡ 0 → (view_of pass).past ≡ (view_of pass).count → (view_of pass).seen ≡ [] → IfOk result (λ r. IsLegalRun (group_book_opening shared.now) scripts.now (view_of r.0).seen r.1) }
 {
     let Ok(mut talks) = begin(alloc, pass.first(), blocks, &setting.declared, scripts) else {
         return Err(pass);
@@ -78,7 +78,7 @@ pub fn run_groups<G: Gate + Sync, R: Threads + Wait + Sync>(
 fn into_replies(talks: Vec<Talk>, mut lists: Vec<Vec<GroupReply>>) -> Vec<Vec<GroupReply>>
     requires empty { lists.items ≡ [] }
     requires room { length talks.items ≤ vec_capacity lists }
-    ensures { map (λ list. list.items) result.items ≡ map replies_of talks.items }
+    ensures { map (λ list. list.items) result.items ≡ map group_talk_replies talks.items }
 {
     for talk in talks {
         let Talk {
@@ -100,7 +100,7 @@ fn begin(
 ) -> Result<Vec<Talk>, NoMemory>
     requires few { first + length scripts.now ≤ 64 }
     requires steps { list_all (list_all is_lawful_step) scripts.now ≡ true }
-    ensures ready { IfOk result (λ talks. (opening : Opening) → length opening.texts ≡ blocks → opening.setting.declared ≡ declared.now → AreReady (IsReady opening) first scripts.now talks.items) }
+    ensures ready { IfOk result (λ talks. (opening : Opening) → length opening.texts ≡ blocks → opening.setting.declared ≡ declared.now → AreReady (IsGroupTalkReady opening) first scripts.now talks.items) }
     ensures count { IfOk result (λ talks. length talks.items ≡ length scripts.now) }
 {
     let mut talks = Vec::with_capacity(alloc, scripts.len())?;
@@ -125,13 +125,13 @@ fn talk<G: Gate, R: Threads + Wait + Sync>(
 )
     requires of_this { IsPassOf shared.now pass.old }
     requires range { (view_of pass.old).past ≡ (view_of pass.old).first + 1 }
-    requires setting { (opening_of shared.now).setting ≡ setting.now }
+    requires setting { (group_book_opening shared.now).setting ≡ setting.now }
     requires profile { IsLawfulProfile setting.now.profile }
     requires short { length script.now < 2 ^ 32 }
-    requires ready { IsReady (opening_of shared.now) (view_of pass.old).first script.now talk.old }
+    requires ready { IsGroupTalkReady (group_book_opening shared.now) (view_of pass.old).first script.now talk.old }
     ensures of_this { IsPassOf shared.now pass.new }
     ensures range { ((view_of pass.new).first ≡ (view_of pass.old).first) × ((view_of pass.new).past ≡ (view_of pass.old).past) }
-    ensures heard { Foreign session_of (view_of pass.old).first (view_of pass.old).past (view_of pass.old).seen → IsHeardAlong (opening_of shared.now) (view_of pass.old).first (view_of pass.new).seen script.now (replies_of talk.new) }
+    ensures heard { Foreign session_of_chunk (view_of pass.old).first (view_of pass.old).past (view_of pass.old).seen → IsHeardAlong (group_book_opening shared.now) (view_of pass.old).first (view_of pass.new).seen script.now (group_talk_replies talk.new) }
 {
     let Talk { session, replies } = talk;
     let number = pass.first();
@@ -159,13 +159,13 @@ pub(crate) fn run<G: Gate + Sync, R: Threads + Wait + Sync>(
     requires of_this { IsPassOf shared.now pass.old }
     requires range { (view_of pass.old).first + length scripts.now ≡ (view_of pass.old).past }
     requires some { 0 < length scripts.now }
-    requires setting { (opening_of shared.now).setting ≡ setting.now }
+    requires setting { (group_book_opening shared.now).setting ≡ setting.now }
     requires profile { IsLawfulProfile setting.now.profile }
     requires same { length talks.old ≡ length scripts.now }
-    requires ready { AreReady (IsReady (opening_of shared.now)) (view_of pass.old).first scripts.now talks.old }
+    requires ready { AreReady (IsGroupTalkReady (group_book_opening shared.now)) (view_of pass.old).first scripts.now talks.old }
     ensures of_this { IsPassOf shared.now pass.new }
     ensures range { ((view_of pass.new).first ≡ (view_of pass.old).first) × ((view_of pass.new).past ≡ (view_of pass.old).past) }
-    ensures heard { Foreign session_of (view_of pass.old).first (view_of pass.old).past (view_of pass.old).seen → AreHeard (opening_of shared.now) (view_of pass.old).first (view_of pass.new).seen scripts.now (map replies_of talks.new) }
+    ensures heard { Foreign session_of_chunk (view_of pass.old).first (view_of pass.old).past (view_of pass.old).seen → AreSessionsHeard (group_book_opening shared.now) (view_of pass.old).first (view_of pass.new).seen scripts.now (map group_talk_replies talks.new) }
 {
     if scripts.len() < 2 {
         talk(
@@ -188,12 +188,12 @@ pub(crate) fn run<G: Gate + Sync, R: Threads + Wait + Sync>(
     join_mut(
         rt,
         &mut ||
-            requires { IsSync R.row × IsSync G.row × ((opening_of shared.now).setting ≡ setting.now) × IsLawfulProfile setting.now.profile × IsPassOf shared.now right × ((view_of right).first + length others.now ≡ (view_of right).past) × (0 < length others.now) × (length back.now ≡ length others.now) × AreReady (IsReady (opening_of shared.now)) (view_of right).first others.now back.now }
-            ensures { IsPassOf shared.entry.now right.exit × ((view_of right.exit).first ≡ (view_of right.entry).first) × ((view_of right.exit).past ≡ (view_of right.entry).past) × (Foreign session_of (view_of right.entry).first (view_of right.entry).past (view_of right.entry).seen → AreHeard (opening_of shared.entry.now) (view_of right.entry).first (view_of right.exit).seen others.entry.now (map replies_of back.exit.now)) }
+            requires { IsSync R.row × IsSync G.row × ((group_book_opening shared.now).setting ≡ setting.now) × IsLawfulProfile setting.now.profile × IsPassOf shared.now right × ((view_of right).first + length others.now ≡ (view_of right).past) × (0 < length others.now) × (length back.now ≡ length others.now) × AreReady (IsGroupTalkReady (group_book_opening shared.now)) (view_of right).first others.now back.now }
+            ensures { IsPassOf shared.entry.now right.exit × ((view_of right.exit).first ≡ (view_of right.entry).first) × ((view_of right.exit).past ≡ (view_of right.entry).past) × (Foreign session_of_chunk (view_of right.entry).first (view_of right.entry).past (view_of right.entry).seen → AreSessionsHeard (group_book_opening shared.entry.now) (view_of right.entry).first (view_of right.exit).seen others.entry.now (map group_talk_replies back.exit.now)) }
         { run(rt, alloc, gate, shared, setting, others, &mut right, back) },
         &mut ||
-            requires { IsSync R.row × IsSync G.row × ((opening_of shared.now).setting ≡ setting.now) × IsLawfulProfile setting.now.profile × IsPassOf shared.now pass.now × ((view_of pass.now).first + length own.now ≡ (view_of pass.now).past) × (0 < length own.now) × (length front.now ≡ length own.now) × AreReady (IsReady (opening_of shared.now)) (view_of pass.now).first own.now front.now }
-            ensures { IsPassOf shared.entry.now pass.exit.now × ((view_of pass.exit.now).first ≡ (view_of pass.entry.now).first) × ((view_of pass.exit.now).past ≡ (view_of pass.entry.now).past) × (Foreign session_of (view_of pass.entry.now).first (view_of pass.entry.now).past (view_of pass.entry.now).seen → AreHeard (opening_of shared.entry.now) (view_of pass.entry.now).first (view_of pass.exit.now).seen own.entry.now (map replies_of front.exit.now)) }
+            requires { IsSync R.row × IsSync G.row × ((group_book_opening shared.now).setting ≡ setting.now) × IsLawfulProfile setting.now.profile × IsPassOf shared.now pass.now × ((view_of pass.now).first + length own.now ≡ (view_of pass.now).past) × (0 < length own.now) × (length front.now ≡ length own.now) × AreReady (IsGroupTalkReady (group_book_opening shared.now)) (view_of pass.now).first own.now front.now }
+            ensures { IsPassOf shared.entry.now pass.exit.now × ((view_of pass.exit.now).first ≡ (view_of pass.entry.now).first) × ((view_of pass.exit.now).past ≡ (view_of pass.entry.now).past) × (Foreign session_of_chunk (view_of pass.entry.now).first (view_of pass.entry.now).past (view_of pass.entry.now).seen → AreSessionsHeard (group_book_opening shared.entry.now) (view_of pass.entry.now).first (view_of pass.exit.now).seen own.entry.now (map group_talk_replies front.exit.now)) }
         { run(rt, alloc, gate, shared, setting, own, pass, front) },
     );
     shared.join(pass, right);

@@ -6,9 +6,9 @@ ghost use Rattle.edit_journal.specs.declared.opening.Opening.{Opening};
 ghost use Rattle.edit_book.specs.Memory.{Memory, first_memory};
 ghost use Rattle.edit_book.specs.Session.{HasNames, Remembers};
 ghost use Rattle.edit_groups.specs.Alone.{IsSessionAt};
-ghost use Rattle.edit_groups.specs.Chunks.{entries_of, undoable};
-ghost use Rattle.edit_groups.specs.Shared.{opening_of};
-ghost use Rattle.edit_groups.specs.Turns.{IsDone};
+ghost use Rattle.edit_groups.specs.Chunks.{entries_of_chunks, undoable_of_session};
+ghost use Rattle.edit_groups.specs.Shared.{group_book_opening};
+ghost use Rattle.edit_groups.specs.Turns.{IsStepDone};
 ghost use Rattle.edit_groups.specs.declared.chunk.Chunk.{Chunk};
 ghost use Rattle.turn_book.specs.Passes.{IsPassOf, view_of};
 
@@ -50,7 +50,7 @@ impl GroupSession {
         declared: &Declared,
     ) -> Result<GroupSession, NoMemory>
         ensures number { IfOk result (λ s. s.session.number ≡ number) }
-        ensures stands { IfOk result (λ s. (opening : Opening) (earlier : List Chunk) → length opening.texts ≡ blocks → opening.setting.declared ≡ declared.now → undoable number earlier ≡ None
+        ensures stands { IfOk result (λ s. (opening : Opening) (earlier : List Chunk) → length opening.texts ≡ blocks → opening.setting.declared ≡ declared.now → undoable_of_session number earlier ≡ None
             → IsSessionAt opening earlier (first_memory opening) s) }
     {
         let session = Session::start(alloc, number, blocks, declared)?;
@@ -76,14 +76,14 @@ pub(crate) fn do_step<R: Threads + Wait + Sync>(
 ) -> GroupReply
     requires of_this { IsPassOf shared.now pass.old }
     requires number { ((view_of pass.old).first ≤ session.old.session.number) × (session.old.session.number < (view_of pass.old).past) }
-    requires setting { (opening_of shared.now).setting ≡ setting.now }
+    requires setting { (group_book_opening shared.now).setting ≡ setting.now }
     requires profile { IsLawfulProfile setting.now.profile }
     requires step { is_lawful_step step.now ≡ true }
-    requires names { HasNames (opening_of shared.now) (entries_of (view_of pass.old).seen) session.old.session }
+    requires names { HasNames (group_book_opening shared.now) (entries_of_chunks (view_of pass.old).seen) session.old.session }
     ensures of_this { IsPassOf shared.now pass.new }
     ensures range { ((view_of pass.new).first ≡ (view_of pass.old).first) × ((view_of pass.new).past ≡ (view_of pass.old).past) }
     ensures number { session.new.session.number ≡ session.old.session.number }
-    ensures done { (m : Memory) → Remembers session.old.session m → IsDone (opening_of shared.now) m step.now result (view_of pass.old) (view_of pass.new) session.old session.new }
+    ensures done { (m : Memory) → Remembers session.old.session m → IsStepDone (group_book_opening shared.now) m step.now result (view_of pass.old) (view_of pass.new) session.old session.new }
 {
     session.session.header.profile = setting.profile;
     carry_out::<Brand, R>(rt, alloc, Blank::new(1), shared, pass, session, step)
@@ -102,14 +102,14 @@ fn carry_out<L: Ledger, R: Threads + Wait + Sync>(
     requires blank { (blank.name ≡ L.name) × (blank.parts ≡ L.parts) × (0 < L.parts) }
     requires of_this { IsPassOf shared.now pass.old }
     requires number { ((view_of pass.old).first ≤ session.old.session.number) × (session.old.session.number < (view_of pass.old).past) }
-    requires setting { (opening_of shared.now).setting.profile ≡ session.old.session.header.profile }
+    requires setting { (group_book_opening shared.now).setting.profile ≡ session.old.session.header.profile }
     requires profile { IsLawfulProfile session.old.session.header.profile }
     requires step { is_lawful_step step.now ≡ true }
-    requires names { HasNames (opening_of shared.now) (entries_of (view_of pass.old).seen) session.old.session }
+    requires names { HasNames (group_book_opening shared.now) (entries_of_chunks (view_of pass.old).seen) session.old.session }
     ensures of_this { IsPassOf shared.now pass.new }
     ensures range { ((view_of pass.new).first ≡ (view_of pass.old).first) × ((view_of pass.new).past ≡ (view_of pass.old).past) }
     ensures number { session.new.session.number ≡ session.old.session.number }
-    ensures done { (m : Memory) → Remembers session.old.session m → IsDone (opening_of shared.now) m step.now result (view_of pass.old) (view_of pass.new) session.old session.new }
+    ensures done { (m : Memory) → Remembers session.old.session m → IsStepDone (group_book_opening shared.now) m step.now result (view_of pass.old) (view_of pass.new) session.old session.new }
 {
     let mut steps = Steps::<L>::start(rt, blank);
     match step {

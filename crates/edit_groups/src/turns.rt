@@ -1,6 +1,6 @@
 //! A book of groups at the turns of sessions that share it.
 ghost use Rattle.std.specs.Prelude.{◌≡◌, ◌+◌, ◌<◌, ◌≤◌};
-ghost use Rattle.edit_groups.specs.Groups.{IsFit, IsTaken, asked_of, limit};
+ghost use Rattle.edit_groups.specs.Groups.{IsFitGroupCommand, IsStepTaken, asked_of_group_command, limit};
 
 use crate::book::GroupBook;
 use crate::chunk::Chunk;
@@ -19,9 +19,9 @@ impl GroupBook {
         steps: &mut Steps<L>,
     ) -> GroupReply
         requires number { number < 64 }
-        requires fits { IsFit self.old.opening self.old.chunks command }
+        requires fits { IsFitGroupCommand self.old.opening self.old.chunks command }
         ensures opening { self.new.opening ≡ self.old.opening }
-        ensures taken { IsTaken self.old.opening self.old.chunks number (asked_of command) result self.new.chunks }
+        ensures taken { IsStepTaken self.old.opening self.old.chunks number (asked_of_group_command command) result self.new.chunks }
         ensures steps { steps.new ≤ steps.old + limit self.old.opening self.old.chunks command }
     {
         match command {
@@ -33,7 +33,7 @@ impl GroupBook {
 }
 
 impl Booked for GroupBook {
-    ghost use Rattle.edit_groups.specs.Groups.{IsRight, IsFit, limit};
+    ghost use Rattle.edit_groups.specs.Groups.{IsRightGroupReply, IsFitGroupCommand, limit};
     ghost use Rattle.edit_groups.specs.Fitting.{fits_longer};
 
     type Command = GroupCommand;
@@ -50,9 +50,9 @@ impl Booked for GroupBook {
 
     ghost number_of = { λ chunk. chunk.session };
 
-    ghost right = { IsRight };
+    ghost right = { IsRightGroupReply };
 
-    ghost fits = { IsFit };
+    ghost fits = { IsFitGroupCommand };
 
     ghost bound = { limit };
 

@@ -3,8 +3,8 @@ ghost use Rattle.std.specs.Prelude.{◌≡◌, ◌<◌, ◌≤◌, ◌+◌, IfOk
 ghost use Rattle.edit_book.specs.Memory.{text_limit};
 ghost use Rattle.edit_book.specs.Work.{command_limit};
 ghost use Rattle.edit_groups.specs.Answers as asked;
-ghost use Rattle.edit_groups.specs.Chunks.{entries_of, undoable};
-ghost use Rattle.edit_groups.specs.Groups.{IsTaken, IsUndoing, undo_limit};
+ghost use Rattle.edit_groups.specs.Chunks.{entries_of_chunks, undoable_of_session};
+ghost use Rattle.edit_groups.specs.Groups.{IsStepTaken, IsUndoing, undo_limit};
 
 use crate::book::GroupBook;
 use crate::reply::GroupReply;
@@ -20,8 +20,8 @@ impl GroupBook {
     pub(crate) fn undo<L: Ledger>(&mut self, number: u32, steps: &mut Steps<L>) -> GroupReply
         requires number { number < 64 }
         ensures opening { self.new.opening ≡ self.old.opening }
-        ensures taken { IsTaken self.old.opening self.old.chunks number asked.Undo result self.new.chunks }
-        ensures steps { steps.new ≤ steps.old + (text_limit + undo_limit self.old.opening (entries_of self.old.chunks) 1 (entries_of self.old.chunks)) }
+        ensures taken { IsStepTaken self.old.opening self.old.chunks number asked.Undo result self.new.chunks }
+        ensures steps { steps.new ≤ steps.old + (text_limit + undo_limit self.old.opening (entries_of_chunks self.old.chunks) 1 (entries_of_chunks self.old.chunks)) }
     {
         match self.undoing(number, steps) {
             Ok(Some(command)) => self.one(number, command, steps),
@@ -37,8 +37,8 @@ impl GroupBook {
         steps: &mut Steps<L>,
     ) -> Result<Option<BookCommand>, NoMemory>
         requires number { number < 64 }
-        ensures undoes { IfOk result (IsUndoing self.now.opening (entries_of self.now.chunks) (undoable number self.now.chunks)) }
-        ensures within { IfOk result (λ found. IfSome found (λ command. command_limit self.now.opening (entries_of self.now.chunks) command ≤ undo_limit self.now.opening (entries_of self.now.chunks) 1 (entries_of self.now.chunks))) }
+        ensures undoes { IfOk result (IsUndoing self.now.opening (entries_of_chunks self.now.chunks) (undoable_of_session number self.now.chunks)) }
+        ensures within { IfOk result (λ found. IfSome found (λ command. command_limit self.now.opening (entries_of_chunks self.now.chunks) command ≤ undo_limit self.now.opening (entries_of_chunks self.now.chunks) 1 (entries_of_chunks self.now.chunks))) }
         ensures steps { steps.new ≤ steps.old + text_limit }
     {
         let seen = self.undoable[number as usize];

@@ -7,7 +7,7 @@ use Rattle.edit_journal.specs.declared.edit.Anchor.TheVariants.{Start, After}
 use Rattle.edit_journal.specs.declared.edit.Entry.{Entry}
 use Rattle.edit_journal.specs.declared.opening.Opening.{Opening}
 use Rattle.edit_journal.specs.Entries.{text_for, names_for}
-use Rattle.edit_journal.specs.Documents.{Block, Document, AreKnown, opened_from, with_text, with_after, with_new, without, after, after_all, document_of, opened, names_given, text_at}
+use Rattle.edit_journal.specs.Documents.{Block, Document, AreTextsKnown, opened_from, with_text, with_after, blocks_with_new, blocks_without, after, after_all, document_of, document_opened, names_given, text_at}
 
 -- what is there stays there, and the last is last
 got_longer : {X : Type 0} (xs ys : List X) (y : X) (i : ℕ) → slice_get xs i ≡ Some y → slice_get (xs ++ ys) i ≡ Some y
@@ -47,7 +47,7 @@ names_newest o es e (suc k) names at gives =
     let place : k ≡ length es = omega arith in
     ap (λ (n : ℕ). option_and_then names_for (slice_get (es ++ e ∷ []) n)) place ∙ (ap (option_and_then names_for) (got_last es e) ∙ gives)
 
-known_longer : (o : Opening) (es more : List Entry) (bs : List Block) → AreKnown o es bs → AreKnown o (es ++ more) bs
+known_longer : (o : Opening) (es more : List Entry) (bs : List Block) → AreTextsKnown o es bs → AreTextsKnown o (es ++ more) bs
 known_longer o es more [] known = tt
 known_longer o es more (b ∷ bs) known = (text_longer o es more b.id b.stamp b.lines known.0, known_longer o es more bs known.1)
 
@@ -55,34 +55,34 @@ module _ (o : Opening) (es : List Entry) (e : Entry) (i : ℕ) (at : i ≡ lengt
   abbrev more : List Entry
   more = es ++ e ∷ []
 
-  put_known : (id : ℕ) (text : List (List ℕ)) (bs : List Block) → text_for id e ≡ Some text → AreKnown o es bs → AreKnown o more (with_text id i text bs)
+  put_known : (id : ℕ) (text : List (List ℕ)) (bs : List Block) → text_for id e ≡ Some text → AreTextsKnown o es bs → AreTextsKnown o more (with_text id i text bs)
   put_known id text [] gives known = tt
   put_known id text (b ∷ bs) gives known = go (b.id == id) (put_known id text bs gives known.1)
     where
-      go : (t : Bool) → AreKnown o more (with_text id i text bs) → AreKnown o more (cond t (record { id = id; stamp = i; lines = text } ∷ bs) (b ∷ with_text id i text bs))
+      go : (t : Bool) → AreTextsKnown o more (with_text id i text bs) → AreTextsKnown o more (cond t (record { id = id; stamp = i; lines = text } ∷ bs) (b ∷ with_text id i text bs))
       go true rest = (text_newest o es e id i text at gives, known_longer o es (e ∷ []) bs known.1)
       go false rest = (text_longer o es (e ∷ []) b.id b.stamp b.lines known.0, rest)
 
-  after_known : (id : ℕ) (new : Block) (bs : List Block) → text_at o more new.id new.stamp ≡ Some new.lines → AreKnown o es bs → AreKnown o more (with_after id new bs)
+  after_known : (id : ℕ) (new : Block) (bs : List Block) → text_at o more new.id new.stamp ≡ Some new.lines → AreTextsKnown o es bs → AreTextsKnown o more (with_after id new bs)
   after_known id new [] is known = tt
   after_known id new (b ∷ bs) is known = go (b.id == id) (after_known id new bs is known.1)
     where
       first : text_at o more b.id b.stamp ≡ Some b.lines
       first = text_longer o es (e ∷ []) b.id b.stamp b.lines known.0
 
-      go : (t : Bool) → AreKnown o more (with_after id new bs) → AreKnown o more (cond t (b ∷ new ∷ bs) (b ∷ with_after id new bs))
+      go : (t : Bool) → AreTextsKnown o more (with_after id new bs) → AreTextsKnown o more (cond t (b ∷ new ∷ bs) (b ∷ with_after id new bs))
       go true rest = (first, (is, known_longer o es (e ∷ []) bs known.1))
       go false rest = (first, rest)
 
-  new_known : (anchor : Anchor) (new : Block) (bs : List Block) → text_at o more new.id new.stamp ≡ Some new.lines → AreKnown o es bs → AreKnown o more (with_new anchor new bs)
+  new_known : (anchor : Anchor) (new : Block) (bs : List Block) → text_at o more new.id new.stamp ≡ Some new.lines → AreTextsKnown o es bs → AreTextsKnown o more (blocks_with_new anchor new bs)
   new_known Start new bs is known = (is, known_longer o es (e ∷ []) bs known)
   new_known (After id) new bs is known = after_known id new bs is known
 
-  cut_known : (id : ℕ) (bs : List Block) → AreKnown o es bs → AreKnown o more (without id bs)
+  cut_known : (id : ℕ) (bs : List Block) → AreTextsKnown o es bs → AreTextsKnown o more (blocks_without id bs)
   cut_known id [] known = tt
   cut_known id (b ∷ bs) known = go (b.id == id) (cut_known id bs known.1)
     where
-      go : (t : Bool) → AreKnown o more (without id bs) → AreKnown o more (cond t bs (b ∷ without id bs))
+      go : (t : Bool) → AreTextsKnown o more (blocks_without id bs) → AreTextsKnown o more (cond t bs (b ∷ blocks_without id bs))
       go true rest = known_longer o es (e ∷ []) bs known.1
       go false rest = (text_longer o es (e ∷ []) b.id b.stamp b.lines known.0, rest)
 
@@ -91,7 +91,7 @@ itself id text = ap (λ (t : Bool). cond t (Some text) None) (eq-eqb id id refl)
 
 -- a document of which all is known
 pub record IsKnown (o : Opening) (es : List Entry) (d : Document) : Type 0 where
-  pub blocks : AreKnown o es d.blocks
+  pub blocks : AreTextsKnown o es d.blocks
   pub header : names_given o es d.header.stamp ≡ Some d.header.names
 
 -- one more entry
@@ -120,11 +120,11 @@ known_from o done (e ∷ es) d i at known =
     (known_from o (done ++ e ∷ []) es (after d i e.edit) (i + 1) (omega (arith, length-append done (e ∷ []))) (known_after o done d i e.session e.edit at known))
 
 -- the texts of the opening, the first of which has this id
-opened_known : (o : Opening) (front texts : List (List (List ℕ))) → o.texts ≡ front ++ texts → AreKnown o [] (opened_from (length front) texts)
+opened_known : (o : Opening) (front texts : List (List (List ℕ))) → o.texts ≡ front ++ texts → AreTextsKnown o [] (opened_from (length front) texts)
 opened_known o front [] is = tt
 opened_known o front (text ∷ texts) is = (
   ap (λ (l : List (List (List ℕ))). slice_get l (length front)) is ∙ got_at front text texts,
-  subst (λ (n : ℕ). AreKnown o [] (opened_from n texts)) (length-append front (text ∷ []))
+  subst (λ (n : ℕ). AreTextsKnown o [] (opened_from n texts)) (length-append front (text ∷ []))
       (opened_known o (front ++ text ∷ []) texts (is ∙ sym (append_assoc front (text ∷ []) texts))),
 )
   where
@@ -134,4 +134,4 @@ opened_known o front (text ∷ texts) is = (
 
 -- all is known of the document of a journal, whatever its entries
 pub all_known : (o : Opening) (es : List Entry) → IsKnown o es (document_of o es)
-all_known o es = known_from o [] es (opened o) 1 (omega arith) (record { blocks = opened_known o [] o.texts refl; header = refl })
+all_known o es = known_from o [] es (document_opened o) 1 (omega arith) (record { blocks = opened_known o [] o.texts refl; header = refl })

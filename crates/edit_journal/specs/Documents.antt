@@ -32,8 +32,8 @@ opened_from id [] = []
 opened_from id (text ∷ texts) = record { id = id; stamp = 0; lines = text } ∷ opened_from (id + 1) texts
 
 -- the document that an opening gives: ids 0, 1, 2 and so on, and stamp 0 throughout
-abbrev pub opened : Opening → Document
-opened opening = record { blocks = opened_from 0 opening.texts; drawn = length opening.texts; header = record { stamp = 0; names = opening.setting.declared } }
+abbrev pub document_opened : Opening → Document
+document_opened opening = record { blocks = opened_from 0 opening.texts; drawn = length opening.texts; header = record { stamp = 0; names = opening.setting.declared } }
 
 -- the block with this id
 abbrev pub block_of : List Block → ℕ → Option Block
@@ -49,9 +49,9 @@ with_text id stamp text [] = []
 with_text id stamp text (b ∷ bs) = if b.id == id then record { id = id; stamp = stamp; lines = text } ∷ bs else b ∷ with_text id stamp text bs
 
 -- the block with this id is out
-abbrev pub without : ℕ → List Block → List Block
-without id [] = []
-without id (b ∷ bs) = if b.id == id then bs else b ∷ without id bs
+abbrev pub blocks_without : ℕ → List Block → List Block
+blocks_without id [] = []
+blocks_without id (b ∷ bs) = if b.id == id then bs else b ∷ blocks_without id bs
 
 -- a new block directly after the one with this id
 abbrev pub with_after : ℕ → Block → List Block → List Block
@@ -59,15 +59,15 @@ with_after id new [] = []
 with_after id new (b ∷ bs) = if b.id == id then b ∷ new ∷ bs else b ∷ with_after id new bs
 
 -- a new block where the anchor says
-abbrev pub with_new : Anchor → Block → List Block → List Block
-with_new Start new blocks = new ∷ blocks
-with_new (After id) new blocks = with_after id new blocks
+abbrev pub blocks_with_new : Anchor → Block → List Block → List Block
+blocks_with_new Start new blocks = new ∷ blocks
+blocks_with_new (After id) new blocks = with_after id new blocks
 
 -- the document after entry i; where the edit doesn't fit, this says nothing
 abbrev pub after : Document → ℕ → Edit → Document
 after d i (Put block seen text) = record { blocks = with_text block i text d.blocks; drawn = d.drawn; header = d.header }
-after d i (Add anchor block text) = record { blocks = with_new anchor (record { id = block; stamp = i; lines = text }) d.blocks; drawn = d.drawn + 1; header = d.header }
-after d i (Cut block seen) = record { blocks = without block d.blocks; drawn = d.drawn; header = d.header }
+after d i (Add anchor block text) = record { blocks = blocks_with_new anchor (record { id = block; stamp = i; lines = text }) d.blocks; drawn = d.drawn + 1; header = d.header }
+after d i (Cut block seen) = record { blocks = blocks_without block d.blocks; drawn = d.drawn; header = d.header }
 after d i (Head seen names) = record { blocks = d.blocks; drawn = d.drawn; header = record { stamp = i; names = names } }
 
 -- the document after these entries, the first of which has number i
@@ -77,7 +77,7 @@ after_all d i (e ∷ es) = after_all (after d i e.edit) (i + 1) es
 
 -- The document of an opening and a journal. That of version v is the one of the journal's first v entries.
 abbrev pub document_of : Opening → List Entry → Document
-document_of opening journal = after_all (opened opening) 1 journal
+document_of opening journal = after_all (document_opened opening) 1 journal
 
 -- the lines of these blocks, one block after the other
 abbrev pub lines_in : List Block → List (List ℕ)
@@ -94,11 +94,11 @@ HasAnchor d (After id) = IsSome (block_of d.blocks id)
 
 -- the edit fits the document: a put or a cut has seen the block's stamp, a new block has the next id and an anchor that is there, and
 -- other names have seen the header's stamp
-abbrev pub Fits : Document → Edit → Type 0
-Fits d (Put block seen text) = stamp_at d.blocks block ≡ Some seen
-Fits d (Add anchor block text) = (block ≡ d.drawn) × HasAnchor d anchor
-Fits d (Cut block seen) = stamp_at d.blocks block ≡ Some seen
-Fits d (Head seen names) = d.header.stamp ≡ seen
+abbrev pub EditFits : Document → Edit → Type 0
+EditFits d (Put block seen text) = stamp_at d.blocks block ≡ Some seen
+EditFits d (Add anchor block text) = (block ≡ d.drawn) × HasAnchor d anchor
+EditFits d (Cut block seen) = stamp_at d.blocks block ≡ Some seen
+EditFits d (Head seen names) = d.header.stamp ≡ seen
 
 -- the text that a block got from the entry with this number, or its opening text for 0
 abbrev pub text_at : Opening → List Entry → ℕ → ℕ → Option (List (List ℕ))
@@ -106,9 +106,9 @@ text_at opening journal id zero = slice_get opening.texts id
 text_at opening journal id (suc i) = option_and_then (text_for id) (slice_get journal i)
 
 -- each block has the text that the entry with its stamp gave it
-abbrev pub AreKnown : Opening → List Entry → List Block → Type 0
-AreKnown opening journal [] = Unit {0}
-AreKnown opening journal (b ∷ bs) = (text_at opening journal b.id b.stamp ≡ Some b.lines) × AreKnown opening journal bs
+abbrev pub AreTextsKnown : Opening → List Entry → List Block → Type 0
+AreTextsKnown opening journal [] = Unit {0}
+AreTextsKnown opening journal (b ∷ bs) = (text_at opening journal b.id b.stamp ≡ Some b.lines) × AreTextsKnown opening journal bs
 
 -- the names that the header got from the entry with this number, or those of the opening for 0
 abbrev pub names_given : Opening → List Entry → ℕ → Option (List (List ℕ))

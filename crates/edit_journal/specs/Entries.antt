@@ -24,23 +24,23 @@ entry_at entries zero = None
 entry_at entries (suc i) = slice_get entries i
 
 -- the text that an edit gives to a block, if it gives it one
-abbrev pub text_in : ℕ → Edit → Option (List (List ℕ))
-text_in id (Put block seen text) = if block == id then Some text else None
-text_in id (Add anchor block text) = if block == id then Some text else None
-text_in id (Cut block seen) = None
-text_in id (Head seen names) = None
+abbrev pub text_of_edit : ℕ → Edit → Option (List (List ℕ))
+text_of_edit id (Put block seen text) = if block == id then Some text else None
+text_of_edit id (Add anchor block text) = if block == id then Some text else None
+text_of_edit id (Cut block seen) = None
+text_of_edit id (Head seen names) = None
 
 -- the text that an entry gives to a block, if it gives it one
 abbrev pub text_for : ℕ → Entry → Option (List (List ℕ))
-text_for id entry = text_in id entry.edit
+text_for id entry = text_of_edit id entry.edit
 
 -- the names that an edit gives to the header, if it gives it some
-abbrev pub names_in : Edit → Option (List (List ℕ))
-names_in (Put block seen text) = None
-names_in (Add anchor block text) = None
-names_in (Cut block seen) = None
-names_in (Head seen names) = Some names
+abbrev pub header_names_in : Edit → Option (List (List ℕ))
+header_names_in (Put block seen text) = None
+header_names_in (Add anchor block text) = None
+header_names_in (Cut block seen) = None
+header_names_in (Head seen names) = Some names
 
 -- the names that an entry gives to the header, if it gives it some
 abbrev pub names_for : Entry → Option (List (List ℕ))
-names_for entry = names_in entry.edit
+names_for entry = header_names_in entry.edit

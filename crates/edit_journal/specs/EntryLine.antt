@@ -1,7 +1,7 @@
 -- The line that tells an entry, in reports and in saved texts.
 use Rattle.std.specs.Prelude.{ℕ, List, ◌++◌, length, codes, decimal}
 use Rattle.knit_base.specs.Names.{spaced_names}
-use Rattle.knit_base.specs.Spelling.{labelled}
+use Rattle.knit_base.specs.Spelling.{labelled_number}
 use Rattle.edit_journal.specs.declared.edit.Anchor.{Anchor}
 use Rattle.edit_journal.specs.declared.edit.Anchor.TheVariants as anchor
 use Rattle.edit_journal.specs.declared.edit.Edit.{Edit}
@@ -14,16 +14,16 @@ anchor_text anchor.Start = codes "start"
 anchor_text (anchor.After id) = decimal id
 
 abbrev pub put_text : ℕ → ℕ → ℕ → List ℕ
-put_text block seen lines = labelled (codes " put ") block ++ (labelled (codes " seen ") seen ++ labelled (codes " lines ") lines)
+put_text block seen lines = labelled_number (codes " put ") block ++ (labelled_number (codes " seen ") seen ++ labelled_number (codes " lines ") lines)
 
 abbrev pub add_text : Anchor → ℕ → ℕ → List ℕ
-add_text where_ block lines = codes " add " ++ (anchor_text where_ ++ (labelled (codes " block ") block ++ labelled (codes " lines ") lines))
+add_text where_ block lines = codes " add " ++ (anchor_text where_ ++ (labelled_number (codes " block ") block ++ labelled_number (codes " lines ") lines))
 
 abbrev pub cut_text : ℕ → ℕ → List ℕ
-cut_text block seen = labelled (codes " cut ") block ++ labelled (codes " seen ") seen
+cut_text block seen = labelled_number (codes " cut ") block ++ labelled_number (codes " seen ") seen
 
 abbrev pub head_text : ℕ → List (List ℕ) → List ℕ
-head_text seen names = labelled (codes " put head seen ") seen ++ (codes " carriers" ++ spaced_names names)
+head_text seen names = labelled_number (codes " put head seen ") seen ++ (codes " carriers" ++ spaced_names names)
 
 -- an edit that was accepted; of a text the number of lines is told, of a header the names
 abbrev pub edit_text : Edit → List ℕ
@@ -34,4 +34,4 @@ edit_text (edit.Head seen names) = head_text seen names
 
 -- the line of an entry, without its number and without an end of line
 abbrev pub entry_line : Entry → List ℕ
-entry_line e = labelled (codes "session ") e.session ++ edit_text e.edit
+entry_line e = labelled_number (codes "session ") e.session ++ edit_text e.edit

@@ -1,6 +1,6 @@
 //! The line that tells an entry.
 ghost use Rattle.std.specs.Prelude.{◌≡◌, ◌+◌, ◌++◌, drop, OnOk};
-ghost use Rattle.knit_base.specs.Names.{spaced, spaced_names};
+ghost use Rattle.knit_base.specs.Names.{name_behind_space, spaced_names};
 ghost use Rattle.edit_journal.specs.EntryLine.{add_text, anchor_text, cut_text, edit_text, entry_line, head_text, put_text};
 
 use crate::{Anchor, Edit, Entry};
@@ -48,7 +48,7 @@ fn append_cut(block: u32, seen: u32, out: &mut Vec<u8>) -> Result<(), NoMemory>
 
 // Appends a name behind a space.
 fn append_spaced(name: &str, out: &mut Vec<u8>) -> Result<(), NoMemory>
-    ensures { OnOk result (out.new.items ≡ out.old.items ++ spaced name.now) }
+    ensures { OnOk result (out.new.items ≡ out.old.items ++ name_behind_space name.now) }
 {
     out.extend_from_slice(b" ")?;
     out.extend_from_slice(name.as_bytes())?;

@@ -17,12 +17,12 @@ use Rattle.script_reader.specs.declared.command.Place.{Place}
 use Rattle.script_reader.specs.declared.command.Place.TheVariants as place
 use Rattle.edit_book.specs.declared.reply.Reply.{Reply}
 use Rattle.edit_book.specs.declared.reply.Reply.TheVariants.{BlockLong, Unseen}
-use Rattle.edit_book.specs.Books.{Fits}
-use Rattle.edit_book.specs.Memory.{Memory, Answers, IsAnswered, asked, asked_entry, head_of, named, unless_long}
+use Rattle.edit_book.specs.Books.{BookFits}
+use Rattle.edit_book.specs.Memory.{Memory, Answers, IsRequestAnswered, asked_of_book, asked_entry, known_header_stamp, block_id_of_name, unless_long}
 use Rattle.edit_book.specs.Outlines.{HasShortText, MayCome}
 use Rattle.edit_book.specs.Replies.{Request, Look, Put, Add, Cut, LoopAt, VerdictNow, LookHead, Texts, PutHead, IsAccepted, IsDue, IsGranted, accepted_block, edit_of, entry_of, refusal_of}
 use Rattle.edit_book.proofs.Comings.{add_may, cut_may, head_may, put_may}
-use Rattle.edit_book.proofs.Refusals.{Refuses, refuses}
+use Rattle.edit_book.proofs.Refusals.{Refuses, refusal_may_come}
 use Rattle.edit_sessions.specs.Laws.{AsksFor}
 
 abbrev made : ℕ → Edit → Entry
@@ -41,7 +41,7 @@ no_entry n request r o e is none some =
     let nothing : None ≡ Some e = ap (option_map (made n)) (sym none) ∙ (ap (λ (x : Option ℕ). option_map (made n) (option_and_then (edit_of request) x)) (sym is) ∙ some) in
     cc
 
-module _ (o : Opening) (es : List Entry) (fits : Fits (document_of o es) es) (n : ℕ) (r : Reply) (e : Entry) where
+module _ (o : Opening) (es : List Entry) (fits : BookFits (document_of o es) es) (n : ℕ) (r : Reply) (e : Entry) where
   accepted_may : (request : Request) (block : ℕ) (f : Edit) → edit_of request block ≡ Some f → MayCome o es f → IsAccepted o (document_of o es) (length es) block f r → entry_of n request r ≡ Some e → MayCome o es e.edit
   accepted_may request block f asks may g some = subst (MayCome o es) (same_edit n request r block f e (ap accepted_block g.1) asks some) may
 
@@ -61,13 +61,13 @@ module _ (o : Opening) (es : List Entry) (fits : Fits (document_of o es) es) (n 
   due_may request None free none due some = granted_may request free due some
   due_may request (Some refusal) is refuses due some = absurd (no_entry n request r None e (ap accepted_block due ∙ refuses.2) refl some)
 
-  answered_may : (a : Result Request Reply) → IsAnswered o es a r → asked_entry n a r ≡ Some e → MayCome o es e.edit
-  answered_may (Ok request) due some = due_may request (refusal_of (document_of o es) es request) refl (refuses (document_of o es) es request).fact due some
+  answered_may : (a : Result Request Reply) → IsRequestAnswered o es a r → asked_entry n a r ≡ Some e → MayCome o es e.edit
+  answered_may (Ok request) due some = due_may request (refusal_of (document_of o es) es request) refl (refusal_may_come (document_of o es) es request).fact due some
   answered_may (Err refusal) due some = absurd (cc)
 
 -- the entry of an answer may come behind a document within its limits
-pub answer_may : (o : Opening) (n : ℕ) (es : List Entry) (m : Memory) (c : Command) (r : Reply) (e : Entry) → Answers o es m c r → asked_entry n (asked m c) r ≡ Some e → Fits (document_of o es) es → MayCome o es e.edit
-answer_may o n es m c r e answers some fits = answered_may o es fits n r e (asked m c) answers some
+pub answer_may : (o : Opening) (n : ℕ) (es : List Entry) (m : Memory) (c : Command) (r : Reply) (e : Entry) → Answers o es m c r → asked_entry n (asked_of_book m c) r ≡ Some e → BookFits (document_of o es) es → MayCome o es e.edit
+answer_may o n es m c r e answers some fits = answered_may o es fits n r e (asked_of_book m c) answers some
 
 -- what the edit has to do with the command
 pub record IsWanted (c : Command) (e : Edit) : Type 0 where
@@ -104,16 +104,16 @@ some_edit : (a b : Edit) → Some a ≡ Some b → a ≡ b
 some_edit a b is = cc
 
 module _ (n : ℕ) (m : Memory) (r : Reply) (e : Entry) where
-  put_wanted : (name : BlockName) (text : List (List ℕ)) (id seen : ℕ) → Wants n (command.Put name text) r e (unless_long text (Put id seen (head_of m) text))
+  put_wanted : (name : BlockName) (text : List (List ℕ)) (id seen : ℕ) → Wants n (command.Put name text) r e (unless_long text (Put id seen (known_header_stamp m) text))
   put_wanted name text id seen =
-      wants_short n (command.Put name text) r e text (Put id seen (head_of m) text)
-      (λ few. wants_edit n (command.Put name text) r e (Put id seen (head_of m) text)
+      wants_short n (command.Put name text) r e text (Put id seen (known_header_stamp m) text)
+      (λ few. wants_edit n (command.Put name text) r e (Put id seen (known_header_stamp m) text)
       (λ block f is. subst (IsWanted (command.Put name text)) (some_edit (edit.Put id seen text) f is) (record { asks = refl; short = few })))
 
-  add_wanted : (at : Place) (where_to : Anchor) (text : List (List ℕ)) → Wants n (command.Add at text) r e (unless_long text (Add where_to (head_of m) text))
+  add_wanted : (at : Place) (where_to : Anchor) (text : List (List ℕ)) → Wants n (command.Add at text) r e (unless_long text (Add where_to (known_header_stamp m) text))
   add_wanted at where_to text =
-      wants_short n (command.Add at text) r e text (Add where_to (head_of m) text)
-      (λ few. wants_edit n (command.Add at text) r e (Add where_to (head_of m) text)
+      wants_short n (command.Add at text) r e text (Add where_to (known_header_stamp m) text)
+      (λ few. wants_edit n (command.Add at text) r e (Add where_to (known_header_stamp m) text)
       (λ block f is. subst (IsWanted (command.Add at text)) (some_edit (edit.Add where_to block text) f is) (record { asks = refl; short = few })))
 
   cut_wanted : (name : BlockName) (id seen : ℕ) → Wants n (command.Cut name) r e (Ok (Cut id seen))
@@ -124,21 +124,21 @@ module _ (n : ℕ) (m : Memory) (r : Reply) (e : Entry) where
   nothing_wanted c request none = wants_edit n c r e request (λ block f is. let some : None ≡ Some f = sym (none block) ∙ is in absurd (cc))
 
   -- the edit of an answer's entry is what the command asks for
-  pub answer_wanted : (c : Command) → asked_entry n (asked m c) r ≡ Some e → IsWanted c e.edit
+  pub answer_wanted : (c : Command) → asked_entry n (asked_of_book m c) r ≡ Some e → IsWanted c e.edit
   answer_wanted (command.Put name text) some =
-      wants_option n (command.Put name text) r e (named m name) name (λ id. option_map_or (λ seen. unless_long text (Put id seen (head_of m) text)) (m.stamps id) (Err (Unseen name)))
-      (λ id. wants_option n (command.Put name text) r e (m.stamps id) name (λ seen. unless_long text (Put id seen (head_of m) text)) (put_wanted name text id)) some
+      wants_option n (command.Put name text) r e (block_id_of_name m name) name (λ id. option_map_or (λ seen. unless_long text (Put id seen (known_header_stamp m) text)) (m.stamps id) (Err (Unseen name)))
+      (λ id. wants_option n (command.Put name text) r e (m.stamps id) name (λ seen. unless_long text (Put id seen (known_header_stamp m) text)) (put_wanted name text id)) some
   answer_wanted (command.Add place.Start text) some = add_wanted place.Start anchor.Start text some
   answer_wanted (command.Add (place.After name) text) some =
-      wants_option n (command.Add (place.After name) text) r e (named m name) name (λ id. unless_long text (Add (anchor.After id) (head_of m) text)) (λ id. add_wanted (place.After name) (anchor.After id) text) some
+      wants_option n (command.Add (place.After name) text) r e (block_id_of_name m name) name (λ id. unless_long text (Add (anchor.After id) (known_header_stamp m) text)) (λ id. add_wanted (place.After name) (anchor.After id) text) some
   answer_wanted (command.Cut name) some =
-      wants_option n (command.Cut name) r e (named m name) name (λ id. option_map_or (λ seen. Ok (Cut id seen)) (m.stamps id) (Err (Unseen name)))
+      wants_option n (command.Cut name) r e (block_id_of_name m name) name (λ id. option_map_or (λ seen. Ok (Cut id seen)) (m.stamps id) (Err (Unseen name)))
       (λ id. wants_option n (command.Cut name) r e (m.stamps id) name (λ seen. Ok (Cut id seen)) (cut_wanted name id)) some
   answer_wanted (command.PutHead names) some =
-      wants_edit n (command.PutHead names) r e (PutHead (head_of m) names)
-      (λ block f is. subst (IsWanted (command.PutHead names)) (some_edit (edit.Head (head_of m) names) f is) (record { asks = refl; short = tt })) some
+      wants_edit n (command.PutHead names) r e (PutHead (known_header_stamp m) names)
+      (λ block f is. subst (IsWanted (command.PutHead names)) (some_edit (edit.Head (known_header_stamp m) names) f is) (record { asks = refl; short = tt })) some
   answer_wanted (command.Look name) some =
-      wants_option n (command.Look name) r e (named m name) name (λ id. Ok (Look id)) (λ id. nothing_wanted (command.Look name) (Look id) (λ block. refl)) some
+      wants_option n (command.Look name) r e (block_id_of_name m name) name (λ id. Ok (Look id)) (λ id. nothing_wanted (command.Look name) (Look id) (λ block. refl)) some
   answer_wanted (command.LoopAt line) some = nothing_wanted (command.LoopAt line) (LoopAt line) (λ block. refl) some
   answer_wanted command.Verdict some = nothing_wanted command.Verdict VerdictNow (λ block. refl) some
   answer_wanted command.LookHead some = nothing_wanted command.LookHead LookHead (λ block. refl) some

@@ -8,9 +8,9 @@ use Rattle.edit_book.specs.declared.reply.Reply.{Reply}
 use Rattle.turn_book.specs.Passes.{first_book}
 use Rattle.turn_book.specs.declared.pass.Shared.{Shared}
 
-abbrev pub opening_of : Shared BookView BookCommand Reply Entry Opening → Opening
-opening_of shared = (first_book shared).opening
+abbrev pub shared_opening : Shared BookView BookCommand Reply Entry Opening → Opening
+shared_opening shared = (first_book shared).opening
 
 -- the session that made an entry
-abbrev pub session_of : Entry → ℕ
-session_of entry = entry.session
+abbrev pub entry_session : Entry → ℕ
+entry_session entry = entry.session

@@ -8,7 +8,7 @@ use Rattle.edit_sessions.specs.declared.talk.Talk.{Talk}
 use Rattle.edit_book.specs.declared.reply.Reply.{Reply}
 
 -- session n at its start, with no reply, and with room for one to each command of its script
-pub record IsReady (opening : Opening) (n : ℕ) (script : List Command) (talk : Talk) : Type 0 where
+pub record IsTalkReady (opening : Opening) (n : ℕ) (script : List Command) (talk : Talk) : Type 0 where
   pub number : talk.session.number ≡ n
   pub remembers : Remembers talk.session (first_memory opening)
   pub names : HasNames opening [] talk.session
@@ -16,5 +16,5 @@ pub record IsReady (opening : Opening) (n : ℕ) (script : List Command) (talk :
   pub room : length script ≤ vec_capacity talk.replies
 
 -- the replies that it has had
-abbrev pub replies_of : Talk → List Reply
-replies_of talk = talk.replies.items
+abbrev pub talk_replies : Talk → List Reply
+talk_replies talk = talk.replies.items

@@ -2,12 +2,12 @@
 ghost use Rattle.std.specs.Prelude.{◌≡◌, ◌<◌, ◌≤◌, ℕ, Some, IfSome};
 ghost use Rattle.knit_base.specs.Limits.{IsLawfulProfile};
 ghost use Rattle.edit_journal.specs.Documents.{names_given};
-ghost use Rattle.edit_book.specs.Memory.{Memory, head_of, head_told, told_by};
-ghost use Rattle.edit_book.specs.Turns.{AreGiven, IsRight};
-ghost use Rattle.edit_sessions.specs.Core.{core};
-ghost use Rattle.edit_sessions.specs.Shared.{opening_of, session_of};
+ghost use Rattle.edit_book.specs.Memory.{Memory, known_header_stamp, head_told, stamp_told_by};
+ghost use Rattle.edit_book.specs.Turns.{AreTextsGiven, IsRightReply};
+ghost use Rattle.edit_sessions.specs.Core.{document_core};
+ghost use Rattle.edit_sessions.specs.Shared.{shared_opening, entry_session};
 ghost use Rattle.turn_book.specs.Passes.{IsPassOf, view_of};
-ghost use Rattle.turn_book.specs.Taken.{IsTaken, SeesMore};
+ghost use Rattle.turn_book.specs.Taken.{IsCommandTaken, SeesMore};
 
 use edit_book::sessions::{names_shown, summarised};
 use edit_book::{Book, BookCommand, Reply};
@@ -35,9 +35,9 @@ pub(crate) fn look_head<L: Ledger, R: Threads + Wait>(
     requires number { ((view_of pass.old).first ≤ number) × (number < (view_of pass.old).past) }
     ensures of_this { IsPassOf shared.now pass.new }
     ensures profile { header.new.profile ≡ header.old.profile }
-    ensures names { (head : ℕ) → names_given (opening_of shared.now) (view_of pass.old).seen head ≡ Some header.old.declared
-        → names_given (opening_of shared.now) (view_of pass.new).seen (head_told (told_by Command.LookHead result) head) ≡ Some header.new.declared }
-    ensures taken { (m : Memory) → IsTaken (core (opening_of shared.now)) number m Command.LookHead result (view_of pass.old) (view_of pass.new) }
+    ensures names { (head : ℕ) → names_given (shared_opening shared.now) (view_of pass.old).seen head ≡ Some header.old.declared
+        → names_given (shared_opening shared.now) (view_of pass.new).seen (head_told (stamp_told_by Command.LookHead result) head) ≡ Some header.new.declared }
+    ensures taken { (m : Memory) → IsCommandTaken (document_core (shared_opening shared.now)) number m Command.LookHead result (view_of pass.old) (view_of pass.new) }
 {
     let reply = shared.turn(rt, pass, number, BookCommand::LookHead, steps);
     match names_shown(alloc, &reply) {
@@ -65,13 +65,13 @@ pub(crate) fn put_head<L: Ledger, R: Threads + Wait + Sync>(
 ) -> Reply
     requires of_this { IsPassOf shared.now pass.old }
     requires number { ((view_of pass.old).first ≤ number) × (number < (view_of pass.old).past) }
-    requires setting { (opening_of shared.now).setting.profile ≡ header.old.profile }
+    requires setting { (shared_opening shared.now).setting.profile ≡ header.old.profile }
     requires profile { IsLawfulProfile header.old.profile }
     ensures of_this { IsPassOf shared.now pass.new }
     ensures profile { header.new.profile ≡ header.old.profile }
-    ensures names { names_given (opening_of shared.now) (view_of pass.old).seen seen ≡ Some header.old.declared
-        → names_given (opening_of shared.now) (view_of pass.new).seen (head_told (told_by (Command.PutHead declared.now) result) seen) ≡ Some header.new.declared }
-    ensures taken { (m : Memory) → head_of m ≡ seen → IsTaken (core (opening_of shared.now)) number m (Command.PutHead declared.now) result (view_of pass.old) (view_of pass.new) }
+    ensures names { names_given (shared_opening shared.now) (view_of pass.old).seen seen ≡ Some header.old.declared
+        → names_given (shared_opening shared.now) (view_of pass.new).seen (head_told (stamp_told_by (Command.PutHead declared.now) result) seen) ≡ Some header.new.declared }
+    ensures taken { (m : Memory) → known_header_stamp m ≡ seen → IsCommandTaken (document_core (shared_opening shared.now)) number m (Command.PutHead declared.now) result (view_of pass.old) (view_of pass.new) }
 {
     let Ok(names) = declared.try_clone() else {
         return Reply::NoMemory;
@@ -113,8 +113,8 @@ fn all_texts<L: Ledger, R: Wait>(
     requires of_this { IsPassOf shared.now pass.old }
     requires number { ((view_of pass.old).first ≤ number) × (number < (view_of pass.old).past) }
     ensures of_this { IsPassOf shared.now pass.new }
-    ensures more { SeesMore session_of (view_of pass.old) (view_of pass.new) }
-    ensures given { IfSome result (λ blocks. AreGiven (opening_of shared.now) (view_of pass.new).seen blocks) }
+    ensures more { SeesMore entry_session (view_of pass.old) (view_of pass.new) }
+    ensures given { IfSome result (λ blocks. AreTextsGiven (shared_opening shared.now) (view_of pass.new).seen blocks) }
 {
     match shared.turn(rt, pass, number, BookCommand::Texts, steps) {
         Reply::Texts { version: _, blocks } => Some(blocks),

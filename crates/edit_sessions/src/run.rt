@@ -4,10 +4,10 @@ ghost use Rattle.std.specs.Thread.{IsSync};
 ghost use Rattle.knit_base.specs.Limits.{IsLawfulProfile};
 ghost use Rattle.edit_journal.specs.declared.opening.Opening.{Opening};
 ghost use Rattle.edit_book.specs.Memory.{first_memory};
-ghost use Rattle.edit_sessions.specs.Core.{core};
+ghost use Rattle.edit_sessions.specs.Core.{document_core};
 ghost use Rattle.edit_sessions.specs.Laws.{IsLegal};
-ghost use Rattle.edit_sessions.specs.Shared.{opening_of, session_of};
-ghost use Rattle.edit_sessions.specs.Talks.{IsReady, replies_of};
+ghost use Rattle.edit_sessions.specs.Shared.{shared_opening, entry_session};
+ghost use Rattle.edit_sessions.specs.Talks.{IsTalkReady, talk_replies};
 ghost use Rattle.turn_book.specs.Histories.{AreHistories, IsHistory};
 ghost use Rattle.turn_book.specs.Journal.{Each, Foreign};
 ghost use Rattle.turn_book.specs.Passes.{IsPassOf, view_of};
@@ -41,14 +41,14 @@ pub fn run_all<G: Gate + Sync, R: Threads + Wait + Sync>(
 ) -> Result<(Pass<Book>, Replies), Pass<Book>>
     requires of_this { IsPassOf shared.now pass }
     requires range { (view_of pass).first + length scripts.now ≡ (view_of pass).past }
-    requires setting { (opening_of shared.now).setting ≡ setting.now }
+    requires setting { (shared_opening shared.now).setting ≡ setting.now }
     requires profile { IsLawfulProfile setting.now.profile }
-    requires blocks { length (opening_of shared.now).texts ≡ blocks }
+    requires blocks { length (shared_opening shared.now).texts ≡ blocks }
     ensures unstarted { IfErr result (λ rest. rest ≡ pass) }
     ensures of_this { IfOk result (λ r. IsPassOf shared.now r.0) }
     ensures range { IfOk result (λ r. ((view_of r.0).first ≡ (view_of pass).first) × ((view_of r.0).past ≡ (view_of pass).past)) }
-    ensures histories { Foreign session_of (view_of pass).first (view_of pass).past (view_of pass).seen → IfOk result (λ r. AreHistories (core (opening_of shared.now)) (view_of pass).first (view_of r.0).seen (first_memory (opening_of shared.now)) scripts.now r.1) }
-    ensures legal { (view_of pass).first ≡ 0 → (view_of pass).past ≡ (view_of pass).count → (view_of pass).seen ≡ [] → IfOk result (λ r. IsLegal (opening_of shared.now) scripts.now (view_of r.0).seen r.1) }
+    ensures histories { Foreign entry_session (view_of pass).first (view_of pass).past (view_of pass).seen → IfOk result (λ r. AreHistories (document_core (shared_opening shared.now)) (view_of pass).first (view_of r.0).seen (first_memory (shared_opening shared.now)) scripts.now r.1) }
+    ensures legal { (view_of pass).first ≡ 0 → (view_of pass).past ≡ (view_of pass).count → (view_of pass).seen ≡ [] → IfOk result (λ r. IsLegal (shared_opening shared.now) scripts.now (view_of r.0).seen r.1) }
 {
     let Ok(mut talks) = begin(alloc, pass.first(), blocks, &setting.declared, scripts) else {
         return Err(pass);
@@ -77,7 +77,7 @@ pub fn run_all<G: Gate + Sync, R: Threads + Wait + Sync>(
 fn into_replies(talks: Vec<Talk>, mut lists: Vec<Vec<Reply>>) -> Vec<Vec<Reply>>
     requires empty { lists.items ≡ [] }
     requires room { length talks.items ≤ vec_capacity lists }
-    ensures { map (λ list. list.items) result.items ≡ map replies_of talks.items }
+    ensures { map (λ list. list.items) result.items ≡ map talk_replies talks.items }
 {
     for talk in talks {
         let Talk {
@@ -98,7 +98,7 @@ fn begin(
     scripts: &[CommandList],
 ) -> Result<Vec<Talk>, NoMemory>
     requires few { first + length scripts.now ≤ 64 }
-    ensures ready { IfOk result (λ talks. (opening : Opening) → length opening.texts ≡ blocks → opening.setting.declared ≡ declared.now → AreReady (IsReady opening) first scripts.now talks.items) }
+    ensures ready { IfOk result (λ talks. (opening : Opening) → length opening.texts ≡ blocks → opening.setting.declared ≡ declared.now → AreReady (IsTalkReady opening) first scripts.now talks.items) }
     ensures count { IfOk result (λ talks. length talks.items ≡ length scripts.now) }
 {
     let mut talks = Vec::with_capacity(alloc, scripts.len())?;
@@ -123,13 +123,13 @@ fn talk<G: Gate, R: Threads + Wait + Sync>(
 )
     requires of_this { IsPassOf shared.now pass.old }
     requires range { (view_of pass.old).past ≡ (view_of pass.old).first + 1 }
-    requires setting { (opening_of shared.now).setting ≡ setting.now }
+    requires setting { (shared_opening shared.now).setting ≡ setting.now }
     requires profile { IsLawfulProfile setting.now.profile }
     requires short { length script.now < 2 ^ 32 }
-    requires ready { IsReady (opening_of shared.now) (view_of pass.old).first script.now talk.old }
+    requires ready { IsTalkReady (shared_opening shared.now) (view_of pass.old).first script.now talk.old }
     ensures of_this { IsPassOf shared.now pass.new }
     ensures range { ((view_of pass.new).first ≡ (view_of pass.old).first) × ((view_of pass.new).past ≡ (view_of pass.old).past) }
-    ensures history { Foreign session_of (view_of pass.old).first (view_of pass.old).past (view_of pass.old).seen → IsHistory (core (opening_of shared.now)) (view_of pass.old).first (view_of pass.new).seen (first_memory (opening_of shared.now)) script.now (replies_of talk.new) }
+    ensures history { Foreign entry_session (view_of pass.old).first (view_of pass.old).past (view_of pass.old).seen → IsHistory (document_core (shared_opening shared.now)) (view_of pass.old).first (view_of pass.new).seen (first_memory (shared_opening shared.now)) script.now (talk_replies talk.new) }
 {
     let Talk { session, replies } = talk;
     let number = pass.first();
@@ -157,13 +157,13 @@ pub(crate) fn run<G: Gate + Sync, R: Threads + Wait + Sync>(
     requires of_this { IsPassOf shared.now pass.old }
     requires range { (view_of pass.old).first + length scripts.now ≡ (view_of pass.old).past }
     requires some { 0 < length scripts.now }
-    requires setting { (opening_of shared.now).setting ≡ setting.now }
+    requires setting { (shared_opening shared.now).setting ≡ setting.now }
     requires profile { IsLawfulProfile setting.now.profile }
     requires same { length talks.old ≡ length scripts.now }
-    requires ready { AreReady (IsReady (opening_of shared.now)) (view_of pass.old).first scripts.now talks.old }
+    requires ready { AreReady (IsTalkReady (shared_opening shared.now)) (view_of pass.old).first scripts.now talks.old }
     ensures of_this { IsPassOf shared.now pass.new }
     ensures range { ((view_of pass.new).first ≡ (view_of pass.old).first) × ((view_of pass.new).past ≡ (view_of pass.old).past) }
-    ensures histories { Foreign session_of (view_of pass.old).first (view_of pass.old).past (view_of pass.old).seen → AreHistories (core (opening_of shared.now)) (view_of pass.old).first (view_of pass.new).seen (first_memory (opening_of shared.now)) scripts.now (map replies_of talks.new) }
+    ensures histories { Foreign entry_session (view_of pass.old).first (view_of pass.old).past (view_of pass.old).seen → AreHistories (document_core (shared_opening shared.now)) (view_of pass.old).first (view_of pass.new).seen (first_memory (shared_opening shared.now)) scripts.now (map talk_replies talks.new) }
 {
     if scripts.len() < 2 {
         talk(
@@ -186,12 +186,12 @@ pub(crate) fn run<G: Gate + Sync, R: Threads + Wait + Sync>(
     join_mut(
         rt,
         &mut ||
-            requires { IsSync R.row × IsSync G.row × ((opening_of shared.now).setting ≡ setting.now) × IsLawfulProfile setting.now.profile × IsPassOf shared.now right × ((view_of right).first + length others.now ≡ (view_of right).past) × (0 < length others.now) × (length back.now ≡ length others.now) × AreReady (IsReady (opening_of shared.now)) (view_of right).first others.now back.now }
-            ensures { IsPassOf shared.entry.now right.exit × ((view_of right.exit).first ≡ (view_of right.entry).first) × ((view_of right.exit).past ≡ (view_of right.entry).past) × (Foreign session_of (view_of right.entry).first (view_of right.entry).past (view_of right.entry).seen → AreHistories (core (opening_of shared.entry.now)) (view_of right.entry).first (view_of right.exit).seen (first_memory (opening_of shared.entry.now)) others.entry.now (map replies_of back.exit.now)) }
+            requires { IsSync R.row × IsSync G.row × ((shared_opening shared.now).setting ≡ setting.now) × IsLawfulProfile setting.now.profile × IsPassOf shared.now right × ((view_of right).first + length others.now ≡ (view_of right).past) × (0 < length others.now) × (length back.now ≡ length others.now) × AreReady (IsTalkReady (shared_opening shared.now)) (view_of right).first others.now back.now }
+            ensures { IsPassOf shared.entry.now right.exit × ((view_of right.exit).first ≡ (view_of right.entry).first) × ((view_of right.exit).past ≡ (view_of right.entry).past) × (Foreign entry_session (view_of right.entry).first (view_of right.entry).past (view_of right.entry).seen → AreHistories (document_core (shared_opening shared.entry.now)) (view_of right.entry).first (view_of right.exit).seen (first_memory (shared_opening shared.entry.now)) others.entry.now (map talk_replies back.exit.now)) }
         { run(rt, alloc, gate, shared, setting, others, &mut right, back) },
         &mut ||
-            requires { IsSync R.row × IsSync G.row × ((opening_of shared.now).setting ≡ setting.now) × IsLawfulProfile setting.now.profile × IsPassOf shared.now pass.now × ((view_of pass.now).first + length own.now ≡ (view_of pass.now).past) × (0 < length own.now) × (length front.now ≡ length own.now) × AreReady (IsReady (opening_of shared.now)) (view_of pass.now).first own.now front.now }
-            ensures { IsPassOf shared.entry.now pass.exit.now × ((view_of pass.exit.now).first ≡ (view_of pass.entry.now).first) × ((view_of pass.exit.now).past ≡ (view_of pass.entry.now).past) × (Foreign session_of (view_of pass.entry.now).first (view_of pass.entry.now).past (view_of pass.entry.now).seen → AreHistories (core (opening_of shared.entry.now)) (view_of pass.entry.now).first (view_of pass.exit.now).seen (first_memory (opening_of shared.entry.now)) own.entry.now (map replies_of front.exit.now)) }
+            requires { IsSync R.row × IsSync G.row × ((shared_opening shared.now).setting ≡ setting.now) × IsLawfulProfile setting.now.profile × IsPassOf shared.now pass.now × ((view_of pass.now).first + length own.now ≡ (view_of pass.now).past) × (0 < length own.now) × (length front.now ≡ length own.now) × AreReady (IsTalkReady (shared_opening shared.now)) (view_of pass.now).first own.now front.now }
+            ensures { IsPassOf shared.entry.now pass.exit.now × ((view_of pass.exit.now).first ≡ (view_of pass.entry.now).first) × ((view_of pass.exit.now).past ≡ (view_of pass.entry.now).past) × (Foreign entry_session (view_of pass.entry.now).first (view_of pass.entry.now).past (view_of pass.entry.now).seen → AreHistories (document_core (shared_opening shared.entry.now)) (view_of pass.entry.now).first (view_of pass.exit.now).seen (first_memory (shared_opening shared.entry.now)) own.entry.now (map talk_replies front.exit.now)) }
         { run(rt, alloc, gate, shared, setting, own, pass, front) },
     );
     shared.join(pass, right);

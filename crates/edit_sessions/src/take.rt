@@ -2,13 +2,13 @@
 ghost use Rattle.std.specs.Prelude.{◌≡◌, ◌<◌, ◌≤◌, IfErr, Some};
 ghost use Rattle.knit_base.specs.Limits.{IsLawfulProfile};
 ghost use Rattle.edit_journal.specs.Documents.{names_given};
-ghost use Rattle.edit_book.specs.Memory.{Memory, asked, head_told, memory_after, told_by};
+ghost use Rattle.edit_book.specs.Memory.{Memory, asked_of_book, head_told, memory_after, stamp_told_by};
 ghost use Rattle.edit_book.specs.Session.{HasLearned, HasNames, Remembers};
-ghost use Rattle.edit_book.specs.Turns.{IsRight};
-ghost use Rattle.edit_sessions.specs.Core.{core};
-ghost use Rattle.edit_sessions.specs.Shared.{opening_of};
+ghost use Rattle.edit_book.specs.Turns.{IsRightReply};
+ghost use Rattle.edit_sessions.specs.Core.{document_core};
+ghost use Rattle.edit_sessions.specs.Shared.{shared_opening};
 ghost use Rattle.turn_book.specs.Passes.{IsPassOf, view_of};
-ghost use Rattle.turn_book.specs.Taken.{IsTaken};
+ghost use Rattle.turn_book.specs.Taken.{IsCommandTaken};
 
 use crate::head::{look_head, put_head};
 use block_summary::Draft;
@@ -40,14 +40,14 @@ pub fn do_command<R: Threads + Wait + Sync>(
 ) -> Reply
     requires of_this { IsPassOf shared.now pass.old }
     requires number { ((view_of pass.old).first ≤ session.old.number) × (session.old.number < (view_of pass.old).past) }
-    requires setting { (opening_of shared.now).setting ≡ setting.now }
+    requires setting { (shared_opening shared.now).setting ≡ setting.now }
     requires profile { IsLawfulProfile setting.now.profile }
-    requires names { HasNames (opening_of shared.now) (view_of pass.old).seen session.old }
+    requires names { HasNames (shared_opening shared.now) (view_of pass.old).seen session.old }
     ensures of_this { IsPassOf shared.now pass.new }
     ensures number { session.new.number ≡ session.old.number }
-    ensures names { HasNames (opening_of shared.now) (view_of pass.new).seen session.new }
-    ensures taken { (m : Memory) → Remembers session.old m → IsTaken (core (opening_of shared.now)) session.old.number m command.now result (view_of pass.old) (view_of pass.new) }
-    ensures untaken { (m : Memory) → Remembers session.old m → IfErr (asked m command.now) (λ reply. view_of pass.new ≡ view_of pass.old) }
+    ensures names { HasNames (shared_opening shared.now) (view_of pass.new).seen session.new }
+    ensures taken { (m : Memory) → Remembers session.old m → IsCommandTaken (document_core (shared_opening shared.now)) session.old.number m command.now result (view_of pass.old) (view_of pass.new) }
+    ensures untaken { (m : Memory) → Remembers session.old m → IfErr (asked_of_book m command.now) (λ reply. view_of pass.new ≡ view_of pass.old) }
     ensures learned { (m : Memory) → Remembers session.old m → Remembers session.new (memory_after m command.now result) }
 {
     let Session {
@@ -94,14 +94,14 @@ fn take<L: Ledger, R: Threads + Wait + Sync>(
     requires blank { (blank.name ≡ L.name) × (blank.parts ≡ L.parts) × (0 < L.parts) }
     requires of_this { IsPassOf shared.now pass.old }
     requires number { ((view_of pass.old).first ≤ number) × (number < (view_of pass.old).past) }
-    requires setting { (opening_of shared.now).setting.profile ≡ header.old.profile }
+    requires setting { (shared_opening shared.now).setting.profile ≡ header.old.profile }
     requires profile { IsLawfulProfile header.old.profile }
-    requires names { names_given (opening_of shared.now) (view_of pass.old).seen learned.now.head ≡ Some header.old.declared }
+    requires names { names_given (shared_opening shared.now) (view_of pass.old).seen learned.now.head ≡ Some header.old.declared }
     ensures of_this { IsPassOf shared.now pass.new }
     ensures profile { header.new.profile ≡ header.old.profile }
-    ensures names { names_given (opening_of shared.now) (view_of pass.new).seen (head_told (told_by command.now result) learned.now.head) ≡ Some header.new.declared }
-    ensures taken { (m : Memory) → HasLearned learned.now m → IsTaken (core (opening_of shared.now)) number m command.now result (view_of pass.old) (view_of pass.new) }
-    ensures untaken { (m : Memory) → HasLearned learned.now m → IfErr (asked m command.now) (λ reply. view_of pass.new ≡ view_of pass.old) }
+    ensures names { names_given (shared_opening shared.now) (view_of pass.new).seen (head_told (stamp_told_by command.now result) learned.now.head) ≡ Some header.new.declared }
+    ensures taken { (m : Memory) → HasLearned learned.now m → IsCommandTaken (document_core (shared_opening shared.now)) number m command.now result (view_of pass.old) (view_of pass.new) }
+    ensures untaken { (m : Memory) → HasLearned learned.now m → IfErr (asked_of_book m command.now) (λ reply. view_of pass.new ≡ view_of pass.old) }
 {
     let mut steps = Steps::<L>::start(rt, blank);
     match command {

@@ -9,10 +9,10 @@ use Rattle.face_data.specs.Lasts.{last_at}
 use Rattle.knit_base.specs.Yarns.{contains_carrier, without_set}
 use Rattle.face_data.specs.Conditions.{Ask, size_of, holds}
 use Rattle.face_data.specs.Segments.{Changed, names_through, new_through}
-use Rattle.face_data.specs.Summaries.{after, rack_after}
+use Rattle.face_data.specs.Summaries.{state_after_changes, rack_after_effect}
 use Rattle.face_data.specs.Conditions.Ask.{rack_is, carrier_in, carrier_out, hook_free, hook_is, hook_lacks, size_at_most, last_near}
-use Rattle.face_data.specs.Answers.{Answer, answer_of, size_left, size_answer, where_known, near_answer, read_answer}
-use Rattle.face_data.specs.Answers.Answer.{yes_it_does, no_it_does_not, asks}
+use Rattle.face_data.specs.Answers.{ConditionAnswer, answer_of, size_left, size_answer, where_known, near_answer, read_answer}
+use Rattle.face_data.specs.Answers.ConditionAnswer.{yes_it_does, no_it_does_not, asks}
 use Rattle.knit_base.specs.declared.yarns.CarrierNo.{CarrierNo}
 use Rattle.face_data.proofs.SizeConditions.{size-now}
 use Rattle.face_data.proofs.Carriers.{has-bit_or, has-without}
@@ -22,11 +22,11 @@ use Rattle.knit_base.specs.declared.instr.Quarter.{Quarter}
 
 -- how many loops the needles hold after the first block
 pub size_of-through : (s : State) (first : ℕ) (e : Effect) (la : List Last) (a : List Changed) (names : List Needle) →
-    size_of names (after e la a s first) ≡ size_of (names_through a names) s + new_through a names
-size_of-through s first e la a names = size-now a s (after e la a s first) first names (λ n. refl)
+    size_of names (state_after_changes e la a s first) ≡ size_of (names_through a names) s + new_through a names
+size_of-through s first e la a names = size-now a s (state_after_changes e la a s first) first names (λ n. refl)
 
 -- what an answer says in the state at the first block's entry
-unfoldable pub meaning : Answer → State → Bool
+unfoldable pub meaning : ConditionAnswer → State → Bool
 meaning yes_it_does s = true
 meaning no_it_does_not s = false
 meaning (asks q) s = holds q s
@@ -60,7 +60,7 @@ unfolding size_answer
 size_answer_meaning names new most s = size_answer_cases names new most s (nat_lt most new) refl
 
 rack_meaning : (r : Option Quarter) (q old : ℤ) (s : State) → s.rack ≡ old →
-    meaning (where_known r (λ x. int_eq x.0 q) (rack_is q)) s ≡ int_eq (rack_after r old) q
+    meaning (where_known r (λ x. int_eq x.0 q) (rack_is q)) s ≡ int_eq (rack_after_effect r old) q
 unfolding meaning
 rack_meaning None q old s e = ap (λ x. int_eq x q) e
 rack_meaning (Some r) q old s e = meaning-answer_of (int_eq r.0 q) s
@@ -93,7 +93,7 @@ out_meaning false false true q s e = e
 out_meaning false false false q s e = e
 
 has-after : (e : Effect) (la : List Last) (a : List Changed) (s : State) (first : ℕ) (c : CarrierNo) →
-    contains_carrier (after e la a s first).ins c ≡ ((contains_carrier s.ins c && not (contains_carrier e.went c)) || contains_carrier e.came c)
+    contains_carrier (state_after_changes e la a s first).ins c ≡ ((contains_carrier s.ins c && not (contains_carrier e.went c)) || contains_carrier e.came c)
 has-after e la a s first c =
     has-bit_or (without_set s.ins e.went) e.came c ∙ ap (λ b. b || contains_carrier e.came c) (has-without s.ins e.went c)
 
@@ -104,7 +104,7 @@ near_meaning (Some last) old q at float s e = meaning-answer_of (is_near float l
 
 -- What a condition says after the first block is what its answer says at the entry.
 pub read_answer_meaning : (e : Effect) (la : List Last) (a : List Changed) (q : Ask) (s : State) (first : ℕ) →
-    meaning (read_answer e la a q) s ≡ holds q (after e la a s first)
+    meaning (read_answer e la a q) s ≡ holds q (state_after_changes e la a s first)
 unfolding read_answer meaning
 read_answer_meaning e la a (rack_is q) s first = rack_meaning e.rack q s.rack s refl
 read_answer_meaning e la a (carrier_in c) s first = in_meaning (contains_carrier e.came c) (contains_carrier e.went c) (contains_carrier s.ins c) (carrier_in c) s refl ∙ sym (has-after e la a s first c)

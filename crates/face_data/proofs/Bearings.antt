@@ -20,7 +20,7 @@ use Rattle.face_data.specs.Bearings.{bearing, if_so, same_or_not, all_in}
 use Rattle.face_data.specs.declared.bearing.Bearing.TheVariants.{Implied, Refuted, Silent}
 use Rattle.face_data.proofs.Members.{sum_within, Contains-none, Contains-cons_cases}
 use Rattle.knit_base.specs.declared.needle.Needle.{Needle}
-use Rattle.face_data.specs.Sets.{IsDistinct, IsWithin}
+use Rattle.face_data.specs.Sets.{IsDistinct, AreNeedlesWithin}
 
 -- a size condition names each needle once
 abbrev pub NamesOnce : Ask → Type 0
@@ -34,7 +34,7 @@ Tells Refuted b = b ≡ false
 Tells Silent b = Unit {0}
 
 -- a list that passes the test lies within the other
-pub all_in_within : (later earlier : List Needle) → all_in later earlier ≡ true → IsWithin later earlier
+pub all_in_within : (later earlier : List Needle) → all_in later earlier ≡ true → AreNeedlesWithin later earlier
 all_in_within [] earlier e n h = absurd (Contains-none n h)
 all_in_within (x ∷ later) earlier e n h =
     let both = and_parts (list_any (same_needle x) earlier) (all_in later earlier) e in

@@ -9,10 +9,10 @@ use Rattle.std.proofs.lemmas.Map.Views.{Contains-from_any, list_any-from_Contain
 use Rattle.std.proofs.Math.Nat.{mul-le-mul_right}
 use Rattle.knit_base.specs.Needle.{same_needle, same_needle-true}
 use Rattle.face_data.proofs.Members.{Contains-none, Contains-head, Contains-cons_cases}
-use Rattle.face_data.proofs.Marks.{IsFamily, IsIn, code, code_below, same_code}
+use Rattle.face_data.proofs.Marks.{IsFamily, IsIn, set_code, code_below, same_code}
 use Rattle.knit_base.specs.declared.needle.Needle.{Needle}
 use Rattle.knit_base.specs.declared.needle.Bed.TheVariants.{Front}
-use Rattle.face_data.specs.Sets.{IsWithin, NestedOrApart}
+use Rattle.face_data.specs.Sets.{AreNeedlesWithin, NestedOrApart}
 use Rattle.knit_base.proofs.Needles.{Decides-same_needle}
 
 abbrev upto : (ℕ → ℕ) → ℕ → List ℕ
@@ -72,10 +72,10 @@ most_at ss k = (get_or ss k no_size).most
 -- conditions on sizes over known needles, any two nested or apart, none implied by an earlier one
 pub record AreSizes (limit : ℕ) (known : List Needle) (ss : List Sized) : Type 0 where
   pub some : (k : ℕ) → k < length ss → 1 ≤ length (names_at ss k)
-  pub within : (k : ℕ) → k < length ss → IsWithin (names_at ss k) known
+  pub within : (k : ℕ) → k < length ss → AreNeedlesWithin (names_at ss k) known
   pub at_most : (k : ℕ) → k < length ss → most_at ss k ≤ limit
   pub nested : (k l : ℕ) → k < length ss → l < length ss → NestedOrApart (names_at ss k) (names_at ss l)
-  pub needed : (k l : ℕ) → k < l → l < length ss → IsWithin (names_at ss l) (names_at ss k) → most_at ss k ≤ most_at ss l → ⊥
+  pub needed : (k l : ℕ) → k < l → l < length ss → AreNeedlesWithin (names_at ss l) (names_at ss k) → most_at ss k ≤ most_at ss l → ⊥
 
 -- whether set k contains_carrier the needle at place i
 abbrev pub mem_at : List Needle → List Sized → ℕ → ℕ → Bool
@@ -100,11 +100,11 @@ some_of [] h = absurd (omega arith)
 some_of (x ∷ xs) h = (x, Contains-head x xs)
 
 -- what is true of needles, of their places
-in_from_within : (known : List Needle) (ss : List Sized) (k l : ℕ) → IsWithin (names_at ss k) (names_at ss l) → IsIn (length known) (length ss) (mem_at known ss) k l
+in_from_within : (known : List Needle) (ss : List Sized) (k l : ℕ) → AreNeedlesWithin (names_at ss k) (names_at ss l) → IsIn (length known) (length ss) (mem_at known ss) k l
 in_from_within known ss k l w i small e = mem_from known ss l i (w (get_or known i no_needle) (from_mem known ss k i e))
 
 within_from_in : (limit : ℕ) (known : List Needle) (ss : List Sized) (k l : ℕ) → AreSizes limit known ss → k < length ss →
-    IsIn (length known) (length ss) (mem_at known ss) k l → IsWithin (names_at ss k) (names_at ss l)
+    IsIn (length known) (length ss) (mem_at known ss) k l → AreNeedlesWithin (names_at ss k) (names_at ss l)
 within_from_in limit known ss k l h hk w n there =
     let p = place_of known n (h.within k hk n there) in
     subst (Contains (names_at ss l)) p.2 (from_mem known ss l p.0 (w p.0 p.1 (mem_from known ss k p.0 (subst (Contains (names_at ss k)) (sym p.2) there))))
@@ -126,7 +126,7 @@ family limit known ss h = record {
 
 -- a number for each condition: by its set and then by its maximum
 abbrev number_of : ℕ → List Needle → List Sized → ℕ → ℕ
-number_of limit known ss k = code (length known) (length ss) (mem_at known ss) k * (limit + 1) + most_at ss k
+number_of limit known ss k = set_code (length known) (length ss) (mem_at known ss) k * (limit + 1) + most_at ss k
 
 same_digits : (a b p q c : ℕ) → p < c → q < c → a * c + p ≡ b * c + q → (a ≡ b) × (p ≡ q)
 same_digits a b p q c hp hq e = elim (cases_order a b) [
@@ -141,13 +141,13 @@ same_digits a b p q c hp hq e = elim (cases_order a b) [
 pub sizes_bound : (limit : ℕ) (known : List Needle) (ss : List Sized) → AreSizes limit known ss → length ss ≤ (2 * length known - 1) * (limit + 1)
 sizes_bound limit known ss h = at_most_bound (number_of limit known ss) (length ss) ((2 * length known - 1) * (limit + 1))
     (λ k hk.
-    let c = code (length known) (length ss) (mem_at known ss) k in
+    let c = set_code (length known) (length ss) (mem_at known ss) k in
     let below = code_below (length known) (length ss) (mem_at known ss) (family limit known ss h) k hk in
     let more : c + 1 ≤ 2 * length known - 1 = omega (arith, below) in
     let m : (c + 1) * (limit + 1) ≤ (2 * length known - 1) * (limit + 1) = mul-le-mul_right (limit + 1) more in
     omega (arith, m, h.at_most k hk))
     (λ k l hk hl e.
-    let both = same_digits (code (length known) (length ss) (mem_at known ss) k) (code (length known) (length ss) (mem_at known ss) l) (most_at ss k) (most_at ss l) (limit + 1)
+    let both = same_digits (set_code (length known) (length ss) (mem_at known ss) k) (set_code (length known) (length ss) (mem_at known ss) l) (most_at ss k) (most_at ss l) (limit + 1)
     (omega (arith, h.at_most k hk)) (omega (arith, h.at_most l (omega arith))) e in
     let same = same_code (length known) (length ss) (mem_at known ss) (family limit known ss h) k l hk (omega arith) both.0 in
     h.needed l k hl hk (within_from_in limit known ss k l h hk same.0) (omega (arith, both.1)))

@@ -6,7 +6,7 @@ use Rattle.std.specs.declared.cmp.Ordering.TheVariants.{Less, Equal, Greater}
 use Rattle.knit_base.specs.declared.needle.Needle.{Needle}
 use Rattle.knit_base.specs.Needle.{same_needle, same_needle-true, needle_cmp, needle_cmp_total}
 use Rattle.face_data.specs.declared.face.Seg.{Seg}
-use Rattle.face_data.specs.Composition.{merged}
+use Rattle.face_data.specs.Composition.{changes_merged}
 use Rattle.face_data.specs.Goodness.{IsInOrder}
 use Rattle.face_data.specs.Segments.{Changed, change_at}
 use Rattle.face_data.proofs.ChangeLists.{AllAbove, or_change, absent_below, change_at-merged, order_merged, above_more, reverse_greater}
@@ -59,10 +59,10 @@ set_says false segs old = refl
 
 -- a list in order that says this of one needle, and of the others what another list says, is that list with one change merged
 pub set-merged : (old new : List Changed) (n : Needle) (segs : List Seg) → IsInOrder old → IsInOrder new →
-    ((m : Needle) → change_at new m ≡ cond (same_needle n m) (Some segs) (change_at old m)) → new ≡ merged old ((n, segs) ∷ [])
+    ((m : Needle) → change_at new m ≡ cond (same_needle n m) (Some segs) (change_at old m)) → new ≡ changes_merged old ((n, segs) ∷ [])
 unfolding IsStrictlySortedBy
 set-merged old new n segs order_old order_new says =
-    same_changes new (merged old ((n, segs) ∷ [])) order_new (order_merged old ((n, segs) ∷ []) order_old (tt, tt))
+    same_changes new (changes_merged old ((n, segs) ∷ [])) order_new (order_merged old ((n, segs) ∷ []) order_old (tt, tt))
     (λ m. says m
     ∙ ap (λ here. cond here (Some segs) (change_at old m)) (same_needle-comm n m)
     ∙ set_says (same_needle m n) segs (change_at old m)

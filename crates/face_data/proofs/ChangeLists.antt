@@ -15,7 +15,7 @@ use Rattle.knit_base.specs.declared.needle.Needle.{Needle}
 use Rattle.face_data.specs.declared.face.Seg.{Seg}
 use Rattle.face_data.specs.declared.face.Seg.TheVariants.{Entry}
 use Rattle.face_data.specs.Goodness.{IsInOrder}
-use Rattle.face_data.specs.Composition.{by_order, merged_from, merged}
+use Rattle.face_data.specs.Composition.{by_order, merged_from, changes_merged}
 use Rattle.knit_base.proofs.Needles.{needle_cmp-refl, needle_cmp-equal}
 
 -- the first change, or else the second
@@ -91,14 +91,14 @@ merged_from_at a rest y n ih (b ∷ bs) order =
     (ih (b ∷ bs) order) (ih bs order.1) (merged_from_at a rest y n ih bs order.1)
 
 -- what the merged list says of a needle: the second list's change, else the first one's
-pub change_at-merged : (others bs : List Changed) (n : Needle) → IsInOrder bs → change_at (merged others bs) n ≡ or_change (change_at bs n) (change_at others n)
+pub change_at-merged : (others bs : List Changed) (n : Needle) → IsInOrder bs → change_at (changes_merged others bs) n ≡ or_change (change_at bs n) (change_at others n)
 change_at-merged [] bs n order = none_last (change_at bs n)
   where
     none_last : (o : Option (List Seg)) → o ≡ or_change o None
     none_last None = refl
     none_last (Some x) = refl
 change_at-merged (a ∷ others) bs n order =
-    merged_from_at a (merged others) (change_at others n) n (λ cs h. change_at-merged others cs n h) bs order
+    merged_from_at a (changes_merged others) (change_at others n) n (λ cs h. change_at-merged others cs n h) bs order
 
 changed_if : (a : List Changed) (lines : ℕ) (t : Bool) (segs : List Seg) (x : Option (List Seg)) →
     (if t then Some (through a lines segs) else option_map (through a lines) x) ≡ option_map (through a lines) (if t then Some segs else x)
@@ -122,7 +122,7 @@ segments_cases a lines n None = sym (append-nil (segments_on a n))
 
 -- What a needle holds after both blocks is what it holds after the second, read_seg through the first.
 pub segments_on-both : (a bs : List Changed) (lines : ℕ) (n : Needle) → IsInOrder bs →
-    segments_on (merged a (changes_through a lines bs)) n ≡ through a lines (segments_on bs n)
+    segments_on (changes_merged a (changes_through a lines bs)) n ≡ through a lines (segments_on bs n)
 segments_on-both a bs lines n order =
     ap (λ x. unwrap_or x (Entry n ∷ []))
     (change_at-merged a (changes_through a lines bs) n (subst (IsStrictlySortedBy needle_cmp) (sym (needles_through a lines bs)) order)
@@ -142,9 +142,9 @@ above_merged_from n a rest less ih (b ∷ bs) h =
     above_by_order n (a ∷ rest (b ∷ bs)) (b ∷ rest bs) (b ∷ merged_from a rest bs) (needle_cmp a.0 b.0)
     (less, ih (b ∷ bs) h) (h.0, ih bs h.1) (h.0, above_merged_from n a rest less ih bs h.1)
 
-above_merged : (n : Needle) (others bs : List Changed) → AllAbove n others → AllAbove n bs → AllAbove n (merged others bs)
+above_merged : (n : Needle) (others bs : List Changed) → AllAbove n others → AllAbove n bs → AllAbove n (changes_merged others bs)
 above_merged n [] bs h k = k
-above_merged n (a ∷ others) bs h k = above_merged_from n a (merged others) h.0 (λ cs j. above_merged n others cs h.1 j) bs k
+above_merged n (a ∷ others) bs h k = above_merged_from n a (changes_merged others) h.0 (λ cs j. above_merged n others cs h.1 j) bs k
 
 -- an order turned round
 pub reverse_greater : (o p : Ordering) → o ≡ Greater → p ≡ ordering_reverse o → p ≡ Less
@@ -162,14 +162,14 @@ order_by_order a b others bs less equal greater Greater e above_a above_b l q g 
     (g (below, above_more b.0 a.0 others below above_a), ig)
 
 order_merged_from : (a : Changed) (others : List Changed) → AllAbove a.0 others →
-    ((bs : List Changed) → IsInOrder bs → IsInOrder (merged others bs)) → (bs : List Changed) → IsInOrder bs → IsInOrder (merged_from a (merged others) bs)
+    ((bs : List Changed) → IsInOrder bs → IsInOrder (changes_merged others bs)) → (bs : List Changed) → IsInOrder bs → IsInOrder (merged_from a (changes_merged others) bs)
 unfolding IsStrictlySortedBy
 order_merged_from a others above ih [] h = (above_merged a.0 others [] above tt, ih [] tt)
 order_merged_from a others above ih (b ∷ bs) h =
-    order_by_order a b others bs (merged others (b ∷ bs)) (merged others bs) (merged_from a (merged others) bs) (needle_cmp a.0 b.0) refl above h.0
+    order_by_order a b others bs (changes_merged others (b ∷ bs)) (changes_merged others bs) (merged_from a (changes_merged others) bs) (needle_cmp a.0 b.0) refl above h.0
     (λ k. above_merged a.0 others (b ∷ bs) above k)
     (λ k. above_merged b.0 others bs k h.0)
-    (λ k. above_merged_from b.0 a (merged others) k.0 (λ cs j. above_merged b.0 others cs k.1 j) bs h.0)
+    (λ k. above_merged_from b.0 a (changes_merged others) k.0 (λ cs j. above_merged b.0 others cs k.1 j) bs h.0)
     (ih (b ∷ bs) h) (ih bs h.1) (order_merged_from a others above ih bs h.1)
 
 -- no change at all stands in order
@@ -178,7 +178,7 @@ unfolding IsStrictlySortedBy
 none_in_order = tt
 
 -- the merged list is in order
-pub order_merged : (others bs : List Changed) → IsInOrder others → IsInOrder bs → IsInOrder (merged others bs)
+pub order_merged : (others bs : List Changed) → IsInOrder others → IsInOrder bs → IsInOrder (changes_merged others bs)
 unfolding IsStrictlySortedBy
 order_merged [] bs h k = k
 order_merged (a ∷ others) bs h k = order_merged_from a others h.0 (λ cs j. order_merged others cs h.1 j) bs k

@@ -9,7 +9,7 @@ use Rattle.std.proofs.lemmas.Bool.Decides.{nat_tests}
 use Rattle.std.proofs.lemmas.Nat.Bits.{same_from_bits, bit_at-lt}
 use Rattle.carriage_model.specs.State.{State}
 use Rattle.knit_base.specs.Yarns.{contains_carrier, without_set}
-use Rattle.face_data.specs.Summaries.{Asked, Summary, Outcome, after, rack_after, raised, first_fault, outcome_of, applied}
+use Rattle.face_data.specs.Summaries.{AskedCondition, Summary, Outcome, state_after_changes, rack_after_effect, fault_raised, first_fault, outcome_of, summary_outcome}
 use Rattle.face_data.specs.Segments.{Changed, segments_on, read_segs}
 use Rattle.face_data.specs.Summaries.Outcome.{went_on, faulted}
 use Rattle.face_data.specs.Through.{changes_through}
@@ -23,13 +23,13 @@ use Rattle.knit_base.specs.declared.rule.Fault.{Fault}
 use Rattle.face_data.specs.declared.face.Effect.{Effect}
 use Rattle.face_data.specs.declared.face.Ending.{Ending}
 use Rattle.face_data.specs.declared.face.Ending.TheVariants.{Through, Broken}
-use Rattle.face_data.specs.Composition.{reads, merged, or_old, effect_of_both, ending_after, changes_with, lasts_with, closed_at, closed, composed_at, composed, and_then}
+use Rattle.face_data.specs.Composition.{reads, changes_merged, or_old, effect_of_both, ending_after, changes_with, lasts_with, closed_at, gathering_closed, composed_at, composed, and_then}
 use Rattle.face_data.specs.declared.face.Last.{Last}
 use Rattle.face_data.specs.Lasts.{AreInOrder, lasts_of_both}
 use Rattle.face_data.specs.Goodness.{IsInOrder}
 use Rattle.face_data.proofs.LastLists.{after-both_lasts}
 
-rack_of_both : (r q : Option Quarter) (old : ℤ) → rack_after (or_old r q) old ≡ rack_after r (rack_after q old)
+rack_of_both : (r q : Option Quarter) (old : ℤ) → rack_after_effect (or_old r q) old ≡ rack_after_effect r (rack_after_effect q old)
 rack_of_both None q old = refl
 rack_of_both (Some x) q old = refl
 
@@ -93,9 +93,9 @@ ins_of_both x in1 out1 in2 out2 = same_members _ _ (λ c.
 
 -- The state after both effects and the merged changes is the state after the one and then the other.
 pub after-both : (e f : Effect) (la lb : List Last) (a b : List Changed) (lines : ℕ) (s : State) (first : ℕ) → IsInOrder b → AreInOrder lb →
-    after (effect_of_both e f) (lasts_of_both la lb) (merged a (changes_through a lines b)) s first ≡ after f lb b (after e la a s first) (first + lines)
+    state_after_changes (effect_of_both e f) (lasts_of_both la lb) (changes_merged a (changes_through a lines b)) s first ≡ state_after_changes f lb b (state_after_changes e la a s first) (first + lines)
 after-both e f la lb a b lines s first order lasts_order =
-    let stacks : (n : Needle) → read_segs s first (segments_on (merged a (changes_through a lines b)) n) ≡ read_segs (after e la a s first) (first + lines) (segments_on b n)
+    let stacks : (n : Needle) → read_segs s first (segments_on (changes_merged a (changes_through a lines b)) n) ≡ read_segs (state_after_changes e la a s first) (first + lines) (segments_on b n)
     = λ n. ap (read_segs s first) (segments_on-both a b lines n order) ∙ read-through s first lines a (segments_on b n) in
     λ i. record {
       rack = rack_of_both f.rack e.rack s.rack i;
@@ -106,41 +106,41 @@ after-both e f la lb a b lines s first order lasts_order =
     }
 
 abbrev closing : Option Fault → Effect → Summary → Summary → State → ℕ → Outcome
-closing (Some f) e a b s first = faulted (raised first f)
+closing (Some f) e a b s first = faulted (fault_raised first f)
 closing None e a b s first =
-    outcome_of None (ending_after a.lines e b.ending) (lasts_with b.ending (lasts_of_both a.lasts b.lasts)) (changes_with b.ending (merged a.changes (changes_through a.changes a.lines b.changes))) s first
+    outcome_of None (ending_after a.lines e b.ending) (lasts_with b.ending (lasts_of_both a.lasts b.lasts)) (changes_with b.ending (changes_merged a.changes (changes_through a.changes a.lines b.changes))) s first
 
-closed_outcome : (o stop : Option Fault) (checks : List Asked) (e : Effect) (a b : Summary) (s : State) (first : ℕ) →
+closed_outcome : (o stop : Option Fault) (checks : List AskedCondition) (e : Effect) (a b : Summary) (s : State) (first : ℕ) →
     outcome_of o (closed_at stop checks e a b).ending (closed_at stop checks e a b).lasts (closed_at stop checks e a b).changes s first ≡ closing (or_else o stop) e a b s first
 closed_outcome (Some g) (Some f) checks e a b s first = refl
 closed_outcome None (Some f) checks e a b s first = refl
 closed_outcome (Some g) None checks e a b s first = refl
 closed_outcome None None checks e a b s first = refl
 
-checks_closed : (stop : Option Fault) (checks : List Asked) (e : Effect) (a b : Summary) → (closed_at stop checks e a b).checks ≡ checks
+checks_closed : (stop : Option Fault) (checks : List AskedCondition) (e : Effect) (a b : Summary) → (closed_at stop checks e a b).checks ≡ checks
 checks_closed (Some f) checks e a b = refl
 checks_closed None checks e a b = refl
 
-raised_twice : (first lines : ℕ) (f : Fault) → raised first (raised lines f) ≡ raised (first + lines) f
+raised_twice : (first lines : ℕ) (f : Fault) → fault_raised first (fault_raised lines f) ≡ fault_raised (first + lines) f
 raised_twice first lines f = λ i. record f { line = sym (add_assoc first lines f.line) i }
 
 ending_both : (ending : Ending) (e : Effect) (a b : Summary) (s : State) (first : ℕ) → IsInOrder b.changes → AreInOrder b.lasts →
-    outcome_of None (ending_after a.lines e ending) (lasts_with ending (lasts_of_both a.lasts b.lasts)) (changes_with ending (merged a.changes (changes_through a.changes a.lines b.changes))) s first
-    ≡ outcome_of None ending b.lasts b.changes (after e a.lasts a.changes s first) (first + a.lines)
+    outcome_of None (ending_after a.lines e ending) (lasts_with ending (lasts_of_both a.lasts b.lasts)) (changes_with ending (changes_merged a.changes (changes_through a.changes a.lines b.changes))) s first
+    ≡ outcome_of None ending b.lasts b.changes (state_after_changes e a.lasts a.changes s first) (first + a.lines)
 ending_both (Broken f) e a b s first order lasts = ap faulted (raised_twice first a.lines f)
 ending_both (Through f) e a b s first order lasts = ap went_on (after-both e f a.lasts b.lasts a.changes b.changes a.lines s first order lasts)
 
 closing_both : (oa ob : Option Fault) (e : Effect) (a b : Summary) (s : State) (first : ℕ) → IsInOrder b.changes → AreInOrder b.lasts →
-    first_fault b.checks (after e a.lasts a.changes s first) ≡ ob →
-    closing (or_else oa (option_map (raised a.lines) ob)) e a b s first
-    ≡ and_then (outcome_of oa (Through e) a.lasts a.changes s first) (λ t. applied b t (first + a.lines))
+    first_fault b.checks (state_after_changes e a.lasts a.changes s first) ≡ ob →
+    closing (or_else oa (option_map (fault_raised a.lines) ob)) e a b s first
+    ≡ and_then (outcome_of oa (Through e) a.lasts a.changes s first) (λ t. summary_outcome b t (first + a.lines))
 closing_both (Some f) ob e a b s first order lasts is = refl
 closing_both None (Some g) e a b s first order lasts is =
     ap faulted (raised_twice first a.lines g)
-    ∙ sym (ap (λ o. outcome_of o b.ending b.lasts b.changes (after e a.lasts a.changes s first) (first + a.lines)) is)
+    ∙ sym (ap (λ o. outcome_of o b.ending b.lasts b.changes (state_after_changes e a.lasts a.changes s first) (first + a.lines)) is)
 closing_both None None e a b s first order lasts is =
     ending_both b.ending e a b s first order lasts
-    ∙ sym (ap (λ o. outcome_of o b.ending b.lasts b.changes (after e a.lasts a.changes s first) (first + a.lines)) is)
+    ∙ sym (ap (λ o. outcome_of o b.ending b.lasts b.changes (state_after_changes e a.lasts a.changes s first) (first + a.lines)) is)
 
 -- what the second block's conditions are read_seg through
 abbrev pub AllNameOnceThrough : Ending → Summary → Summary → Type 0
@@ -153,17 +153,17 @@ stays_broken (Some g) f la cs s first go = refl
 stays_broken None f la cs s first go = refl
 
 composed_applied_at : (ending : Ending) (a b : Summary) (s : State) (first : ℕ) → IsInOrder b.changes → AreInOrder b.lasts → AllNameOnceThrough ending a b →
-    applied (composed_at ending a b) s first
-    ≡ and_then (outcome_of (first_fault a.checks s) ending a.lasts a.changes s first) (λ t. applied b t (first + a.lines))
-composed_applied_at (Broken f) a b s first order lasts plain = stays_broken (first_fault a.checks s) f a.lasts a.changes s first (λ t. applied b t (first + a.lines))
+    summary_outcome (composed_at ending a b) s first
+    ≡ and_then (outcome_of (first_fault a.checks s) ending a.lasts a.changes s first) (λ t. summary_outcome b t (first + a.lines))
+composed_applied_at (Broken f) a b s first order lasts plain = stays_broken (first_fault a.checks s) f a.lasts a.changes s first (λ t. summary_outcome b t (first + a.lines))
 composed_applied_at (Through e) a b s first order lasts plain =
     let k = reads e a.lasts a.changes a.lines a.checks b.checks in
-    ap (λ cs. outcome_of (first_fault cs s) (closed k e a b).ending (closed k e a b).lasts (closed k e a b).changes s first) (checks_closed k.stop k.checks e a b)
+    ap (λ cs. outcome_of (first_fault cs s) (gathering_closed k e a b).ending (gathering_closed k e a b).lasts (gathering_closed k e a b).changes s first) (checks_closed k.stop k.checks e a b)
     ∙ closed_outcome (first_fault k.checks s) k.stop k.checks e a b s first
     ∙ ap (λ o. closing o e a b s first) (reads_fault e a.lasts a.changes a.lines a.checks b.checks s first plain)
-    ∙ closing_both (first_fault a.checks s) (first_fault b.checks (after e a.lasts a.changes s first)) e a b s first order lasts refl
+    ∙ closing_both (first_fault a.checks s) (first_fault b.checks (state_after_changes e a.lasts a.changes s first)) e a b s first order lasts refl
 
 -- Composition is running one after the other, with the first fault kept.
 pub composed_applied : (a b : Summary) (s : State) (first : ℕ) → IsInOrder b.changes → AreInOrder b.lasts → AllNameOnceThrough a.ending a b →
-    applied (composed a b) s first ≡ and_then (applied a s first) (λ t. applied b t (first + a.lines))
+    summary_outcome (composed a b) s first ≡ and_then (summary_outcome a s first) (λ t. summary_outcome b t (first + a.lines))
 composed_applied a b s first order lasts plain = composed_applied_at a.ending a b s first order lasts plain

@@ -5,10 +5,10 @@ use Rattle.knit_base.specs.declared.rule.Rule.{Rule}
 use Rattle.knit_base.specs.Reasons.{broken_if, or_else}
 use Rattle.carriage_model.specs.State.{State}
 use Rattle.face_data.specs.declared.face.Cond.{Cond}
-use Rattle.face_data.specs.Conditions.{unless, first_unmet, ask_of, holds}
+use Rattle.face_data.specs.Conditions.{broken_unless, first_unmet, ask_of, holds}
 
 -- a rule that is broken where the condition fails
-pub broken-unless : (met : Bool) (rule : Rule) (at : ℕ) → broken_if (not met) rule at ≡ unless met (record { rule = rule; at = at })
+pub broken-unless : (met : Bool) (rule : Rule) (at : ℕ) → broken_if (not met) rule at ≡ broken_unless met (record { rule = rule; at = at })
 broken-unless true rule at = refl
 broken-unless false rule at = refl
 
@@ -21,5 +21,5 @@ or_else-assoc (Some reason) y z = refl
 pub first_unmet-append : (cs ds : List (Reason × Cond)) (s : State) → first_unmet (cs ++ ds) s ≡ or_else (first_unmet cs s) (first_unmet ds s)
 first_unmet-append [] ds s = refl
 first_unmet-append (c ∷ cs) ds s =
-    let here = unless (holds (ask_of [] c.1) s) c.0 in
+    let here = broken_unless (holds (ask_of [] c.1) s) c.0 in
     ap (or_else here) (first_unmet-append cs ds s) ∙ sym (or_else-assoc here (first_unmet cs s) (first_unmet ds s))

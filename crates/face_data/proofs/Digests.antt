@@ -13,15 +13,15 @@ use Rattle.face_data.specs.declared.bearing.Bearing.TheVariants.{Implied, Refute
 use Rattle.face_data.specs.declared.digest.Digest.{Digest}
 use Rattle.face_data.specs.declared.face.Effect.{Effect}
 use Rattle.face_data.specs.declared.face.Last.{Last}
-use Rattle.face_data.specs.Answers.{Answer, answer_of, where_known, read_answer}
+use Rattle.face_data.specs.Answers.{ConditionAnswer, answer_of, where_known, read_answer}
 use Rattle.face_data.specs.Segments.{Changed}
-use Rattle.face_data.specs.Answers.Answer.{yes_it_does, no_it_does_not, asks}
+use Rattle.face_data.specs.Answers.ConditionAnswer.{yes_it_does, no_it_does_not, asks}
 use Rattle.face_data.specs.Bearings.{bearing, if_so, same_or_not}
-use Rattle.face_data.specs.Composition.{from_bearing, settled}
+use Rattle.face_data.specs.Composition.{from_bearing, answer_of_kept}
 use Rattle.face_data.specs.Conditions.{Ask}
 use Rattle.face_data.specs.Conditions.Ask.{rack_is, carrier_in, carrier_out, hook_free, hook_is, hook_lacks, size_at_most, last_near}
-use Rattle.face_data.specs.Digests.{blank, noted, digest_of, bearing_by, digest_bearing, effect_bearing, IsPlainCondition}
-use Rattle.face_data.specs.Summaries.{Asked}
+use Rattle.face_data.specs.Digests.{blank_digest, digest_with, digest_of, bearing_by, digest_bearing, effect_bearing, IsPlainCondition}
+use Rattle.face_data.specs.Summaries.{AskedCondition}
 use Rattle.face_data.specs.Goodness.{IsIrredundant}
 use Rattle.face_data.proofs.Carriers.{has-bit_or}
 use Rattle.face_data.proofs.Members.{Contains-head, Contains-tail}
@@ -113,8 +113,8 @@ same_carrier : (set : ℕ) (c d : CarrierNo) → contains_carrier set c ≡ fals
 same_carrier set c d none same = ap (λ i. nat_eq (bit_at set i) 1) (sym (eqb-true c.0 d.0 same)) ∙ none
 
 -- one more condition: what the digest said, or else what the new condition says
-pub digest_bearing-noted : (digest : Digest) (p q : Ask) → digest_bearing digest p ≡ Silent → IsPlainCondition q → digest_bearing (noted digest p) q ≡ or_said (digest_bearing digest q) (bearing p q)
-unfolding digest_bearing noted bearing
+pub digest_bearing-noted : (digest : Digest) (p q : Ask) → digest_bearing digest p ≡ Silent → IsPlainCondition q → digest_bearing (digest_with digest p) q ≡ or_said (digest_bearing digest q) (bearing p q)
+unfolding digest_bearing digest_with bearing
 digest_bearing-noted digest p (size_at_most names most) silence plain = absurd plain
 digest_bearing-noted digest p (last_near c at float) silence plain = absurd plain
 digest_bearing-noted digest (size_at_most names most) q silence plain = silent_last (digest_bearing digest q)
@@ -158,7 +158,7 @@ nobody : (c : CarrierNo) (r : Bearing) → (if contains_carrier 0 c then Implied
 nobody c r = ap (λ n. if nat_eq n 1 then Implied else if_so (nat_eq n 1) Refuted) (bit_at-zero c.0)
 
 -- a blank digest says nothing of any condition
-pub digest_bearing-blank : (q : Ask) → digest_bearing blank q ≡ Silent
+pub digest_bearing-blank : (q : Ask) → digest_bearing blank_digest q ≡ Silent
 unfolding digest_bearing
 digest_bearing-blank (rack_is x) = refl
 digest_bearing-blank (carrier_in c) = nobody c Silent
@@ -170,12 +170,12 @@ digest_bearing-blank (size_at_most names most) = refl
 digest_bearing-blank (last_near c at float) = refl
 
 -- the digest of conditions of which the digest so far says nothing, nor each of a later one
-said_so_far : (r s : Bearing) (rest : Answer) → from_bearing (or_said r s) rest ≡ from_bearing r (from_bearing s rest)
+said_so_far : (r s : Bearing) (rest : ConditionAnswer) → from_bearing (or_said r s) rest ≡ from_bearing r (from_bearing s rest)
 said_so_far Implied s rest = refl
 said_so_far Refuted s rest = refl
 said_so_far Silent s rest = refl
 
-still_silent : (digest : Digest) (p q : Ask) → digest_bearing digest p ≡ Silent → digest_bearing digest q ≡ Silent → bearing p q ≡ Silent → digest_bearing (noted digest p) q ≡ Silent
+still_silent : (digest : Digest) (p q : Ask) → digest_bearing digest p ≡ Silent → digest_bearing digest q ≡ Silent → bearing p q ≡ Silent → digest_bearing (digest_with digest p) q ≡ Silent
 unfolding digest_bearing
 still_silent digest p (size_at_most names most) so_p so_q none = refl
 still_silent digest p (last_near c at float) so_p so_q none = refl
@@ -186,24 +186,24 @@ still_silent digest p hook_free so_p so_q none = digest_bearing-noted digest p h
 still_silent digest p (hook_is x) so_p so_q none = digest_bearing-noted digest p (hook_is x) so_p tt ∙ ap₂ or_said so_q none
 still_silent digest p (hook_lacks x) so_p so_q none = digest_bearing-noted digest p (hook_lacks x) so_p tt ∙ ap₂ or_said so_q none
 
-digest_bearing-all : (digest : Digest) (kept : List Asked) (q : Ask) → IsPlainCondition q → ((c : Asked) → Contains kept c → digest_bearing digest c.ask ≡ Silent) → IsIrredundant kept →
-    from_bearing (digest_bearing (fold (λ d (c : Asked). noted d c.ask) digest kept) q) (asks q) ≡ from_bearing (digest_bearing digest q) (settled kept q)
-unfolding settled
+digest_bearing-all : (digest : Digest) (kept : List AskedCondition) (q : Ask) → IsPlainCondition q → ((c : AskedCondition) → Contains kept c → digest_bearing digest c.ask ≡ Silent) → IsIrredundant kept →
+    from_bearing (digest_bearing (fold (λ d (c : AskedCondition). digest_with d c.ask) digest kept) q) (asks q) ≡ from_bearing (digest_bearing digest q) (answer_of_kept kept q)
+unfolding answer_of_kept
 digest_bearing-all digest [] q plain new alone_each = refl
 digest_bearing-all digest (c ∷ cs) q plain new alone_each =
     let here = new c (Contains-head c cs) in
-    digest_bearing-all (noted digest c.ask) cs q plain (λ d there. still_silent digest c.ask d.ask here (new d (Contains-tail c cs d there)) (alone_each.0 d there)) alone_each.1
-    ∙ ap (λ r. from_bearing r (settled cs q)) (digest_bearing-noted digest c.ask q here plain)
-    ∙ said_so_far (digest_bearing digest q) (bearing c.ask q) (settled cs q)
+    digest_bearing-all (digest_with digest c.ask) cs q plain (λ d there. still_silent digest c.ask d.ask here (new d (Contains-tail c cs d there)) (alone_each.0 d there)) alone_each.1
+    ∙ ap (λ r. from_bearing r (answer_of_kept cs q)) (digest_bearing-noted digest c.ask q here plain)
+    ∙ said_so_far (digest_bearing digest q) (bearing c.ask q) (answer_of_kept cs q)
 
 -- What irredundant conditions say of a condition that isn't on sizes is what their digest says.
-pub settled-plain : (kept : List Asked) (q : Ask) → IsPlainCondition q → IsIrredundant kept → settled kept q ≡ from_bearing (digest_bearing (digest_of kept) q) (asks q)
+pub settled-plain : (kept : List AskedCondition) (q : Ask) → IsPlainCondition q → IsIrredundant kept → answer_of_kept kept q ≡ from_bearing (digest_bearing (digest_of kept) q) (asks q)
 settled-plain kept q plain each =
-    sym (digest_bearing-all blank kept q plain (λ c there. digest_bearing-blank c.ask) each ∙ ap (λ r. from_bearing r (settled kept q)) (digest_bearing-blank q))
+    sym (digest_bearing-all blank_digest kept q plain (λ c there. digest_bearing-blank c.ask) each ∙ ap (λ r. from_bearing r (answer_of_kept kept q)) (digest_bearing-blank q))
 
 -- the digest with one condition more
-pub digest_of-push : (kept : List Asked) (c : Asked) → digest_of (kept ++ c ∷ []) ≡ noted (digest_of kept) c.ask
-digest_of-push kept c = fold-append (λ d (x : Asked). noted d x.ask) blank kept (c ∷ [])
+pub digest_of-push : (kept : List AskedCondition) (c : AskedCondition) → digest_of (kept ++ c ∷ []) ≡ digest_with (digest_of kept) c.ask
+digest_of-push kept c = fold-append (λ d (x : AskedCondition). digest_with d x.ask) blank_digest kept (c ∷ [])
 
 known_answer : {X : Type 0} (o : Option X) (test : X → Bool) (q : Ask) → where_known o test q ≡ from_bearing (bearing_by o (λ x. same_or_not (test x))) (asks q)
 known_answer None test q = refl

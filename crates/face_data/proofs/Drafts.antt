@@ -11,12 +11,12 @@ use Rattle.knit_base.specs.declared.profile.Profile.{Profile}
 use Rattle.knit_base.specs.Yarns.{without_set}
 use Rattle.carriage_model.specs.State.{State}
 use Rattle.face_data.specs.Composition.{composed}
-use Rattle.face_data.specs.Drafts.{no_lines, drafted}
+use Rattle.face_data.specs.Drafts.{no_lines, drafted_summary}
 use Rattle.face_data.specs.Goodness.{IsGood, IsFair}
 use Rattle.face_data.specs.Segments.{segments_on, read_segs}
-use Rattle.face_data.specs.Sets.{IsWithin}
+use Rattle.face_data.specs.Sets.{AreNeedlesWithin}
 use Rattle.face_data.specs.Stands.{StandsFor}
-use Rattle.face_data.specs.Summaries.{Summary, applied}
+use Rattle.face_data.specs.Summaries.{Summary, summary_outcome}
 use Rattle.face_data.specs.Summaries.Outcome.{went_on}
 use Rattle.face_data.proofs.Goodness.{composed_good_fair, good_within, owns_nothing, sizes_nothing}
 use Rattle.face_data.proofs.Members.{Contains-none, Contains-head, Contains-tail, Contains-cons_cases}
@@ -31,7 +31,7 @@ own_read : (s : State) (k : ℕ) (n : Needle) → read_segs s k (segments_on [] 
 own_read s k n = append-nil (s.stacks n)
 
 -- no line does nothing
-pub no_lines-applied : (s : State) (k : ℕ) → applied no_lines s k ≡ went_on s
+pub no_lines-applied : (s : State) (k : ℕ) → summary_outcome no_lines s k ≡ went_on s
 no_lines-applied s k = ap went_on (λ i. record { rack = s.rack; ins = ins-nobody s.ins i; hook = s.hook; lasts = s.lasts; stacks = λ n. own_read s k n i })
 
 -- the summary of no line stands for no line
@@ -71,7 +71,7 @@ no_lines_good carriers limit known = record {
   irredundant = tt;
 }
 
-twice_within : (known : List Needle) → IsWithin (known ++ known) known
+twice_within : (known : List Needle) → AreNeedlesWithin (known ++ known) known
 twice_within known n there = elim (Contains-append_cases known known n there) [ inl first ↦ first | inr second ↦ second ]
 
 -- a good summary, and lines after it
@@ -86,7 +86,7 @@ drafted_good_after line carriers limit known draft (r ∷ rs) good fair =
 
 -- The summary of lines is good.
 pub drafted_good : (line : Read → Summary) (carriers limit : ℕ) (known : List Needle) (rs : List Read) →
-    ((r : Read) → Contains rs r → IsFair carriers limit known (line r)) → IsGood carriers limit known (drafted line rs)
+    ((r : Read) → Contains rs r → IsFair carriers limit known (line r)) → IsGood carriers limit known (drafted_summary line rs)
 drafted_good line carriers limit known rs fair = drafted_good_after line carriers limit known no_lines rs (no_lines_good carriers limit known) fair
 
 drafted_stands_after : (profile : Profile) (line : Read → Summary) (carriers limit : ℕ) (known : List Needle) (draft : Summary) (before rs : List Read) →
@@ -110,6 +110,6 @@ drafted_stands_after profile line carriers limit known draft before (r ∷ rs) g
 -- It stands for them.
 pub drafted_stands : (profile : Profile) (line : Read → Summary) (carriers limit : ℕ) (known : List Needle) (rs : List Read) →
     ((r : Read) → Contains rs r → IsFair carriers limit known (line r)) → ((r : Read) → Contains rs r → StandsFor profile (line r) (r ∷ [])) →
-    StandsFor profile (drafted line rs) rs
+    StandsFor profile (drafted_summary line rs) rs
 drafted_stands profile line carriers limit known rs fair each =
     drafted_stands_after profile line carriers limit known no_lines [] rs (no_lines_good carriers limit known) (no_lines_stand profile) fair each

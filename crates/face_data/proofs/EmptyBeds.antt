@@ -41,10 +41,10 @@ use Rattle.face_data.specs.Goodness.{EndingFits, IsGoodFace, IsInOrder}
 use Rattle.face_data.specs.Segments.{Changed, new_in, new_of, read_segs, segments_on}
 use Rattle.face_data.specs.Spots.{IsNumbered}
 use Rattle.face_data.specs.Stands.{StandsFor, outcome_of_run}
-use Rattle.face_data.specs.Summaries.{Asked, Outcome, Summary, after, applied, first_fault, ins_after, rack_after}
+use Rattle.face_data.specs.Summaries.{AskedCondition, Outcome, Summary, state_after_changes, summary_outcome, first_fault, ins_after, rack_after_effect}
 use Rattle.face_data.specs.Summaries.Outcome.{went_on, faulted}
 use Rattle.face_data.specs.Verdicts.{holds_loops, stack_left, stacks_left, verdict_of, verdict_on}
-use Rattle.face_data.specs.View.{IsPacked, asked_of, changed_of, summary_of}
+use Rattle.face_data.specs.View.{IsPacked, asked_of_check, changed_of, summary_of}
 use Rattle.face_data.proofs.Items.{needles_changed, needles_distinct, in_needles, new_at_most}
 use Rattle.face_data.proofs.Members.{Contains-head, Contains-tail}
 use Rattle.face_data.proofs.NeedleSpots.{few_needles}
@@ -61,19 +61,19 @@ few_on_empty names most = ap (λ (k : ℕ). nat_le k most) (size_on_empty names)
 pub ruleset sizes = (few_on_empty)
 
 -- the first condition that fails
-pub first_fault_found : (names : List Needle) (checks : List Check) (s : State) → first_fault (map (asked_of names) checks) s ≡ option_map (λ c. c.fault) (find (λ c. not (holds (ask_of names c.cond) s)) checks)
+pub first_fault_found : (names : List Needle) (checks : List Check) (s : State) → first_fault (map (asked_of_check names) checks) s ≡ option_map (λ c. c.fault) (find (λ c. not (holds (ask_of names c.cond) s)) checks)
 first_fault_found names [] s = refl
 first_fault_found names (c ∷ cs) s = go (holds (ask_of names c.cond) s) (first_fault_found names cs s)
   where
-    go : (t : Bool) → first_fault (map (asked_of names) cs) s ≡ option_map (λ x. x.fault) (find (λ x. not (holds (ask_of names x.cond) s)) cs)
-        → cond t (first_fault (map (asked_of names) cs) s) (Some c.fault) ≡ option_map (λ x. x.fault) (cond (not t) (Some c) (find (λ x. not (holds (ask_of names x.cond) s)) cs))
+    go : (t : Bool) → first_fault (map (asked_of_check names) cs) s ≡ option_map (λ x. x.fault) (find (λ x. not (holds (ask_of names x.cond) s)) cs)
+        → cond t (first_fault (map (asked_of_check names) cs) s) (Some c.fault) ≡ option_map (λ x. x.fault) (cond (not t) (Some c) (find (λ x. not (holds (ask_of names x.cond) s)) cs))
     go true ih = ih
     go false ih = refl
 
 pub ruleset faults = (first_fault_found)
 
 -- a fault that is found is one of a condition
-pub fault_within : (checks : List Asked) (lines : ℕ) (s : State) (fault : Fault) → ((c : Asked) → Contains checks c → c.fault.line < lines) → first_fault checks s ≡ Some fault → fault.line < lines
+pub fault_within : (checks : List AskedCondition) (lines : ℕ) (s : State) (fault : Fault) → ((c : AskedCondition) → Contains checks c → c.fault.line < lines) → first_fault checks s ≡ Some fault → fault.line < lines
 fault_within [] lines s fault within found = absurd (cc)
 fault_within (c ∷ cs) lines s fault within found =
     go (holds c.ask s) (fault_within cs lines s fault (λ d there. within d (Contains-tail c cs d there))) found
@@ -184,14 +184,14 @@ are_stacks first changes stacks order read = record {
 }
 
 -- The verdict that a summary tells is the one on the lines that it stands for.
-pub judged : (profile : Profile) (summary : Summary) (lines : List Read) (first : ℕ) (told : Verdict) → IsInOrder summary.changes → told ≡ verdict_of summary first → StandsFor profile summary lines
+pub told_verdict_holds : (profile : Profile) (summary : Summary) (lines : List Read) (first : ℕ) (told : Verdict) → IsInOrder summary.changes → told ≡ verdict_of summary first → StandsFor profile summary lines
     → IsVerdict (length lines) told (run profile empty_state first lines) (loops_made profile empty_state first lines)
-judged profile summary lines first told order is stands =
+told_verdict_holds profile summary lines first told order is stands =
     subst (λ (v : Verdict). IsVerdict (length lines) v (run profile empty_state first lines) (loops_made profile empty_state first lines)) (sym is)
     (go (run profile empty_state first lines) refl (stands.outcome empty_state first))
   where
-    go : (ended : Ended) → run profile empty_state first lines ≡ ended → applied summary empty_state first ≡ outcome_of_run ended →
-        IsVerdict (length lines) (verdict_on (applied summary empty_state first) summary first) ended (loops_made profile empty_state first lines)
+    go : (ended : Ended) → run profile empty_state first lines ≡ ended → summary_outcome summary empty_state first ≡ outcome_of_run ended →
+        IsVerdict (length lines) (verdict_on (summary_outcome summary empty_state first) summary first) ended (loops_made profile empty_state first lines)
     go (Ends s) ends out = subst (λ (o : Outcome). IsVerdict (length lines) (verdict_on o summary first) (Ends s) (loops_made profile empty_state first lines)) (sym out) (record {
       lines_run = stands.lines_are;
       loops_made = sym (stands.made_are empty_state s first ends);
@@ -203,7 +203,7 @@ judged profile summary lines first told order is stands =
     go (Stops s fault) ends out = subst (λ (o : Outcome). IsVerdict (length lines) (verdict_on o summary first) (Stops s fault) (loops_made profile empty_state first lines)) (sym out) refl
 
 -- from rack 0
-pub rack_told : (rack : Option Quarter) → unwrap_or rack (record { 0 = pos 0 }) ≡ record { 0 = rack_after rack (pos 0) }
+pub rack_told : (rack : Option Quarter) → unwrap_or rack (record { 0 = pos 0 }) ≡ record { 0 = rack_after_effect rack (pos 0) }
 rack_told None = refl
 rack_told (Some q) = refl
 
@@ -214,7 +214,7 @@ ins_told effect =
     ∙ ap (λ old. bit_or old effect.came) (sym (xor_zero_l 0) ∙ ap (bit_xor 0) (sym (and_zero_l effect.went)))
 
 -- the verdict of lines that go through
-pub sound_told : (summary : Summary) (effect : Effect) (first : ℕ) (stacks : List Stack) → applied summary empty_state first ≡ went_on (after effect summary.lasts summary.changes empty_state first) →
+pub sound_told : (summary : Summary) (effect : Effect) (first : ℕ) (stacks : List Stack) → summary_outcome summary empty_state first ≡ went_on (state_after_changes effect summary.lasts summary.changes empty_state first) →
     stacks ≡ stacks_left first summary.changes →
     verdict.Sound (record { lines = summary.lines; made = summary.made; rack = unwrap_or effect.rack (record { 0 = pos 0 }); ins = effect.came; hook = unwrap_or effect.hook 0; stacks = stacks })
     ≡ verdict_of summary first
@@ -223,7 +223,7 @@ sound_told summary effect first stacks through are =
     ∙ ap (λ o. verdict_on o summary first) (sym through)
 
 -- the verdict of lines that stop
-pub broken_told : (summary : Summary) (first : ℕ) (fault : Fault) → applied summary empty_state first ≡ faulted fault → verdict.Broken fault ≡ verdict_of summary first
+pub broken_told : (summary : Summary) (first : ℕ) (fault : Fault) → summary_outcome summary empty_state first ≡ faulted fault → verdict.Broken fault ≡ verdict_of summary first
 broken_told summary first fault stops = ap (λ o. verdict_on o summary first) (sym stops)
 
 -- the loops of a stack are the new ones
@@ -259,7 +259,7 @@ pub new_in_face : (face : FaceView) → IsPacked face → new_of face.segs.now �
 new_in_face face packed = ap new_of (sym packed.segs) ∙ sym (new_parts face.segs.now face.changes.now)
 
 -- the same in short
-pub brief_told : (face : FaceView) (effect : Effect) (first held : ℕ) → IsPacked face → applied (summary_of face) empty_state first ≡ went_on (after effect (summary_of face).lasts (summary_of face).changes empty_state first) →
+pub brief_told : (face : FaceView) (effect : Effect) (first held : ℕ) → IsPacked face → summary_outcome (summary_of face) empty_state first ≡ went_on (state_after_changes effect (summary_of face).lasts (summary_of face).changes empty_state first) →
     held ≡ new_of face.segs.now →
     brief.Sound face.lines face.made held (unwrap_or effect.rack (record { 0 = pos 0 })) ≡ brief_of (verdict_of (summary_of face) first)
 brief_told face effect first held packed through is =

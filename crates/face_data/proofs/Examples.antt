@@ -10,9 +10,9 @@ use Rattle.face_data.specs.declared.face.Cond.TheVariants.{RackIs, SizeAtMost}
 use Rattle.face_data.specs.declared.face.Ending.TheVariants.{Through}
 use Rattle.face_data.specs.declared.face.Seg.TheVariants.{Entry}
 use Rattle.face_data.specs.Segments.{segments_on, read_segs}
-use Rattle.face_data.specs.Summaries.{Summary, first_fault, applied}
+use Rattle.face_data.specs.Summaries.{Summary, first_fault, summary_outcome}
 use Rattle.face_data.specs.Summaries.Outcome.{faulted}
-use Rattle.face_data.specs.View.{asked_of}
+use Rattle.face_data.specs.View.{asked_of_check}
 
 abbrev front : ℤ → Needle
 front at = record { bed = Front; at = at }
@@ -34,7 +34,7 @@ abbrev transfer : ℤ → ℤ → Summary
 transfer at rack = record {
   lines = 1;
   made = 0;
-  checks = map (asked_of (back (pos 1) ∷ front at ∷ [])) (checks rack);
+  checks = map (asked_of_check (back (pos 1) ∷ front at ∷ [])) (checks rack);
   changes = (front at, []) ∷ (back (pos 1), Entry (back (pos 1)) ∷ Entry (front at) ∷ []) ∷ [];
   lasts = [];
   ending = Through (record { rack = None; came = 0; went = 0; hook = None });
@@ -58,5 +58,5 @@ first_leaves : segments_on (transfer (pos 1) (pos 0)).changes (front (pos 3)) �
 first_leaves = refl
 
 -- the second asks for a rack of one needle, and stops
-second_stops : applied (transfer (pos 2) (pos 4)) laden 7 ≡ faulted (fault 7)
+second_stops : summary_outcome (transfer (pos 2) (pos 4)) laden 7 ≡ faulted (fault 7)
 second_stops = refl

@@ -9,7 +9,7 @@ use Rattle.face_data.specs.declared.face.Change.{Change}
 use Rattle.face_data.specs.declared.face.Seg.{Seg}
 use Rattle.face_data.specs.declared.face.Seg.TheVariants.{Entry}
 use Rattle.face_data.specs.Goodness.{IsInOrder}
-use Rattle.face_data.specs.Places.{AllBefore, AllBehind, StandsAt}
+use Rattle.face_data.specs.Places.{AllBefore, AllBehind, ChangeStandsAt}
 use Rattle.face_data.specs.Segments.{Changed, segments_on}
 use Rattle.face_data.specs.View.{changed_of}
 use Rattle.face_data.proofs.Places.{at_gap, at_place, greater_at, less_at}
@@ -37,7 +37,7 @@ above_at segs changes i c n order within greater =
 pub held_at : (segs : List Seg) (changes : List Change) (i : ℕ) (c : Change) (n : Needle) → IsInOrder (map (changed_of segs) changes) → i < length changes → needle_cmp (get_or changes i c).needle n ≡ Equal →
     (changed_of segs (get_or changes i c)).1 ≡ segments_on (map (changed_of segs) changes) n
 held_at segs changes i c n order within equal =
-    let stands : StandsAt (map (changed_of segs) changes) n i = record {
+    let stands : ChangeStandsAt (map (changed_of segs) changes) n i = record {
       within = within_shown segs changes i within;
       is = λ d. ap (λ (x : Changed). x.0) (shown_at segs changes i c d within) ∙ needle_cmp-equal (get_or changes i c).needle n equal;
     } in

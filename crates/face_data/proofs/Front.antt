@@ -6,27 +6,27 @@ use Rattle.face_data.specs.declared.face.Last.{Last}
 use Rattle.face_data.specs.declared.face.Ending.{Ending}
 use Rattle.face_data.specs.declared.face.Ending.TheVariants.{Through}
 use Rattle.face_data.specs.Answers.{read_answer}
-use Rattle.face_data.specs.Answers.Answer.{yes_it_does}
-use Rattle.face_data.specs.Composition.{against_kept, next, reads, or_old, effect_of_both, ending_after, made_with, changes_with, lasts_with, closed, composed, composed_at, merged}
+use Rattle.face_data.specs.Answers.ConditionAnswer.{yes_it_does}
+use Rattle.face_data.specs.Composition.{against_kept, next, reads, or_old, effect_of_both, ending_after, made_with, changes_with, lasts_with, gathering_closed, composed, composed_at, changes_merged}
 use Rattle.face_data.specs.Drafts.{no_effect}
 use Rattle.face_data.specs.Lasts.{lasts_of_both}
 use Rattle.face_data.specs.Segments.{Changed}
-use Rattle.face_data.specs.Summaries.{Asked, Summary, raised}
+use Rattle.face_data.specs.Summaries.{AskedCondition, Summary, fault_raised}
 use Rattle.face_data.specs.Through.{changes_through}
 use Rattle.face_data.proofs.Drafts.{ins-nobody}
 use Rattle.face_data.proofs.Members.{Contains-head, Contains-tail}
 
 -- each of the conditions is known to hold, where the kept ones do
-abbrev pub AllHold : Effect → List Last → List Changed → List Asked → List Asked → Type 0
-AllHold e la changes kept rest = (c : Asked) → Contains rest c → against_kept kept (read_answer e la changes c.ask) ≡ yes_it_does
+abbrev pub AllHold : Effect → List Last → List Changed → List AskedCondition → List AskedCondition → Type 0
+AllHold e la changes kept rest = (c : AskedCondition) → Contains rest c → against_kept kept (read_answer e la changes c.ask) ≡ yes_it_does
 
 -- then nothing is kept
-pub reads-hold : (e : Effect) (la : List Last) (changes : List Changed) (lines : ℕ) (kept rest : List Asked) → AllHold e la changes kept rest →
+pub reads-hold : (e : Effect) (la : List Last) (changes : List Changed) (lines : ℕ) (kept rest : List AskedCondition) → AllHold e la changes kept rest →
     reads e la changes lines kept rest ≡ record { checks = kept; stop = None }
 unfolding reads
 reads-hold e la changes lines kept [] hold = refl
 reads-hold e la changes lines kept (c ∷ cs) hold =
-    ap (λ r. next r kept (raised lines c.fault) (λ ks. reads e la changes lines ks cs)) (hold c (Contains-head c cs))
+    ap (λ r. next r kept (fault_raised lines c.fault) (λ ks. reads e la changes lines ks cs)) (hold c (Contains-head c cs))
     ∙ reads-hold e la changes lines kept cs (λ d there. hold d (Contains-tail c cs d there))
 
 newer_none : {X : Type 0} (old : Option X) → or_old None old ≡ old
@@ -42,13 +42,13 @@ pub composed-hold : (a b : Summary) (e f : Effect) → a.ending ≡ Through e �
       lines = a.lines + b.lines;
       made = a.made + b.made;
       checks = a.checks;
-      changes = merged a.changes (changes_through a.changes a.lines b.changes);
+      changes = changes_merged a.changes (changes_through a.changes a.lines b.changes);
       lasts = lasts_of_both a.lasts b.lasts;
       ending = Through (effect_of_both e f);
     }
 composed-hold a b e f goes also hold =
     ap (λ ending. composed_at ending a b) goes
-    ∙ ap (λ gathered. closed gathered e a b) (reads-hold e a.lasts a.changes a.lines a.checks b.checks hold)
+    ∙ ap (λ gathered. gathering_closed gathered e a b) (reads-hold e a.lasts a.changes a.lines a.checks b.checks hold)
     ∙ ap (closed_by a b e) also
   where
     closed_by : Summary → Summary → Effect → Ending → Summary
@@ -56,7 +56,7 @@ composed-hold a b e f goes also hold =
       lines = a.lines + b.lines;
       made = made_with ending (a.made + b.made);
       checks = a.checks;
-      changes = changes_with ending (merged a.changes (changes_through a.changes a.lines b.changes));
+      changes = changes_with ending (changes_merged a.changes (changes_through a.changes a.lines b.changes));
       lasts = lasts_with ending (lasts_of_both a.lasts b.lasts);
       ending = ending_after a.lines e ending;
     }

@@ -16,12 +16,12 @@ use Rattle.face_data.proofs.LastLists.{last_at-both, members_both, or_last, orde
 use Rattle.knit_base.specs.Yarns.{contains_carrier, without_set}
 use Rattle.knit_base.specs.Needle.{needle_cmp}
 use Rattle.face_data.specs.Conditions.{Ask}
-use Rattle.face_data.specs.Summaries.{Asked, Summary, raised, applied}
-use Rattle.face_data.specs.Segments.{Changed, segments_on, names_through, new_through, entries_of, new_of}
+use Rattle.face_data.specs.Summaries.{AskedCondition, Summary, fault_raised, summary_outcome}
+use Rattle.face_data.specs.Segments.{Changed, segments_on, names_through, new_through, entry_needles_of, new_of}
 use Rattle.face_data.specs.Conditions.Ask.{rack_is, carrier_in, carrier_out, hook_free, hook_is, hook_lacks, size_at_most, last_near}
 use Rattle.face_data.specs.Through.{through, changes_through, change_through}
-use Rattle.face_data.specs.Answers.{Answer, read_answer, size_answer, size_left, near_answer, where_known, answer_of}
-use Rattle.face_data.specs.Answers.Answer.{yes_it_does, no_it_does_not, asks}
+use Rattle.face_data.specs.Answers.{ConditionAnswer, read_answer, size_answer, size_left, near_answer, where_known, answer_of}
+use Rattle.face_data.specs.Answers.ConditionAnswer.{yes_it_does, no_it_does_not, asks}
 use Rattle.face_data.proofs.Members.{Contains-none, Contains-head, Contains-tail, Contains-cons_cases}
 use Rattle.face_data.proofs.Bearings.{NamesOnce}
 use Rattle.face_data.proofs.Gathering.{AnswerNamesOnce, AllNameOnce}
@@ -36,9 +36,9 @@ use Rattle.face_data.specs.declared.face.Ending.{Ending}
 use Rattle.face_data.specs.declared.face.Ending.TheVariants.{Through, Broken}
 use Rattle.face_data.specs.declared.face.Seg.{Seg}
 use Rattle.face_data.specs.declared.face.Seg.TheVariants.{Entry, New}
-use Rattle.face_data.specs.Sets.{IsWithin, IsApart, NestedOrApart}
-use Rattle.face_data.specs.Composition.{or_old, Gathering, reads, against_kept, next, merged, merged_from, by_order, composed, composed_at, closed_at, effect_of_both, ending_after, made_with, changes_with, lasts_with, and_then}
-use Rattle.face_data.specs.Goodness.{entries_on, OwnsOnce, LiesIn, IsIrredundant, size_after, AskFits, names_in, NeverFalls, AgreeOnLast, IsSet, ChangeFits, BrokenFits, ThroughFits, EndingFits, IsGood, IsFair}
+use Rattle.face_data.specs.Sets.{AreNeedlesWithin, IsApart, NestedOrApart}
+use Rattle.face_data.specs.Composition.{or_old, Gathering, reads, against_kept, next, changes_merged, merged_from, by_order, composed, composed_at, closed_at, effect_of_both, ending_after, made_with, changes_with, lasts_with, and_then}
+use Rattle.face_data.specs.Goodness.{entries_on, OwnsOnce, NeedlesLieIn, IsIrredundant, size_after, AskFits, size_needles_in, NeverFalls, AgreeOnLast, IsSet, ChangeFits, BrokenFits, ThroughFits, EndingFits, IsGood, IsFair}
 
 where_known_asks : {X : Type 0} (o : Option X) (test : X → Bool) (q w : Ask) → where_known o test q ≡ asks w → w ≡ q
 where_known_asks None test q w e = cc
@@ -79,28 +79,28 @@ near_asks (Some last) q at float w e = absurd (go (is_near float last at) e)
     go false e = cc
 
 -- the names of what is left are the names, read_seg through the first block
-pub names_read : (e : Effect) (la : List Last) (a : List Changed) (q w : Ask) → read_answer e la a q ≡ asks w → names_in w ≡ names_through a (names_in q)
+pub names_read : (e : Effect) (la : List Last) (a : List Changed) (q w : Ask) → read_answer e la a q ≡ asks w → size_needles_in w ≡ names_through a (size_needles_in q)
 unfolding read_answer
-names_read e la a (rack_is x) w h = ap names_in (where_known_asks e.rack _ (rack_is x) w h)
-names_read e la a (carrier_in x) w h = ap names_in (in_asks (contains_carrier e.came x) (contains_carrier e.went x) (carrier_in x) w h)
-names_read e la a (carrier_out x) w h = ap names_in (out_asks (contains_carrier e.came x) (contains_carrier e.went x) (carrier_out x) w h)
-names_read e la a hook_free w h = ap names_in (where_known_asks e.hook _ hook_free w h)
-names_read e la a (hook_is x) w h = ap names_in (where_known_asks e.hook _ (hook_is x) w h)
-names_read e la a (hook_lacks x) w h = ap names_in (where_known_asks e.hook _ (hook_lacks x) w h)
-names_read e la a (last_near c at float) w h = ap names_in (near_asks (last_at la c) (last_near c at float) at float w h).0
-names_read e la a (size_at_most names most) w h = ap names_in (size_asks (names_through a names) (new_through a names) most w h).0
+names_read e la a (rack_is x) w h = ap size_needles_in (where_known_asks e.rack _ (rack_is x) w h)
+names_read e la a (carrier_in x) w h = ap size_needles_in (in_asks (contains_carrier e.came x) (contains_carrier e.went x) (carrier_in x) w h)
+names_read e la a (carrier_out x) w h = ap size_needles_in (out_asks (contains_carrier e.came x) (contains_carrier e.went x) (carrier_out x) w h)
+names_read e la a hook_free w h = ap size_needles_in (where_known_asks e.hook _ hook_free w h)
+names_read e la a (hook_is x) w h = ap size_needles_in (where_known_asks e.hook _ (hook_is x) w h)
+names_read e la a (hook_lacks x) w h = ap size_needles_in (where_known_asks e.hook _ (hook_lacks x) w h)
+names_read e la a (last_near c at float) w h = ap size_needles_in (near_asks (last_at la c) (last_near c at float) at float w h).0
+names_read e la a (size_at_most names most) w h = ap size_needles_in (size_asks (names_through a names) (new_through a names) most w h).0
 
 -- entries are known needles
 held_known : (a : List Changed) (lines : ℕ) (known : List Needle) → ((c : Changed) → Contains a c → ChangeFits lines known c) →
     (m n : Needle) → Contains (entries_on a m) n → (m ≡ n) ⊎ Contains known n
 held_known a lines known fit m n h = elim (changed_or_own a m) [
-  | inl c ↦ inr ((fit c.0 c.1).entries n (subst (λ segs. Contains (entries_of segs) n) c.3 h))
-  | inr own ↦ inl (only_itself m n (subst (λ segs. Contains (entries_of segs) n) own h))
+  | inl c ↦ inr ((fit c.0 c.1).entries n (subst (λ segs. Contains (entry_needles_of segs) n) c.3 h))
+  | inr own ↦ inl (only_itself m n (subst (λ segs. Contains (entry_needles_of segs) n) own h))
 ]
 
 -- entries of the first block that stand on needles of the second are known
 pub within_known : (a : List Changed) (lines : ℕ) (first second xs : List Needle) → ((c : Changed) → Contains a c → ChangeFits lines first c) →
-    IsWithin xs second → IsWithin (names_through a xs) (first ++ second)
+    AreNeedlesWithin xs second → AreNeedlesWithin (names_through a xs) (first ++ second)
 within_known a lines first second xs fit w n h =
     let v = from_through a xs n h in
     elim (held_known a lines first fit v.0 n v.2) [
@@ -139,14 +139,14 @@ plain_from_fit carriers limit known (hook_is x) h = tt
 plain_from_fit carriers limit known (hook_lacks x) h = tt
 plain_from_fit carriers limit known (last_near c at float) h = tt
 
-plain_answer : (r : Answer) → ((w : Ask) → r ≡ asks w → NamesOnce w) → AnswerNamesOnce r
+plain_answer : (r : ConditionAnswer) → ((w : Ask) → r ≡ asks w → NamesOnce w) → AnswerNamesOnce r
 plain_answer yes_it_does h = tt
 plain_answer no_it_does_not h = tt
 plain_answer (asks q) h = h q refl
 
 -- each condition of the second block is read with distinct needles
-pub all_plain : (carriers limit : ℕ) (first second : List Needle) (e : Effect) (la : List Last) (a : List Changed) (lines : ℕ) (rest : List Asked) → OwnsOnce a →
-    ((c : Changed) → Contains a c → ChangeFits lines first c) → ((c : Asked) → Contains rest c → AskFits carriers limit second c.ask) → AllNameOnce e la a rest
+pub all_plain : (carriers limit : ℕ) (first second : List Needle) (e : Effect) (la : List Last) (a : List Changed) (lines : ℕ) (rest : List AskedCondition) → OwnsOnce a →
+    ((c : Changed) → Contains a c → ChangeFits lines first c) → ((c : AskedCondition) → Contains rest c → AskFits carriers limit second c.ask) → AllNameOnce e la a rest
 all_plain carriers limit first second e la a lines [] o fit h = tt
 all_plain carriers limit first second e la a lines (c ∷ cs) o fit h = (
   plain_answer (read_answer e la a c.ask) (λ w is. plain_from_fit carriers limit (first ++ second) w
@@ -155,15 +155,15 @@ all_plain carriers limit first second e la a lines (c ∷ cs) o fit h = (
 )
 
 -- no check is of a later line
-abbrev pub NotPast : List Asked → ℕ → List Asked → Type 0
-NotPast kept lines rest = (c d : Asked) → Contains kept c → Contains rest d → c.fault.line ≤ lines + d.fault.line
+abbrev pub NotPast : List AskedCondition → ℕ → List AskedCondition → Type 0
+NotPast kept lines rest = (c d : AskedCondition) → Contains kept c → Contains rest d → c.fault.line ≤ lines + d.fault.line
 
-falls_push : (cs : List Asked) (d : Asked) → NeverFalls cs → ((c : Asked) → Contains cs c → c.fault.line ≤ d.fault.line) → NeverFalls (cs ++ d ∷ [])
+falls_push : (cs : List AskedCondition) (d : AskedCondition) → NeverFalls cs → ((c : AskedCondition) → Contains cs c → c.fault.line ≤ d.fault.line) → NeverFalls (cs ++ d ∷ [])
 falls_push [] d h k = ((λ e none. absurd (Contains-none e none)), tt)
 falls_push (c ∷ cs) d h k = (
   (λ e there. elim (Contains-push_cases cs d e there) [
     | inl before ↦ h.0 e before
-    | inr same ↦ subst (λ (w : Asked). c.fault.line ≤ w.fault.line) same (k c (Contains-head c cs))
+    | inr same ↦ subst (λ (w : AskedCondition). c.fault.line ≤ w.fault.line) same (k c (Contains-head c cs))
   ]),
   falls_push cs d h.1 (λ e there. k e (Contains-tail c cs e there)),
 )
@@ -171,45 +171,45 @@ falls_push (c ∷ cs) d h k = (
 -- the kept conditions' lines don't fall, and none is past the line at which the run is known to stop
 pub record InTurn (k : Gathering) : Type 0 where
   pub in_turn : NeverFalls k.checks
-  pub stops_last : (stop_at : Fault) → k.stop ≡ Some stop_at → (c : Asked) → Contains k.checks c → c.fault.line ≤ stop_at.line
+  pub stops_last : (stop_at : Fault) → k.stop ≡ Some stop_at → (c : AskedCondition) → Contains k.checks c → c.fault.line ≤ stop_at.line
 
 -- the lines of the conditions that are kept do not fall
-pub reads_in_turn : (e : Effect) (la : List Last) (a : List Changed) (lines : ℕ) (kept rest : List Asked) → NeverFalls kept → NotPast kept lines rest → NeverFalls rest →
+pub reads_in_turn : (e : Effect) (la : List Last) (a : List Changed) (lines : ℕ) (kept rest : List AskedCondition) → NeverFalls kept → NotPast kept lines rest → NeverFalls rest →
     InTurn (reads e la a lines kept rest)
 unfolding reads
 reads_in_turn e la a lines kept [] h past turn = record { in_turn = h; stops_last = λ stop_at is c there. absurd (cc) }
 reads_in_turn e la a lines kept (d ∷ ds) h past turn =
     go (against_kept kept (read_answer e la a d.ask)) (λ ks k p. reads_in_turn e la a lines ks ds k p turn.1)
   where
-    go : (r : Answer) → ((ks : List Asked) → NeverFalls ks → NotPast ks lines ds → InTurn (reads e la a lines ks ds)) →
-        InTurn (next r kept (raised lines d.fault) (λ k. reads e la a lines k ds))
+    go : (r : ConditionAnswer) → ((ks : List AskedCondition) → NeverFalls ks → NotPast ks lines ds → InTurn (reads e la a lines ks ds)) →
+        InTurn (next r kept (fault_raised lines d.fault) (λ k. reads e la a lines k ds))
     go yes_it_does ih = ih kept h (λ c x there later. past c x there (Contains-tail d ds x later))
     go no_it_does_not ih = record {
       in_turn = h;
-      stops_last = λ stop_at is c there. subst (λ (f : Fault). c.fault.line ≤ f.line) (let same : raised lines d.fault ≡ stop_at = cc in same) (past c d there (Contains-head d ds));
+      stops_last = λ stop_at is c there. subst (λ (f : Fault). c.fault.line ≤ f.line) (let same : fault_raised lines d.fault ≡ stop_at = cc in same) (past c d there (Contains-head d ds));
     }
-    go (asks w) ih = ih (kept ++ record { fault = raised lines d.fault; ask = w } ∷ [])
-        (falls_push kept (record { fault = raised lines d.fault; ask = w }) h (λ c there. past c d there (Contains-head d ds)))
-        (λ c x there later. elim (Contains-push_cases kept (record { fault = raised lines d.fault; ask = w }) c there) [
+    go (asks w) ih = ih (kept ++ record { fault = fault_raised lines d.fault; ask = w } ∷ [])
+        (falls_push kept (record { fault = fault_raised lines d.fault; ask = w }) h (λ c there. past c d there (Contains-head d ds)))
+        (λ c x there later. elim (Contains-push_cases kept (record { fault = fault_raised lines d.fault; ask = w }) c there) [
           | inl before ↦ past c x before (Contains-tail d ds x later)
-          | inr same ↦ subst (λ (y : Asked). y.fault.line ≤ lines + x.fault.line) same (let ahead = turn.0 x later in omega arith)
+          | inr same ↦ subst (λ (y : AskedCondition). y.fault.line ≤ lines + x.fault.line) same (let ahead = turn.0 x later in omega arith)
         ])
 
 -- a known stop is the raised fault of a condition of the second block
-pub reads_stop : (e : Effect) (la : List Last) (a : List Changed) (lines : ℕ) (kept rest : List Asked) (stop_at : Fault) → (reads e la a lines kept rest).stop ≡ Some stop_at →
-    (d : Asked) × Contains rest d × (raised lines d.fault ≡ stop_at)
+pub reads_stop : (e : Effect) (la : List Last) (a : List Changed) (lines : ℕ) (kept rest : List AskedCondition) (stop_at : Fault) → (reads e la a lines kept rest).stop ≡ Some stop_at →
+    (d : AskedCondition) × Contains rest d × (fault_raised lines d.fault ≡ stop_at)
 unfolding reads
 reads_stop e la a lines kept [] stop_at is = absurd (cc)
 reads_stop e la a lines kept (d ∷ ds) stop_at is = go (against_kept kept (read_answer e la a d.ask)) (λ ks i. reads_stop e la a lines ks ds stop_at i) is
   where
-    later : (x : Asked) × Contains ds x × (raised lines x.fault ≡ stop_at) → (x : Asked) × Contains (d ∷ ds) x × (raised lines x.fault ≡ stop_at)
+    later : (x : AskedCondition) × Contains ds x × (fault_raised lines x.fault ≡ stop_at) → (x : AskedCondition) × Contains (d ∷ ds) x × (fault_raised lines x.fault ≡ stop_at)
     later w = (w.0, Contains-tail d ds w.0 w.1, w.2)
 
-    go : (r : Answer) → ((ks : List Asked) → (reads e la a lines ks ds).stop ≡ Some stop_at → (x : Asked) × Contains ds x × (raised lines x.fault ≡ stop_at)) →
-        (next r kept (raised lines d.fault) (λ k. reads e la a lines k ds)).stop ≡ Some stop_at → (x : Asked) × Contains (d ∷ ds) x × (raised lines x.fault ≡ stop_at)
+    go : (r : ConditionAnswer) → ((ks : List AskedCondition) → (reads e la a lines ks ds).stop ≡ Some stop_at → (x : AskedCondition) × Contains ds x × (fault_raised lines x.fault ≡ stop_at)) →
+        (next r kept (fault_raised lines d.fault) (λ k. reads e la a lines k ds)).stop ≡ Some stop_at → (x : AskedCondition) × Contains (d ∷ ds) x × (fault_raised lines x.fault ≡ stop_at)
     go yes_it_does ih i = later (ih kept i)
     go no_it_does_not ih i = (d, Contains-head d ds, cc)
-    go (asks w) ih i = later (ih (kept ++ record { fault = raised lines d.fault; ask = w } ∷ []) i)
+    go (asks w) ih i = later (ih (kept ++ record { fault = fault_raised lines d.fault; ask = w } ∷ []) i)
 
 members_by_order : (c : Changed) (less equal greater : List Changed) (o : Ordering) (P : Type 0) →
     (Contains less c → P) → (Contains equal c → P) → (Contains greater c → P) → Contains (by_order o less equal greater) c → P
@@ -230,10 +230,10 @@ members_merged_from a rest P pa ih (b ∷ bs) h c there =
 
 -- what holds of every change of both lists holds of the merged list's
 pub members_merged : (P : Changed → Type 0) (others bs : List Changed) → ((c : Changed) → Contains others c → P c) → ((c : Changed) → Contains bs c → P c) →
-    (c : Changed) → Contains (merged others bs) c → P c
+    (c : Changed) → Contains (changes_merged others bs) c → P c
 members_merged P [] bs h k c there = k c there
 members_merged P (a ∷ others) bs h k c there =
-    members_merged_from a (merged others) P (h a (Contains-head a others)) (λ cs j. members_merged P others cs (λ d i. h d (Contains-tail a others d i)) j) bs k c there
+    members_merged_from a (changes_merged others) P (h a (Contains-head a others)) (λ cs j. members_merged P others cs (λ d i. h d (Contains-tail a others d i)) j) bs k c there
 
 -- a fact of each change of the second block, read through the first
 pub members_through : (P : Changed → Type 0) (a : List Changed) (lines : ℕ) (bs : List Changed) → ((c : Changed) → Contains bs c → P (change_through a lines c)) →
@@ -267,7 +267,7 @@ change_fits_through : (a : List Changed) (first second : List Needle) (lines mor
     ChangeFits more second c → ChangeFits (lines + more) (first ++ second) (change_through a lines c)
 change_fits_through a first second lines more c fit h = record {
   needle = Contains-append_right first second c.0 h.needle;
-  entries = λ n there. within_known a lines first second (entries_of c.1) fit h.entries n (subst (λ ns. Contains ns n) (entries_of-through a lines c.1) there);
+  entries = λ n there. within_known a lines first second (entry_needles_of c.1) fit h.entries n (subst (λ ns. Contains ns n) (entries_of-through a lines c.1) there);
   offsets = λ o there. elim (segs_through a lines c.1 (New o) there) [
     | inl v ↦ (let before = segments_offsets a lines first fit v.0 o v.1 in omega arith)
     | inr v ↦ (let same : o ≡ lines + v.0 = cc in let ahead = h.offsets v.0 v.1 in omega arith)
@@ -354,21 +354,21 @@ some_second None p e = e
 some_second (Some x) p e = refl
 
 -- the conditions of both blocks
-pub record ChecksAreGood (carriers limit lines : ℕ) (known : List Needle) (checks : List Asked) : Type 0 where
-  pub asks_fit : (c : Asked) → Contains checks c → AskFits carriers limit known c.ask
-  pub within : (c : Asked) → Contains checks c → c.fault.line < lines
+pub record ChecksAreGood (carriers limit lines : ℕ) (known : List Needle) (checks : List AskedCondition) : Type 0 where
+  pub asks_fit : (c : AskedCondition) → Contains checks c → AskFits carriers limit known c.ask
+  pub within : (c : AskedCondition) → Contains checks c → c.fault.line < lines
   pub in_turn : NeverFalls checks
   pub irredundant : IsIrredundant checks
-  pub nested : (c d : Asked) → Contains checks c → Contains checks d → NestedOrApart (names_in c.ask) (names_in d.ask)
-  pub agree : (c d : Asked) → Contains checks c → Contains checks d → AgreeOnLast c.ask d.ask
+  pub nested : (c d : AskedCondition) → Contains checks c → Contains checks d → NestedOrApart (size_needles_in c.ask) (size_needles_in d.ask)
+  pub agree : (c d : AskedCondition) → Contains checks c → Contains checks d → AgreeOnLast c.ask d.ask
 
-first_past : (a : Summary) (rest : List Asked) → ((c : Asked) → Contains a.checks c → c.fault.line < a.lines) → NotPast a.checks a.lines rest
+first_past : (a : Summary) (rest : List AskedCondition) → ((c : AskedCondition) → Contains a.checks c → c.fault.line < a.lines) → NotPast a.checks a.lines rest
 first_past a rest h c d there k = let before = h c there in omega arith
 
 -- the conditions of both blocks fit
 pub checks_fit_both : (carriers limit : ℕ) (first second : List Needle) (a b : Summary) (e : Effect) → IsGood carriers limit first a → IsFair carriers limit second b →
-    ((c : Asked) → Contains a.checks c → LiesIn a.changes (names_in c.ask)) →
-    ((c : Asked) → Contains a.checks c → IsSet a.lasts c.ask) →
+    ((c : AskedCondition) → Contains a.checks c → NeedlesLieIn a.changes (size_needles_in c.ask)) →
+    ((c : AskedCondition) → Contains a.checks c → IsSet a.lasts c.ask) →
     ChecksAreGood carriers limit (a.lines + b.lines) (first ++ second) (reads e a.lasts a.changes a.lines a.checks b.checks).checks
 checks_fit_both carriers limit first second a b e ga gb lies nears =
     let all = reads_members e a.lasts a.changes a.lines a.checks b.checks in
@@ -386,15 +386,15 @@ checks_fit_both carriers limit first second a b e ga gb lies nears =
       nested = λ c d here there. elim (all c here) [
         | inl ca ↦ elim (all d there) [
           | inl da ↦ ga.fair.nested c d ca da
-          | inr db ↦ subst (NestedOrApart (names_in c.ask)) (sym (names_read e a.lasts a.changes db.0.ask d.ask db.2))
-              (nested_or_apart_through a.changes (names_in c.ask) (names_in db.0.ask) ga.fair.owns (lies c ca))
+          | inr db ↦ subst (NestedOrApart (size_needles_in c.ask)) (sym (names_read e a.lasts a.changes db.0.ask d.ask db.2))
+              (nested_or_apart_through a.changes (size_needles_in c.ask) (size_needles_in db.0.ask) ga.fair.owns (lies c ca))
         ]
         | inr cb ↦ elim (all d there) [
-          | inl da ↦ NestedOrApart-comm (names_in d.ask) (names_in c.ask) (subst (NestedOrApart (names_in d.ask)) (sym (names_read e a.lasts a.changes cb.0.ask c.ask cb.2))
-              (nested_or_apart_through a.changes (names_in d.ask) (names_in cb.0.ask) ga.fair.owns (lies d da)))
-          | inr db ↦ subst (λ xs. NestedOrApart xs (names_in d.ask)) (sym (names_read e a.lasts a.changes cb.0.ask c.ask cb.2))
-              (subst (NestedOrApart (names_through a.changes (names_in cb.0.ask))) (sym (names_read e a.lasts a.changes db.0.ask d.ask db.2))
-              (nested_through a.changes (names_in cb.0.ask) (names_in db.0.ask) ga.fair.owns (gb.nested cb.0 db.0 cb.1 db.1)))
+          | inl da ↦ NestedOrApart-comm (size_needles_in d.ask) (size_needles_in c.ask) (subst (NestedOrApart (size_needles_in d.ask)) (sym (names_read e a.lasts a.changes cb.0.ask c.ask cb.2))
+              (nested_or_apart_through a.changes (size_needles_in d.ask) (size_needles_in cb.0.ask) ga.fair.owns (lies d da)))
+          | inr db ↦ subst (λ xs. NestedOrApart xs (size_needles_in d.ask)) (sym (names_read e a.lasts a.changes cb.0.ask c.ask cb.2))
+              (subst (NestedOrApart (names_through a.changes (size_needles_in cb.0.ask))) (sym (names_read e a.lasts a.changes db.0.ask d.ask db.2))
+              (nested_through a.changes (size_needles_in cb.0.ask) (size_needles_in db.0.ask) ga.fair.owns (gb.nested cb.0 db.0 cb.1 db.1)))
         ]
       ];
       agree = λ c d here there. agree_of c.ask d.ask (λ x n f y m g p q same. elim (all c here) [
@@ -413,8 +413,8 @@ checks_fit_both carriers limit first second a b e ga gb lies nears =
     }
 
 -- a summary that ends broken is good where its conditions are and the fault stands last
-broken_good : (carriers limit lines : ℕ) (known : List Needle) (checks : List Asked) (f : Fault) → ChecksAreGood carriers limit lines known checks →
-    f.line < lines → ((c : Asked) → Contains checks c → c.fault.line ≤ f.line) →
+broken_good : (carriers limit lines : ℕ) (known : List Needle) (checks : List AskedCondition) (f : Fault) → ChecksAreGood carriers limit lines known checks →
+    f.line < lines → ((c : AskedCondition) → Contains checks c → c.fault.line ≤ f.line) →
     IsGood carriers limit known (record { lines = lines; made = 0; checks = checks; changes = []; lasts = []; ending = Broken f })
 unfolding IsStrictlySortedBy
 broken_good carriers limit lines known checks f h before last = record {
@@ -467,7 +467,7 @@ open_good : (carriers limit : ℕ) (first second : List Needle) (a b : Summary) 
       lines = a.lines + b.lines;
       made = a.made + b.made;
       checks = (reads e a.lasts a.changes a.lines a.checks b.checks).checks;
-      changes = merged a.changes (changes_through a.changes a.lines b.changes);
+      changes = changes_merged a.changes (changes_through a.changes a.lines b.changes);
       lasts = lasts_of_both a.lasts b.lasts;
       ending = Through (effect_of_both e f);
     })
@@ -495,7 +495,7 @@ open_good carriers limit first second a b e f ga gb ta tb goes_on =
             let middle = ga.fair.sizes size small (λ c there. meets c (reads_longer e a.lasts a.changes a.lines a.checks b.checks c there)) in
             let second_meets = reads_meets e a.lasts a.changes a.lines a.checks b.checks size plain goes_on meets in
             let bound = gb.sizes (size_after a.changes size) middle second_meets m in
-            subst (λ segs. sum_by size (entries_of segs) + new_of segs ≤ limit) (sym (segments_on-both a.changes b.changes a.lines m gb.in_order))
+            subst (λ segs. sum_by size (entry_needles_of segs) + new_of segs ≤ limit) (sym (segments_on-both a.changes b.changes a.lines m gb.in_order))
             (omega (
               arith,
               bound,
@@ -504,10 +504,10 @@ open_good carriers limit first second a b e f ga gb ta tb goes_on =
               sum_by-size_after a.changes size (entries_on b.changes m),
             ));
         ending = record {
-          lies = λ c there. LiesIn-both a.changes b.changes a.lines (names_in c.ask) gb.in_order (elim (all c there) [
-            | inl here ↦ first_lies a.changes b.changes (names_in c.ask) ga.fair.owns (ta.lies c here)
-            | inr d ↦ subst (λ xs. ((x : Needle) × IsWithin xs (names_through a.changes (entries_on b.changes x))) ⊎ ((x : Needle) → IsApart xs (names_through a.changes (entries_on b.changes x))))
-                (sym (names_read e a.lasts a.changes d.0.ask c.ask d.2)) (second_lies a.changes b.changes (names_in d.0.ask) ga.fair.owns (tb.lies d.0 d.1))
+          lies = λ c there. LiesIn-both a.changes b.changes a.lines (size_needles_in c.ask) gb.in_order (elim (all c there) [
+            | inl here ↦ first_lies a.changes b.changes (size_needles_in c.ask) ga.fair.owns (ta.lies c here)
+            | inr d ↦ subst (λ xs. ((x : Needle) × AreNeedlesWithin xs (names_through a.changes (entries_on b.changes x))) ⊎ ((x : Needle) → IsApart xs (names_through a.changes (entries_on b.changes x))))
+                (sym (names_read e a.lasts a.changes d.0.ask c.ask d.2)) (second_lies a.changes b.changes (size_needles_in d.0.ask) ga.fair.owns (tb.lies d.0 d.1))
           ]);
           apart = λ c came. has_after e.went f.went f.came c ∙ both_apart (contains_carrier e.came c) (contains_carrier e.went c) (contains_carrier f.came c) (contains_carrier f.went c) (ta.apart c) (tb.apart c) (sym (has_after e.came f.came f.went c) ∙ came);
           came = came_within carriers e.came f.went f.came ta.came tb.came;
@@ -538,9 +538,9 @@ stopped_good carriers limit first second a b e f ga gb ta is =
 
 ends_broken_good : (carriers limit : ℕ) (first second : List Needle) (a b : Summary) (e : Effect) (f : Fault) → IsGood carriers limit first a → IsFair carriers limit second b →
     ThroughFits carriers a e → BrokenFits b f →
-    IsGood carriers limit (first ++ second) (record { lines = a.lines + b.lines; made = 0; checks = (reads e a.lasts a.changes a.lines a.checks b.checks).checks; changes = []; lasts = []; ending = Broken (raised a.lines f) })
+    IsGood carriers limit (first ++ second) (record { lines = a.lines + b.lines; made = 0; checks = (reads e a.lasts a.changes a.lines a.checks b.checks).checks; changes = []; lasts = []; ending = Broken (fault_raised a.lines f) })
 ends_broken_good carriers limit first second a b e f ga gb ta tb =
-    broken_good carriers limit (a.lines + b.lines) (first ++ second) (reads e a.lasts a.changes a.lines a.checks b.checks).checks (raised a.lines f)
+    broken_good carriers limit (a.lines + b.lines) (first ++ second) (reads e a.lasts a.changes a.lines a.checks b.checks).checks (fault_raised a.lines f)
     (checks_fit_both carriers limit first second a b e ga gb ta.lies ta.nears) (let before = tb.within in omega arith)
     (λ c there. elim (reads_members e a.lasts a.changes a.lines a.checks b.checks c there) [
       | inl here ↦ (let before = ga.fair.within c here in omega arith)
@@ -553,7 +553,7 @@ open_cases : (carriers limit : ℕ) (first second : List Needle) (a b : Summary)
       lines = a.lines + b.lines;
       made = made_with ending (a.made + b.made);
       checks = (reads e a.lasts a.changes a.lines a.checks b.checks).checks;
-      changes = changes_with ending (merged a.changes (changes_through a.changes a.lines b.changes));
+      changes = changes_with ending (changes_merged a.changes (changes_through a.changes a.lines b.changes));
       lasts = lasts_with ending (lasts_of_both a.lasts b.lasts);
       ending = ending_after a.lines e ending;
     })
@@ -566,7 +566,7 @@ closed_good : (carriers limit : ℕ) (first second : List Needle) (a b : Summary
 closed_good carriers limit first second a b e (Some f) ga gb ta is = stopped_good carriers limit first second a b e f ga gb ta is
 closed_good carriers limit first second a b e None ga gb ta is = open_cases carriers limit first second a b e b.ending ga gb ta gb.ending is
 
-known_more : (carriers limit : ℕ) (first second : List Needle) (lines more : ℕ) (checks : List Asked) → ChecksAreGood carriers limit lines first checks → ChecksAreGood carriers limit (lines + more) (first ++ second) checks
+known_more : (carriers limit : ℕ) (first second : List Needle) (lines more : ℕ) (checks : List AskedCondition) → ChecksAreGood carriers limit lines first checks → ChecksAreGood carriers limit (lines + more) (first ++ second) checks
 known_more carriers limit first second lines more checks h = record {
   asks_fit = λ c there. asks_fit_more carriers limit first second c.ask (h.asks_fit c there);
   within = λ c there. let before = h.within c there in omega arith;
@@ -596,7 +596,7 @@ plain_at carriers limit first second a b (Through e) ga gb = all_plain carriers 
 
 -- Their composition is running one after the other, with the first fault kept.
 pub composed_runs_fair : (carriers limit : ℕ) (first second : List Needle) (a b : Summary) → IsGood carriers limit first a → IsFair carriers limit second b →
-    (s : State) (k : ℕ) → applied (composed a b) s k ≡ and_then (applied a s k) (λ t. applied b t (k + a.lines))
+    (s : State) (k : ℕ) → summary_outcome (composed a b) s k ≡ and_then (summary_outcome a s k) (λ t. summary_outcome b t (k + a.lines))
 composed_runs_fair carriers limit first second a b ga gb s k =
     composed_applied a b s k gb.in_order gb.lasts_in_order (plain_at carriers limit first second a b a.ending ga gb)
 
@@ -607,10 +607,10 @@ composed_good carriers limit first second a b ga gb = composed_good_fair carrier
 
 -- Composition of good summaries is running one after the other, with the first fault kept.
 pub composed_runs_both : (carriers limit : ℕ) (first second : List Needle) (a b : Summary) → IsGood carriers limit first a → IsGood carriers limit second b →
-    (s : State) (k : ℕ) → applied (composed a b) s k ≡ and_then (applied a s k) (λ t. applied b t (k + a.lines))
+    (s : State) (k : ℕ) → summary_outcome (composed a b) s k ≡ and_then (summary_outcome a s k) (λ t. summary_outcome b t (k + a.lines))
 composed_runs_both carriers limit first second a b ga gb s k = composed_runs_fair carriers limit first second a b ga gb.fair s k
 
-ask_within : (carriers limit : ℕ) (known more : List Needle) (w : Ask) → IsWithin known more → AskFits carriers limit known w → AskFits carriers limit more w
+ask_within : (carriers limit : ℕ) (known more : List Needle) (w : Ask) → AreNeedlesWithin known more → AskFits carriers limit known w → AskFits carriers limit more w
 ask_within carriers limit known more (size_at_most names most) within h = record {
   some = h.some;
   distinct = h.distinct;
@@ -626,7 +626,7 @@ ask_within carriers limit known more (hook_lacks x) within h = h
 ask_within carriers limit known more (last_near c at float) within h = h
 
 -- A good summary stays good where more needles are known, in whatever order.
-pub good_within : (carriers limit : ℕ) (known more : List Needle) (a : Summary) → IsWithin known more → IsGood carriers limit known a → IsGood carriers limit more a
+pub good_within : (carriers limit : ℕ) (known more : List Needle) (a : Summary) → AreNeedlesWithin known more → IsGood carriers limit known a → IsGood carriers limit more a
 good_within carriers limit known more a within g = record {
   fair = record {
     made = g.fair.made;

@@ -17,8 +17,8 @@ use Rattle.std.proofs.Math.Path.{ap₂, subst₂}
 use Rattle.std.proofs.Math.Nat.{mul-le-mul_right}
 use Rattle.knit_base.specs.Needle.{same_needle, needle_cmp, same_needle-true}
 use Rattle.face_data.specs.Conditions.{Ask}
-use Rattle.face_data.specs.Summaries.{Asked, Summary}
-use Rattle.face_data.specs.Segments.{Changed, segments_on, change_at, entries_of, new_of, new_in}
+use Rattle.face_data.specs.Summaries.{AskedCondition, Summary}
+use Rattle.face_data.specs.Segments.{Changed, segments_on, change_at, entry_needles_of, new_of, new_in}
 use Rattle.face_data.specs.Conditions.Ask.{rack_is, carrier_in, carrier_out, hook_free, hook_is, hook_lacks, size_at_most, last_near}
 use Rattle.face_data.specs.declared.bearing.Bearing.{Bearing}
 use Rattle.face_data.specs.Bearings.{bearing, all_in, if_so}
@@ -33,19 +33,19 @@ use Rattle.face_data.proofs.ChangeLists.{AllAbove, not_less_and_equal}
 use Rattle.knit_base.specs.declared.needle.Needle.{Needle}
 use Rattle.face_data.specs.declared.face.Seg.{Seg}
 use Rattle.face_data.specs.declared.face.Seg.TheVariants.{Entry, New}
-use Rattle.face_data.specs.Sets.{IsDistinct, IsWithin, NestedOrApart}
-use Rattle.face_data.specs.Goodness.{entries_on, OwnsOnce, IsIrredundant, MeetsSize, IsGood, AgreeOnLast, AskFits, SizeFits, ChangeFits, names_in, IsInOrder}
+use Rattle.face_data.specs.Sets.{IsDistinct, AreNeedlesWithin, NestedOrApart}
+use Rattle.face_data.specs.Goodness.{entries_on, OwnsOnce, IsIrredundant, MeetsSize, IsGood, AgreeOnLast, AskFits, SizeFits, ChangeFits, size_needles_in, IsInOrder}
 use Rattle.knit_base.proofs.Needles.{needle_cmp-refl, Decides-same_needle}
 use Rattle.face_data.proofs.Digests.{not_silent}
 
 -- a sum of ones is the length
-pub ones : (zs : List Needle) → sum_by (λ n. 1) zs ≡ length zs
-ones [] = refl
-ones (z ∷ zs) = omega (arith, ones zs, sum_by-cons (λ (n : Needle). 1) z zs)
+pub sum_of_ones_is_length : (zs : List Needle) → sum_by (λ n. 1) zs ≡ length zs
+sum_of_ones_is_length [] = refl
+sum_of_ones_is_length (z ∷ zs) = omega (arith, sum_of_ones_is_length zs, sum_by-cons (λ (n : Needle). 1) z zs)
 
 -- distinct needles among the known ones are at most as many
-pub length_within : (xs ys : List Needle) → IsDistinct xs → IsWithin xs ys → length xs ≤ length ys
-length_within xs ys d w = omega (arith, sum_within (λ n. 1) xs ys d w, ones xs, ones ys)
+pub length_within : (xs ys : List Needle) → IsDistinct xs → AreNeedlesWithin xs ys → length xs ≤ length ys
+length_within xs ys d w = omega (arith, sum_within (λ n. 1) xs ys d w, sum_of_ones_is_length xs, sum_of_ones_is_length ys)
 
 -- the conditions on sizes among them
 abbrev pub sized_from : Ask → List Sized → List Sized
@@ -53,25 +53,25 @@ sized_from (size_at_most names most) rest = record { names = names; most = most 
 sized_from q rest = rest
 
 -- the conditions on sizes
-abbrev pub sizes_of : List Asked → List Sized
+abbrev pub sizes_of : List AskedCondition → List Sized
 sizes_of [] = []
 sizes_of (c ∷ cs) = sized_from c.ask (sizes_of cs)
 
 -- the condition, if it is not on sizes, before the others
-abbrev pub others_from : Asked → Ask → List Asked → List Asked
+abbrev pub others_from : AskedCondition → Ask → List AskedCondition → List AskedCondition
 others_from c (size_at_most names most) rest = rest
 others_from c q rest = c ∷ rest
 
 -- the conditions that are not on sizes
-abbrev pub others_of : List Asked → List Asked
+abbrev pub others_of : List AskedCondition → List AskedCondition
 others_of [] = []
 others_of (c ∷ cs) = others_from c c.ask (others_of cs)
 
 -- one of the conditions is on these sizes
-abbrev pub IsSized : List Asked → Sized → Type 0
-IsSized cs s = (c : Asked) × Contains cs c × (c.ask ≡ size_at_most s.names s.most)
+abbrev pub IsSized : List AskedCondition → Sized → Type 0
+IsSized cs s = (c : AskedCondition) × Contains cs c × (c.ask ≡ size_at_most s.names s.most)
 
-from_sized : (c : Asked) (cs : List Asked) (q : Ask) → c.ask ≡ q → ((s : Sized) → Contains (sizes_of cs) s → IsSized cs s) →
+from_sized : (c : AskedCondition) (cs : List AskedCondition) (q : Ask) → c.ask ≡ q → ((s : Sized) → Contains (sizes_of cs) s → IsSized cs s) →
     (s : Sized) → Contains (sized_from q (sizes_of cs)) s → IsSized (c ∷ cs) s
 from_sized c cs (size_at_most names most) e ih s h = elim (Contains-cons_cases (record { names = names; most = most }) (sizes_of cs) s h) [
   | inl same ↦ (c, Contains-head c cs, e ∙ ap (λ (x : Sized). size_at_most x.names x.most) same)
@@ -85,28 +85,28 @@ from_sized c cs (hook_is x) e ih s h = (let w = ih s h in (w.0, Contains-tail c 
 from_sized c cs (hook_lacks x) e ih s h = (let w = ih s h in (w.0, Contains-tail c cs w.0 w.1, w.2))
 from_sized c cs (last_near d at float) e ih s h = (let w = ih s h in (w.0, Contains-tail c cs w.0 w.1, w.2))
 
-sizes_from : (cs : List Asked) (s : Sized) → Contains (sizes_of cs) s → IsSized cs s
+sizes_from : (cs : List AskedCondition) (s : Sized) → Contains (sizes_of cs) s → IsSized cs s
 sizes_from [] s h = absurd (Contains-none s h)
 sizes_from (c ∷ cs) s h = from_sized c cs c.ask refl (sizes_from cs) s h
 
 -- a later condition on sizes isn't implied
 abbrev pub IsNeeded : List Sized → Type 0
 IsNeeded [] = Unit {0}
-IsNeeded (s ∷ ss) = ((r : Sized) → Contains ss r → IsWithin r.names s.names → s.most ≤ r.most → ⊥) × IsNeeded ss
+IsNeeded (s ∷ ss) = ((r : Sized) → Contains ss r → AreNeedlesWithin r.names s.names → s.most ≤ r.most → ⊥) × IsNeeded ss
 
 -- a list within another passes the test
-pub all_in_from : (later earlier : List Needle) → IsWithin later earlier → all_in later earlier ≡ true
+pub all_in_from : (later earlier : List Needle) → AreNeedlesWithin later earlier → all_in later earlier ≡ true
 all_in_from [] earlier w = refl
 all_in_from (x ∷ later) earlier w =
     and_from (list_any (same_needle x) earlier) (all_in later earlier)
     (list_any-from_Contains needle_laws x earlier (w x (Contains-head x later)))
     (all_in_from later earlier (λ n h. w n (Contains-tail x later n h)))
 
-implied_sizes : (xs ys : List Needle) (m k : ℕ) → IsWithin ys xs → m ≤ k → bearing (size_at_most xs m) (size_at_most ys k) ≡ Implied
+implied_sizes : (xs ys : List Needle) (m k : ℕ) → AreNeedlesWithin ys xs → m ≤ k → bearing (size_at_most xs m) (size_at_most ys k) ≡ Implied
 unfolding bearing
 implied_sizes xs ys m k w h = ap (λ b. if_so b Implied) (and_from (all_in ys xs) (nat_le m k) (all_in_from ys xs w) (le-leb m k h))
 
-needed_from : (c : Asked) (cs : List Asked) (q : Ask) → c.ask ≡ q → ((d : Asked) → Contains cs d → bearing c.ask d.ask ≡ Silent) → IsNeeded (sizes_of cs) → IsNeeded (sized_from q (sizes_of cs))
+needed_from : (c : AskedCondition) (cs : List AskedCondition) (q : Ask) → c.ask ≡ q → ((d : AskedCondition) → Contains cs d → bearing c.ask d.ask ≡ Silent) → IsNeeded (sizes_of cs) → IsNeeded (sized_from q (sizes_of cs))
 needed_from c cs (size_at_most names most) e h ih = (
   (λ r there w m.
       let d = sizes_from cs r there in
@@ -123,11 +123,11 @@ needed_from c cs (hook_is x) e h ih = ih
 needed_from c cs (hook_lacks x) e h ih = ih
 needed_from c cs (last_near d at float) e h ih = ih
 
-needed_of : (cs : List Asked) → IsIrredundant cs → IsNeeded (sizes_of cs)
+needed_of : (cs : List AskedCondition) → IsIrredundant cs → IsNeeded (sizes_of cs)
 needed_of [] h = tt
 needed_of (c ∷ cs) h = needed_from c cs c.ask refl h.0 (needed_of cs h.1)
 
-needed_at : (ss : List Sized) → IsNeeded ss → (k l : ℕ) → k < l → l < length ss → IsWithin (names_at ss l) (names_at ss k) → most_at ss k ≤ most_at ss l → ⊥
+needed_at : (ss : List Sized) → IsNeeded ss → (k l : ℕ) → k < l → l < length ss → AreNeedlesWithin (names_at ss l) (names_at ss k) → most_at ss k ≤ most_at ss l → ⊥
 needed_at [] h k l hk hl w m = absurd (omega arith)
 needed_at (s ∷ ss) h zero zero hk hl w m = absurd (omega arith)
 needed_at (s ∷ ss) h zero (suc l) hk hl w m = h.0 (get_or ss l no_size) (Contains-get_or ss l no_size (omega arith)) w m
@@ -145,7 +145,7 @@ are_sizes carriers limit known f g = record {
   nested = λ k l hk hl.
       let c = sizes_from f.checks (get_or (sizes_of f.checks) k no_size) (Contains-get_or (sizes_of f.checks) k no_size hk) in
       let d = sizes_from f.checks (get_or (sizes_of f.checks) l no_size) (Contains-get_or (sizes_of f.checks) l no_size hl) in
-      subst₂ NestedOrApart (ap names_in c.2) (ap names_in d.2) (g.fair.nested c.0 d.0 c.1 d.1);
+      subst₂ NestedOrApart (ap size_needles_in c.2) (ap size_needles_in d.2) (g.fair.nested c.0 d.0 c.1 d.1);
   needed = needed_at (sizes_of f.checks) (needed_of f.checks g.irredundant);
 }
 
@@ -234,12 +234,12 @@ segments_found cs c order h = ap (λ o. unwrap_or o (Entry c.0 ∷ [])) (change_
 
 -- the entries that stand on changed needles
 abbrev pub all_entries : List Changed → List Needle
-all_entries cs = flat_map (λ (c : Changed). entries_of c.1) cs
+all_entries cs = flat_map (λ (c : Changed). entry_needles_of c.1) cs
 
 -- the change in whose segments an entry stands
-pub in_entries : (cs : List Changed) (n : Needle) → Contains (all_entries cs) n → (c : Changed) × Contains cs c × Contains (entries_of c.1) n
+pub in_entries : (cs : List Changed) (n : Needle) → Contains (all_entries cs) n → (c : Changed) × Contains cs c × Contains (entry_needles_of c.1) n
 in_entries [] n h = absurd (Contains-none n h)
-in_entries (x ∷ cs) n h = elim (Contains-append_cases (entries_of x.1) (all_entries cs) n h) [
+in_entries (x ∷ cs) n h = elim (Contains-append_cases (entry_needles_of x.1) (all_entries cs) n h) [
   | inl here ↦ (x, Contains-head x cs, here)
   | inr later ↦ (let w = in_entries cs n later in (w.0, Contains-tail x cs w.0 w.1, w.2))
 ]
@@ -249,16 +249,16 @@ pub entries_distinct : (whole cs : List Changed) → IsInOrder whole → OwnsOnc
 entries_distinct whole [] order o d sub = tt
 entries_distinct whole (x ∷ cs) order o d sub =
     let here = segments_found whole x order (sub x (Contains-head x cs)) in
-    distinct_append (entries_of x.1) (all_entries cs) (subst (λ segs. IsDistinct (entries_of segs)) here (o.distinct x.0))
+    distinct_append (entry_needles_of x.1) (all_entries cs) (subst (λ segs. IsDistinct (entry_needles_of segs)) here (o.distinct x.0))
     (entries_distinct whole cs order o d.1 (λ c h. sub c (Contains-tail x cs c h)))
     (λ n h k.
     let w = in_entries cs n k in
     let there = segments_found whole w.0 order (sub w.0 (Contains-tail x cs w.0 w.1)) in
-    let same = o.owner x.0 w.0.0 n (subst (λ segs. Contains (entries_of segs) n) (sym here) h) (subst (λ segs. Contains (entries_of segs) n) (sym there) w.2) in
+    let same = o.owner x.0 w.0.0 n (subst (λ segs. Contains (entry_needles_of segs) n) (sym here) h) (subst (λ segs. Contains (entry_needles_of segs) n) (sym there) w.2) in
     d.0 (subst (Contains (needles_changed cs)) (sym same) (needle_in cs w.0 w.1)))
 
 -- segments are entries and new loops
-pub length-segs : (segs : List Seg) → length segs ≡ length (entries_of segs) + new_of segs
+pub length-segs : (segs : List Seg) → length segs ≡ length (entry_needles_of segs) + new_of segs
 length-segs [] = refl
 length-segs (Entry n ∷ segs) = omega (arith, length-segs segs, sum_by-cons new_in (Entry n) segs)
 length-segs (New o ∷ segs) = omega (arith, length-segs segs, sum_by-cons new_in (New o) segs)
@@ -275,7 +275,7 @@ segs_at_most limit (c ∷ cs) h =
       h c (Contains-head c cs),
       segs_at_most limit cs (λ d k. h d (Contains-tail c cs d k)),
       length-segs c.1,
-      length-append (entries_of c.1) (all_entries cs),
+      length-append (entry_needles_of c.1) (all_entries cs),
       sum_by-cons (λ (d : Changed). length d.1) c cs,
     )
 
@@ -384,47 +384,47 @@ number_below carriers (hook_lacks c) f = omega arith
 number_below carriers (last_near c at float) f = omega arith
 number_below carriers (size_at_most names most) f = absurd f
 
-member_other : (carriers limit : ℕ) (known : List Needle) (c : Asked) (cs : List Asked) (q : Ask) → c.ask ≡ q → AskFits carriers limit known q →
-    ((d : Asked) → Contains (others_of cs) d → Contains cs d × IsOther carriers d.ask) →
-    (d : Asked) → Contains (others_from c q (others_of cs)) d → Contains (c ∷ cs) d × IsOther carriers d.ask
+member_other : (carriers limit : ℕ) (known : List Needle) (c : AskedCondition) (cs : List AskedCondition) (q : Ask) → c.ask ≡ q → AskFits carriers limit known q →
+    ((d : AskedCondition) → Contains (others_of cs) d → Contains cs d × IsOther carriers d.ask) →
+    (d : AskedCondition) → Contains (others_from c q (others_of cs)) d → Contains (c ∷ cs) d × IsOther carriers d.ask
 member_other carriers limit known c cs (size_at_most names most) e f ih d h = (let w = ih d h in (Contains-tail c cs d w.0, w.1))
 member_other carriers limit known c cs (rack_is x) e f ih d h = elim (Contains-cons_cases c (others_of cs) d h) [
-  | inl same ↦ (subst (Contains (c ∷ cs)) same (Contains-head c cs), subst (λ (w : Asked). IsOther carriers w.ask) same (subst (IsOther carriers) (sym e) tt))
+  | inl same ↦ (subst (Contains (c ∷ cs)) same (Contains-head c cs), subst (λ (w : AskedCondition). IsOther carriers w.ask) same (subst (IsOther carriers) (sym e) tt))
   | inr later ↦ (let w = ih d later in (Contains-tail c cs d w.0, w.1))
 ]
 member_other carriers limit known c cs hook_free e f ih d h = elim (Contains-cons_cases c (others_of cs) d h) [
-  | inl same ↦ (subst (Contains (c ∷ cs)) same (Contains-head c cs), subst (λ (w : Asked). IsOther carriers w.ask) same (subst (IsOther carriers) (sym e) tt))
+  | inl same ↦ (subst (Contains (c ∷ cs)) same (Contains-head c cs), subst (λ (w : AskedCondition). IsOther carriers w.ask) same (subst (IsOther carriers) (sym e) tt))
   | inr later ↦ (let w = ih d later in (Contains-tail c cs d w.0, w.1))
 ]
 member_other carriers limit known c cs (hook_is x) e f ih d h = elim (Contains-cons_cases c (others_of cs) d h) [
-  | inl same ↦ (subst (Contains (c ∷ cs)) same (Contains-head c cs), subst (λ (w : Asked). IsOther carriers w.ask) same (subst (IsOther carriers) (sym e) tt))
+  | inl same ↦ (subst (Contains (c ∷ cs)) same (Contains-head c cs), subst (λ (w : AskedCondition). IsOther carriers w.ask) same (subst (IsOther carriers) (sym e) tt))
   | inr later ↦ (let w = ih d later in (Contains-tail c cs d w.0, w.1))
 ]
 member_other carriers limit known c cs (carrier_in x) e f ih d h = elim (Contains-cons_cases c (others_of cs) d h) [
-  | inl same ↦ (subst (Contains (c ∷ cs)) same (Contains-head c cs), subst (λ (w : Asked). IsOther carriers w.ask) same (subst (IsOther carriers) (sym e) f))
+  | inl same ↦ (subst (Contains (c ∷ cs)) same (Contains-head c cs), subst (λ (w : AskedCondition). IsOther carriers w.ask) same (subst (IsOther carriers) (sym e) f))
   | inr later ↦ (let w = ih d later in (Contains-tail c cs d w.0, w.1))
 ]
 member_other carriers limit known c cs (carrier_out x) e f ih d h = elim (Contains-cons_cases c (others_of cs) d h) [
-  | inl same ↦ (subst (Contains (c ∷ cs)) same (Contains-head c cs), subst (λ (w : Asked). IsOther carriers w.ask) same (subst (IsOther carriers) (sym e) f))
+  | inl same ↦ (subst (Contains (c ∷ cs)) same (Contains-head c cs), subst (λ (w : AskedCondition). IsOther carriers w.ask) same (subst (IsOther carriers) (sym e) f))
   | inr later ↦ (let w = ih d later in (Contains-tail c cs d w.0, w.1))
 ]
 member_other carriers limit known c cs (hook_lacks x) e f ih d h = elim (Contains-cons_cases c (others_of cs) d h) [
-  | inl same ↦ (subst (Contains (c ∷ cs)) same (Contains-head c cs), subst (λ (w : Asked). IsOther carriers w.ask) same (subst (IsOther carriers) (sym e) f))
+  | inl same ↦ (subst (Contains (c ∷ cs)) same (Contains-head c cs), subst (λ (w : AskedCondition). IsOther carriers w.ask) same (subst (IsOther carriers) (sym e) f))
   | inr later ↦ (let w = ih d later in (Contains-tail c cs d w.0, w.1))
 ]
 member_other carriers limit known c cs (last_near y at float) e f ih d h = elim (Contains-cons_cases c (others_of cs) d h) [
-  | inl same ↦ (subst (Contains (c ∷ cs)) same (Contains-head c cs), subst (λ (w : Asked). IsOther carriers w.ask) same (subst (IsOther carriers) (sym e) f))
+  | inl same ↦ (subst (Contains (c ∷ cs)) same (Contains-head c cs), subst (λ (w : AskedCondition). IsOther carriers w.ask) same (subst (IsOther carriers) (sym e) f))
   | inr later ↦ (let w = ih d later in (Contains-tail c cs d w.0, w.1))
 ]
 
-others_in : (carriers limit : ℕ) (known : List Needle) (cs : List Asked) → ((c : Asked) → Contains cs c → AskFits carriers limit known c.ask) →
-    (d : Asked) → Contains (others_of cs) d → Contains cs d × IsOther carriers d.ask
+others_in : (carriers limit : ℕ) (known : List Needle) (cs : List AskedCondition) → ((c : AskedCondition) → Contains cs c → AskFits carriers limit known c.ask) →
+    (d : AskedCondition) → Contains (others_of cs) d → Contains cs d × IsOther carriers d.ask
 others_in carriers limit known [] fit d h = absurd (Contains-none d h)
 others_in carriers limit known (c ∷ cs) fit d h =
     member_other carriers limit known c cs c.ask refl (fit c (Contains-head c cs)) (others_in carriers limit known cs (λ x k. fit x (Contains-tail c cs x k))) d h
 
-others_irredundant_at : (carriers limit : ℕ) (known : List Needle) (c : Asked) (cs : List Asked) (q : Ask) →
-    ((d : Asked) → Contains (others_of cs) d → bearing c.ask d.ask ≡ Silent) → IsIrredundant (others_of cs) → IsIrredundant (others_from c q (others_of cs))
+others_irredundant_at : (carriers limit : ℕ) (known : List Needle) (c : AskedCondition) (cs : List AskedCondition) (q : Ask) →
+    ((d : AskedCondition) → Contains (others_of cs) d → bearing c.ask d.ask ≡ Silent) → IsIrredundant (others_of cs) → IsIrredundant (others_from c q (others_of cs))
 others_irredundant_at carriers limit known c cs (size_at_most names most) h ih = ih
 others_irredundant_at carriers limit known c cs (rack_is x) h ih = (h, ih)
 others_irredundant_at carriers limit known c cs hook_free h ih = (h, ih)
@@ -434,22 +434,22 @@ others_irredundant_at carriers limit known c cs (carrier_out x) h ih = (h, ih)
 others_irredundant_at carriers limit known c cs (hook_lacks x) h ih = (h, ih)
 others_irredundant_at carriers limit known c cs (last_near d at float) h ih = (h, ih)
 
-others_irredundant : (carriers limit : ℕ) (known : List Needle) (cs : List Asked) → ((c : Asked) → Contains cs c → AskFits carriers limit known c.ask) → IsIrredundant cs → IsIrredundant (others_of cs)
+others_irredundant : (carriers limit : ℕ) (known : List Needle) (cs : List AskedCondition) → ((c : AskedCondition) → Contains cs c → AskFits carriers limit known c.ask) → IsIrredundant cs → IsIrredundant (others_of cs)
 others_irredundant carriers limit known [] fit h = tt
 others_irredundant carriers limit known (c ∷ cs) fit h =
     others_irredundant_at carriers limit known c cs c.ask
     (λ d k. h.0 d (others_in carriers limit known cs (λ x j. fit x (Contains-tail c cs x j)) d k).0)
     (others_irredundant carriers limit known cs (λ x j. fit x (Contains-tail c cs x j)) h.1)
 
-irredundant_at : (cs : List Asked) (d : Asked) (k l : ℕ) → IsIrredundant cs → l < k → k < length cs → bearing (get_or cs l d).ask (get_or cs k d).ask ≡ Silent
+irredundant_at : (cs : List AskedCondition) (d : AskedCondition) (k l : ℕ) → IsIrredundant cs → l < k → k < length cs → bearing (get_or cs l d).ask (get_or cs k d).ask ≡ Silent
 irredundant_at [] d k l h lt le = absurd (omega arith)
 irredundant_at (c ∷ cs) d zero l h lt le = absurd (omega arith)
 irredundant_at (c ∷ cs) d (suc k) zero h lt le = h.0 (get_or cs k d) (Contains-get_or cs k d (omega arith))
 irredundant_at (c ∷ cs) d (suc k) (suc l) h lt le = irredundant_at cs d k l h.1 (omega arith) (omega arith)
 
 -- How many other conditions there can be.
-pub others_bound : (carriers limit : ℕ) (known : List Needle) (cs : List Asked) (none : Asked) → ((c : Asked) → Contains cs c → AskFits carriers limit known c.ask) →
-    ((c d : Asked) → Contains cs c → Contains cs d → AgreeOnLast c.ask d.ask) → IsIrredundant cs →
+pub others_bound : (carriers limit : ℕ) (known : List Needle) (cs : List AskedCondition) (none : AskedCondition) → ((c : AskedCondition) → Contains cs c → AskFits carriers limit known c.ask) →
+    ((c d : AskedCondition) → Contains cs c → Contains cs d → AgreeOnLast c.ask d.ask) → IsIrredundant cs →
     length (others_of cs) ≤ 2 + 3 * carriers
 others_bound carriers limit known cs none fit agree h =
     at_most_bound (λ k. number carriers (get_or (others_of cs) k none).ask) (length (others_of cs)) (2 + 3 * carriers)
@@ -462,10 +462,10 @@ others_bound carriers limit known cs none fit agree h =
     (others_in carriers limit known cs fit (get_or (others_of cs) k none) (Contains-get_or (others_of cs) k none hk)).0)
     (sym e) (irredundant_at (others_of cs) none k l (others_irredundant carriers limit known cs fit h) hl hk))
 
-no_asked : Asked
+no_asked : AskedCondition
 no_asked = record { fault = record { line = 0; reason = record { rule = NotAligned; at = 0 } }; ask = hook_free }
 
-split_from : (c : Asked) (cs : List Asked) (q : Ask) → check_items cs ≡ length (others_of cs) + size_items (sizes_of cs) →
+split_from : (c : AskedCondition) (cs : List AskedCondition) (q : Ask) → check_items cs ≡ length (others_of cs) + size_items (sizes_of cs) →
     ask_items q + check_items cs ≡ length (others_from c q (others_of cs)) + size_items (sized_from q (sizes_of cs))
 split_from c cs (size_at_most names most) ih =
     omega (arith, ih, sum_by-cons (λ (s : Sized). 1 + length s.names) (record { names = names; most = most }) (sizes_of cs))
@@ -478,9 +478,9 @@ split_from c cs (hook_lacks x) ih = omega (arith, ih)
 split_from c cs (last_near d at float) ih = omega (arith, ih)
 
 -- the conditions on sizes and the others
-check_split : (cs : List Asked) → check_items cs ≡ length (others_of cs) + size_items (sizes_of cs)
+check_split : (cs : List AskedCondition) → check_items cs ≡ length (others_of cs) + size_items (sizes_of cs)
 check_split [] = refl
-check_split (c ∷ cs) = sum_by-cons (λ (d : Asked). ask_items d.ask) c cs ∙ split_from c cs c.ask (check_split cs)
+check_split (c ∷ cs) = sum_by-cons (λ (d : AskedCondition). ask_items d.ask) c cs ∙ split_from c cs c.ask (check_split cs)
 
 -- the changes and their segments
 change_split : (cs : List Changed) → change_items cs ≡ length cs + seg_items cs

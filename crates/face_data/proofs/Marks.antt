@@ -85,8 +85,8 @@ module _ (t n : ℕ) (mem : ℕ → ℕ → Bool) where
   mark k = first (λ i. mem k i && not (inner k i)) t
 
   -- a set of one member contains_carrier that member's number, a larger one a number from t on by its mark
-  abbrev pub code : ℕ → ℕ
-  code k = if nat_lt (second k) t then t + mark k - 1 else lowest k
+  abbrev pub set_code : ℕ → ℕ
+  set_code k = if nat_lt (second k) t then t + mark k - 1 else lowest k
 
   -- each set has a member, and any two are nested or apart
   pub record IsFamily : Type 0 where
@@ -292,20 +292,20 @@ module _ (t n : ℕ) (mem : ℕ → ℕ → Bool) where
         ∙ (first_is (λ i. mem k i && not (nat_eq i (lowest k))) t).before i (omega arith)))
   ]
 
-  code_large : (k : ℕ) → second k < t → code k ≡ t + mark k - 1
+  code_large : (k : ℕ) → second k < t → set_code k ≡ t + mark k - 1
   code_large k h = ap (λ b. if b then t + mark k - 1 else lowest k) (lt-ltb (second k) t h)
 
-  code_single : (k : ℕ) → t ≤ second k → code k ≡ lowest k
+  code_single : (k : ℕ) → t ≤ second k → set_code k ≡ lowest k
   code_single k h = ap (λ b. if b then t + mark k - 1 else lowest k) (le-ltb (second k) t h)
 
-  pub code_below : IsFamily → (k : ℕ) → k < n → code k + 1 < 2 * t
+  pub code_below : IsFamily → (k : ℕ) → k < n → set_code k + 1 < 2 * t
   code_below f k hk = elim (cases_lt (second k) t) [
     | inl large ↦ (let sk = mark_exists f k hk large in omega (arith, code_large k large, sk, mark_positive f k hk sk))
     | inr one ↦ (let low = (lowest_in f k hk).0 in omega (arith, code_single k one, low))
   ]
 
   -- one code, one set
-  pub same_code : IsFamily → (k l : ℕ) → k < n → l < n → code k ≡ code l → IsIn k l × IsIn l k
+  pub same_code : IsFamily → (k l : ℕ) → k < n → l < n → set_code k ≡ set_code l → IsIn k l × IsIn l k
   same_code f k l hk hl e = elim (cases_lt (second k) t) [
     | inl large_k ↦ elim (cases_lt (second l) t) [
       | inl large_l ↦ (let sk = mark_exists f k hk large_k in let sl = mark_exists f l hl large_l in

@@ -8,7 +8,7 @@ use Rattle.std.proofs.lemmas.List.Sums.{sum_by-cons}
 use Rattle.std.proofs.lemmas.Bool.{true≢false}
 use Rattle.knit_base.specs.Needle.{same_needle, same_needle-true}
 use Rattle.knit_base.specs.declared.needle.Needle.{Needle}
-use Rattle.face_data.specs.Sets.{IsDistinct, IsWithin}
+use Rattle.face_data.specs.Sets.{IsDistinct, AreNeedlesWithin}
 use Rattle.knit_base.proofs.Needles.{same_needle-same}
 
 -- nothing is in the empty list
@@ -42,28 +42,28 @@ contains_mapped f xs k d within =
     subst (Contains (map f xs)) (get_or-map f xs k d (f d) within) (Contains-get_or (map f xs) k (f d) (omega (arith, size, within)))
 
 -- the list without the first place of n
-abbrev pub dropped : Needle → List Needle → List Needle
-dropped n [] = []
-dropped n (m ∷ ms) = if same_needle m n then ms else m ∷ dropped n ms
+abbrev pub without_first_needle : Needle → List Needle → List Needle
+without_first_needle n [] = []
+without_first_needle n (m ∷ ms) = if same_needle m n then ms else m ∷ without_first_needle n ms
 
 sum_dropped_cases : (f : Needle → ℕ) (n m : Needle) (ms : List Needle) (b : Bool) → same_needle m n ≡ b →
-    (Contains ms n → f n + sum_by f (dropped n ms) ≡ sum_by f ms) → Contains (m ∷ ms) n →
-    f n + sum_by f (if b then ms else m ∷ dropped n ms) ≡ f m + sum_by f ms
+    (Contains ms n → f n + sum_by f (without_first_needle n ms) ≡ sum_by f ms) → Contains (m ∷ ms) n →
+    f n + sum_by f (if b then ms else m ∷ without_first_needle n ms) ≡ f m + sum_by f ms
 sum_dropped_cases f n m ms true e ih h = ap (λ k. f k + sum_by f ms) (sym (same_needle-true m n e))
 sum_dropped_cases f n m ms false e ih h = go (Contains-cons_cases m ms n h)
   where
-    go : (m ≡ n) ⊎ Contains ms n → f n + sum_by f (m ∷ dropped n ms) ≡ f m + sum_by f ms
+    go : (m ≡ n) ⊎ Contains ms n → f n + sum_by f (m ∷ without_first_needle n ms) ≡ f m + sum_by f ms
     go (inl same) = absurd (true≢false (sym (same_needle-same m n same) ∙ e))
-    go (inr later) = omega (arith, ih later, sum_by-cons f m (dropped n ms))
+    go (inr later) = omega (arith, ih later, sum_by-cons f m (without_first_needle n ms))
 
 -- the sum without a needle, and that needle
-pub sum_dropped : (f : Needle → ℕ) (n : Needle) (ms : List Needle) → Contains ms n → f n + sum_by f (dropped n ms) ≡ sum_by f ms
+pub sum_dropped : (f : Needle → ℕ) (n : Needle) (ms : List Needle) → Contains ms n → f n + sum_by f (without_first_needle n ms) ≡ sum_by f ms
 sum_dropped f n [] h = absurd (Contains-none n h)
 sum_dropped f n (m ∷ ms) h =
     sum_dropped_cases f n m ms (same_needle m n) refl (sum_dropped f n ms) h ∙ sym (sum_by-cons f m ms)
 
 dropped_keeps_cases : (n m q : Needle) (ms : List Needle) (b : Bool) → same_needle m n ≡ b → (n ≡ q → ⊥) →
-    (Contains ms q → Contains (dropped n ms) q) → Contains (m ∷ ms) q → Contains (if b then ms else m ∷ dropped n ms) q
+    (Contains ms q → Contains (without_first_needle n ms) q) → Contains (m ∷ ms) q → Contains (if b then ms else m ∷ without_first_needle n ms) q
 dropped_keeps_cases n m q ms true e other ih h = go (Contains-cons_cases m ms q h)
   where
     go : (m ≡ q) ⊎ Contains ms q → Contains ms q
@@ -71,19 +71,19 @@ dropped_keeps_cases n m q ms true e other ih h = go (Contains-cons_cases m ms q 
     go (inr later) = later
 dropped_keeps_cases n m q ms false e other ih h = go (Contains-cons_cases m ms q h)
   where
-    go : (m ≡ q) ⊎ Contains ms q → Contains (m ∷ dropped n ms) q
-    go (inl same) = subst (Contains (m ∷ dropped n ms)) same (Contains-head m (dropped n ms))
-    go (inr later) = Contains-tail m (dropped n ms) q (ih later)
+    go : (m ≡ q) ⊎ Contains ms q → Contains (m ∷ without_first_needle n ms) q
+    go (inl same) = subst (Contains (m ∷ without_first_needle n ms)) same (Contains-head m (without_first_needle n ms))
+    go (inr later) = Contains-tail m (without_first_needle n ms) q (ih later)
 
 -- other needles stay
-pub dropped_keeps : (n q : Needle) (ms : List Needle) → (n ≡ q → ⊥) → Contains ms q → Contains (dropped n ms) q
+pub dropped_keeps : (n q : Needle) (ms : List Needle) → (n ≡ q → ⊥) → Contains ms q → Contains (without_first_needle n ms) q
 dropped_keeps n q [] other h = absurd (Contains-none q h)
 dropped_keeps n q (m ∷ ms) other h = dropped_keeps_cases n m q ms (same_needle m n) refl other (dropped_keeps n q ms other) h
 
 -- a sum over needles that stand once each in a longer list is no greater
-pub sum_within : (f : Needle → ℕ) (xs ys : List Needle) → IsDistinct xs → IsWithin xs ys → sum_by f xs ≤ sum_by f ys
+pub sum_within : (f : Needle → ℕ) (xs ys : List Needle) → IsDistinct xs → AreNeedlesWithin xs ys → sum_by f xs ≤ sum_by f ys
 sum_within f [] ys d w = omega arith
 sum_within f (x ∷ xs) ys d w =
-    let rest = sum_within f xs (dropped x ys) d.1
+    let rest = sum_within f xs (without_first_needle x ys) d.1
     (λ q h. dropped_keeps x q ys (λ e. d.0 (subst (Contains xs) (sym e) h)) (w q (Contains-tail x xs q h))) in
     omega (arith, rest, sum_dropped f x ys (w x (Contains-head x xs)), sum_by-cons f x xs)

@@ -7,27 +7,27 @@ use Rattle.std.proofs.lemmas.List.Concat.{flat_map-append}
 use Rattle.std.proofs.lemmas.List.Sums.{sum_by-append, sum_by-cons}
 use Rattle.std.proofs.lemmas.Bool.{true≢false}
 use Rattle.knit_base.specs.Needle.{same_needle, same_needle-true}
-use Rattle.face_data.specs.Segments.{Changed, change_at, segments_on, entries_in, entries_of, new_in, new_of, names_through, new_through}
+use Rattle.face_data.specs.Segments.{Changed, change_at, segments_on, entry_needles_in, entry_needles_of, new_in, new_of, names_through, new_through}
 use Rattle.face_data.specs.Through.{through, changes_through}
 use Rattle.face_data.proofs.Members.{Contains-none, Contains-head, Contains-tail, Contains-cons_cases}
 use Rattle.face_data.proofs.ChangeLists.{segments_on-both}
 use Rattle.knit_base.specs.declared.needle.Needle.{Needle}
 use Rattle.face_data.specs.declared.face.Seg.{Seg}
 use Rattle.face_data.specs.declared.face.Seg.TheVariants.{Entry, New}
-use Rattle.face_data.specs.Sets.{IsDistinct, IsWithin, IsApart, NestedOrApart}
-use Rattle.face_data.specs.Composition.{merged}
-use Rattle.face_data.specs.Goodness.{IsInOrder, entries_on, OwnsOnce, LiesIn}
+use Rattle.face_data.specs.Sets.{IsDistinct, AreNeedlesWithin, IsApart, NestedOrApart}
+use Rattle.face_data.specs.Composition.{changes_merged}
+use Rattle.face_data.specs.Goodness.{IsInOrder, entries_on, OwnsOnce, NeedlesLieIn}
 use Rattle.knit_base.proofs.Needles.{same_needle-same}
 
 -- the entries of segments that are read through a block
-pub entries_of-through : (a : List Changed) (lines : ℕ) (segs : List Seg) → entries_of (through a lines segs) ≡ names_through a (entries_of segs)
+pub entries_of-through : (a : List Changed) (lines : ℕ) (segs : List Seg) → entry_needles_of (through a lines segs) ≡ names_through a (entry_needles_of segs)
 entries_of-through a lines [] = refl
 entries_of-through a lines (Entry n ∷ segs) =
-    flat_map-append entries_in (segments_on a n) (through a lines segs) ∙ ap (λ r. entries_on a n ++ r) (entries_of-through a lines segs)
+    flat_map-append entry_needles_in (segments_on a n) (through a lines segs) ∙ ap (λ r. entries_on a n ++ r) (entries_of-through a lines segs)
 entries_of-through a lines (New o ∷ segs) = entries_of-through a lines segs
 
 -- their new loops
-pub new_of-through : (a : List Changed) (lines : ℕ) (segs : List Seg) → new_of (through a lines segs) ≡ new_of segs + new_through a (entries_of segs)
+pub new_of-through : (a : List Changed) (lines : ℕ) (segs : List Seg) → new_of (through a lines segs) ≡ new_of segs + new_through a (entry_needles_of segs)
 new_of-through a lines [] = refl
 new_of-through a lines (Entry n ∷ segs) =
     omega (
@@ -35,14 +35,14 @@ new_of-through a lines (Entry n ∷ segs) =
       new_of-through a lines segs,
       sum_by-append new_in (segments_on a n) (through a lines segs),
       sum_by-cons new_in (Entry n) segs,
-      sum_by-cons (λ m. new_of (segments_on a m)) n (entries_of segs),
+      sum_by-cons (λ m. new_of (segments_on a m)) n (entry_needles_of segs),
     )
 new_of-through a lines (New o ∷ segs) =
     omega (arith, new_of-through a lines segs, sum_by-cons new_in (New (lines + o)) (through a lines segs), sum_by-cons new_in (New o) segs)
 
 -- the entries that a needle holds after both blocks
-pub entries_on-both : (a b : List Changed) (lines : ℕ) (m : Needle) → IsInOrder b → entries_on (merged a (changes_through a lines b)) m ≡ names_through a (entries_on b m)
-entries_on-both a b lines m order = ap entries_of (segments_on-both a b lines m order) ∙ entries_of-through a lines (segments_on b m)
+pub entries_on-both : (a b : List Changed) (lines : ℕ) (m : Needle) → IsInOrder b → entries_on (changes_merged a (changes_through a lines b)) m ≡ names_through a (entries_on b m)
+entries_on-both a b lines m order = ap entry_needles_of (segments_on-both a b lines m order) ∙ entries_of-through a lines (segments_on b m)
 
 -- members of what a list of needles holds
 pub in_through : (a : List Changed) (xs : List Needle) (m n : Needle) → Contains xs m → Contains (entries_on a m) n → Contains (names_through a xs) n
@@ -76,7 +76,7 @@ distinct_through a (x ∷ xs) o d =
     (λ n h k. let w = from_through a xs n k in d.0 (subst (Contains xs) (sym (o.owner x w.0 n h w.2)) w.1))
 
 -- what one block keeps, two keep
-pub OwnsOnce-both : (a b : List Changed) (lines : ℕ) → IsInOrder b → OwnsOnce a → OwnsOnce b → OwnsOnce (merged a (changes_through a lines b))
+pub OwnsOnce-both : (a b : List Changed) (lines : ℕ) → IsInOrder b → OwnsOnce a → OwnsOnce b → OwnsOnce (changes_merged a (changes_through a lines b))
 OwnsOnce-both a b lines order oa ob = record {
   distinct = λ m. subst IsDistinct (sym (entries_on-both a b lines m order)) (distinct_through a (entries_on b m) oa (ob.distinct m));
   owner = λ m other n h k.
@@ -86,7 +86,7 @@ OwnsOnce-both a b lines order oa ob = record {
 }
 
 -- nested lists hold nested entries, lists that are apart hold entries that are apart
-pub within_through : (a : List Changed) (xs ys : List Needle) → IsWithin xs ys → IsWithin (names_through a xs) (names_through a ys)
+pub within_through : (a : List Changed) (xs ys : List Needle) → AreNeedlesWithin xs ys → AreNeedlesWithin (names_through a xs) (names_through a ys)
 within_through a xs ys w n h = let v = from_through a xs n h in in_through a ys v.0 n (w v.0 v.1) v.2
 
 -- lists that are apart hold entries that are apart
@@ -116,7 +116,7 @@ pub member_cases : (xs : List Needle) (n : Needle) → Contains xs n ⊎ (Contai
 member_cases [] n = inr (Contains-none n)
 member_cases (x ∷ xs) n = member_cases_if x xs n (same_needle x n) refl (member_cases xs n)
 
-nested_at : (a : List Changed) (cs ds : List Needle) (m : Needle) → OwnsOnce a → IsWithin cs (entries_on a m) → (Contains ds m ⊎ (Contains ds m → ⊥)) →
+nested_at : (a : List Changed) (cs ds : List Needle) (m : Needle) → OwnsOnce a → AreNeedlesWithin cs (entries_on a m) → (Contains ds m ⊎ (Contains ds m → ⊥)) →
     NestedOrApart cs (names_through a ds)
 nested_at a cs ds m o w (inl h) = inl (λ n k. in_through a ds m n h (w n k))
 nested_at a cs ds m o w (inr none) = inr (inr (λ n k l.
@@ -124,7 +124,7 @@ nested_at a cs ds m o w (inr none) = inr (inr (λ n k l.
     none (subst (Contains ds) (sym (o.owner m v.0 n (w n k) v.2)) v.1)))
 
 -- a condition of the first block, and one of the second read_seg through the first
-pub nested_or_apart_through : (a : List Changed) (cs ds : List Needle) → OwnsOnce a → LiesIn a cs → NestedOrApart cs (names_through a ds)
+pub nested_or_apart_through : (a : List Changed) (cs ds : List Needle) → OwnsOnce a → NeedlesLieIn a cs → NestedOrApart cs (names_through a ds)
 nested_or_apart_through a cs ds o (inl lies) = nested_at a cs ds lies.0 o lies.1 (member_cases ds lies.0)
 nested_or_apart_through a cs ds o (inr apart) = inr (inr (λ n k l. let v = from_through a ds n l in apart v.0 n k v.2))
 
@@ -172,33 +172,33 @@ holder_cases b m = go (search_keys b m b) (member_cases (entries_on b m) m)
     go (inr none) (inl own) = inl (m, own)
     go (inr none) (inr not_own) = inr (λ x h. elim (changed_or_own b x) [
       | inl c ↦ none c.0 c.1 (subst (λ w. Contains (entries_on b w) m) (sym c.2) h)
-      | inr own ↦ not_own (subst (λ w. Contains (entries_on b w) m) (only_itself x m (subst (λ segs. Contains (entries_of segs) m) own h)) h)
+      | inr own ↦ not_own (subst (λ w. Contains (entries_on b w) m) (only_itself x m (subst (λ segs. Contains (entry_needles_of segs) m) own h)) h)
     ])
 
 -- a condition of the first block at the end of both
-lies_at : (a b : List Changed) (xs : List Needle) (m : Needle) → OwnsOnce a → IsWithin xs (entries_on a m) →
+lies_at : (a b : List Changed) (xs : List Needle) (m : Needle) → OwnsOnce a → AreNeedlesWithin xs (entries_on a m) →
     ((x : Needle) × Contains (entries_on b x) m) ⊎ ((x : Needle) → Contains (entries_on b x) m → ⊥) →
-    ((x : Needle) × IsWithin xs (names_through a (entries_on b x))) ⊎ ((x : Needle) → IsApart xs (names_through a (entries_on b x)))
+    ((x : Needle) × AreNeedlesWithin xs (names_through a (entries_on b x))) ⊎ ((x : Needle) → IsApart xs (names_through a (entries_on b x)))
 lies_at a b xs m o w (inl found) = inl (found.0, λ n k. in_through a (entries_on b found.0) m n found.1 (w n k))
 lies_at a b xs m o w (inr none) = inr (λ x n k l.
     let v = from_through a (entries_on b x) n l in
     none x (subst (Contains (entries_on b x)) (sym (o.owner m v.0 n (w n k) v.2)) v.1))
 
 -- where a condition of the first block lies after both
-pub first_lies : (a b : List Changed) (xs : List Needle) → OwnsOnce a → LiesIn a xs →
-    ((x : Needle) × IsWithin xs (names_through a (entries_on b x))) ⊎ ((x : Needle) → IsApart xs (names_through a (entries_on b x)))
+pub first_lies : (a b : List Changed) (xs : List Needle) → OwnsOnce a → NeedlesLieIn a xs →
+    ((x : Needle) × AreNeedlesWithin xs (names_through a (entries_on b x))) ⊎ ((x : Needle) → IsApart xs (names_through a (entries_on b x)))
 first_lies a b xs o (inl lies) = lies_at a b xs lies.0 o lies.1 (holder_cases b lies.0)
 first_lies a b xs o (inr apart) = inr (λ x n k l. let v = from_through a (entries_on b x) n l in apart v.0 n k v.2)
 
 -- a condition of the second block, read_seg through the first, at the end of both
-pub second_lies : (a b : List Changed) (xs : List Needle) → OwnsOnce a → LiesIn b xs →
-    ((x : Needle) × IsWithin (names_through a xs) (names_through a (entries_on b x))) ⊎ ((x : Needle) → IsApart (names_through a xs) (names_through a (entries_on b x)))
+pub second_lies : (a b : List Changed) (xs : List Needle) → OwnsOnce a → NeedlesLieIn b xs →
+    ((x : Needle) × AreNeedlesWithin (names_through a xs) (names_through a (entries_on b x))) ⊎ ((x : Needle) → IsApart (names_through a xs) (names_through a (entries_on b x)))
 second_lies a b xs o (inl lies) = inl (lies.0, within_through a xs (entries_on b lies.0) lies.1)
 second_lies a b xs o (inr apart) = inr (λ x. apart_through a xs (entries_on b x) o (apart x))
 
 -- where a condition lies in the merged changes
 pub LiesIn-both : (a b : List Changed) (lines : ℕ) (xs : List Needle) → IsInOrder b →
-    ((x : Needle) × IsWithin xs (names_through a (entries_on b x))) ⊎ ((x : Needle) → IsApart xs (names_through a (entries_on b x))) →
-    LiesIn (merged a (changes_through a lines b)) xs
-LiesIn-both a b lines xs order (inl lies) = inl (lies.0, subst (IsWithin xs) (sym (entries_on-both a b lines lies.0 order)) lies.1)
+    ((x : Needle) × AreNeedlesWithin xs (names_through a (entries_on b x))) ⊎ ((x : Needle) → IsApart xs (names_through a (entries_on b x))) →
+    NeedlesLieIn (changes_merged a (changes_through a lines b)) xs
+LiesIn-both a b lines xs order (inl lies) = inl (lies.0, subst (AreNeedlesWithin xs) (sym (entries_on-both a b lines lies.0 order)) lies.1)
 LiesIn-both a b lines xs order (inr apart) = inr (λ x. subst (IsApart xs) (sym (entries_on-both a b lines x order)) (apart x))

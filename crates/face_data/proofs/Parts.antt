@@ -18,8 +18,8 @@ use Rattle.face_data.specs.declared.face.Seg.{Seg}
 use Rattle.face_data.specs.Conditions.{ask_of, part_of}
 use Rattle.face_data.specs.Conditions.Ask.{size_at_most}
 use Rattle.face_data.specs.Segments.{Changed, change_at}
-use Rattle.face_data.specs.Summaries.{Asked}
-use Rattle.face_data.specs.View.{asked_of, changed_of, names_of, CondFits, ChecksFit, PartsFit}
+use Rattle.face_data.specs.Summaries.{AskedCondition}
+use Rattle.face_data.specs.View.{asked_of_check, changed_of, size_needles_of, CondFits, ChecksFit, PartsFit}
 use Rattle.face_data.proofs.Members.{Contains-head, Contains-tail}
 
 -- a part that lies in a list is the same where more follows
@@ -61,7 +61,7 @@ ask_of-more names more (HookLacks c) fits = refl
 ask_of-more names more (LastNear c at float) fits = refl
 
 -- the needles of a condition
-pub names_of-more : (names more : List Needle) (c : Cond) → CondFits names c → names_of (names ++ more) c ≡ names_of names c
+pub names_of-more : (names more : List Needle) (c : Cond) → CondFits names c → size_needles_of (names ++ more) c ≡ size_needles_of names c
 names_of-more names more (SizeAtMost p most) fits = part_of-append names more p fits
 names_of-more names more (RackIs q) fits = refl
 names_of-more names more (CarrierIn c) fits = refl
@@ -72,18 +72,18 @@ names_of-more names more (HookLacks c) fits = refl
 names_of-more names more (LastNear c at float) fits = refl
 
 -- all checks
-pub checks-more : (checks : List Check) (names more : List Needle) → ChecksFit names checks → map (asked_of (names ++ more)) checks ≡ map (asked_of names) checks
+pub checks-more : (checks : List Check) (names more : List Needle) → ChecksFit names checks → map (asked_of_check (names ++ more)) checks ≡ map (asked_of_check names) checks
 checks-more [] names more fits = refl
 checks-more (c ∷ cs) names more fits =
-    ap₂ (λ (a : Asked) (rest : List Asked). a ∷ rest)
+    ap₂ (λ (a : AskedCondition) (rest : List AskedCondition). a ∷ rest)
     (λ i. record { fault = c.fault; ask = ask_of-more names more c.cond (All-head (λ (d : Check). CondFits names d.cond) c cs fits) i })
     (checks-more cs names more (All-tail (λ (d : Check). CondFits names d.cond) c cs fits))
 
 -- one more check, whose needles follow
 pub checks-push : (checks : List Check) (names more : List Needle) (fault : Fault) (c : Cond) → ChecksFit names checks →
-    map (asked_of (names ++ more)) (checks ++ record { fault = fault; cond = c } ∷ []) ≡ map (asked_of names) checks ++ record { fault = fault; ask = ask_of (names ++ more) c } ∷ []
+    map (asked_of_check (names ++ more)) (checks ++ record { fault = fault; cond = c } ∷ []) ≡ map (asked_of_check names) checks ++ record { fault = fault; ask = ask_of (names ++ more) c } ∷ []
 checks-push checks names more fault c fits =
-    map-append (asked_of (names ++ more)) checks (record { fault = fault; cond = c } ∷ [])
+    map-append (asked_of_check (names ++ more)) checks (record { fault = fault; cond = c } ∷ [])
     ∙ ap (λ asked. asked ++ record { fault = fault; ask = ask_of (names ++ more) c } ∷ []) (checks-more checks names more fits)
 
 -- the parts of the checks lie in a longer list
@@ -98,7 +98,7 @@ checks_fit-push checks names more c fits last =
 
 -- the needles that all checks name
 pub names-more : (checks : List Check) (names more : List Needle) → ChecksFit names checks →
-    flat_map (λ (c : Check). names_of (names ++ more) c.cond) checks ≡ flat_map (λ (c : Check). names_of names c.cond) checks
+    flat_map (λ (c : Check). size_needles_of (names ++ more) c.cond) checks ≡ flat_map (λ (c : Check). size_needles_of names c.cond) checks
 names-more [] names more fits = refl
 names-more (c ∷ cs) names more fits =
     ap₂ (λ (a rest : List Needle). a ++ rest) (names_of-more names more c.cond (All-head (λ (d : Check). CondFits names d.cond) c cs fits))
@@ -106,11 +106,11 @@ names-more (c ∷ cs) names more fits =
 
 -- the parts still make up the list of names
 pub names-push : (checks : List Check) (names more : List Needle) (c : Check) → ChecksFit names checks →
-    flat_map (λ (d : Check). names_of names d.cond) checks ≡ names → names_of (names ++ more) c.cond ≡ more →
-    flat_map (λ (d : Check). names_of (names ++ more) d.cond) (checks ++ c ∷ []) ≡ names ++ more
+    flat_map (λ (d : Check). size_needles_of names d.cond) checks ≡ names → size_needles_of (names ++ more) c.cond ≡ more →
+    flat_map (λ (d : Check). size_needles_of (names ++ more) d.cond) (checks ++ c ∷ []) ≡ names ++ more
 names-push checks names more c fits packed last =
-    flat_map-append (λ (d : Check). names_of (names ++ more) d.cond) checks (c ∷ [])
-    ∙ ap₂ (λ (a rest : List Needle). a ++ rest) (names-more checks names more fits ∙ packed) (append-nil (names_of (names ++ more) c.cond) ∙ last)
+    flat_map-append (λ (d : Check). size_needles_of (names ++ more) d.cond) checks (c ∷ [])
+    ∙ ap₂ (λ (a rest : List Needle). a ++ rest) (names-more checks names more fits ∙ packed) (append-nil (size_needles_of (names ++ more) c.cond) ∙ last)
 
 -- all changes
 pub changes-more : (changes : List Change) (segs more : List Seg) → PartsFit segs changes → map (changed_of (segs ++ more)) changes ≡ map (changed_of segs) changes

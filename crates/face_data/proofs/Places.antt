@@ -9,9 +9,9 @@ use Rattle.std.proofs.Math.ListN.{set}
 use Rattle.knit_base.specs.declared.needle.Needle.{Needle}
 use Rattle.knit_base.specs.Needle.{needle_cmp, needle_cmp_total, same_needle, same_needle-true}
 use Rattle.face_data.specs.declared.face.Seg.{Seg}
-use Rattle.face_data.specs.Composition.{merged, merged_from, by_order}
+use Rattle.face_data.specs.Composition.{changes_merged, merged_from, by_order}
 use Rattle.face_data.specs.Goodness.{IsInOrder}
-use Rattle.face_data.specs.Places.{AllBefore, AllBehind, StandsAt, GoesAt}
+use Rattle.face_data.specs.Places.{AllBefore, AllBehind, ChangeStandsAt, GoesAt}
 use Rattle.face_data.specs.Segments.{Changed, change_at}
 use Rattle.std.proofs.lemmas.Bool.{false≢true}
 use Rattle.face_data.proofs.ChangeLists.{AllAbove, change_at-merged, or_change, order_merged}
@@ -91,25 +91,25 @@ greater_at changes i d n order within greater =
     subst (AllBehind n) (sym (drop_more changes i d within)) (greater, behind_more (get_or changes i d).0 n (drop (i + 1) changes) (behind_at changes i d order within) greater)
 
 -- a change of a needle behind all these goes behind them
-merged_over : (n : Needle) (segs : List Seg) (front rest : List Changed) → AllBefore n front → merged (front ++ rest) ((n, segs) ∷ []) ≡ front ++ merged rest ((n, segs) ∷ [])
+merged_over : (n : Needle) (segs : List Seg) (front rest : List Changed) → AllBefore n front → changes_merged (front ++ rest) ((n, segs) ∷ []) ≡ front ++ changes_merged rest ((n, segs) ∷ [])
 merged_over n segs [] rest all = refl
 merged_over n segs (f ∷ front) rest all =
-    ap (λ o. by_order o (f ∷ merged (front ++ rest) ((n, segs) ∷ [])) ((n, segs) ∷ merged (front ++ rest) []) ((n, segs) ∷ merged_from f (merged (front ++ rest)) [])) all.0
+    ap (λ o. by_order o (f ∷ changes_merged (front ++ rest) ((n, segs) ∷ [])) ((n, segs) ∷ changes_merged (front ++ rest) []) ((n, segs) ∷ merged_from f (changes_merged (front ++ rest)) [])) all.0
     ∙ ap (λ xs. f ∷ xs) (merged_over n segs front rest all.1)
 
-merged_none : (changes : List Changed) → merged changes [] ≡ changes
+merged_none : (changes : List Changed) → changes_merged changes [] ≡ changes
 merged_none [] = refl
 merged_none (c ∷ cs) = ap (λ xs. c ∷ xs) (merged_none cs)
 
-merged_here : (n : Needle) (segs old : List Seg) (rest : List Changed) → merged ((n, old) ∷ rest) ((n, segs) ∷ []) ≡ (n, segs) ∷ rest
+merged_here : (n : Needle) (segs old : List Seg) (rest : List Changed) → changes_merged ((n, old) ∷ rest) ((n, segs) ∷ []) ≡ (n, segs) ∷ rest
 merged_here n segs old rest =
-    ap (λ o. by_order o ((n, old) ∷ merged rest ((n, segs) ∷ [])) ((n, segs) ∷ merged rest []) ((n, segs) ∷ merged_from (n, old) (merged rest) [])) (needle_cmp-refl n)
+    ap (λ o. by_order o ((n, old) ∷ changes_merged rest ((n, segs) ∷ [])) ((n, segs) ∷ changes_merged rest []) ((n, segs) ∷ merged_from (n, old) (changes_merged rest) [])) (needle_cmp-refl n)
     ∙ ap (λ xs. (n, segs) ∷ xs) (merged_none rest)
 
-merged_before : (n : Needle) (segs : List Seg) (rest : List Changed) → AllBehind n rest → merged rest ((n, segs) ∷ []) ≡ (n, segs) ∷ rest
+merged_before : (n : Needle) (segs : List Seg) (rest : List Changed) → AllBehind n rest → changes_merged rest ((n, segs) ∷ []) ≡ (n, segs) ∷ rest
 merged_before n segs [] all = refl
 merged_before n segs (c ∷ cs) all =
-    ap (λ o. by_order o (c ∷ merged cs ((n, segs) ∷ [])) ((n, segs) ∷ merged cs []) ((n, segs) ∷ merged_from c (merged cs) [])) all.0
+    ap (λ o. by_order o (c ∷ changes_merged cs ((n, segs) ∷ [])) ((n, segs) ∷ changes_merged cs []) ((n, segs) ∷ merged_from c (changes_merged cs) [])) all.0
     ∙ ap (λ xs. (n, segs) ∷ c ∷ xs) (merged_none cs)
 
 -- what is said of a needle behind all these
@@ -125,15 +125,15 @@ here_at : (n : Needle) (segs : List Seg) (rest : List Changed) → change_at ((n
 here_at n segs rest = ap (λ o. if is_eq o then Some segs else change_at rest n) (needle_cmp-refl n)
 
 -- the split at a place where the needle stands
-stand_split : (changes : List Changed) (n : Needle) (i : ℕ) (d : Changed) → StandsAt changes n i → take i changes ++ (n, (get_or changes i d).1) ∷ drop (i + 1) changes ≡ changes
+stand_split : (changes : List Changed) (n : Needle) (i : ℕ) (d : Changed) → ChangeStandsAt changes n i → take i changes ++ (n, (get_or changes i d).1) ∷ drop (i + 1) changes ≡ changes
 stand_split changes n i d at =
     ap (λ m. take i changes ++ (m, (get_or changes i d).1) ∷ drop (i + 1) changes) (sym (at.is d)) ∙ split changes i d at.within
 
-stand_before : (changes : List Changed) (n : Needle) (i : ℕ) (d : Changed) → IsInOrder changes → StandsAt changes n i → AllBefore n (take i changes)
+stand_before : (changes : List Changed) (n : Needle) (i : ℕ) (d : Changed) → IsInOrder changes → ChangeStandsAt changes n i → AllBefore n (take i changes)
 stand_before changes n i d order at = subst (λ m. AllBefore m (take i changes)) (at.is d) (before_at changes i d order at.within)
 
 -- the segments of a needle that stands at this place
-pub at_place : (changes : List Changed) (n : Needle) (i : ℕ) (d : Changed) → IsInOrder changes → StandsAt changes n i → Some (get_or changes i d).1 ≡ change_at changes n
+pub at_place : (changes : List Changed) (n : Needle) (i : ℕ) (d : Changed) → IsInOrder changes → ChangeStandsAt changes n i → Some (get_or changes i d).1 ≡ change_at changes n
 at_place changes n i d order at =
     sym (here_at n (get_or changes i d).1 (drop (i + 1) changes))
     ∙ sym (over_at n (take i changes) ((n, (get_or changes i d).1) ∷ drop (i + 1) changes) (stand_before changes n i d order at))
@@ -151,35 +151,35 @@ set_split (x ∷ xs) (suc i) c within =
     ap (λ ys. x ∷ ys) (set_split xs i c (omega arith) ∙ ap (λ k. take i xs ++ c ∷ drop k xs) (add-one i)) ∙ ap (λ k. x ∷ take i xs ++ c ∷ drop k (x ∷ xs)) (sym (add-one (suc i)))
 
 -- other segments for a needle that stands at this place
-pub set_place : (changes : List Changed) (n : Needle) (i : ℕ) (d : Changed) (segs : List Seg) → IsInOrder changes → StandsAt changes n i →
-    set changes i (n, segs) ≡ merged changes ((n, segs) ∷ [])
+pub set_place : (changes : List Changed) (n : Needle) (i : ℕ) (d : Changed) (segs : List Seg) → IsInOrder changes → ChangeStandsAt changes n i →
+    set changes i (n, segs) ≡ changes_merged changes ((n, segs) ∷ [])
 set_place changes n i d segs order at =
     set_split changes i (n, segs) at.within
     ∙ ap (λ xs. take i changes ++ xs) (sym (merged_here n segs (get_or changes i d).1 (drop (i + 1) changes)))
     ∙ sym (merged_over n segs (take i changes) ((n, (get_or changes i d).1) ∷ drop (i + 1) changes) (stand_before changes n i d order at))
-    ∙ ap (λ xs. merged xs ((n, segs) ∷ [])) (stand_split changes n i d at)
+    ∙ ap (λ xs. changes_merged xs ((n, segs) ∷ [])) (stand_split changes n i d at)
 
 -- a needle more
-pub insert_place : (changes : List Changed) (n : Needle) (i : ℕ) (segs : List Seg) → GoesAt changes n i → take i changes ++ (n, segs) ∷ drop i changes ≡ merged changes ((n, segs) ∷ [])
+pub insert_place : (changes : List Changed) (n : Needle) (i : ℕ) (segs : List Seg) → GoesAt changes n i → take i changes ++ (n, segs) ∷ drop i changes ≡ changes_merged changes ((n, segs) ∷ [])
 insert_place changes n i segs at =
     ap (λ xs. take i changes ++ xs) (sym (merged_before n segs (drop i changes) at.behind))
     ∙ sym (merged_over n segs (take i changes) (drop i changes) at.before)
-    ∙ ap (λ xs. merged xs ((n, segs) ∷ [])) (take-append-drop i changes)
+    ∙ ap (λ xs. changes_merged xs ((n, segs) ∷ [])) (take-append-drop i changes)
 
 one_in_order : (n : Needle) (segs : List Seg) → IsInOrder ((n, segs) ∷ [])
 unfolding IsStrictlySortedBy
 one_in_order n segs = (tt, tt)
 
 -- a write keeps the order
-pub merged_in_order : (held new : List Changed) (n : Needle) (segs : List Seg) → IsInOrder held → new ≡ merged held ((n, segs) ∷ []) → IsInOrder new
+pub merged_in_order : (held new : List Changed) (n : Needle) (segs : List Seg) → IsInOrder held → new ≡ changes_merged held ((n, segs) ∷ []) → IsInOrder new
 merged_in_order held new n segs order is = subst IsInOrder (sym is) (order_merged held ((n, segs) ∷ []) order (one_in_order n segs))
 
 -- what a look-up finds
-pub found_at : (held slice now : List Changed) (n : Needle) (i : ℕ) (d : Changed) → IsInOrder held → slice ≡ held → now ≡ held → StandsAt slice n i → d ≡ get_or held i d →
+pub found_at : (held slice now : List Changed) (n : Needle) (i : ℕ) (d : Changed) → IsInOrder held → slice ≡ held → now ≡ held → ChangeStandsAt slice n i → d ≡ get_or held i d →
     Some d.1 ≡ change_at now n
 found_at held slice now n i d order lent seen at is =
     ap (λ (e : Changed). Some e.1) is
-    ∙ at_place held n i d order (subst (λ xs. StandsAt xs n i) lent at)
+    ∙ at_place held n i d order (subst (λ xs. ChangeStandsAt xs n i) lent at)
     ∙ ap (λ xs. change_at xs n) (sym seen)
 
 -- and what it finds of a needle that stands nowhere
@@ -187,18 +187,18 @@ pub missed_at : (held slice now : List Changed) (n : Needle) (i : ℕ) → slice
 missed_at held slice now n i lent seen at = at_gap held n i (subst (λ xs. GoesAt xs n i) lent at) ∙ ap (λ xs. change_at xs n) (sym seen)
 
 -- what a write makes of the list
-pub written_at : (held slice now : List Changed) (n : Needle) (i : ℕ) (d : Changed) (new segs : List Seg) → IsInOrder held → slice ≡ held → now ≡ held → StandsAt slice n i → d ≡ get_or held i d →
-    new ≡ segs → set held i (d.0, new) ≡ merged now ((n, segs) ∷ [])
+pub written_at : (held slice now : List Changed) (n : Needle) (i : ℕ) (d : Changed) (new segs : List Seg) → IsInOrder held → slice ≡ held → now ≡ held → ChangeStandsAt slice n i → d ≡ get_or held i d →
+    new ≡ segs → set held i (d.0, new) ≡ changes_merged now ((n, segs) ∷ [])
 written_at held slice now n i d new segs order lent seen at is same =
-    let here = subst (λ xs. StandsAt xs n i) lent at in
+    let here = subst (λ xs. ChangeStandsAt xs n i) lent at in
     (λ j. set held i ((ap (λ (e : Changed). e.0) is ∙ here.is d) j, same j))
     ∙ set_place held n i d segs order here
-    ∙ ap (λ xs. merged xs ((n, segs) ∷ [])) (sym seen)
+    ∙ ap (λ xs. changes_merged xs ((n, segs) ∷ [])) (sym seen)
 
 -- and an insertion
-pub inserted_at : (held slice now new : List Changed) (n : Needle) (i : ℕ) (segs : List Seg) → slice ≡ held → now ≡ held → GoesAt slice n i → new ≡ insert held i (n, segs) → new ≡ merged now ((n, segs) ∷ [])
+pub inserted_at : (held slice now new : List Changed) (n : Needle) (i : ℕ) (segs : List Seg) → slice ≡ held → now ≡ held → GoesAt slice n i → new ≡ insert held i (n, segs) → new ≡ changes_merged now ((n, segs) ∷ [])
 inserted_at held slice now new n i segs lent seen at is =
-    is ∙ insert_place held n i segs (subst (λ xs. GoesAt xs n i) lent at) ∙ ap (λ xs. merged xs ((n, segs) ∷ [])) (sym seen)
+    is ∙ insert_place held n i segs (subst (λ xs. GoesAt xs n i) lent at) ∙ ap (λ xs. changes_merged xs ((n, segs) ∷ [])) (sym seen)
 
 same_by : (n m : Needle) (b c : Bool) → same_needle n m ≡ b → same_needle m n ≡ c → same_needle m n ≡ same_needle n m
 same_by n m true c p q = same_needle-same m n (sym (same_needle-true n m p)) ∙ sym p
@@ -211,7 +211,7 @@ put_if false segs old = refl
 
 -- what a write leaves of each needle
 pub change_at-put : (changes : List Changed) (n m : Needle) (segs : List Seg) →
-    change_at (merged changes ((n, segs) ∷ [])) m ≡ (if same_needle n m then Some segs else change_at changes m)
+    change_at (changes_merged changes ((n, segs) ∷ [])) m ≡ (if same_needle n m then Some segs else change_at changes m)
 change_at-put changes n m segs =
     change_at-merged changes ((n, segs) ∷ []) m (one_in_order n segs)
     ∙ put_if (same_needle m n) segs (change_at changes m)

@@ -22,11 +22,11 @@ use Rattle.face_data.specs.Goodness.{IsGood, IsFair}
 use Rattle.face_data.specs.declared.face.Last.{Last}
 use Rattle.face_data.specs.Segments.{AreRead, Changed}
 use Rattle.face_data.specs.Stands.{StandsFor, outcome_of_run}
-use Rattle.face_data.specs.Summaries.{Asked, Summary, Outcome, applied, first_fault, outcome_of}
+use Rattle.face_data.specs.Summaries.{AskedCondition, Summary, Outcome, summary_outcome, first_fault, outcome_of}
 use Rattle.face_data.specs.Summaries.Outcome.{went_on, faulted}
 use Rattle.face_data.proofs.Goodness.{composed_good, composed_runs_both, composed_runs_fair}
 
-closed_lines : (stop : Option Fault) (checks : List Asked) (e : Effect) (a b : Summary) → (closed_at stop checks e a b).lines ≡ a.lines + b.lines
+closed_lines : (stop : Option Fault) (checks : List AskedCondition) (e : Effect) (a b : Summary) → (closed_at stop checks e a b).lines ≡ a.lines + b.lines
 closed_lines (Some fault) checks e a b = refl
 closed_lines None checks e a b = refl
 
@@ -38,7 +38,7 @@ lines_at (Through e) a b = closed_lines (reads e a.lasts a.changes a.lines a.che
 pub lines-composed : (a b : Summary) → (composed a b).lines ≡ a.lines + b.lines
 lines-composed a b = lines_at a.ending a b
 
-made_closed : (stop : Option Fault) (checks : List Asked) (e through : Effect) (a b : Summary) (ending : Ending) → b.ending ≡ ending →
+made_closed : (stop : Option Fault) (checks : List AskedCondition) (e through : Effect) (a b : Summary) (ending : Ending) → b.ending ≡ ending →
     (closed_at stop checks e a b).ending ≡ Through through → (closed_at stop checks e a b).made ≡ a.made + b.made
 made_closed (Some fault) checks e through a b ending is goes = absurd (cc)
 made_closed None checks e through a b (Broken fault) is goes =
@@ -61,7 +61,7 @@ through_outcome None (Broken fault) la changes s t first goes = absurd (cc)
 through_outcome None (Through e) la changes s t first goes = (e, refl)
 
 -- a block that goes on from some state doesn't end broken
-pub goes_through : (a : Summary) (s t : State) (first : ℕ) → applied a s first ≡ went_on t → (e : Effect) × (a.ending ≡ Through e)
+pub goes_through : (a : Summary) (s t : State) (first : ℕ) → summary_outcome a s first ≡ went_on t → (e : Effect) × (a.ending ≡ Through e)
 goes_through a s t first goes = through_outcome (first_fault a.checks s) a.ending a.lasts a.changes s t first goes
 
 -- the state in which a block ends that goes on
@@ -93,13 +93,13 @@ and_then_twice (faulted fault) f g = refl
 
 -- Three blocks: which two are composed first doesn't matter to any state.
 pub composed-assoc : (carriers limit : ℕ) (first second third : List Needle) (a b c : Summary) → IsGood carriers limit first a → IsGood carriers limit second b →
-    IsGood carriers limit third c → (s : State) (k : ℕ) → applied (composed (composed a b) c) s k ≡ applied (composed a (composed b c)) s k
+    IsGood carriers limit third c → (s : State) (k : ℕ) → summary_outcome (composed (composed a b) c) s k ≡ summary_outcome (composed a (composed b c)) s k
 composed-assoc carriers limit first second third a b c ga gb gc s k =
     composed_runs_both carriers limit (first ++ second) third (composed a b) c (composed_good carriers limit first second a b ga gb) gc s k
-    ∙ ap (λ o. and_then o (λ t. applied c t (k + (composed a b).lines))) (composed_runs_both carriers limit first second a b ga gb s k)
-    ∙ and_then_twice (applied a s k) (λ t. applied b t (k + a.lines)) (λ t. applied c t (k + (composed a b).lines))
-    ∙ and_then_same (applied a s k) (λ t. and_then (applied b t (k + a.lines)) (λ u. applied c u (k + (composed a b).lines))) (λ t. applied (composed b c) t (k + a.lines))
-    (λ t. ap (λ n. and_then (applied b t (k + a.lines)) (λ u. applied c u n)) (let e : k + (composed a b).lines ≡ k + a.lines + b.lines = omega (arith, lines-composed a b) in e)
+    ∙ ap (λ o. and_then o (λ t. summary_outcome c t (k + (composed a b).lines))) (composed_runs_both carriers limit first second a b ga gb s k)
+    ∙ and_then_twice (summary_outcome a s k) (λ t. summary_outcome b t (k + a.lines)) (λ t. summary_outcome c t (k + (composed a b).lines))
+    ∙ and_then_same (summary_outcome a s k) (λ t. and_then (summary_outcome b t (k + a.lines)) (λ u. summary_outcome c u (k + (composed a b).lines))) (λ t. summary_outcome (composed b c) t (k + a.lines))
+    (λ t. ap (λ n. and_then (summary_outcome b t (k + a.lines)) (λ u. summary_outcome c u n)) (let e : k + (composed a b).lines ≡ k + a.lines + b.lines = omega (arith, lines-composed a b) in e)
     ∙ sym (composed_runs_both carriers limit second third b c gb gc t (k + a.lines)))
     ∙ sym (composed_runs_both carriers limit first (second ++ third) a (composed b c) ga (composed_good carriers limit second third b c gb gc) s k)
 
@@ -173,11 +173,11 @@ stands_fair profile carriers limit first second a b xs ys ga gb sa sb = record {
       );
 }
   where
-    outcome : (s : State) (k : ℕ) → applied (composed a b) s k ≡ outcome_of_run (run profile s k (xs ++ ys))
+    outcome : (s : State) (k : ℕ) → summary_outcome (composed a b) s k ≡ outcome_of_run (run profile s k (xs ++ ys))
     outcome s k =
         composed_runs_fair carriers limit first second a b ga gb s k
-        ∙ ap (λ o. and_then o (λ t. applied b t (k + a.lines))) (sa.outcome s k)
-        ∙ and_then_same (outcome_of_run (run profile s k xs)) (λ t. applied b t (k + a.lines)) (λ t. outcome_of_run (run profile t (k + length xs) ys))
+        ∙ ap (λ o. and_then o (λ t. summary_outcome b t (k + a.lines))) (sa.outcome s k)
+        ∙ and_then_same (outcome_of_run (run profile s k xs)) (λ t. summary_outcome b t (k + a.lines)) (λ t. outcome_of_run (run profile t (k + length xs) ys))
         (λ t. sb.outcome t (k + a.lines) ∙ ap (λ n. outcome_of_run (run profile t (k + n) ys)) sa.lines_are)
         ∙ sym (outcome_then profile (run profile s k xs) (k + length xs) ys)
         ∙ ap outcome_of_run (sym (run-append profile s k xs ys))

@@ -12,37 +12,37 @@ use Rattle.face_data.specs.Lasts.{last_at}
 use Rattle.face_data.specs.Segments.{Changed, names_through, new_through}
 
 -- what is known of a condition: that it holds, that it doesn't, or which condition on the entry it comes to
-pub data Answer : Type 0 where
-  yes_it_does : Answer
-  no_it_does_not : Answer
-  asks : Ask → Answer
+pub data ConditionAnswer : Type 0 where
+  yes_it_does : ConditionAnswer
+  no_it_does_not : ConditionAnswer
+  asks : Ask → ConditionAnswer
 
 -- the answer where it is known
-abbrev pub answer_of : Bool → Answer
+abbrev pub answer_of : Bool → ConditionAnswer
 answer_of true = yes_it_does
 answer_of false = no_it_does_not
 
 -- no needles hold few enough loops; some have to be asked
-abbrev pub size_left : List Needle → ℕ → Answer
+abbrev pub size_left : List Needle → ℕ → ConditionAnswer
 size_left [] most = yes_it_does
 size_left (n ∷ names) most = asks (size_at_most (n ∷ names) most)
 
 -- these needles and so many new loops together
-unfoldable pub size_answer : List Needle → ℕ → ℕ → Answer
+unfoldable pub size_answer : List Needle → ℕ → ℕ → ConditionAnswer
 size_answer names new most = if nat_lt most new then no_it_does_not else size_left names (most - new)
 
 -- the test of a value, where the first block sets it, and the condition as it is, where it doesn't
-abbrev pub where_known : {X : Type 0} → Option X → (X → Bool) → Ask → Answer
+abbrev pub where_known : {X : Type 0} → Option X → (X → Bool) → Ask → ConditionAnswer
 where_known None test ask = asks ask
 where_known (Some x) test ask = answer_of (test x)
 
 -- the condition that a carrier's last needle is near, where it is known
-abbrev pub near_answer : Option (Option ℤ) → Ask → ℤ → ℕ → Answer
+abbrev pub near_answer : Option (Option ℤ) → Ask → ℤ → ℕ → ConditionAnswer
 near_answer None ask at float = asks ask
 near_answer (Some last) ask at float = answer_of (is_near float last at)
 
 -- the condition, read through the first block
-unfoldable pub read_answer : Effect → List Last → List Changed → Ask → Answer
+unfoldable pub read_answer : Effect → List Last → List Changed → Ask → ConditionAnswer
 read_answer effect lasts changes (rack_is q) = where_known effect.rack (λ r. int_eq r.0 q) (rack_is q)
 read_answer effect lasts changes (carrier_in c) =
     if contains_carrier effect.came c then yes_it_does else (if contains_carrier effect.went c then no_it_does_not else asks (carrier_in c))

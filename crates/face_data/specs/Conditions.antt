@@ -56,22 +56,22 @@ holds (size_at_most names most) s = nat_le (size_of names s) most
 holds (last_near c at float) s = is_near float (s.lasts c) at
 
 -- the reason, where what it is given for fails
-abbrev pub unless : Bool → Reason → Option Reason
-unless met reason = if met then None else Some reason
+abbrev pub broken_unless : Bool → Reason → Option Reason
+broken_unless met reason = if met then None else Some reason
 
 -- the reason of the first condition that doesn't hold. None of them is on sizes
 abbrev pub first_unmet : List (Reason × Cond) → State → Option Reason
 first_unmet [] s = None
-first_unmet (c ∷ cs) s = or_else (unless (holds (ask_of [] c.1) s) c.0) (first_unmet cs s)
+first_unmet (c ∷ cs) s = or_else (broken_unless (holds (ask_of [] c.1) s) c.0) (first_unmet cs s)
 
 -- the reason, where the rack is another than the one that is asked for. None asks for no rack
 abbrev pub unmet_rack : Option (Reason × Quarter) → State → Option Reason
 unmet_rack None s = None
-unmet_rack (Some c) s = unless (holds (rack_is c.1.0) s) c.0
+unmet_rack (Some c) s = broken_unless (holds (rack_is c.1.0) s) c.0
 
 -- the reason of a condition on sizes, where the needles hold more loops together than it allows
 abbrev pub unmet_size : SizeAsk → State → Option Reason
-unmet_size ask s = unless (int_le (pos (size_of ask.entries s)) ask.max) ask.reason
+unmet_size ask s = broken_unless (int_le (pos (size_of ask.entries s)) ask.max) ask.reason
 
 -- the reason of the first condition on sizes that isn't met
 abbrev pub first_unmet_size : List SizeAsk → State → Option Reason

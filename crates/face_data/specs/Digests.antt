@@ -11,26 +11,26 @@ use Rattle.face_data.specs.declared.face.Cond.TheVariants.{CarrierIn, CarrierOut
 use Rattle.face_data.specs.Bearings.{if_so, same_or_not}
 use Rattle.face_data.specs.Conditions.{Ask}
 use Rattle.face_data.specs.Conditions.Ask.{rack_is, carrier_in, carrier_out, hook_free, hook_is, hook_lacks, size_at_most, last_near}
-use Rattle.face_data.specs.Summaries.{Asked}
+use Rattle.face_data.specs.Summaries.{AskedCondition}
 
 -- nothing is asked
-abbrev pub blank : Digest
-blank = record { rack = None; ins = 0; outs = 0; hook = None; lacks = 0 }
+abbrev pub blank_digest : Digest
+blank_digest = record { rack = None; ins = 0; outs = 0; hook = None; lacks = 0 }
 
 -- the digest, and one more condition, of which it says nothing
-unfoldable pub noted : Digest → Ask → Digest
-noted digest (rack_is q) = record digest { rack = Some (record { 0 = q }) }
-noted digest (carrier_in c) = record digest { ins = bit_or digest.ins (2 ^ c.0) }
-noted digest (carrier_out c) = record digest { outs = bit_or digest.outs (2 ^ c.0) }
-noted digest hook_free = record digest { hook = Some 0 }
-noted digest (hook_is set) = record digest { hook = Some set }
-noted digest (hook_lacks c) = record digest { lacks = bit_or digest.lacks (2 ^ c.0) }
-noted digest (size_at_most names most) = digest
-noted digest (last_near c at float) = digest
+unfoldable pub digest_with : Digest → Ask → Digest
+digest_with digest (rack_is q) = record digest { rack = Some (record { 0 = q }) }
+digest_with digest (carrier_in c) = record digest { ins = bit_or digest.ins (2 ^ c.0) }
+digest_with digest (carrier_out c) = record digest { outs = bit_or digest.outs (2 ^ c.0) }
+digest_with digest hook_free = record digest { hook = Some 0 }
+digest_with digest (hook_is set) = record digest { hook = Some set }
+digest_with digest (hook_lacks c) = record digest { lacks = bit_or digest.lacks (2 ^ c.0) }
+digest_with digest (size_at_most names most) = digest
+digest_with digest (last_near c at float) = digest
 
 -- the digest of conditions in their order
-abbrev pub digest_of : List Asked → Digest
-digest_of kept = fold (λ digest (c : Asked). noted digest c.ask) blank kept
+abbrev pub digest_of : List AskedCondition → Digest
+digest_of kept = fold (λ digest (c : AskedCondition). digest_with digest c.ask) blank_digest kept
 
 -- what a value that is known says
 abbrev pub bearing_by : {X : Type 0} → Option X → (X → Bearing) → Bearing

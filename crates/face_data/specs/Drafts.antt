@@ -15,5 +15,5 @@ abbrev pub no_lines : Summary
 no_lines = record { lines = 0; made = 0; checks = []; changes = []; lasts = []; ending = Through no_effect }
 
 -- the summary of lines, one after the other, where each line has this summary
-abbrev pub drafted : (Read → Summary) → List Read → Summary
-drafted line lines = fold (λ draft r. composed draft (line r)) no_lines lines
+abbrev pub drafted_summary : (Read → Summary) → List Read → Summary
+drafted_summary line lines = fold (λ draft r. composed draft (line r)) no_lines lines

@@ -7,7 +7,7 @@ use Rattle.face_data.specs.declared.face.Ending.TheVariants.{Through, Broken}
 use Rattle.face_data.specs.Conditions.{Ask}
 use Rattle.face_data.specs.Conditions.Ask.{size_at_most}
 use Rattle.face_data.specs.Segments.{Changed}
-use Rattle.face_data.specs.Summaries.{Asked, Summary}
+use Rattle.face_data.specs.Summaries.{AskedCondition, Summary}
 
 -- a condition, and the needles that it names
 abbrev pub ask_items : Ask → ℕ
@@ -15,8 +15,8 @@ ask_items (size_at_most names most) = 1 + length names
 ask_items ask = 1
 
 -- the checks and their needles
-abbrev pub check_items : List Asked → ℕ
-check_items checks = sum_by (λ (c : Asked). ask_items c.ask) checks
+abbrev pub check_items : List AskedCondition → ℕ
+check_items checks = sum_by (λ (c : AskedCondition). ask_items c.ask) checks
 
 -- the changes and their segments
 abbrev pub change_items : List Changed → ℕ

@@ -15,7 +15,7 @@ abbrev pub AllBehind : Needle → List Changed → Type 0
 AllBehind n changes = AllByRecursion (λ m. needle_cmp m n ≡ Greater) (map (λ (c : Changed). c.0) changes)
 
 -- the needle stands at this place
-pub record StandsAt (changes : List Changed) (n : Needle) (i : ℕ) : Type 0 where
+pub record ChangeStandsAt (changes : List Changed) (n : Needle) (i : ℕ) : Type 0 where
   pub within : i < length changes
   pub is : (d : Changed) → (slice_index_or changes i d).0 ≡ n
 

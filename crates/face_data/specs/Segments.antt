@@ -39,9 +39,9 @@ OffsetFits first (Entry n) = Unit {0}
 OffsetFits first (New offset) = first + offset < 2 ^ 32
 
 -- the needle whose stack at entry a segment stands for
-abbrev pub entries_in : Seg → List Needle
-entries_in (Entry n) = n ∷ []
-entries_in (New offset) = []
+abbrev pub entry_needles_in : Seg → List Needle
+entry_needles_in (Entry n) = n ∷ []
+entry_needles_in (New offset) = []
 
 -- how many new loops a segment stands for
 abbrev pub new_in : Seg → ℕ
@@ -49,8 +49,8 @@ new_in (Entry n) = 0
 new_in (New offset) = 1
 
 -- the needles whose stacks at entry the segments stand for
-abbrev pub entries_of : List Seg → List Needle
-entries_of segs = flat_map entries_in segs
+abbrev pub entry_needles_of : List Seg → List Needle
+entry_needles_of segs = flat_map entry_needles_in segs
 
 -- how many new loops the segments stand for
 abbrev pub new_of : List Seg → ℕ
@@ -58,7 +58,7 @@ new_of segs = sum_by new_in segs
 
 -- the needles whose stacks at entry stand on these needles
 abbrev pub names_through : List Changed → List Needle → List Needle
-names_through changes names = flat_map (λ n. entries_of (segments_on changes n)) names
+names_through changes names = flat_map (λ n. entry_needles_of (segments_on changes n)) names
 
 -- how many new loops stand on these needles
 abbrev pub new_through : List Changed → List Needle → ℕ

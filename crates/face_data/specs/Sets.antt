@@ -9,8 +9,8 @@ IsDistinct [] = Unit {0}
 IsDistinct (n ∷ ns) = (Contains ns n → ⊥) × IsDistinct ns
 
 -- every needle of the first list is in the second
-abbrev pub IsWithin : List Needle → List Needle → Type 0
-IsWithin xs ys = (n : Needle) → Contains xs n → Contains ys n
+abbrev pub AreNeedlesWithin : List Needle → List Needle → Type 0
+AreNeedlesWithin xs ys = (n : Needle) → Contains xs n → Contains ys n
 
 -- no needle is in both
 abbrev pub IsApart : List Needle → List Needle → Type 0
@@ -18,4 +18,4 @@ IsApart xs ys = (n : Needle) → Contains xs n → Contains ys n → ⊥
 
 -- one list lies within the other, or no needle is in both
 abbrev pub NestedOrApart : List Needle → List Needle → Type 0
-NestedOrApart xs ys = IsWithin xs ys ⊎ (IsWithin ys xs ⊎ IsApart xs ys)
+NestedOrApart xs ys = AreNeedlesWithin xs ys ⊎ (AreNeedlesWithin ys xs ⊎ IsApart xs ys)

@@ -4,7 +4,7 @@ use Rattle.knit_base.specs.declared.needle.Needle.{Needle}
 use Rattle.knit_base.specs.declared.rule.Reason.{Reason}
 use Rattle.carriage_model.specs.State.{State}
 use Rattle.face_data.specs.declared.sizes.SizeAsk.{SizeAsk}
-use Rattle.face_data.specs.Conditions.{size_of, unless, unmet_size}
+use Rattle.face_data.specs.Conditions.{size_of, broken_unless, unmet_size}
 use Rattle.face_data.specs.Segments.{Changed, AreRead, names_through, new_through}
 
 -- these needles hold together at most so many loops, and the reason where they hold more
@@ -30,4 +30,4 @@ size_asks changes rules = map (size_ask changes) rules
 pub record IsSizeAsk (reason : Reason) (most : ℕ) (needles : List Needle) (changes : List Changed) (ask : SizeAsk) : Type 0 where
   pub is : ask ≡ size_ask changes (record { reason = reason; needles = needles; most = most })
   pub entries : ask.entries ≡ names_through changes needles
-  pub unmet : (s t : State) (first : ℕ) → AreRead changes s first t.stacks → unmet_size ask s ≡ unless (nat_le (size_of needles t) most) reason
+  pub unmet : (s t : State) (first : ℕ) → AreRead changes s first t.stacks → unmet_size ask s ≡ broken_unless (nat_le (size_of needles t) most) reason

@@ -12,9 +12,9 @@ module _ {T : Type 0} where
   items_in (Many items) = items.value.items
 
   -- only a list of two or more lies in a vector
-  abbrev pub IsNear : Storage T → Type 0
-  IsNear (Many items) = 2 ≤ length items.value.items
-  IsNear storage = Unit {0}
+  abbrev pub IsCompactStorage : Storage T → Type 0
+  IsCompactStorage (Many items) = 2 ≤ length items.value.items
+  IsCompactStorage storage = Unit {0}
 
   -- the items don't lie in a vector
   abbrev pub IsFew : Storage T → Type 0

@@ -15,7 +15,7 @@ use Rattle.face_data.specs.Lasts.{lasts_after}
 use Rattle.face_data.specs.Segments.{Changed, segments_on, read_segs}
 
 -- a condition, and the fault where it doesn't hold
-pub record Asked : Type 0 where
+pub record AskedCondition : Type 0 where
   pub fault : Fault
   pub ask : Ask
 
@@ -23,20 +23,20 @@ pub record Asked : Type 0 where
 pub record Summary : Type 0 where
   pub lines : ℕ
   pub made : ℕ
-  pub checks : List Asked
+  pub checks : List AskedCondition
   pub changes : List Changed
   pub lasts : List Last
   pub ending : Ending
 
 -- the fault of the first condition that doesn't hold
-abbrev pub first_fault : List Asked → State → Option Fault
+abbrev pub first_fault : List AskedCondition → State → Option Fault
 first_fault [] s = None
 first_fault (c ∷ cs) s = if holds c.ask s then first_fault cs s else Some c.fault
 
 -- the new rack, or the old one
-abbrev pub rack_after : Option Quarter → ℤ → ℤ
-rack_after None old = old
-rack_after (Some q) old = q.0
+abbrev pub rack_after_effect : Option Quarter → ℤ → ℤ
+rack_after_effect None old = old
+rack_after_effect (Some q) old = q.0
 
 -- the carriers in action after some went and some came
 abbrev pub ins_after : Effect → ℕ → ℕ
@@ -48,14 +48,14 @@ hook_after effect old = unwrap_or effect.hook old
 
 -- the effect is what the instruction does to rack, carriers and hook
 pub record IsEffectOf (instr : Instr) (effect : Effect) : Type 0 where
-  pub rack : (k : ℕ) (s : State) → rack_after effect.rack s.rack ≡ (step_instr k instr s).rack
+  pub rack : (k : ℕ) (s : State) → rack_after_effect effect.rack s.rack ≡ (step_instr k instr s).rack
   pub ins : (k : ℕ) (s : State) → ins_after effect s.ins ≡ (step_instr k instr s).ins
   pub hook : (k : ℕ) (s : State) → hook_after effect s.hook ≡ (step_instr k instr s).hook
 
 -- the state that the effect, the last needles and the changes make
-abbrev pub after : Effect → List Last → List Changed → State → ℕ → State
-after effect lasts changes s first = record {
-  rack = rack_after effect.rack s.rack;
+abbrev pub state_after_changes : Effect → List Last → List Changed → State → ℕ → State
+state_after_changes effect lasts changes s first = record {
+  rack = rack_after_effect effect.rack s.rack;
   ins = ins_after effect s.ins;
   hook = hook_after effect s.hook;
   lasts = lasts_after lasts s.lasts;
@@ -63,8 +63,8 @@ after effect lasts changes s first = record {
 }
 
 -- the fault, its line raised
-abbrev pub raised : ℕ → Fault → Fault
-raised by fault = record fault { line = by + fault.line }
+abbrev pub fault_raised : ℕ → Fault → Fault
+fault_raised by fault = record fault { line = by + fault.line }
 
 -- how a block ends
 pub data Outcome : Type 0 where
@@ -73,10 +73,10 @@ pub data Outcome : Type 0 where
 
 -- how a block ends whose first condition that fails has this fault
 abbrev pub outcome_of : Option Fault → Ending → List Last → List Changed → State → ℕ → Outcome
-outcome_of (Some fault) ending lasts changes s first = faulted (raised first fault)
-outcome_of None (Broken fault) lasts changes s first = faulted (raised first fault)
-outcome_of None (Through effect) lasts changes s first = went_on (after effect lasts changes s first)
+outcome_of (Some fault) ending lasts changes s first = faulted (fault_raised first fault)
+outcome_of None (Broken fault) lasts changes s first = faulted (fault_raised first fault)
+outcome_of None (Through effect) lasts changes s first = went_on (state_after_changes effect lasts changes s first)
 
 -- how the block ends that is entered in state s at line `first`
-abbrev pub applied : Summary → State → ℕ → Outcome
-applied summary s first = outcome_of (first_fault summary.checks s) summary.ending summary.lasts summary.changes s first
+abbrev pub summary_outcome : Summary → State → ℕ → Outcome
+summary_outcome summary s first = outcome_of (first_fault summary.checks s) summary.ending summary.lasts summary.changes s first

@@ -6,13 +6,13 @@ use Rattle.face_data.specs.declared.face.Seg.TheVariants.{Entry, New}
 use Rattle.face_data.specs.Segments.{Changed, segments_on}
 
 -- a segment of the second block, where the first one makes these changes and has so many lines
-abbrev pub piece : List Changed → ℕ → Seg → List Seg
-piece changes lines (Entry n) = segments_on changes n
-piece changes lines (New offset) = New (lines + offset) ∷ []
+abbrev pub seg_through : List Changed → ℕ → Seg → List Seg
+seg_through changes lines (Entry n) = segments_on changes n
+seg_through changes lines (New offset) = New (lines + offset) ∷ []
 
 -- segments of the second block, one after the other
 abbrev pub through : List Changed → ℕ → List Seg → List Seg
-through changes lines segs = flat_map (piece changes lines) segs
+through changes lines segs = flat_map (seg_through changes lines) segs
 
 -- a change of the second block
 abbrev pub change_through : List Changed → ℕ → Changed → Changed

@@ -5,7 +5,7 @@ use Rattle.carriage_model.specs.declared.verdict.Verdict.{Verdict}
 use Rattle.carriage_model.specs.declared.verdict.Verdict.TheVariants.{Sound, Broken}
 use Rattle.carriage_model.specs.State.{empty_state}
 use Rattle.face_data.specs.Segments.{Changed, read_segs}
-use Rattle.face_data.specs.Summaries.{Outcome, Summary, applied}
+use Rattle.face_data.specs.Summaries.{Outcome, Summary, summary_outcome}
 use Rattle.face_data.specs.Summaries.Outcome.{went_on, faulted}
 
 -- the loops that a change leaves on its needle, where all needles were empty before
@@ -34,4 +34,4 @@ verdict_on (went_on s) summary first = Sound (record {
 
 -- the verdict on the lines of a summary, of which the first is line `first`
 abbrev pub verdict_of : Summary → ℕ → Verdict
-verdict_of summary first = verdict_on (applied summary empty_state first) summary first
+verdict_of summary first = verdict_on (summary_outcome summary empty_state first) summary first

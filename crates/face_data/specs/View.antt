@@ -10,11 +10,11 @@ use Rattle.face_data.specs.declared.face.FaceView.{FaceView}
 use Rattle.face_data.specs.declared.face.Seg.{Seg}
 use Rattle.face_data.specs.Conditions.{ask_of, part_of}
 use Rattle.face_data.specs.Segments.{Changed}
-use Rattle.face_data.specs.Summaries.{Asked, Summary}
+use Rattle.face_data.specs.Summaries.{AskedCondition, Summary}
 
 -- a check with its needles written out
-abbrev pub asked_of : List Needle → Check → Asked
-asked_of names check = record { fault = check.fault; ask = ask_of names check.cond }
+abbrev pub asked_of_check : List Needle → Check → AskedCondition
+asked_of_check names check = record { fault = check.fault; ask = ask_of names check.cond }
 
 -- a change with its segments written out
 abbrev pub changed_of : List Seg → Change → Changed
@@ -25,16 +25,16 @@ abbrev pub summary_of : FaceView → Summary
 summary_of view = record {
   lines = view.lines;
   made = view.made;
-  checks = map (asked_of view.names.now) view.checks.now;
+  checks = map (asked_of_check view.names.now) view.checks.now;
   changes = map (changed_of view.segs.now) view.changes.now;
   lasts = view.lasts.now;
   ending = view.ending;
 }
 
 -- the needles of a condition on sizes
-abbrev pub names_of : List Needle → Cond → List Needle
-names_of names (SizeAtMost p most) = part_of names p
-names_of names cond = []
+abbrev pub size_needles_of : List Needle → Cond → List Needle
+size_needles_of names (SizeAtMost p most) = part_of names p
+size_needles_of names cond = []
 
 -- the part of a condition on sizes lies in the list of names
 abbrev pub CondFits : List Needle → Cond → Type 0
@@ -52,7 +52,7 @@ PartsFit segs changes = All (λ (c : Change). c.part.start + c.part.len ≤ leng
 -- the parts of the conditions lie in the list of names, and make it up
 pub record AreNamed (names : List Needle) (checks : List Check) : Type 0 where
   pub fit : ChecksFit names checks
-  pub whole : flat_map (λ (c : Check). names_of names c.cond) checks ≡ names
+  pub whole : flat_map (λ (c : Check). size_needles_of names c.cond) checks ≡ names
 
 -- the parts of the changes lie in the list of segments, and make it up
 pub record ArePacked (segs : List Seg) (changes : List Change) : Type 0 where
@@ -64,5 +64,5 @@ pub record ArePacked (segs : List Seg) (changes : List Change) : Type 0 where
 pub record IsPacked (view : FaceView) : Type 0 where
   pub checks_fit : ChecksFit view.names.now view.checks.now
   pub changes_fit : PartsFit view.segs.now view.changes.now
-  pub names : flat_map (λ (c : Check). names_of view.names.now c.cond) view.checks.now ≡ view.names.now
+  pub names : flat_map (λ (c : Check). size_needles_of view.names.now c.cond) view.checks.now ≡ view.names.now
   pub segs : flat_map (λ (c : Change). part_of view.segs.now c.part) view.changes.now ≡ view.segs.now

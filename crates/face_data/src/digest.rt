@@ -5,7 +5,7 @@ ghost use Rattle.face_data.specs.Conditions.{ask_of};
 ghost use Rattle.knit_base.specs.Yarns.{contains_carrier, lacks_carrier};
 ghost use Rattle.face_data.specs.declared.bearing.Bearing.TheVariants.{Implied};
 ghost use Rattle.face_data.specs.Bearings.{if_so};
-ghost use Rattle.face_data.specs.Digests.{blank, noted, digest_bearing, bearing_by, CarrierFits};
+ghost use Rattle.face_data.specs.Digests.{blank_digest, digest_with, digest_bearing, bearing_by, CarrierFits};
 
 use crate::bearing::{carrier_bearing, hook_bearing, implied_if, implied_or_refuted};
 use crate::{Bearing, Cond};
@@ -25,7 +25,7 @@ pub struct Digest {
 impl Digest {
     /// No condition is kept yet.
     pub fn blank() -> Digest
-        ensures { result ≡ blank }
+        ensures { result ≡ blank_digest }
     {
         Digest {
             rack: None,
@@ -37,10 +37,10 @@ impl Digest {
     }
 
     /// One more condition, of which the digest says nothing.
-    #[tactic(auto, unfolding(crate::specs::Digests::noted))]
+    #[tactic(auto, unfolding(crate::specs::Digests::digest_with))]
     pub fn note(&mut self, cond: Cond)
         requires { CarrierFits cond }
-        ensures { (names : List Needle) → self.new ≡ noted self.old (ask_of names cond) }
+        ensures { (names : List Needle) → self.new ≡ digest_with self.old (ask_of names cond) }
     {
         match cond {
             Cond::RackIs(q) => self.rack = Some(q),

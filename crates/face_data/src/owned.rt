@@ -23,11 +23,11 @@ pub struct Face {
 impl Model for Face {
     ghost use Rattle.std.specs.Prelude.{map};
     ghost use Rattle.face_data.specs.Summaries.{Summary};
-    ghost use Rattle.face_data.specs.View.{asked_of, changed_of, AreNamed, ArePacked};
+    ghost use Rattle.face_data.specs.View.{asked_of_check, changed_of, AreNamed, ArePacked};
 
     ghost Value = { Summary };
 
-    ghost view = { λ f. record { lines = f.lines; made = f.made; checks = map (asked_of f.names.items) f.checks.items; changes = map (changed_of f.segs.items) f.changes.items; lasts = f.lasts.items; ending = f.ending } };
+    ghost view = { λ f. record { lines = f.lines; made = f.made; checks = map (asked_of_check f.names.items) f.checks.items; changes = map (changed_of f.segs.items) f.changes.items; lasts = f.lasts.items; ending = f.ending } };
 
     ghost invariant = { λ f. AreNamed f.names.items f.checks.items × ArePacked f.segs.items f.changes.items };
 }

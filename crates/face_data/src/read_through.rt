@@ -3,7 +3,7 @@ ghost use Rattle.std.specs.Prelude.{◌≡◌, ◌+◌, ◌<◌, ◌≤◌, ◌^
 ghost use Rattle.face_data.specs.declared.face.Seg.TheVariants.{Entry};
 ghost use Rattle.face_data.specs.Goodness.{IsInOrder};
 ghost use Rattle.face_data.specs.Segments.{OffsetFits, segments_on};
-ghost use Rattle.face_data.specs.Through.{piece, through};
+ghost use Rattle.face_data.specs.Through.{seg_through, through};
 ghost use Rattle.face_data.specs.View.{PartsFit, changed_of};
 
 use crate::verdicts::segs_at;
@@ -32,7 +32,7 @@ fn add_piece(face: &FaceView, seg: Seg, before: &mut Segs) -> Result<(), NoMemor
     requires order { IsInOrder (map (changed_of face.now.segs.now) face.now.changes.now) }
     requires parts { PartsFit face.now.segs.now face.now.changes.now }
     requires fits { OffsetFits face.now.lines seg }
-    ensures { OnOk result (before.new ≡ before.old ++ piece (map (changed_of face.now.segs.now) face.now.changes.now) face.now.lines seg) }
+    ensures { OnOk result (before.new ≡ before.old ++ seg_through (map (changed_of face.now.segs.now) face.now.changes.now) face.now.lines seg) }
 {
     match seg {
         Seg::New(offset) => add_all(&[Seg::New(face.lines + offset)], before),

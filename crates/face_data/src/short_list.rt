@@ -17,13 +17,13 @@ pub struct ShortList<T> {
 
 impl<T> Model for ShortList<T> {
     ghost use Rattle.std.specs.Prelude.{List, ◌<◌, ◌^◌, length};
-    ghost use Rattle.face_data.specs.Storage.{items_in, IsNear};
+    ghost use Rattle.face_data.specs.Storage.{items_in, IsCompactStorage};
 
     ghost Value = { List T };
 
     ghost view = { λ l. items_in l.storage };
 
-    ghost invariant = { λ l. (length (items_in l.storage) < 2 ^ 32) × IsNear l.storage };
+    ghost invariant = { λ l. (length (items_in l.storage) < 2 ^ 32) × IsCompactStorage l.storage };
 }
 
 impl<T: Drop> ShortList<T> {

@@ -1,7 +1,7 @@
 //! Conditions on how many loops needles hold.
 ghost use Rattle.std.specs.Prelude.{◌≡◌, ◌≤◌, ◌-◌, ◌-ℤ◌, pos, [], ◌∷◌, ◌++◌, IfOk, OnOk};
 ghost use Rattle.std.specs.Option.{option_copied};
-ghost use Rattle.face_data.specs.Segments.{entries_of, new_of, segs_or_own};
+ghost use Rattle.face_data.specs.Segments.{entry_needles_of, new_of, segs_or_own};
 ghost use Rattle.face_data.specs.Sizes.{IsSizeAsk};
 
 use crate::{Seg, Segs, ShortList, Symbols};
@@ -62,7 +62,7 @@ fn add_segments(
     room: u16,
     entries: &mut NeedleList,
 ) -> Result<u16, NoMemory>
-    ensures entries { OnOk result (entries.new ≡ entries.old ++ entries_of (segs_or_own (option_copied segs.entry) n)) }
+    ensures entries { OnOk result (entries.new ≡ entries.old ++ entry_needles_of (segs_or_own (option_copied segs.entry) n)) }
     ensures room { IfOk result (λ left. left ≡ room - new_of (segs_or_own (option_copied segs.entry) n)) }
 {
     match segs {
@@ -75,7 +75,7 @@ fn add_segments(
 }
 
 fn add_segs(segs: &[Seg], room: u16, entries: &mut NeedleList) -> Result<u16, NoMemory>
-    ensures entries { OnOk result (entries.new ≡ entries.old ++ entries_of segs.now) }
+    ensures entries { OnOk result (entries.new ≡ entries.old ++ entry_needles_of segs.now) }
     ensures room { IfOk result (λ left. left ≡ room - new_of segs.now) }
 {
     let mut left = room;

@@ -1,6 +1,6 @@
 //! Where the items of a short list lie.
 ghost use Rattle.std.specs.Prelude.{◌≡◌, ◌+◌, ◌<◌, ◌^◌, ◌≤◌, [], ◌∷◌, ◌++◌, length, vec_capacity, OnOk, OnErr, IfOk, IsOk};
-ghost use Rattle.face_data.specs.Storage.{items_in, IsNear, IsFew};
+ghost use Rattle.face_data.specs.Storage.{items_in, IsCompactStorage, IsFew};
 
 use knit_base::NoMemory;
 use std::alloc::Global;
@@ -31,9 +31,9 @@ impl<T: Drop> Storage<T> {
 
     /// Appends an item.
     pub fn push(&mut self, alloc: Global, item: T) -> Result<(), NoMemory>
-        requires { IsNear self.old }
+        requires { IsCompactStorage self.old }
         ensures ok { OnOk result (items_in self.new ≡ items_in self.old ++ item ∷ []) }
-        ensures near { IsNear self.new }
+        ensures near { IsCompactStorage self.new }
         ensures err { OnErr result (items_in self.new ≡ items_in self.old) }
         ensures in_place { length (items_in self.old) < 2 → IsOk result }
     {
@@ -58,7 +58,7 @@ impl<T: Drop> Storage<T> {
         requires room { length (items_in self) < 2 }
         ensures items { items_in result ≡ items_in self ++ item ∷ [] }
         ensures few { IsFew result }
-        ensures near { IsNear result }
+        ensures near { IsCompactStorage result }
     {
         match self {
             Storage::Nothing => Storage::One([item]),
@@ -75,7 +75,7 @@ impl<T: Drop> Storage<T> {
         requires empty { room.value.items ≡ [] }
         requires room { 3 ≤ vec_capacity room.value }
         ensures items { items_in result ≡ items_in self ++ item ∷ [] }
-        ensures near { IsNear result }
+        ensures near { IsCompactStorage result }
     {
         match self {
             Storage::Nothing => Storage::Nothing,
@@ -89,10 +89,10 @@ impl<T: Drop> Storage<T> {
 impl<T: Copy + Drop> Storage<T> {
     /// Appends a copy of each item.
     pub fn extend_from_slice(&mut self, alloc: Global, more: &[T]) -> Result<(), NoMemory>
-        requires near { IsNear self.old }
+        requires near { IsCompactStorage self.old }
         requires sizes { length (items_in self.old) + length more.now < 2 ^ 32 }
         ensures ok { OnOk result (items_in self.new ≡ items_in self.old ++ more.now) }
-        ensures near { IsNear self.new }
+        ensures near { IsCompactStorage self.new }
         ensures err { OnErr result (items_in self.new ≡ items_in self.old) }
         ensures in_place { length (items_in self.old) + length more.now ≤ 2 → IsOk result }
     {
@@ -117,7 +117,7 @@ impl<T: Copy + Drop> Storage<T> {
         requires few { IsFew self }
         requires room { length (items_in self) + length more.now ≤ 2 }
         ensures items { items_in result ≡ items_in self ++ more.now }
-        ensures near { IsNear result }
+        ensures near { IsCompactStorage result }
     {
         let mut storage = self;
         for item in more {

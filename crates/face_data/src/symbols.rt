@@ -4,9 +4,9 @@ ghost use Rattle.std.specs.Option.{option_copied};
 ghost use Rattle.knit_base.specs.declared.needle.Needle.{Needle};
 ghost use Rattle.knit_base.specs.Needle.{same_needle};
 ghost use Rattle.face_data.specs.declared.face.Seg.TheVariants.{Entry};
-ghost use Rattle.face_data.specs.Composition.{merged};
+ghost use Rattle.face_data.specs.Composition.{changes_merged};
 ghost use Rattle.face_data.specs.Goodness.{IsInOrder};
-ghost use Rattle.face_data.specs.Places.{StandsAt, GoesAt};
+ghost use Rattle.face_data.specs.Places.{ChangeStandsAt, GoesAt};
 ghost use Rattle.face_data.specs.Segments.{change_at, segments_on};
 
 use crate::{Seg, Segs, ShortList};
@@ -100,7 +100,7 @@ impl Symbols {
     /// before; a needle that was touched needs none.
     #[inline(always)]
     pub fn swap(&mut self, n: Needle, segs: Segs) -> Result<Option<Segs>, NoMemory>
-        ensures ok { OnOk result (self.new ≡ merged self.old ((n, segs) ∷ [])) }
+        ensures ok { OnOk result (self.new ≡ changes_merged self.old ((n, segs) ∷ [])) }
         ensures was { IfOk result (λ was. was ≡ change_at self.old n) }
         ensures rising { IsInOrder self.new }
         ensures err { OnErr result (self.new ≡ self.old) }
@@ -156,7 +156,7 @@ pub fn slot_of(n: Needle) -> usize
 // The place of the needle, or else the place where it would stand.
 fn find(held: &[(Needle, Segs)], guess: u16, n: Needle) -> Result<usize, usize>
     requires { IsInOrder held.now }
-    ensures found { IfOk result (StandsAt held.now n) }
+    ensures found { IfOk result (ChangeStandsAt held.now n) }
     ensures gap { IfErr result (GoesAt held.now n) }
 {
     let i = guess as usize;
@@ -168,7 +168,7 @@ fn find(held: &[(Needle, Segs)], guess: u16, n: Needle) -> Result<usize, usize>
 
 fn search(held: &[(Needle, Segs)], n: Needle) -> Result<usize, usize>
     requires { IsInOrder held.now }
-    ensures found { IfOk result (StandsAt held.now n) }
+    ensures found { IfOk result (ChangeStandsAt held.now n) }
     ensures gap { IfErr result (GoesAt held.now n) }
 {
     let mut low = 0;

@@ -10,7 +10,7 @@ ghost use Rattle.face_data.specs.Conditions.{ask_of, holds, part_of};
 ghost use Rattle.face_data.specs.Goodness.{IsGoodFace};
 ghost use Rattle.face_data.specs.Segments.{OffsetFits, new_of, read_segs};
 ghost use Rattle.face_data.specs.Stands.{StandsFor};
-ghost use Rattle.face_data.specs.Summaries.{after, applied, raised};
+ghost use Rattle.face_data.specs.Summaries.{state_after_changes, summary_outcome, fault_raised};
 ghost use Rattle.face_data.specs.Summaries.Outcome.{went_on, faulted};
 ghost use Rattle.face_data.specs.Verdicts.{holds_loops, stacks_left, verdict_of};
 ghost use Rattle.face_data.specs.View.{IsPacked, changed_of, summary_of};
@@ -65,8 +65,8 @@ pub fn brief_of(face: &FaceView, first: u32) -> Brief
 fn on_empty_beds(face: &FaceView, first: u32) -> Result<Effect, Fault>
     requires good { IsGoodFace (summary_of face.now) }
     requires lines { first + face.now.lines < 2 ^ 32 }
-    ensures through { IfOk result (λ effect. applied (summary_of face.now) empty_state first ≡ went_on (after effect face.now.lasts.now (map (changed_of face.now.segs.now) face.now.changes.now) empty_state first)) }
-    ensures stops { IfErr result (λ fault. applied (summary_of face.now) empty_state first ≡ faulted fault) }
+    ensures through { IfOk result (λ effect. summary_outcome (summary_of face.now) empty_state first ≡ went_on (state_after_changes effect face.now.lasts.now (map (changed_of face.now.segs.now) face.now.changes.now) empty_state first)) }
+    ensures stops { IfErr result (λ fault. summary_outcome (summary_of face.now) empty_state first ≡ faulted fault) }
 {
     if let Some(fault) = fault_on_empty(face.checks, face.names) {
         return Err(raised(fault, first));
@@ -107,7 +107,7 @@ fn holds_on_empty(cond: &Cond, names: &[Needle]) -> bool
 // The fault, its line counted from this one.
 fn raised(fault: Fault, first: u32) -> Fault
     requires { first + fault.line < 2 ^ 32 }
-    ensures { result ≡ raised first fault }
+    ensures { result ≡ fault_raised first fault }
 {
     Fault {
         line: first + fault.line,

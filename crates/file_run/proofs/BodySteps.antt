@@ -11,7 +11,7 @@ use Rattle.knit_base.specs.declared.usual.Usual.{Usual}
 use Rattle.knit_base.specs.Lines.{lines_of}
 use Rattle.line_cutter.specs.declared.fault.CutFault.{CutFault}
 use Rattle.line_cutter.specs.declared.fault.CutFault.TheVariants.{NoMemory}
-use Rattle.line_cutter.specs.Cut.{HasGoodLines, IsBehind, IsFirstBad, IsFirstBadBehind, IsGoodLine, IsNextRefused, StandsAt}
+use Rattle.line_cutter.specs.Cut.{HasGoodLines, IsPlaceBehind, IsFirstBad, IsFirstBadBehind, IsGoodLine, IsNextRefused, GoodLineStandsAt}
 use Rattle.line_cutter.proofs.PlacesBehind.{behind-all, behind-between, behind-counted, behind-more, behind-none, between-rest, line_here, refused-behind}
 use Rattle.knitout_reader.specs.declared.head.Head.{Head}
 use Rattle.knitout_reader.specs.Head.{IsHead}
@@ -21,7 +21,7 @@ use Rattle.knitout_reader.proofs.BodyReadings.{zip-append}
 use Rattle.knitout_reader.proofs.SomeReading.{each-reads}
 use Rattle.carriage_model.specs.declared.verdict.LoopFact.{LoopFact}
 use Rattle.carriage_model.specs.declared.verdict.Verdict.{Verdict}
-use Rattle.carriage_model.specs.Carriage.{HasRun, IsRunning, RanOn, TellsRun, is_stopped, next_line}
+use Rattle.carriage_model.specs.Carriage.{HasRun, IsRunning, RanOn, TellsRun, is_stopped, next_carriage_line}
 use Rattle.carriage_model.specs.Loops.{loops_asked, loops_made}
 use Rattle.carriage_model.specs.Run.{run}
 use Rattle.carriage_model.specs.State.{empty_state}
@@ -31,17 +31,17 @@ use Rattle.file_run.specs.declared.judgement.Judgement.{Judgement}
 use Rattle.file_run.specs.declared.judgement.Run.{Run}
 use Rattle.file_run.specs.Bodies.{body_of, first_of}
 use Rattle.file_run.specs.Judgements.{IsJudgement}
-use Rattle.file_run.specs.Runs.{CarriesOut, HasRunBody, HasTakenAll, IsKeptText, IsRefusedHere, IsRun, KeepsBroken, PassesOver, TakesAnyMore, TakesBehind, Taking}
+use Rattle.file_run.specs.Runs.{CarriesOut, HasRunBody, HasTakenAll, IsKeptText, IsRefusedHere, IsRun, KeepsBroken, PassesOver, TakesAnyMore, TakesBehind, TakingReads}
 use Rattle.file_run.proofs.BrokenLines.{kept-broken, kept-more, kept-over}
 
-module _ (T : Type 0) (Has : Taking T) where
+module _ (T : Type 0) (Has : TakingReads T) where
   -- how many lines were read
   read-count : (with_loops : Bool) (head : Head) (lines : List (List ℕ)) (body : BodyRun T) → (here : HasRunBody T Has with_loops head lines body) → head.lines + length here.readings ≡ length lines
   read-count with_loops head lines body here =
       omega (arith, here.within, length-drop head.lines lines, AllZip-long (ReadsAs body.profile head.declared) (drop head.lines lines) here.readings here.read)
 
   -- the number of the next line
-  pub next-number : (with_loops : Bool) (head : Head) (lines : List (List ℕ)) (body : BodyRun T) → HasRunBody T Has with_loops head lines body → next_line body.carriage ≡ length lines + 1
+  pub next-number : (with_loops : Bool) (head : Head) (lines : List (List ℕ)) (body : BodyRun T) → HasRunBody T Has with_loops head lines body → next_carriage_line body.carriage ≡ length lines + 1
   next-number with_loops head lines body here = omega (arith, here.ran.first_line, here.ran.lines, read-count with_loops head lines body here)
 
   -- the number of the next line that is taken, where it is no more than it may be
@@ -57,7 +57,7 @@ module _ (T : Type 0) (Has : Taking T) where
 
   -- one line was read, carried out and taken
   pub carries-out : (head : Head) (text : List ℕ) (start next : ℕ) (line : List ℕ) (r : Read) (old new : BodyRun T)
-      → StandsAt text start line next → ReadsAs old.profile head.declared line r → new.profile ≡ old.profile → new.names ≡ old.names
+      → GoodLineStandsAt text start line next → ReadsAs old.profile head.declared line r → new.profile ≡ old.profile → new.names ≡ old.names
       → RanOn r old.carriage new.carriage → ((first : ℕ) (reads : List Read) → Has first reads old.taker → Has first (reads ++ r ∷ []) new.taker)
       → KeepsBroken new.carriage.fault old.broken line new.broken
       → CarriesOut T Has head text start next old new
@@ -113,7 +113,7 @@ module _ (T : Type 0) (Has : Taking T) where
 
   -- a runner has taken the lines of the text up to this place, before which so many of them stand
   pub record HasTakenTo (head : Head) (text : List ℕ) (before count start : ℕ) (old now : BodyRun T) : Type 0 where
-    pub behind : IsBehind text count start
+    pub behind : IsPlaceBehind text count start
     pub same_profile : now.profile ≡ old.profile
     pub ran : (with_loops : Bool) (lines : List (List ℕ)) → length lines ≡ before → HasRunBody T Has with_loops head lines old
         → HasRunBody T Has with_loops head (lines ++ take count (lines_of text)) now
@@ -165,7 +165,7 @@ module _ (T : Type 0) (Has : Taking T) where
       → HasGoodLines rest more → TakesBehind T Has head (before + count) (lines_of rest) now new → HasGoodLines text (count + more) × HasTakenLines head text before old new
   taken-rest head text rest before count start more old now new some is here good over =
       let left : HasGoodLines (drop start text) more = subst (λ t. HasGoodLines t more) is good in
-      let behind : IsBehind text (count + more) (length text) = behind-between text count start more (length text) here.behind (between-rest text start more some left) in
+      let behind : IsPlaceBehind text (count + more) (length text) = behind-between text count start more (length text) here.behind (between-rest text start more some left) in
       let whole : take count (lines_of text) ++ lines_of rest ≡ lines_of text =
       ap (λ t. take count (lines_of text) ++ lines_of t) is ∙ ap (λ ls. take count (lines_of text) ++ ls) (sym here.behind.left) ∙ take-append-drop count (lines_of text) in (
         behind-counted text (count + more) (length text) behind (omega arith),
@@ -206,7 +206,7 @@ module _ (T : Type 0) (Has : Taking T) where
       }
 
 -- the line that is refused is the first bad one of the file, where so many lines of the text stand before it
-pub refused-here : (text : List ℕ) (before count start number : ℕ) (fault : CutFault) → IsBehind text count start → number ≡ before + count + 1 → IsRefusedHere text start number fault
+pub refused-here : (text : List ℕ) (before count start number : ℕ) (fault : CutFault) → IsPlaceBehind text count start → number ≡ before + count + 1 → IsRefusedHere text start number fault
     → IsFirstBadBehind before (lines_of text) fault
 refused-here text before count start number fault here is refused =
     ⊎_elim
@@ -215,7 +215,7 @@ refused-here text before count start number fault here is refused =
     refused
 
 -- and so is one that is refused among the lines that are left
-pub refused-later : (text rest : List ℕ) (before count start : ℕ) (fault : CutFault) → IsBehind text count start → rest ≡ drop start text → IsFirstBadBehind (before + count) (lines_of rest) fault
+pub refused-later : (text rest : List ℕ) (before count start : ℕ) (fault : CutFault) → IsPlaceBehind text count start → rest ≡ drop start text → IsFirstBadBehind (before + count) (lines_of rest) fault
     → IsFirstBadBehind before (lines_of text) fault
 refused-later text rest before count start fault here is refused front len good =
     let whole : (front ++ take count (lines_of text)) ++ lines_of rest ≡ front ++ lines_of text =
@@ -229,7 +229,7 @@ refused-later text rest before count start fault here is refused front len good 
 
 -- a line that was read at once stands at this place, where the rest of the text begins with it
 pub usual-stands : (most : ℕ) (profile : Profile) (names : List (List ℕ)) (text rest : List ℕ) (start len : ℕ) (usual : Usual) → most ≤ 4096 → rest ≡ take (length text - start) (drop start text)
-    → (begins : BeginsWithLine most profile names rest usual len) → StandsAt text start begins.line (start + len)
+    → (begins : BeginsWithLine most profile names rest usual len) → GoodLineStandsAt text start begins.line (start + len)
 usual-stands most profile names text rest start len usual short is begins =
     let left : rest ≡ drop start text = is ∙ take_all (length text - start) (drop start text) (omega (arith, length-drop start text)) in
     let behind : drop len rest ≡ drop (start + len) text = ap (drop len) left ∙ drop-drop len start text ∙ ap (λ k. drop k text) (omega arith) in

@@ -4,10 +4,10 @@ ghost use Rattle.knit_base.specs.Lawful.{IsLawfulRead};
 ghost use Rattle.knit_base.specs.Limits.{IsLawfulProfile};
 ghost use Rattle.knit_base.specs.Lines.{HasNoLineEnd, lines_of};
 ghost use Rattle.knit_base.specs.Usual.{usual_read};
-ghost use Rattle.line_cutter.specs.Cut.{HasGoodLines, IsFirstBadBehind, IsNextRefused, StandsAt};
+ghost use Rattle.line_cutter.specs.Cut.{HasGoodLines, IsFirstBadBehind, IsNextRefused, GoodLineStandsAt};
 ghost use Rattle.knitout_reader.specs.declared.head.Head.{Head};
 ghost use Rattle.knitout_reader.specs.Head.{IsHead};
-ghost use Rattle.carriage_model.specs.Carriage.{IsRunning, RanOn, is_stopped, next_line, profile_of};
+ghost use Rattle.carriage_model.specs.Carriage.{IsRunning, RanOn, is_stopped, next_carriage_line, profile_of};
 ghost use Rattle.file_run.specs.Runs.{CarriesOut, HasRunBody, IsRefusedHere, IsRun, KeepsBroken, PassesOver, TakesAnyMore, TakesBehind};
 
 use crate::judgement::{Judgement, Run};
@@ -120,7 +120,7 @@ impl<T: Taker> BodyRun<T> {
         requires few { before ≤ 67108864 }
         requires stopped { is_stopped self.old.carriage ≡ true }
         requires idle { TakesAnyMore T T.has self.old.taker }
-        requires next { next_line self.old.carriage ≡ before + 1 }
+        requires next { next_carriage_line self.old.carriage ≡ before + 1 }
         ensures good { IfOk result (HasGoodLines text.now) }
         ensures ok { OnOk result (PassesOver T T.has (lines_of text.now) self.old self.new) }
         ensures err { IfErr result (IsFirstBadBehind before (lines_of text.now)) }
@@ -233,7 +233,7 @@ impl<T: Taker> BodyRun<T> {
 fn carry_on(alloc: Global, usual: Usual, carriage: &mut Carriage) -> Result<(), NoMemory>
     requires running { IsRunning carriage.old }
     requires lawful { (carriers : ℕ) × (carriers ≤ 64) × IsLawfulRead (profile_of carriage.old) carriers (usual_read usual) }
-    requires lines { next_line carriage.old + 1 < 2 ^ 32 }
+    requires lines { next_carriage_line carriage.old + 1 < 2 ^ 32 }
     ensures { OnOk result (RanOn (usual_read usual) carriage.old carriage.new) }
 {
     if carriage.carry_with_loop(usual)? {
@@ -255,7 +255,7 @@ fn keep_broken_at(
 ) -> Result<(), CutFault>
     requires some { start < length text.now }
     requires size { length text.now ≤ 16777216 }
-    ensures ok { OnOk result ((line : List ℕ) (next : ℕ) → StandsAt text.now start line next
+    ensures ok { OnOk result ((line : List ℕ) (next : ℕ) → GoodLineStandsAt text.now start line next
         → KeepsBroken carriage.now.fault broken.old line broken.new) }
     ensures err { IfErr result (IsRefusedHere text.now start number) }
 {

@@ -6,7 +6,7 @@ ghost use Rattle.knit_base.specs.declared.profile.Profile.{Profile};
 ghost use Rattle.knit_base.specs.Lawful.{IsLawfulRead};
 ghost use Rattle.knit_base.specs.Usual.{usual_read};
 ghost use Rattle.pass_grouping.specs.Operations.{IsRackWithin};
-ghost use Rattle.pass_grouping.specs.Tallies.{HasTallied, next_line as next_counted};
+ghost use Rattle.pass_grouping.specs.Tallies.{HasTallied, next_tally_line as next_counted};
 ghost use Rattle.file_run.specs.Runs.{HasTakenAny};
 
 use knit_base::{NoMemory, Read, Usual};

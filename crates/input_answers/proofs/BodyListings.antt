@@ -9,15 +9,15 @@ use Rattle.knitout_reader.specs.Reading.{ReadsAs}
 use Rattle.knitout_reader.proofs.BodyReadings.{ReadSoFar, read-none, read-more, read-all}
 use Rattle.pass_grouping.specs.declared.listing.Listing.{Listing}
 use Rattle.pass_grouping.specs.declared.operation.PassOp.{PassOp}
-use Rattle.pass_grouping.specs.Listings.{HasListed, IsListing, next_line}
+use Rattle.pass_grouping.specs.Listings.{HasListed, IsOperationListing, next_listing_line}
 use Rattle.pass_grouping.specs.Operations.{operations_after}
 use Rattle.file_run.specs.Bodies.{first_of}
-use Rattle.file_run.specs.Runs.{HasTakenAll, Taking}
+use Rattle.file_run.specs.Runs.{HasTakenAll, TakingReads}
 use Rattle.input_answers.specs.ListingRun.{ListsLine, TakesLine}
 use Rattle.input_answers.specs.PassesReport.{AreOperations}
 
 -- the lines behind the head were taken up to this place
-pub record HasTakenBody (T : Type 0) (Has : Taking T) (profile : Profile) (names lines : List (List ℕ)) (from i : ℕ) (taker : T) : Type 0 where
+pub record HasTakenBody (T : Type 0) (Has : TakingReads T) (profile : Profile) (names lines : List (List ℕ)) (from i : ℕ) (taker : T) : Type 0 where
   pub readings : List Read
   pub so_far : ReadSoFar (λ line r. ReadsAs profile names line r) (λ r. Unit {0}) lines from i readings
   pub taken : Has (from + 1) readings taker
@@ -25,11 +25,11 @@ pub record HasTakenBody (T : Type 0) (Has : Taking T) (profile : Profile) (names
 abbrev pub HasBodyListing : Profile → List (List ℕ) → List (List ℕ) → ℕ → ℕ → Listing → Type 0
 HasBodyListing = HasTakenBody Listing HasListed
 
-taken_body-none : (T : Type 0) (Has : Taking T) (profile : Profile) (names lines : List (List ℕ)) (from : ℕ) (taker : T) → Has (from + 1) [] taker → HasTakenBody T Has profile names lines from from taker
+taken_body-none : (T : Type 0) (Has : TakingReads T) (profile : Profile) (names lines : List (List ℕ)) (from : ℕ) (taker : T) → Has (from + 1) [] taker → HasTakenBody T Has profile names lines from from taker
 taken_body-none T Has profile names lines from taker new = record { readings = []; so_far = read-none _ _ lines from; taken = new }
 
 -- the next line is taken
-taken_body-more : (T : Type 0) (Has : Taking T) (profile : Profile) (names lines : List (List ℕ)) (from i : ℕ) (old new : T) (line : List ℕ)
+taken_body-more : (T : Type 0) (Has : TakingReads T) (profile : Profile) (names lines : List (List ℕ)) (from i : ℕ) (old new : T) (line : List ℕ)
     → HasTakenBody T Has profile names lines from i old → i < length lines → slice_get lines i ≡ Some line → TakesLine T Has profile names line old new
     → HasTakenBody T Has profile names lines from (i + 1) new
 taken_body-more T Has profile names lines from i old new line here within found next = record {
@@ -39,7 +39,7 @@ taken_body-more T Has profile names lines from i old new line here within found 
 }
 
 -- all lines were taken
-taken_body-all : (T : Type 0) (Has : Taking T) (profile : Profile) (lines : List (List ℕ)) (head : Head) (i : ℕ) (taker : T) → IsHead lines head → length lines ≤ i
+taken_body-all : (T : Type 0) (Has : TakingReads T) (profile : Profile) (lines : List (List ℕ)) (head : Head) (i : ℕ) (taker : T) → IsHead lines head → length lines ≤ i
     → HasTakenBody T Has profile head.declared lines head.lines i taker → HasTakenAll T Has profile head.declared lines taker
 taken_body-all T Has profile lines head i taker is past here =
     let all : AllZip (λ line r. ReadsAs profile head.declared line r) (drop head.lines lines) here.readings = (read-all _ _ lines head.lines i here.readings past here.so_far).0 in
@@ -59,11 +59,11 @@ pub body_listing-more : (profile : Profile) (names lines : List (List ℕ)) (fro
 body_listing-more profile names lines from i old new line here within found next = taken_body-more Listing HasListed profile names lines from i old new line here within found next
 
 -- the listing is ready for a line more
-pub body_listing-ready : (profile : Profile) (names lines : List (List ℕ)) (from i : ℕ) (listing : Listing) → HasBodyListing profile names lines from i listing → IsListing listing
+pub body_listing-ready : (profile : Profile) (names lines : List (List ℕ)) (from i : ℕ) (listing : Listing) → HasBodyListing profile names lines from i listing → IsOperationListing listing
 body_listing-ready profile names lines from i listing here = (from + 1, here.readings, here.taken)
 
 -- the number of the next line
-pub body_listing-next : (profile : Profile) (names lines : List (List ℕ)) (from i : ℕ) (listing : Listing) → HasBodyListing profile names lines from i listing → next_line listing ≡ i + 1
+pub body_listing-next : (profile : Profile) (names lines : List (List ℕ)) (from i : ℕ) (listing : Listing) → HasBodyListing profile names lines from i listing → next_listing_line listing ≡ i + 1
 body_listing-next profile names lines from i listing here = omega (arith, here.taken.lines, here.so_far.counted)
 
 -- the operations of lines that were all listed

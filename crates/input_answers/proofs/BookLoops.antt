@@ -27,7 +27,7 @@ use Rattle.file_run.specs.declared.judgement.Judgement.{Judgement}
 use Rattle.file_run.specs.Judgements.{IsJudgement, IsJudgementOn}
 use Rattle.input_answers.specs.BookLoops.{AreLoopsOn}
 use Rattle.file_run.specs.Bodies.{body_of, setting_for}
-use Rattle.input_answers.specs.DueLive.{IsOpening}
+use Rattle.input_answers.specs.DueLive.{IsScriptOpening}
 
 -- the lines of blocks that nobody has edited
 opened_body : (id : ℕ) (texts : List (List (List ℕ))) → lines_in (opened_from id texts) ≡ flat_map (λ (text : List (List ℕ)). text) texts
@@ -35,13 +35,13 @@ opened_body id [] = refl
 opened_body id (text ∷ texts) = ap (λ (lines : List (List ℕ)). text ++ lines) (opened_body (id + 1) texts)
 
 -- the lines of the document are the body
-pub opening_body : (chosen : Chosen) (head : Head) (lines : List (List ℕ)) (opening : Opening) (entries : List Entry) → IsOpening chosen head lines opening → entries ≡ []
+pub opening_body : (chosen : Chosen) (head : Head) (lines : List (List ℕ)) (opening : Opening) (entries : List Entry) → IsScriptOpening chosen head lines opening → entries ≡ []
     → body (document_of opening entries) ≡ body_of lines
 opening_body chosen head lines opening entries is none = ap (λ (es : List Entry). body (document_of opening es)) none ∙ opened_body 0 opening.texts ∙ is.lines
 
 -- what is made of the document's lines is made of the file
 pub judged_file : (with_loops : Bool) (chosen : Chosen) (head : Head) (lines : List (List ℕ)) (opening : Opening) (entries : List Entry) (judgement : Judgement)
-    → IsOpening chosen head lines opening → entries ≡ [] → IsJudgementOn with_loops (setting_of opening (document_of opening entries)) (body (document_of opening entries)) judgement
+    → IsScriptOpening chosen head lines opening → entries ≡ [] → IsJudgementOn with_loops (setting_of opening (document_of opening entries)) (body (document_of opening entries)) judgement
     → IsJudgement with_loops chosen.profile head.declared lines judgement
 judged_file with_loops chosen head lines opening entries judgement is none judged =
     let setting : setting_of opening (document_of opening entries) ≡ setting_for chosen.profile head.declared lines =

@@ -17,7 +17,7 @@ use Rattle.knitout_writer.specs.Canonical.{IsCanonicalText}
 use Rattle.file_run.specs.Bodies.{body_of}
 use Rattle.input_answers.specs.CheckReport.{IsCheckReport}
 use Rattle.input_answers.specs.PassesReport.{IsPassesReport}
-use Rattle.input_answers.specs.Due.{Due, bad_line, bad_head, too_large, judged, canonical, broken, grouped, checks_body, Fits, HasHead, IsSizeRefusal, cut_refusal, head_refusal}
+use Rattle.input_answers.specs.Due.{Due, bad_line, bad_head, too_large, judged, canonical, broken, grouped, checks_body, BodyFits, HasHead, IsSizeRefusal, cut_refusal, head_refusal}
 
 -- this text and this status are those that are due
 said_so : (command : Command) (chosen : Chosen) (input text said : List ℕ) (result ends : Status) → Due command chosen input said ends → text ≡ said → result ≡ ends
@@ -58,32 +58,32 @@ due-too_large command chosen input text result lines head count said checks are 
 
 -- the report of a check
 pub due-judged : (loops json : Bool) (chosen : Chosen) (input text : List ℕ) (result : Status) (lines : List (List ℕ)) (head : Head)
-    → lines ≡ lines_of input → All IsGoodLine lines → IsHead lines head → Fits chosen.block (length (body_of lines))
+    → lines ≡ lines_of input → All IsGoodLine lines → IsHead lines head → BodyFits chosen.block (length (body_of lines))
     → IsCheckReport chosen.profile loops json head.declared lines text result → Due (Check loops json) chosen input text result
 due-judged loops json chosen input text result lines head are good is fits reply =
     judged loops json head text result refl (has_head input lines head are good is)
-    (subst (λ ls. Fits chosen.block (length (body_of ls))) are fits)
+    (subst (λ ls. BodyFits chosen.block (length (body_of ls))) are fits)
     (subst (λ ls. IsCheckReport chosen.profile loops json head.declared ls text result) are reply)
 
 -- the verdict where passes were asked for and the program breaks a rule
 pub due-broken : (chosen : Chosen) (input text : List ℕ) (result : Status) (lines : List (List ℕ)) (head : Head)
-    → lines ≡ lines_of input → All IsGoodLine lines → IsHead lines head → Fits chosen.block (length (body_of lines))
+    → lines ≡ lines_of input → All IsGoodLine lines → IsHead lines head → BodyFits chosen.block (length (body_of lines))
     → IsCheckReport chosen.profile false false head.declared lines text status.Broken → result ≡ status.Broken → Due Passes chosen input text result
 due-broken chosen input text result lines head are good is fits reply ends =
     said_so Passes chosen input text text result status.Broken
     (broken head text refl (has_head input lines head are good is)
-    (subst (λ ls. Fits chosen.block (length (body_of ls))) are fits)
+    (subst (λ ls. BodyFits chosen.block (length (body_of ls))) are fits)
     (subst (λ ls. IsCheckReport chosen.profile false false head.declared ls text status.Broken) are reply))
     refl ends
 
 -- the passes of a sound program
 pub due-grouped : (chosen : Chosen) (input text : List ℕ) (result : Status) (lines : List (List ℕ)) (head : Head)
-    → lines ≡ lines_of input → All IsGoodLine lines → IsHead lines head → Fits chosen.block (length (body_of lines))
+    → lines ≡ lines_of input → All IsGoodLine lines → IsHead lines head → BodyFits chosen.block (length (body_of lines))
     → IsPassesReport chosen.profile head.declared lines text → result ≡ status.Done → Due Passes chosen input text result
 due-grouped chosen input text result lines head are good is fits reply ends =
     said_so Passes chosen input text text result status.Done
     (grouped head text refl (has_head input lines head are good is)
-    (subst (λ ls. Fits chosen.block (length (body_of ls))) are fits)
+    (subst (λ ls. BodyFits chosen.block (length (body_of ls))) are fits)
     (subst (λ ls. IsPassesReport chosen.profile head.declared ls text) are reply))
     refl ends
 

@@ -8,7 +8,7 @@ use Rattle.edit_journal.specs.declared.edit.Edit.{Edit}
 use Rattle.edit_journal.specs.declared.edit.Edit.TheVariants as edit
 use Rattle.edit_journal.specs.declared.edit.Entry.{Entry}
 use Rattle.edit_journal.specs.declared.opening.Opening.{Opening}
-use Rattle.edit_journal.specs.Documents.{Block, Document, Fits, HasAnchor, after, block_of, document_of, opened_from, stamp_at, with_after, with_new, with_text, without}
+use Rattle.edit_journal.specs.Documents.{Block, Document, EditFits, HasAnchor, after, block_of, document_of, opened_from, stamp_at, with_after, blocks_with_new, with_text, blocks_without}
 use Rattle.edit_book.specs.Outlines.{MayCome}
 use Rattle.edit_book.proofs.Puts.{doc_snoc}
 use Rattle.journal_file.specs.Entries.{IsLawfulAnchor}
@@ -32,11 +32,11 @@ module _ (drawn more count now : ℕ) (higher : drawn ≤ more) (later : count �
   all_drawn [] each = tt
   all_drawn (b ∷ bs) each = (still_drawn b each.0, all_drawn bs each.1)
 
-  cut_drawn : (id : ℕ) (bs : List Block) → AllByRecursion (IsDrawn drawn count) bs → AllByRecursion (IsDrawn more now) (without id bs)
+  cut_drawn : (id : ℕ) (bs : List Block) → AllByRecursion (IsDrawn drawn count) bs → AllByRecursion (IsDrawn more now) (blocks_without id bs)
   cut_drawn id [] each = tt
   cut_drawn id (b ∷ bs) each = go (b.id == id) (cut_drawn id bs each.1)
     where
-      go : (t : Bool) → AllByRecursion (IsDrawn more now) (without id bs) → AllByRecursion (IsDrawn more now) (cond t bs (b ∷ without id bs))
+      go : (t : Bool) → AllByRecursion (IsDrawn more now) (blocks_without id bs) → AllByRecursion (IsDrawn more now) (cond t bs (b ∷ blocks_without id bs))
       go true rest = all_drawn bs each.1
       go false rest = (still_drawn b each.0, rest)
 
@@ -57,12 +57,12 @@ module _ (drawn more count now : ℕ) (higher : drawn ≤ more) (later : count �
       go true rest = (still_drawn b each.0, (fresh, all_drawn bs each.1))
       go false rest = (still_drawn b each.0, rest)
 
-  new_drawn : (anchor : Anchor) (new : Block) (bs : List Block) → IsDrawn more now new → AllByRecursion (IsDrawn drawn count) bs → AllByRecursion (IsDrawn more now) (with_new anchor new bs)
+  new_drawn : (anchor : Anchor) (new : Block) (bs : List Block) → IsDrawn more now new → AllByRecursion (IsDrawn drawn count) bs → AllByRecursion (IsDrawn more now) (blocks_with_new anchor new bs)
   new_drawn Start new bs fresh each = (fresh, all_drawn bs each)
   new_drawn (After id) new bs fresh each = after_drawn id new bs fresh each
 
 -- after one more entry
-next_drawn : (count : ℕ) (d : Document) (e : Edit) → AreDrawn count d → Fits d e → AreDrawn (count + 1) (after d (count + 1) e)
+next_drawn : (count : ℕ) (d : Document) (e : Edit) → AreDrawn count d → EditFits d e → AreDrawn (count + 1) (after d (count + 1) e)
 next_drawn count d (edit.Put block seen text) are fits = let header = are.header in let few = are.few in record {
   blocks = put_drawn d.drawn d.drawn count (count + 1) (omega arith) (omega arith) block text d.blocks are.blocks;
   header = omega (arith, header);
@@ -135,7 +135,7 @@ HasNumbers (edit.Add anchor block text) = IsLawfulAnchor anchor × (block < 2 ^ 
 HasNumbers (edit.Cut block seen) = (block < 2 ^ 32) × (seen < 2 ^ 32)
 HasNumbers (edit.Head seen names) = seen < 2 ^ 32
 
-pub numbers_fit : (count : ℕ) (d : Document) (e : Edit) → AreDrawn count d → count < 1048576 → Fits d e → HasNumbers e
+pub numbers_fit : (count : ℕ) (d : Document) (e : Edit) → AreDrawn count d → count < 1048576 → EditFits d e → HasNumbers e
 numbers_fit count d (edit.Put block seen text) are room fits = let s = stamped_drawn count d block seen are fits in let few = are.few in (omega (arith, s.0, few, room), omega (arith, s.1, room))
 numbers_fit count d (edit.Add anchor block text) are room fits = let few = are.few in let id = fits.0 in (anchor_drawn count d anchor are (omega (arith, few, room)) fits.1, omega (arith, few, room, id))
 numbers_fit count d (edit.Cut block seen) are room fits = let s = stamped_drawn count d block seen are fits in let few = are.few in (omega (arith, s.0, few, room), omega (arith, s.1, room))

@@ -10,7 +10,7 @@ use Rattle.knitout_reader.specs.declared.head.HeadFault.{HeadFault}
 use Rattle.knitout_reader.specs.declared.head.HeadFault.TheVariants as head
 use Rattle.knitout_reader.specs.Head.{IsHead, IsHeadFault}
 use Rattle.verdict_report.specs.declared.refusal.Refusal.{Refusal}
-use Rattle.input_answers.specs.Due.{Fits, IsSizeRefusal, cut_refusal, head_refusal}
+use Rattle.input_answers.specs.Due.{BodyFits, IsSizeRefusal, cut_refusal, head_refusal}
 
 good_there : (before : List (List ℕ)) (line : List ℕ) (after : List (List ℕ)) → All IsGoodLine (before ++ line ∷ after) → IsGoodLine line
 good_there before line after good =
@@ -36,6 +36,6 @@ head-not_bad lines is_head (head.ManyCarriers line) said is bad tells = let clas
 head-not_bad lines is_head head.NoMemory said is bad tells = cc
 
 -- a body that fits isn't too large
-pub fits-not_large : (size count : ℕ) (said : Refusal) → Fits size count → IsSizeRefusal size count said → ⊥
+pub fits-not_large : (size count : ℕ) (said : Refusal) → BodyFits size count → IsSizeRefusal size count said → ⊥
 fits-not_large size count said fits (inl lines) = omega (arith, fits.lines, lines.1)
 fits-not_large size count said fits (inr blocks) = omega (arith, fits.blocks, blocks.2)

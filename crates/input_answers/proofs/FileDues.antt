@@ -8,7 +8,7 @@ use Rattle.knit_base.specs.declared.profile.Profile.{Profile}
 use Rattle.knit_base.specs.Lines.{lines_of}
 use Rattle.line_cutter.specs.declared.fault.CutFault.{CutFault}
 use Rattle.line_cutter.specs.declared.fault.CutFault.TheVariants as cut
-use Rattle.line_cutter.specs.Cut.{IsFirstBad, IsFirstBadLine, IsGoodLine, IsLong, IsNotUtf8}
+use Rattle.line_cutter.specs.Cut.{IsFirstBad, IsFirstBadLine, IsGoodLine, IsLongLine, IsNotUtf8}
 use Rattle.knitout_reader.specs.declared.head.HeadFault.{HeadFault}
 use Rattle.knitout_reader.specs.declared.head.HeadFault.TheVariants as head
 use Rattle.knitout_reader.specs.Head.{IsHeadFault}
@@ -19,7 +19,7 @@ use Rattle.pass_grouping.specs.declared.operation.PassOp.{PassOp}
 use Rattle.pass_grouping.specs.declared.tally.Tally.{Tally}
 use Rattle.pass_grouping.specs.Operations.{operations_after}
 use Rattle.pass_grouping.specs.Tallies.{HasTallied}
-use Rattle.pass_grouping.specs.Told.{AreCounted, AreTold}
+use Rattle.pass_grouping.specs.Told.{AreOperationCounts, AreTold}
 use Rattle.verdict_report.specs.PassesText.{passes_text}
 use Rattle.file_run.specs.Bodies.{first_of}
 use Rattle.file_run.specs.Runs.{HasTakenAll}
@@ -59,12 +59,12 @@ bad_is_good IsBad lines number good here =
 -- none of good lines is bad
 pub none-bad : (lines : List (List ℕ)) (fault : CutFault) → All IsGoodLine lines → IsFirstBad lines fault → fault ≡ cut.NoMemory
 none-bad lines (cut.NotUtf8 number) good bad = absurd (true≢false (sym (bad_is_good IsNotUtf8 lines number good bad).utf8 ∙ bad.is_bad))
-none-bad lines (cut.LineLong number) good bad = absurd (omega (arith, (bad_is_good IsLong lines number good bad).short, bad.is_bad.long))
+none-bad lines (cut.LineLong number) good bad = absurd (omega (arith, (bad_is_good IsLongLine lines number good bad).short, bad.is_bad.long))
 none-bad lines cut.NoMemory good bad = refl
 
 -- the counts of lines that were all tallied
 pub all-counted : (profile : Profile) (names lines : List (List ℕ)) (tally : Tally) (counts : Counts) → HasTakenAll Tally HasTallied profile names lines tally
-    → ((first : ℕ) (reads : List Read) → HasTallied first reads tally → AreCounted (operations_after first [] reads) counts)
+    → ((first : ℕ) (reads : List Read) → HasTallied first reads tally → AreOperationCounts (operations_after first [] reads) counts)
     → AreCountedIn profile names lines counts
 all-counted profile names lines tally counts all tells = record {
   ops = operations_after (first_of lines) [] all.readings;

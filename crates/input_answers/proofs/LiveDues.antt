@@ -10,7 +10,7 @@ use Rattle.machine_profile.specs.declared.Chosen.{Chosen}
 use Rattle.script_reader.specs.declared.command.Script.{Script}
 use Rattle.script_reader.specs.declared.fault.Cause.{Cause}
 use Rattle.script_reader.specs.declared.fault.ScriptFault.TheVariants.{At}
-use Rattle.script_reader.specs.Script.{IsRefusal, IsScript}
+use Rattle.script_reader.specs.Script.{IsScriptRefusal, IsScript}
 use Rattle.verdict_report.specs.declared.refusal.Refusal.{Refusal}
 use Rattle.verdict_report.specs.declared.refusal.Refusal.TheVariants as refusal
 use Rattle.verdict_report.specs.Refusals.{refusal_text}
@@ -38,10 +38,10 @@ live-bad_line output chosen input answer fault said bad tells is = live-refusal 
 
 -- the first line outside the grammar of scripts
 pub live-bad_script : (output : LiveOutput) (chosen : Chosen) (input : List ℕ) (answer : Answer) (lines : List (List ℕ)) (line : ℕ) (cause : Cause) → lines ≡ lines_of input → All IsGoodLine lines
-    → IsRefusal lines (At line cause) → Refuses (refusal.BadScript line cause) status.BadInput answer → IsDueLive output chosen input answer
+    → IsScriptRefusal lines (At line cause) → Refuses (refusal.BadScript line cause) status.BadInput answer → IsDueLive output chosen input answer
 live-bad_script output chosen input answer lines line cause are good bad is =
     live-refusal output chosen input answer (refusal.BadScript line cause) status.BadInput
-    (bad_script line cause (subst (All IsGoodLine) are good) (subst (λ (ls : List (List ℕ)). IsRefusal ls (At line cause)) are bad)) is
+    (bad_script line cause (subst (All IsGoodLine) are good) (subst (λ (ls : List (List ℕ)). IsScriptRefusal ls (At line cause)) are bad)) is
 
 -- the refusal of a head
 pub live-bad_head : (output : LiveOutput) (chosen : Chosen) (input : List ℕ) (answer : Answer) (script : Script) (fault : HeadFault) (said : Refusal) → All IsGoodLine (lines_of input) → IsScript (lines_of input) script

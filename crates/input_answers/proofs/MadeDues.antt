@@ -9,7 +9,7 @@ use Rattle.verdict_report.specs.Refusals.{refusal_text}
 use Rattle.input_answers.specs.declared.outcome.Status.{Status}
 use Rattle.input_answers.specs.declared.outcome.Status.TheVariants as status
 use Rattle.file_run.specs.Bodies.{body_of}
-use Rattle.input_answers.specs.Due.{Fits, IsSizeRefusal}
+use Rattle.input_answers.specs.Due.{BodyFits, IsSizeRefusal}
 use Rattle.input_answers.specs.DueMade.{DueMade, IsMadeReport, summary, too_large}
 
 -- this text and this status are those that are due
@@ -25,9 +25,9 @@ made-large chosen rows start text result lines said are large reply =
 
 -- what is made of it
 pub made-summary : (chosen : Chosen) (rows start : ℕ) (text : List ℕ) (result : Status) (lines : List (List ℕ)) (head : Head) → lines ≡ made_lines rows start
-    → IsHead lines head → Fits chosen.block (length (body_of lines)) → IsMadeReport chosen.profile chosen.block head.declared lines text × (result ≡ status.Done)
+    → IsHead lines head → BodyFits chosen.block (length (body_of lines)) → IsMadeReport chosen.profile chosen.block head.declared lines text × (result ≡ status.Done)
     → DueMade chosen rows start text result
 made-summary chosen rows start text result lines head are is fits reply =
     made_so chosen rows start text text result status.Done
-    (summary head text (subst (λ ls. IsHead ls head) are is) (subst (λ ls. Fits chosen.block (length (body_of ls))) are fits)
+    (summary head text (subst (λ ls. IsHead ls head) are is) (subst (λ ls. BodyFits chosen.block (length (body_of ls))) are fits)
     (subst (λ ls. IsMadeReport chosen.profile chosen.block head.declared ls text) are reply.0)) (λ i. text) reply.1

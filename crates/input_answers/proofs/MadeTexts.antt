@@ -5,7 +5,7 @@ use Rattle.std.proofs.lemmas.Str.{is_utf8-from_IsUtf8}
 use Rattle.knit_base.specs.Lines.{lines_of}
 use Rattle.knit_base.proofs.FirstLine.{IsInLine, lines_of-line}
 use Rattle.knit_maker.specs.Plain.{IsPlain, IsPrinted}
-use Rattle.knit_maker.specs.Made.{ended, file_of, made_lines}
+use Rattle.knit_maker.specs.Made.{line_with_end, file_of, made_lines}
 use Rattle.knit_maker.proofs.MadeFiles.{made-plain}
 use Rattle.knit_maker.proofs.PlainLines.{plain-utf8}
 use Rattle.line_cutter.specs.Cut.{IsGoodLine}
@@ -27,7 +27,7 @@ length-ended len [] are = omega arith
 length-ended len (line ∷ lines) are =
     let first : IsPlain len line = All-head (IsPlain len) line lines are in
     let rest : length (file_of lines) ≤ (len + 1) * length lines = length-ended len lines (All-tail (IsPlain len) line lines are) in
-    omega (arith, first.short, rest, length-append (ended line) (file_of lines), length-append line (10 ∷ []))
+    omega (arith, first.short, rest, length-append (line_with_end line) (file_of lines), length-append line (10 ∷ []))
 
 good_line : (len : ℕ) (line : List ℕ) → len ≤ 4096 → IsPlain len line → IsGoodLine line
 good_line len line small is = record { utf8 = is_utf8-from_IsUtf8 line (plain-utf8 len line is); short = omega (arith, small, is.short) }

@@ -5,7 +5,7 @@ use Rattle.std.specs.Option.{option_map_or}
 use Rattle.std.specs.Str.{bytes_eq}
 use Rattle.knitout_reader.specs.Head.{names_in_line}
 use Rattle.knitout_reader.specs.Tokens.{tokens_of}
-use Rattle.script_reader.specs.Statements.{Statement, Nothing, Text, Session, Command, Header, Mark, Nonsense, command_line_of, header_said, is_skipped, is_text_line, kind_of, kind_of_words, mark_of, names_said, says_something, statements_of, text_ahead, text_or, told, told_from}
+use Rattle.script_reader.specs.Statements.{Statement, Nothing, Text, Session, Command, Header, Mark, Nonsense, command_line_of, header_said, is_skipped, is_text_line, kind_of, kind_of_words, mark_of, names_said, says_something, statements_of, text_ahead, text_or, statements_told, told_from}
 use Rattle.script_reader.proofs.Texts.{text_is_line}
 use Rattle.journal_file.specs.SavedParts.{AreGivenNames, IsShortLine}
 use Rattle.input_answers.proofs.GivenNames.{names_given}
@@ -80,7 +80,7 @@ names_fit (Some names) = tt
 
 -- what a line says, and those behind it
 record IsToldFit (wants : Bool) (line : List ℕ) (ahead : Option (List ℕ)) (rest : Bool → List Statement) (k : Kind) : Type 0 where
-  fit : AllByRecursion IsFit (told k wants line ahead rest)
+  fit : AllByRecursion IsFit (statements_told k wants line ahead rest)
 
 module _ (wants : Bool) (line : List ℕ) (ahead : Option (List ℕ)) (rest : Bool → List Statement) (there : IfSome ahead IsShortLine) (rests : (wants : Bool) → AllByRecursion IsFit (rest wants)) where
   abbrev Told : Kind → Type 0

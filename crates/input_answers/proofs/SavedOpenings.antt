@@ -16,13 +16,13 @@ use Rattle.edit_journal.specs.declared.opening.Opening.{Opening}
 use Rattle.edit_journal.specs.Documents.{lines_in, opened_from}
 use Rattle.edit_sessions.specs.Laws.{KeepsLimits}
 use Rattle.journal_file.specs.Heads.{IsWholeHead, names_in_head}
-use Rattle.edit_book.specs.Outlines.{texts_of}
-use Rattle.journal_file.specs.SavedParts.{IsFirstText, IsShortLine, numbered_from, opening_of, first_blocks}
+use Rattle.edit_book.specs.Outlines.{block_texts_of}
+use Rattle.journal_file.specs.SavedParts.{IsFirstText, IsShortLine, numbered_from, opening_of_saved, first_blocks}
 use Rattle.journal_file.proofs.HeadLaws.{names_known}
 use Rattle.input_answers.specs.Asked.{IsLawfulChosen}
 use Rattle.file_run.specs.Bodies.{body_of}
-use Rattle.input_answers.specs.Due.{Fits, blocks_of}
-use Rattle.input_answers.specs.DueLive.{AreBlocks, IsOpening}
+use Rattle.input_answers.specs.Due.{BodyFits, blocks_of}
+use Rattle.input_answers.specs.DueLive.{AreOpeningBlocks, IsScriptOpening}
 use Rattle.input_answers.proofs.Openings.{blocks-count}
 
 -- the lines with which a head goes on are all of their own head
@@ -78,14 +78,14 @@ whole_head (first ∷ lines) head is =
     }
 
 -- the first blocks
-numbered_texts : (id : ℕ) (texts : List (List (List ℕ))) → texts_of (numbered_from id texts) ≡ texts
+numbered_texts : (id : ℕ) (texts : List (List (List ℕ))) → block_texts_of (numbered_from id texts) ≡ texts
 numbered_texts id [] = refl
 numbered_texts id (text ∷ texts) = ap (λ (ts : List (List (List ℕ))). text ∷ ts) (numbered_texts (id + 1) texts)
 
-pub first_texts : (o : Opening) → texts_of (first_blocks o) ≡ o.texts
+pub first_texts : (o : Opening) → block_texts_of (first_blocks o) ≡ o.texts
 first_texts o = numbered_texts 0 o.texts
 
-pub first_numbered : (o : Opening) → first_blocks o ≡ numbered_from 0 (texts_of (first_blocks o))
+pub first_numbered : (o : Opening) → first_blocks o ≡ numbered_from 0 (block_texts_of (first_blocks o))
 first_numbered o = ap (numbered_from 0) (sym (first_texts o))
 
 block_lines : (id : ℕ) (texts : List (List (List ℕ))) → flat_map (λ (b : BlockAt). b.text) (numbered_from id texts) ≡ flat_map (λ (text : List (List ℕ)). text) texts
@@ -104,14 +104,14 @@ front_short (line ∷ front) more each = let rest = front_short front more each.
 first_text : (text : List (List ℕ)) → 1 ≤ length text → length text ≤ 4096 → AllByRecursion IsShortLine text → IsFirstText text
 first_text text some few short = record { some = some; few = few; lines = All-from_recursion IsShortLine text short }
 
-all_first : (size : ℕ) (texts : List (List (List ℕ))) → 1 ≤ size → size ≤ 4096 → AreBlocks size texts → AllByRecursion IsShortLine (flat_map (λ (text : List (List ℕ)). text) texts) → AllByRecursion IsFirstText texts
+all_first : (size : ℕ) (texts : List (List (List ℕ))) → 1 ≤ size → size ≤ 4096 → AreOpeningBlocks size texts → AllByRecursion IsShortLine (flat_map (λ (text : List (List ℕ)). text) texts) → AllByRecursion IsFirstText texts
 all_first size [] some few are short = tt
 all_first size (text ∷ []) some few are short = (first_text text (omega (arith, are.0)) (omega (arith, few, are.1)) (front_short text [] short).0, tt)
 all_first size (text ∷ next ∷ texts) some few are short =
     let parts = front_short text (flat_map (λ (text : List (List ℕ)). text) (next ∷ texts)) short in
     (first_text text (omega (arith, some, are.0)) (omega (arith, few, are.0)) parts.0, all_first size (next ∷ texts) some few are.1 parts.1)
 
-module _ (chosen : Chosen) (head : Head) (text : List (List ℕ)) (o : Opening) (lawful : IsLawfulChosen chosen) (fits : Fits chosen.block (length (body_of text))) (opens : IsOpening chosen head text o) where
+module _ (chosen : Chosen) (head : Head) (text : List (List ℕ)) (o : Opening) (lawful : IsLawfulChosen chosen) (fits : BodyFits chosen.block (length (body_of text))) (opens : IsScriptOpening chosen head text o) where
   blocks_few : length o.texts ≤ 65536
   blocks_few =
       let some = lawful.block.some in
@@ -132,7 +132,7 @@ module _ (chosen : Chosen) (head : Head) (text : List (List ℕ)) (o : Opening) 
   pub first_lines_few : length (flat_map (λ (b : BlockAt). b.text) (first_blocks o)) ≤ 1048576
   first_lines_few = omega (arith, ap length (block_lines 0 o.texts), lines_few)
 
-  pub first_fit : AllByRecursion IsShortLine text → All IsFirstText (texts_of (first_blocks o))
+  pub first_fit : AllByRecursion IsShortLine text → All IsFirstText (block_texts_of (first_blocks o))
   first_fit short =
       let behind : AllByRecursion IsShortLine (body_of text) = recursion_from_All IsShortLine (body_of text) (All-drop IsShortLine (head_len text) text (All-from_recursion IsShortLine text short)) in
       subst (All IsFirstText) (sym (first_texts o))
@@ -145,7 +145,7 @@ module _ (chosen : Chosen) (head : Head) (text : List (List ℕ)) (o : Opening) 
   profile_lawful = subst IsLawfulProfile (sym opens.profile) lawful.profile
 
   -- what was saved opens the same document
-  pub opens_again : IsHeadOf text head → opening_of (head_of text) o.setting.profile (first_blocks o) ≡ o
+  pub opens_again : IsHeadOf text head → opening_of_saved (head_of text) o.setting.profile (first_blocks o) ≡ o
   opens_again is =
       let declared : names_in_head (head_of text) ≡ o.setting.declared = is.names ∙ sym opens.declared in
       let first : length (head_of text) + 1 ≡ o.setting.first = ap (λ (n : ℕ). n + 1) is.long ∙ sym opens.first in

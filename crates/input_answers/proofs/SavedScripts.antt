@@ -8,7 +8,7 @@ use Rattle.std.proofs.lemmas.List.Sums.{count_by-le-length, length-filter}
 use Rattle.edit_journal.specs.declared.edit.Edit.{Edit}
 use Rattle.edit_journal.specs.declared.edit.Edit.TheVariants as edit
 use Rattle.edit_book.specs.Outlines.{HasShortText}
-use Rattle.edit_sessions.specs.Laws.{AsksFor, IsAskedBy}
+use Rattle.edit_sessions.specs.Laws.{AsksFor, IsEditOfScript}
 use Rattle.script_reader.specs.declared.command.Command as declared
 use Rattle.script_reader.specs.declared.command.Command.TheVariants as command
 use Rattle.script_reader.specs.declared.command.Script.{Script}
@@ -106,5 +106,5 @@ edit_fit (command.Cut name) (edit.Cut block seen) asks fit few = tt
 edit_fit c e asks fit few = absurd asks
 
 -- where a command of the script asks for it
-pub asked_fit : (cs : List declared.Command) (e : Edit) → AllByRecursion IsFitCommand cs → IsAskedBy cs e → GivesFit e
+pub asked_fit : (cs : List declared.Command) (e : Edit) → AllByRecursion IsFitCommand cs → IsEditOfScript cs e → GivesFit e
 asked_fit cs e fit asked = edit_fit asked.asking e asked.asks (at_place IsFitCommand cs asked.place asked.asking fit asked.stands) asked.short

@@ -19,8 +19,8 @@ use Rattle.script_reader.specs.declared.command.Command.{Command}
 use Rattle.turn_book.specs.Legal.{EachEntry}
 use Rattle.edit_sessions.specs.Laws.{ComesAsked, IsLegal}
 use Rattle.edit_sessions.proofs.Comings.{entries_come}
-use Rattle.journal_file.specs.SavedParts.{IsLawfulSaved, IsWritable, IsWritten, MayAllCome, opening_of, first_blocks}
-use Rattle.journal_file.specs.Spelling.{spelling}
+use Rattle.journal_file.specs.SavedParts.{IsLawfulSaved, IsWritable, IsSpelledEntry, MayAllCome, opening_of_saved, first_blocks}
+use Rattle.journal_file.specs.Spelling.{saved_spelling}
 use Rattle.journal_file.proofs.JournalReadings.{one_spelling}
 use Rattle.verdict_report.specs.LiveText.{IsFinalReport}
 use Rattle.input_answers.specs.declared.live_text.LiveOutput.TheVariants.{SavedText}
@@ -28,8 +28,8 @@ use Rattle.input_answers.specs.declared.outcome.Status.{Status}
 use Rattle.input_answers.specs.declared.outcome.Status.TheVariants.{Done}
 use Rattle.input_answers.specs.Asked.{IsLawfulChosen}
 use Rattle.file_run.specs.Bodies.{body_of}
-use Rattle.input_answers.specs.Due.{Fits}
-use Rattle.input_answers.specs.DueLive.{DueLive, HasScript, IsOpening, bad_line, bad_script, bad_head, too_large, edited}
+use Rattle.input_answers.specs.Due.{BodyFits}
+use Rattle.input_answers.specs.DueLive.{DueLive, HasScript, IsScriptOpening, bad_line, bad_script, bad_head, too_large, edited}
 use Rattle.input_answers.specs.DueReplay.{DueReplay, bad_journal, replayed}
 use Rattle.input_answers.specs.Played.{Played}
 use Rattle.input_answers.specs.SavedLaws.{TellsEnd}
@@ -47,7 +47,7 @@ writable (edit.Head seen names) numbers given = (numbers, given)
 
 module _ (o : Opening) (scripts : List (List Command)) (few : length scripts ≤ 64) (fit : AllByRecursion (AllByRecursion IsFitCommand) scripts) where
   -- an entry that comes and was asked for has a spelling
-  written : (before : List Entry) (e : Entry) → AreDrawn (length before) (document_of o before) → ComesAsked o scripts before e → IsWritten e
+  written : (before : List Entry) (e : Entry) → AreDrawn (length before) (document_of o before) → ComesAsked o scripts before e → IsSpelledEntry e
   written before e are is = record {
     session = omega (arith, slice_get_within scripts e.session is.asked.script is.asked.session, few);
     given =
@@ -55,7 +55,7 @@ module _ (o : Opening) (scripts : List (List Command)) (few : length scripts ≤
         (asked_fit is.asked.script e.edit (at_place (AllByRecursion IsFitCommand) scripts e.session is.asked.script fit is.asked.session) is.asked.asked);
   }
 
-  all_written : (before rest : List Entry) → AreDrawn (length before) (document_of o before) → EachEntry (ComesAsked o scripts) before rest → AllByRecursion IsWritten rest
+  all_written : (before rest : List Entry) → AreDrawn (length before) (document_of o before) → EachEntry (ComesAsked o scripts) before rest → AllByRecursion IsSpelledEntry rest
   all_written before [] are each = tt
   all_written before (e ∷ rest) are each = (written before e are each.0, all_written (before ++ e ∷ []) rest (drawn_behind o before e are each.0.comes) each.1)
 
@@ -64,8 +64,8 @@ module _ (o : Opening) (scripts : List (List Command)) (few : length scripts ≤
   all_come before (e ∷ rest) each = (each.0.comes, all_come (before ++ e ∷ []) rest each.1)
 
 -- the parts that are saved
-saved_lawful : (chosen : Chosen) (input : List ℕ) (played : Played) (head : Head) (o : Opening) → IsLawfulChosen chosen → length input ≤ 16777216 → HasScript input played.script head → Fits chosen.block (length (body_of played.script.text))
-    → IsOpening chosen head played.script.text o → IsLegal o played.script.sessions played.entries played.replies → IsLawfulSaved (head_of played.script.text) o.setting.profile (first_blocks o) played.entries
+saved_lawful : (chosen : Chosen) (input : List ℕ) (played : Played) (head : Head) (o : Opening) → IsLawfulChosen chosen → length input ≤ 16777216 → HasScript input played.script head → BodyFits chosen.block (length (body_of played.script.text))
+    → IsScriptOpening chosen head played.script.text o → IsLegal o played.script.sessions played.entries played.replies → IsLawfulSaved (head_of played.script.text) o.setting.profile (first_blocks o) played.entries
 saved_lawful chosen input played head o lawful short has fits opens legal =
     let script = script_fit (lines_of input) played.script (short_lines input has.good) has.spelt in
     let few = few_sessions (lines_of input) played.script has.spelt in
@@ -83,7 +83,7 @@ saved_lawful chosen input played head o lawful short has fits opens legal =
         blocks_few = first_few chosen head played.script.text o lawful fits opens;
         lines_few = first_lines_few chosen head played.script.text o lawful fits opens;
         texts = first_fit chosen head played.script.text o lawful fits opens script.text;
-        written = All-from_recursion IsWritten played.entries (all_written o played.script.sessions few script.sessions [] played.entries (drawn_first o blocks) each);
+        written = All-from_recursion IsSpelledEntry played.entries (all_written o played.script.sessions few script.sessions [] played.entries (drawn_first o blocks) each);
       };
       come =
           subst (λ (x : Opening). MayAllCome x [] played.entries) (sym (opens_again chosen head played.script.text o lawful fits opens is))
@@ -91,12 +91,12 @@ saved_lawful chosen input played head o lawful short has fits opens legal =
     }
 
 -- a replay of parts that a saved text may tell
-read_back : (text said : List ℕ) (ends : Status) (head : List (List ℕ)) (profile : Profile) (blocks : List BlockAt) (entries : List Entry) → IsLawfulSaved head profile blocks entries → text ≡ spelling head profile blocks entries
-    → DueReplay text said ends → (ends ≡ Done) × IsFinalReport (opening_of head profile blocks) entries said
+read_back : (text said : List ℕ) (ends : Status) (head : List (List ℕ)) (profile : Profile) (blocks : List BlockAt) (entries : List Entry) → IsLawfulSaved head profile blocks entries → text ≡ saved_spelling head profile blocks entries
+    → DueReplay text said ends → (ends ≡ Done) × IsFinalReport (opening_of_saved head profile blocks) entries said
 read_back text said ends head profile blocks entries lawful spelt (bad_journal line cause bad none) = absurd (none head profile blocks entries lawful spelt)
 read_back text said ends head profile blocks entries lawful spelt (replayed head' profile' blocks' entries' said' saved report) =
     let same = one_spelling text head' profile' blocks' entries' saved.lawful saved.spelt head profile blocks entries lawful spelt in
-    (refl, subst (λ (p : Opening × List Entry). IsFinalReport p.0 p.1 said') (λ i. (opening_of (same.0 i) (same.1 i) (same.2 i), same.3 i)) report)
+    (refl, subst (λ (p : Opening × List Entry). IsFinalReport p.0 p.1 said') (λ i. (opening_of_saved (same.0 i) (same.1 i) (same.2 i), same.3 i)) report)
 
 pub saves_replay : (chosen : Chosen) (input : List ℕ) (played : Played) (text : List ℕ) (written_as : Status) → IsLawfulChosen chosen → length input ≤ 16777216 → written_as ≡ Done → DueLive SavedText chosen input played text written_as
     → (said : List ℕ) (ends : Status) → DueReplay text said ends → (ends ≡ Done) × TellsEnd chosen played said

@@ -3,23 +3,23 @@ use Rattle.std.specs.Prelude.{◌≡◌, Bool, true, false, List, ℕ, None, Som
 use Rattle.knit_base.specs.Limits.{IsLawfulProfile}
 use Rattle.machine_profile.specs.declared.Chosen.{Chosen}
 use Rattle.machine_profile.specs.declared.Which.{Which}
-use Rattle.machine_profile.specs.Bounds.{refused, IsBlockSize, IsChosen}
+use Rattle.machine_profile.specs.Bounds.{refused_option, IsBlockSize, IsChosen}
 use Rattle.command_words.specs.declared.command.Command.{Command}
 use Rattle.command_words.specs.declared.command.Command.TheVariants.{Check, Text, Passes, Live, Save, Groups, Serve, Replay, Tally, Make}
 use Rattle.command_words.specs.declared.command.Request.{Request}
-use Rattle.command_words.specs.Request.{request_of}
+use Rattle.command_words.specs.Request.{words_request}
 
 -- the words are in the grammar and ask for this command, and these are the limits that its options choose
-pub record Ask (words : List (List ℕ)) (command : Command) (chosen : Chosen) : Type 0 where
+pub record AsksCommand (words : List (List ℕ)) (command : Command) (chosen : Chosen) : Type 0 where
   pub request : Request
-  pub in_grammar : request_of words ≡ Some request
+  pub in_grammar : words_request words ≡ Some request
   pub commands : request.command ≡ command
-  pub within : refused request.options ≡ None
+  pub within : refused_option request.options ≡ None
   pub values : IsChosen request.options chosen
 
 -- the words are in the grammar and say how many lines a block has
 abbrev pub chooses_block : List (List ℕ) → Bool
-chooses_block words = is_some (option_and_then (λ (r : Request). r.options.block) (request_of words))
+chooses_block words = is_some (option_and_then (λ (r : Request). r.options.block) (words_request words))
 
 -- the commands that read a knitout file
 abbrev pub reads_file : Command → Bool
@@ -75,8 +75,8 @@ reads_input (Make rows start) = false
 
 -- the words are outside the grammar, or one of their options is outside its bounds
 pub data AreRefused (words : List (List ℕ)) : Type 0 where
-  outside : request_of words ≡ None → AreRefused words
-  out_of_bounds : (request : Request) (which : Which) → request_of words ≡ Some request → refused request.options ≡ Some which → AreRefused words
+  outside : words_request words ≡ None → AreRefused words
+  out_of_bounds : (request : Request) (which : Which) → words_request words ≡ Some request → refused_option request.options ≡ Some which → AreRefused words
 
 -- the limits lie within the bounds of the project
 pub record IsLawfulChosen (chosen : Chosen) : Type 0 where

@@ -46,7 +46,7 @@ pub record HasHead (input : List ℕ) (head : Head) : Type 0 where
   pub head_is : IsHead (lines_of input) head
 
 -- so many body lines are at most 1,048,576, in at most 65,536 blocks of this size
-pub record Fits (size count : ℕ) : Type 0 where
+pub record BodyFits (size count : ℕ) : Type 0 where
   pub lines : count ≤ 1048576
   pub blocks : blocks_of size count ≤ 65536
 
@@ -83,17 +83,17 @@ pub data Due (command : Command) (chosen : Chosen) (input : List ℕ) : List ℕ
       → Due command chosen input (refusal_text said) status.TooLarge
   -- the verdict on the program
   judged : (loops json : Bool) (head : Head) (text : List ℕ) (result : Status)
-      → command ≡ Check loops json → HasHead input head → Fits chosen.block (length (body_of (lines_of input)))
+      → command ≡ Check loops json → HasHead input head → BodyFits chosen.block (length (body_of (lines_of input)))
       → IsCheckReport chosen.profile loops json head.declared (lines_of input) text result
       → Due command chosen input text result
   -- the canonical text of the file
   canonical : (head : Head) (text : List ℕ) → command ≡ Text → HasHead input head → IsCanonicalText chosen.profile head (lines_of input) text
       → Due command chosen input text status.Done
   -- the program breaks a rule and has no passes: its verdict
-  broken : (head : Head) (text : List ℕ) → command ≡ Passes → HasHead input head → Fits chosen.block (length (body_of (lines_of input)))
+  broken : (head : Head) (text : List ℕ) → command ≡ Passes → HasHead input head → BodyFits chosen.block (length (body_of (lines_of input)))
       → IsCheckReport chosen.profile false false head.declared (lines_of input) text status.Broken
       → Due command chosen input text status.Broken
   -- the passes of a sound program
-  grouped : (head : Head) (text : List ℕ) → command ≡ Passes → HasHead input head → Fits chosen.block (length (body_of (lines_of input)))
+  grouped : (head : Head) (text : List ℕ) → command ≡ Passes → HasHead input head → BodyFits chosen.block (length (body_of (lines_of input)))
       → IsPassesReport chosen.profile head.declared (lines_of input) text
       → Due command chosen input text status.Done

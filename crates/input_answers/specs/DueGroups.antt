@@ -12,7 +12,7 @@ use Rattle.script_reader.specs.declared.fault.Cause.{Cause}
 use Rattle.script_reader.specs.declared.fault.ScriptFault.TheVariants.{At}
 use Rattle.script_reader.specs.declared.step.GroupScript.{GroupScript}
 use Rattle.script_reader.specs.Groups.{IsGroupRefusal, IsGroupScript}
-use Rattle.edit_groups.specs.Chunks.{entries_of}
+use Rattle.edit_groups.specs.Chunks.{entries_of_chunks}
 use Rattle.edit_groups.specs.Sessions.{IsLegalRun}
 use Rattle.verdict_report.specs.declared.refusal.Refusal.{Refusal}
 use Rattle.verdict_report.specs.declared.refusal.Refusal.TheVariants as refusal
@@ -21,8 +21,8 @@ use Rattle.input_answers.specs.declared.outcome.GroupOutcome.{GroupOutcome}
 use Rattle.input_answers.specs.declared.outcome.Status.{Status}
 use Rattle.input_answers.specs.declared.outcome.Status.TheVariants as status
 use Rattle.file_run.specs.Bodies.{body_of}
-use Rattle.input_answers.specs.Due.{Fits, IsSizeRefusal, cut_refusal, head_refusal}
-use Rattle.input_answers.specs.DueLive.{IsOpening}
+use Rattle.input_answers.specs.Due.{BodyFits, IsSizeRefusal, cut_refusal, head_refusal}
+use Rattle.input_answers.specs.DueLive.{IsScriptOpening}
 use Rattle.reply_report.specs.GroupsText.{IsGroupsReport}
 use Rattle.input_answers.specs.Played.{Played, groups_played, nothing_played}
 
@@ -49,6 +49,6 @@ pub data DueGroups (chosen : Chosen) (input : List ℕ) : Played → List ℕ �
   -- The sessions of the script edited the document: the steps that were accepted and the replies are one legal run, and the text tells them, with
   -- the verdict on the document at its end.
   edited : (head : Head) (opening : Opening) (did : GroupOutcome) (text : List ℕ) → HasGroupScript input did.script head
-      → Fits chosen.block (length (body_of did.script.text)) → IsOpening chosen head did.script.text opening
-      → IsLegalRun opening did.script.sessions did.chunks did.replies → IsGroupsReport opening (entries_of did.chunks) did.replies text
+      → BodyFits chosen.block (length (body_of did.script.text)) → IsScriptOpening chosen head did.script.text opening
+      → IsLegalRun opening did.script.sessions did.chunks did.replies → IsGroupsReport opening (entries_of_chunks did.chunks) did.replies text
       → DueGroups chosen input (groups_played did) text status.Done

@@ -15,7 +15,7 @@ use Rattle.verdict_report.specs.Refusals.{refusal_text}
 use Rattle.input_answers.specs.declared.outcome.Status.{Status}
 use Rattle.input_answers.specs.declared.outcome.Status.TheVariants as status
 use Rattle.file_run.specs.Bodies.{IsJudged, body_of}
-use Rattle.input_answers.specs.Due.{Fits, IsSizeRefusal, blocks_of}
+use Rattle.input_answers.specs.Due.{BodyFits, IsSizeRefusal, blocks_of}
 use Rattle.input_answers.specs.PassesReport.{AreFewest, AreOperations}
 
 -- the text says how many lines and blocks there are, what one carriage makes of them, and how many passes, operations and windows there are
@@ -35,5 +35,5 @@ pub data DueMade (chosen : Chosen) (rows start : ℕ) : List ℕ → Status → 
   -- its body has too many lines, or else too many blocks
   too_large : (said : Refusal) → IsSizeRefusal chosen.block (length (body_of (made_lines rows start))) said → DueMade chosen rows start (refusal_text said) status.TooLarge
   -- what is made of it
-  summary : (head : Head) (text : List ℕ) → IsHead (made_lines rows start) head → Fits chosen.block (length (body_of (made_lines rows start)))
+  summary : (head : Head) (text : List ℕ) → IsHead (made_lines rows start) head → BodyFits chosen.block (length (body_of (made_lines rows start)))
       → IsMadeReport chosen.profile chosen.block head.declared (made_lines rows start) text → DueMade chosen rows start text status.Done

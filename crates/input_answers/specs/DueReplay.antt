@@ -7,8 +7,8 @@ use Rattle.journal_file.specs.declared.fault.JournalCause.{JournalCause}
 use Rattle.journal_file.specs.declared.fault.JournalCause.TheVariants.{BadLine, NoFit}
 use Rattle.journal_file.specs.declared.fault.JournalFault.TheVariants.{At}
 use Rattle.journal_file.specs.Faults.{HasNoSpelling, IsBadJournal}
-use Rattle.journal_file.specs.SavedParts.{IsLawfulSaved, opening_of}
-use Rattle.journal_file.specs.Spelling.{spelling}
+use Rattle.journal_file.specs.SavedParts.{IsLawfulSaved, opening_of_saved}
+use Rattle.journal_file.specs.Spelling.{saved_spelling}
 use Rattle.verdict_report.specs.declared.refusal.Refusal.{Refusal}
 use Rattle.verdict_report.specs.declared.refusal.Refusal.TheVariants as refusal
 use Rattle.verdict_report.specs.LiveText.{IsFinalReport}
@@ -18,7 +18,7 @@ use Rattle.input_answers.specs.declared.outcome.Status.TheVariants as status
 
 -- the input is the spelling of these parts, which are lawful
 pub record IsSaved (input : List ℕ) (head : List (List ℕ)) (profile : Profile) (blocks : List BlockAt) (entries : List Entry) : Type 0 where
-  pub spelt : input ≡ spelling head profile blocks entries
+  pub spelt : input ≡ saved_spelling head profile blocks entries
   pub lawful : IsLawfulSaved head profile blocks entries
 
 -- what is said of the first bad line
@@ -32,4 +32,4 @@ pub data DueReplay (input : List ℕ) : List ℕ → Status → Type 0 where
   bad_journal : (line : ℕ) (cause : JournalCause) → IsBadJournal input (At line cause) → HasNoSpelling input → DueReplay input (refusal_text (journal_refusal line cause)) status.BadInput
   -- the input is a saved text: the version at its end, and the verdict on the document there
   replayed : (head : List (List ℕ)) (profile : Profile) (blocks : List BlockAt) (entries : List Entry) (text : List ℕ) → IsSaved input head profile blocks entries
-      → IsFinalReport (opening_of head profile blocks) entries text → DueReplay input text status.Done
+      → IsFinalReport (opening_of_saved head profile blocks) entries text → DueReplay input text status.Done

@@ -6,9 +6,9 @@ use Rattle.edit_journal.specs.declared.edit.Entry.{Entry}
 use Rattle.journal_file.specs.declared.fault.JournalCause.{JournalCause}
 use Rattle.journal_file.specs.declared.fault.JournalFault.TheVariants.{At}
 use Rattle.journal_file.specs.Faults.{HasNoSpelling, IsBadJournal}
-use Rattle.journal_file.specs.SavedParts.{opening_of}
+use Rattle.journal_file.specs.SavedParts.{opening_of_saved}
 use Rattle.tally_tree.specs.Docs.{DocView, HasBlocks, IsRange, setting_now}
-use Rattle.tally_tree.specs.Tallies.{Counted}
+use Rattle.tally_tree.specs.Tallies.{TallyCounts}
 use Rattle.verdict_report.specs.declared.refusal.Refusal.TheVariants as refusal
 use Rattle.verdict_report.specs.Refusals.{refusal_text}
 use Rattle.input_answers.specs.declared.outcome.Status.{Status}
@@ -18,14 +18,14 @@ use Rattle.reply_report.specs.TallyText.{tally_text}
 
 -- the document at the end of a saved text
 abbrev pub saved_doc : List (List ℕ) → Profile → List BlockAt → List Entry → DocView
-saved_doc head profile blocks entries = record { opening = opening_of head profile blocks; entries = entries }
+saved_doc head profile blocks entries = record { opening = opening_of_saved head profile blocks; entries = entries }
 
 -- the text and the status that are due for the blocks of a document from one place to another
 pub data IsDueRange (doc : DocView) (from to : ℕ) : List ℕ → Status → Type 0 where
   -- it has no such blocks, or the places stand in the wrong order
   bad_range : (HasBlocks doc from to → ⊥) → IsDueRange doc from to (refusal_text refusal.BadRange) status.BadInput
   -- what their lines come to
-  tallied : (v : Counted) → HasBlocks doc from to → IsRange doc from to v → IsDueRange doc from to (tally_text from to (setting_now doc).declared v) status.Done
+  tallied : (v : TallyCounts) → HasBlocks doc from to → IsRange doc from to v → IsDueRange doc from to (tally_text from to (setting_now doc).declared v) status.Done
 
 -- the text and the status that are due for this input, of whose last version the blocks from one place to another are asked for
 pub data DueTally (from to : ℕ) (input : List ℕ) : List ℕ → Status → Type 0 where

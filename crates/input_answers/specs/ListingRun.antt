@@ -8,13 +8,13 @@ use Rattle.pass_grouping.specs.declared.operation.PassOp.{PassOp}
 use Rattle.pass_grouping.specs.declared.certificate.Window.{Window}
 use Rattle.pass_grouping.specs.declared.growing.Counts.{Counts}
 use Rattle.pass_grouping.specs.Listings.{HasListed}
-use Rattle.pass_grouping.specs.Told.{AreCounted}
+use Rattle.pass_grouping.specs.Told.{AreOperationCounts}
 use Rattle.verdict_report.specs.PassesText.{passes_text}
-use Rattle.file_run.specs.Runs.{Taking}
+use Rattle.file_run.specs.Runs.{TakingReads}
 use Rattle.input_answers.specs.PassesReport.{AreFewest, AreOperations}
 
 -- a value took what this line says as one more of the readings that it had taken
-pub record TakesLine (T : Type 0) (Has : Taking T) (profile : Profile) (names : List (List ℕ)) (line : List ℕ) (old new : T) : Type 0 where
+pub record TakesLine (T : Type 0) (Has : TakingReads T) (profile : Profile) (names : List (List ℕ)) (line : List ℕ) (old new : T) : Type 0 where
   pub reading : Read
   pub read : ReadsAs profile names line reading
   pub taken : (first : ℕ) (before : List Read) → Has first before old → Has first (before ++ reading ∷ []) new
@@ -27,7 +27,7 @@ ListsLine = TakesLine Listing HasListed
 pub record AreCountedIn (profile : Profile) (names lines : List (List ℕ)) (counts : Counts) : Type 0 where
   pub ops : List PassOp
   pub listed : AreOperations profile names lines ops
-  pub counted : AreCounted ops counts
+  pub counted : AreOperationCounts ops counts
 
 -- the text reports the fewest passes of these operations
 pub record ReportsPasses (names : List (List ℕ)) (ops : List PassOp) (text : List ℕ) : Type 0 where

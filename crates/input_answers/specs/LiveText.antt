@@ -6,7 +6,7 @@ use Rattle.edit_journal.specs.declared.edit.Entry.{Entry}
 use Rattle.edit_journal.specs.declared.opening.Opening.{Opening}
 use Rattle.edit_book.specs.declared.reply.Reply.{Reply}
 use Rattle.journal_file.specs.SavedParts.{first_blocks}
-use Rattle.journal_file.specs.Spelling.{spelling}
+use Rattle.journal_file.specs.Spelling.{saved_spelling}
 use Rattle.verdict_report.specs.LiveText.{IsLiveReport}
 use Rattle.input_answers.specs.declared.live_text.LiveOutput.{LiveOutput}
 use Rattle.input_answers.specs.declared.live_text.LiveOutput.TheVariants.{Report, SavedText}
@@ -17,6 +17,6 @@ output_of Save = SavedText
 output_of _ = Report
 
 -- The report of the replies, of the journal and of the verdict at its end; or the spelling of the head, of what the document began with, and of the journal.
-abbrev pub IsTold : LiveOutput → List (List ℕ) → Opening → List Entry → List (List Reply) → List ℕ → Type 0
-IsTold Report head opening entries replies text = IsLiveReport opening entries replies text
-IsTold SavedText head opening entries replies text = text ≡ spelling head opening.setting.profile (first_blocks opening) entries
+abbrev pub IsLiveText : LiveOutput → List (List ℕ) → Opening → List Entry → List (List Reply) → List ℕ → Type 0
+IsLiveText Report head opening entries replies text = IsLiveReport opening entries replies text
+IsLiveText SavedText head opening entries replies text = text ≡ saved_spelling head opening.setting.profile (first_blocks opening) entries

@@ -2,7 +2,7 @@
 use Rattle.std.specs.Prelude.{◌≡◌, ℕ, ◌<◌, ◌≤◌, List, [], ◌∷◌, length, map, slice_range}
 use Rattle.std.specs.List.{flat_map}
 use Rattle.block_summary.specs.declared.prepared.Prepared.{Prepared}
-use Rattle.input_answers.specs.DueLive.{AreBlocks}
+use Rattle.input_answers.specs.DueLive.{AreOpeningBlocks}
 
 abbrev pub texts_of : List Prepared → List (List (List ℕ))
 texts_of blocks = map (λ (block : Prepared). block.text) blocks
@@ -17,5 +17,5 @@ pub record IsCut (size : ℕ) (text : List (List ℕ)) (from to : ℕ) (texts : 
   pub ordered : from ≤ to
   pub inside : to ≤ length text
   pub lines : flat_map (λ (lines : List (List ℕ)). lines) texts ≡ slice_range text from to
-  pub sizes : AreBlocks size texts
+  pub sizes : AreOpeningBlocks size texts
   pub full : to < length text → AreFull size texts

@@ -9,7 +9,7 @@ use Rattle.input_answers.specs.declared.live_text.LiveOutput.TheVariants.{SavedT
 use Rattle.input_answers.specs.declared.outcome.Status.{Status}
 use Rattle.input_answers.specs.declared.outcome.Status.TheVariants.{Done}
 use Rattle.input_answers.specs.Asked.{IsLawfulChosen}
-use Rattle.input_answers.specs.DueLive.{DueLive, IsOpening}
+use Rattle.input_answers.specs.DueLive.{DueLive, IsScriptOpening}
 use Rattle.input_answers.specs.DueReplay.{DueReplay}
 use Rattle.input_answers.specs.Played.{Played}
 
@@ -18,7 +18,7 @@ pub record TellsEnd (chosen : Chosen) (played : Played) (text : List ℕ) : Type
   pub opening : Opening
   pub head : Head
   pub has_head : IsHead played.script.text head
-  pub opens : IsOpening chosen head played.script.text opening
+  pub opens : IsScriptOpening chosen head played.script.text opening
   pub reported : IsFinalReport opening played.entries text
 
 -- a replay of what `save` wrote ends well, and tells the verdict at the end of that journal

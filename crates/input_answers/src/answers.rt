@@ -4,7 +4,7 @@ ghost use Rattle.knit_base.specs.Lines.{lines_of};
 ghost use Rattle.line_cutter.specs.Cut.{IsGoodLine};
 ghost use Rattle.machine_profile.specs.Bounds.{IsBlockSize};
 ghost use Rattle.input_answers.specs.Asked.{reads_file};
-ghost use Rattle.input_answers.specs.Due.{Due, Fits, IsSizeRefusal, checks_body, cut_refusal, head_refusal};
+ghost use Rattle.input_answers.specs.Due.{Due, BodyFits, IsSizeRefusal, checks_body, cut_refusal, head_refusal};
 
 use crate::body::Body;
 use crate::ending::Ending;
@@ -125,7 +125,7 @@ fn passes<R: Threads + Sync>(
 /// What is said of a body with so many lines, where these are too many, or too many blocks of this size.
 pub fn refusal_of_size(lines: u32, block: u32) -> Option<Refusal>
     requires { IsBlockSize block }
-    ensures { MatchOption result (Fits block lines) (λ refusal. IsSizeRefusal block lines refusal) }
+    ensures { MatchOption result (BodyFits block lines) (λ refusal. IsSizeRefusal block lines refusal) }
 {
     if lines > BODY_LIMIT {
         return Some(Refusal::TooManyLines);

@@ -10,7 +10,7 @@ ghost use Rattle.edit_book.specs.Verdicts.{setting_of};
 ghost use Rattle.file_run.specs.Judgements.{IsJudgement, IsJudgementOn};
 ghost use Rattle.input_answers.specs.BookLoops.{AreLoopsOn};
 ghost use Rattle.file_run.specs.Bodies.{body_of};
-ghost use Rattle.input_answers.specs.Due.{Fits};
+ghost use Rattle.input_answers.specs.Due.{BodyFits};
 
 use crate::body::Body;
 use crate::opening::open;
@@ -32,7 +32,7 @@ pub fn judge_by_book<R: Threads + Sync>(
     plan: &Plan,
     body: &Body,
 ) -> Result<Judgement, NoMemory>
-    requires { Fits plan.now.chosen.block (length (body_of body.now.lines)) }
+    requires { BodyFits plan.now.chosen.block (length (body_of body.now.lines)) }
     ensures { IfOk result (IsJudgement with_loops plan.now.chosen.profile body.now.head.declared body.now.lines) }
 {
     judge_counted::<Brand, R>(rt, Blank::new(1), alloc, with_loops, plan, body)
@@ -50,7 +50,7 @@ fn judge_counted<L: Ledger, R: Threads + Sync>(
     requires name { blank.name ≡ L.name }
     requires parts { blank.parts ≡ L.parts }
     requires some { 0 < L.parts }
-    requires fits { Fits plan.now.chosen.block (length (body_of body.now.lines)) }
+    requires fits { BodyFits plan.now.chosen.block (length (body_of body.now.lines)) }
     ensures { IfOk result (IsJudgement with_loops plan.now.chosen.profile body.now.head.declared body.now.lines) }
 {
     let mut steps = Steps::<L>::start(rt, blank);

@@ -7,17 +7,17 @@ ghost use Rattle.knit_base.specs.Lines.{lines_of};
 ghost use Rattle.line_cutter.specs.Cut.{IsGoodLine};
 ghost use Rattle.knitout_reader.specs.Head.{IsHead};
 ghost use Rattle.script_reader.specs.Groups.{IsGroupRefusal, IsGroupScript, is_lawful_step};
-ghost use Rattle.edit_groups.specs.Chunks.{entries_of};
+ghost use Rattle.edit_groups.specs.Chunks.{entries_of_chunks};
 ghost use Rattle.edit_groups.specs.Sessions.{IsLegalRun};
 ghost use Rattle.input_answers.specs.Answers.{IsDueGroups};
 ghost use Rattle.file_run.specs.Bodies.{body_of};
-ghost use Rattle.input_answers.specs.Due.{Fits};
+ghost use Rattle.input_answers.specs.Due.{BodyFits};
 ghost use Rattle.input_answers.specs.DueGroups.{HasGroupScript};
 
 use crate::answers::{refusal_of_head, refusal_of_lines, refusal_of_size};
 use crate::ending::Answer;
 use crate::live::body_len;
-use crate::opening::{Opened, open};
+use crate::opening::{OpenedBook, open};
 use crate::outcome::{GroupOutcome, Outcome, Status};
 use crate::plan::Plan;
 use edit_book::Book;
@@ -136,7 +136,7 @@ fn carry_out<L: Ledger, R: Threads + Wait + Sync, G: Gate + Sync>(
     requires parts { blank.parts ≡ L.parts }
     requires some { 0 < L.parts }
     requires head { IsHead script.text head.now }
-    requires fits { Fits plan.now.chosen.block (length (body_of script.text)) }
+    requires fits { BodyFits plan.now.chosen.block (length (body_of script.text)) }
     requires few { length script.sessions ≤ 64 }
     requires steps { list_all (list_all is_lawful_step) script.sessions ≡ true }
     ensures { IfOk result (λ answer. (input : List ℕ) → HasGroupScript input script head.now → IsDueGroups plan.now.chosen input answer) }
@@ -159,7 +159,7 @@ fn play<R: Threads + Wait + Sync, G: Gate + Sync>(
     rt: &R,
     alloc: Global,
     sessions: &StepScripts,
-    opened: Opened,
+    opened: OpenedBook,
     gate: &G,
 ) -> Result<(Book, ChunkList, GroupReplies), NoMemory>
     requires profile { IsLawfulProfile opened.book.opening.setting.profile }
@@ -168,10 +168,10 @@ fn play<R: Threads + Wait + Sync, G: Gate + Sync>(
     requires few { length sessions.now ≤ 64 }
     requires steps { list_all (list_all is_lawful_step) sessions.now ≡ true }
     ensures opening { IfOk result (λ played. played.0.opening ≡ opened.book.opening) }
-    ensures entries { IfOk result (λ played. played.0.entries ≡ entries_of played.1) }
+    ensures entries { IfOk result (λ played. played.0.entries ≡ entries_of_chunks played.1) }
     ensures legal { IfOk result (λ played. IsLegalRun opened.book.opening sessions.now played.1 played.2) }
 {
-    let Opened { book, blocks } = opened;
+    let OpenedBook { book, blocks } = opened;
     let numbers = sessions.len();
     if numbers == 0 {
         return Ok((book, ListOf::new(alloc), GroupReplies::of(Vec::new(alloc))));

@@ -3,7 +3,7 @@ ghost use Rattle.std.specs.Prelude.{◌≡◌, length, IfOk};
 ghost use Rattle.block_summary.specs.Verdicts.{broken_line, numbered_line};
 ghost use Rattle.file_run.specs.Bodies.{body_of};
 ghost use Rattle.input_answers.specs.CheckReport.{IsCheckReport, report_of, status_of};
-ghost use Rattle.input_answers.specs.Due.{Fits};
+ghost use Rattle.input_answers.specs.Due.{BodyFits};
 
 use crate::body::Body;
 use crate::by_book::judge_by_book;
@@ -32,7 +32,7 @@ pub fn judge<R: Threads + Sync>(
     plan: &Plan,
     body: &Body,
 ) -> Result<Ending, NoMemory>
-    requires { Fits plan.now.chosen.block (length (body_of body.now.lines)) }
+    requires { BodyFits plan.now.chosen.block (length (body_of body.now.lines)) }
     ensures { IfOk result (λ ending. IsCheckReport plan.now.chosen.profile style.loops style.json body.now.head.declared body.now.lines
         ending.text.items ending.status) }
 {

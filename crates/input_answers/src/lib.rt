@@ -37,7 +37,7 @@ pub use judge::Style;
 pub use live::answer_live;
 pub use live_text::LiveOutput;
 pub use made::answer_made;
-pub use opening::{Opened, open};
+pub use opening::{OpenedBook, open};
 pub use outcome::{GroupOutcome, Outcome, Status};
 pub use plan::{Plan, PlanFault, plan_of, reads_file};
 pub use replay::{answer_replay, refusal_of_journal, saved_in};

@@ -5,18 +5,18 @@ ghost use Rattle.knit_base.specs.Limits.{IsLawfulProfile};
 ghost use Rattle.knit_base.specs.Lines.{lines_of};
 ghost use Rattle.line_cutter.specs.Cut.{IsGoodLine};
 ghost use Rattle.knitout_reader.specs.Head.{IsHead};
-ghost use Rattle.script_reader.specs.Script.{IsRefusal, IsScript};
+ghost use Rattle.script_reader.specs.Script.{IsScriptRefusal, IsScript};
 ghost use Rattle.edit_sessions.specs.Laws.{IsLegal};
 ghost use Rattle.input_answers.specs.Answers.{IsDueLive};
 ghost use Rattle.file_run.specs.Bodies.{body_of};
-ghost use Rattle.input_answers.specs.Due.{Fits};
+ghost use Rattle.input_answers.specs.Due.{BodyFits};
 ghost use Rattle.input_answers.specs.DueLive.{HasScript};
 ghost use Rattle.input_answers.specs.LiveText.{output_of};
 
 use crate::answers::{refusal_of_head, refusal_of_lines, refusal_of_size};
 use crate::ending::Answer;
 use crate::live_text::{output_of, told_of};
-use crate::opening::{Opened, open};
+use crate::opening::{OpenedBook, open};
 use crate::outcome::{Outcome, Status};
 use crate::plan::Plan;
 use edit_book::{Book, Replies};
@@ -74,7 +74,7 @@ fn answer_lines<R: Threads + Wait + Sync, G: Gate + Sync>(
 // The script that the lines spell, whose texts share the input's bytes. The places of the lines are let go before a session begins.
 fn script_of(alloc: Global, lines: Lines) -> Result<Script, ScriptFault>
     ensures script { IfOk result (IsScript lines) }
-    ensures fault { IfErr result (IsRefusal lines) }
+    ensures fault { IfErr result (IsScriptRefusal lines) }
 {
     let lines = lines.into_shared()?;
     read_script(alloc, &lines)
@@ -140,7 +140,7 @@ fn carry_out<L: Ledger, R: Threads + Wait + Sync, G: Gate + Sync>(
     requires parts { blank.parts ≡ L.parts }
     requires some { 0 < L.parts }
     requires head { IsHead script.text head.now }
-    requires fits { Fits plan.now.chosen.block (length (body_of script.text)) }
+    requires fits { BodyFits plan.now.chosen.block (length (body_of script.text)) }
     requires few { length script.sessions ≤ 64 }
     ensures { IfOk result (λ answer. (input : List ℕ) → HasScript input script head.now → IsDueLive (output_of plan.now.command) plan.now.chosen input answer) }
 {
@@ -170,7 +170,7 @@ fn play<R: Threads + Wait + Sync, G: Gate + Sync>(
     rt: &R,
     alloc: Global,
     sessions: &SessionScripts,
-    opened: Opened,
+    opened: OpenedBook,
     gate: &G,
 ) -> Result<(Book, Replies), NoMemory>
     requires profile { IsLawfulProfile opened.book.opening.setting.profile }
@@ -180,7 +180,7 @@ fn play<R: Threads + Wait + Sync, G: Gate + Sync>(
     ensures opening { IfOk result (λ played. played.0.opening ≡ opened.book.opening) }
     ensures legal { IfOk result (λ played. IsLegal opened.book.opening sessions.now played.0.entries played.1) }
 {
-    let Opened { book, blocks } = opened;
+    let OpenedBook { book, blocks } = opened;
     let numbers = sessions.len();
     if numbers == 0 {
         return Ok((book, Replies::of(Vec::new(alloc))));

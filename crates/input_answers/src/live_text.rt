@@ -1,8 +1,8 @@
 //! What is written when the sessions of a script have ended: the report, or the document's beginning and its journal, to be kept.
 ghost use Rattle.std.specs.Prelude.{◌≡◌, ◌+◌, ◌≤◌, ◌-◌, length, take, IfOk};
-ghost use Rattle.journal_file.specs.Spelling.{spelling};
+ghost use Rattle.journal_file.specs.Spelling.{saved_spelling};
 ghost use Rattle.journal_file.specs.SavedParts.{first_blocks};
-ghost use Rattle.input_answers.specs.LiveText.{IsTold, output_of};
+ghost use Rattle.input_answers.specs.LiveText.{IsLiveText, output_of};
 
 use command_words::Command;
 use edit_book::{Book, Replies};
@@ -43,7 +43,7 @@ pub(crate) fn told_of<L: Ledger>(
 ) -> Result<(Vec<u8>, Journal), NoMemory>
     requires first { 1 ≤ book.opening.setting.first }
     requires head { book.opening.setting.first ≤ length text.now + 1 }
-    ensures text { IfOk result (λ told. IsTold output (take (book.opening.setting.first - 1) text.now) book.opening book.entries replies.now told.0.items) }
+    ensures text { IfOk result (λ told. IsLiveText output (take (book.opening.setting.first - 1) text.now) book.opening book.entries replies.now told.0.items) }
     ensures entries { IfOk result (λ told. told.1.entries ≡ book.entries) }
 {
     match output {
@@ -64,7 +64,7 @@ fn saved_of<L: Ledger>(
 ) -> Result<(Vec<u8>, Journal), NoMemory>
     requires first { 1 ≤ book.opening.setting.first }
     requires head { book.opening.setting.first ≤ length text.now + 1 }
-    ensures text { IfOk result (λ told. told.0.items ≡ spelling (take (book.opening.setting.first - 1) text.now) book.opening.setting.profile (first_blocks book.opening) book.entries) }
+    ensures text { IfOk result (λ told. told.0.items ≡ saved_spelling (take (book.opening.setting.first - 1) text.now) book.opening.setting.profile (first_blocks book.opening) book.entries) }
     ensures entries { IfOk result (λ told. told.1.entries ≡ book.entries) }
 {
     let setting = book.setting();

@@ -6,7 +6,7 @@ ghost use Rattle.carriage_model.specs.declared.verdict.LoopFact.{LoopFact};
 ghost use Rattle.command_words.specs.Request.{IsMake};
 ghost use Rattle.knit_maker.specs.Made.{made_lines};
 ghost use Rattle.file_run.specs.Bodies.{IsJudged, body_of};
-ghost use Rattle.input_answers.specs.Due.{Fits};
+ghost use Rattle.input_answers.specs.Due.{BodyFits};
 ghost use Rattle.input_answers.specs.DueMade.{DueMade, IsMadeReport};
 ghost use Rattle.pass_grouping.specs.declared.tally.Tally.{Tally};
 ghost use Rattle.pass_grouping.specs.Tallies.{HasTallied};
@@ -137,7 +137,7 @@ fn made_of_body<R: Threads + Sync>(
     plan: &Plan,
     body: &Body,
 ) -> Result<Ending, NoMemory>
-    requires { Fits plan.now.chosen.block (length (body_of body.now.lines)) }
+    requires { BodyFits plan.now.chosen.block (length (body_of body.now.lines)) }
     ensures report { IfOk result (λ ending. IsMadeReport plan.now.chosen.profile plan.now.chosen.block body.now.head.declared body.now.lines ending.text.items) }
     ensures status { IfOk result (λ ending. ending.status ≡ Done) }
 {

@@ -6,8 +6,8 @@ ghost use Rattle.knitout_reader.specs.Head.{IsHead};
 ghost use Rattle.machine_profile.specs.Bounds.{IsBlockSize};
 ghost use Rattle.block_summary.specs.Prepared.{IsPreparedFor};
 ghost use Rattle.file_run.specs.Bodies.{body_of};
-ghost use Rattle.input_answers.specs.Due.{Fits};
-ghost use Rattle.input_answers.specs.DueLive.{IsOpening};
+ghost use Rattle.input_answers.specs.Due.{BodyFits};
+ghost use Rattle.input_answers.specs.DueLive.{IsScriptOpening};
 ghost use Rattle.input_answers.specs.Openings.{IsCut, texts_of};
 
 use crate::plan::Plan;
@@ -25,7 +25,7 @@ const PIECES: u32 = 4;
 
 /// A book that nobody has edited yet, and how many blocks it begins with.
 #[derive(Drop)]
-pub struct Opened {
+pub struct OpenedBook {
     pub book: Book,
     pub blocks: u32,
 }
@@ -38,10 +38,10 @@ pub fn open<L: Ledger, R: Threads + Sync>(
     text: &Lines,
     head: &Head,
     steps: &mut Steps<L>,
-) -> Result<Opened, NoMemory>
+) -> Result<OpenedBook, NoMemory>
     requires head { IsHead text.now head.now }
-    requires fits { Fits plan.now.chosen.block (length (body_of text.now)) }
-    ensures opening { IfOk result (λ opened. IsOpening plan.now.chosen head.now text.now opened.book.opening) }
+    requires fits { BodyFits plan.now.chosen.block (length (body_of text.now)) }
+    ensures opening { IfOk result (λ opened. IsScriptOpening plan.now.chosen head.now text.now opened.book.opening) }
     ensures profile { IsLawfulProfile plan.now.chosen.profile }
     ensures entries { IfOk result (λ opened. opened.book.entries ≡ []) }
     ensures blocks { IfOk result (λ opened. length opened.book.opening.texts ≡ opened.blocks) }
@@ -56,7 +56,7 @@ pub fn open<L: Ledger, R: Threads + Sync>(
     let blocks = prepared_blocks(rt, alloc, texts, &setting)?;
     let count = blocks.len() as u32;
     let book = Book::start(alloc, setting, blocks, steps)?;
-    Ok(Opened {
+    Ok(OpenedBook {
         book,
         blocks: count,
     })

@@ -3,7 +3,7 @@
 //! The lines are read once more behind a run that ended, since none of their readings was kept.
 ghost use Rattle.std.specs.Prelude.{◌<◌, ◌+◌, ◌^◌, length, IfOk, OnOk};
 ghost use Rattle.knit_base.specs.Limits.{IsLawfulProfile};
-ghost use Rattle.pass_grouping.specs.Listings.{IsListing, next_line};
+ghost use Rattle.pass_grouping.specs.Listings.{IsOperationListing, next_listing_line};
 ghost use Rattle.input_answers.specs.ListingRun.{ListsLine};
 ghost use Rattle.input_answers.specs.PassesReport.{AreOperations};
 
@@ -39,8 +39,8 @@ fn list_line(
 ) -> Result<(), NoMemory>
     requires short { length line.now < 2 ^ 16 }
     requires limits { IsLawfulProfile profile.now }
-    requires listing { IsListing listing.old }
-    requires lines { next_line listing.old + 1 < 2 ^ 32 }
+    requires listing { IsOperationListing listing.old }
+    requires lines { next_listing_line listing.old + 1 < 2 ^ 32 }
     ensures { OnOk result (ListsLine profile.now names.now line.now listing.old listing.new) }
 {
     let read = read_line(alloc, line, profile, names)?;

@@ -6,7 +6,7 @@ ghost use Rattle.pass_grouping.specs.Tallies.{HasTallied};
 ghost use Rattle.machine_profile.specs.declared.Chosen.{Chosen};
 ghost use Rattle.command_words.specs.declared.command.Command.{Command};
 ghost use Rattle.file_run.specs.Bodies.{body_of};
-ghost use Rattle.input_answers.specs.Due.{Due, Fits};
+ghost use Rattle.input_answers.specs.Due.{Due, BodyFits};
 ghost use Rattle.input_answers.specs.FileRuns.{IsFileRun};
 ghost use Rattle.input_answers.specs.ListingRun.{ReportsPasses};
 ghost use Rattle.input_answers.specs.PassesReport.{AreFewest};
@@ -63,7 +63,7 @@ pub fn passes_by_blocks<R: Threads + Sync>(
     plan: &Plan,
     body: &Body,
 ) -> Result<Ending, NoMemory>
-    requires { Fits plan.now.chosen.block (length (body_of body.now.lines)) }
+    requires { BodyFits plan.now.chosen.block (length (body_of body.now.lines)) }
     ensures { IfOk result (λ ending. (input : List ℕ) → body.now.lines ≡ lines_of input
         → Due Command.Passes plan.now.chosen input ending.text.items ending.status) }
 {

@@ -3,7 +3,7 @@ ghost use Rattle.std.specs.Prelude.{◌≡◌, ℕ, map, string_bytes, IfOk, IsE
 ghost use Rattle.command_words.specs.declared.command.Command.{Command};
 ghost use Rattle.std.proofs.Props.{props};
 ghost use Rattle.command_words.specs.Request.{IsMake};
-ghost use Rattle.input_answers.specs.Asked.{AreRefused, Ask, IsLawfulChosen, chooses_block, reads_file};
+ghost use Rattle.input_answers.specs.Asked.{AreRefused, AsksCommand, IsLawfulChosen, chooses_block, reads_file};
 
 use command_words::{Command, WordFault, request};
 use machine_profile::{Chosen, profile_of};
@@ -31,7 +31,7 @@ pub enum PlanFault {
 
 /// What the words ask for.
 pub fn plan_of(alloc: Global, words: &[String]) -> Result<Plan, PlanFault>
-    ensures ok { IfOk result (λ plan. Ask (map string_bytes words.now) plan.command plan.chosen) }
+    ensures ok { IfOk result (λ plan. AsksCommand (map string_bytes words.now) plan.command plan.chosen) }
     ensures blocks { IfOk result (λ plan. plan.by_blocks ≡ chooses_block (map string_bytes words.now)) }
     ensures usage { IsErrOf result PlanFault.Usage → AreRefused (map string_bytes words.now) }
 {

@@ -1,8 +1,8 @@
 //! What is due for a saved text that was read whole: the version at its end and the verdict on its document, or the first bad line.
 ghost use Rattle.std.specs.Prelude.{◌≡◌, ◌<◌, ◌≤◌, IfErr, IfOk, length};
-ghost use Rattle.journal_file.specs.Faults.{IsBadJournal, IsRefused};
-ghost use Rattle.journal_file.specs.SavedParts.{IsLawfulSaved, opening_of};
-ghost use Rattle.journal_file.specs.Spelling.{spelling};
+ghost use Rattle.journal_file.specs.Faults.{IsBadJournal, IsSavedTextRefused};
+ghost use Rattle.journal_file.specs.SavedParts.{IsLawfulSaved, opening_of_saved};
+ghost use Rattle.journal_file.specs.Spelling.{saved_spelling};
 ghost use Rattle.verdict_report.specs.LiveText.{IsFinalReport};
 ghost use Rattle.input_answers.specs.DueReplay.{DueReplay, journal_refusal};
 
@@ -44,10 +44,10 @@ pub fn answer_replay<R: Threads + Sync>(
 /// The saved text that the bytes are, which are then let go.
 pub fn saved_in(alloc: Global, input: Vec<u8>) -> Result<Saved, JournalFault>
     requires { length input.items ≤ 16777216 }
-    ensures spelt { IfOk result (λ saved. input.items ≡ spelling saved.head saved.profile saved.blocks saved.journal.entries) }
+    ensures spelt { IfOk result (λ saved. input.items ≡ saved_spelling saved.head saved.profile saved.blocks saved.journal.entries) }
     ensures lawful { IfOk result (λ saved. IsLawfulSaved saved.head saved.profile saved.blocks saved.journal.entries) }
     ensures bad { IfErr result (IsBadJournal input.items) }
-    ensures refused { IfErr result (IsRefused input.items) }
+    ensures refused { IfErr result (IsSavedTextRefused input.items) }
 {
     read_journal(alloc, &input)
 }
@@ -73,7 +73,7 @@ fn final_report<L: Ledger, R: Threads + Sync>(
     requires parts { blank.parts ≡ L.parts }
     requires some { 0 < L.parts }
     requires lawful { IsLawfulSaved saved.head saved.profile saved.blocks saved.journal.entries }
-    ensures { IfOk result (λ text. IsFinalReport (opening_of saved.head saved.profile saved.blocks) saved.journal.entries text.items) }
+    ensures { IfOk result (λ text. IsFinalReport (opening_of_saved saved.head saved.profile saved.blocks) saved.journal.entries text.items) }
 {
     let mut steps = Steps::<L>::start(rt, blank);
     let book = reopen(rt, alloc, saved)?;

@@ -1,7 +1,7 @@
 //! What is due for a saved text of which a tally is asked: what some blocks of its last version come to, or the first bad line.
 ghost use Rattle.std.specs.Prelude.{◌≡◌, ◌↔◌, ◌<◌, ◌≤◌, true, IfOk, length};
 ghost use Rattle.tally_tree.specs.Docs.{HasBlocks, IsRange, doc_view, setting_now};
-ghost use Rattle.tally_tree.specs.Tallies.{Counted};
+ghost use Rattle.tally_tree.specs.Tallies.{TallyCounts};
 ghost use Rattle.input_answers.specs.DueTally.{DueTally, IsDueRange};
 ghost use Rattle.reply_report.specs.TallyText.{tally_text};
 
@@ -84,7 +84,7 @@ fn report_of_range<L: Ledger>(
     steps: &mut Steps<L>,
 ) -> Result<Vec<u8>, NoMemory>
     requires { HasBlocks doc.now from to }
-    ensures { IfOk result (λ text. (v : Counted) × IsRange doc.now from to v × (text.items ≡ tally_text from to (setting_now doc.now).declared v)) }
+    ensures { IfOk result (λ text. (v : TallyCounts) × IsRange doc.now from to v × (text.items ≡ tally_text from to (setting_now doc.now).declared v)) }
 {
     let tally = doc.range(from, to, steps)?;
     tally_of(alloc, from, to, &tally, &doc.setting().declared)

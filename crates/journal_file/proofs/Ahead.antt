@@ -7,20 +7,20 @@ use Rattle.edit_book.specs.Outlines.{MayCome}
 use Rattle.journal_file.specs.declared.entry_line.EntryLine.{EntryLine}
 use Rattle.journal_file.specs.EntryForms.{AreEntries, IsEntryLine, IsEntryText, text_lines_behind}
 use Rattle.journal_file.specs.Faults.{MayNotCome}
-use Rattle.journal_file.specs.Grammars.{Lines, Form, IsOne, OneLine, StopsBehind}
+use Rattle.journal_file.specs.Grammars.{Lines, Form, IsUnambiguous, OneLine, FormStopsBehind}
 use Rattle.journal_file.specs.SavedForms.{EntrySaid, entry_said}
 use Rattle.journal_file.specs.SavedParts.{MayAllCome}
-use Rattle.journal_file.specs.Texts.{AreTexts, same_state, text_form}
+use Rattle.journal_file.specs.Texts.{TextLinesForm, same_state, text_form}
 use Rattle.journal_file.proofs.EntryOnes.{one_line, said_one}
 use Rattle.journal_file.proofs.FormSpellings.{lines_spelt}
 use Rattle.journal_file.proofs.Grammars.{both_one, chain_one, same_head, two_fronts}
-use Rattle.journal_file.proofs.Readings.{ones}
+use Rattle.journal_file.proofs.Readings.{text_form_is_one}
 
-pub entry_one : IsOne IsEntryText
-entry_one = both_one (OneLine IsEntryLine) (λ line. AreTexts (text_lines_behind line)) one_line (λ line. chain_one text_form same_state ones (text_lines_behind line) tt)
+pub entry_one : IsUnambiguous IsEntryText
+entry_one = both_one (OneLine IsEntryLine) (λ line. TextLinesForm (text_lines_behind line)) one_line (λ line. chain_one text_form same_state text_form_is_one (text_lines_behind line) tt)
 
 -- A whole text is no shorter than the lines behind which a text stops.
-pub no_shorter : {A : Type 0} (P : Form A) → IsOne P → (lines : Lines) (number : ℕ) → StopsBehind P lines number → (a : A) (t r : Lines) → P a t → lines ≡ t ++ r → number ≤ length t
+pub no_shorter : {A : Type 0} (P : Form A) → IsUnambiguous P → (lines : Lines) (number : ℕ) → FormStopsBehind P lines number → (a : A) (t r : Lines) → P a t → lines ≡ t ++ r → number ≤ length t
 no_shorter {A} P one lines number s a t r p is = go (two_fronts s.before s.after t r (sym s.lines_are ∙ is))
   where
     go : ((more : Lines) × (t ≡ s.before ++ more)) ⊎ ((line : List ℕ) × (more : Lines) × (s.before ≡ t ++ line ∷ more)) → number ≤ length t

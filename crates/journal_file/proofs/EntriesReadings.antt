@@ -12,8 +12,8 @@ use Rattle.journal_file.specs.declared.fault.JournalFault.TheVariants.{At, NoMem
 use Rattle.journal_file.specs.EntryForms.{AreEntries, IsEntryLine, IsEntryText, entry_form, same_entries}
 use Rattle.journal_file.specs.Faults.{AreEntriesFault, IsEntryFault, IsPast, IsUnfit, IsUnfitBehind, MayNotCome}
 use Rattle.journal_file.specs.Grammars.{Lines}
-use Rattle.journal_file.specs.Lines.{HasLines, ended}
-use Rattle.journal_file.specs.Reading.{HasRead, IsStop, IsTaken, Went}
+use Rattle.journal_file.specs.Lines.{HasLines, lines_with_ends}
+use Rattle.journal_file.specs.Reading.{FormHasRead, IsFormStop, IsFirstLineTaken, Went}
 use Rattle.journal_file.specs.SavedForms.{EntrySaid, entry_said}
 use Rattle.journal_file.specs.SavedParts.{MayAllCome}
 use Rattle.journal_file.proofs.Ahead.{IsAhead, ahead, entry_one, no_shorter}
@@ -28,16 +28,16 @@ some_entries (suc n) =
     let w = some_entries n in
     (some_entry.0 ∷ w.0, some_entry.1 ++ w.1, record { first = some_entry.1; second = w.1; lines_are = refl; says_first = some_entry.2; says_second = w.2 })
 
-pub counted : (n : ℕ) (xs : List EntrySaid) (t : Lines) → AreEntries n xs t → AreEntries (length xs) xs t
-counted n xs t p = subst (λ k. AreEntries k xs t) (sym (chain_length entry_form same_entries n tt xs t p)) p
+pub entries_counted : (n : ℕ) (xs : List EntrySaid) (t : Lines) → AreEntries n xs t → AreEntries (length xs) xs t
+entries_counted n xs t p = subst (λ k. AreEntries k xs t) (sym (chain_length entry_form same_entries n tt xs t p)) p
 
 -- nothing was read yet
-pub entries_none : (bytes : List ℕ) (taken : ℕ) → HasRead (AreEntries 0) bytes taken [] bytes taken
+pub entries_none : (bytes : List ℕ) (taken : ℕ) → FormHasRead (AreEntries 0) bytes taken [] bytes taken
 entries_none bytes taken = chain_none entry_form same_entries tt bytes taken
 
 -- one more entry was read
-pub entries_more : (n : ℕ) (bytes : List ℕ) (taken : ℕ) (xs : List EntrySaid) (rest : List ℕ) (now : ℕ) (x : EntrySaid) (behind : List ℕ) (then_ : ℕ) → HasRead (AreEntries n) bytes taken xs rest now
-    → HasRead IsEntryText rest now x behind then_ → HasRead (AreEntries (n + 1)) bytes taken (xs ++ x ∷ []) behind then_
+pub entries_more : (n : ℕ) (bytes : List ℕ) (taken : ℕ) (xs : List EntrySaid) (rest : List ℕ) (now : ℕ) (x : EntrySaid) (behind : List ℕ) (then_ : ℕ) → FormHasRead (AreEntries n) bytes taken xs rest now
+    → FormHasRead IsEntryText rest now x behind then_ → FormHasRead (AreEntries (n + 1)) bytes taken (xs ++ x ∷ []) behind then_
 entries_more n bytes taken xs rest now x behind then_ p q = chain_more entry_form same_entries n tt bytes taken xs rest now x behind then_ p q
 
 -- one more may come
@@ -47,14 +47,14 @@ come_more opening before (e ∷ es) entry all next = (all.0, come_more opening (
 
 module _ (opening : Opening) (many : ℕ) (bytes : List ℕ) (taken : ℕ) (said : List EntrySaid) (rest : List ℕ) (now : ℕ) where
   -- an entry that may not come stands behind those that were read
-  behind_read : (done : ℕ) → HasRead (AreEntries done) bytes taken said rest now → MayAllCome opening [] (map entry_said said) → (lines : Lines) (last : List ℕ) (h : HasLines bytes lines last) (k : ℕ) (u : IsUnfitBehind opening many lines k)
+  behind_read : (done : ℕ) → FormHasRead (AreEntries done) bytes taken said rest now → MayAllCome opening [] (map entry_said said) → (lines : Lines) (last : List ℕ) (h : HasLines bytes lines last) (k : ℕ) (u : IsUnfitBehind opening many lines k)
       → (w : Went (AreEntries done) lines last taken said rest now) → IsAhead u.entries said u.before w.read w.more u.line u.after
   behind_read done read come lines last h k u w =
-      ahead opening [] u.entries said u.before u.after w.read w.more u.line u.next u.read (counted done said w.read w.says) (sym u.lines_are ∙ w.lines_are) come u.says u.never
+      ahead opening [] u.entries said u.before u.after w.read w.more u.line u.next u.read (entries_counted done said w.read w.says) (sym u.lines_are ∙ w.lines_are) come u.says u.never
 
   -- where the next entry stops, none of them that may not come stands before
-  none_before : (done number : ℕ) → HasRead (AreEntries done) bytes taken said rest now → MayAllCome opening [] (map entry_said said) → IsStop IsEntryText rest now number
-      → ((line : EntryLine) (more : List ℕ) → IsTaken IsEntryLine rest line more → MayNotCome opening (map entry_said said) line → number ≤ now + 1) → (k : ℕ) → k < number → IsUnfit opening many bytes taken k → ⊥
+  none_before : (done number : ℕ) → FormHasRead (AreEntries done) bytes taken said rest now → MayAllCome opening [] (map entry_said said) → IsFormStop IsEntryText rest now number
+      → ((line : EntryLine) (more : List ℕ) → IsFirstLineTaken IsEntryLine rest line more → MayNotCome opening (map entry_said said) line → number ≤ now + 1) → (k : ℕ) → k < number → IsUnfit opening many bytes taken k → ⊥
   none_before done number read come stops first k below unfit =
       let l = lines_exist bytes in
       let u = unfit l.0 l.1 l.2 in
@@ -69,8 +69,8 @@ module _ (opening : Opening) (many : ℕ) (bytes : List ℕ) (taken : ℕ) (said
       no_less more last left line after next says [] never v p is =
           let lines_are : more ≡ line ∷ after = is ∙ ap (λ x. x ++ line ∷ after) p in
           let each : All HasNoLineEnd (line ∷ after) = subst (All HasNoLineEnd) lines_are left.each in
-          let took : IsTaken IsEntryLine rest next (ended after ++ last) = record { line = line; one = All-head HasNoLineEnd line after each; bytes_are = left.bytes_are ∙ ap (λ m. ended m ++ last) lines_are ∙ append_assoc line (10 ∷ ended after) last; says = says } in
-          let near = first next (ended after ++ last) took (subst (λ s. MayNotCome opening (map entry_said s) next) (append-nil said) never) in
+          let took : IsFirstLineTaken IsEntryLine rest next (lines_with_ends after ++ last) = record { line = line; one = All-head HasNoLineEnd line after each; bytes_are = left.bytes_are ∙ ap (λ m. lines_with_ends m ++ last) lines_are ∙ append_assoc line (10 ∷ lines_with_ends after) last; says = says } in
+          let near = first next (lines_with_ends after ++ last) took (subst (λ s. MayNotCome opening (map entry_said s) next) (append-nil said) never) in
           omega (arith, near)
       no_less more last left line after next says (e ∷ es) never v p is =
           let s = stops more last left in
@@ -78,11 +78,11 @@ module _ (opening : Opening) (many : ℕ) (bytes : List ℕ) (taken : ℕ) (said
           omega (arith, s.1, short, ap length p.lines_are, length-append p.first p.second)
 
   -- the fault of the next entry is that of all
-  pub entries_fault : (done : ℕ) → done < many → HasRead (AreEntries done) bytes taken said rest now → MayAllCome opening [] (map entry_said said) → (fault : JournalFault) → IsEntryFault opening (map entry_said said) rest now fault
+  pub entries_fault : (done : ℕ) → done < many → FormHasRead (AreEntries done) bytes taken said rest now → MayAllCome opening [] (map entry_said said) → (fault : JournalFault) → IsEntryFault opening (map entry_said said) rest now fault
       → AreEntriesFault opening many bytes taken fault
   entries_fault done below read come (At number BadLine) stops =
       let all : done + suc (many - done - 1) ≡ many = omega (arith, below) in (
-        inl (subst (λ n. IsStop (AreEntries n) bytes taken number) all (chain_stops entry_form same_entries (λ s. entry_one) done (many - done - 1) tt bytes taken said rest now number (λ a t p. some_entries (many - done - 1)) read stops.0)),
+        inl (subst (λ n. IsFormStop (AreEntries n) bytes taken number) all (chain_stops entry_form same_entries (λ s. entry_one) done (many - done - 1) tt bytes taken said rest now number (λ a t p. some_entries (many - done - 1)) read stops.0)),
         none_before done number read come stops.0 stops.1,
       )
   entries_fault done below read come (At number NoFit) stops = λ lines last h.
@@ -99,7 +99,7 @@ module _ (opening : Opening) (many : ℕ) (bytes : List ℕ) (taken : ℕ) (said
           lines_are = w.lines_are ∙ ap (λ m. w.read ++ m) f.1;
           counted = refl;
           entries = said;
-          read = counted done said w.read w.says;
+          read = entries_counted done said w.read w.says;
           few = omega (arith, many_read, below);
           come = come;
           next = stops.1.0;
@@ -110,7 +110,7 @@ module _ (opening : Opening) (many : ℕ) (bytes : List ℕ) (taken : ℕ) (said
   entries_fault done below read come NoMemory stops = tt
 
   -- something is left behind all entries
-  pub entries_past : HasRead (AreEntries many) bytes taken said rest now → MayAllCome opening [] (map entry_said said) → 0 < length rest → AreEntriesFault opening many bytes taken (At (now + 1) BadLine)
+  pub entries_past : FormHasRead (AreEntries many) bytes taken said rest now → MayAllCome opening [] (map entry_said said) → 0 < length rest → AreEntriesFault opening many bytes taken (At (now + 1) BadLine)
   entries_past read come some = (inr past, none)
     where
       left_over : (more : Lines) (last : List ℕ) → HasLines rest more last → (more ≢ []) ⊎ (last ≢ [])

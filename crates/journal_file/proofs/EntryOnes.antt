@@ -6,7 +6,7 @@ use Rattle.edit_journal.specs.declared.edit.Anchor.{Anchor}
 use Rattle.edit_journal.specs.declared.edit.Anchor.TheVariants.{Start, After}
 use Rattle.edit_journal.specs.EntryLine.{anchor_text, head_text}
 use Rattle.knit_base.specs.Names.{AreNames, spaced_names}
-use Rattle.knit_base.specs.Spelling.{labelled}
+use Rattle.knit_base.specs.Spelling.{labelled_number}
 use Rattle.knitout_reader.specs.Head.{names_in_line}
 use Rattle.knitout_reader.proofs.HeaderLines.{declared_again}
 use Rattle.journal_file.specs.declared.entry_line.EntryLine.{EntryLine}
@@ -17,7 +17,7 @@ use Rattle.journal_file.specs.declared.entry_words.EntryWords.{EntryWords}
 use Rattle.journal_file.specs.declared.head_words.HeadWords.{HeadWords}
 use Rattle.journal_file.specs.Entries.{IsEntry, IsLawfulAnchor, IsLawfulEdit, edit_line}
 use Rattle.journal_file.specs.EntryForms.{IsEntryLine}
-use Rattle.journal_file.specs.Grammars.{IsOne, OneLine}
+use Rattle.journal_file.specs.Grammars.{IsUnambiguous, OneLine}
 use Rattle.journal_file.specs.Headers.{IsHeadEntry}
 use Rattle.journal_file.specs.Words.{EndsNumber}
 use Rattle.journal_file.proofs.EntryLines.{entry_front, first_digit, labelled_is, labelled_one, other_word}
@@ -34,10 +34,10 @@ space : (rest : List ℕ) → EndsNumber (32 ∷ rest)
 space rest = λ digit. omega (arith, digit.0)
 
 -- two numbers behind their labels, of which the second ends the text
-two_numbers : (first second : List ℕ) (a b c d : ℕ) → a < 2 ^ 32 → b < 2 ^ 32 → c < 2 ^ 32 → d < 2 ^ 32 → ((more : List ℕ) → EndsNumber (second ++ more)) → labelled first a ++ labelled second b ≡ labelled first c ++ labelled second d → (a ≡ c) × (b ≡ d)
+two_numbers : (first second : List ℕ) (a b c d : ℕ) → a < 2 ^ 32 → b < 2 ^ 32 → c < 2 ^ 32 → d < 2 ^ 32 → ((more : List ℕ) → EndsNumber (second ++ more)) → labelled_number first a ++ labelled_number second b ≡ labelled_number first c ++ labelled_number second d → (a ≡ c) × (b ≡ d)
 two_numbers first second a b c d af bf cf df plain same =
-    let w = labelled_one (labelled first a ++ labelled second b) first a c (labelled second b) (labelled second d)
-    (labelled_is (labelled first a ++ labelled second b) first a (labelled second b) refl af (plain (decimal b))) (labelled_is (labelled first a ++ labelled second b) first c (labelled second d) same cf (plain (decimal d))) in
+    let w = labelled_one (labelled_number first a ++ labelled_number second b) first a c (labelled_number second b) (labelled_number second d)
+    (labelled_is (labelled_number first a ++ labelled_number second b) first a (labelled_number second b) refl af (plain (decimal b))) (labelled_is (labelled_number first a ++ labelled_number second b) first c (labelled_number second d) same cf (plain (decimal d))) in
     (w.0, decimal_injective b d (omega (arith, bf)) (omega (arith, df)) (append_cancel_left second (decimal b) (decimal d) w.1))
 
 no_start : (j : ℕ) (x y : List ℕ) → j < 2 ^ 32 → codes "start" ++ 32 ∷ x ≡ decimal j ++ 32 ∷ y → ⊥
@@ -56,14 +56,14 @@ anchors (After i) Start x y p q same = absurd (no_start i y x p (sym same))
 
 edit_one : (e f : EditWords) → IsLawfulEdit e → IsLawfulEdit f → edit_line e ≡ edit_line f → e ≡ f
 edit_one (Put b s l) (Put c t m) p q same =
-    let w = labelled_one (edit_line (Put b s l)) (codes " put ") b c (labelled (codes " seen ") s ++ labelled (codes " lines ") l) (labelled (codes " seen ") t ++ labelled (codes " lines ") m)
-    (labelled_is (edit_line (Put b s l)) (codes " put ") b (labelled (codes " seen ") s ++ labelled (codes " lines ") l) refl p.0 (space (codes "seen " ++ (decimal s ++ labelled (codes " lines ") l))))
-    (labelled_is (edit_line (Put b s l)) (codes " put ") c (labelled (codes " seen ") t ++ labelled (codes " lines ") m) same q.0 (space (codes "seen " ++ (decimal t ++ labelled (codes " lines ") m)))) in
+    let w = labelled_one (edit_line (Put b s l)) (codes " put ") b c (labelled_number (codes " seen ") s ++ labelled_number (codes " lines ") l) (labelled_number (codes " seen ") t ++ labelled_number (codes " lines ") m)
+    (labelled_is (edit_line (Put b s l)) (codes " put ") b (labelled_number (codes " seen ") s ++ labelled_number (codes " lines ") l) refl p.0 (space (codes "seen " ++ (decimal s ++ labelled_number (codes " lines ") l))))
+    (labelled_is (edit_line (Put b s l)) (codes " put ") c (labelled_number (codes " seen ") t ++ labelled_number (codes " lines ") m) same q.0 (space (codes "seen " ++ (decimal t ++ labelled_number (codes " lines ") m)))) in
     let v = two_numbers (codes " seen ") (codes " lines ") s l t m p.1 (let few = p.2 in omega (arith, few)) q.1 (let few = q.2 in omega (arith, few)) (λ more. space (codes "lines " ++ more)) w.1 in
     (λ i. Put (w.0 i) (v.0 i) (v.1 i))
 edit_one (Add a b l) (Add c d m) p q same =
-    let behind = append_cancel_left (codes " add ") (anchor_text a ++ (labelled (codes " block ") b ++ labelled (codes " lines ") l)) (anchor_text c ++ (labelled (codes " block ") d ++ labelled (codes " lines ") m)) same in
-    let w = anchors a c (codes "block " ++ (decimal b ++ labelled (codes " lines ") l)) (codes "block " ++ (decimal d ++ labelled (codes " lines ") m)) p.0 q.0 behind in
+    let behind = append_cancel_left (codes " add ") (anchor_text a ++ (labelled_number (codes " block ") b ++ labelled_number (codes " lines ") l)) (anchor_text c ++ (labelled_number (codes " block ") d ++ labelled_number (codes " lines ") m)) same in
+    let w = anchors a c (codes "block " ++ (decimal b ++ labelled_number (codes " lines ") l)) (codes "block " ++ (decimal d ++ labelled_number (codes " lines ") m)) p.0 q.0 behind in
     let v = two_numbers (codes " block ") (codes " lines ") b l d m p.1 (let few = p.2 in omega (arith, few)) q.1 (let few = q.2 in omega (arith, few)) (λ more. space (codes "lines " ++ more)) w.1 in
     (λ i. Add (w.0 i) (v.0 i) (v.1 i))
 edit_one (Cut b s) (Cut c t) p q same =
@@ -96,9 +96,9 @@ header_one a b line p q =
 -- the word behind the session
 no_put : (b s l n : ℕ) (names : List (List ℕ)) → b < 2 ^ 32 → edit_line (Put b s l) ≡ head_text n names → ⊥
 no_put b s l n names fits same =
-    let digit = first_digit b (labelled (codes " seen ") s ++ labelled (codes " lines ") l) fits in
-    let cut = append_cancel_left (codes " put ") (decimal b ++ (labelled (codes " seen ") s ++ labelled (codes " lines ") l)) (codes "head seen " ++ (decimal n ++ (codes " carriers" ++ spaced_names names))) same in
-    let first : get_or (decimal b ++ (labelled (codes " seen ") s ++ labelled (codes " lines ") l)) 0 0 ≡ 104 = ap (λ (t : List ℕ). get_or t 0 0) cut in
+    let digit = first_digit b (labelled_number (codes " seen ") s ++ labelled_number (codes " lines ") l) fits in
+    let cut = append_cancel_left (codes " put ") (decimal b ++ (labelled_number (codes " seen ") s ++ labelled_number (codes " lines ") l)) (codes "head seen " ++ (decimal n ++ (codes " carriers" ++ spaced_names names))) same in
+    let first : get_or (decimal b ++ (labelled_number (codes " seen ") s ++ labelled_number (codes " lines ") l)) 0 0 ≡ 104 = ap (λ (t : List ℕ). get_or t 0 0) cut in
     omega (arith, digit.1, first)
 
 edit_no_head : (e : EditWords) (n : ℕ) (names : List (List ℕ)) → IsLawfulEdit e → edit_line e ≡ head_text n names → ⊥
@@ -117,5 +117,5 @@ said_one (Header a) (Header b) line p q = ap Header (header_one a b line p q)
 said_one (Block a) (Header b) line p q = absurd (block_no_header a b line p q)
 said_one (Header a) (Block b) line p q = absurd (block_no_header b a line q p)
 
-pub one_line : IsOne (OneLine IsEntryLine)
+pub one_line : IsUnambiguous (OneLine IsEntryLine)
 one_line = line_one IsEntryLine said_one

@@ -1,6 +1,6 @@
 -- How far the reading of an entry has come, and where it stops.
 use Rattle.std.proofs.Common.{◌≡◌, ◌∙◌, ℕ, ◌+◌, ◌≤◌, List, [], ◌∷◌, length, sym, subst, refl, arith, codes, ◌++◌}
-use Rattle.knit_base.specs.Spelling.{labelled}
+use Rattle.knit_base.specs.Spelling.{labelled_number}
 use Rattle.edit_journal.specs.declared.edit.Entry.{Entry}
 use Rattle.edit_journal.specs.declared.opening.Opening.{Opening}
 use Rattle.edit_book.specs.Outlines.{MayCome}
@@ -15,9 +15,9 @@ use Rattle.journal_file.specs.Entries.{IsLawfulEdit, edit_line}
 use Rattle.journal_file.specs.EntryForms.{IsEntryLine, IsEntryText, edit_lines, text_lines_behind}
 use Rattle.journal_file.specs.Faults.{IsEntryFault, MayNotCome}
 use Rattle.journal_file.specs.Grammars.{Lines, OneLine}
-use Rattle.journal_file.specs.Reading.{HasRead, IsFault, IsStop, IsTaken, NoneTaken}
+use Rattle.journal_file.specs.Reading.{FormHasRead, IsFault, IsFormStop, IsFirstLineTaken, NoneTaken}
 use Rattle.journal_file.specs.SavedForms.{line_edit}
-use Rattle.journal_file.specs.Texts.{AreTexts, same_state, text_form}
+use Rattle.journal_file.specs.Texts.{TextLinesForm, same_state, text_form}
 use Rattle.journal_file.proofs.EntryOnes.{one_line, said_one}
 use Rattle.journal_file.proofs.FormReadings.{chain_length, both_read, both_stop_first, both_stop_second, line_read, line_stops}
 use Rattle.journal_file.proofs.Lines.{one_feed}
@@ -28,7 +28,7 @@ abbrev a_cut : EntryLine
 a_cut = Block (record { session = 0; edit = Cut 0 0 })
 
 abbrev a_line : List ℕ
-a_line = labelled (codes "session ") 0 ++ edit_line (Cut 0 0)
+a_line = labelled_number (codes "session ") 0 ++ edit_line (Cut 0 0)
 
 cut_is : IsEntryLine a_cut a_line
 cut_is = record { spelt = refl; session = omega arith; lawful = (omega arith, omega arith) }
@@ -39,22 +39,22 @@ some_entry = ((a_cut, []), a_line ∷ [], record { first = a_line ∷ []; second
 
 -- an entry was read
 pub entry_read : (bytes : List ℕ) (taken : ℕ) (said : EntryLine) (rest : List ℕ) (texts : List (List ℕ)) (behind : List ℕ) (now : ℕ)
-    → IsTaken IsEntryLine bytes said rest → HasRead (AreTexts (text_lines_behind said)) rest (taken + 1) texts behind now → HasRead IsEntryText bytes taken (said, texts) behind now
+    → IsFirstLineTaken IsEntryLine bytes said rest → FormHasRead (TextLinesForm (text_lines_behind said)) rest (taken + 1) texts behind now → FormHasRead IsEntryText bytes taken (said, texts) behind now
 entry_read bytes taken said rest texts behind now took read =
-    both_read (OneLine IsEntryLine) (λ line. AreTexts (text_lines_behind line)) bytes taken said rest (taken + 1) texts behind now (line_read IsEntryLine bytes taken said rest took) read
+    both_read (OneLine IsEntryLine) (λ line. TextLinesForm (text_lines_behind line)) bytes taken said rest (taken + 1) texts behind now (line_read IsEntryLine bytes taken said rest took) read
 
 -- its first line isn't there
-pub entry_stops : (bytes : List ℕ) (taken : ℕ) → NoneTaken IsEntryLine bytes → IsStop IsEntryText bytes taken (taken + 1)
+pub entry_stops : (bytes : List ℕ) (taken : ℕ) → NoneTaken IsEntryLine bytes → IsFormStop IsEntryText bytes taken (taken + 1)
 entry_stops bytes taken none =
-    both_stop_first (OneLine IsEntryLine) (λ line. AreTexts (text_lines_behind line)) one_line (λ said t p. some_texts (text_lines_behind said) tt) bytes taken (taken + 1)
+    both_stop_first (OneLine IsEntryLine) (λ line. TextLinesForm (text_lines_behind line)) one_line (λ said t p. some_texts (text_lines_behind said) tt) bytes taken (taken + 1)
     (line_stops IsEntryLine a_cut a_line cut_is bytes taken none)
 
 -- the fault of its text lines is that of the entry
-pub entry_fault : (bytes : List ℕ) (taken now : ℕ) (said : EntryLine) (rest : List ℕ) → now ≡ taken + 1 → IsTaken IsEntryLine bytes said rest → (fault : JournalFault) → IsFault (AreTexts (text_lines_behind said)) rest now fault
+pub entry_fault : (bytes : List ℕ) (taken now : ℕ) (said : EntryLine) (rest : List ℕ) → now ≡ taken + 1 → IsFirstLineTaken IsEntryLine bytes said rest → (fault : JournalFault) → IsFault (TextLinesForm (text_lines_behind said)) rest now fault
     → IsFault IsEntryText bytes taken fault
 entry_fault bytes taken now said rest is took (At number BadLine) stops =
-    both_stop_second (OneLine IsEntryLine) (λ line. AreTexts (text_lines_behind line)) one_line bytes taken said rest (taken + 1) number (line_read IsEntryLine bytes taken said rest took)
-    (subst (λ n. IsStop (AreTexts (text_lines_behind said)) rest n number) is stops)
+    both_stop_second (OneLine IsEntryLine) (λ line. TextLinesForm (text_lines_behind line)) one_line bytes taken said rest (taken + 1) number (line_read IsEntryLine bytes taken said rest took)
+    (subst (λ n. IsFormStop (TextLinesForm (text_lines_behind said)) rest n number) is stops)
 entry_fault bytes taken now said rest is took (At number NoFit) stops = stops
 entry_fault bytes taken now said rest is took NoMemory stops = tt
 
@@ -73,12 +73,12 @@ some_text : (said : EntryLine) → (text : List (List ℕ)) × (length text ≡ 
 some_text said = let w = some_texts (text_lines_behind said) tt in (w.0, chain_length text_form same_state (text_lines_behind said) tt w.0 w.1 w.2)
 
 -- the entry may come, but one of its text lines isn't there
-pub text_refused : (opening : Opening) (entries : List Entry) (bytes : List ℕ) (taken now : ℕ) (said : EntryLine) (rest : List ℕ) → now ≡ taken + 1 → IsTaken IsEntryLine bytes said rest
-    → ((text : List (List ℕ)) → length text ≡ text_lines_behind said → MayCome opening entries (line_edit said text)) → (fault : JournalFault) → IsFault (AreTexts (text_lines_behind said)) rest now fault
+pub text_refused : (opening : Opening) (entries : List Entry) (bytes : List ℕ) (taken now : ℕ) (said : EntryLine) (rest : List ℕ) → now ≡ taken + 1 → IsFirstLineTaken IsEntryLine bytes said rest
+    → ((text : List (List ℕ)) → length text ≡ text_lines_behind said → MayCome opening entries (line_edit said text)) → (fault : JournalFault) → IsFault (TextLinesForm (text_lines_behind said)) rest now fault
     → IsEntryFault opening entries bytes taken fault
 text_refused opening entries bytes taken now said rest is took comes (At number BadLine) stops = (entry_fault bytes taken now said rest is took (At number BadLine) stops, other)
   where
-    other : (line : EntryLine) (more : List ℕ) → IsTaken IsEntryLine bytes line more → MayNotCome opening entries line → number ≤ taken + 1
+    other : (line : EntryLine) (more : List ℕ) → IsFirstLineTaken IsEntryLine bytes line more → MayNotCome opening entries line → number ≤ taken + 1
     other line more it never =
         let same = one_feed took.line it.line rest more took.one it.one (sym took.bytes_are ∙ it.bytes_are) in
         let one : said ≡ line = said_one said line it.line (subst (IsEntryLine said) same.0 took.says) it.says in

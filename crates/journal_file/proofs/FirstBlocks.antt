@@ -6,7 +6,7 @@ use Rattle.edit_journal.specs.declared.edit.Edit.{Edit}
 use Rattle.edit_journal.specs.declared.edit.Edit.TheVariants.{Put, Add, Cut, Head}
 use Rattle.edit_journal.specs.declared.edit.Entry.{Entry}
 use Rattle.edit_journal.specs.declared.opening.Opening.{Opening}
-use Rattle.edit_journal.specs.Documents.{Document, after, after_all, document_of, opened}
+use Rattle.edit_journal.specs.Documents.{Document, after, after_all, document_of, document_opened}
 use Rattle.journal_file.specs.SavedParts.{numbered_from}
 
 -- these are the first of them, and the others stand behind
@@ -65,4 +65,4 @@ drawn_grows d i (e ∷ es) = omega (arith, one e.edit, drawn_grows (after d i e.
     one (Head seen names) = omega arith
 
 pub first_drawn : (opening : Opening) (es : List Entry) → length opening.texts ≤ (document_of opening es).drawn
-first_drawn opening es = drawn_grows (opened opening) 1 es
+first_drawn opening es = drawn_grows (document_opened opening) 1 es

@@ -12,12 +12,12 @@ use Rattle.journal_file.specs.BlockForms.{BlocksSoFar, block_form, no_block_yet,
 use Rattle.journal_file.specs.Entries.{IsLawfulEdit}
 use Rattle.journal_file.specs.EntryForms.{AreEntries, IsEntryLine, IsEntryText, text_lines_behind}
 use Rattle.journal_file.specs.Grammars.{Lines, OneLine, Chain}
-use Rattle.journal_file.specs.HeadForms.{IsHeadLine, head_form, no_line_yet, with_line}
-use Rattle.journal_file.specs.Lines.{IsTextLine}
-use Rattle.journal_file.specs.SavedForms.{EntrySaid, IsOpening, OpeningSaid, SavedForm, blocks_said, blocks_told, count_said, edit_said, entry_said, head_said, profile_said}
-use Rattle.edit_book.specs.Outlines.{texts_of}
-use Rattle.journal_file.specs.SavedParts.{IsFirstText, IsShortLine, IsWritable, IsWritten, KeepsBounds, numbered_from}
-use Rattle.journal_file.specs.Texts.{AreTexts, same_state}
+use Rattle.journal_file.specs.HeadForms.{IsHeadLine, head_form, no_line_yet, head_with_line}
+use Rattle.journal_file.specs.Lines.{IsBarredLine}
+use Rattle.journal_file.specs.SavedForms.{EntrySaid, OpeningForm, OpeningSaid, SavedForm, blocks_said, blocks_told, count_said, edit_said, entry_said, head_said, profile_said}
+use Rattle.edit_book.specs.Outlines.{block_texts_of}
+use Rattle.journal_file.specs.SavedParts.{IsFirstText, IsShortLine, IsWritable, IsSpelledEntry, KeepsBounds, numbered_from}
+use Rattle.journal_file.specs.Texts.{TextLinesForm, same_state}
 use Rattle.journal_file.proofs.EntryReadings.{few_lines}
 use Rattle.journal_file.proofs.FormReadings.{chain_length}
 use Rattle.journal_file.proofs.FormSpellings.{block_spelt, lines_spelt, numbered_length}
@@ -33,7 +33,7 @@ all_second [] b each = each
 all_second (line ∷ a) b each = all_second a b (All-tail HasNoLineEnd line (a ++ b) each)
 
 -- texts of text lines are short
-texts_short : {S : Type 0} (L : S → List ℕ → List ℕ → Type 0) (next : S → List ℕ → S) → ((s : S) (x line : List ℕ) → L s x line → IsTextLine x line) → (n : ℕ) (s : S) (xs : List (List ℕ)) (t : Lines)
+texts_short : {S : Type 0} (L : S → List ℕ → List ℕ → Type 0) (next : S → List ℕ → S) → ((s : S) (x line : List ℕ) → L s x line → IsBarredLine x line) → (n : ℕ) (s : S) (xs : List (List ℕ)) (t : Lines)
     → Chain (λ z. OneLine (L z)) next n s xs t → All HasNoLineEnd t → All IsShortLine xs
 texts_short L next tells zero s [] t p each = All-nil IsShortLine
 texts_short L next tells zero s (x ∷ xs) t p each = absurd p
@@ -44,10 +44,10 @@ texts_short L next tells (suc n) s (x ∷ xs) t p each =
     let one : HasNoLineEnd x = All-tail (λ byte. byte ≢ 10) 124 x (subst HasNoLineEnd is.barred (All-head HasNoLineEnd p.says_first.line p.second whole)) in
     All-cons IsShortLine x xs (record { utf8 = is.is_short.utf8; one = one; short = is.is_short.short }) (texts_short L next tells n (next s x) xs p.second p.says_second (All-tail HasNoLineEnd p.says_first.line p.second whole))
 
-lines_short : (n : ℕ) (xs : List (List ℕ)) (t : Lines) → AreTexts n xs t → All HasNoLineEnd t → All IsShortLine xs
-lines_short n xs t p each = texts_short (λ s. IsTextLine) same_state (λ s x line is. is) n tt xs t p each
+lines_short : (n : ℕ) (xs : List (List ℕ)) (t : Lines) → TextLinesForm n xs t → All HasNoLineEnd t → All IsShortLine xs
+lines_short n xs t p each = texts_short (λ s. IsBarredLine) same_state (λ s x line is. is) n tt xs t p each
 
-pub texts_numbered : (id : ℕ) (texts : List (List (List ℕ))) → texts_of (numbered_from id texts) ≡ texts
+pub texts_numbered : (id : ℕ) (texts : List (List (List ℕ))) → block_texts_of (numbered_from id texts) ≡ texts
 texts_numbered id [] = refl
 texts_numbered id (text ∷ texts) = ap (λ ts. text ∷ ts) (texts_numbered (id + 1) texts)
 
@@ -87,28 +87,28 @@ edit_writable (Put block seen lines) text lawful few short = (lawful.0, lawful.1
 edit_writable (Add anchor block lines) text lawful few short = (lawful.0, lawful.1, record { few = few; lines = short })
 edit_writable (Cut block seen) text lawful few short = lawful
 
-line_written : (said : EntryLine) (text : List (List ℕ)) (line : List ℕ) → IsEntryLine said line → length text ≤ 4096 → All IsShortLine text → IsWritten (entry_said (said, text))
+line_written : (said : EntryLine) (text : List (List ℕ)) (line : List ℕ) → IsEntryLine said line → length text ≤ 4096 → All IsShortLine text → IsSpelledEntry (entry_said (said, text))
 line_written (Block words) text line it few short = record { session = it.session; given = edit_writable words.edit text it.lawful few short }
 line_written (Header words) text line it few short = record { session = it.session_few; given = (it.seen_fits, record { are = it.are.are; utf8 = it.are.utf8 }) }
 
 -- an entry that was read has a spelling
-pub entry_written : (said : EntrySaid) (t : Lines) → IsEntryText said t → All HasNoLineEnd t → IsWritten (entry_said said)
+pub entry_written : (said : EntrySaid) (t : Lines) → IsEntryText said t → All HasNoLineEnd t → IsSpelledEntry (entry_said said)
 entry_written said t p each =
     let whole : All HasNoLineEnd (p.first ++ p.second) = subst (All HasNoLineEnd) p.lines_are each in
     let lines = lines_spelt (text_lines_behind said.0) said.1 p.second p.says_second in
     let few = few_lines said.0 p.says_first.line p.says_first.says in
     line_written said.0 said.1 p.says_first.line p.says_first.says (omega (arith, few, lines.1)) (lines_short (text_lines_behind said.0) said.1 p.second p.says_second (all_second p.first p.second whole))
 
-pub entries_written : (n : ℕ) (said : List EntrySaid) (t : Lines) → AreEntries n said t → All HasNoLineEnd t → All IsWritten (map entry_said said)
-entries_written zero [] t p each = All-nil IsWritten
+pub entries_written : (n : ℕ) (said : List EntrySaid) (t : Lines) → AreEntries n said t → All HasNoLineEnd t → All IsSpelledEntry (map entry_said said)
+entries_written zero [] t p each = All-nil IsSpelledEntry
 entries_written zero (x ∷ xs) t p each = absurd p
 entries_written (suc n) [] t p each = absurd p
 entries_written (suc n) (x ∷ xs) t p each =
     let whole : All HasNoLineEnd (p.first ++ p.second) = subst (All HasNoLineEnd) p.lines_are each in
-    All-cons IsWritten (entry_said x) (map entry_said xs) (entry_written x p.first p.says_first (all_first p.first p.second whole)) (entries_written n xs p.second p.says_second (all_second p.first p.second whole))
+    All-cons IsSpelledEntry (entry_said x) (map entry_said xs) (entry_written x p.first p.says_first (all_first p.first p.second whole)) (entries_written n xs p.second p.says_second (all_second p.first p.second whole))
 
 -- what stands before the entries keeps its bounds
-pub opening_keeps : (said : OpeningSaid) (t : Lines) → IsOpening said t → All HasNoLineEnd t → KeepsBounds (head_said said) (profile_said said) (blocks_told said) []
+pub opening_keeps : (said : OpeningSaid) (t : Lines) → OpeningForm said t → All HasNoLineEnd t → KeepsBounds (head_said said) (profile_said said) (blocks_told said) []
 opening_keeps said t o each =
     let opening : All HasNoLineEnd (o.first ++ o.second) = subst (All HasNoLineEnd) o.lines_are each in
     let h = o.says_second in
@@ -120,7 +120,7 @@ opening_keeps said t o each =
     let blocks = b.says_first in
     let blocks_each : All HasNoLineEnd (blocks.first ++ blocks.second) = subst (All HasNoLineEnd) blocks.lines_are (all_first b.first b.second behind_head) in
     let texts = map (λ block. block.1) (blocks_said said) in
-    let many = chain_length head_form with_line said.1.0.0 (no_line_yet said.1.0.0) (head_said said) head.second head.says_second in
+    let many = chain_length head_form head_with_line said.1.0.0 (no_line_yet said.1.0.0) (head_said said) head.second head.says_second in
     let head_most = head.says_first.says.few in
     let blocks_many = chain_length block_form with_block said.1.1.0.0 (no_block_yet said.1.1.0.0) (blocks_said said) blocks.second blocks.says_second in
     let blocks_most = blocks.says_first.says.few in
@@ -129,12 +129,12 @@ opening_keeps said t o each =
       limits = o.says_first.says_second.says.lawful;
       whole = (head_law said.1.0.0 head.says_first.says.enough (head_said said) head.second head.says_second).0;
       head_few = omega (arith, many, head_most);
-      head_lines = texts_short IsHeadLine with_line (λ s x line is. is.barred) said.1.0.0 (no_line_yet said.1.0.0) (head_said said) head.second head.says_second (all_second head.first head.second head_each);
+      head_lines = texts_short IsHeadLine head_with_line (λ s x line is. is.barred) said.1.0.0 (no_line_yet said.1.0.0) (head_said said) head.second head.says_second (all_second head.first head.second head_each);
       numbered = ap (numbered_from 0) (sym (texts_numbered 0 texts));
       blocks_few = omega (arith, numbered_length 0 texts, length-map (blocks_said said) (λ block. block.1), blocks_many, blocks_most);
       lines_few = omega (arith, lines);
       texts = subst (All IsFirstText) (sym (texts_numbered 0 texts)) (blocks_texts said.1.1.0.0 (no_block_yet said.1.1.0.0) (blocks_said said) blocks.second blocks.says_second (all_second blocks.first blocks.second blocks_each));
-      written = All-nil IsWritten;
+      written = All-nil IsSpelledEntry;
     }
 
 -- a saved text tells parts that keep their bounds

@@ -2,9 +2,9 @@
 use Rattle.std.proofs.Common.{◌≡◌, ◌∙◌, ℕ, zero, suc, ◌+◌, List, [], ◌∷◌, ◌++◌, length, All, ap, sym, subst, refl, arith, append_assoc, append-nil, length-append}
 use Rattle.std.proofs.lemmas.List.Elements.{All-head}
 use Rattle.knit_base.specs.Lines.{HasNoLineEnd}
-use Rattle.journal_file.specs.Grammars.{Lines, Form, IsOne, Both, OneLine, Chain, behind_all}
-use Rattle.journal_file.specs.Lines.{ended}
-use Rattle.journal_file.specs.Reading.{HasRead, IsFault, IsStop, IsTaken, NoneTaken}
+use Rattle.journal_file.specs.Grammars.{Lines, Form, IsUnambiguous, Both, OneLine, Chain, behind_all}
+use Rattle.journal_file.specs.Lines.{lines_with_ends}
+use Rattle.journal_file.specs.Reading.{FormHasRead, IsFault, IsFormStop, IsFirstLineTaken, NoneTaken}
 use Rattle.journal_file.specs.declared.fault.JournalCause.TheVariants.{BadLine, NoFit}
 use Rattle.journal_file.specs.declared.fault.JournalFault.{JournalFault}
 use Rattle.journal_file.specs.declared.fault.JournalFault.TheVariants.{At, NoMemory}
@@ -12,24 +12,24 @@ use Rattle.journal_file.proofs.Grammars.{stop_first, stop_later, stop_line, stop
 use Rattle.journal_file.proofs.Lines.{line_first}
 
 -- one line was read
-pub line_read : {A : Type 0} (L : A → List ℕ → Type 0) (bytes : List ℕ) (taken : ℕ) (a : A) (rest : List ℕ) → IsTaken L bytes a rest → HasRead (OneLine L) bytes taken a rest (taken + 1)
+pub line_read : {A : Type 0} (L : A → List ℕ → Type 0) (bytes : List ℕ) (taken : ℕ) (a : A) (rest : List ℕ) → IsFirstLineTaken L bytes a rest → FormHasRead (OneLine L) bytes taken a rest (taken + 1)
 line_read L bytes taken a rest took lines last h =
     let first = line_first bytes took.line rest last lines took.one took.bytes_are h in
     record { read = took.line ∷ []; more = first.0; lines_are = first.1; says = record { line = took.line; lines_are = refl; says = took.says }; left = first.2; counted = omega arith }
 
 -- no line of the kind is next
-pub line_stops : {A : Type 0} (L : A → List ℕ → Type 0) (a : A) (line : List ℕ) → L a line → (bytes : List ℕ) (taken : ℕ) → NoneTaken L bytes → IsStop (OneLine L) bytes taken (taken + 1)
+pub line_stops : {A : Type 0} (L : A → List ℕ → Type 0) (a : A) (line : List ℕ) → L a line → (bytes : List ℕ) (taken : ℕ) → NoneTaken L bytes → IsFormStop (OneLine L) bytes taken (taken + 1)
 line_stops L a line says bytes taken none lines last h = (0, omega arith, stop_line L a line says lines bad)
   where
     bad : (other : List ℕ) (behind : Lines) → lines ≡ other ∷ behind → (b : _) → L b other → ⊥
     bad other behind is b it =
         let each : All HasNoLineEnd (other ∷ behind) = subst (All HasNoLineEnd) is h.each in
-        none other (ended behind ++ last) (All-head HasNoLineEnd other behind each) (h.bytes_are ∙ ap (λ m. ended m ++ last) is ∙ append_assoc other (10 ∷ ended behind) last) b it
+        none other (lines_with_ends behind ++ last) (All-head HasNoLineEnd other behind each) (h.bytes_are ∙ ap (λ m. lines_with_ends m ++ last) is ∙ append_assoc other (10 ∷ lines_with_ends behind) last) b it
 
 module _ {A B : Type 0} (P : Form A) (Q : A → Form B) where
   -- both parts were read
-  pub both_read : (bytes : List ℕ) (taken : ℕ) (a : A) (rest : List ℕ) (now : ℕ) (b : B) (behind : List ℕ) (then_ : ℕ) → HasRead P bytes taken a rest now → HasRead (Q a) rest now b behind then_
-      → HasRead (Both P Q) bytes taken (a, b) behind then_
+  pub both_read : (bytes : List ℕ) (taken : ℕ) (a : A) (rest : List ℕ) (now : ℕ) (b : B) (behind : List ℕ) (then_ : ℕ) → FormHasRead P bytes taken a rest now → FormHasRead (Q a) rest now b behind then_
+      → FormHasRead (Both P Q) bytes taken (a, b) behind then_
   both_read bytes taken a rest now b behind then_ p q lines last h =
       let w = p lines last h in
       let v = q w.more last w.left in
@@ -43,11 +43,11 @@ module _ {A B : Type 0} (P : Form A) (Q : A → Form B) where
       }
 
   -- the first part stops
-  pub both_stop_first : IsOne P → ((a : A) (t : Lines) → P a t → (b : B) × (u : Lines) × Q a b u) → (bytes : List ℕ) (taken number : ℕ) → IsStop P bytes taken number → IsStop (Both P Q) bytes taken number
+  pub both_stop_first : IsUnambiguous P → ((a : A) (t : Lines) → P a t → (b : B) × (u : Lines) × Q a b u) → (bytes : List ℕ) (taken number : ℕ) → IsFormStop P bytes taken number → IsFormStop (Both P Q) bytes taken number
   both_stop_first one some bytes taken number stops lines last h = let s = stops lines last h in (s.0, s.1, stop_first P Q one lines s.0 some s.2)
 
   -- the second part stops
-  pub both_stop_second : IsOne P → (bytes : List ℕ) (taken : ℕ) (a : A) (rest : List ℕ) (now number : ℕ) → HasRead P bytes taken a rest now → IsStop (Q a) rest now number → IsStop (Both P Q) bytes taken number
+  pub both_stop_second : IsUnambiguous P → (bytes : List ℕ) (taken : ℕ) (a : A) (rest : List ℕ) (now number : ℕ) → FormHasRead P bytes taken a rest now → IsFormStop (Q a) rest now number → IsFormStop (Both P Q) bytes taken number
   both_stop_second one bytes taken a rest now number p stops lines last h =
       let w = p lines last h in
       let s = stops w.more last w.left in
@@ -73,12 +73,12 @@ module _ {S A : Type 0} (P : S → Form A) (next : S → A → S) where
       })
 
   -- nothing was read yet
-  pub chain_none : (s : S) (bytes : List ℕ) (taken : ℕ) → HasRead (Chain P next 0 s) bytes taken [] bytes taken
+  pub chain_none : (s : S) (bytes : List ℕ) (taken : ℕ) → FormHasRead (Chain P next 0 s) bytes taken [] bytes taken
   chain_none s bytes taken lines last h = record { read = []; more = lines; lines_are = refl; says = refl; left = h; counted = omega arith }
 
   -- one more was read
   pub chain_more : (n : ℕ) (s : S) (bytes : List ℕ) (taken : ℕ) (xs : List A) (rest : List ℕ) (now : ℕ) (x : A) (behind : List ℕ) (then_ : ℕ)
-      → HasRead (Chain P next n s) bytes taken xs rest now → HasRead (P (behind_all next s xs)) rest now x behind then_ → HasRead (Chain P next (n + 1) s) bytes taken (xs ++ x ∷ []) behind then_
+      → FormHasRead (Chain P next n s) bytes taken xs rest now → FormHasRead (P (behind_all next s xs)) rest now x behind then_ → FormHasRead (Chain P next (n + 1) s) bytes taken (xs ++ x ∷ []) behind then_
   chain_more n s bytes taken xs rest now x behind then_ p q lines last h =
       let w = p lines last h in
       let v = q w.more last w.left in
@@ -92,9 +92,9 @@ module _ {S A : Type 0} (P : S → Form A) (next : S → A → S) where
       }
 
   -- the next one stops
-  pub chain_stops : ((s : S) → IsOne (P s)) → (done left : ℕ) (s : S) (bytes : List ℕ) (taken : ℕ) (xs : List A) (rest : List ℕ) (now number : ℕ)
-      → ((a : A) (t : Lines) → P (behind_all next s xs) a t → (ys : List A) × (u : Lines) × Chain P next left (next (behind_all next s xs) a) ys u) → HasRead (Chain P next done s) bytes taken xs rest now
-      → IsStop (P (behind_all next s xs)) rest now number → IsStop (Chain P next (done + suc left) s) bytes taken number
+  pub chain_stops : ((s : S) → IsUnambiguous (P s)) → (done left : ℕ) (s : S) (bytes : List ℕ) (taken : ℕ) (xs : List A) (rest : List ℕ) (now number : ℕ)
+      → ((a : A) (t : Lines) → P (behind_all next s xs) a t → (ys : List A) × (u : Lines) × Chain P next left (next (behind_all next s xs) a) ys u) → FormHasRead (Chain P next done s) bytes taken xs rest now
+      → IsFormStop (P (behind_all next s xs)) rest now number → IsFormStop (Chain P next (done + suc left) s) bytes taken number
   chain_stops ones done left s bytes taken xs rest now number some p stops lines last h =
       let w = p lines last h in
       let v = stops w.more last w.left in (
@@ -105,8 +105,8 @@ module _ {S A : Type 0} (P : S → Form A) (next : S → A → S) where
 
 module _ {S A : Type 0} (P : S → Form A) (next : S → A → S) where
   -- the fault of the next one is that of all
-  pub chain_fault : ((s : S) → IsOne (P s)) → (done left : ℕ) (s : S) (bytes : List ℕ) (taken : ℕ) (xs : List A) (rest : List ℕ) (now : ℕ)
-      → ((a : A) (t : Lines) → P (behind_all next s xs) a t → (ys : List A) × (u : Lines) × Chain P next left (next (behind_all next s xs) a) ys u) → HasRead (Chain P next done s) bytes taken xs rest now
+  pub chain_fault : ((s : S) → IsUnambiguous (P s)) → (done left : ℕ) (s : S) (bytes : List ℕ) (taken : ℕ) (xs : List A) (rest : List ℕ) (now : ℕ)
+      → ((a : A) (t : Lines) → P (behind_all next s xs) a t → (ys : List A) × (u : Lines) × Chain P next left (next (behind_all next s xs) a) ys u) → FormHasRead (Chain P next done s) bytes taken xs rest now
       → (fault : JournalFault) → IsFault (P (behind_all next s xs)) rest now fault → IsFault (Chain P next (done + suc left) s) bytes taken fault
   chain_fault ones done left s bytes taken xs rest now some p (At number BadLine) stops = chain_stops P next ones done left s bytes taken xs rest now number some p stops
   chain_fault ones done left s bytes taken xs rest now some p (At number NoFit) stops = stops

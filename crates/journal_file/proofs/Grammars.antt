@@ -1,7 +1,7 @@
 -- The first line with which no text goes on, of a form that is made of several.
 use Rattle.std.proofs.Common.{◌≡◌, ◌∙◌, ◌⊎◌, inl, inr, ℕ, zero, suc, ◌+◌, List, [], ◌∷◌, ◌++◌, length, ap, sym, subst, refl, arith, append_assoc, append-nil, length-append}
 use Rattle.std.proofs.lemmas.List.{append_cancel_left}
-use Rattle.journal_file.specs.Grammars.{Lines, Form, IsOne, StopsBehind, Both, OneLine, Chain, behind_all}
+use Rattle.journal_file.specs.Grammars.{Lines, Form, IsUnambiguous, FormStopsBehind, Both, OneLine, Chain, behind_all}
 
 abbrev tail_of : {A : Type 0} → List A → List A
 tail_of [] = []
@@ -39,9 +39,9 @@ whole_front first second before more is same =
     let none : second ≡ [] = no_items second (omega (arith, ap length is ∙ length-append first second, sym (length-append before more) ∙ ap length same)) in
     sym (is ∙ ap (λ s. first ++ s) none ∙ append-nil first)
 
-module _ {A B : Type 0} (P : Form A) (Q : A → Form B) (one : IsOne P) where
+module _ {A B : Type 0} (P : Form A) (Q : A → Form B) (one : IsUnambiguous P) where
   -- A text stops within its first part.
-  pub stop_first : (lines : Lines) (number : ℕ) → ((a : A) (t : Lines) → P a t → (b : B) × (u : Lines) × Q a b u) → StopsBehind P lines number → StopsBehind (Both P Q) lines number
+  pub stop_first : (lines : Lines) (number : ℕ) → ((a : A) (t : Lines) → P a t → (b : B) × (u : Lines) × Q a b u) → FormStopsBehind P lines number → FormStopsBehind (Both P Q) lines number
   stop_first lines number some s =
       let w = some s.said (s.before ++ s.more) s.goes_on in
       record {
@@ -76,7 +76,7 @@ module _ {A B : Type 0} (P : Form A) (Q : A → Form B) (one : IsOne P) where
               s.ends line rest e a m (subst (P a) (more ∙ ap (λ x. s.before ++ x ∷ m) (sym (same_head line l tail (m ++ second) same))) says)
 
   -- A text stops behind its first part.
-  pub stop_second : (a : A) (t lines rest : Lines) (number : ℕ) → P a t → lines ≡ t ++ rest → StopsBehind (Q a) rest number → StopsBehind (Both P Q) lines (length t + number)
+  pub stop_second : (a : A) (t lines rest : Lines) (number : ℕ) → P a t → lines ≡ t ++ rest → FormStopsBehind (Q a) rest number → FormStopsBehind (Both P Q) lines (length t + number)
   stop_second a t lines rest number says is s = record {
     before = t ++ s.before;
     after = s.after;
@@ -95,7 +95,7 @@ module _ {A B : Type 0} (P : Form A) (Q : A → Form B) (one : IsOne P) where
           let rests : back ≡ second = append_cancel_left t back second (same ∙ ap (λ f. f ++ second) (sym w.1)) in
           subst (λ d. Q d c back) (sym w.0) (subst (Q b c) (sym rests) q)
 
-  pub both_one : ((a : A) → IsOne (Q a)) → IsOne (Both P Q)
+  pub both_one : ((a : A) → IsUnambiguous (Q a)) → IsUnambiguous (Both P Q)
   both_one ones = λ ab cd t u r s p q same.
       let w = one ab.0 cd.0 p.first q.first (p.second ++ r) (q.second ++ s) p.says_first q.says_first
       (sym (append_assoc p.first p.second r) ∙ ap (λ x. x ++ r) (sym p.lines_are) ∙ same ∙ ap (λ x. x ++ s) q.lines_are ∙ append_assoc q.first q.second s) in
@@ -106,7 +106,7 @@ module _ {A B : Type 0} (P : Form A) (Q : A → Form B) (one : IsOne P) where
 
 -- a line that says nothing of the kind, or none, where one is to stand
 pub stop_line : {A : Type 0} (L : A → List ℕ → Type 0) (a : A) (line : List ℕ) → L a line → (lines : Lines) → ((other : List ℕ) (rest : Lines) → lines ≡ other ∷ rest → (b : A) → L b other → ⊥)
-    → StopsBehind (OneLine L) lines 0
+    → FormStopsBehind (OneLine L) lines 0
 stop_line L a line says lines bad = record {
   before = [];
   after = lines;
@@ -119,14 +119,14 @@ stop_line L a line says lines bad = record {
   ends = λ other rest e b tail it. bad other rest e b (subst (L b) (sym (same_head other it.line tail [] it.lines_are)) it.says);
 }
 
-pub line_one : {A : Type 0} (L : A → List ℕ → Type 0) → ((a b : A) (line : List ℕ) → L a line → L b line → a ≡ b) → IsOne (OneLine L)
+pub line_one : {A : Type 0} (L : A → List ℕ → Type 0) → ((a b : A) (line : List ℕ) → L a line → L b line → a ≡ b) → IsUnambiguous (OneLine L)
 line_one L same a b t u r s p q e =
     let lines : p.line ∷ r ≡ q.line ∷ s = sym (ap (λ x. x ++ r) p.lines_are) ∙ e ∙ ap (λ x. x ++ s) q.lines_are in
     let line : p.line ≡ q.line = same_head p.line q.line r s lines in
     (same a b q.line (subst (L a) line p.says) q.says, p.lines_are ∙ ap (λ x. x ∷ []) line ∙ sym q.lines_are)
 
-module _ {S A : Type 0} (P : S → Form A) (next : S → A → S) (ones : (s : S) → IsOne (P s)) where
-  pub chain_one : (n : ℕ) (s : S) → IsOne (Chain P next n s)
+module _ {S A : Type 0} (P : S → Form A) (next : S → A → S) (ones : (s : S) → IsUnambiguous (P s)) where
+  pub chain_one : (n : ℕ) (s : S) → IsUnambiguous (Chain P next n s)
   chain_one zero s [] [] t u r v p q e = (refl, p ∙ sym q)
   chain_one zero s [] (b ∷ ys) t u r v p q e = absurd q
   chain_one zero s (a ∷ xs) ys t u r v p q e = absurd p
@@ -137,7 +137,7 @@ module _ {S A : Type 0} (P : S → Form A) (next : S → A → S) (ones : (s : S
       ((λ i. (w.0 i).0 ∷ (w.0 i).1), w.1)
 
   -- What stops a text and then a chain stops a chain of one more.
-  pub chained : (n : ℕ) (s : S) (lines : Lines) (number : ℕ) → StopsBehind (Both (P s) (λ y. Chain P next n (next s y))) lines number → StopsBehind (Chain P next (suc n) s) lines number
+  pub chained : (n : ℕ) (s : S) (lines : Lines) (number : ℕ) → FormStopsBehind (Both (P s) (λ y. Chain P next n (next s y))) lines number → FormStopsBehind (Chain P next (suc n) s) lines number
   chained n s lines number it = record {
     before = it.before;
     after = it.after;
@@ -155,18 +155,18 @@ module _ {S A : Type 0} (P : S → Form A) (next : S → A → S) (ones : (s : S
       not_here (y ∷ ys) t none c = none y ys c
 
   -- The first text of a chain stops.
-  pub stop_now : (n : ℕ) (s : S) (lines : Lines) (number : ℕ) → ((a : A) (t : Lines) → P s a t → (xs : List A) × (u : Lines) × Chain P next n (next s a) xs u) → StopsBehind (P s) lines number → StopsBehind (Chain P next (suc n) s) lines number
+  pub stop_now : (n : ℕ) (s : S) (lines : Lines) (number : ℕ) → ((a : A) (t : Lines) → P s a t → (xs : List A) × (u : Lines) × Chain P next n (next s a) xs u) → FormStopsBehind (P s) lines number → FormStopsBehind (Chain P next (suc n) s) lines number
   stop_now n s lines number some stops = chained n s lines number (stop_first (P s) (λ y. Chain P next n (next s y)) (ones s) lines number some stops)
 
   -- Texts of a chain stop in one behind others.
   pub stop_later : (i j : ℕ) (s : S) (xs : List A) (t lines rest : Lines) (number : ℕ) → Chain P next i s xs t → lines ≡ t ++ rest
-      → StopsBehind (Chain P next j (behind_all next s xs)) rest number → StopsBehind (Chain P next (i + j) s) lines (length t + number)
+      → FormStopsBehind (Chain P next j (behind_all next s xs)) rest number → FormStopsBehind (Chain P next (i + j) s) lines (length t + number)
   stop_later zero j s [] t lines rest number p is stops =
       let many : j ≡ 0 + j = omega arith in
       let counted : number ≡ length t + number = omega (arith, ap length p) in
-      subst (λ k. StopsBehind (Chain P next k s) lines (length t + number)) many
-      (subst (λ ls. StopsBehind (Chain P next j s) ls (length t + number)) (sym (is ∙ ap (λ x. x ++ rest) p))
-      (subst (λ n. StopsBehind (Chain P next j s) rest n) counted stops))
+      subst (λ k. FormStopsBehind (Chain P next k s) lines (length t + number)) many
+      (subst (λ ls. FormStopsBehind (Chain P next j s) ls (length t + number)) (sym (is ∙ ap (λ x. x ++ rest) p))
+      (subst (λ n. FormStopsBehind (Chain P next j s) rest n) counted stops))
   stop_later zero j s (x ∷ xs) t lines rest number p is stops = absurd p
   stop_later (suc i) j s [] t lines rest number p is stops = absurd p
   stop_later (suc i) j s (x ∷ xs) t lines rest number p is stops =
@@ -175,6 +175,6 @@ module _ {S A : Type 0} (P : S → Form A) (next : S → A → S) (ones : (s : S
       (is ∙ ap (λ y. y ++ rest) p.lines_are ∙ append_assoc p.first p.second rest) later in
       let many : suc (i + j) ≡ suc i + j = omega arith in
       let counted : length p.first + (length p.second + number) ≡ length t + number = omega (arith, ap length p.lines_are, length-append p.first p.second) in
-      subst (λ k. StopsBehind (Chain P next k s) lines (length t + number)) many
-      (subst (λ n. StopsBehind (Chain P next (suc (i + j)) s) lines n) counted
+      subst (λ k. FormStopsBehind (Chain P next k s) lines (length t + number)) many
+      (subst (λ n. FormStopsBehind (Chain P next (suc (i + j)) s) lines n) counted
       (chained (i + j) s lines (length p.first + (length p.second + number)) first))

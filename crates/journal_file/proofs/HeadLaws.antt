@@ -12,27 +12,27 @@ use Rattle.knitout_reader.specs.declared.head.HeadFault.TheVariants.{BadMagic, C
 use Rattle.knitout_reader.specs.Head.{CarriersHeader, carriers_headers, declared_names, has_name_twice, head_len, is_carriers_line, is_head_line, is_magic, magic, carriers_word, names_declared, names_in_line, names_of, names_or_none, one_declared}
 use Rattle.journal_file.specs.declared.head.HeadSoFar.{HeadSoFar}
 use Rattle.journal_file.specs.Grammars.{Lines, Chain}
-use Rattle.journal_file.specs.HeadForms.{AreHeadLines, has_kind, head_form, no_line_yet, with_line}
-use Rattle.journal_file.specs.Lines.{IsShort, IsTextLine}
+use Rattle.journal_file.specs.HeadForms.{AreHeadLines, has_kind, head_form, no_line_yet, head_with_line}
+use Rattle.journal_file.specs.Lines.{IsShort, IsBarredLine}
 use Rattle.journal_file.specs.Heads.{IsWholeHead, names_in_head}
 
 -- no line names the carriers behind one that does
-no_headers : (n : ℕ) (s : HeadSoFar) (texts : List (List ℕ)) (t : Lines) (number : ℕ) → Chain head_form with_line n s texts t → s.named ≡ true → carriers_headers number texts ≡ []
+no_headers : (n : ℕ) (s : HeadSoFar) (texts : List (List ℕ)) (t : Lines) (number : ℕ) → Chain head_form head_with_line n s texts t → s.named ≡ true → carriers_headers number texts ≡ []
 no_headers zero s [] t number p named = refl
 no_headers zero s (x ∷ xs) t number p named = absurd p
 no_headers (suc n) s [] t number p named = absurd p
 no_headers (suc n) s (x ∷ xs) t number p named =
     let none : is_carriers_line x ≡ false = false_from_ne_true (is_carriers_line x) (λ yes. false≢true (sym (p.says_first.says.stands.once yes) ∙ named)) in
-    cond-false (is_carriers_line x) _ _ none ∙ no_headers n (with_line s x) xs p.second (number + 1) p.says_second (ap (λ b. b || is_carriers_line x) named)
+    cond-false (is_carriers_line x) _ _ none ∙ no_headers n (head_with_line s x) xs p.second (number + 1) p.says_second (ap (λ b. b || is_carriers_line x) named)
 
 -- every line goes on with a head
-all_go_on : (n : ℕ) (s : HeadSoFar) (texts : List (List ℕ)) (t : Lines) → Chain head_form with_line n s texts t → s.first ≡ false → prefix_len is_head_line texts ≡ length texts
+all_go_on : (n : ℕ) (s : HeadSoFar) (texts : List (List ℕ)) (t : Lines) → Chain head_form head_with_line n s texts t → s.first ≡ false → prefix_len is_head_line texts ≡ length texts
 all_go_on zero s [] t p first = refl
 all_go_on zero s (x ∷ xs) t p first = absurd p
 all_go_on (suc n) s [] t p first = absurd p
 all_go_on (suc n) s (x ∷ xs) t p first =
     let kind : is_head_line x ≡ true = ap (λ b. if b then is_magic x else is_head_line x) (sym first) ∙ p.says_first.says.stands.kind in
-    let rest = all_go_on n (with_line s x) xs p.second p.says_second refl in
+    let rest = all_go_on n (head_with_line s x) xs p.second p.says_second refl in
     cond-true (is_head_line x) (1 + prefix_len is_head_line xs) 0 kind ∙ omega (arith, rest)
 
 -- one line of these names the carriers, and gives these names
@@ -54,11 +54,11 @@ given_in x number is some =
     (subst IsSome (cond-true (is_carriers_line x) _ None is) some)
 
 -- its first line names the carriers
-named_first : (n : ℕ) (s : HeadSoFar) (x : List ℕ) (xs : List (List ℕ)) (t : Lines) (number : ℕ) → Chain head_form with_line (suc n) s (x ∷ xs) t → is_carriers_line x ≡ true → OneNames number (x ∷ xs)
+named_first : (n : ℕ) (s : HeadSoFar) (x : List ℕ) (xs : List (List ℕ)) (t : Lines) (number : ℕ) → Chain head_form head_with_line (suc n) s (x ∷ xs) t → is_carriers_line x ≡ true → OneNames number (x ∷ xs)
 named_first n s x xs t number p is = record {
   header = record { line = number; names = names_of x };
   names = names_of x;
-  headers = cond-true (is_carriers_line x) _ _ is ∙ ap (λ hs. record { line = number; names = names_of x } ∷ hs) (no_headers n (with_line s x) xs p.second (number + 1) p.says_second (ap (λ b. s.named || b) is ∙ or-true s.named));
+  headers = cond-true (is_carriers_line x) _ _ is ∙ ap (λ hs. record { line = number; names = names_of x } ∷ hs) (no_headers n (head_with_line s x) xs p.second (number + 1) p.says_second (ap (λ b. s.named || b) is ∙ or-true s.named));
   given = given_in x number is (p.says_first.says.stands.names is);
 }
 
@@ -66,7 +66,7 @@ named_first n s x xs t number p is = record {
 named_later : (x : List ℕ) (xs : List (List ℕ)) (number : ℕ) → is_carriers_line x ≡ false → OneNames (number + 1) xs → OneNames number (x ∷ xs)
 named_later x xs number isnt w = record { header = w.header; names = w.names; headers = cond-false (is_carriers_line x) _ _ isnt ∙ w.headers; given = w.given }
 
-one_names : (n : ℕ) (s : HeadSoFar) (texts : List (List ℕ)) (t : Lines) (number : ℕ) → Chain head_form with_line n s texts t → s.left ≡ n → 1 ≤ n → s.named ≡ false → OneNames number texts
+one_names : (n : ℕ) (s : HeadSoFar) (texts : List (List ℕ)) (t : Lines) (number : ℕ) → Chain head_form head_with_line n s texts t → s.left ≡ n → 1 ≤ n → s.named ≡ false → OneNames number texts
 one_names zero s texts t number p left some named = absurd (omega (arith, some))
 one_names (suc n) s [] t number p left some named = absurd p
 one_names (suc zero) s (x ∷ xs) t number p left some named =
@@ -74,7 +74,7 @@ one_names (suc zero) s (x ∷ xs) t number p left some named =
     (λ isnt. absurd (false≢true (sym isnt ∙ sym (ap (λ b. b || is_carriers_line x) named) ∙ p.says_first.says.stands.last left)))
 one_names (suc (suc n)) s (x ∷ xs) t number p left some named =
     by_test (is_carriers_line x) (λ is. named_first (suc n) s x xs t number p is)
-    (λ isnt. named_later x xs number isnt (one_names (suc n) (with_line s x) xs p.second (number + 1) p.says_second (omega (arith, left)) (omega arith) (ap (λ b. b || is_carriers_line x) named ∙ isnt)))
+    (λ isnt. named_later x xs number isnt (one_names (suc n) (head_with_line s x) xs p.second (number + 1) p.says_second (omega (arith, left)) (omega arith) (ap (λ b. b || is_carriers_line x) named ∙ isnt)))
 
 begins : (x front : List ℕ) → starts_with nat_eq x front ≡ true → x ≡ front ++ drop (length front) x
 begins x front is = (starts_is Decides-eqb x front (starts_with nat_eq x front) refl).0 is
@@ -115,18 +115,18 @@ head_law (suc n) two [] t p = absurd p
 head_law (suc n) two (x ∷ xs) t p =
     let kind : is_magic x ≡ true = p.says_first.says.stands.kind in
     let none : is_carriers_line x ≡ false = magic_first x kind in
-    let w = one_names n (with_line (no_line_yet (suc n)) x) xs p.second 2 p.says_second (omega arith) (omega (arith, two)) none in
-    let rest = all_go_on n (with_line (no_line_yet (suc n)) x) xs p.second p.says_second refl in
+    let w = one_names n (head_with_line (no_line_yet (suc n)) x) xs p.second 2 p.says_second (omega arith) (omega (arith, two)) none in
+    let rest = all_go_on n (head_with_line (no_line_yet (suc n)) x) xs p.second p.says_second refl in
     let whole : head_len (x ∷ xs) ≡ length (x ∷ xs) = omega (arith, rest) in
     let declared : declared_names (x ∷ xs) ≡ Ok w.names = cond-true (is_magic x) _ _ kind ∙ ap (λ ls. one_declared (carriers_headers 1 ls)) (take_all (head_len (x ∷ xs)) (x ∷ xs) (omega (arith, whole))) ∙ ap one_declared (cond-false (is_carriers_line x) _ _ none ∙ w.headers) ∙ w.given in
     let names_are : names_in_head (x ∷ xs) ≡ w.names = names_known (x ∷ xs) w.names declared in
     (record { whole = whole; declared = declared ∙ ap Ok (sym names_are) }, subst (λ (ns : List (List ℕ)). length ns ≤ 64) (sym names_are) (few_names w.header w.names w.given))
 
 -- the text line that tells a text
-abbrev pub barred : List ℕ → List ℕ
-barred text = codes "|" ++ text
+abbrev pub barred_text_line : List ℕ → List ℕ
+barred_text_line text = codes "|" ++ text
 
-text_line_is : (text : List ℕ) → IsShort text → IsTextLine text (barred text)
+text_line_is : (text : List ℕ) → IsShort text → IsBarredLine text (barred_text_line text)
 text_line_is text short = record { barred = refl; is_short = short }
 
 -- with these lines a head goes on
@@ -138,24 +138,24 @@ goes_on_first x xs all =
 
 -- lines that name no carriers, behind one that does
 chain_named : (texts : List (List ℕ)) (s : HeadSoFar) (number : ℕ) → s.first ≡ false → s.named ≡ true → AllByRecursion IsShort texts → prefix_len is_head_line texts ≡ length texts → carriers_headers number texts ≡ []
-    → Chain head_form with_line (length texts) s texts (map barred texts)
+    → Chain head_form head_with_line (length texts) s texts (map barred_text_line texts)
 chain_named [] s number first named short all headers = refl
 chain_named (x ∷ xs) s number first named short all headers =
     let go = goes_on_first x xs all in
     let none : is_carriers_line x ≡ false = false_from_ne_true (is_carriers_line x) (λ yes. let some = sym (cond-true (is_carriers_line x) _ _ yes) ∙ headers in absurd (cc)) in
     record {
-      first = barred x ∷ [];
-      second = map barred xs;
+      first = barred_text_line x ∷ [];
+      second = map barred_text_line xs;
       lines_are = refl;
       says_first = record {
-        line = barred x;
+        line = barred_text_line x;
         lines_are = refl;
         says = record {
           barred = text_line_is x short.0;
           stands = record { kind = ap (λ b. if b then is_magic x else is_head_line x) first ∙ go.0; once = λ yes. absurd (false≢true (sym none ∙ yes)); names = λ yes. absurd (false≢true (sym none ∙ yes)); last = λ is. ap (λ b. b || is_carriers_line x) named };
         };
       };
-      says_second = chain_named xs (with_line s x) (number + 1) refl (ap (λ b. b || is_carriers_line x) named) short.1 go.1 (sym (cond-false (is_carriers_line x) _ _ none) ∙ headers);
+      says_second = chain_named xs (head_with_line s x) (number + 1) refl (ap (λ b. b || is_carriers_line x) named) short.1 go.1 (sym (cond-false (is_carriers_line x) _ _ none) ∙ headers);
     }
 
 -- what is given at some line is given in the line by itself
@@ -169,7 +169,7 @@ same_header a b hs same = (cc, cc)
 
 -- lines of which one names the carriers
 chain_unnamed : (texts : List (List ℕ)) (s : HeadSoFar) (number : ℕ) → s.first ≡ false → s.named ≡ false → s.left ≡ length texts → AllByRecursion IsShort texts → prefix_len is_head_line texts ≡ length texts
-    → (header : CarriersHeader) (names : List (List ℕ)) → carriers_headers number texts ≡ header ∷ [] → names_declared header ≡ Ok names → Chain head_form with_line (length texts) s texts (map barred texts)
+    → (header : CarriersHeader) (names : List (List ℕ)) → carriers_headers number texts ≡ header ∷ [] → names_declared header ≡ Ok names → Chain head_form head_with_line (length texts) s texts (map barred_text_line texts)
 chain_unnamed [] s number first named left short all header names headers given = absurd (cc)
 chain_unnamed (x ∷ xs) s number first named left short all header names headers given =
     let go = goes_on_first x xs all in
@@ -181,34 +181,34 @@ chain_unnamed (x ∷ xs) s number first named left short all header names header
     let some = some_given (has_name_twice (names_of x)) (nat_lt 64 (length (names_of x))) (names_of x) names (CarrierNameTwice number) (ManyCarriers number) (CarrierNameTwice 1) (ManyCarriers 1) here in
     let now_named : (s.named || is_carriers_line x) ≡ true = ap (λ b. s.named || b) is ∙ or-true s.named in
     record {
-      first = barred x ∷ [];
-      second = map barred xs;
+      first = barred_text_line x ∷ [];
+      second = map barred_text_line xs;
       lines_are = refl;
       says_first = record {
-        line = barred x;
+        line = barred_text_line x;
         lines_are = refl;
         says = record {
           barred = text_line_is x short.0;
           stands = record { kind = kind; once = λ yes. named; names = λ yes. subst IsSome (sym (cond-true (is_carriers_line x) _ None is)) some; last = λ one. now_named };
         };
       };
-      says_second = chain_named xs (with_line s x) (number + 1) refl now_named short.1 go.1 same.1;
+      says_second = chain_named xs (head_with_line s x) (number + 1) refl now_named short.1 go.1 same.1;
     })
     (λ isnt.
     let behind = sym (cond-false (is_carriers_line x) _ _ isnt) ∙ headers in
     record {
-      first = barred x ∷ [];
-      second = map barred xs;
+      first = barred_text_line x ∷ [];
+      second = map barred_text_line xs;
       lines_are = refl;
       says_first = record {
-        line = barred x;
+        line = barred_text_line x;
         lines_are = refl;
         says = record {
           barred = text_line_is x short.0;
           stands = record { kind = kind; once = λ yes. absurd (false≢true (sym isnt ∙ yes)); names = λ yes. absurd (false≢true (sym isnt ∙ yes)); last = λ one. absurd (none_left xs (omega (arith, left, one)) behind) };
         };
       };
-      says_second = chain_unnamed xs (with_line s x) (number + 1) refl (ap (λ b. b || is_carriers_line x) named ∙ isnt) (omega (arith, left)) short.1 go.1 header names behind given;
+      says_second = chain_unnamed xs (head_with_line s x) (number + 1) refl (ap (λ b. b || is_carriers_line x) named ∙ isnt) (omega (arith, left)) short.1 go.1 header names behind given;
     })
   where
     none_left : (ys : List (List ℕ)) → length ys ≡ 0 → carriers_headers (number + 1) ys ≡ header ∷ [] → ⊥
@@ -223,7 +223,7 @@ declared_by true names (header ∷ []) is = (refl, header, refl, is)
 declared_by true names (header ∷ second ∷ more) is = absurd (cc)
 
 -- one whole head is so many head lines
-pub head_again : (texts : List (List ℕ)) → IsWholeHead texts → AllByRecursion IsShort texts → (2 ≤ length texts) × AreHeadLines (length texts) texts (map barred texts)
+pub head_again : (texts : List (List ℕ)) → IsWholeHead texts → AllByRecursion IsShort texts → (2 ≤ length texts) × AreHeadLines (length texts) texts (map barred_text_line texts)
 head_again [] whole short = absurd (let bad = whole.declared in cc)
 head_again (x ∷ xs) whole short =
     let names = names_in_head (x ∷ xs) in
@@ -233,15 +233,15 @@ head_again (x ∷ xs) whole short =
     let behind : carriers_headers 2 xs ≡ d.1 ∷ [] = sym (cond-false (is_carriers_line x) _ _ none) ∙ d.2 in (
       some_behind xs d.1 behind,
       record {
-        first = barred x ∷ [];
-        second = map barred xs;
+        first = barred_text_line x ∷ [];
+        second = map barred_text_line xs;
         lines_are = refl;
         says_first = record {
-          line = barred x;
+          line = barred_text_line x;
           lines_are = refl;
           says = record { barred = text_line_is x short.0; stands = record { kind = d.0; once = λ yes. refl; names = λ yes. absurd (false≢true (sym none ∙ yes)); last = λ one. absurd (let two = some_behind xs d.1 behind in omega (arith, one, two)) } };
         };
-        says_second = chain_unnamed xs (with_line (no_line_yet (length (x ∷ xs))) x) 2 refl none (omega arith) short.1 all d.1 names behind d.3;
+        says_second = chain_unnamed xs (head_with_line (no_line_yet (length (x ∷ xs))) x) 2 refl none (omega arith) short.1 all d.1 names behind d.3;
       },
     )
   where

@@ -4,7 +4,7 @@ use Rattle.std.proofs.lemmas.List.{append_cancel_left}
 use Rattle.std.proofs.lemmas.List.Elements.{All-tail}
 use Rattle.knit_base.specs.Lines.{HasNoLineEnd}
 use Rattle.knit_base.specs.Names.{spaced_names}
-use Rattle.knit_base.specs.Spelling.{labelled}
+use Rattle.knit_base.specs.Spelling.{labelled_number}
 use Rattle.edit_journal.specs.EntryLine.{head_text}
 use Rattle.journal_file.specs.Headers.{IsHeadEntry, IsHeadFront, IsNames}
 use Rattle.journal_file.specs.Words.{EndsNumber, IsLabelled}
@@ -57,8 +57,8 @@ pub entry_found : (line text : List ℕ) (session seen : ℕ) (names : List (Lis
 entry_found line text session seen names front is = record {
   spelt =
       labelled_spelt line (codes "session ") session front.behind front.session_is
-      ∙ ap (λ t. labelled (codes "session ") session ++ t)
-      (labelled_spelt front.behind (codes " put head seen ") seen (codes " carriers" ++ text) front.seen_is ∙ ap (λ t. labelled (codes " put head seen ") seen ++ (codes " carriers" ++ t)) is.spelt);
+      ∙ ap (λ t. labelled_number (codes "session ") session ++ t)
+      (labelled_spelt front.behind (codes " put head seen ") seen (codes " carriers" ++ text) front.seen_is ∙ ap (λ t. labelled_number (codes " put head seen ") seen ++ (codes " carriers" ++ t)) is.spelt);
   session_few = front.session_few;
   seen_fits = front.seen_is.front.fits;
   are = subst (IsNames names) is.spelt is;
@@ -76,6 +76,6 @@ last_one (byte ∷ front) rest one = last_one front rest (All-tail (λ b. b ≢ 
 
 pub names_one : (line text : List ℕ) (session seen : ℕ) → IsHeadFront session seen text line → HasNoLineEnd line → HasNoLineEnd text
 names_one line text session seen front one =
-    let behind : HasNoLineEnd front.behind = last_one (labelled (codes "session ") session) front.behind (subst HasNoLineEnd (labelled_spelt line (codes "session ") session front.behind front.session_is) one) in
+    let behind : HasNoLineEnd front.behind = last_one (labelled_number (codes "session ") session) front.behind (subst HasNoLineEnd (labelled_spelt line (codes "session ") session front.behind front.session_is) one) in
     last_one (codes " carriers") text
-    (last_one (labelled (codes " put head seen ") seen) (codes " carriers" ++ text) (subst HasNoLineEnd (labelled_spelt front.behind (codes " put head seen ") seen (codes " carriers" ++ text) front.seen_is) behind))
+    (last_one (labelled_number (codes " put head seen ") seen) (codes " carriers" ++ text) (subst HasNoLineEnd (labelled_spelt front.behind (codes " put head seen ") seen (codes " carriers" ++ text) front.seen_is) behind))

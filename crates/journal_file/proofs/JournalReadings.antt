@@ -10,15 +10,15 @@ use Rattle.journal_file.specs.declared.fault.JournalCause.TheVariants.{BadLine, 
 use Rattle.journal_file.specs.declared.fault.JournalFault.{JournalFault}
 use Rattle.journal_file.specs.declared.fault.JournalFault.TheVariants.{At, NoMemory}
 use Rattle.journal_file.specs.EntryForms.{AreEntries}
-use Rattle.journal_file.specs.Faults.{AreEntriesFault, IsBadJournal, IsNoFit, IsPast, IsRefused, IsUnfit, IsUnfitBehind, opening_told}
-use Rattle.journal_file.specs.Grammars.{Lines, Form, StopsBehind}
-use Rattle.journal_file.specs.Lines.{HasLines, ended}
-use Rattle.journal_file.specs.Reading.{HasRead, IsFault, IsStop}
-use Rattle.journal_file.specs.SavedForms.{EntrySaid, IsOpening, OpeningSaid, SavedForm, blocks_told, count_said, entry_said, head_said, profile_said}
-use Rattle.journal_file.specs.SavedParts.{IsLawfulSaved, KeepsBounds, MayAllCome, opening_of}
-use Rattle.journal_file.specs.Spelling.{spelling}
+use Rattle.journal_file.specs.Faults.{AreEntriesFault, IsBadJournal, IsNoFit, IsPast, IsSavedTextRefused, IsUnfit, IsUnfitBehind, opening_told}
+use Rattle.journal_file.specs.Grammars.{Lines, Form, FormStopsBehind}
+use Rattle.journal_file.specs.Lines.{HasLines, lines_with_ends}
+use Rattle.journal_file.specs.Reading.{FormHasRead, IsFault, IsFormStop}
+use Rattle.journal_file.specs.SavedForms.{EntrySaid, OpeningForm, OpeningSaid, SavedForm, blocks_told, count_said, entry_said, head_said, profile_said}
+use Rattle.journal_file.specs.SavedParts.{IsLawfulSaved, KeepsBounds, MayAllCome, opening_of_saved}
+use Rattle.journal_file.specs.Spelling.{saved_spelling}
 use Rattle.journal_file.proofs.Ahead.{ahead, no_shorter}
-use Rattle.journal_file.proofs.EntriesReadings.{counted, some_entries}
+use Rattle.journal_file.proofs.EntriesReadings.{entries_counted, some_entries}
 use Rattle.journal_file.proofs.FormBounds.{all_first, saved_keeps}
 use Rattle.journal_file.proofs.FormReadings.{both_stop_first, both_stop_second}
 use Rattle.journal_file.proofs.FormSpellings.{ended-append, saved_spelt}
@@ -28,8 +28,8 @@ use Rattle.journal_file.proofs.SavedOnes.{opening_one, saved_one}
 use Rattle.journal_file.proofs.SpeltForms.{IsTold, told_whole}
 
 -- what stands before the entries stops
-pub opening_bad : (bytes : List ℕ) (fault : JournalFault) → IsFault IsOpening bytes 0 fault → IsBadJournal bytes fault
-opening_bad bytes (At number BadLine) stops = (inl (both_stop_first IsOpening (λ said. AreEntries (count_said said)) opening_one (λ said t p. some_entries (count_said said)) bytes 0 number stops), none)
+pub opening_bad : (bytes : List ℕ) (fault : JournalFault) → IsFault OpeningForm bytes 0 fault → IsBadJournal bytes fault
+opening_bad bytes (At number BadLine) stops = (inl (both_stop_first OpeningForm (λ said. AreEntries (count_said said)) opening_one (λ said t p. some_entries (count_said said)) bytes 0 number stops), none)
   where
     none : (k : ℕ) → k < number → IsNoFit bytes k → ⊥
     none k below unfit =
@@ -37,7 +37,7 @@ opening_bad bytes (At number BadLine) stops = (inl (both_stop_first IsOpening (�
         let s = stops l.0 l.1 l.2 in
         let u = unfit l.0 l.1 l.2 in
         let counted = u.2.counted in
-        let short = no_shorter IsOpening opening_one l.0 s.0 s.2 u.2.opening u.2.first u.2.rest u.2.says u.2.lines_are in
+        let short = no_shorter OpeningForm opening_one l.0 s.0 s.2 u.2.opening u.2.first u.2.rest u.2.says u.2.lines_are in
         omega (arith, below, s.1, u.1, counted, short)
 opening_bad bytes (At number NoFit) stops = absurd stops
 opening_bad bytes NoMemory stops = tt
@@ -46,14 +46,14 @@ opening_bad bytes NoMemory stops = tt
 joined_lines : (bytes rest : List ℕ) (read more : Lines) (last : List ℕ) → HasLines bytes (read ++ more) last → HasLines rest more last → (lines : Lines) (end : List ℕ) → HasLines rest lines end → HasLines bytes (read ++ lines) end
 joined_lines bytes rest read more last h left lines end g = record {
   bytes_are =
-      h.bytes_are ∙ ap (λ t. t ++ last) (ended-append read more) ∙ append_assoc (ended read) (ended more) last ∙ ap (λ t. ended read ++ t) (sym left.bytes_are ∙ g.bytes_are)
-      ∙ sym (append_assoc (ended read) (ended lines) end) ∙ ap (λ t. t ++ end) (sym (ended-append read lines));
+      h.bytes_are ∙ ap (λ t. t ++ last) (ended-append read more) ∙ append_assoc (lines_with_ends read) (lines_with_ends more) last ∙ ap (λ t. lines_with_ends read ++ t) (sym left.bytes_are ∙ g.bytes_are)
+      ∙ sym (append_assoc (lines_with_ends read) (lines_with_ends lines) end) ∙ ap (λ t. t ++ end) (sym (ended-append read lines));
   each = All-append HasNoLineEnd read lines (all_first read more h.each) g.each;
   none = g.none;
 }
 
 -- an entry that may not come, behind what was read, stands so behind the lines that are left
-unfit_left : (bytes : List ℕ) (o : OpeningSaid) (rest : List ℕ) (now k : ℕ) → HasRead IsOpening bytes 0 o rest now → IsNoFit bytes (now + k) → IsUnfit (opening_told o) (count_said o) rest now (now + k)
+unfit_left : (bytes : List ℕ) (o : OpeningSaid) (rest : List ℕ) (now k : ℕ) → FormHasRead OpeningForm bytes 0 o rest now → IsNoFit bytes (now + k) → IsUnfit (opening_told o) (count_said o) rest now (now + k)
 unfit_left bytes o rest now k read unfit lines last g =
     let l = lines_exist bytes in
     let w = read l.0 l.1 l.2 in
@@ -65,7 +65,7 @@ unfit_left bytes o rest now k read unfit lines last g =
     let others : n.rest ≡ lines = append_cancel_left w.read n.rest lines (ap (λ f. f ++ n.rest) (sym same.1) ∙ sym n.lines_are) in
     (n.behind, omega (arith, u.1, counted, ap length same.1, w.counted), subst (λ ls. IsUnfitBehind (opening_told o) (count_said o) ls n.behind) others (subst (λ s. IsUnfitBehind (opening_told s) (count_said s) n.rest n.behind) same.0 n.unfit))
 
-module _ (bytes : List ℕ) (o : OpeningSaid) (rest : List ℕ) (now : ℕ) (read : HasRead IsOpening bytes 0 o rest now) where
+module _ (bytes : List ℕ) (o : OpeningSaid) (rest : List ℕ) (now : ℕ) (read : FormHasRead OpeningForm bytes 0 o rest now) where
   none_so : (number : ℕ) → ((k : ℕ) → k < number → IsUnfit (opening_told o) (count_said o) rest now k → ⊥) → now ≤ number → (k : ℕ) → k < number → IsNoFit bytes k → ⊥
   none_so number none far k below unfit =
       let l = lines_exist bytes in
@@ -95,7 +95,7 @@ module _ (bytes : List ℕ) (o : OpeningSaid) (rest : List ℕ) (now : ℕ) (rea
         },
       )
 
-  far_stop : (number : ℕ) → IsStop (AreEntries (count_said o)) rest now number → now ≤ number
+  far_stop : (number : ℕ) → IsFormStop (AreEntries (count_said o)) rest now number → now ≤ number
   far_stop number stops = let l = lines_exist rest in let s = stops l.0 l.1 l.2 in omega (arith, s.1)
 
   far_past : (number : ℕ) → IsPast (AreEntries (count_said o)) rest now number → now ≤ number
@@ -104,7 +104,7 @@ module _ (bytes : List ℕ) (o : OpeningSaid) (rest : List ℕ) (now : ℕ) (rea
   -- the fault of the entries is that of the whole
   pub entries_bad : (fault : JournalFault) → AreEntriesFault (opening_told o) (count_said o) rest now fault → IsBadJournal bytes fault
   entries_bad (At number BadLine) stops = elim stops.0 [
-    | inl s ↦ (inl (both_stop_second IsOpening (λ said. AreEntries (count_said said)) opening_one bytes 0 o rest now number read s), none_so number stops.1 (far_stop number s))
+    | inl s ↦ (inl (both_stop_second OpeningForm (λ said. AreEntries (count_said said)) opening_one bytes 0 o rest now number read s), none_so number stops.1 (far_stop number s))
     | inr p ↦ (inr (past_so number p), none_so number stops.1 (far_past number p))
   ]
   entries_bad (At number NoFit) unfit = λ lines last h.
@@ -114,31 +114,31 @@ module _ (bytes : List ℕ) (o : OpeningSaid) (rest : List ℕ) (now : ℕ) (rea
   entries_bad NoMemory stops = tt
 
   -- all was read
-  pub whole_read : (said : List EntrySaid) (end : ℕ) → HasRead (AreEntries (count_said o)) rest now said [] end
-      → (bytes ≡ spelling (head_said o) (profile_said o) (blocks_told o) (map entry_said said)) × KeepsBounds (head_said o) (profile_said o) (blocks_told o) (map entry_said said)
+  pub whole_read : (said : List EntrySaid) (end : ℕ) → FormHasRead (AreEntries (count_said o)) rest now said [] end
+      → (bytes ≡ saved_spelling (head_said o) (profile_said o) (blocks_told o) (map entry_said said)) × KeepsBounds (head_said o) (profile_said o) (blocks_told o) (map entry_said said)
   whole_read said end entries =
       let l = lines_exist bytes in
       let w = read l.0 l.1 l.2 in
       let v = entries w.more l.1 w.left in
       let none : v.more ≡ [] = no_line [] l.1 v.more (All-nil (λ byte. byte ≢ 10)) v.left in
-      let last : l.1 ≡ [] = sym (v.left.bytes_are ∙ ap (λ m. ended m ++ l.1) none) in
+      let last : l.1 ≡ [] = sym (v.left.bytes_are ∙ ap (λ m. lines_with_ends m ++ l.1) none) in
       let lines_are : l.0 ≡ w.read ++ v.read = w.lines_are ∙ ap (λ m. w.read ++ m) (v.lines_are ∙ ap (λ m. v.read ++ m) none ∙ append-nil v.read) in
       let form : SavedForm (o, said) (w.read ++ v.read) = record { first = w.read; second = v.read; lines_are = refl; says_first = w.says; says_second = v.says } in (
-        l.2.bytes_are ∙ (λ i. ended (lines_are i) ++ last i) ∙ append-nil (ended (w.read ++ v.read)) ∙ saved_spelt (o, said) (w.read ++ v.read) form,
+        l.2.bytes_are ∙ (λ i. lines_with_ends (lines_are i) ++ last i) ∙ append-nil (lines_with_ends (w.read ++ v.read)) ∙ saved_spelt (o, said) (w.read ++ v.read) form,
         saved_keeps (o, said) (w.read ++ v.read) form (subst (All HasNoLineEnd) lines_are l.2.each),
       )
 
 -- a whole text isn't a text that stops
-no_stop : {A : Type 0} (P : Form A) (lines : Lines) (number : ℕ) → StopsBehind P lines number → (a : A) → P a lines → ⊥
+no_stop : {A : Type 0} (P : Form A) (lines : Lines) (number : ℕ) → FormStopsBehind P lines number → (a : A) → P a lines → ⊥
 no_stop {A} P lines number s a p = go s.after refl
   where
     go : (after : Lines) → s.after ≡ after → ⊥
     go [] is = s.unfinished a (subst (P a) (s.lines_are ∙ ap (λ b. s.before ++ b) is ∙ append-nil s.before) p)
     go (line ∷ rest) is = s.ends line rest is a rest (subst (P a) (s.lines_are ∙ ap (λ b. s.before ++ b) is) p)
 
-module _ (bytes : List ℕ) (head : List (List ℕ)) (profile : Profile) (blocks : List BlockAt) (entries : List Entry) (lawful : IsLawfulSaved head profile blocks entries) (spelt : bytes ≡ spelling head profile blocks entries) where
+module _ (bytes : List ℕ) (head : List (List ℕ)) (profile : Profile) (blocks : List BlockAt) (entries : List Entry) (lawful : IsLawfulSaved head profile blocks entries) (spelt : bytes ≡ saved_spelling head profile blocks entries) where
   -- a journal has no more entries than may come
-  few_come : (before more : List Entry) → MayAllCome (opening_of head profile blocks) before more → length before ≤ 1048576 → length before + length more ≤ 1048576
+  few_come : (before more : List Entry) → MayAllCome (opening_of_saved head profile blocks) before more → length before ≤ 1048576 → length before + length more ≤ 1048576
   few_come before [] come few = omega (arith, few)
   few_come before (e ∷ es) come few =
       let room = come.0.room in
@@ -154,13 +154,13 @@ module _ (bytes : List ℕ) (head : List (List ℕ)) (profile : Profile) (blocks
       let t = spelt_told in
       record {
         bytes_are =
-            spelt ∙ sym (λ i. spelling (t.head_is i) (t.profile_is i) (t.blocks_are i) (t.entries_are i))
-            ∙ sym (saved_spelt (t.opening, t.said) t.lines t.form) ∙ sym (append-nil (ended t.lines));
+            spelt ∙ sym (λ i. saved_spelling (t.head_is i) (t.profile_is i) (t.blocks_are i) (t.entries_are i))
+            ∙ sym (saved_spelt (t.opening, t.said) t.lines t.form) ∙ sym (append-nil (lines_with_ends t.lines));
         each = t.each;
         none = All-nil (λ byte. byte ≢ 10);
       }
 
-  no_bad_line : (number : ℕ) → IsStop SavedForm bytes 0 number ⊎ IsPast SavedForm bytes 0 number → ⊥
+  no_bad_line : (number : ℕ) → IsFormStop SavedForm bytes 0 number ⊎ IsPast SavedForm bytes 0 number → ⊥
   no_bad_line number (inl stops) =
       let t = spelt_told in
       let s = stops t.lines [] spelt_lines in
@@ -179,20 +179,20 @@ module _ (bytes : List ℕ) (head : List (List ℕ)) (profile : Profile) (blocks
       let u = n.unfit in
       let same = opening_one n.opening t.opening n.first t.form.first n.rest t.form.second n.says t.form.says_first (sym n.lines_are ∙ t.form.lines_are) in
       let others : n.rest ≡ t.form.second = append_cancel_left t.form.first n.rest t.form.second (ap (λ f. f ++ n.rest) (sym same.1) ∙ sym n.lines_are ∙ t.form.lines_are) in
-      let opening_is : opening_of head profile blocks ≡ opening_told n.opening = sym (ap opening_told same.0 ∙ (λ i. opening_of (t.head_is i) (t.profile_is i) (t.blocks_are i))) in
-      let come : MayAllCome (opening_told n.opening) [] (map entry_said t.said) = subst (λ o. MayAllCome o [] (map entry_said t.said)) opening_is (subst (MayAllCome (opening_of head profile blocks) []) (sym t.entries_are) lawful.come) in
-      let a = ahead (opening_told n.opening) [] u.entries t.said u.before u.after t.form.second [] u.line u.next u.read (counted (count_said t.opening) t.said t.form.second t.form.says_second) (sym u.lines_are ∙ others ∙ sym (append-nil t.form.second)) come u.says u.never in
+      let opening_is : opening_of_saved head profile blocks ≡ opening_told n.opening = sym (ap opening_told same.0 ∙ (λ i. opening_of_saved (t.head_is i) (t.profile_is i) (t.blocks_are i))) in
+      let come : MayAllCome (opening_told n.opening) [] (map entry_said t.said) = subst (λ o. MayAllCome o [] (map entry_said t.said)) opening_is (subst (MayAllCome (opening_of_saved head profile blocks) []) (sym t.entries_are) lawful.come) in
+      let a = ahead (opening_told n.opening) [] u.entries t.said u.before u.after t.form.second [] u.line u.next u.read (entries_counted (count_said t.opening) t.said t.form.second t.form.says_second) (sym u.lines_are ∙ others ∙ sym (append-nil t.form.second)) come u.says u.never in
       omega (arith, ap length a.behind_is, length-append a.lines (u.line ∷ u.after))
 
 -- what is refused has no spelling
-pub bad_refused : (bytes : List ℕ) (fault : JournalFault) → IsBadJournal bytes fault → IsRefused bytes fault
+pub bad_refused : (bytes : List ℕ) (fault : JournalFault) → IsBadJournal bytes fault → IsSavedTextRefused bytes fault
 bad_refused bytes (At number BadLine) bad = λ head profile blocks entries lawful spelt. no_bad_line bytes head profile blocks entries lawful spelt number bad.0
 bad_refused bytes (At number NoFit) unfit = λ head profile blocks entries lawful spelt. no_unfit bytes head profile blocks entries lawful spelt number unfit
 bad_refused bytes NoMemory bad = tt
 
 -- what has a spelling has no other parts
-pub one_spelling : (bytes : List ℕ) (head : List (List ℕ)) (profile : Profile) (blocks : List BlockAt) (entries : List Entry) → IsLawfulSaved head profile blocks entries → bytes ≡ spelling head profile blocks entries
-    → (head' : List (List ℕ)) (profile' : Profile) (blocks' : List BlockAt) (entries' : List Entry) → IsLawfulSaved head' profile' blocks' entries' → bytes ≡ spelling head' profile' blocks' entries'
+pub one_spelling : (bytes : List ℕ) (head : List (List ℕ)) (profile : Profile) (blocks : List BlockAt) (entries : List Entry) → IsLawfulSaved head profile blocks entries → bytes ≡ saved_spelling head profile blocks entries
+    → (head' : List (List ℕ)) (profile' : Profile) (blocks' : List BlockAt) (entries' : List Entry) → IsLawfulSaved head' profile' blocks' entries' → bytes ≡ saved_spelling head' profile' blocks' entries'
     → (head ≡ head') × (profile ≡ profile') × (blocks ≡ blocks') × (entries ≡ entries')
 one_spelling bytes head profile blocks entries lawful spelt head' profile' blocks' entries' lawful' spelt' =
     let t = spelt_told bytes head profile blocks entries lawful spelt in

@@ -7,7 +7,7 @@ use Rattle.std.proofs.lemmas.Bool.Decides.{Decides-eqb}
 use Rattle.knit_base.proofs.Places.{by_test}
 use Rattle.knit_base.specs.Lines.{HasNoLineEnd}
 use Rattle.knitout_reader.proofs.Signs.{first_byte, other_bytes}
-use Rattle.journal_file.specs.Lines.{HasLines, ended}
+use Rattle.journal_file.specs.Lines.{HasLines, lines_with_ends}
 
 -- bytes without a line feed have none behind some of them
 pub none_inside : (line more : List ℕ) → HasNoLineEnd (line ++ 10 ∷ more) → ⊥
@@ -28,15 +28,15 @@ one_feed (b ∷ line) (d ∷ front) rest behind none none' same =
 pub no_line : (bytes last : List ℕ) (lines : List (List ℕ)) → HasNoLineEnd bytes → HasLines bytes lines last → lines ≡ []
 no_line bytes last [] none h = refl
 no_line bytes last (line ∷ lines) none h =
-    absurd (none_inside line (ended lines ++ last) (subst HasNoLineEnd (h.bytes_are ∙ append_assoc line (10 ∷ ended lines) last) none))
+    absurd (none_inside line (lines_with_ends lines ++ last) (subst HasNoLineEnd (h.bytes_are ∙ append_assoc line (10 ∷ lines_with_ends lines) last) none))
 
 -- the first line of bytes, and those behind it
 pub line_first : (bytes line rest last : List ℕ) (lines : List (List ℕ)) → HasNoLineEnd line → bytes ≡ line ++ 10 ∷ rest → HasLines bytes lines last
     → (more : List (List ℕ)) × (lines ≡ line ∷ more) × HasLines rest more last
 line_first bytes line rest last [] one is h = absurd (none_inside line rest (subst HasNoLineEnd (sym h.bytes_are ∙ is) h.none))
 line_first bytes line rest last (first ∷ lines) one is h =
-    let same : (line ≡ first) × (rest ≡ ended lines ++ last) = one_feed line first rest (ended lines ++ last) one (All-head HasNoLineEnd first lines h.each)
-    (sym is ∙ h.bytes_are ∙ append_assoc first (10 ∷ ended lines) last) in
+    let same : (line ≡ first) × (rest ≡ lines_with_ends lines ++ last) = one_feed line first rest (lines_with_ends lines ++ last) one (All-head HasNoLineEnd first lines h.each)
+    (sym is ∙ h.bytes_are ∙ append_assoc first (10 ∷ lines_with_ends lines) last) in
     (lines, (λ i. sym same.0 i ∷ lines), record { bytes_are = same.1; each = All-tail HasNoLineEnd first lines h.each; none = h.none })
 
 before_feed : (text : List ℕ) (end : ℕ) → end < length text → ((k : ℕ) → k < end → get_or text k 0 ≢ 10) → HasNoLineEnd (take end text)
@@ -78,6 +78,6 @@ lines_exist (byte ∷ bytes) =
 pub lines_one : (lines : List (List ℕ)) (bytes last : List ℕ) (others : List (List ℕ)) (end : List ℕ) → HasLines bytes lines last → HasLines bytes others end → lines ≡ others
 lines_one [] bytes last others end h g = sym (no_line bytes end others (subst HasNoLineEnd (sym h.bytes_are) h.none) g)
 lines_one (line ∷ lines) bytes last others end h g =
-    let rest = ended lines ++ last in
-    let w = line_first bytes line rest end others (All-head HasNoLineEnd line lines h.each) (h.bytes_are ∙ append_assoc line (10 ∷ ended lines) last) g in
+    let rest = lines_with_ends lines ++ last in
+    let w = line_first bytes line rest end others (All-head HasNoLineEnd line lines h.each) (h.bytes_are ∙ append_assoc line (10 ∷ lines_with_ends lines) last) g in
     ap (λ ls. line ∷ ls) (lines_one lines rest last w.0 end (record { bytes_are = refl; each = All-tail HasNoLineEnd line lines h.each; none = h.none }) w.2) ∙ sym w.1

@@ -4,10 +4,10 @@ use Rattle.std.specs.Fmt.{signed_decimal}
 use Rattle.std.proofs.lemmas.Int.{ints}
 use Rattle.std.proofs.lemmas.List.{append_cancel_left}
 use Rattle.knit_base.specs.Limits.{IsFloatLimit}
-use Rattle.knit_base.specs.Spelling.{labelled}
+use Rattle.knit_base.specs.Spelling.{labelled_number}
 use Rattle.knit_base.specs.declared.profile.Profile.{Profile}
 use Rattle.journal_file.specs.CountLines.{IsCount}
-use Rattle.journal_file.specs.Profiles.{AreLimits, AreNeedles, IsLimit, IsNeedle, IsProfile}
+use Rattle.journal_file.specs.Profiles.{AreLimits, AreNeedles, IsLimit, BeginsWithNeedleNumber, IsProfile}
 use Rattle.journal_file.specs.Spelling.{needle_limits, other_limits}
 use Rattle.journal_file.specs.Words.{EndsNumber}
 use Rattle.journal_file.proofs.EntryLines.{labelled_is, labelled_one, labelled_spelt}
@@ -20,21 +20,21 @@ space rest = λ digit. omega (arith, digit.0)
 pub behind_space : (text a b : List ℕ) → text ≡ codes " " ++ a → text ≡ codes " " ++ b → a ≡ b
 behind_space text a b p q = append_cancel_left (codes " ") a b (sym p ∙ q)
 
-pub needle_one : (text : List ℕ) (n m : ℤ) (rest more : List ℕ) → IsNeedle text n rest → IsNeedle text m more → (n ≡ m) × (rest ≡ more)
+pub needle_one : (text : List ℕ) (n m : ℤ) (rest more : List ℕ) → BeginsWithNeedleNumber text n rest → BeginsWithNeedleNumber text m more → (n ≡ m) × (rest ≡ more)
 needle_one text n m rest more p q = signed_one text n m rest more p.front q.front
 
 -- the lowest needle, and then a space
-pub needles_behind : (text : List ℕ) (low : ℤ) (rest : List ℕ) → IsNeedle text low rest → (l h : ℤ) (more : List ℕ) (it : AreNeedles text l h more) → (low ≡ l) × (rest ≡ codes " " ++ it.behind)
+pub needles_behind : (text : List ℕ) (low : ℤ) (rest : List ℕ) → BeginsWithNeedleNumber text low rest → (l h : ℤ) (more : List ℕ) (it : AreNeedles text l h more) → (low ≡ l) × (rest ≡ codes " " ++ it.behind)
 needles_behind text low rest p l h more it = needle_one text low l rest (codes " " ++ it.behind) p it.first
 
-pub needles_found : (text rest other more : List ℕ) (low high : ℤ) → IsNeedle text low rest → rest ≡ codes " " ++ other → IsNeedle other high more → low ≤ℤ high → AreNeedles text low high more
-needles_found text rest other more low high p is q ordered = record { behind = other; first = subst (IsNeedle text low) is p; second = q; ordered = ordered }
+pub needles_found : (text rest other more : List ℕ) (low high : ℤ) → BeginsWithNeedleNumber text low rest → rest ≡ codes " " ++ other → BeginsWithNeedleNumber other high more → low ≤ℤ high → AreNeedles text low high more
+needles_found text rest other more low high p is q ordered = record { behind = other; first = subst (BeginsWithNeedleNumber text low) is p; second = q; ordered = ordered }
 
 -- there is one of them
-pub needles_high : (text rest other : List ℕ) (low : ℤ) → IsNeedle text low rest → rest ≡ codes " " ++ other → (l h : ℤ) (more : List ℕ) → AreNeedles text l h more → (low ≡ l) × IsNeedle other h more
+pub needles_high : (text rest other : List ℕ) (low : ℤ) → BeginsWithNeedleNumber text low rest → rest ≡ codes " " ++ other → (l h : ℤ) (more : List ℕ) → AreNeedles text l h more → (low ≡ l) × BeginsWithNeedleNumber other h more
 needles_high text rest other low p is l h more it =
     let w = needles_behind text low rest p l h more it in
-    (w.0, subst (λ t. IsNeedle t h more) (behind_space rest it.behind other w.1 is) it.second)
+    (w.0, subst (λ t. BeginsWithNeedleNumber t h more) (behind_space rest it.behind other w.1 is) it.second)
 
 pub needles_one : (text : List ℕ) (l h l' h' : ℤ) (rest more : List ℕ) → AreNeedles text l h rest → AreNeedles text l' h' more → (l ≡ l') × (h ≡ h') × (rest ≡ more)
 needles_one text l h l' h' rest more p q =
@@ -70,8 +70,8 @@ float_few (Some n) lawful = lawful.most
 
 pub parts_of : (p : Profile) (line text : List ℕ) → IsProfile p line → line ≡ codes "profile " ++ text → HasParts p text
 parts_of p line text is begins =
-    let last = labelled (codes " ") (unwrap_or p.float 0) in
-    let holds = labelled (codes " ") p.hold ++ last in
+    let last = labelled_number (codes " ") (unwrap_or p.float 0) in
+    let holds = labelled_number (codes " ") p.hold ++ last in
     let behind = other_limits p in
     let same : text ≡ needle_limits p ++ behind = append_cancel_left (codes "profile ") text (needle_limits p ++ behind) (sym begins ∙ is.spelt) in
     let lawful = is.lawful in
@@ -128,7 +128,7 @@ profile_found line text behind last p float begins n l c none some = record {
     limits : behind ≡ other_limits p
     limits =
         labelled_spelt behind (codes " ") p.rack l.behind l.first.front
-        ∙ ap (λ t. labelled (codes " ") p.rack ++ t) (labelled_spelt l.behind (codes " ") p.hold last l.second.front ∙ ap (λ t. labelled (codes " ") p.hold ++ t) (c.spelt ∙ ap (labelled (codes " ")) (told float none some)))
+        ∙ ap (λ t. labelled_number (codes " ") p.rack ++ t) (labelled_spelt l.behind (codes " ") p.hold last l.second.front ∙ ap (λ t. labelled_number (codes " ") p.hold ++ t) (c.spelt ∙ ap (labelled_number (codes " ")) (told float none some)))
 
     needles : text ≡ needle_limits p ++ other_limits p
     needles =

@@ -6,8 +6,8 @@ use Rattle.edit_journal.specs.declared.edit.BlockAt.{BlockAt}
 use Rattle.edit_journal.specs.declared.edit.Edit.{Edit}
 use Rattle.edit_journal.specs.declared.edit.Edit.TheVariants as edit
 use Rattle.edit_journal.specs.declared.edit.Entry.{Entry}
-use Rattle.edit_book.specs.Outlines.{HasShortText, texts_of}
-use Rattle.journal_file.specs.SavedParts.{IsWritable, IsWritten, KeepsBounds, numbered_from}
+use Rattle.edit_book.specs.Outlines.{HasShortText, block_texts_of}
+use Rattle.journal_file.specs.SavedParts.{IsWritable, IsSpelledEntry, KeepsBounds, numbered_from}
 
 -- what an edit that has a spelling gives is short
 pub short_given : (e : Edit) → IsWritable e → HasShortText e
@@ -17,7 +17,7 @@ short_given (edit.Cut block seen) is = tt
 short_given (edit.Head seen names) is = tt
 
 -- an opening keeps the bounds that it keeps with a journal
-pub opening_only : (head : List (List ℕ)) (profile : Profile) (blocks : List BlockAt) (entries : List Entry) → KeepsBounds head profile blocks entries → KeepsBounds head profile (numbered_from 0 (texts_of blocks)) []
+pub opening_only : (head : List (List ℕ)) (profile : Profile) (blocks : List BlockAt) (entries : List Entry) → KeepsBounds head profile blocks entries → KeepsBounds head profile (numbered_from 0 (block_texts_of blocks)) []
 opening_only head profile blocks entries keeps = subst (λ bs. KeepsBounds head profile bs []) keeps.numbered (record {
   limits = keeps.limits;
   whole = keeps.whole;
@@ -27,5 +27,5 @@ opening_only head profile blocks entries keeps = subst (λ bs. KeepsBounds head 
   blocks_few = keeps.blocks_few;
   lines_few = keeps.lines_few;
   texts = keeps.texts;
-  written = All-nil IsWritten;
+  written = All-nil IsSpelledEntry;
 })

@@ -4,7 +4,7 @@ use Rattle.std.proofs.lemmas.List.{length-map}
 use Rattle.std.proofs.lemmas.List.Elements.{All-append, All-cons, All-head, All-nil, All-tail, All-weaker, recursion_from_All}
 use Rattle.knit_base.specs.Lines.{HasNoLineEnd}
 use Rattle.knit_base.specs.Names.{spaced_names}
-use Rattle.knit_base.specs.Spelling.{labelled}
+use Rattle.knit_base.specs.Spelling.{labelled_number}
 use Rattle.knit_base.specs.declared.profile.Profile.{Profile}
 use Rattle.edit_journal.specs.declared.edit.Anchor.{Anchor}
 use Rattle.edit_journal.specs.declared.edit.Anchor.TheVariants.{Start, After}
@@ -22,49 +22,49 @@ use Rattle.journal_file.specs.EntryForms.{AreEntries, IsEntryLine, IsEntryText, 
 use Rattle.journal_file.specs.Grammars.{Lines, Chain}
 use Rattle.journal_file.specs.Lines.{IsShort}
 use Rattle.journal_file.specs.SavedForms.{EntrySaid, OpeningSaid, SavedForm, block_words, blocks_told, entry_said, head_said, profile_said}
-use Rattle.edit_book.specs.Outlines.{texts_of}
-use Rattle.journal_file.specs.SavedParts.{IsFirstText, IsShortLine, IsWritable, IsWritten, KeepsBounds, numbered_from}
+use Rattle.edit_book.specs.Outlines.{block_texts_of}
+use Rattle.journal_file.specs.SavedParts.{IsFirstText, IsShortLine, IsWritable, IsSpelledEntry, KeepsBounds, numbered_from}
 use Rattle.journal_file.specs.Spelling.{profile_text}
-use Rattle.journal_file.specs.Texts.{AreTexts}
-use Rattle.journal_file.proofs.HeadLaws.{barred, head_again}
+use Rattle.journal_file.specs.Texts.{TextLinesForm}
+use Rattle.journal_file.proofs.HeadLaws.{barred_text_line, head_again}
 use Rattle.journal_file.proofs.PlainLines.{both_plain, decimal_plain, labelled_plain, names_plain, no_feed, profile_plain}
 
 short_of : (line : List ℕ) → IsShortLine line → IsShort line
 short_of line is = record { utf8 = is.utf8; short = is.short }
 
 -- text lines tell texts
-texts_form : (texts : List (List ℕ)) → All IsShortLine texts → AreTexts (length texts) texts (map barred texts)
+texts_form : (texts : List (List ℕ)) → All IsShortLine texts → TextLinesForm (length texts) texts (map barred_text_line texts)
 texts_form [] each = refl
 texts_form (x ∷ xs) each = record {
-  first = barred x ∷ [];
-  second = map barred xs;
+  first = barred_text_line x ∷ [];
+  second = map barred_text_line xs;
   lines_are = refl;
-  says_first = record { line = barred x; lines_are = refl; says = record { barred = refl; is_short = short_of x (All-head IsShortLine x xs each) } };
+  says_first = record { line = barred_text_line x; lines_are = refl; says = record { barred = refl; is_short = short_of x (All-head IsShortLine x xs each) } };
   says_second = texts_form xs (All-tail IsShortLine x xs each);
 }
 
-texts_plain : (texts : List (List ℕ)) → All IsShortLine texts → All HasNoLineEnd (map barred texts)
+texts_plain : (texts : List (List ℕ)) → All IsShortLine texts → All HasNoLineEnd (map barred_text_line texts)
 texts_plain [] each = All-nil HasNoLineEnd
 texts_plain (x ∷ xs) each =
-    All-cons HasNoLineEnd (barred x) (map barred xs) (All-cons (λ byte. byte ≢ 10) 124 x (λ is. absurd (omega (arith, is))) (All-head IsShortLine x xs each).one) (texts_plain xs (All-tail IsShortLine x xs each))
+    All-cons HasNoLineEnd (barred_text_line x) (map barred_text_line xs) (All-cons (λ byte. byte ≢ 10) 124 x (λ is. absurd (omega (arith, is))) (All-head IsShortLine x xs each).one) (texts_plain xs (All-tail IsShortLine x xs each))
 
 -- the lines of a block
 abbrev block_told : List (List ℕ) → Lines
-block_told text = labelled (codes "block ") (length text) ∷ map barred text
+block_told text = labelled_number (codes "block ") (length text) ∷ map barred_text_line text
 
 block_is : (most : ℕ) (text : List (List ℕ)) → IsFirstText text → length text ≤ most → IsBlock most (block_words text) (block_told text)
 block_is most text is few = record {
-  first = labelled (codes "block ") (length text) ∷ [];
-  second = map barred text;
+  first = labelled_number (codes "block ") (length text) ∷ [];
+  second = map barred_text_line text;
   lines_are = refl;
-  says_first = record { line = labelled (codes "block ") (length text); lines_are = refl; says = record { spelt = refl; enough = is.some; few = few } };
+  says_first = record { line = labelled_number (codes "block ") (length text); lines_are = refl; says = record { spelt = refl; enough = is.some; few = few } };
   says_second = texts_form text is.lines;
 }
 
 block_plain : (text : List (List ℕ)) → IsFirstText text → All HasNoLineEnd (block_told text)
 block_plain text is =
     let few = is.few in
-    All-cons HasNoLineEnd (labelled (codes "block ") (length text)) (map barred text) (labelled_plain (codes "block ") (length text) refl (omega (arith, few))) (texts_plain text is.lines)
+    All-cons HasNoLineEnd (labelled_number (codes "block ") (length text)) (map barred_text_line text) (labelled_plain (codes "block ") (length text) refl (omega (arith, few))) (texts_plain text is.lines)
 
 -- how many lines these texts have
 abbrev lines_in : List (List (List ℕ)) → ℕ
@@ -126,16 +126,16 @@ words_again session (edit.Cut block seen) = refl
 words_again session (edit.Head seen names) = refl
 
 -- a line and the lines of its text
-told : (said : EntryLine) (text : List (List ℕ)) (line : List ℕ) → IsEntryLine said line → length text ≡ text_lines_behind said → All IsShortLine text → IsEntryText (said, text) (line ∷ map barred text)
+told : (said : EntryLine) (text : List (List ℕ)) (line : List ℕ) → IsEntryLine said line → length text ≡ text_lines_behind said → All IsShortLine text → IsEntryText (said, text) (line ∷ map barred_text_line text)
 told said text line is many each = record {
   first = line ∷ [];
-  second = map barred text;
+  second = map barred_text_line text;
   lines_are = refl;
   says_first = record { line = line; lines_are = refl; says = is };
-  says_second = subst (λ n. AreTexts n text (map barred text)) many (texts_form text each);
+  says_second = subst (λ n. TextLinesForm n text (map barred_text_line text)) many (texts_form text each);
 }
 
-entry_told : (session : ℕ) (e : Edit) → session < 64 → IsWritable e → IsEntryText (words_of session e) (entry_line (record { session = session; edit = e }) ∷ map barred (words_of session e).1)
+entry_told : (session : ℕ) (e : Edit) → session < 64 → IsWritable e → IsEntryText (words_of session e) (entry_line (record { session = session; edit = e }) ∷ map barred_text_line (words_of session e).1)
 entry_told session (edit.Put block seen text) few is =
     told (words_of session (edit.Put block seen text)).0 text (entry_line (record { session = session; edit = edit.Put block seen text })) (record { spelt = refl; session = few; lawful = (is.0, is.1, is.2.few) }) refl is.2.lines
 entry_told session (edit.Add anchor block text) few is =
@@ -152,17 +152,17 @@ anchor_plain (After id) is = decimal_plain id (omega (arith, is))
 edit_plain : (e : Edit) → IsWritable e → HasNoLineEnd (edit_text e)
 edit_plain (edit.Put block seen text) is =
     let few = is.2.few in
-    both_plain (labelled (codes " put ") block) (labelled (codes " seen ") seen ++ labelled (codes " lines ") (length text)) (labelled_plain (codes " put ") block refl (omega (arith, is.0)))
-    (both_plain (labelled (codes " seen ") seen) (labelled (codes " lines ") (length text)) (labelled_plain (codes " seen ") seen refl (omega (arith, is.1))) (labelled_plain (codes " lines ") (length text) refl (omega (arith, few))))
+    both_plain (labelled_number (codes " put ") block) (labelled_number (codes " seen ") seen ++ labelled_number (codes " lines ") (length text)) (labelled_plain (codes " put ") block refl (omega (arith, is.0)))
+    (both_plain (labelled_number (codes " seen ") seen) (labelled_number (codes " lines ") (length text)) (labelled_plain (codes " seen ") seen refl (omega (arith, is.1))) (labelled_plain (codes " lines ") (length text) refl (omega (arith, few))))
 edit_plain (edit.Add anchor block text) is =
     let few = is.2.few in
-    both_plain (codes " add ") (anchor_text anchor ++ (labelled (codes " block ") block ++ labelled (codes " lines ") (length text))) (no_feed (codes " add ") refl)
-    (both_plain (anchor_text anchor) (labelled (codes " block ") block ++ labelled (codes " lines ") (length text)) (anchor_plain anchor is.0)
-    (both_plain (labelled (codes " block ") block) (labelled (codes " lines ") (length text)) (labelled_plain (codes " block ") block refl (omega (arith, is.1))) (labelled_plain (codes " lines ") (length text) refl (omega (arith, few)))))
+    both_plain (codes " add ") (anchor_text anchor ++ (labelled_number (codes " block ") block ++ labelled_number (codes " lines ") (length text))) (no_feed (codes " add ") refl)
+    (both_plain (anchor_text anchor) (labelled_number (codes " block ") block ++ labelled_number (codes " lines ") (length text)) (anchor_plain anchor is.0)
+    (both_plain (labelled_number (codes " block ") block) (labelled_number (codes " lines ") (length text)) (labelled_plain (codes " block ") block refl (omega (arith, is.1))) (labelled_plain (codes " lines ") (length text) refl (omega (arith, few)))))
 edit_plain (edit.Cut block seen) is =
-    both_plain (labelled (codes " cut ") block) (labelled (codes " seen ") seen) (labelled_plain (codes " cut ") block refl (omega (arith, is.0))) (labelled_plain (codes " seen ") seen refl (omega (arith, is.1)))
+    both_plain (labelled_number (codes " cut ") block) (labelled_number (codes " seen ") seen) (labelled_plain (codes " cut ") block refl (omega (arith, is.0))) (labelled_plain (codes " seen ") seen refl (omega (arith, is.1)))
 edit_plain (edit.Head seen names) is =
-    both_plain (labelled (codes " put head seen ") seen) (codes " carriers" ++ spaced_names names) (labelled_plain (codes " put head seen ") seen refl (omega (arith, is.0)))
+    both_plain (labelled_number (codes " put head seen ") seen) (codes " carriers" ++ spaced_names names) (labelled_plain (codes " put head seen ") seen refl (omega (arith, is.0)))
     (both_plain (codes " carriers") (spaced_names names) (no_feed (codes " carriers") refl) (names_plain names is.1.are.each))
 
 given_plain : (session : ℕ) (e : Edit) → IsWritable e → All IsShortLine (words_of session e).1
@@ -175,29 +175,29 @@ abbrev entry_words : Entry → EntrySaid
 entry_words entry = words_of entry.session entry.edit
 
 abbrev entry_lines_told : Entry → Lines
-entry_lines_told entry = entry_line entry ∷ map barred (entry_words entry).1
+entry_lines_told entry = entry_line entry ∷ map barred_text_line (entry_words entry).1
 
-entry_plain : (entry : Entry) → IsWritten entry → All HasNoLineEnd (entry_lines_told entry)
+entry_plain : (entry : Entry) → IsSpelledEntry entry → All HasNoLineEnd (entry_lines_told entry)
 entry_plain entry is =
     let few = is.session in
-    All-cons HasNoLineEnd (entry_line entry) (map barred (entry_words entry).1)
-    (both_plain (labelled (codes "session ") entry.session) (edit_text entry.edit) (labelled_plain (codes "session ") entry.session refl (omega (arith, few))) (edit_plain entry.edit is.given))
+    All-cons HasNoLineEnd (entry_line entry) (map barred_text_line (entry_words entry).1)
+    (both_plain (labelled_number (codes "session ") entry.session) (edit_text entry.edit) (labelled_plain (codes "session ") entry.session refl (omega (arith, few))) (edit_plain entry.edit is.given))
     (texts_plain (entry_words entry).1 (given_plain entry.session entry.edit is.given))
 
 abbrev entries_told : List Entry → Lines
 entries_told [] = []
 entries_told (entry ∷ entries) = entry_lines_told entry ++ entries_told entries
 
-entries_form : (entries : List Entry) → All IsWritten entries → AreEntries (length entries) (map entry_words entries) (entries_told entries)
+entries_form : (entries : List Entry) → All IsSpelledEntry entries → AreEntries (length entries) (map entry_words entries) (entries_told entries)
 entries_form [] each = refl
 entries_form (entry ∷ entries) each =
-    let first = All-head IsWritten entry entries each in
-    record { first = entry_lines_told entry; second = entries_told entries; lines_are = refl; says_first = entry_told entry.session entry.edit first.session first.given; says_second = entries_form entries (All-tail IsWritten entry entries each) }
+    let first = All-head IsSpelledEntry entry entries each in
+    record { first = entry_lines_told entry; second = entries_told entries; lines_are = refl; says_first = entry_told entry.session entry.edit first.session first.given; says_second = entries_form entries (All-tail IsSpelledEntry entry entries each) }
 
-entries_plain : (entries : List Entry) → All IsWritten entries → All HasNoLineEnd (entries_told entries)
+entries_plain : (entries : List Entry) → All IsSpelledEntry entries → All HasNoLineEnd (entries_told entries)
 entries_plain [] each = All-nil HasNoLineEnd
 entries_plain (entry ∷ entries) each =
-    All-append HasNoLineEnd (entry_lines_told entry) (entries_told entries) (entry_plain entry (All-head IsWritten entry entries each)) (entries_plain entries (All-tail IsWritten entry entries each))
+    All-append HasNoLineEnd (entry_lines_told entry) (entries_told entries) (entry_plain entry (All-head IsSpelledEntry entry entries each)) (entries_plain entries (All-tail IsSpelledEntry entry entries each))
 
 entries_again : (entries : List Entry) → map entry_said (map entry_words entries) ≡ entries
 entries_again [] = refl
@@ -222,28 +222,28 @@ pub record IsTold (head : List (List ℕ)) (profile : Profile) (blocks : List Bl
 -- what keeps its bounds is told
 pub told_whole : (head : List (List ℕ)) (profile : Profile) (blocks : List BlockAt) (entries : List Entry) → KeepsBounds head profile blocks entries → length entries ≤ 4294967295 → IsTold head profile blocks entries
 told_whole head profile blocks entries keeps few =
-    let texts = texts_of blocks in
+    let texts = block_texts_of blocks in
     let head_is = head_again head keeps.whole (recursion_from_All IsShort head (All-weaker IsShortLine IsShort short_of head keeps.head_lines)) in
     let head_few = keeps.head_few in
     let blocks_few = keeps.blocks_few in
     let lines_few = keeps.lines_few in
     let many : length texts ≡ length blocks = length-map blocks (λ (block : BlockAt). block.text) in
     let lines : length (flat_map (λ (block : BlockAt). block.text) blocks) ≡ lines_in texts = ap (λ bs. length (flat_map (λ (block : BlockAt). block.text) bs)) keeps.numbered ∙ lines_counted 0 texts in
-    let head_line = labelled (codes "head ") (length head) in
-    let blocks_line = labelled (codes "blocks ") (length texts) in
-    let entries_line = labelled (codes "entries ") (length entries) in
+    let head_line = labelled_number (codes "head ") (length head) in
+    let blocks_line = labelled_number (codes "blocks ") (length texts) in
+    let entries_line = labelled_number (codes "entries ") (length entries) in
     let front = codes "journal 1" ∷ profile_text profile ∷ [] in
     record {
       opening = ((tt, profile), ((length head, head), ((length texts, map block_words texts), length entries)));
       said = map entry_words entries;
-      lines = (front ++ ((head_line ∷ map barred head) ++ ((blocks_line ∷ blocks_lines_told texts) ++ entries_line ∷ []))) ++ entries_told entries;
+      lines = (front ++ ((head_line ∷ map barred_text_line head) ++ ((blocks_line ∷ blocks_lines_told texts) ++ entries_line ∷ []))) ++ entries_told entries;
       form = record {
-        first = front ++ ((head_line ∷ map barred head) ++ ((blocks_line ∷ blocks_lines_told texts) ++ entries_line ∷ []));
+        first = front ++ ((head_line ∷ map barred_text_line head) ++ ((blocks_line ∷ blocks_lines_told texts) ++ entries_line ∷ []));
         second = entries_told entries;
         lines_are = refl;
         says_first = record {
           first = front;
-          second = (head_line ∷ map barred head) ++ ((blocks_line ∷ blocks_lines_told texts) ++ entries_line ∷ []);
+          second = (head_line ∷ map barred_text_line head) ++ ((blocks_line ∷ blocks_lines_told texts) ++ entries_line ∷ []);
           lines_are = refl;
           says_first = record {
             first = codes "journal 1" ∷ [];
@@ -253,12 +253,12 @@ told_whole head profile blocks entries keeps few =
             says_second = record { line = profile_text profile; lines_are = refl; says = record { spelt = refl; lawful = keeps.limits } };
           };
           says_second = record {
-            first = head_line ∷ map barred head;
+            first = head_line ∷ map barred_text_line head;
             second = (blocks_line ∷ blocks_lines_told texts) ++ entries_line ∷ [];
             lines_are = refl;
             says_first = record {
               first = head_line ∷ [];
-              second = map barred head;
+              second = map barred_text_line head;
               lines_are = refl;
               says_first = record { line = head_line; lines_are = refl; says = record { spelt = refl; enough = head_is.0; few = head_few } };
               says_second = head_is.1;
@@ -281,11 +281,11 @@ told_whole head profile blocks entries keeps few =
         says_second = entries_form entries keeps.written;
       };
       each =
-          All-append HasNoLineEnd (front ++ ((head_line ∷ map barred head) ++ ((blocks_line ∷ blocks_lines_told texts) ++ entries_line ∷ []))) (entries_told entries)
-          (All-append HasNoLineEnd front ((head_line ∷ map barred head) ++ ((blocks_line ∷ blocks_lines_told texts) ++ entries_line ∷ []))
+          All-append HasNoLineEnd (front ++ ((head_line ∷ map barred_text_line head) ++ ((blocks_line ∷ blocks_lines_told texts) ++ entries_line ∷ []))) (entries_told entries)
+          (All-append HasNoLineEnd front ((head_line ∷ map barred_text_line head) ++ ((blocks_line ∷ blocks_lines_told texts) ++ entries_line ∷ []))
           (All-cons HasNoLineEnd (codes "journal 1") (profile_text profile ∷ []) (no_feed (codes "journal 1") refl) (only (profile_text profile) (profile_plain profile keeps.limits)))
-          (All-append HasNoLineEnd (head_line ∷ map barred head) ((blocks_line ∷ blocks_lines_told texts) ++ entries_line ∷ [])
-          (All-cons HasNoLineEnd head_line (map barred head) (labelled_plain (codes "head ") (length head) refl (omega (arith, head_few))) (texts_plain head keeps.head_lines))
+          (All-append HasNoLineEnd (head_line ∷ map barred_text_line head) ((blocks_line ∷ blocks_lines_told texts) ++ entries_line ∷ [])
+          (All-cons HasNoLineEnd head_line (map barred_text_line head) (labelled_plain (codes "head ") (length head) refl (omega (arith, head_few))) (texts_plain head keeps.head_lines))
           (All-append HasNoLineEnd (blocks_line ∷ blocks_lines_told texts) (entries_line ∷ [])
           (All-cons HasNoLineEnd blocks_line (blocks_lines_told texts) (labelled_plain (codes "blocks ") (length texts) refl (omega (arith, many, blocks_few))) (blocks_plain texts keeps.texts))
           (only entries_line (labelled_plain (codes "entries ") (length entries) refl (omega (arith, few)))))))

@@ -2,11 +2,11 @@
 use Rattle.std.specs.Prelude.{ℕ, ◌+◌, ◌-◌, min, List, codes}
 use Rattle.journal_file.specs.CountLines.{IsCount}
 use Rattle.journal_file.specs.Grammars.{Form, OneLine, Both, Chain}
-use Rattle.journal_file.specs.Texts.{AreTexts}
+use Rattle.journal_file.specs.Texts.{TextLinesForm}
 
 -- how many lines it has, 1 to so many, and the lines
 abbrev pub IsBlock : ℕ → Form (ℕ × List (List ℕ))
-IsBlock most = Both (OneLine (IsCount (codes "block ") 1 most)) (λ count. AreTexts count)
+IsBlock most = Both (OneLine (IsCount (codes "block ") 1 most)) (λ count. TextLinesForm count)
 
 -- how many lines the blocks so far have, and how many blocks are to come
 pub record BlocksSoFar : Type 0 where
@@ -27,5 +27,5 @@ abbrev pub no_block_yet : ℕ → BlocksSoFar
 no_block_yet many = record { lines = 0; left = many }
 
 -- so many of the first blocks
-abbrev pub AreBlocks : ℕ → Form (List (ℕ × List (List ℕ)))
-AreBlocks many = Chain block_form with_block many (no_block_yet many)
+abbrev pub BlocksForm : ℕ → Form (List (ℕ × List (List ℕ)))
+BlocksForm many = Chain block_form with_block many (no_block_yet many)

@@ -3,7 +3,7 @@ use Rattle.std.specs.Prelude.{◌≡◌, ℕ, ◌<◌, ◌≤◌, ◌^◌, List,
 use Rattle.edit_journal.specs.declared.edit.Anchor.{Anchor}
 use Rattle.edit_journal.specs.declared.edit.Anchor.TheVariants.{Start, After}
 use Rattle.edit_journal.specs.EntryLine.{add_text, anchor_text, cut_text, put_text}
-use Rattle.knit_base.specs.Spelling.{labelled}
+use Rattle.knit_base.specs.Spelling.{labelled_number}
 use Rattle.journal_file.specs.declared.entry_words.EditWords.{EditWords}
 use Rattle.journal_file.specs.declared.entry_words.EditWords.TheVariants.{Put, Add, Cut}
 use Rattle.journal_file.specs.declared.entry_words.EntryWords.{EntryWords}
@@ -30,19 +30,19 @@ pub record IsEdit (e : EditWords) (text : List ℕ) : Type 0 where
 
 -- the line tells the entry
 pub record IsEntry (e : EntryWords) (line : List ℕ) : Type 0 where
-  pub spelt : line ≡ labelled (codes "session ") e.session ++ edit_line e.edit
+  pub spelt : line ≡ labelled_number (codes "session ") e.session ++ edit_line e.edit
   pub session : e.session < 64
   pub lawful : IsLawfulEdit e.edit
 
 -- two numbers, each behind its label
 pub record IsPair (first second : List ℕ) (most a b : ℕ) (text : List ℕ) : Type 0 where
-  pub spelt : text ≡ labelled first a ++ labelled second b
+  pub spelt : text ≡ labelled_number first a ++ labelled_number second b
   pub fits : a < 2 ^ 32
   pub few : b ≤ most
 
 -- what stands behind the word of an add
 pub record IsAdd (anchor : Anchor) (block lines : ℕ) (text : List ℕ) : Type 0 where
-  pub spelt : text ≡ anchor_text anchor ++ (labelled (codes " block ") block ++ labelled (codes " lines ") lines)
+  pub spelt : text ≡ anchor_text anchor ++ (labelled_number (codes " block ") block ++ labelled_number (codes " lines ") lines)
   pub lawful_anchor : IsLawfulAnchor anchor
   pub fits : block < 2 ^ 32
   pub few : lines ≤ 4096

@@ -7,7 +7,7 @@ use Rattle.journal_file.specs.declared.entry_line.EntryLine.TheVariants.{Block, 
 use Rattle.journal_file.specs.Entries.{IsEntry}
 use Rattle.journal_file.specs.Grammars.{Form, OneLine, Both, Chain}
 use Rattle.journal_file.specs.Headers.{IsHeadEntry}
-use Rattle.journal_file.specs.Texts.{AreTexts}
+use Rattle.journal_file.specs.Texts.{TextLinesForm}
 
 -- the line says this
 abbrev pub IsEntryLine : EntryLine → List ℕ → Type 0
@@ -27,7 +27,7 @@ text_lines_behind (Header words) = 0
 
 -- an entry: its line, and its text
 abbrev pub IsEntryText : Form (EntryLine × List (List ℕ))
-IsEntryText = Both (OneLine IsEntryLine) (λ line. AreTexts (text_lines_behind line))
+IsEntryText = Both (OneLine IsEntryLine) (λ line. TextLinesForm (text_lines_behind line))
 
 abbrev pub entry_form : Unit {0} → Form (EntryLine × List (List ℕ))
 entry_form s = IsEntryText

@@ -13,10 +13,10 @@ use Rattle.journal_file.specs.declared.saved.Saved.{Saved}
 use Rattle.journal_file.specs.EntryForms.{AreEntries, IsEntryLine, IsEntryText, text_lines_behind}
 use Rattle.journal_file.specs.Grammars.{Lines, Form}
 use Rattle.journal_file.specs.Lines.{HasLines}
-use Rattle.journal_file.specs.Reading.{IsStop, IsTaken}
-use Rattle.journal_file.specs.SavedForms.{EntrySaid, IsOpening, OpeningSaid, SavedForm, blocks_told, count_said, entry_said, head_said, line_edit, profile_said}
-use Rattle.journal_file.specs.SavedParts.{IsLawfulSaved, MayAllCome, opening_of}
-use Rattle.journal_file.specs.Spelling.{spelling}
+use Rattle.journal_file.specs.Reading.{IsFormStop, IsFirstLineTaken}
+use Rattle.journal_file.specs.SavedForms.{EntrySaid, OpeningForm, OpeningSaid, SavedForm, blocks_told, count_said, entry_said, head_said, line_edit, profile_said}
+use Rattle.journal_file.specs.SavedParts.{IsLawfulSaved, MayAllCome, opening_of_saved}
+use Rattle.journal_file.specs.Spelling.{saved_spelling}
 
 -- the first lines are a whole text, so many lines stand there, and something is left behind it: lines, or bytes without a line feed
 pub record GoesPast {A : Type 0} (P : Form A) (lines : Lines) (last : List ℕ) (number : ℕ) : Type 0 where
@@ -57,7 +57,7 @@ IsUnfit opening many bytes taken number = (lines : Lines) (last : List ℕ) → 
 
 -- what the document begins with that stands before the entries
 abbrev pub opening_told : OpeningSaid → Opening
-opening_told said = opening_of (head_said said) (profile_said said) (blocks_told said)
+opening_told said = opening_of_saved (head_said said) (profile_said said) (blocks_told said)
 
 -- behind the lines of an opening stand entries, of which the next may not come
 pub record HasNoFit (lines : Lines) (number : ℕ) : Type 0 where
@@ -65,7 +65,7 @@ pub record HasNoFit (lines : Lines) (number : ℕ) : Type 0 where
   pub first : Lines
   pub rest : Lines
   pub lines_are : lines ≡ first ++ rest
-  pub says : IsOpening opening first
+  pub says : OpeningForm opening first
   pub behind : ℕ
   pub counted : number ≡ length first + behind
   pub unfit : IsUnfitBehind (opening_told opening) (count_said opening) rest behind
@@ -76,34 +76,34 @@ IsNoFit bytes number = (lines : Lines) (last : List ℕ) → HasLines bytes line
 
 -- the first line that is bad, and why; want of memory says nothing of the bytes
 abbrev pub IsBadJournal : List ℕ → JournalFault → Type 0
-IsBadJournal bytes (At number BadLine) = (IsStop SavedForm bytes 0 number ⊎ IsPast SavedForm bytes 0 number) × ((k : ℕ) → k < number → IsNoFit bytes k → ⊥)
+IsBadJournal bytes (At number BadLine) = (IsFormStop SavedForm bytes 0 number ⊎ IsPast SavedForm bytes 0 number) × ((k : ℕ) → k < number → IsNoFit bytes k → ⊥)
 IsBadJournal bytes (At number NoFit) = IsNoFit bytes number
 IsBadJournal bytes NoMemory = Unit {0}
 
 -- no head, limits, blocks and entries that a saved text may tell are spelt so
 abbrev pub HasNoSpelling : List ℕ → Type 0
-HasNoSpelling bytes = (head : List (List ℕ)) (profile : Profile) (blocks : List BlockAt) (entries : List Entry) → IsLawfulSaved head profile blocks entries → bytes ≡ spelling head profile blocks entries → ⊥
+HasNoSpelling bytes = (head : List (List ℕ)) (profile : Profile) (blocks : List BlockAt) (entries : List Entry) → IsLawfulSaved head profile blocks entries → bytes ≡ saved_spelling head profile blocks entries → ⊥
 
 -- bytes that are refused are no saved text; want of memory says nothing of them
-abbrev pub IsRefused : List ℕ → JournalFault → Type 0
-IsRefused bytes (At number cause) = HasNoSpelling bytes
-IsRefused bytes NoMemory = Unit {0}
+abbrev pub IsSavedTextRefused : List ℕ → JournalFault → Type 0
+IsSavedTextRefused bytes (At number cause) = HasNoSpelling bytes
+IsSavedTextRefused bytes NoMemory = Unit {0}
 
 -- these parts are the only ones that are spelt so
 abbrev pub IsOneSpelling : List ℕ → Saved → Type 0
-IsOneSpelling bytes saved = (head : List (List ℕ)) (profile : Profile) (blocks : List BlockAt) (entries : List Entry) → IsLawfulSaved head profile blocks entries → bytes ≡ spelling head profile blocks entries
+IsOneSpelling bytes saved = (head : List (List ℕ)) (profile : Profile) (blocks : List BlockAt) (entries : List Entry) → IsLawfulSaved head profile blocks entries → bytes ≡ saved_spelling head profile blocks entries
     → (saved.head ≡ head) × (saved.profile ≡ profile) × (saved.blocks ≡ blocks) × (saved.journal.entries ≡ entries)
 
 -- why the next lines are no entry that may come
 abbrev pub IsEntryFault : Opening → List Entry → List ℕ → ℕ → JournalFault → Type 0
 IsEntryFault opening entries bytes taken (At number BadLine) =
-    IsStop IsEntryText bytes taken number × ((line : EntryLine) (rest : List ℕ) → IsTaken IsEntryLine bytes line rest → MayNotCome opening entries line → number ≤ taken + 1)
-IsEntryFault opening entries bytes taken (At number NoFit) = (number ≡ taken + 1) × ((line : EntryLine) × (rest : List ℕ) × IsTaken IsEntryLine bytes line rest × MayNotCome opening entries line)
+    IsFormStop IsEntryText bytes taken number × ((line : EntryLine) (rest : List ℕ) → IsFirstLineTaken IsEntryLine bytes line rest → MayNotCome opening entries line → number ≤ taken + 1)
+IsEntryFault opening entries bytes taken (At number NoFit) = (number ≡ taken + 1) × ((line : EntryLine) × (rest : List ℕ) × IsFirstLineTaken IsEntryLine bytes line rest × MayNotCome opening entries line)
 IsEntryFault opening entries bytes taken NoMemory = Unit {0}
 
 -- why the next lines are no entries that may come one after the other
 abbrev pub AreEntriesFault : Opening → ℕ → List ℕ → ℕ → JournalFault → Type 0
 AreEntriesFault opening many bytes taken (At number BadLine) =
-    (IsStop (AreEntries many) bytes taken number ⊎ IsPast (AreEntries many) bytes taken number) × ((k : ℕ) → k < number → IsUnfit opening many bytes taken k → ⊥)
+    (IsFormStop (AreEntries many) bytes taken number ⊎ IsPast (AreEntries many) bytes taken number) × ((k : ℕ) → k < number → IsUnfit opening many bytes taken k → ⊥)
 AreEntriesFault opening many bytes taken (At number NoFit) = IsUnfit opening many bytes taken number
 AreEntriesFault opening many bytes taken NoMemory = Unit {0}

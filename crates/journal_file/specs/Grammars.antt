@@ -10,11 +10,11 @@ abbrev pub Form : Type 0 → Type 1
 Form A = A → Lines → Type 0
 
 -- Whatever stands behind a text of the form, no other text of the form stands at the same place, and it says one thing.
-abbrev pub IsOne : {A : Type 0} → Form A → Type 0
-IsOne {A} P = (a b : A) (t u r s : Lines) → P a t → P b u → t ++ r ≡ u ++ s → (a ≡ b) × (t ≡ u)
+abbrev pub IsUnambiguous : {A : Type 0} → Form A → Type 0
+IsUnambiguous {A} P = (a b : A) (t u r s : Lines) → P a t → P b u → t ++ r ≡ u ++ s → (a ≡ b) × (t ≡ u)
 
 -- So many of the lines are the front of a text of the form, which they don't end, and with the next one, if there is one, no text of the form goes on.
-pub record StopsBehind {A : Type 0} (P : Form A) (lines : Lines) (number : ℕ) : Type 0 where
+pub record FormStopsBehind {A : Type 0} (P : Form A) (lines : Lines) (number : ℕ) : Type 0 where
   pub before : Lines
   pub after : Lines
   pub lines_are : lines ≡ before ++ after

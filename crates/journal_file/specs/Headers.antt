@@ -2,7 +2,7 @@
 use Rattle.std.specs.Prelude.{◌≡◌, ℕ, ◌<◌, ◌^◌, true, List, ◌++◌, codes}
 use Rattle.std.specs.Str.{is_utf8}
 use Rattle.knit_base.specs.Names.{AreNames, spaced_names}
-use Rattle.knit_base.specs.Spelling.{labelled}
+use Rattle.knit_base.specs.Spelling.{labelled_number}
 use Rattle.edit_journal.specs.EntryLine.{head_text}
 use Rattle.journal_file.specs.Words.{IsLabelled}
 
@@ -14,7 +14,7 @@ pub record IsNames (names : List (List ℕ)) (text : List ℕ) : Type 0 where
 
 -- the line tells an entry that gives the header these names
 pub record IsHeadEntry (session seen : ℕ) (names : List (List ℕ)) (line : List ℕ) : Type 0 where
-  pub spelt : line ≡ labelled (codes "session ") session ++ head_text seen names
+  pub spelt : line ≡ labelled_number (codes "session ") session ++ head_text seen names
   pub session_few : session < 64
   pub seen_fits : seen < 2 ^ 32
   pub are : IsNames names (spaced_names names)

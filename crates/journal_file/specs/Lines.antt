@@ -5,13 +5,13 @@ use Rattle.std.specs.Str.{is_utf8}
 use Rattle.knit_base.specs.Lines.{HasNoLineEnd}
 
 -- lines, each with its line feed
-abbrev pub ended : List (List ℕ) → List ℕ
-ended [] = []
-ended (line ∷ lines) = line ++ 10 ∷ ended lines
+abbrev pub lines_with_ends : List (List ℕ) → List ℕ
+lines_with_ends [] = []
+lines_with_ends (line ∷ lines) = line ++ 10 ∷ lines_with_ends lines
 
 -- the bytes are these lines, and then this, which has no line feed
 pub record HasLines (bytes : List ℕ) (lines : List (List ℕ)) (last : List ℕ) : Type 0 where
-  pub bytes_are : bytes ≡ ended lines ++ last
+  pub bytes_are : bytes ≡ lines_with_ends lines ++ last
   pub each : All HasNoLineEnd lines
   pub none : HasNoLineEnd last
 
@@ -21,6 +21,6 @@ pub record IsShort (text : List ℕ) : Type 0 where
   pub short : length text ≤ 4096
 
 -- a bar, and this text behind it
-pub record IsTextLine (text line : List ℕ) : Type 0 where
+pub record IsBarredLine (text line : List ℕ) : Type 0 where
   pub barred : line ≡ codes "|" ++ text
   pub is_short : IsShort text

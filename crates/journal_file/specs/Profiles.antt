@@ -3,7 +3,7 @@ use Rattle.std.specs.Prelude.{◌≡◌, ℕ, ◌≤◌, ℤ, pos, ◌-ℤ◌, �
 use Rattle.knit_base.specs.Limits.{IsLawfulProfile}
 use Rattle.knit_base.specs.declared.profile.Profile.{Profile}
 use Rattle.journal_file.specs.Spelling.{profile_text}
-use Rattle.journal_file.specs.Words.{IsLabelled, IsSigned}
+use Rattle.journal_file.specs.Words.{IsLabelled, BeginsWithSignedNumber}
 
 -- the line tells these limits
 pub record IsProfile (profile : Profile) (line : List ℕ) : Type 0 where
@@ -11,16 +11,16 @@ pub record IsProfile (profile : Profile) (line : List ℕ) : Type 0 where
   pub lawful : IsLawfulProfile profile
 
 -- the text begins with the number of a needle, and this stands behind it
-pub record IsNeedle (text : List ℕ) (number : ℤ) (rest : List ℕ) : Type 0 where
-  pub front : IsSigned text number rest
+pub record BeginsWithNeedleNumber (text : List ℕ) (number : ℤ) (rest : List ℕ) : Type 0 where
+  pub front : BeginsWithSignedNumber text number rest
   pub least : (pos 0 -ℤ pos 4096) ≤ℤ number
   pub most : number ≤ℤ pos 4096
 
 -- with the lowest and the highest needle
 pub record AreNeedles (text : List ℕ) (low high : ℤ) (rest : List ℕ) : Type 0 where
   pub behind : List ℕ
-  pub first : IsNeedle text low (codes " " ++ behind)
-  pub second : IsNeedle behind high rest
+  pub first : BeginsWithNeedleNumber text low (codes " " ++ behind)
+  pub second : BeginsWithNeedleNumber behind high rest
   pub ordered : low ≤ℤ high
 
 -- with a space and a number that is at most 64

@@ -9,7 +9,7 @@ use Rattle.journal_file.specs.declared.entry_line.EntryLine.{EntryLine}
 use Rattle.journal_file.specs.declared.entry_line.EntryLine.TheVariants.{Block, Header}
 use Rattle.journal_file.specs.declared.entry_words.EditWords.{EditWords}
 use Rattle.journal_file.specs.declared.entry_words.EditWords.TheVariants.{Put, Add, Cut}
-use Rattle.journal_file.specs.BlockForms.{AreBlocks}
+use Rattle.journal_file.specs.BlockForms.{BlocksForm}
 use Rattle.journal_file.specs.CountLines.{IsCount}
 use Rattle.journal_file.specs.EntryForms.{AreEntries}
 use Rattle.journal_file.specs.Fronts.{AreFront}
@@ -21,8 +21,8 @@ use Rattle.journal_file.specs.SavedParts.{numbered_from}
 abbrev pub HeadSaid : Type 0
 HeadSaid = ℕ × List (List ℕ)
 
-abbrev pub IsHead : Form HeadSaid
-IsHead = Both (OneLine (IsCount (codes "head ") 2 16777217)) (λ many. AreHeadLines many)
+abbrev pub HeadForm : Form HeadSaid
+HeadForm = Both (OneLine (IsCount (codes "head ") 2 16777217)) (λ many. AreHeadLines many)
 
 -- how many blocks there are first; of each, how many lines it has, and the lines
 abbrev pub BlocksSaid : Type 0
@@ -33,7 +33,7 @@ abbrev pub block_words : List (List ℕ) → ℕ × List (List ℕ)
 block_words text = (length text, text)
 
 abbrev pub AreFirst : Form BlocksSaid
-AreFirst = Both (OneLine (IsCount (codes "blocks ") 0 65536)) (λ many. AreBlocks many)
+AreFirst = Both (OneLine (IsCount (codes "blocks ") 0 65536)) (λ many. BlocksForm many)
 
 -- how many entries there are
 abbrev pub IsEntryCount : Form ℕ
@@ -47,8 +47,8 @@ OpeningSaid = (Unit {0} × Profile) × (HeadSaid × (BlocksSaid × ℕ))
 abbrev pub IsBehindHead : Form (BlocksSaid × ℕ)
 IsBehindHead = Both AreFirst (λ blocks. IsEntryCount)
 
-abbrev pub IsOpening : Form OpeningSaid
-IsOpening = Both AreFront (λ front. Both IsHead (λ head. IsBehindHead))
+abbrev pub OpeningForm : Form OpeningSaid
+OpeningForm = Both AreFront (λ front. Both HeadForm (λ head. IsBehindHead))
 
 abbrev pub profile_said : OpeningSaid → Profile
 profile_said said = said.0.1
@@ -90,4 +90,4 @@ entry_said said = record { session = line_session said.0; edit = line_edit said.
 
 -- a saved text: what stands before the entries, and so many entries
 abbrev pub SavedForm : Form (OpeningSaid × List EntrySaid)
-SavedForm = Both IsOpening (λ said. AreEntries (count_said said))
+SavedForm = Both OpeningForm (λ said. AreEntries (count_said said))

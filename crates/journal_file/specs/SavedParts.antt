@@ -10,7 +10,7 @@ use Rattle.edit_journal.specs.declared.edit.Edit.{Edit}
 use Rattle.edit_journal.specs.declared.edit.Edit.TheVariants as edit
 use Rattle.edit_journal.specs.declared.edit.Entry.{Entry}
 use Rattle.edit_journal.specs.declared.opening.Opening.{Opening}
-use Rattle.edit_book.specs.Outlines.{MayCome, texts_of}
+use Rattle.edit_book.specs.Outlines.{MayCome, block_texts_of}
 use Rattle.journal_file.specs.Entries.{IsLawfulAnchor}
 use Rattle.journal_file.specs.Heads.{IsWholeHead, names_in_head}
 
@@ -53,7 +53,7 @@ IsWritable (edit.Cut block seen) = (block < 2 ^ 32) × (seen < 2 ^ 32)
 IsWritable (edit.Head seen names) = (seen < 2 ^ 32) × AreGivenNames names
 
 -- an entry that has a spelling
-pub record IsWritten (entry : Entry) : Type 0 where
+pub record IsSpelledEntry (entry : Entry) : Type 0 where
   pub session : entry.session < 64
   pub given : IsWritable entry.edit
 
@@ -61,8 +61,8 @@ pub record IsWritten (entry : Entry) : Type 0 where
 abbrev pub opening_with : List (List ℕ) → Profile → List (List (List ℕ)) → Opening
 opening_with head profile texts = record { setting = record { profile = profile; declared = names_in_head head; first = length head + 1 }; texts = texts }
 
-abbrev pub opening_of : List (List ℕ) → Profile → List BlockAt → Opening
-opening_of head profile blocks = opening_with head profile (texts_of blocks)
+abbrev pub opening_of_saved : List (List ℕ) → Profile → List BlockAt → Opening
+opening_of_saved head profile blocks = opening_with head profile (block_texts_of blocks)
 
 -- the entries may come one after the other, behind those that came before
 abbrev pub MayAllCome : Opening → List Entry → List Entry → Type 0
@@ -75,13 +75,13 @@ pub record KeepsBounds (head : List (List ℕ)) (profile : Profile) (blocks : Li
   pub whole : IsWholeHead head
   pub head_few : length head ≤ 16777217
   pub head_lines : All IsShortLine head
-  pub numbered : blocks ≡ numbered_from 0 (texts_of blocks)
+  pub numbered : blocks ≡ numbered_from 0 (block_texts_of blocks)
   pub blocks_few : length blocks ≤ 65536
   pub lines_few : length (flat_map (λ (block : BlockAt). block.text) blocks) ≤ 1048576
-  pub texts : All IsFirstText (texts_of blocks)
-  pub written : All IsWritten entries
+  pub texts : All IsFirstText (block_texts_of blocks)
+  pub written : All IsSpelledEntry entries
 
 -- they are within their bounds, and each entry may come behind those before it
 pub record IsLawfulSaved (head : List (List ℕ)) (profile : Profile) (blocks : List BlockAt) (entries : List Entry) : Type 0 where
   pub bounds : KeepsBounds head profile blocks entries
-  pub come : MayAllCome (opening_of head profile blocks) [] entries
+  pub come : MayAllCome (opening_of_saved head profile blocks) [] entries

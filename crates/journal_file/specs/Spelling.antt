@@ -1,7 +1,7 @@
 -- How an opening and a journal are spelt.
 use Rattle.std.specs.Prelude.{ℕ, List, [], ◌++◌, length, flat_map, codes, unwrap_or}
 use Rattle.std.specs.Fmt.{signed_decimal}
-use Rattle.knit_base.specs.Spelling.{labelled}
+use Rattle.knit_base.specs.Spelling.{labelled_number}
 use Rattle.knit_base.specs.declared.profile.Profile.{Profile}
 use Rattle.edit_journal.specs.declared.edit.BlockAt.{BlockAt}
 use Rattle.edit_journal.specs.declared.edit.Edit.{Edit}
@@ -14,8 +14,8 @@ abbrev pub Text : Type 0
 Text = List ℕ
 
 -- the line of a count
-abbrev pub counted : Text → ℕ → Text
-counted label number = labelled label number ++ codes "\n"
+abbrev pub count_spelling : Text → ℕ → Text
+count_spelling label number = labelled_number label number ++ codes "\n"
 
 -- a text line: a bar, and the line behind it
 abbrev pub text_line : Text → Text
@@ -30,7 +30,7 @@ needle_limits profile = signed_decimal profile.low ++ (codes " " ++ signed_decim
 
 -- how far the beds rack, how many loops a needle may hold, and how far a float may go, 0 for no limit
 abbrev pub other_limits : Profile → Text
-other_limits profile = labelled (codes " ") profile.rack ++ (labelled (codes " ") profile.hold ++ labelled (codes " ") (unwrap_or profile.float 0))
+other_limits profile = labelled_number (codes " ") profile.rack ++ (labelled_number (codes " ") profile.hold ++ labelled_number (codes " ") (unwrap_or profile.float 0))
 
 -- the machine's limits
 abbrev pub profile_text : Profile → Text
@@ -41,14 +41,14 @@ profile_line profile = profile_text profile ++ codes "\n"
 
 -- the lines of a head
 abbrev pub head_lines : List Text → Text
-head_lines head = counted (codes "head ") (length head) ++ text_lines head
+head_lines head = count_spelling (codes "head ") (length head) ++ text_lines head
 
 -- the lines of one of the first blocks
 abbrev pub block_lines : BlockAt → Text
-block_lines block = counted (codes "block ") (length block.text) ++ text_lines block.text
+block_lines block = count_spelling (codes "block ") (length block.text) ++ text_lines block.text
 
 abbrev pub blocks_lines : List BlockAt → Text
-blocks_lines blocks = counted (codes "blocks ") (length blocks) ++ flat_map block_lines blocks
+blocks_lines blocks = count_spelling (codes "blocks ") (length blocks) ++ flat_map block_lines blocks
 
 -- the text that an edit gives to a block; a cut gives none, and the header has names, which stand in the entry's line
 abbrev pub text_given : Edit → List Text
@@ -62,8 +62,8 @@ abbrev pub entry_lines : Entry → Text
 entry_lines entry = entry_line entry ++ (codes "\n" ++ text_lines (text_given entry.edit))
 
 abbrev pub entries_lines : List Entry → Text
-entries_lines entries = counted (codes "entries ") (length entries) ++ flat_map entry_lines entries
+entries_lines entries = count_spelling (codes "entries ") (length entries) ++ flat_map entry_lines entries
 
 -- the one spelling of a head, the machine's limits, the first blocks and a journal
-abbrev pub spelling : List Text → Profile → List BlockAt → List Entry → Text
-spelling head profile blocks entries = codes "journal 1\n" ++ (profile_line profile ++ (head_lines head ++ (blocks_lines blocks ++ entries_lines entries)))
+abbrev pub saved_spelling : List Text → Profile → List BlockAt → List Entry → Text
+saved_spelling head profile blocks entries = codes "journal 1\n" ++ (profile_line profile ++ (head_lines head ++ (blocks_lines blocks ++ entries_lines entries)))

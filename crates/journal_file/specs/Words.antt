@@ -8,7 +8,7 @@ EndsNumber [] = Unit {0}
 EndsNumber (byte ∷ bytes) = ¬ IsDigit byte
 
 -- the text begins with this number, and this stands behind it
-pub record IsFront (text : List ℕ) (number : ℕ) (rest : List ℕ) : Type 0 where
+pub record BeginsWithNumber (text : List ℕ) (number : ℕ) (rest : List ℕ) : Type 0 where
   pub spelt : text ≡ decimal number ++ rest
   pub fits : number < 2 ^ 32
   pub ends : EndsNumber rest
@@ -17,9 +17,9 @@ pub record IsFront (text : List ℕ) (number : ℕ) (rest : List ℕ) : Type 0 w
 pub record IsLabelled (text label : List ℕ) (number : ℕ) (rest : List ℕ) : Type 0 where
   pub behind : List ℕ
   pub begins : text ≡ label ++ behind
-  pub front : IsFront behind number rest
+  pub front : BeginsWithNumber behind number rest
 
 -- the text begins with this whole number, with a `-` where it is negative, and this stands behind it
-abbrev pub IsSigned : List ℕ → ℤ → List ℕ → Type 0
-IsSigned text (pos n) rest = IsFront text n rest
-IsSigned text (negsuc n) rest = IsLabelled text (codes "-") (suc n) rest
+abbrev pub BeginsWithSignedNumber : List ℕ → ℤ → List ℕ → Type 0
+BeginsWithSignedNumber text (pos n) rest = BeginsWithNumber text n rest
+BeginsWithSignedNumber text (negsuc n) rest = IsLabelled text (codes "-") (suc n) rest

@@ -1,7 +1,7 @@
 //! One of the first blocks.
 ghost use Rattle.std.specs.Prelude.{◌≡◌, ◌+◌, ◌≤◌, length, IfOk, IfErr};
 ghost use Rattle.journal_file.specs.BlockForms.{IsBlock};
-ghost use Rattle.journal_file.specs.Reading.{HasRead, IsFault, byte_limit};
+ghost use Rattle.journal_file.specs.Reading.{FormHasRead, IsFault, byte_limit};
 
 use crate::JournalFault;
 use crate::counts::take_count;
@@ -18,7 +18,7 @@ pub(crate) fn read_block<'a>(
     requires size { start.taken + length start.rest.now ≤ byte_limit }
     requires some { 1 ≤ most }
     requires few { most ≤ 16777217 }
-    ensures read { IfOk result (λ found. HasRead (IsBlock most) start.entry.rest.now start.entry.taken (length found.0, found.0) found.1.rest.now found.1.taken) }
+    ensures read { IfOk result (λ found. FormHasRead (IsBlock most) start.entry.rest.now start.entry.taken (length found.0, found.0) found.1.rest.now found.1.taken) }
     ensures count { IfOk result (λ found. length found.0 ≤ most) }
     ensures size { IfOk result (λ found. found.1.taken + length found.1.rest.now ≤ byte_limit) }
     ensures fault { IfErr result (IsFault (IsBlock most) start.entry.rest.now start.entry.taken) }

@@ -1,7 +1,7 @@
 //! The first blocks.
 ghost use Rattle.std.specs.Prelude.{◌≡◌, ◌+◌, ◌≤◌, length, map, IfOk, IfErr};
-ghost use Rattle.journal_file.specs.BlockForms.{AreBlocks};
-ghost use Rattle.journal_file.specs.Reading.{HasRead, IsFault, byte_limit};
+ghost use Rattle.journal_file.specs.BlockForms.{BlocksForm};
+ghost use Rattle.journal_file.specs.Reading.{FormHasRead, IsFault, byte_limit};
 ghost use Rattle.journal_file.specs.SavedForms.{AreFirst, block_words};
 
 use crate::JournalFault;
@@ -23,7 +23,7 @@ pub(crate) fn read_blocks<'a>(
     start: Place<'a>,
 ) -> Result<(ListOf<BlockText>, Place<'a>), JournalFault>
     requires size { start.taken + length start.rest.now ≤ byte_limit }
-    ensures read { IfOk result (λ found. HasRead AreFirst start.entry.rest.now start.entry.taken (length found.0, map block_words found.0) found.1.rest.now found.1.taken) }
+    ensures read { IfOk result (λ found. FormHasRead AreFirst start.entry.rest.now start.entry.taken (length found.0, map block_words found.0) found.1.rest.now found.1.taken) }
     ensures size { IfOk result (λ found. found.1.taken + length found.1.rest.now ≤ byte_limit) }
     ensures fault { IfErr result (IsFault AreFirst start.entry.rest.now start.entry.taken) }
 {
@@ -44,10 +44,10 @@ fn read_texts<'a>(
 ) -> Result<(ListOf<BlockText>, Place<'a>), JournalFault>
     requires size { start.taken + length start.rest.now ≤ byte_limit }
     requires few { many ≤ 65536 }
-    ensures read { IfOk result (λ found. HasRead (AreBlocks many) start.entry.rest.now start.entry.taken (map block_words found.0) found.1.rest.now found.1.taken) }
+    ensures read { IfOk result (λ found. FormHasRead (BlocksForm many) start.entry.rest.now start.entry.taken (map block_words found.0) found.1.rest.now found.1.taken) }
     ensures size { IfOk result (λ found. found.1.taken + length found.1.rest.now ≤ byte_limit) }
     ensures len { IfOk result (λ found. length found.0 ≡ many) }
-    ensures fault { IfErr result (IsFault (AreBlocks many) start.entry.rest.now start.entry.taken) }
+    ensures fault { IfErr result (IsFault (BlocksForm many) start.entry.rest.now start.entry.taken) }
 {
     let mut texts = ListOf::new(alloc);
     let mut at = start;

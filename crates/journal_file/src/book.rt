@@ -1,6 +1,6 @@
 //! The book of a saved text.
 ghost use Rattle.std.specs.Prelude.{◌≡◌, ◌<◌, [], All, IfOk, OnOk};
-ghost use Rattle.journal_file.specs.SavedParts.{IsLawfulSaved, IsWritten, MayAllCome, opening_of};
+ghost use Rattle.journal_file.specs.SavedParts.{IsLawfulSaved, IsSpelledEntry, MayAllCome, opening_of_saved};
 
 use crate::Saved;
 use crate::read::open;
@@ -17,7 +17,7 @@ use std::thread::Threads;
 /// threads at once.
 pub fn reopen<R: Threads + Sync>(rt: &R, alloc: Global, saved: Saved) -> Result<Book, NoMemory>
     requires { IsLawfulSaved saved.head saved.profile saved.blocks saved.journal.entries }
-    ensures opening { IfOk result (λ book. book.opening ≡ opening_of saved.head saved.profile saved.blocks) }
+    ensures opening { IfOk result (λ book. book.opening ≡ opening_of_saved saved.head saved.profile saved.blocks) }
     ensures entries { IfOk result (λ book. book.entries ≡ saved.journal.entries) }
 {
     reopen_counted::<Brand, R>(rt, Blank::new(1), alloc, saved)
@@ -34,7 +34,7 @@ fn reopen_counted<L: Ledger, R: Threads + Sync>(
     requires parts { blank.parts ≡ L.parts }
     requires some { 0 < L.parts }
     requires lawful { IsLawfulSaved saved.head saved.profile saved.blocks saved.journal.entries }
-    ensures opening { IfOk result (λ book. book.opening ≡ opening_of saved.head saved.profile saved.blocks) }
+    ensures opening { IfOk result (λ book. book.opening ≡ opening_of_saved saved.head saved.profile saved.blocks) }
     ensures entries { IfOk result (λ book. book.entries ≡ saved.journal.entries) }
 {
     let mut steps = Steps::<L>::start(rt, blank);
@@ -50,7 +50,7 @@ fn reopen_counted<L: Ledger, R: Threads + Sync>(
 /// The document of a saved text at its last version, without the faces of its blocks. The only error is want of memory.
 pub fn outline_of(alloc: Global, saved: Saved) -> Result<Outline, NoMemory>
     requires { IsLawfulSaved saved.head saved.profile saved.blocks saved.journal.entries }
-    ensures opening { IfOk result (λ outline. outline.opening ≡ opening_of saved.head saved.profile saved.blocks) }
+    ensures opening { IfOk result (λ outline. outline.opening ≡ opening_of_saved saved.head saved.profile saved.blocks) }
     ensures entries { IfOk result (λ outline. outline.entries ≡ saved.journal.entries) }
 {
     let Saved {
@@ -69,7 +69,7 @@ pub fn outline_of(alloc: Global, saved: Saved) -> Result<Outline, NoMemory>
 fn follow_all(entries: Vec<Entry>, outline: &mut Outline) -> Result<(), NoMemory>
     requires none { outline.old.entries ≡ [] }
     requires come { MayAllCome outline.old.opening [] entries.items }
-    requires written { All IsWritten entries.items }
+    requires written { All IsSpelledEntry entries.items }
     ensures opening { OnOk result (outline.new.opening ≡ outline.old.opening) }
     ensures entries { OnOk result (outline.new.entries ≡ entries.items) }
 {

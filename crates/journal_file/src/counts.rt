@@ -1,7 +1,7 @@
 //! Lines of counts.
 ghost use Rattle.std.specs.Prelude.{◌≡◌, ℕ, ◌+◌, ◌<◌, ◌≤◌, ◌^◌, length, MatchOption, IfSome};
 ghost use Rattle.journal_file.specs.CountLines.{IsCount};
-ghost use Rattle.journal_file.specs.Reading.{IsTaken, NoneTaken, byte_limit};
+ghost use Rattle.journal_file.specs.Reading.{IsFirstLineTaken, NoneTaken, byte_limit};
 
 use crate::scan::next_line;
 use crate::text::Place;
@@ -15,7 +15,7 @@ pub(crate) fn take_count<'a>(
     most: u32,
 ) -> Option<(u32, Place<'a>)>
     requires { at.taken + length at.rest.now ≤ byte_limit }
-    ensures count { MatchOption result (NoneTaken (IsCount label.now least most) at.entry.rest.now) (λ found. IsTaken (IsCount label.now least most) at.entry.rest.now found.0 found.1.rest.now) }
+    ensures count { MatchOption result (NoneTaken (IsCount label.now least most) at.entry.rest.now) (λ found. IsFirstLineTaken (IsCount label.now least most) at.entry.rest.now found.0 found.1.rest.now) }
     ensures taken { IfSome result (λ found. found.1.taken ≡ at.entry.taken + 1) }
     ensures size { IfSome result (λ found. found.1.taken + length found.1.rest.now ≤ byte_limit) }
 {

@@ -2,7 +2,7 @@
 ghost use Rattle.std.specs.Prelude.{◌≡◌, ℕ, List, [], ◌+◌, ◌≤◌, length, map, IfOk, IfErr};
 ghost use Rattle.journal_file.specs.EntryForms.{AreEntries};
 ghost use Rattle.journal_file.specs.Faults.{AreEntriesFault};
-ghost use Rattle.journal_file.specs.Reading.{HasRead, byte_limit};
+ghost use Rattle.journal_file.specs.Reading.{FormHasRead, byte_limit};
 ghost use Rattle.journal_file.specs.SavedForms.{EntrySaid, entry_said};
 ghost use Rattle.journal_file.specs.SavedParts.{MayAllCome};
 
@@ -22,7 +22,7 @@ pub(crate) fn read_entries<'a>(
     requires size { start.taken + length start.rest.now ≤ byte_limit }
     requires none { outline.old.entries ≡ [] }
     ensures opening { IfOk result (λ at. outline.new.opening ≡ outline.old.opening) }
-    ensures read { IfOk result (λ at. (said : List EntrySaid) × (outline.new.entries ≡ map entry_said said) × HasRead (AreEntries many) start.entry.rest.now start.entry.taken said at.rest.now at.taken) }
+    ensures read { IfOk result (λ at. (said : List EntrySaid) × (outline.new.entries ≡ map entry_said said) × FormHasRead (AreEntries many) start.entry.rest.now start.entry.taken said at.rest.now at.taken) }
     ensures come { IfOk result (λ at. MayAllCome outline.old.opening [] outline.new.entries) }
     ensures size { IfOk result (λ at. at.taken + length at.rest.now ≤ byte_limit) }
     ensures fault { IfErr result (AreEntriesFault outline.old.opening many start.entry.rest.now start.entry.taken) }

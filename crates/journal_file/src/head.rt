@@ -3,9 +3,9 @@ ghost use Rattle.std.specs.Prelude.{◌≡◌, ◌||◌, ℕ, ◌+◌, ◌≤◌
 ghost use Rattle.std.specs.List.{starts_with};
 ghost use Rattle.knit_base.specs.Lines.{IsLine};
 ghost use Rattle.knitout_reader.specs.Head.{is_carriers_line};
-ghost use Rattle.journal_file.specs.HeadForms.{AreHeadLines, IsHeadLine, MayStand, has_kind, with_line};
-ghost use Rattle.journal_file.specs.Reading.{HasRead, IsFault, IsTaken, NoneTaken, byte_limit};
-ghost use Rattle.journal_file.specs.SavedForms.{IsHead};
+ghost use Rattle.journal_file.specs.HeadForms.{AreHeadLines, IsHeadLine, MayStandInHead, has_kind, head_with_line};
+ghost use Rattle.journal_file.specs.Reading.{FormHasRead, IsFault, IsFirstLineTaken, NoneTaken, byte_limit};
+ghost use Rattle.journal_file.specs.SavedForms.{HeadForm};
 
 use crate::JournalFault;
 use crate::counts::take_count;
@@ -35,9 +35,9 @@ pub(crate) fn read_head<'a>(
     start: Place<'a>,
 ) -> Result<(Lines, Place<'a>), JournalFault>
     requires size { start.taken + length start.rest.now ≤ byte_limit }
-    ensures read { IfOk result (λ found. HasRead IsHead start.entry.rest.now start.entry.taken (length found.0, found.0) found.1.rest.now found.1.taken) }
+    ensures read { IfOk result (λ found. FormHasRead HeadForm start.entry.rest.now start.entry.taken (length found.0, found.0) found.1.rest.now found.1.taken) }
     ensures size { IfOk result (λ found. found.1.taken + length found.1.rest.now ≤ byte_limit) }
-    ensures fault { IfErr result (IsFault IsHead start.entry.rest.now start.entry.taken) }
+    ensures fault { IfErr result (IsFault HeadForm start.entry.rest.now start.entry.taken) }
 {
     match take_count(start, b"head ", 2, MOST_LINES) {
         Some((many, at)) => match read_head_lines(alloc, at, many) {
@@ -57,7 +57,7 @@ fn read_head_lines<'a>(
     requires size { start.taken + length start.rest.now ≤ byte_limit }
     requires some { 2 ≤ many }
     requires few { many ≤ 16777217 }
-    ensures read { IfOk result (λ found. HasRead (AreHeadLines many) start.entry.rest.now start.entry.taken found.0 found.1.rest.now found.1.taken) }
+    ensures read { IfOk result (λ found. FormHasRead (AreHeadLines many) start.entry.rest.now start.entry.taken found.0 found.1.rest.now found.1.taken) }
     ensures size { IfOk result (λ found. found.1.taken + length found.1.rest.now ≤ byte_limit) }
     ensures len { IfOk result (λ found. length found.0 ≡ many) }
     ensures fault { IfErr result (IsFault (AreHeadLines many) start.entry.rest.now start.entry.taken) }
@@ -86,7 +86,7 @@ impl HeadSoFar {
     // Behind this line.
     fn with(self, text: &str) -> HeadSoFar
         requires { 1 ≤ self.left }
-        ensures { result ≡ with_line self text.now }
+        ensures { result ≡ head_with_line self text.now }
     {
         HeadSoFar {
             first: false,
@@ -104,7 +104,7 @@ fn take_line<'a>(
 ) -> Result<Option<(&'a str, Place<'a>)>, NoMemory>
     requires size { at.taken + length at.rest.now ≤ byte_limit }
     requires left { 1 ≤ so_far.left }
-    ensures text { IfOk result (λ found. MatchOption found (NoneTaken (IsHeadLine so_far) at.entry.rest.now) (λ f. IsTaken (IsHeadLine so_far) at.entry.rest.now f.0.now f.1.rest.now)) }
+    ensures text { IfOk result (λ found. MatchOption found (NoneTaken (IsHeadLine so_far) at.entry.rest.now) (λ f. IsFirstLineTaken (IsHeadLine so_far) at.entry.rest.now f.0.now f.1.rest.now)) }
     ensures count { IfOk result (λ found. IfSome found (λ f. f.1.taken ≡ at.entry.taken + 1)) }
     ensures size { IfOk result (λ found. IfSome found (λ f. f.1.taken + length f.1.rest.now ≤ byte_limit)) }
 {
@@ -124,8 +124,8 @@ fn may_stand(alloc: Global, so_far: HeadSoFar, text: &str) -> Result<bool, NoMem
     requires line { IsLine text.now }
     requires short { length text.now < 65535 }
     requires left { 1 ≤ so_far.left }
-    ensures yes { IfOk result (λ yes. yes ≡ true → MayStand so_far text.now) }
-    ensures no { IfOk result (λ yes. yes ≡ false → ¬ MayStand so_far text.now) }
+    ensures yes { IfOk result (λ yes. yes ≡ true → MayStandInHead so_far text.now) }
+    ensures no { IfOk result (λ yes. yes ≡ false → ¬ MayStandInHead so_far text.now) }
 {
     if !has_kind(so_far.first, text.as_bytes()) {
         return Ok(false);

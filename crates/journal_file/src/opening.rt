@@ -1,8 +1,8 @@
 //! What stands before the entries.
 ghost use Rattle.std.specs.Prelude.{◌≡◌, ◌+◌, ◌≤◌, length, IfOk, IfErr};
 ghost use Rattle.journal_file.specs.Openings.{said_behind_head, said_of};
-ghost use Rattle.journal_file.specs.Reading.{HasRead, IsFault, byte_limit};
-ghost use Rattle.journal_file.specs.SavedForms.{IsBehindHead, IsOpening};
+ghost use Rattle.journal_file.specs.Reading.{FormHasRead, IsFault, byte_limit};
+ghost use Rattle.journal_file.specs.SavedForms.{IsBehindHead, OpeningForm};
 
 use crate::JournalFault;
 use crate::blocks::read_blocks;
@@ -28,9 +28,9 @@ pub(crate) fn read_opening<'a>(
     start: Place<'a>,
 ) -> Result<(SavedOpening, Place<'a>), JournalFault>
     requires size { start.taken + length start.rest.now ≤ byte_limit }
-    ensures read { IfOk result (λ found. HasRead IsOpening start.entry.rest.now start.entry.taken (said_of found.0) found.1.rest.now found.1.taken) }
+    ensures read { IfOk result (λ found. FormHasRead OpeningForm start.entry.rest.now start.entry.taken (said_of found.0) found.1.rest.now found.1.taken) }
     ensures size { IfOk result (λ found. found.1.taken + length found.1.rest.now ≤ byte_limit) }
-    ensures fault { IfErr result (IsFault IsOpening start.entry.rest.now start.entry.taken) }
+    ensures fault { IfErr result (IsFault OpeningForm start.entry.rest.now start.entry.taken) }
 {
     match read_front(start) {
         Ok((profile, at)) => match read_head(alloc, at) {
@@ -51,7 +51,7 @@ fn read_behind_head<'a>(
     requires size { start.taken + length start.rest.now ≤ byte_limit }
     ensures profile { IfOk result (λ found. found.0.profile ≡ profile) }
     ensures head { IfOk result (λ found. found.0.head ≡ head) }
-    ensures read { IfOk result (λ found. HasRead IsBehindHead start.entry.rest.now start.entry.taken (said_behind_head found.0) found.1.rest.now found.1.taken) }
+    ensures read { IfOk result (λ found. FormHasRead IsBehindHead start.entry.rest.now start.entry.taken (said_behind_head found.0) found.1.rest.now found.1.taken) }
     ensures size { IfOk result (λ found. found.1.taken + length found.1.rest.now ≤ byte_limit) }
     ensures fault { IfErr result (IsFault IsBehindHead start.entry.rest.now start.entry.taken) }
 {

@@ -1,7 +1,7 @@
 //! The line of the machine's limits.
 ghost use Rattle.std.specs.Prelude.{◌≡◌, ◌≢◌, ◌≤◌, ℕ, ℤ, List, None, Some, MatchOption};
 ghost use Rattle.knit_base.specs.declared.profile.Profile.{Profile as Limits};
-ghost use Rattle.journal_file.specs.Profiles.{AreLimits, AreNeedles, IsLimit, IsNeedle, IsProfile};
+ghost use Rattle.journal_file.specs.Profiles.{AreLimits, AreNeedles, IsLimit, BeginsWithNeedleNumber, IsProfile};
 
 use crate::counts::count_of;
 use crate::words::{behind, labelled, signed};
@@ -80,7 +80,7 @@ fn needles_of(text: &[u8]) -> Option<(i16, i16, &[u8])>
 
 // The number of a needle that the text begins with, and what stands behind it.
 fn needle(text: &[u8]) -> Option<(i16, &[u8])>
-    ensures { MatchOption result ((number : ℤ) (rest : List ℕ) → IsNeedle text.now number rest → ⊥) (λ found. IsNeedle text.now found.0 found.1.now) }
+    ensures { MatchOption result ((number : ℤ) (rest : List ℕ) → BeginsWithNeedleNumber text.now number rest → ⊥) (λ found. BeginsWithNeedleNumber text.now found.0 found.1.now) }
 {
     match signed(text) {
         Some((number, rest)) => {

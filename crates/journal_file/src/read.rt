@@ -1,11 +1,11 @@
 //! A saved text, read.
 ghost use Rattle.std.specs.Prelude.{◌≡◌, ℕ, List, [], ◌+◌, ◌≤◌, length, map, IfOk, IfErr};
 ghost use Rattle.journal_file.specs.EntryForms.{AreEntries};
-ghost use Rattle.journal_file.specs.Faults.{AreEntriesFault, IsBadJournal, IsOneSpelling, IsRefused};
-ghost use Rattle.journal_file.specs.Reading.{HasRead, byte_limit};
+ghost use Rattle.journal_file.specs.Faults.{AreEntriesFault, IsBadJournal, IsOneSpelling, IsSavedTextRefused};
+ghost use Rattle.journal_file.specs.Reading.{FormHasRead, byte_limit};
 ghost use Rattle.journal_file.specs.SavedForms.{EntrySaid, entry_said};
 ghost use Rattle.journal_file.specs.SavedParts.{IsLawfulSaved, KeepsBounds, MayAllCome, numbered_from, opening_with};
-ghost use Rattle.journal_file.specs.Spelling.{spelling};
+ghost use Rattle.journal_file.specs.Spelling.{saved_spelling};
 
 use crate::entries::read_entries;
 use crate::opening::{SavedOpening, read_opening};
@@ -20,11 +20,11 @@ use std::alloc::Global;
 /// What a saved text tells, or its first bad line.
 pub fn read_journal(alloc: Global, bytes: &[u8]) -> Result<Saved, JournalFault>
     requires { length bytes.now ≤ byte_limit }
-    ensures spelt { IfOk result (λ saved. bytes.now ≡ spelling saved.head saved.profile saved.blocks saved.journal.entries) }
+    ensures spelt { IfOk result (λ saved. bytes.now ≡ saved_spelling saved.head saved.profile saved.blocks saved.journal.entries) }
     ensures lawful { IfOk result (λ saved. IsLawfulSaved saved.head saved.profile saved.blocks saved.journal.entries) }
     ensures one { IfOk result (IsOneSpelling bytes.now) }
     ensures bad { IfErr result (IsBadJournal bytes.now) }
-    ensures refused { IfErr result (IsRefused bytes.now) }
+    ensures refused { IfErr result (IsSavedTextRefused bytes.now) }
 {
     let start = Place {
         rest: bytes,
@@ -47,7 +47,7 @@ fn read_behind(
     ensures head { IfOk result (λ saved. saved.head ≡ opening.head) }
     ensures profile { IfOk result (λ saved. saved.profile ≡ opening.profile) }
     ensures numbered { IfOk result (λ saved. saved.blocks ≡ numbered_from 0 opening.texts) }
-    ensures read { IfOk result (λ saved. (said : List EntrySaid) × (saved.journal.entries ≡ map entry_said said) × (now : ℕ) × HasRead (AreEntries opening.entries) start.entry.rest.now start.entry.taken said [] now) }
+    ensures read { IfOk result (λ saved. (said : List EntrySaid) × (saved.journal.entries ≡ map entry_said said) × (now : ℕ) × FormHasRead (AreEntries opening.entries) start.entry.rest.now start.entry.taken said [] now) }
     ensures come { IfOk result (λ saved. MayAllCome (opening_with opening.head opening.profile opening.texts) [] saved.journal.entries) }
     ensures fault { IfErr result (AreEntriesFault (opening_with opening.head opening.profile opening.texts) opening.entries start.entry.rest.now start.entry.taken) }
 {

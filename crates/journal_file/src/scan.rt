@@ -1,7 +1,7 @@
 //! The lines of bytes, one after the other.
 ghost use Rattle.std.specs.Prelude.{◌≡◌, ℕ, List, ◌∷◌, ◌++◌, ◌≤◌, length, MatchOption, codes};
 ghost use Rattle.knit_base.specs.Lines.{HasNoLineEnd};
-ghost use Rattle.journal_file.specs.Lines.{IsShort, IsTextLine};
+ghost use Rattle.journal_file.specs.Lines.{IsShort, IsBarredLine};
 
 use memchr::memchr;
 
@@ -21,7 +21,7 @@ pub(crate) fn next_line(text: &[u8]) -> Option<(&[u8], &[u8])>
 /// What a text line tells: what stands behind its bar, at most 4,096 bytes of UTF-8.
 pub(crate) fn text_of(line: &[u8]) -> Option<&str>
     requires { HasNoLineEnd line.now }
-    ensures { MatchOption result ((text : List ℕ) → IsTextLine text line.now → ⊥) (λ text. IsTextLine text.now line.now) }
+    ensures { MatchOption result ((text : List ℕ) → IsBarredLine text line.now → ⊥) (λ text. IsBarredLine text.now line.now) }
 {
     match line {
         [b'|', text @ ..] => short_text(text),

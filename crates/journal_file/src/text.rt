@@ -1,8 +1,8 @@
 //! Text lines, one after the other.
 ghost use Rattle.std.specs.Prelude.{◌≡◌, ℕ, List, ◌++◌, ◌+◌, ◌≤◌, length, MatchOption, IfOk, IfErr};
-ghost use Rattle.journal_file.specs.Lines.{IsTextLine};
-ghost use Rattle.journal_file.specs.Reading.{HasRead, IsFault, IsTaken, NoneTaken, byte_limit};
-ghost use Rattle.journal_file.specs.Texts.{AreTexts};
+ghost use Rattle.journal_file.specs.Lines.{IsBarredLine};
+ghost use Rattle.journal_file.specs.Reading.{FormHasRead, IsFault, IsFirstLineTaken, NoneTaken, byte_limit};
+ghost use Rattle.journal_file.specs.Texts.{TextLinesForm};
 ghost use Rattle.journal_file.specs.declared.fault.JournalCause.TheVariants as causes;
 ghost use Rattle.journal_file.specs.declared.fault.JournalFault.TheVariants as refused;
 
@@ -42,7 +42,7 @@ impl<'a> Place<'a> {
 /// The text of the next line, if there is one and it is a text line, and the place behind it.
 pub(crate) fn take_text<'a>(at: Place<'a>) -> Option<(&'a str, Place<'a>)>
     requires { at.taken + length at.rest.now ≤ byte_limit }
-    ensures text { MatchOption result (NoneTaken IsTextLine at.entry.rest.now) (λ found. IsTaken IsTextLine at.entry.rest.now found.0.now found.1.rest.now) }
+    ensures text { MatchOption result (NoneTaken IsBarredLine at.entry.rest.now) (λ found. IsFirstLineTaken IsBarredLine at.entry.rest.now found.0.now found.1.rest.now) }
     ensures count { MatchOption result (Unit {0}) (λ found. found.1.taken ≡ at.entry.taken + 1) }
     ensures size { MatchOption result (Unit {0}) (λ found. found.1.taken + length found.1.rest.now ≤ byte_limit) }
 {
@@ -69,10 +69,10 @@ pub(crate) fn read_text<'a>(
 ) -> Result<Place<'a>, JournalFault>
     requires size { start.taken + length start.rest.now ≤ byte_limit }
     requires few { length texts.old + many ≤ 16777217 }
-    ensures read { IfOk result (λ at. (said : List (List ℕ)) × (texts.new ≡ texts.old ++ said) × HasRead (AreTexts many) start.entry.rest.now start.entry.taken said at.rest.now at.taken) }
+    ensures read { IfOk result (λ at. (said : List (List ℕ)) × (texts.new ≡ texts.old ++ said) × FormHasRead (TextLinesForm many) start.entry.rest.now start.entry.taken said at.rest.now at.taken) }
     ensures size { IfOk result (λ at. at.taken + length at.rest.now ≤ byte_limit) }
     ensures len { IfOk result (λ at. length texts.new ≡ length texts.old + many) }
-    ensures fault { IfErr result (IsFault (AreTexts many) start.entry.rest.now start.entry.taken) }
+    ensures fault { IfErr result (IsFault (TextLinesForm many) start.entry.rest.now start.entry.taken) }
 {
     let mut at = start;
     for i in 0..many {
@@ -100,10 +100,10 @@ pub(crate) fn read_block_text<'a>(
 ) -> Result<(BlockText, Place<'a>), JournalFault>
     requires size { start.taken + length start.rest.now ≤ byte_limit }
     requires few { many ≤ 16777217 }
-    ensures read { IfOk result (λ found. HasRead (AreTexts many) start.entry.rest.now start.entry.taken found.0 found.1.rest.now found.1.taken) }
+    ensures read { IfOk result (λ found. FormHasRead (TextLinesForm many) start.entry.rest.now start.entry.taken found.0 found.1.rest.now found.1.taken) }
     ensures size { IfOk result (λ found. found.1.taken + length found.1.rest.now ≤ byte_limit) }
     ensures len { IfOk result (λ found. length found.0 ≡ many) }
-    ensures fault { IfErr result (IsFault (AreTexts many) start.entry.rest.now start.entry.taken) }
+    ensures fault { IfErr result (IsFault (TextLinesForm many) start.entry.rest.now start.entry.taken) }
 {
     let mut lines = Lines::new(alloc);
     match read_text(start, many, &mut lines) {

@@ -1,7 +1,7 @@
 //! Numbers without idle zeros, and the labels before them.
 ghost use Rattle.std.specs.Prelude.{◌≡◌, ◌≢◌, ℕ, ℤ, List, ◌<◌, ◌≤◌, ◌++◌, ◌⊎◌, true, false, min, length, take, slice_index, slice_index_or, All, MatchOption};
-ghost use Rattle.knitout_reader.specs.Numbers.{IsDigit, number_of};
-ghost use Rattle.journal_file.specs.Words.{EndsNumber, IsFront, IsLabelled, IsSigned};
+ghost use Rattle.knitout_reader.specs.Numbers.{IsDigit, value_of_digits};
+ghost use Rattle.journal_file.specs.Words.{EndsNumber, BeginsWithNumber, IsLabelled, BeginsWithSignedNumber};
 
 /// How many digits a number has at most.
 const MAX_DIGITS: usize = 10;
@@ -11,7 +11,7 @@ const TOO_GREAT: u64 = 4_294_967_296;
 
 /// The number that the text begins with, and what stands behind it. A number has no idle zeros, and fits 32 bits.
 pub(crate) fn number(text: &[u8]) -> Option<(u32, &[u8])>
-    ensures { MatchOption result ((n : ℕ) (rest : List ℕ) → IsFront text.now n rest → ⊥) (λ found. IsFront text.now found.0 found.1.now) }
+    ensures { MatchOption result ((n : ℕ) (rest : List ℕ) → BeginsWithNumber text.now n rest → ⊥) (λ found. BeginsWithNumber text.now found.0 found.1.now) }
 {
     let (digits, rest) = split_digits(text);
     if !are_plain(digits) {
@@ -64,7 +64,7 @@ fn count_digits(text: &[u8]) -> usize
 
 // The number that the digits spell, or `TOO_GREAT` where it is greater.
 fn value_of(digits: &[u8]) -> u64
-    ensures { result ≡ min (number_of digits.now) TOO_GREAT }
+    ensures { result ≡ min (value_of_digits digits.now) TOO_GREAT }
 {
     let mut value = 0;
     for digit in digits {
@@ -92,7 +92,7 @@ pub(crate) fn behind<'a>(text: &'a [u8], label: &[u8]) -> Option<&'a [u8]>
 
 /// The whole number that the text begins with, with a `-` where it is negative, and what stands behind it.
 pub(crate) fn signed(text: &[u8]) -> Option<(i64, &[u8])>
-    ensures { MatchOption result ((n : ℤ) (rest : List ℕ) → IsSigned text.now n rest → ⊥) (λ found. IsSigned text.now found.0 found.1.now) }
+    ensures { MatchOption result ((n : ℤ) (rest : List ℕ) → BeginsWithSignedNumber text.now n rest → ⊥) (λ found. BeginsWithSignedNumber text.now found.0 found.1.now) }
 {
     match labelled(text, b"-") {
         Some((size, rest)) => {

@@ -1,7 +1,7 @@
 //! A saved text, written.
 ghost use Rattle.std.specs.Prelude.{◌≡◌, ◌+◌, ◌++◌, ◌<◌, ◌≤◌, length, codes, drop, flat_map, OnOk, OnErr, IfOk};
 ghost use Rattle.std.specs.Fmt.{signed_decimal};
-ghost use Rattle.journal_file.specs.Spelling.{block_lines, blocks_lines, counted, entries_lines, entry_lines, head_lines, needle_limits, other_limits, profile_line, profile_text, spelling, text_given, text_line, text_lines};
+ghost use Rattle.journal_file.specs.Spelling.{block_lines, blocks_lines, count_spelling, entries_lines, entry_lines, head_lines, needle_limits, other_limits, profile_line, profile_text, saved_spelling, text_given, text_line, text_lines};
 
 use crate::Saved;
 use edit_journal::{BlockAt, Edit, Entry, Journal, TextList, append_entry_line};
@@ -15,7 +15,7 @@ pub fn write_journal<L: Ledger>(
     out: &mut Vec<u8>,
     steps: &mut Steps<L>,
 ) -> Result<(), NoMemory>
-    ensures ok { OnOk result (out.new.items ≡ out.old.items ++ spelling saved.now.head saved.now.profile saved.now.blocks saved.now.journal.entries) }
+    ensures ok { OnOk result (out.new.items ≡ out.old.items ++ saved_spelling saved.now.head saved.now.profile saved.now.blocks saved.now.journal.entries) }
     ensures err { OnErr result (out.new.items ≡ out.old.items) }
 {
     let text = saved_text(*out.allocator(), saved, steps)?;
@@ -29,7 +29,7 @@ pub fn saved_text<L: Ledger>(
     saved: &Saved,
     steps: &mut Steps<L>,
 ) -> Result<Vec<u8>, NoMemory>
-    ensures { IfOk result (λ text. text.items ≡ spelling saved.now.head saved.now.profile saved.now.blocks saved.now.journal.entries) }
+    ensures { IfOk result (λ text. text.items ≡ saved_spelling saved.now.head saved.now.profile saved.now.blocks saved.now.journal.entries) }
 {
     let mut text = Vec::new(alloc);
     text.extend_from_slice(b"journal 1\n")?;
@@ -42,7 +42,7 @@ pub fn saved_text<L: Ledger>(
 
 // Appends a label, a number and a line feed.
 fn append_count(label: &str, number: u32, out: &mut Vec<u8>) -> Result<(), NoMemory>
-    ensures { OnOk result (out.new.items ≡ out.old.items ++ counted label.now number) }
+    ensures { OnOk result (out.new.items ≡ out.old.items ++ count_spelling label.now number) }
 {
     append_labelled(label, u64::from(number), out)?;
     out.extend_from_slice(b"\n")?;

@@ -4,7 +4,7 @@ use Rattle.std.specs.List.{slice_range}
 use Rattle.std.proofs.lemmas.List.{drop-drop, drop-map, drop-take, length-drop, length-map, length-take, take-map, take-take, take_all}
 use Rattle.std.proofs.lemmas.List.Elements.{All-cons, All-head, All-nil, All-tail}
 use Rattle.knit_base.specs.declared.lines.Span.{Span}
-use Rattle.knit_base.specs.Lines.{HasBytes, IsPart, behind_first}
+use Rattle.knit_base.specs.Lines.{HasBytes, AreSomeSpans, behind_first}
 
 -- a range of mapped spans
 range_mapped : (f : Span → Span) (spans : List Span) (start end : ℕ) → slice_range (map f spans) start end ≡ map f (slice_range spans start end)
@@ -36,12 +36,12 @@ long_twice first more (span ∷ spans) all =
     All-cons (HasBytes (first + more)) span spans (omega (arith, here)) (long_twice first more spans (All-tail (HasBytes more) (behind_first first span) (map (behind_first first) spans) all))
 
 -- how many spans a part has
-part_len : (spans : List Span) (start end skipped : ℕ) → IsPart spans start end skipped → length (map (behind_first skipped) (slice_range spans start end)) ≡ end - start
+part_len : (spans : List Span) (start end skipped : ℕ) → AreSomeSpans spans start end skipped → length (map (behind_first skipped) (slice_range spans start end)) ≡ end - start
 part_len spans start end skipped part =
     omega (arith, part.ordered, part.inside, length-map (slice_range spans start end) (behind_first skipped), length-take (end - start) (drop start spans), length-drop start spans)
 
 -- A part of a part.
-module _ (spans : List Span) (start end first : ℕ) (part : IsPart spans start end first) (from to more : ℕ) (ordered : from ≤ to) (inside : to ≤ length (map (behind_first first) (slice_range spans start end))) where
+module _ (spans : List Span) (start end first : ℕ) (part : AreSomeSpans spans start end first) (from to more : ℕ) (ordered : from ≤ to) (inside : to ≤ length (map (behind_first first) (slice_range spans start end))) where
   fits : to ≤ end - start
   fits = omega (arith, inside, part_len spans start end first part)
 
@@ -51,7 +51,7 @@ module _ (spans : List Span) (start end first : ℕ) (part : IsPart spans start 
   pub part_spans : map (behind_first (first + more)) (slice_range spans (start + from) (start + to)) ≡ map (behind_first more) (slice_range (map (behind_first first) (slice_range spans start end)) from to)
   part_spans = sym (skipped_twice first more (slice_range spans (start + from) (start + to))) ∙ ap (map (behind_first more)) (sym same)
 
-  pub part_is : All (HasBytes more) (slice_range (map (behind_first first) (slice_range spans start end)) from to) → IsPart spans (start + from) (start + to) (first + more)
+  pub part_is : All (HasBytes more) (slice_range (map (behind_first first) (slice_range spans start end)) from to) → AreSomeSpans spans (start + from) (start + to) (first + more)
   part_is long = record {
     ordered = omega (arith, ordered);
     inside = omega (arith, fits, part.ordered, part.inside);

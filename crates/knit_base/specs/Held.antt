@@ -3,16 +3,16 @@ use Rattle.std.specs.Prelude.{ℕ, List, map, slice_range}
 use Rattle.std.specs.Arc.{arc_value}
 use Rattle.knit_base.specs.declared.held.Held.{Held}
 use Rattle.knit_base.specs.declared.held.Held.TheVariants.{Own, Shared}
-use Rattle.knit_base.specs.declared.cut.Part.{Part}
+use Rattle.knit_base.specs.declared.cut.CutPart.{CutPart}
 use Rattle.knit_base.specs.declared.lines.Span.{Span}
 use Rattle.knit_base.specs.Lines.{behind_first}
 
 -- the bytes of the cut of which it is a part
-abbrev pub bytes_of_part : Part → List ℕ
+abbrev pub bytes_of_part : CutPart → List ℕ
 bytes_of_part part = (arc_value part.cut).bytes.items
 
 -- where its lines lie in them
-abbrev pub spans_of_part : Part → List Span
+abbrev pub spans_of_part : CutPart → List Span
 spans_of_part part = map (behind_first part.skipped) (slice_range (arc_value part.cut).spans.items part.start part.end)
 
 -- the bytes, whether they are shared or not

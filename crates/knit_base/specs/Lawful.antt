@@ -52,7 +52,7 @@ IsRackedWithin profile (Some rack) = IsWithinLimit profile rack
 
 -- The instruction's carriers are among so many declared ones, its needles lie on the bed, it forms no loop on a slider, moves
 -- loops to the other side and not from slider to slider, and racks within the limit.
-pub record IsLawful (profile : Profile) (declared : ℕ) (instr : Instr) : Type 0 where
+pub record IsLawfulInstr (profile : Profile) (declared : ℕ) (instr : Instr) : Type 0 where
   pub carriers : AreDeclared declared (yarns_at instr) (yarns_of instr)
   pub needles : AreOnBed profile (needles_of instr)
   pub formed : IsFormedOnHook (forming_needle instr)
@@ -61,5 +61,5 @@ pub record IsLawful (profile : Profile) (declared : ℕ) (instr : Instr) : Type 
 
 -- a reading that is an instruction is a lawful one
 abbrev pub IsLawfulRead : Profile → ℕ → Read → Type 0
-IsLawfulRead profile declared (read.Instr instr) = IsLawful profile declared instr
+IsLawfulRead profile declared (read.Instr instr) = IsLawfulInstr profile declared instr
 IsLawfulRead profile declared r = Unit {0}

@@ -17,19 +17,19 @@ pub record IsLine (line : List ℕ) : Type 0 where
   pub short : length line < 2 ^ 16
 
 -- the bytes from the start of the span to its end
-abbrev pub piece : List ℕ → Span → List ℕ
-piece bytes span = take (span.end - span.start) (drop span.start bytes)
+abbrev pub span_bytes : List ℕ → Span → List ℕ
+span_bytes bytes span = take (span.end - span.start) (drop span.start bytes)
 
 -- the span lies in the buffer
-pub record IsWithin (bytes : List ℕ) (span : Span) : Type 0 where
+pub record IsSpanWithin (bytes : List ℕ) (span : Span) : Type 0 where
   pub ordered : span.start ≤ span.end
   pub inside : span.end ≤ length bytes
 
 -- each span of the buffer is a line
-pub record AreLines (bytes : List ℕ) (spans : List Span) : Type 0 where
+pub record AreLineSpans (bytes : List ℕ) (spans : List Span) : Type 0 where
   pub few : length spans ≤ 16777217
-  pub within : All (IsWithin bytes) spans
-  pub lines : All IsLine (map (piece bytes) spans)
+  pub within : All (IsSpanWithin bytes) spans
+  pub lines : All IsLine (map (span_bytes bytes) spans)
 
 -- the pieces without a last one that is empty
 abbrev pub without_empty_end : List (List ℕ) → List (List ℕ)
@@ -62,7 +62,7 @@ abbrev pub HasBytes : ℕ → Span → Type 0
 HasBytes count span = span.start + count ≤ span.end
 
 -- these are some of the spans, each of which has at least so many bytes
-pub record IsPart (spans : List Span) (start end count : ℕ) : Type 0 where
+pub record AreSomeSpans (spans : List Span) (start end count : ℕ) : Type 0 where
   pub ordered : start ≤ end
   pub inside : end ≤ length spans
   pub long : All (HasBytes count) (slice_range spans start end)
@@ -78,5 +78,5 @@ pub record BeginWith (front bytes : List ℕ) : Type 0 where
 
 -- the places hold, one by one, what the spans do without so many bytes in front
 pub record AreCopied (bytes : List ℕ) (count : ℕ) (spans : List Span) (copy : List ℕ) (places : List Span) : Type 0 where
-  pub within : All (IsWithin copy) places
-  pub same : map (piece copy) places ≡ map (λ span. piece bytes (behind_first count span)) spans
+  pub within : All (IsSpanWithin copy) places
+  pub same : map (span_bytes copy) places ≡ map (λ span. span_bytes bytes (behind_first count span)) spans

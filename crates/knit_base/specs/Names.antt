@@ -22,12 +22,12 @@ abbrev pub names_len : List (List ℕ) → ℕ
 names_len names = sum_by (λ name. length name + 1) names
 
 -- a name behind a space
-abbrev pub spaced : List ℕ → List ℕ
-spaced name = codes " " ++ name
+abbrev pub name_behind_space : List ℕ → List ℕ
+name_behind_space name = codes " " ++ name
 
 -- the names, each behind a space
 abbrev pub spaced_names : List (List ℕ) → List ℕ
-spaced_names names = flat_map spaced names
+spaced_names names = flat_map name_behind_space names
 
 -- the line of a header with these names
 abbrev pub header_line : List (List ℕ) → List ℕ

@@ -10,8 +10,8 @@ use Rattle.knit_base.specs.declared.rule.Rule.{Rule}
 use Rattle.knit_base.specs.declared.rule.Rule.TheVariants.{Unreadable, OffBed, SliderForm, SameBed, TwoSliders, NoCarrier, CarrierTwice, RackStep, RackLimit, CarrierIsOut, CarrierIsIn, HookBusy, HookOther, CarrierHooked, NotAligned, SliderHolds, TooManyLoops, FloatTooLong}
 
 -- a label and a number behind it
-abbrev pub labelled : List ℕ → ℕ → List ℕ
-labelled label number = label ++ decimal number
+abbrev pub labelled_number : List ℕ → ℕ → List ℕ
+labelled_number label number = label ++ decimal number
 
 abbrev pub bed_word : Bed → List ℕ
 bed_word Front = codes "f"

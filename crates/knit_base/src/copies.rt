@@ -1,6 +1,6 @@
 //! Copies of pieces of a buffer.
 ghost use Rattle.std.specs.Prelude.{◌≡◌, ◌++◌, ℕ, List, All, length, map, OnOk, OnErr, IfOk};
-ghost use Rattle.knit_base.specs.Lines.{AreCopied, BeginWith, HasBytes, IsWithin, behind_first, piece};
+ghost use Rattle.knit_base.specs.Lines.{AreCopied, BeginWith, HasBytes, IsSpanWithin, behind_first, span_bytes};
 
 use crate::NoMemory;
 use crate::lines::Span;
@@ -19,7 +19,7 @@ pub(crate) fn copy_pieces(
     spans: &[Span],
     skipped: u32,
 ) -> Result<(Vec<u8>, Vec<Span>), NoMemory>
-    requires within { All (IsWithin bytes.now) spans.now }
+    requires within { All (IsSpanWithin bytes.now) spans.now }
     requires long { All (HasBytes skipped) spans.now }
     ensures { IfOk result (λ copy. AreCopied bytes.now skipped spans.now copy.0.items copy.1.items) }
 {
@@ -65,7 +65,7 @@ pub(crate) fn behind_first(span: Span, count: u32) -> Span
 
 // From the first one's start to the last one's end, or to the start where the last one ends before it.
 fn reach_of(spans: &[Span]) -> Span
-    ensures { (bytes : List ℕ) → All (IsWithin bytes) spans.now → IsWithin bytes result }
+    ensures { (bytes : List ℕ) → All (IsSpanWithin bytes) spans.now → IsSpanWithin bytes result }
 {
     match spans {
         [first, .., last] => Span {
@@ -80,12 +80,12 @@ fn reach_of(spans: &[Span]) -> Span
 // Where the piece lies in the copy, which begins with those bytes that `reach` spans.
 #[inline(always)]
 fn place_of(copy: &mut Vec<u8>, bytes: &[u8], reach: Span, wanted: Span) -> Result<Span, NoMemory>
-    requires reach { IsWithin bytes.now reach }
-    requires wanted { IsWithin bytes.now wanted }
-    requires front { BeginWith (piece bytes.now reach) copy.old.items }
+    requires reach { IsSpanWithin bytes.now reach }
+    requires wanted { IsSpanWithin bytes.now wanted }
+    requires front { BeginWith (span_bytes bytes.now reach) copy.old.items }
     ensures grown { OnOk result (BeginWith copy.old.items copy.new.items) }
-    ensures within { IfOk result (IsWithin copy.new.items) }
-    ensures same { IfOk result (λ place. piece copy.new.items place ≡ piece bytes.now wanted) }
+    ensures within { IfOk result (IsSpanWithin copy.new.items) }
+    ensures same { IfOk result (λ place. span_bytes copy.new.items place ≡ span_bytes bytes.now wanted) }
 {
     if reach.start <= wanted.start && wanted.end <= reach.end {
         return Ok(Span {

@@ -1,6 +1,6 @@
 //! Lines in a buffer, and some of those that several lists share.
 ghost use Rattle.std.specs.Arc.{arc_value};
-ghost use Rattle.knit_base.specs.Lines.{IsPart};
+ghost use Rattle.knit_base.specs.Lines.{AreSomeSpans};
 
 use crate::lines::Span;
 use std::sync::Arc;
@@ -15,10 +15,10 @@ pub(crate) struct Cut {
 /// Some of the lines of a cut that others may hold, too: from `start` to `end`, which isn't counted, each without its first `skipped`
 /// bytes.
 #[derive(Drop)]
-pub(crate) struct Part {
+pub(crate) struct CutPart {
     pub cut: Arc<Cut>,
     pub start: u32,
     pub end: u32,
     pub skipped: u32,
-    ghost part: { IsPart (arc_value cut).spans.items start end skipped },
+    ghost part: { AreSomeSpans (arc_value cut).spans.items start end skipped },
 }

@@ -1,11 +1,11 @@
 //! Where lines lie: in a buffer of their own, or in one that several lists of lines share.
 ghost use Rattle.std.specs.Prelude.{◌≡◌, ◌≤◌, ◌<◌, ◌^◌, ◌++◌, [], ◌∷◌, All, length, map, IfOk, OnErr, OnOk, slice_get, slice_range};
 ghost use Rattle.knit_base.specs.Held.{bytes_in, bytes_of_part, spans_in, spans_of_part};
-ghost use Rattle.knit_base.specs.Lines.{AreCopied, HasBytes, IsWithin, behind_first, last_span};
+ghost use Rattle.knit_base.specs.Lines.{AreCopied, HasBytes, IsSpanWithin, behind_first, last_span};
 
 use crate::NoMemory;
 use crate::copies::{append_piece, behind_each_first, behind_first, copy_pieces};
-use crate::cut::{Cut, Part};
+use crate::cut::{Cut, CutPart};
 use crate::lines::Span;
 use std::alloc::Global;
 use std::sync::Arc;
@@ -13,7 +13,7 @@ use std::sync::Arc;
 /// Where the lines of a list lie.
 pub(crate) enum Held {
     Own(Cut),
-    Shared(Part),
+    Shared(CutPart),
 }
 
 // A call, so that a proof about who drops lines needn't ask how they are held.
@@ -41,7 +41,7 @@ impl Cut {
     }
 }
 
-impl Part {
+impl CutPart {
     #[inline(always)]
     fn len(&self) -> u32
         ensures { result ≡ length (spans_of_part self.now) }
@@ -62,7 +62,7 @@ impl Part {
     }
 
     // Some of the part's lines, each without so many bytes more.
-    fn range(&self, start: u32, end: u32, skipped: u32) -> Result<Part, NoMemory>
+    fn range(&self, start: u32, end: u32, skipped: u32) -> Result<CutPart, NoMemory>
         requires ordered { start ≤ end }
         requires inside { end ≤ length (spans_of_part self.now) }
         requires long { All (HasBytes skipped) (slice_range (spans_of_part self.now) start end) }
@@ -72,7 +72,7 @@ impl Part {
         let Some(all_skipped) = self.skipped.checked_add(skipped) else {
             return Err(NoMemory);
         };
-        Ok(Part {
+        Ok(CutPart {
             cut: Arc::try_clone(&self.cut)?,
             start: self.start + start,
             end: self.start + end,
@@ -128,14 +128,14 @@ impl Held {
     /// The same lines, which several lists can share from now on.
     pub fn into_shared(self) -> Result<Self, NoMemory>
         requires few { length (spans_in self) < 2 ^ 32 }
-        requires within { All (IsWithin (bytes_in self)) (spans_in self) }
+        requires within { All (IsSpanWithin (bytes_in self)) (spans_in self) }
         ensures bytes { IfOk result (λ held. bytes_in held ≡ bytes_in self) }
         ensures spans { IfOk result (λ held. spans_in held ≡ spans_in self) }
     {
         match self {
             Held::Own(cut) => {
                 let end = cut.spans.len() as u32;
-                Ok(Held::Shared(Part {
+                Ok(Held::Shared(CutPart {
                     cut: Arc::new(*cut.bytes.allocator(), cut)?,
                     start: 0,
                     end,
@@ -150,7 +150,7 @@ impl Held {
     pub fn range(&self, alloc: Global, start: u32, end: u32, skipped: u32) -> Result<Self, NoMemory>
         requires ordered { start ≤ end }
         requires inside { end ≤ length (spans_in self.now) }
-        requires within { All (IsWithin (bytes_in self.now)) (spans_in self.now) }
+        requires within { All (IsSpanWithin (bytes_in self.now)) (spans_in self.now) }
         requires long { All (HasBytes skipped) (slice_range (spans_in self.now) start end) }
         ensures { IfOk result (λ held. AreCopied (bytes_in self.now) skipped (slice_range (spans_in self.now) start end) (bytes_in held) (spans_in held)) }
     {
@@ -192,7 +192,7 @@ impl Held {
                 bytes: cut.bytes.clone()?,
                 spans: cut.spans.clone()?,
             })),
-            Held::Shared(part) => Ok(Held::Shared(Part {
+            Held::Shared(part) => Ok(Held::Shared(CutPart {
                 cut: Arc::try_clone(&part.cut)?,
                 start: part.start,
                 end: part.end,

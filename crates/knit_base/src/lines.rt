@@ -2,7 +2,7 @@
 ghost use Rattle.std.specs.Prelude.{◌≡◌, ◌<◌, ◌≤◌, ◌^◌, [], ◌∷◌, ◌++◌, All, length, drop, map, OnOk, OnErr, IfOk, IfSome, slice_get, slice_range};
 ghost use Rattle.std.specs.Option.{option_copied};
 ghost use Rattle.knit_base.specs.Held.{bytes_in, spans_in};
-ghost use Rattle.knit_base.specs.Lines.{HasNoLineEnd, IsLine, IsWithin, MayLoseFirst, piece};
+ghost use Rattle.knit_base.specs.Lines.{HasNoLineEnd, IsLine, IsSpanWithin, MayLoseFirst, span_bytes};
 
 use crate::NoMemory;
 use crate::cut::Cut;
@@ -30,11 +30,11 @@ impl Model for Lines {
     ghost Value = { List (List ℕ) };
 
     ghost use Rattle.knit_base.specs.Held.{bytes_in, spans_in};
-    ghost use Rattle.knit_base.specs.Lines.{AreLines, piece};
+    ghost use Rattle.knit_base.specs.Lines.{AreLineSpans, span_bytes};
 
-    ghost view = { λ l. map (piece (bytes_in l.held)) (spans_in l.held) };
+    ghost view = { λ l. map (span_bytes (bytes_in l.held)) (spans_in l.held) };
 
-    ghost invariant = { λ l. AreLines (bytes_in l.held) (spans_in l.held) };
+    ghost invariant = { λ l. AreLineSpans (bytes_in l.held) (spans_in l.held) };
 }
 
 impl Lines {
@@ -47,18 +47,18 @@ impl Lines {
     /// The lines that lie in the buffer at these places. Nothing is copied.
     pub fn in_buffer(bytes: Vec<u8>, spans: Vec<Span>) -> Self
         requires few { length spans.items ≤ 16777217 }
-        requires within { All (IsWithin bytes.items) spans.items }
-        requires lines { All IsLine (map (piece bytes.items) spans.items) }
-        ensures { result ≡ map (piece bytes.items) spans.items }
+        requires within { All (IsSpanWithin bytes.items) spans.items }
+        requires lines { All IsLine (map (span_bytes bytes.items) spans.items) }
+        ensures { result ≡ map (span_bytes bytes.items) spans.items }
     {
         Lines::lying_in(Held::Own(Cut { bytes, spans }))
     }
 
     fn lying_in(held: Held) -> Self
         requires few { length (spans_in held) ≤ 16777217 }
-        requires within { All (IsWithin (bytes_in held)) (spans_in held) }
-        requires lines { All IsLine (map (piece (bytes_in held)) (spans_in held)) }
-        ensures { result ≡ map (piece (bytes_in held)) (spans_in held) }
+        requires within { All (IsSpanWithin (bytes_in held)) (spans_in held) }
+        requires lines { All IsLine (map (span_bytes (bytes_in held)) (spans_in held)) }
+        ensures { result ≡ map (span_bytes (bytes_in held)) (spans_in held) }
     {
         Lines { held }
     }

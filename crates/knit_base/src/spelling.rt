@@ -1,6 +1,6 @@
 //! How numbers, needles and racks are written.
 ghost use Rattle.std.specs.Prelude.{◌≡◌, ◌<◌, ◌++◌, decimal, OnOk, OnErr};
-ghost use Rattle.knit_base.specs.Spelling.{labelled, needle_text, quarters_word, rack_text};
+ghost use Rattle.knit_base.specs.Spelling.{labelled_number, needle_text, quarters_word, rack_text};
 
 use crate::{Needle, NoMemory, Quarter};
 use itoa::Buffer;
@@ -17,7 +17,7 @@ pub fn append_number(number: u64, out: &mut Vec<u8>) -> Result<(), NoMemory>
 
 /// Appends a label, and a number in decimal. After `NoMemory` the buffer is as before.
 pub fn append_labelled(label: &str, number: u64, out: &mut Vec<u8>) -> Result<(), NoMemory>
-    ensures ok { OnOk result (out.new.items ≡ out.old.items ++ labelled label.now number) }
+    ensures ok { OnOk result (out.new.items ≡ out.old.items ++ labelled_number label.now number) }
     ensures err { OnErr result (out.new.items ≡ out.old.items) }
 {
     let mut digits = Buffer::new();

@@ -7,7 +7,7 @@ use Rattle.std.proofs.lemmas.List.FromFn.{get_or-map-range_with_len, length-map-
 use Rattle.knit_base.specs.declared.needle.Bed.TheVariants.{Front, Back}
 use Rattle.knit_base.specs.declared.needle.Dir.TheVariants.{Right, Left}
 use Rattle.knit_maker.specs.Plain.{IsPlain}
-use Rattle.knit_maker.specs.Made.{Line, course, drawn_after, leftward, made_lines, opening, picked, rightward, rows_after, stitch_line, transfer_line, width_of}
+use Rattle.knit_maker.specs.Made.{Line, course, drawn_after, leftward, made_lines, opening, hook_picked, rightward, rows_after, stitch_line, transfer_line, width_of}
 use Rattle.knit_maker.specs.declared.stitch.Stitch.{Stitch}
 use Rattle.knit_maker.specs.declared.stitch.Stitch.TheVariants.{Knit, Tuck}
 use Rattle.knit_maker.proofs.PlainLines.{plain-shorter, plain-text, stitch-plain, transfer-plain}
@@ -33,13 +33,13 @@ rightward-made stitch width small =
 course-made : (stitch : Stitch) (width : ℕ) → width < 100 → All IsMade (course stitch width)
 course-made stitch width small = All-append IsMade (leftward stitch width) (rightward stitch width) (leftward-made stitch width small) (rightward-made stitch width small)
 
-picked-within : (width drawn : ℕ) → 0 < width → picked width drawn ≤ width
+picked-within : (width drawn : ℕ) → 0 < width → hook_picked width drawn ≤ width
 picked-within width drawn some = omega (arith, mod_below (drawn / 65536) width some)
 
 rows-made : (width drawn rows : ℕ) → 0 < width → width < 100 → All IsMade (rows_after width drawn rows)
 rows-made width drawn zero some small = All-nil IsMade
 rows-made width drawn (suc rows) some small =
-    let at : ℕ = picked width (drawn_after drawn) in
+    let at : ℕ = hook_picked width (drawn_after drawn) in
     All-append IsMade (course Knit width) (transfer_line at ∷ rows_after width (drawn_after drawn) rows) (course-made Knit width small)
     (All-cons IsMade (transfer_line at) (rows_after width (drawn_after drawn) rows)
     (plain-shorter 14 17 (transfer_line at) (omega arith) (transfer-plain at (omega (arith, picked-within width (drawn_after drawn) some))))

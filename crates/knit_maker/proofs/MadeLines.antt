@@ -6,7 +6,7 @@ use Rattle.std.proofs.lemmas.Nat.{mod_below}
 use Rattle.std.proofs.lemmas.List.FromFn.{get_or-map-range_with_len, length-map-range_with_len, map-range_with_len_more}
 use Rattle.knit_base.specs.declared.needle.Bed.TheVariants.{Front, Back}
 use Rattle.knit_base.specs.declared.needle.Dir.TheVariants.{Right, Left}
-use Rattle.knit_maker.specs.Made.{Line, course, drawn_after, leftward, made_lines, picked, rightward, rows_after, stitch_line, transfer_line, width_of}
+use Rattle.knit_maker.specs.Made.{Line, course, drawn_after, leftward, made_lines, hook_picked, rightward, rows_after, stitch_line, transfer_line, width_of}
 use Rattle.knit_maker.specs.declared.stitch.Stitch.{Stitch}
 use Rattle.knit_maker.specs.declared.stitch.Stitch.TheVariants.{Knit, Tuck}
 
@@ -65,7 +65,7 @@ length-rows width drawn zero few = omega arith
 length-rows width drawn (suc rows) few =
     let next : ℕ = drawn_after drawn in
     let rest : length (rows_after width next rows) ≤ 33 * rows = length-rows width next rows few in
-    omega (arith, few, rest, length-append (course Knit width) (transfer_line (picked width next) ∷ rows_after width next rows), length-course Knit width)
+    omega (arith, few, rest, length-append (course Knit width) (transfer_line (hook_picked width next) ∷ rows_after width next rows), length-course Knit width)
 
 -- and the whole program
 pub length-made : (rows start : ℕ) → length (made_lines rows start) ≤ 36 + 33 * rows
@@ -83,7 +83,7 @@ length-made rows start =
 
 -- the next row
 pub rows-next : (width drawn next_drawn left : ℕ) (lines round mid next whole : List Line) (line : Line) → 0 < left → next_drawn ≡ drawn_after drawn
-    → round ≡ course Knit width → mid ≡ lines ++ round → line ≡ transfer_line (picked width next_drawn) → next ≡ mid ++ line ∷ []
+    → round ≡ course Knit width → mid ≡ lines ++ round → line ≡ transfer_line (hook_picked width next_drawn) → next ≡ mid ++ line ∷ []
     → lines ++ rows_after width drawn left ≡ whole → next ++ rows_after width next_drawn (left - 1) ≡ whole
 rows-next width drawn next_drawn zero lines round mid next whole line some is_drawn is_round appended is_line pushed all = absurd (omega arith)
 rows-next width drawn next_drawn (suc left) lines round mid next whole line some is_drawn is_round appended is_line pushed all =
@@ -92,5 +92,5 @@ rows-next width drawn next_drawn (suc left) lines round mid next whole line some
     (ap (λ ls. ls ++ line ∷ rows_after width next_drawn left) (appended ∙ ap (λ ls. lines ++ ls) is_round)
     ∙ append_assoc lines (course Knit width) (line ∷ rows_after width next_drawn left)
     ∙ ap (λ l. lines ++ (course Knit width ++ l ∷ rows_after width next_drawn left)) is_line
-    ∙ ap (λ n. lines ++ (course Knit width ++ transfer_line (picked width n) ∷ rows_after width n left)) is_drawn
+    ∙ ap (λ n. lines ++ (course Knit width ++ transfer_line (hook_picked width n) ∷ rows_after width n left)) is_drawn
     ∙ all)

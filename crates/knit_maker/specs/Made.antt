@@ -53,13 +53,13 @@ abbrev pub drawn_after : ℕ → ℕ
 drawn_after drawn = (drawn * 1103515245 + 12345) % 2147483648
 
 -- the hook that a number picks, of so many
-abbrev pub picked : ℕ → ℕ → ℕ
-picked width drawn = 1 + (drawn / 65536) % width
+abbrev pub hook_picked : ℕ → ℕ → ℕ
+hook_picked width drawn = 1 + (drawn / 65536) % width
 
 -- so many rows, each a course and a transfer, where this number was the last drawn before them
 abbrev pub rows_after : ℕ → ℕ → ℕ → List Line
 rows_after width drawn zero = []
-rows_after width drawn (suc rows) = course Knit width ++ transfer_line (picked width (drawn_after drawn)) ∷ rows_after width (drawn_after drawn) rows
+rows_after width drawn (suc rows) = course Knit width ++ transfer_line (hook_picked width (drawn_after drawn)) ∷ rows_after width (drawn_after drawn) rows
 
 -- what stands before the cast-on: the head, and the carrier comes in
 abbrev pub opening : List Line
@@ -70,9 +70,9 @@ abbrev pub made_lines : ℕ → ℕ → List Line
 made_lines rows start = opening ++ (course Tuck (width_of start) ++ (rows_after (width_of start) start rows ++ codes "out 1" ∷ []))
 
 -- a line and its line feed
-abbrev pub ended : Line → Line
-ended line = line ++ 10 ∷ []
+abbrev pub line_with_end : Line → Line
+line_with_end line = line ++ 10 ∷ []
 
 -- the bytes of a file with these lines
 abbrev pub file_of : List Line → List ℕ
-file_of lines = flat_map ended lines
+file_of lines = flat_map line_with_end lines

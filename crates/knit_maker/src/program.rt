@@ -2,7 +2,7 @@
 ghost use Rattle.std.specs.Prelude.{◌≡◌, ◌+◌, ◌*◌, ◌<◌, ◌≤◌, [], ◌∷◌, ◌++◌, length, map, slice_index_or, IfOk, OnOk};
 ghost use Rattle.std.specs.List.{range_with_len};
 ghost use Rattle.knit_base.specs.Lines.{IsLine};
-ghost use Rattle.knit_maker.specs.Made.{course, drawn_after, made_lines, opening, picked, rows_after, transfer_line, width_of};
+ghost use Rattle.knit_maker.specs.Made.{course, drawn_after, made_lines, opening, hook_picked, rows_after, transfer_line, width_of};
 ghost use Rattle.knit_maker.specs.declared.stitch.Stitch.TheVariants.{Knit, Tuck};
 
 use crate::Stitch;
@@ -79,7 +79,7 @@ pub(crate) fn drawn_after(drawn: u32) -> u32
 // The hook that a number picks, of so many.
 pub(crate) fn picked(width: u32, drawn: u32) -> u32
     requires { 0 < width }
-    ensures value { result ≡ picked width drawn }
+    ensures value { result ≡ hook_picked width drawn }
     ensures some { 1 ≤ result }
     ensures within { result ≤ width }
 {

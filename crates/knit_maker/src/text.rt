@@ -1,6 +1,6 @@
 //! The made program as the bytes of a file.
 ghost use Rattle.std.specs.Prelude.{◌≡◌, ◌<◌, ◌≤◌, ◌++◌, length, IfOk, OnOk};
-ghost use Rattle.knit_maker.specs.Made.{ended, file_of, made_lines, rows_after};
+ghost use Rattle.knit_maker.specs.Made.{line_with_end, file_of, made_lines, rows_after};
 
 use crate::Stitch;
 use crate::course::{course_of, transfers_of};
@@ -41,7 +41,7 @@ fn text_of(alloc: Global, lines: &Lines) -> Result<Vec<u8>, NoMemory>
 
 // Appends a line and its line feed.
 fn append_line(line: &str, text: &mut Vec<u8>) -> Result<(), NoMemory>
-    ensures { OnOk result (text.new.items ≡ text.old.items ++ ended line.now) }
+    ensures { OnOk result (text.new.items ≡ text.old.items ++ line_with_end line.now) }
 {
     text.extend_from_slice(line.as_bytes())?;
     text.push(b'\n')?;

@@ -10,7 +10,7 @@ use Rattle.line_cutter.specs.declared.fault.CutFault.TheVariants as refused
 use Rattle.line_cutter.specs.Cut.{IsFirstBad, IsFirstBadBehind, IsFirstBadLine, IsGoodLine}
 use Rattle.line_cutter.proofs.Pieces.{lines_of-next}
 use Rattle.knit_ports.specs.declared.limit.TheConstants.{INPUT_LIMIT}
-use Rattle.knit_ports.specs.FileReadings.{IsLongFile, IsRefusedFile, IsTakenFile, IsWholeFile, Taking}
+use Rattle.knit_ports.specs.FileReadings.{IsLongFile, IsRefusedFile, IsTakenFile, IsWholeFile, TakingLines}
 use Rattle.knit_ports.specs.Whole.{GaveAtMost, GavePiece}
 use Rattle.knit_ports.specs.WholeLines.{AreWholeLines}
 use Rattle.knit_ports.specs.Windows.{IsReadOut}
@@ -66,7 +66,7 @@ bad-before lines more (refused.LineLong number) bad = bad-line-before _ lines mo
 bad-before lines more refused.NoMemory bad = bad
 
 -- the source gave what was passed and what is held, and the lines of what was passed were taken
-pub record ReadingSoFar (T : Type 0) (Took : Taking T) (start taker : T) (old now : Option (List ℕ)) (before after : ℕ) (held : List ℕ) (count : ℕ) : Type 0 where
+pub record ReadingSoFar (T : Type 0) (Took : TakingLines T) (start taker : T) (old now : Option (List ℕ)) (before after : ℕ) (held : List ℕ) (count : ℕ) : Type 0 where
   pub passed : List ℕ
   pub consumed : Consumes old now (passed ++ held)
   pub whole : AreWholeLines passed
@@ -75,17 +75,17 @@ pub record ReadingSoFar (T : Type 0) (Took : Taking T) (start taker : T) (old no
   pub calm : after ≡ before
 
 -- what the taker tells of the lines that it took, and what it makes of some more
-abbrev pub TakesMore : (T : Type 0) → Taking T → T → T → List ℕ → Type 0
+abbrev pub TakesMore : (T : Type 0) → TakingLines T → T → T → List ℕ → Type 0
 TakesMore T Took old new text = (start : T) (lines : List (List ℕ)) → Took lines start old → Took (lines ++ lines_of text) start new
 
-abbrev pub IsCounted : (T : Type 0) → Taking T → (T → ℕ) → Type 0
+abbrev pub IsCounted : (T : Type 0) → TakingLines T → (T → ℕ) → Type 0
 IsCounted T Took number = (lines : List (List ℕ)) (start now : T) → Took lines start now → number now ≡ length lines
 
-abbrev pub AreGood : (T : Type 0) → Taking T → Type 0
+abbrev pub AreGood : (T : Type 0) → TakingLines T → Type 0
 AreGood T Took = (lines : List (List ℕ)) (start now : T) → Took lines start now → All IsGoodLine lines
 
 -- nothing was read
-pub reading-starts : (T : Type 0) (Took : Taking T) (taker : T) (old : Option (List ℕ)) (faults : ℕ) (held : List ℕ) (count : ℕ) → Took [] taker taker → held ≡ [] → count ≡ 0
+pub reading-starts : (T : Type 0) (Took : TakingLines T) (taker : T) (old : Option (List ℕ)) (faults : ℕ) (held : List ℕ) (count : ℕ) → Took [] taker taker → held ≡ [] → count ≡ 0
     → ReadingSoFar T Took taker taker old old faults faults held count
 reading-starts T Took taker old faults held count none empty zero_is = record {
   passed = [];
@@ -97,7 +97,7 @@ reading-starts T Took taker old faults held count none empty zero_is = record {
 }
 
 -- one more read
-pub reading-more : (T : Type 0) (Took : Taking T) (start taker : T) (old now new : Option (List ℕ)) (before between after : ℕ) (held held' : List ℕ) (count count' room n : ℕ)
+pub reading-more : (T : Type 0) (Took : TakingLines T) (start taker : T) (old now new : Option (List ℕ)) (before between after : ℕ) (held held' : List ℕ) (count count' room n : ℕ)
     → ReadingSoFar T Took start taker old now before between held count → GavePiece now new held held' room n → count' ≡ count + n → after ≡ between
     → ReadingSoFar T Took start taker old new before after held' count'
 reading-more T Took start taker old now new before between after held held' count count' room n so_far gave more still =
@@ -112,7 +112,7 @@ reading-more T Took start taker old now new before between after held held' coun
     }
 
 -- some whole lines more were taken
-pub reading-passes : (T : Type 0) (Took : Taking T) (start taker taker' : T) (old now : Option (List ℕ)) (before after : ℕ) (held held' : List ℕ) (count count' n : ℕ)
+pub reading-passes : (T : Type 0) (Took : TakingLines T) (start taker taker' : T) (old now : Option (List ℕ)) (before after : ℕ) (held held' : List ℕ) (count count' n : ℕ)
     → ReadingSoFar T Took start taker old now before after held count → TakesMore T Took taker taker' (take n held) → AreWholeLines (take n held) → held' ≡ drop n held → count' ≡ count
     → ReadingSoFar T Took start taker' old now before after held' count'
 reading-passes T Took start taker taker' old now before after held held' count count' n so_far takes whole left same =
@@ -129,30 +129,30 @@ reading-passes T Took start taker taker' old now before after held held' count c
     }
 
 -- what is held is no longer than what was read
-pub held-few : (T : Type 0) (Took : Taking T) (start taker : T) (old now : Option (List ℕ)) (before after : ℕ) (held : List ℕ) (count : ℕ)
+pub held-few : (T : Type 0) (Took : TakingLines T) (start taker : T) (old now : Option (List ℕ)) (before after : ℕ) (held : List ℕ) (count : ℕ)
     → ReadingSoFar T Took start taker old now before after held count → length held ≤ count
 held-few T Took start taker old now before after held count so_far = omega (arith, so_far.counted, length-append so_far.passed held)
 
 -- so many lines were taken at most
-pub taken-few : (T : Type 0) (Took : Taking T) (number : T → ℕ) (start taker : T) (old now : Option (List ℕ)) (before after : ℕ) (held : List ℕ) (count : ℕ)
+pub taken-few : (T : Type 0) (Took : TakingLines T) (number : T → ℕ) (start taker : T) (old now : Option (List ℕ)) (before after : ℕ) (held : List ℕ) (count : ℕ)
     → IsCounted T Took number → ReadingSoFar T Took start taker old now before after held count → number taker ≤ count
 taken-few T Took number start taker old now before after held count counts so_far =
     omega (arith, counts (lines_of so_far.passed) start taker so_far.took, lines-within so_far.passed, so_far.counted, length-append so_far.passed held)
 
 -- what was read is at most so much
-pub reading-gave : (T : Type 0) (Took : Taking T) (start taker : T) (old now new : Option (List ℕ)) (before after : ℕ) (held : List ℕ) (count : ℕ)
+pub reading-gave : (T : Type 0) (Took : TakingLines T) (start taker : T) (old now new : Option (List ℕ)) (before after : ℕ) (held : List ℕ) (count : ℕ)
     → ReadingSoFar T Took start taker old now before after held count → count ≤ INPUT_LIMIT → Keeps now new → GaveAtMost INPUT_LIMIT old new
 reading-gave T Took start taker old now new before after held count so_far few kept =
     (so_far.passed ++ held, omega (arith, so_far.counted), Consumes-kept old now new (so_far.passed ++ held) so_far.consumed kept)
 
 -- the same where some more was read
-pub reading-gave-more : (T : Type 0) (Took : Taking T) (start taker : T) (old now new : Option (List ℕ)) (before after : ℕ) (held : List ℕ) (count : ℕ)
+pub reading-gave-more : (T : Type 0) (Took : TakingLines T) (start taker : T) (old now new : Option (List ℕ)) (before after : ℕ) (held : List ℕ) (count : ℕ)
     → ReadingSoFar T Took start taker old now before after held count → count ≤ INPUT_LIMIT → GaveAtMost (INPUT_LIMIT - count) now new → GaveAtMost INPUT_LIMIT old new
 reading-gave-more T Took start taker old now new before after held count so_far few more =
     gave-more old now new (so_far.passed ++ held) (INPUT_LIMIT - count) INPUT_LIMIT so_far.consumed more (omega (arith, so_far.counted))
 
 -- a byte more than the limit was read
-pub reading-long : (T : Type 0) (Took : Taking T) (start taker : T) (old now : Option (List ℕ)) (before after : ℕ) (held : List ℕ) (count : ℕ)
+pub reading-long : (T : Type 0) (Took : TakingLines T) (start taker : T) (old now : Option (List ℕ)) (before after : ℕ) (held : List ℕ) (count : ℕ)
     → ReadingSoFar T Took start taker old now before after held count → count ≡ INPUT_LIMIT + 1 → IsLongFile old now
 reading-long T Took start taker old now before after held count so_far past = record {
   input = so_far.passed ++ held;
@@ -161,7 +161,7 @@ reading-long T Took start taker old now before after held count so_far past = re
 }
 
 -- the file is read whole
-reading-whole : (T : Type 0) (Took : Taking T) (start taker : T) (old now : Option (List ℕ)) (before after : ℕ) (held : List ℕ) (count : ℕ)
+reading-whole : (T : Type 0) (Took : TakingLines T) (start taker : T) (old now : Option (List ℕ)) (before after : ℕ) (held : List ℕ) (count : ℕ)
     → (so_far : ReadingSoFar T Took start taker old now before after held count) → count ≤ INPUT_LIMIT → IsAtEnd now → IsWholeFile old now (so_far.passed ++ held)
 reading-whole T Took start taker old now before after held count so_far few ends = record {
   consumed = so_far.consumed;
@@ -170,7 +170,7 @@ reading-whole T Took start taker old now before after held count so_far few ends
 }
 
 -- the last line was taken, if there was any
-pub reading-taken : (T : Type 0) (Took : Taking T) (start taker taker' : T) (old now : Option (List ℕ)) (before after : ℕ) (held : List ℕ) (count : ℕ)
+pub reading-taken : (T : Type 0) (Took : TakingLines T) (start taker taker' : T) (old now : Option (List ℕ)) (before after : ℕ) (held : List ℕ) (count : ℕ)
     → ReadingSoFar T Took start taker old now before after held count → count ≤ INPUT_LIMIT → IsAtEnd now → TakesMore T Took taker taker' held → IsTakenFile T Took start taker' old now
 reading-taken T Took start taker taker' old now before after held count so_far few ends takes = record {
   input = so_far.passed ++ held;
@@ -179,7 +179,7 @@ reading-taken T Took start taker taker' old now before after held count so_far f
 }
 
 -- a bad line is the first of what was passed and these
-bad-behind : (T : Type 0) (Took : Taking T) (number : T → ℕ) (start taker : T) (old now : Option (List ℕ)) (before after : ℕ) (held text : List ℕ) (count : ℕ) (fault : CutFault)
+bad-behind : (T : Type 0) (Took : TakingLines T) (number : T → ℕ) (start taker : T) (old now : Option (List ℕ)) (before after : ℕ) (held text : List ℕ) (count : ℕ) (fault : CutFault)
     → IsCounted T Took number → AreGood T Took → (so_far : ReadingSoFar T Took start taker old now before after held count) → IsFirstBadBehind (number taker) (lines_of text) fault
     → IsFirstBad (lines_of (so_far.passed ++ text)) fault
 bad-behind T Took number start taker old now before after held text count fault counts good so_far bad =
@@ -187,7 +187,7 @@ bad-behind T Took number start taker old now before after held text count fault 
     (bad (lines_of so_far.passed) (sym (counts (lines_of so_far.passed) start taker so_far.took)) (good (lines_of so_far.passed) start taker so_far.took))
 
 -- the last line is bad
-pub reading-refused : (T : Type 0) (Took : Taking T) (number : T → ℕ) (start taker : T) (old now : Option (List ℕ)) (before after : ℕ) (held : List ℕ) (count : ℕ) (fault : CutFault)
+pub reading-refused : (T : Type 0) (Took : TakingLines T) (number : T → ℕ) (start taker : T) (old now : Option (List ℕ)) (before after : ℕ) (held : List ℕ) (count : ℕ) (fault : CutFault)
     → IsCounted T Took number → AreGood T Took → ReadingSoFar T Took start taker old now before after held count → count ≤ INPUT_LIMIT → IsAtEnd now
     → IsFirstBadBehind (number taker) (lines_of held) fault → fault ≢ refused.NoMemory → IsRefusedFile fault old now
 reading-refused T Took number start taker old now before after held count fault counts good so_far few ends bad named = record {
@@ -204,7 +204,7 @@ pub record ReadBehind (old new : Option (List ℕ)) (bytes : List ℕ) (count : 
   pub counted : count ≡ length (bytes ++ more)
   pub ended : count ≤ INPUT_LIMIT → IsAtEnd new
 
-read-behind : (T : Type 0) (Took : Taking T) (start taker : T) (old now new : Option (List ℕ)) (before after : ℕ) (held : List ℕ) (count count' : ℕ)
+read-behind : (T : Type 0) (Took : TakingLines T) (start taker : T) (old now new : Option (List ℕ)) (before after : ℕ) (held : List ℕ) (count count' : ℕ)
     → (so_far : ReadingSoFar T Took start taker old now before after held count) → IsReadOut now new count count' → ReadBehind old new (so_far.passed ++ held) count'
 read-behind T Took start taker old now new before after held count count' so_far out = record {
   more = out.given;
@@ -214,14 +214,14 @@ read-behind T Took start taker old now new before after held count count' so_far
 }
 
 -- the file is too long behind a bad line
-pub reading-long-behind : (T : Type 0) (Took : Taking T) (start taker : T) (old now new : Option (List ℕ)) (before after : ℕ) (held : List ℕ) (count count' : ℕ)
+pub reading-long-behind : (T : Type 0) (Took : TakingLines T) (start taker : T) (old now new : Option (List ℕ)) (before after : ℕ) (held : List ℕ) (count count' : ℕ)
     → ReadingSoFar T Took start taker old now before after held count → IsReadOut now new count count' → count' ≡ INPUT_LIMIT + 1 → IsLongFile old new
 reading-long-behind T Took start taker old now new before after held count count' so_far out past =
     let behind = read-behind T Took start taker old now new before after held count count' so_far out in
     record { input = (so_far.passed ++ held) ++ behind.more; consumed = behind.consumed; past = sym behind.counted ∙ past }
 
 -- one of these lines is bad, and what is left of the file was read
-pub reading-refused-behind : (T : Type 0) (Took : Taking T) (number : T → ℕ) (start taker : T) (old now new : Option (List ℕ)) (before after : ℕ) (held : List ℕ) (count count' n : ℕ) (fault : CutFault)
+pub reading-refused-behind : (T : Type 0) (Took : TakingLines T) (number : T → ℕ) (start taker : T) (old now new : Option (List ℕ)) (before after : ℕ) (held : List ℕ) (count count' n : ℕ) (fault : CutFault)
     → IsCounted T Took number → AreGood T Took → ReadingSoFar T Took start taker old now before after held count → IsReadOut now new count count' → count' ≤ INPUT_LIMIT
     → AreWholeLines (take n held) → IsFirstBadBehind (number taker) (lines_of (take n held)) fault → fault ≢ refused.NoMemory → IsRefusedFile fault old new
 reading-refused-behind T Took number start taker old now new before after held count count' n fault counts good so_far out few whole bad named =

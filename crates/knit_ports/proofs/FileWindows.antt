@@ -12,9 +12,9 @@ use Rattle.knit_ports.specs.declared.port.Failed.{Failed}
 use Rattle.knit_ports.specs.Whole.{GavePiece}
 
 -- the first bytes are let go, and the others moved to the front
-pub passed : (bytes now moved : List ℕ) (len end count : ℕ) → now ≡ bytes → length now ≡ count → moved ≡ paste now 0 (drop len now) (end - len) → len ≤ end → end ≤ length bytes
+pub window_front_dropped : (bytes now moved : List ℕ) (len end count : ℕ) → now ≡ bytes → length now ≡ count → moved ≡ paste now 0 (drop len now) (end - len) → len ≤ end → end ≤ length bytes
     → take (end - len) (take count (moved ++ drop (length moved) bytes)) ≡ drop len (take end bytes)
-passed bytes now moved len end count same all is within inside =
+window_front_dropped bytes now moved len end count same all is within inside =
     let wide : end ≤ length now = omega (arith, ap length same) in
     let rest : end - len ≤ length (drop len now) = omega (arith, length-drop len now) in
     let front : take (0 + (end - len)) moved ≡ take (end - len) (drop len now) = ap (take (0 + (end - len))) is ∙ take-paste now 0 (drop len now) (end - len) (omega arith) rest in

@@ -7,8 +7,8 @@ use Rattle.std.proofs.lemmas.List.Elements.{All-append}
 use Rattle.std.specs.declared.option.Option.{Option}
 use Rattle.knit_base.specs.Lines.{HasNoLineEnd}
 use Rattle.knit_ports.specs.declared.ear.LineEnd.TheVariants.{LineFeed, InputEnd}
-use Rattle.knit_ports.specs.Pieces.{Piece, Heard, Said, GoesOn, heard_in}
-use Rattle.knit_ports.specs.Ears.{AreWaitedFor, EarView, HaveBytes, IsFrontHeard, IsHeard, kept_front, kept_limit}
+use Rattle.knit_ports.specs.Pieces.{Piece, Heard, Said, PiecesGoOn, heard_in}
+use Rattle.knit_ports.specs.Ears.{AreWaitedFor, EarView, HaveBytes, IsFrontHeard, IsLineHeard, kept_front, kept_limit}
 use Rattle.knit_ports.proofs.SaidPieces.{goes-trans}
 
 take-front : (n : ℕ) (a b : List ℕ) → take n (take n a ++ b) ≡ take n (a ++ b)
@@ -41,7 +41,7 @@ have-more (Said piece ∷ ps) bytes h some = (h.0, have-more ps bytes h.1 some)
 pub record HearingSoFar (old now : Option (List Piece)) (before after : EarView) (faults still count : ℕ) : Type 0 where
   pub pieces : List Piece
   pub front : List ℕ
-  pub goes : GoesOn old now pieces
+  pub goes : PiecesGoOn old now pieces
   pub waited : AreWaitedFor before.pending pieces
   pub some : HaveBytes pieces
   pub one : HasNoLineEnd front
@@ -50,7 +50,7 @@ pub record HearingSoFar (old now : Option (List Piece)) (before after : EarView)
   pub counted : length pieces ≡ count
   pub calm : still ≡ faults
 
-stays : (a : Option (List Piece)) → GoesOn a a []
+stays : (a : Option (List Piece)) → PiecesGoOn a a []
 stays None = tt
 stays (Some ps) = sym (append-nil ps)
 
@@ -72,11 +72,11 @@ hearing-starts a before after faults same none = record {
 -- the line's end is among the pending bytes
 pub hearing-ends : (old now : Option (List Piece)) (before between after : EarView) (faults still count : ℕ) (more : List ℕ)
     → HearingSoFar old now before between faults still count → HasNoLineEnd more
-    → between.pending ≡ more ++ 10 ∷ after.pending → after.line ≡ kept_front (between.line ++ more) → IsHeard old now before after LineFeed
+    → between.pending ≡ more ++ 10 ∷ after.pending → after.line ≡ kept_front (between.line ++ more) → IsLineHeard old now before after LineFeed
 hearing-ends old now before between after faults still count more h free is line = record {
   pieces = h.pieces;
   line = h.front ++ more;
-  goes = subst (GoesOn old now) (sym (append-nil h.pieces)) h.goes;
+  goes = subst (PiecesGoOn old now) (sym (append-nil h.pieces)) h.goes;
   waited = subst (AreWaitedFor before.pending) (sym (append-nil h.pieces)) h.waited;
   some = h.some;
   one = All-append (λ (byte : ℕ). byte ≢ 10) h.front more h.one free;
@@ -108,7 +108,7 @@ whole-front old now before after faults still count h none = h.all ∙ ap (λ l.
 
 -- more bytes were waited for
 pub hearing-waits : (old now new : Option (List Piece)) (before between after : EarView) (faults still after_faults count : ℕ)
-    → HearingSoFar old now before between faults still count → between.pending ≡ [] → GoesOn now new (Heard after.pending ∷ [])
+    → HearingSoFar old now before between faults still count → between.pending ≡ [] → PiecesGoOn now new (Heard after.pending ∷ [])
     → 0 < length after.pending → after.line ≡ between.line → after_faults ≡ still → HearingSoFar old new before after faults after_faults (count + 1)
 hearing-waits old now new before between after faults still after_faults count h none said some line calm =
     let whole : before.pending ++ heard_in h.pieces ≡ h.front = whole-front old now before between faults still count h none in
@@ -128,14 +128,14 @@ hearing-waits old now new before between after faults still after_faults count h
 
 -- there were none: the input's end is the line's
 pub hearing-last : (old now new : Option (List Piece)) (before between after : EarView) (faults still count : ℕ)
-    → HearingSoFar old now before between faults still count → between.pending ≡ [] → GoesOn now new (Heard after.pending ∷ [])
-    → after.pending ≡ [] → after.line ≡ between.line → IsHeard old new before after InputEnd
+    → HearingSoFar old now before between faults still count → between.pending ≡ [] → PiecesGoOn now new (Heard after.pending ∷ [])
+    → after.pending ≡ [] → after.line ≡ between.line → IsLineHeard old new before after InputEnd
 hearing-last old now new before between after faults still count h none said ended line =
     let whole : before.pending ++ heard_in h.pieces ≡ h.front = whole-front old now before between faults still count h none in
     record {
       pieces = h.pieces;
       line = h.front;
-      goes = goes-trans old now new h.pieces (Heard [] ∷ []) h.goes (subst (λ (l : List ℕ). GoesOn now new (Heard l ∷ [])) ended said);
+      goes = goes-trans old now new h.pieces (Heard [] ∷ []) h.goes (subst (λ (l : List ℕ). PiecesGoOn now new (Heard l ∷ [])) ended said);
       waited = waited-more before.pending h.pieces [] h.waited (subst HasNoLineEnd (sym whole) h.one);
       some = h.some;
       one = h.one;
@@ -145,13 +145,13 @@ hearing-last old now new before between after faults still count h none said end
 
 -- the call failed
 pub hearing-fails : (old now new : Option (List Piece)) (before between after : EarView) (faults still count : ℕ)
-    → HearingSoFar old now before between faults still count → between.pending ≡ [] → GoesOn now new []
+    → HearingSoFar old now before between faults still count → between.pending ≡ [] → PiecesGoOn now new []
     → after.pending ≡ [] → after.line ≡ between.line → IsFrontHeard old new before after
 hearing-fails old now new before between after faults still count h none said gone line =
     let whole : before.pending ++ heard_in h.pieces ≡ h.front = whole-front old now before between faults still count h none in
     record {
       pieces = h.pieces;
-      goes = subst (GoesOn old new) (append-nil h.pieces) (goes-trans old now new h.pieces [] h.goes said);
+      goes = subst (PiecesGoOn old new) (append-nil h.pieces) (goes-trans old now new h.pieces [] h.goes said);
       waited = h.waited;
       some = h.some;
       one = subst HasNoLineEnd (sym whole) h.one;

@@ -3,7 +3,7 @@ use Rattle.std.proofs.Common.{◌≡◌, ℕ, ◌+◌, ◌≤◌, List, [], ◌�
 use Rattle.std.proofs.Math.Seq.{take-add}
 use Rattle.std.proofs.lemmas.List.{take_all}
 use Rattle.std.specs.declared.option.Option.{Option}
-use Rattle.knit_ports.specs.Pieces.{Piece, Heard, Said, AreSaid, GoesOn, Says, said_in}
+use Rattle.knit_ports.specs.Pieces.{Piece, Heard, Said, AreSaid, PiecesGoOn, Says, said_in}
 
 -- so many bytes of the text were said, and nothing was heard
 pub record SaidSoFar (old now : Option (List Piece)) (before after : ℕ) (text : List ℕ) (done : ℕ) : Type 0 where
@@ -12,7 +12,7 @@ pub record SaidSoFar (old now : Option (List Piece)) (before after : ℕ) (text 
   pub calm : after ≡ before
 
 -- pieces, and then more of them
-pub goes-trans : (a b c : Option (List Piece)) (ps qs : List Piece) → GoesOn a b ps → GoesOn b c qs → GoesOn a c (ps ++ qs)
+pub goes-trans : (a b c : Option (List Piece)) (ps qs : List Piece) → PiecesGoOn a b ps → PiecesGoOn b c qs → PiecesGoOn a c (ps ++ qs)
 goes-trans None b c ps qs first second = tt
 goes-trans (Some u) None c ps qs first second = absurd first
 goes-trans (Some u) (Some v) None ps qs first second = absurd second
@@ -37,7 +37,7 @@ said-none (Some ps) = ([], sym (append-nil ps), tt, refl)
 pub said-more : (old now new : Option (List Piece)) (before between after : ℕ) (text : List ℕ) (done n : ℕ)
     → SaidSoFar old now before between text done
     → n ≤ length (take (length text - done) (drop done text))
-    → GoesOn now new (Said (take n (take (length text - done) (drop done text))) ∷ [])
+    → PiecesGoOn now new (Said (take n (take (length text - done) (drop done text))) ∷ [])
     → after ≡ between
     → SaidSoFar old new before after text (done + n)
 said-more old now new before between after text done n so_far bound said still =
@@ -60,5 +60,5 @@ said-more old now new before between after text done n so_far bound said still =
     }
 
 -- a call that failed said nothing
-pub said-same : (old now new : Option (List Piece)) (text : List ℕ) → Says old now text → GoesOn now new [] → Says old new text
+pub said-same : (old now new : Option (List Piece)) (text : List ℕ) → Says old now text → PiecesGoOn now new [] → Says old new text
 said-same old now new text s g = (s.0 ++ [], goes-trans old now new s.0 [] s.1 g, said-both s.0 [] s.2 tt, said_in-append s.0 [] ∙ append-nil (said_in s.0) ∙ s.3)

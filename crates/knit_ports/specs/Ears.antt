@@ -5,7 +5,7 @@ use Rattle.knit_base.specs.Lines.{HasNoLineEnd}
 use Rattle.knit_ports.specs.declared.limit.TheConstants.{HEARD_LIMIT}
 use Rattle.knit_ports.specs.declared.ear.LineEnd.{LineEnd}
 use Rattle.knit_ports.specs.declared.ear.LineEnd.TheVariants.{LineFeed, InputEnd, Endless}
-use Rattle.knit_ports.specs.Pieces.{Piece, Heard, Said, GoesOn, heard_in}
+use Rattle.knit_ports.specs.Pieces.{Piece, Heard, Said, PiecesGoOn, heard_in}
 
 -- the bytes that were heard and belong to no line yet, and what is kept of the line that was heard last
 pub record EarView : Type 0 where
@@ -54,10 +54,10 @@ EndsBy InputEnd pieces bytes line pending = (bytes ≡ line) × (pending ≡ [])
 EndsBy Endless pieces bytes line pending = (bytes ≡ line ++ pending) × (length pieces ≡ 2 ^ 64 - 1)
 
 -- A line was heard, with this end. The pieces have bytes, and the end of the input is heard behind them where it ends the line.
-pub record IsHeard (old new : Option (List Piece)) (before after : EarView) (end : LineEnd) : Type 0 where
+pub record IsLineHeard (old new : Option (List Piece)) (before after : EarView) (end : LineEnd) : Type 0 where
   pub pieces : List Piece
   pub line : List ℕ
-  pub goes : GoesOn old new (pieces ++ input_end end)
+  pub goes : PiecesGoOn old new (pieces ++ input_end end)
   pub waited : AreWaitedFor before.pending (pieces ++ input_end end)
   pub some : HaveBytes pieces
   pub one : HasNoLineEnd line
@@ -68,7 +68,7 @@ pub record IsHeard (old new : Option (List Piece)) (before after : EarView) (end
 -- but for what is kept of a line.
 pub record IsFrontHeard (old new : Option (List Piece)) (before after : EarView) : Type 0 where
   pub pieces : List Piece
-  pub goes : GoesOn old new pieces
+  pub goes : PiecesGoOn old new pieces
   pub waited : AreWaitedFor before.pending pieces
   pub some : HaveBytes pieces
   pub one : HasNoLineEnd (before.pending ++ heard_in pieces)

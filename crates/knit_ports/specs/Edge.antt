@@ -2,6 +2,6 @@
 use Rattle.std.specs.Prelude.{ℕ}
 
 -- a reader or a writer, and how often a call of it has failed
-pub record Counted (T : Type 0) : Type 0 where
+pub record CountedDevice (T : Type 0) : Type 0 where
   pub inner : T
   pub faults : ℕ

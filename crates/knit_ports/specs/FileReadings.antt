@@ -17,11 +17,11 @@ pub record IsWholeFile (before after : Option (List ℕ)) (input : List ℕ) : T
   pub within : length input ≤ INPUT_LIMIT
 
 -- what is told of lines that a value has taken, by which it became another
-abbrev pub Taking : Type 0 → Type 1
-Taking T = List (List ℕ) → T → T → Type 0
+abbrev pub TakingLines : Type 0 → Type 1
+TakingLines T = List (List ℕ) → T → T → Type 0
 
 -- the source gave a whole file, and all its lines were taken
-pub record IsTakenFile (T : Type 0) (Took : Taking T) (start taker : T) (before after : Option (List ℕ)) : Type 0 where
+pub record IsTakenFile (T : Type 0) (Took : TakingLines T) (start taker : T) (before after : Option (List ℕ)) : Type 0 where
   pub input : List ℕ
   pub whole : IsWholeFile before after input
   pub took : Took (lines_of input) start taker
@@ -40,7 +40,7 @@ pub record IsLongFile (before after : Option (List ℕ)) : Type 0 where
   pub past : length input ≡ INPUT_LIMIT + 1
 
 -- what the reading of a file comes to
-abbrev pub IsFileReading : (T : Type 0) → Taking T → T → Option (List ℕ) → Option (List ℕ) → FileReading T → Type 0
+abbrev pub IsFileReading : (T : Type 0) → TakingLines T → T → Option (List ℕ) → Option (List ℕ) → FileReading T → Type 0
 IsFileReading T Took start before after (Whole taker) = IsTakenFile T Took start taker before after
 IsFileReading T Took start before after (Refused fault) = IsRefusedFile fault before after
 IsFileReading T Took start before after TooLong = IsLongFile before after

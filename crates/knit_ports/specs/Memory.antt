@@ -33,7 +33,7 @@ abbrev pub RefusesWrite : SinkView → ℕ → List ℕ → Type 0
 RefusesWrite sink call bytes = Contains sink.failing call ⊎ ((0 < length bytes) × (sink.room ≤ length sink.taken))
 
 -- a call doesn't change how many bytes a call takes, nor the room, nor which calls fail
-pub record KeepsRoom (old new : SinkView) : Type 0 where
+pub record KeepsSinkRoom (old new : SinkView) : Type 0 where
   pub piece : new.piece ≡ old.piece
   pub room : new.room ≡ old.room
   pub failing : new.failing ≡ old.failing

@@ -1,9 +1,9 @@
 //! The lines that are heard, each as soon as it is there.
 ghost use Rattle.std.specs.Prelude.{◌≡◌, ◌<◌, ◌≤◌, ◌++◌, ◌∷◌, [], List, ℕ, true, false, length, vec_capacity, IfOk, MatchOption, OnErr, OnOk};
 ghost use Rattle.knit_base.specs.Lines.{HasNoLineEnd};
-ghost use Rattle.knit_ports.specs.Ears.{IsFirstFeed, IsFrontHeard, IsHeard, kept_front, kept_limit};
+ghost use Rattle.knit_ports.specs.Ears.{IsFirstFeed, IsFrontHeard, IsLineHeard, kept_front, kept_limit};
 ghost use Rattle.knit_ports.specs.Faults.{HasCause, Rose};
-ghost use Rattle.knit_ports.specs.Pieces.{Heard, GoesOn};
+ghost use Rattle.knit_ports.specs.Pieces.{Heard, PiecesGoOn};
 
 use crate::limit::{HEARD_LIMIT, PIECE};
 use crate::whole::zeros;
@@ -76,7 +76,7 @@ impl Ear {
     ///
     /// Where a call fails, what was heard of the line is let go, and what is heard next begins a line.
     pub fn hear<T: Talk>(&mut self, talk: &mut T) -> Result<LineEnd, Failed>
-        ensures heard { IfOk result (IsHeard (T.told talk.old) (T.told talk.new) self.old self.new) }
+        ensures heard { IfOk result (IsLineHeard (T.told talk.old) (T.told talk.new) self.old self.new) }
         ensures calm { OnOk result (T.faults talk.new ≡ T.faults talk.old) }
         ensures front { OnErr result (IsFrontHeard (T.told talk.old) (T.told talk.new) self.old self.new) }
         ensures cause { OnErr result (Rose (T.faults talk.old) (T.faults talk.new)) }
@@ -120,11 +120,11 @@ impl Ear {
     // Waits for more bytes. Whether there were any.
     fn refill<T: Talk>(&mut self, talk: &mut T) -> Result<bool, Failed>
         requires { self.old.pending ≡ [] }
-        ensures told { IfOk result (λ more. GoesOn (T.told talk.old) (T.told talk.new) (Heard self.new.pending ∷ [])) }
+        ensures told { IfOk result (λ more. PiecesGoOn (T.told talk.old) (T.told talk.new) (Heard self.new.pending ∷ [])) }
         ensures some { IfOk result (λ more. more ≡ true → 0 < length self.new.pending) }
         ensures end { IfOk result (λ more. more ≡ false → self.new.pending ≡ []) }
         ensures line { self.new.line ≡ self.old.line }
-        ensures failed { OnErr result (GoesOn (T.told talk.old) (T.told talk.new) []) }
+        ensures failed { OnErr result (PiecesGoOn (T.told talk.old) (T.told talk.new) []) }
         ensures lost { OnErr result (self.new.pending ≡ []) }
         ensures cause { HasCause (T.faults talk.old) (T.faults talk.new) result }
         ensures calm { OnOk result (T.faults talk.new ≡ T.faults talk.old) }

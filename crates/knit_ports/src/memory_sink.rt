@@ -3,7 +3,7 @@ ghost use Rattle.std.specs.Prelude.{◌≡◌, ◌-◌, ◌<◌, ◌≤◌, [], 
 ghost use Rattle.std.specs.Io.{WritesAtMost};
 ghost use Rattle.std.specs.Io.KnownBytes.{WriteAppends};
 ghost use Rattle.knit_ports.specs.Faults.{HasCause};
-ghost use Rattle.knit_ports.specs.Memory.{calls_after, RefusesWrite, KeepsRoom};
+ghost use Rattle.knit_ports.specs.Memory.{calls_after, RefusesWrite, KeepsSinkRoom};
 
 use crate::{Failed, Sink};
 use knit_base::NoMemory;
@@ -73,7 +73,7 @@ impl Sink for MemorySink {
         ensures given { IfOk result (λ n. n ≡ min (min (length piece.now) (self.old.room - length self.old.taken)) self.old.piece) }
         ensures calm { OnOk result (self.new.faults ≡ self.old.faults) }
         ensures calls { self.new.calls ≡ calls_after self.old.calls }
-        ensures kept { KeepsRoom self.old self.new }
+        ensures kept { KeepsSinkRoom self.old self.new }
     {
         self.calls = self.calls.saturating_add(1);
         let room = self.room as usize - self.bytes.len();

@@ -18,9 +18,9 @@ pub struct ReaderSource<R> {
 }
 
 impl<R> Model for ReaderSource<R> {
-    ghost use Rattle.knit_ports.specs.Edge.{Counted};
+    ghost use Rattle.knit_ports.specs.Edge.{CountedDevice};
 
-    ghost Value = { Counted R };
+    ghost Value = { CountedDevice R };
 
     ghost view = { λ s. record { inner = s.reader; faults = s.faults } };
 }

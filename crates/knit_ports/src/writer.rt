@@ -18,9 +18,9 @@ pub struct WriterSink<W> {
 }
 
 impl<W> Model for WriterSink<W> {
-    ghost use Rattle.knit_ports.specs.Edge.{Counted};
+    ghost use Rattle.knit_ports.specs.Edge.{CountedDevice};
 
-    ghost Value = { Counted W };
+    ghost Value = { CountedDevice W };
 
     ghost view = { λ s. record { inner = s.writer; faults = s.faults } };
 }

@@ -3,7 +3,7 @@ use Rattle.std.proofs.Common.{◌≡◌, ◌≢◌, ⊎_elim, ℕ, ◌+◌, ◌<
 use Rattle.std.proofs.lemmas.List.Elements.{All-head, All-tail}
 use Rattle.knitout_reader.specs.declared.number.TheConstants.{FAR}
 use Rattle.knitout_reader.specs.declared.rack.RackToken.{RackToken}
-use Rattle.knitout_reader.specs.Numbers.{IsDecimal, IsDigit, IsNoPoint, IsQuarter, IsRack, IsSign, number_of}
+use Rattle.knitout_reader.specs.Numbers.{IsDecimal, IsDigit, IsNoPoint, IsQuarter, IsRack, IsSign, value_of_digits}
 use Rattle.knitout_reader.proofs.Signs.{first_byte, other_bytes}
 
 no_points : (digits : List ℕ) → All IsDigit digits → All IsNoPoint digits
@@ -120,13 +120,13 @@ OneSign token negative text = (n : Bool) (whole fraction : List ℕ) → IsRack 
 -- what the code found of a text without sign, and of a token
 abbrev pub UnsignedFound : Bool → List ℕ → Option RackToken → Type 0
 UnsignedFound negative text found = MatchOption found ((whole fraction : List ℕ) → IsDecimal text whole fraction → ⊥)
-    (λ r. (r.negative ≡ negative) × ((whole : List ℕ) × (fraction : List ℕ) × IsDecimal text whole fraction × (r.whole ≡ min (number_of whole) FAR)
+    (λ r. (r.negative ≡ negative) × ((whole : List ℕ) × (fraction : List ℕ) × IsDecimal text whole fraction × (r.whole ≡ min (value_of_digits whole) FAR)
     × MatchOption r.quarter ((q : ℕ) → IsQuarter fraction q → ⊥) (λ q. IsQuarter fraction q)))
 
 -- what is found of a rack is the rack that the token spells
 abbrev pub Found : List ℕ → Option RackToken → Type 0
 Found token found = MatchOption found ((negative : Bool) (whole fraction : List ℕ) → IsRack token negative whole fraction → ⊥)
-    (λ r. (whole : List ℕ) × (fraction : List ℕ) × IsRack token r.negative whole fraction × (r.whole ≡ min (number_of whole) FAR)
+    (λ r. (whole : List ℕ) × (fraction : List ℕ) × IsRack token r.negative whole fraction × (r.whole ≡ min (value_of_digits whole) FAR)
     × MatchOption r.quarter ((q : ℕ) → IsQuarter fraction q → ⊥) (λ q. IsQuarter fraction q))
 
 -- a sign and what is found behind it

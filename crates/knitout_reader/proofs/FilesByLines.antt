@@ -4,7 +4,7 @@ use Rattle.std.proofs.lemmas.List.{drop_all, length-take, take_all}
 use Rattle.std.proofs.lemmas.List.Elements.{All-append, All-nil}
 use Rattle.knit_base.specs.Lines.{lines_of, HasNoLineEnd, IsLine}
 use Rattle.line_cutter.specs.declared.fault.CutFault.{CutFault}
-use Rattle.line_cutter.specs.Cut.{IsBehind, IsFirstBad, IsFirstBadBehind, IsGoodLine, StandsAt as LineStandsAt}
+use Rattle.line_cutter.specs.Cut.{IsPlaceBehind, IsFirstBad, IsFirstBadBehind, IsGoodLine, GoodLineStandsAt as LineStandsAt}
 use Rattle.line_cutter.proofs.PlacesBehind.{behind-more, behind-none, line_here}
 use Rattle.knitout_reader.specs.declared.head.Head.{Head}
 use Rattle.knitout_reader.specs.declared.head.HeadFault.{HeadFault}
@@ -16,7 +16,7 @@ use Rattle.knitout_reader.specs.declared.file_reader.FileReader.{FileReader}
 use Rattle.knitout_reader.specs.declared.file_reader.ReadFile.{ReadFile}
 use Rattle.knitout_reader.specs.Head.{head_len, is_head_line, IsHead, IsHeadFault}
 use Rattle.knitout_reader.specs.HeadLines.{AreBehindHead, HasHeadLines}
-use Rattle.knitout_reader.specs.FileLines.{BeginBody, EntersText, HasReadFront, HasReadLines, IsReadFile, IsRefusedBy, HasRefusedHead, ReadsBody, ReadsFront, ReadsHead, ReadsWholeFront, Seeing, StandsAt, StandsBefore, Taking}
+use Rattle.knitout_reader.specs.FileLines.{BeginBody, EntersText, HasReadFront, HasReadLines, IsReadFile, IsRefusedBy, HasRefusedHead, ReadsBody, ReadsFront, ReadsHead, ReadsWholeFront, Seeing, FileStandsAt, StandsBefore, TakingFileLines}
 use Rattle.knitout_reader.proofs.HeadsByLines.{taken_more}
 
 -- what the end of a head's lines is told by
@@ -58,16 +58,16 @@ first_bad_behind before front later now fault is good bad lines counted are =
 pub rest_of : (text : List ℕ) (next : ℕ) → take (length text - next) (drop next text) ≡ drop next text
 rest_of text next = take_all (length text - next) (drop next text) (omega (arith, length-drop next text))
 
-module _ (W : Type 0) (Saw : Seeing W) (Took : Taking W) where
+module _ (W : Type 0) (Saw : Seeing W) (Took : TakingFileLines W) where
   -- by the stage that it has
   pub in_head : (lines : List (List ℕ)) (start now : FileReader W) (reader : HeadReader) → HasReadLines W Saw Took lines start now → now.stage ≡ InHead reader → ReadsHead W Saw lines start.work now.work reader
-  in_head lines start now reader read is = subst (StandsAt W Saw Took lines start.work now.work) is read.stage
+  in_head lines start now reader read is = subst (FileStandsAt W Saw Took lines start.work now.work) is read.stage
 
   pub in_body : (lines : List (List ℕ)) (start now : FileReader W) (head : Head) → HasReadLines W Saw Took lines start now → now.stage ≡ InBody head → ReadsBody W Took lines lines start.work now.work head
-  in_body lines start now head read is = subst (StandsAt W Saw Took lines start.work now.work) is read.stage
+  in_body lines start now head read is = subst (FileStandsAt W Saw Took lines start.work now.work) is read.stage
 
   pub refused_by : (lines : List (List ℕ)) (start now : FileReader W) (fault : HeadFault) → HasReadLines W Saw Took lines start now → now.stage ≡ Refused fault → IsRefusedBy lines fault
-  refused_by lines start now fault read is = subst (StandsAt W Saw Took lines start.work now.work) is read.stage
+  refused_by lines start now fault read is = subst (FileStandsAt W Saw Took lines start.work now.work) is read.stage
 
   -- the end of a file of a head alone
   pub ended_in_head : (lines : List (List ℕ)) (start now : FileReader W) (reader : HeadReader) (head : Head) (work : W) → HasReadLines W Saw Took lines start now → now.stage ≡ InHead reader → TellsHead reader head
@@ -158,7 +158,7 @@ module _ (W : Type 0) (Saw : Seeing W) (Took : Taking W) where
       omega (arith, (front.read reading.1 reading.3.read).counted, length-append reading.1 (take count (lines_of text)), length-take count (lines_of text), front.behind.within, reading.2)
 
   -- a file that isn't in its head, before any lines
-  before_any : (lines next : List (List ℕ)) (start now : W) (stage : Stage) → ((reader : HeadReader) → stage ≡ InHead reader → ⊥) → StandsAt W Saw Took lines start now stage → StandsBefore W Saw Took lines next start now stage
+  before_any : (lines next : List (List ℕ)) (start now : W) (stage : Stage) → ((reader : HeadReader) → stage ≡ InHead reader → ⊥) → FileStandsAt W Saw Took lines start now stage → StandsBefore W Saw Took lines next start now stage
   before_any lines next start now (InHead reader) other stands = absurd (other reader refl)
   before_any lines next start now (InBody head) other stands = record {
     head_is = λ more. subst (λ ls. IsHead ls head) (sym (append_assoc lines next more)) (stands.head_is (next ++ more));
@@ -171,7 +171,7 @@ module _ (W : Type 0) (Saw : Seeing W) (Took : Taking W) where
   }
 
   -- before no lines
-  before_none : (lines : List (List ℕ)) (start now : W) (stage : Stage) → StandsBefore W Saw Took lines [] start now stage → StandsAt W Saw Took lines start now stage
+  before_none : (lines : List (List ℕ)) (start now : W) (stage : Stage) → StandsBefore W Saw Took lines [] start now stage → FileStandsAt W Saw Took lines start now stage
   before_none lines start now (InHead reader) stands = stands.0
   before_none lines start now (InBody head) stands = subst (λ ls. ReadsBody W Took ls lines start now head) (append-nil lines) stands
   before_none lines start now (Refused fault) stands = subst (λ ls. IsRefusedBy ls fault) (append-nil lines) stands
@@ -188,7 +188,7 @@ module _ (W : Type 0) (Saw : Seeing W) (Took : Taking W) where
   }
 
   -- a text is entered behind the lines of its front
-  pub entered : (lines : List (List ℕ)) (text : List ℕ) (count next : ℕ) (start old now : FileReader W) → HasReadLines W Saw Took lines start old → IsBehind text count next → now.lines ≡ old.lines + count
+  pub entered : (lines : List (List ℕ)) (text : List ℕ) (count next : ℕ) (start old now : FileReader W) → HasReadLines W Saw Took lines start old → IsPlaceBehind text count next → now.lines ≡ old.lines + count
       → StandsBefore W Saw Took (lines ++ take count (lines_of text)) (lines_of (drop next text)) start.work now.work now.stage → EntersText W Saw Took lines text next start now
   entered lines text count next start old now read behind counted stands = record {
     front = take count (lines_of text);

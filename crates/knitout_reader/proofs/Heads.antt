@@ -22,7 +22,7 @@ use Rattle.knit_base.proofs.Places.{by_test}
 use Rattle.knitout_reader.specs.Tokens.{is_blank, tokens_of}
 use Rattle.knitout_reader.specs.Head.{carriers_word, has_name_twice, names_declared, IsNamesText}
 use Rattle.knitout_reader.specs.declared.head.HeadFault.TheVariants.{CarrierNameTwice}
-use Rattle.knitout_reader.proofs.TokenRuns.{nonempty}
+use Rattle.knitout_reader.proofs.TokenRuns.{run_has_bytes}
 
 -- what stands behind the colon is a text
 names_text-within : (line text : List ℕ) → IsLine line → length line < 65535 → bytes_eq (take 11 line) carriers_word ≡ true → text ≡ drop 11 line → IsNamesText text
@@ -104,16 +104,16 @@ parts (suc fuel) text below utf8 one =
     subst (All IsPart) (sym (slice_split_none is_blank text no_blank)) (All-cons IsPart text [] whole (All-nil IsPart)))
     (cases_lt n (length text))
 
-names_kept : (parts : List (List ℕ)) → All IsPart parts → All IsNameText (filter nonempty parts)
+names_kept : (parts : List (List ℕ)) → All IsPart parts → All IsNameText (filter run_has_bytes parts)
 names_kept [] are = All-nil IsNameText
 names_kept (part ∷ parts) are =
     let first : IsPart part = All-head IsPart part parts are in
-    let rest : All IsNameText (filter nonempty parts) = names_kept parts (All-tail IsPart part parts are) in
-    by_test (nonempty part)
+    let rest : All IsNameText (filter run_has_bytes parts) = names_kept parts (All-tail IsPart part parts are) in
+    by_test (run_has_bytes part)
     (λ is.
     let name : IsNameText part = record { utf8 = first.utf8; name = record { some = ltb-true 0 (length part) is; plain = first.plain } } in
-    subst (All IsNameText) (sym (cond-true (nonempty part) (part ∷ filter nonempty parts) (filter nonempty parts) is)) (All-cons IsNameText part (filter nonempty parts) name rest))
-    (λ isnt. subst (All IsNameText) (sym (cond-false (nonempty part) (part ∷ filter nonempty parts) (filter nonempty parts) isnt)) rest)
+    subst (All IsNameText) (sym (cond-true (run_has_bytes part) (part ∷ filter run_has_bytes parts) (filter run_has_bytes parts) is)) (All-cons IsNameText part (filter run_has_bytes parts) name rest))
+    (λ isnt. subst (All IsNameText) (sym (cond-false (run_has_bytes part) (part ∷ filter run_has_bytes parts) (filter run_has_bytes parts) isnt)) rest)
 
 -- the tokens of such a text can be names
 pub tokens_are_names : (text : List ℕ) → IsNamesText text → All IsNameText (tokens_of text)
@@ -123,12 +123,12 @@ tokens_are_names text is = names_kept (slice_split is_blank text) (parts (suc (l
 abbrev pub size : List ℕ → ℕ
 size name = length name + 1
 
-kept_len : (parts : List (List ℕ)) → names_len (filter nonempty parts) ≤ names_len parts
+kept_len : (parts : List (List ℕ)) → names_len (filter run_has_bytes parts) ≤ names_len parts
 kept_len [] = omega arith
 kept_len (part ∷ parts) =
-    by_test (nonempty part)
-    (λ is. omega (arith, kept_len parts, ap names_len (cond-true (nonempty part) (part ∷ filter nonempty parts) (filter nonempty parts) is), sum_by-cons size part parts, sum_by-cons size part (filter nonempty parts)))
-    (λ isnt. omega (arith, kept_len parts, ap names_len (cond-false (nonempty part) (part ∷ filter nonempty parts) (filter nonempty parts) isnt), sum_by-cons size part parts))
+    by_test (run_has_bytes part)
+    (λ is. omega (arith, kept_len parts, ap names_len (cond-true (run_has_bytes part) (part ∷ filter run_has_bytes parts) (filter run_has_bytes parts) is), sum_by-cons size part parts, sum_by-cons size part (filter run_has_bytes parts)))
+    (λ isnt. omega (arith, kept_len parts, ap names_len (cond-false (run_has_bytes part) (part ∷ filter run_has_bytes parts) (filter run_has_bytes parts) isnt), sum_by-cons size part parts))
 
 longer_first : (b : ℕ) (parts : List (List ℕ)) → 0 < length parts → names_len (onto_first b parts) ≡ names_len parts + 1
 longer_first b [] some = absurd (omega arith)

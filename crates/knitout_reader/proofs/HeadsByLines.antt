@@ -13,7 +13,7 @@ use Rattle.knitout_reader.specs.declared.head.HeadFault.TheVariants.{BadMagic}
 use Rattle.knitout_reader.specs.declared.head_reader.HeadReader.{HeadReader}
 use Rattle.knitout_reader.specs.declared.head_reader.Headers.{Headers}
 use Rattle.knitout_reader.specs.Tokens.{is_blank, tokens_of}
-use Rattle.knitout_reader.specs.Head.{carriers_headers, carriers_word, declared_names, head_len, is_carriers_line, is_head_line, is_magic, names_of, one_declared, CarriersHeader, IsHead, IsHeadFault, IsRefusal}
+use Rattle.knitout_reader.specs.Head.{carriers_headers, carriers_word, declared_names, head_len, is_carriers_line, is_head_line, is_magic, names_of, one_declared, CarriersHeader, IsHead, IsHeadFault, IsHeadRefusal}
 use Rattle.knitout_reader.specs.HeadLines.{has_magic, AreBehindHead, AreHeaders, HasHeadLines}
 
 -- the headers among lines, and among those behind them
@@ -129,10 +129,10 @@ names_known (first ∷ lines) more reader has magic behind =
     (ap (λ n. take n (first ∷ lines ++ more)) (front_len first lines more has.all behind) ∙ take-append_seam (first ∷ lines) more)
 
 -- a head that doesn't begin as a file
-pub unmagic : (lines more : List (List ℕ)) (reader : HeadReader) → HasHeadLines lines reader → reader.has_magic ≡ false → AreBehindHead more → declared_names (lines ++ more) ≡ Err BadMagic
-unmagic [] [] reader has magic behind = refl
-unmagic [] (line ∷ more) reader has magic behind = cond-false (is_magic line) _ _ (magic_goes_on line behind)
-unmagic (first ∷ lines) more reader has magic behind = cond-false (is_magic first) _ _ (sym has.magic ∙ magic)
+pub no_magic_is_refused : (lines more : List (List ℕ)) (reader : HeadReader) → HasHeadLines lines reader → reader.has_magic ≡ false → AreBehindHead more → declared_names (lines ++ more) ≡ Err BadMagic
+no_magic_is_refused [] [] reader has magic behind = refl
+no_magic_is_refused [] (line ∷ more) reader has magic behind = cond-false (is_magic line) _ _ (magic_goes_on line behind)
+no_magic_is_refused (first ∷ lines) more reader has magic behind = cond-false (is_magic first) _ _ (sym has.magic ∙ magic)
 
 -- the head of these lines, whatever stands behind them
 pub head_known : (lines more : List (List ℕ)) (reader : HeadReader) (head : Head) → HasHeadLines lines reader → reader.has_magic ≡ true → AreBehindHead more → head.lines ≡ reader.lines

@@ -20,7 +20,7 @@ use Rattle.knit_base.proofs.Places.{by_test}
 use Rattle.knitout_reader.specs.declared.byte_names.ByteNames.{ByteNames}
 use Rattle.knitout_reader.specs.declared.words.LoopOperation.TheVariants as loop_operation
 use Rattle.knitout_reader.specs.Loose.{BeginsAtEnd, BeginsWithBytes, BeginsWithBytesOf, BeginsWithDigits, BeginsWithNameOf, BeginsWithNeedleToken, BeginsWithSigned, EndsLine, GoesOnTo, HasFirstLine, HasNeedles, HasOperands, LeadsTo, Says, StaysInLine}
-use Rattle.knitout_reader.specs.Numbers.{AreDigits, IsDigit, IsNear, number_of}
+use Rattle.knitout_reader.specs.Numbers.{AreDigits, IsDigit, IsNear, value_of_digits}
 use Rattle.knitout_reader.specs.Reading.{is_off_bed, needle_on, not_opposite}
 use Rattle.knitout_reader.specs.Tokens.{before_comment, is_blank, is_semicolon, tokens_of}
 use Rattle.knitout_reader.specs.Usual.{AreByteNames, BeginsWithLine, IsByteName, IsTokenByte}
@@ -178,10 +178,10 @@ kept far n small low high = omega (arith, ints)
 pub plain-number : (far : ℕ) (text : List ℕ) (n : ℕ) (behind : List ℕ) → far < 2 ^ 31 → BeginsWithDigits far text n behind → BeginsWithSigned far text (to_z w32 n) behind
 plain-number far text n behind small h = record {
   number = h.digits;
-  z = pos (number_of h.digits);
+  z = pos (value_of_digits h.digits);
   signed = (h.digits, h.are, inl (refl, refl));
-  near = near_up far n (number_of h.digits) small h.value;
-  within = within_up far n (number_of h.digits) small h.value;
+  near = near_up far n (value_of_digits h.digits) small h.value;
+  within = within_up far n (value_of_digits h.digits) small h.value;
   front = record { some = h.are.0; bytes = λ k d below. digit_byte _ (h.are.1 k d below); text_is = h.text_is };
 }
 
@@ -198,10 +198,10 @@ pub plus-number : (far : ℕ) (text digits-text : List ℕ) (n : ℕ) (behind : 
     → BeginsWithSigned far text (to_z w32 n) behind
 plus-number far text digits-text n behind small is h = record {
   number = 43 ∷ h.digits;
-  z = pos (number_of h.digits);
+  z = pos (value_of_digits h.digits);
   signed = (h.digits, h.are, inr (inl (refl, refl)));
-  near = near_up far n (number_of h.digits) small h.value;
-  within = within_up far n (number_of h.digits) small h.value;
+  near = near_up far n (value_of_digits h.digits) small h.value;
+  within = within_up far n (value_of_digits h.digits) small h.value;
   front = signed_front text digits-text h.digits behind 43 (inl refl) is h.text_is h.are;
 }
 
@@ -210,10 +210,10 @@ pub minus-number : (far : ℕ) (text digits-text : List ℕ) (n : ℕ) (behind :
     → BeginsWithSigned far text (to_z w32 (of_z w32 (pos 0 -ℤ to_z w32 n))) behind
 minus-number far text digits-text n behind small is h = record {
   number = 45 ∷ h.digits;
-  z = pos 0 -ℤ pos (number_of h.digits);
+  z = pos 0 -ℤ pos (value_of_digits h.digits);
   signed = (h.digits, h.are, inr (inr (refl, refl)));
-  near = near_down far n (number_of h.digits) small h.value;
-  within = within_down far n (number_of h.digits) small h.value;
+  near = near_down far n (value_of_digits h.digits) small h.value;
+  within = within_down far n (value_of_digits h.digits) small h.value;
   front = signed_front text digits-text h.digits behind 45 (inr refl) is h.text_is h.are;
 }
 

@@ -21,7 +21,7 @@ use Rattle.knitout_reader.specs.declared.words.Operation.TheVariants as operatio
 use Rattle.knitout_reader.specs.Carriers.{carrier_rule, carriers_of}
 use Rattle.knitout_reader.specs.Operations.{IsFreeWord, IsWordOf, carrier_word, carrier_instr, loop_word, loop_instr, loop_slider, needle_operation_word, needle_operation_instr}
 use Rattle.knitout_reader.specs.Reading.{TokensReadAs, needle_on, off_bed, reading_or}
-use Rattle.knitout_reader.specs.Shapes.{Shape, Spells, IsFormed, IsDivided, IsMoved, IsNamed, IsRacked, CarryInShape, CarryOutShape, HookInShape, HookOutShape, ReleaseHookShape, StitchShape, PauseShape, ExtensionShape, RackShape, KnitShape, TuckShape, MissShape, SplitShape, XferShape, DropShape, AmissShape}
+use Rattle.knitout_reader.specs.Shapes.{Shape, TokensSpell, IsFormed, IsDivided, IsTwoNeedleShape, IsNamed, IsRacked, CarryInShape, CarryOutShape, HookInShape, HookOutShape, ReleaseHookShape, StitchShape, PauseShape, ExtensionShape, RackShape, KnitShape, TuckShape, MissShape, SplitShape, XferShape, DropShape, AmissShape}
 
 -- A number that differs between the words of any two kinds: 0 where the second byte is a `-`, else of the first byte and the
 -- length.
@@ -59,7 +59,7 @@ marked : (n : ℕ) (word other : List ℕ) (xs ys : List (List ℕ)) → word �
 marked n word other xs ys e same = ap (λ w. nat_eq (mark w) n) (first_word word other xs ys e) ∙ same
 
 -- the word has the mark of the shape
-pub marks-agree : (word : List ℕ) (rest : List (List ℕ)) (shape : Shape) → Spells (word ∷ rest) shape → nat_eq (mark word) (mark_of shape) ≡ true
+pub marks-agree : (word : List ℕ) (rest : List (List ℕ)) (shape : Shape) → TokensSpell (word ∷ rest) shape → nat_eq (mark word) (mark_of shape) ≡ true
 marks-agree word rest (CarryInShape carriers) spelled = marked _ _ _ _ _ spelled.spelled refl
 marks-agree word rest (CarryOutShape carriers) spelled = marked _ _ _ _ _ spelled.spelled refl
 marks-agree word rest (HookInShape carriers) spelled = marked _ _ _ _ _ spelled.spelled refl
@@ -79,7 +79,7 @@ marks-agree word rest (AmissShape bed at) spelled = marked _ _ _ _ _ spelled.spe
 
 -- where the word is that of a kind, and the operands aren't its own, there is no shape
 pub not_formed : (which : LoopOperation) (tokens : List (List ℕ)) → ((dir : Dir) (bed : Bed) (at : ℤ) (carriers : List (List ℕ)) → IsFormed (loop_word which) (loop_word which ∷ tokens) dir bed at carriers → ⊥)
-    → (shape : Shape) → Spells (loop_word which ∷ tokens) shape → ⊥
+    → (shape : Shape) → TokensSpell (loop_word which ∷ tokens) shape → ⊥
 not_formed loop_operation.Knit tokens none (KnitShape dir bed at carriers) spelled = none dir bed at carriers spelled
 not_formed loop_operation.Knit tokens none shape spelled = absurd (false≢true (marks-agree (codes "knit") tokens shape spelled))
 not_formed loop_operation.Tuck tokens none (TuckShape dir bed at carriers) spelled = none dir bed at carriers spelled
@@ -89,7 +89,7 @@ not_formed loop_operation.Miss tokens none shape spelled = absurd (false≢true 
 
 -- the same of an operation on one needle
 pub not_named : (which : NeedleOperation) (tokens : List (List ℕ)) → ((bed : Bed) (at : ℤ) → IsNamed (needle_operation_word which) (needle_operation_word which ∷ tokens) bed at → ⊥)
-    → (shape : Shape) → Spells (needle_operation_word which ∷ tokens) shape → ⊥
+    → (shape : Shape) → TokensSpell (needle_operation_word which ∷ tokens) shape → ⊥
 not_named needle_operation.Drop tokens none (DropShape bed at) spelled = none bed at spelled
 not_named needle_operation.Drop tokens none shape spelled = absurd (false≢true (marks-agree (codes "drop") tokens shape spelled))
 not_named needle_operation.Amiss tokens none (AmissShape bed at) spelled = none bed at spelled
@@ -97,24 +97,24 @@ not_named needle_operation.Amiss tokens none shape spelled = absurd (false≢tru
 
 -- the same of `split`
 pub not_divided : (tokens : List (List ℕ)) → ((dir : Dir) (bed : Bed) (at : ℤ) (bed2 : Bed) (at2 : ℤ) (carriers : List (List ℕ)) → IsDivided (codes "split") (codes "split" ∷ tokens) dir bed at bed2 at2 carriers → ⊥)
-    → (shape : Shape) → Spells (codes "split" ∷ tokens) shape → ⊥
+    → (shape : Shape) → TokensSpell (codes "split" ∷ tokens) shape → ⊥
 not_divided tokens none (SplitShape dir bed at bed2 at2 carriers) spelled = none dir bed at bed2 at2 carriers spelled
 not_divided tokens none shape spelled = absurd (false≢true (marks-agree (codes "split") tokens shape spelled))
 
 -- the same of `xfer`
-pub not_moved : (tokens : List (List ℕ)) → ((bed : Bed) (at : ℤ) (bed2 : Bed) (at2 : ℤ) → IsMoved (codes "xfer") (codes "xfer" ∷ tokens) bed at bed2 at2 → ⊥)
-    → (shape : Shape) → Spells (codes "xfer" ∷ tokens) shape → ⊥
+pub not_moved : (tokens : List (List ℕ)) → ((bed : Bed) (at : ℤ) (bed2 : Bed) (at2 : ℤ) → IsTwoNeedleShape (codes "xfer") (codes "xfer" ∷ tokens) bed at bed2 at2 → ⊥)
+    → (shape : Shape) → TokensSpell (codes "xfer" ∷ tokens) shape → ⊥
 not_moved tokens none (XferShape bed at bed2 at2) spelled = none bed at bed2 at2 spelled
 not_moved tokens none shape spelled = absurd (false≢true (marks-agree (codes "xfer") tokens shape spelled))
 
 -- the same of `rack`
 pub not_racked : (tokens : List (List ℕ)) → ((negative : Bool) (whole : List ℕ) (quarters : Option ℕ) → IsRacked (codes "rack") (codes "rack" ∷ tokens) negative whole quarters → ⊥)
-    → (shape : Shape) → Spells (codes "rack" ∷ tokens) shape → ⊥
+    → (shape : Shape) → TokensSpell (codes "rack" ∷ tokens) shape → ⊥
 not_racked tokens none (RackShape negative whole quarters) spelled = none negative whole quarters spelled
 not_racked tokens none shape spelled = absurd (false≢true (marks-agree (codes "rack") tokens shape spelled))
 
 -- a word that names no operation begins no shape
-pub no_operation : (word : List ℕ) (rest : List (List ℕ)) → ((which : Operation) → IsWordOf which word → ⊥) → (shape : Shape) → Spells (word ∷ rest) shape → ⊥
+pub no_operation : (word : List ℕ) (rest : List (List ℕ)) → ((which : Operation) → IsWordOf which word → ⊥) → (shape : Shape) → TokensSpell (word ∷ rest) shape → ⊥
 no_operation word rest none (CarryInShape carriers) spelled = none (operation.Carrier carrier_operation.In) (first_word _ _ _ _ spelled.spelled)
 no_operation word rest none (CarryOutShape carriers) spelled = none (operation.Carrier carrier_operation.Out) (first_word _ _ _ _ spelled.spelled)
 no_operation word rest none (HookInShape carriers) spelled = none (operation.Carrier carrier_operation.HookIn) (first_word _ _ _ _ spelled.spelled)

@@ -1,7 +1,7 @@
 -- A token spells one number and one needle at most.
 use Rattle.std.proofs.Common.{◌≡◌, ◌⊎◌, ⊎_elim, ℕ, ◌≤◌, ℤ, pos, ◌-ℤ◌, List, ◌∷◌, get_or, ap, sym, subst, ◌∙◌, arith}
 use Rattle.knit_base.specs.declared.needle.Bed.{Bed}
-use Rattle.knitout_reader.specs.Numbers.{IsDigit, AreDigits, IsSigned, IsNeedle, number_of}
+use Rattle.knitout_reader.specs.Numbers.{IsDigit, AreDigits, IsSigned, IsNeedle, value_of_digits}
 use Rattle.knitout_reader.proofs.Signs.{one_bed, s_is_no_number, first_byte, other_bytes}
 
 -- a list of digits begins with a digit
@@ -10,20 +10,20 @@ digit_first digits rest byte are is = (subst (λ (l : List ℕ). IsDigit (get_or
 
 -- a text, its digits and its value: without a sign, and with each of the two
 abbrev pub Plain : List ℕ → List ℕ → ℤ → Type 0
-Plain text digits z = (text ≡ digits) × (z ≡ pos (number_of digits))
+Plain text digits z = (text ≡ digits) × (z ≡ pos (value_of_digits digits))
 
 -- a `+` and digits
 abbrev pub Plus : List ℕ → List ℕ → ℤ → Type 0
-Plus text digits z = (text ≡ 43 ∷ digits) × (z ≡ pos (number_of digits))
+Plus text digits z = (text ≡ 43 ∷ digits) × (z ≡ pos (value_of_digits digits))
 
 -- a `-` and digits
 abbrev pub Minus : List ℕ → List ℕ → ℤ → Type 0
-Minus text digits z = (text ≡ 45 ∷ digits) × (z ≡ pos 0 -ℤ pos (number_of digits))
+Minus text digits z = (text ≡ 45 ∷ digits) × (z ≡ pos 0 -ℤ pos (value_of_digits digits))
 
 one_plain : (text d : List ℕ) (z z' : ℤ) → AreDigits d → Plain text d z → IsSigned text z' → z ≡ z'
 one_plain text d z z' are plain other =
     ⊎_elim
-    (λ (p : Plain text other.0 z'). plain.1 ∙ ap (λ ds. pos (number_of ds)) (sym plain.0 ∙ p.0) ∙ sym p.1)
+    (λ (p : Plain text other.0 z'). plain.1 ∙ ap (λ ds. pos (value_of_digits ds)) (sym plain.0 ∙ p.0) ∙ sym p.1)
     (λ (signs : Plus text other.0 z' ⊎ Minus text other.0 z').
     ⊎_elim
     (λ (p : Plus text other.0 z'). let low : 48 ≤ 43 = digit_first d other.0 43 are (sym plain.0 ∙ p.0) in absurd (omega arith))
@@ -43,13 +43,13 @@ one_signed text z z' one other =
     ⊎_elim
     (λ (p : Plus text one.0 z).
     ⊎_elim
-    (λ (q : Plus text other.0 z'). p.1 ∙ ap (λ ds. pos (number_of ds)) (other_bytes _ _ _ _ (sym p.0 ∙ q.0)) ∙ sym q.1)
+    (λ (q : Plus text other.0 z'). p.1 ∙ ap (λ ds. pos (value_of_digits ds)) (other_bytes _ _ _ _ (sym p.0 ∙ q.0)) ∙ sym q.1)
     (λ (q : Minus text other.0 z'). let same : 43 ≡ 45 = first_byte _ _ _ _ (sym p.0 ∙ q.0) in absurd (omega arith))
     others)
     (λ (p : Minus text one.0 z).
     ⊎_elim
     (λ (q : Plus text other.0 z'). let same : 45 ≡ 43 = first_byte _ _ _ _ (sym p.0 ∙ q.0) in absurd (omega arith))
-    (λ (q : Minus text other.0 z'). p.1 ∙ ap (λ ds. pos 0 -ℤ pos (number_of ds)) (other_bytes _ _ _ _ (sym p.0 ∙ q.0)) ∙ sym q.1)
+    (λ (q : Minus text other.0 z'). p.1 ∙ ap (λ ds. pos 0 -ℤ pos (value_of_digits ds)) (other_bytes _ _ _ _ (sym p.0 ∙ q.0)) ∙ sym q.1)
     others)
     signs)
     other.2)

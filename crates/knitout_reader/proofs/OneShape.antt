@@ -10,7 +10,7 @@ use Rattle.knit_base.specs.declared.needle.Dir.TheVariants.{Right, Left}
 use Rattle.knit_base.specs.Spelling.{dir_word}
 use Rattle.knitout_reader.specs.Numbers.{IsNeedle, IsRack, IsQuarter}
 use Rattle.knitout_reader.specs.Reading.{TokensReadAs, CodeReadsAs, reading_of, unreadable}
-use Rattle.knitout_reader.specs.Shapes.{Shape, Spells, AreCarried, AreQuarters, BeginsWithNeedle, IsFormed, IsDivided, IsMoved, IsNamed, IsRacked, CarryInShape, CarryOutShape, HookInShape, HookOutShape, ReleaseHookShape, StitchShape, PauseShape, ExtensionShape, RackShape, KnitShape, TuckShape, MissShape, SplitShape, XferShape, DropShape, AmissShape}
+use Rattle.knitout_reader.specs.Shapes.{Shape, TokensSpell, AreCarried, AreQuarters, BeginsWithNeedle, IsFormed, IsDivided, IsTwoNeedleShape, IsNamed, IsRacked, CarryInShape, CarryOutShape, HookInShape, HookOutShape, ReleaseHookShape, StitchShape, PauseShape, ExtensionShape, RackShape, KnitShape, TuckShape, MissShape, SplitShape, XferShape, DropShape, AmissShape}
 use Rattle.knitout_reader.proofs.Marks.{mark, mark_of, marks-agree, first_word, other_words}
 use Rattle.knitout_reader.proofs.Signs.{first_byte}
 use Rattle.knitout_reader.proofs.Decimals.{one_rack}
@@ -66,7 +66,7 @@ divided_alike word tokens dir dir' bed bed' at at' bed2 bed2' at2 at2' carriers 
     λ i. SplitShape (dirs i) (needles.0 i) (needles.1 i) (needles2.0 i) (needles2.1 i) (needles2.2 i)
 
 moved_alike : (word : List ℕ) (tokens : List (List ℕ)) (bed bed' : Bed) (at at' : ℤ) (bed2 bed2' : Bed) (at2 at2' : ℤ)
-    → IsMoved word tokens bed at bed2 at2 → IsMoved word tokens bed' at' bed2' at2' → XferShape bed at bed2 at2 ≡ XferShape bed' at' bed2' at2'
+    → IsTwoNeedleShape word tokens bed at bed2 at2 → IsTwoNeedleShape word tokens bed' at' bed2' at2' → XferShape bed at bed2 at2 ≡ XferShape bed' at' bed2' at2'
 moved_alike word tokens bed bed' at at' bed2 bed2' at2 at2' one other =
     let needles : (bed ≡ bed') × (at ≡ at') × (one.others ≡ other.others) =
     one_front one.operands _ _ _ _ _ _ one.first (subst (λ ts. BeginsWithNeedle ts bed' at' other.others) (sym (other_words _ _ _ _ (sym one.spelled ∙ other.spelled))) other.first) in
@@ -94,7 +94,7 @@ behind_prefix : (name other : List ℕ) → codes "x-" ++ name ≡ codes "x-" ++
 behind_prefix name other e = ap (drop 2) e
 
 -- shapes of one mark are of one kind, and then their parts are equal
-alike : (tokens : List (List ℕ)) (s t : Shape) → nat_eq (mark_of s) (mark_of t) ≡ true → Spells tokens s → Spells tokens t → s ≡ t
+alike : (tokens : List (List ℕ)) (s t : Shape) → nat_eq (mark_of s) (mark_of t) ≡ true → TokensSpell tokens s → TokensSpell tokens t → s ≡ t
 alike tokens (CarryInShape cs) (CarryInShape ds) e one other = ap CarryInShape (carried_alike _ _ _ _ one other)
 alike tokens (CarryOutShape cs) (CarryOutShape ds) e one other = ap CarryOutShape (carried_alike _ _ _ _ one other)
 alike tokens (HookInShape cs) (HookInShape ds) e one other = ap HookInShape (carried_alike _ _ _ _ one other)
@@ -120,17 +120,17 @@ same_eq : (m n k : ℕ) → nat_eq k m ≡ true → nat_eq k n ≡ true → nat_
 same_eq m n k one other = grind arith
 
 -- a word and tokens have one shape at most
-pub one-shape : (word : List ℕ) (rest : List (List ℕ)) (s t : Shape) → Spells (word ∷ rest) s → Spells (word ∷ rest) t → s ≡ t
+pub one-shape : (word : List ℕ) (rest : List (List ℕ)) (s t : Shape) → TokensSpell (word ∷ rest) s → TokensSpell (word ∷ rest) t → s ≡ t
 one-shape word rest s t one other =
     alike (word ∷ rest) s t (same_eq (mark_of s) (mark_of t) (mark word) (marks-agree word rest s one) (marks-agree word rest t other)) one other
 
 -- the tokens have a shape, and this is its reading
 abbrev pub Fits : Profile → List (List ℕ) → List (List ℕ) → Read → Type 0
-Fits profile names tokens r = (shape : Shape) × Spells tokens shape × (r ≡ reading_of profile names shape)
+Fits profile names tokens r = (shape : Shape) × TokensSpell tokens shape × (r ≡ reading_of profile names shape)
 
 -- they have none, and this is the reading of such a line
 abbrev pub FitsNone : List (List ℕ) → Read → Type 0
-FitsNone tokens r = ((shape : Shape) → Spells tokens shape → ⊥) × (r ≡ unreadable)
+FitsNone tokens r = ((shape : Shape) → TokensSpell tokens shape → ⊥) × (r ≡ unreadable)
 
 -- a word and tokens have one reading at most
 pub one-reading : (profile : Profile) (names : List (List ℕ)) (word : List ℕ) (rest : List (List ℕ)) (r other : Read)

@@ -7,7 +7,7 @@ use Rattle.knitout_reader.specs.declared.words.LoopOperation.{LoopOperation}
 use Rattle.knitout_reader.specs.declared.words.NeedleOperation.{NeedleOperation}
 use Rattle.knitout_reader.specs.Numbers.{IsNeedle, IsRack}
 use Rattle.knitout_reader.specs.Operations.{loop_word, needle_operation_word}
-use Rattle.knitout_reader.specs.Shapes.{Shape, Spells, BeginsWithNeedle}
+use Rattle.knitout_reader.specs.Shapes.{Shape, TokensSpell, BeginsWithNeedle}
 use Rattle.knitout_reader.proofs.Marks.{first_word, other_words, not_formed, not_named, not_divided, not_moved, not_racked}
 
 -- the tokens begin with no needle
@@ -28,23 +28,23 @@ behind_dir : (word : List ℕ) (tokens operands others : List (List ℕ)) (dir d
 behind_dir word tokens operands others dir dir' is spelled = other_words _ _ _ _ (sym (other_words _ _ _ _ spelled) ∙ is)
 
 -- without a needle behind its direction a line that forms loops has no shape
-pub unformed : (which : LoopOperation) (tokens operands : List (List ℕ)) (dir : Dir) → tokens ≡ dir_word dir ∷ operands → NoNeedle operands
-    → (shape : Shape) → Spells (loop_word which ∷ tokens) shape → ⊥
-unformed which tokens operands dir is none =
+pub no_needle_no_loop_shape : (which : LoopOperation) (tokens operands : List (List ℕ)) (dir : Dir) → tokens ≡ dir_word dir ∷ operands → NoNeedle operands
+    → (shape : Shape) → TokensSpell (loop_word which ∷ tokens) shape → ⊥
+no_needle_no_loop_shape which tokens operands dir is none =
     not_formed which tokens
     (λ d bed at cs formed. none bed at cs (subst (λ ts. BeginsWithNeedle ts bed at cs) (behind_dir _ _ _ _ _ _ is formed.spelled) formed.first))
 
 -- without a needle behind its direction a `split` has no shape
-pub undivided : (tokens operands : List (List ℕ)) (dir : Dir) → tokens ≡ dir_word dir ∷ operands → NoNeedle operands
-    → (shape : Shape) → Spells (codes "split" ∷ tokens) shape → ⊥
-undivided tokens operands dir is none =
+pub no_needle_no_split_shape : (tokens operands : List (List ℕ)) (dir : Dir) → tokens ≡ dir_word dir ∷ operands → NoNeedle operands
+    → (shape : Shape) → TokensSpell (codes "split" ∷ tokens) shape → ⊥
+no_needle_no_split_shape tokens operands dir is none =
     not_divided tokens
     (λ d bed at bed2 at2 cs divided.
     none bed at divided.others (subst (λ ts. BeginsWithNeedle ts bed at divided.others) (behind_dir _ _ _ _ _ _ is divided.spelled) divided.first))
 
 -- and none without a second needle
 pub undivided-2 : (tokens operands others : List (List ℕ)) (dir : Dir) (bed : Bed) (at : ℤ) → tokens ≡ dir_word dir ∷ operands → BeginsWithNeedle operands bed at others → NoNeedle others
-    → (shape : Shape) → Spells (codes "split" ∷ tokens) shape → ⊥
+    → (shape : Shape) → TokensSpell (codes "split" ∷ tokens) shape → ⊥
 undivided-2 tokens operands others dir bed at is first none =
     not_divided tokens
     (λ d bed' at' bed2 at2 cs divided.
@@ -52,14 +52,14 @@ undivided-2 tokens operands others dir bed at is first none =
     none bed2 at2 cs (subst (λ ts. BeginsWithNeedle ts bed2 at2 cs) (behind_needle _ _ _ _ _ _ _ first begins) divided.second))
 
 -- without a needle an `xfer` has no shape
-pub unmoved : (tokens : List (List ℕ)) → NoNeedle tokens → (shape : Shape) → Spells (codes "xfer" ∷ tokens) shape → ⊥
-unmoved tokens none =
+pub no_needle_no_xfer_shape : (tokens : List (List ℕ)) → NoNeedle tokens → (shape : Shape) → TokensSpell (codes "xfer" ∷ tokens) shape → ⊥
+no_needle_no_xfer_shape tokens none =
     not_moved tokens
     (λ bed at bed2 at2 moved. none bed at moved.others (subst (λ ts. BeginsWithNeedle ts bed at moved.others) (sym (other_words _ _ _ _ moved.spelled)) moved.first))
 
 -- and none where the second needle isn't the last token
 pub unmoved-2 : (tokens others : List (List ℕ)) (bed : Bed) (at : ℤ) → BeginsWithNeedle tokens bed at others → ((bed2 : Bed) (at2 : ℤ) → BeginsWithNeedle others bed2 at2 [] → ⊥)
-    → (shape : Shape) → Spells (codes "xfer" ∷ tokens) shape → ⊥
+    → (shape : Shape) → TokensSpell (codes "xfer" ∷ tokens) shape → ⊥
 unmoved-2 tokens others bed at first none =
     not_moved tokens
     (λ bed' at' bed2 at2 moved.
@@ -67,14 +67,14 @@ unmoved-2 tokens others bed at first none =
     none bed2 at2 (subst (λ ts. BeginsWithNeedle ts bed2 at2 []) (behind_needle _ _ _ _ _ _ _ first begins) moved.second))
 
 -- an operation on one needle has no shape where that isn't the last token
-pub unnamed : (which : NeedleOperation) (tokens : List (List ℕ)) → ((bed : Bed) (at : ℤ) → BeginsWithNeedle tokens bed at [] → ⊥) → (shape : Shape) → Spells (needle_operation_word which ∷ tokens) shape → ⊥
-unnamed which tokens none =
+pub more_tokens_no_needle_shape : (which : NeedleOperation) (tokens : List (List ℕ)) → ((bed : Bed) (at : ℤ) → BeginsWithNeedle tokens bed at [] → ⊥) → (shape : Shape) → TokensSpell (needle_operation_word which ∷ tokens) shape → ⊥
+more_tokens_no_needle_shape which tokens none =
     not_named which tokens (λ bed at named. none bed at (subst (λ ts. BeginsWithNeedle ts bed at []) (sym (other_words _ _ _ _ named.spelled)) named.first))
 
 -- without a rack a `rack` has no shape
-pub unracked : (tokens others : List (List ℕ)) (token : List ℕ) → tokens ≡ token ∷ others → ((negative : Bool) (whole fraction : List ℕ) → IsRack token negative whole fraction → ⊥)
-    → (shape : Shape) → Spells (codes "rack" ∷ tokens) shape → ⊥
-unracked tokens others token is none =
+pub no_rack_no_shape : (tokens others : List (List ℕ)) (token : List ℕ) → tokens ≡ token ∷ others → ((negative : Bool) (whole fraction : List ℕ) → IsRack token negative whole fraction → ⊥)
+    → (shape : Shape) → TokensSpell (codes "rack" ∷ tokens) shape → ⊥
+no_rack_no_shape tokens others token is none =
     not_racked tokens
     (λ negative whole quarters rack_reading.
     let same : rack_reading.token ≡ token = first_word _ _ _ _ (sym (other_words _ _ _ _ rack_reading.spelled) ∙ is) in

@@ -4,7 +4,7 @@ use Rattle.std.proofs.lemmas.Bool.{cases_lt}
 use Rattle.std.proofs.lemmas.List.{take_rest}
 use Rattle.std.proofs.lemmas.List.Elements.{All-head, All-tail}
 use Rattle.std.proofs.Math.Nat.{pow-succ', mul-le-mul_right}
-use Rattle.knitout_reader.specs.Numbers.{IsDigit, IsQuarter, number_of}
+use Rattle.knitout_reader.specs.Numbers.{IsDigit, IsQuarter, value_of_digits}
 use Rattle.knitout_reader.specs.Shapes.{AreQuarters}
 
 -- the value of digits that stand behind such a value
@@ -12,14 +12,14 @@ abbrev pub read_from : ℕ → List ℕ → ℕ
 read_from value digits = fold (λ value digit. 10 * value + (digit - 48)) value digits
 
 -- what was read before counts for a power of ten
-read_from-is : (digits : List ℕ) (value : ℕ) → read_from value digits ≡ value * 10 ^ length digits + number_of digits
+read_from-is : (digits : List ℕ) (value : ℕ) → read_from value digits ≡ value * 10 ^ length digits + value_of_digits digits
 read_from-is [] value = omega arith
 read_from-is (d ∷ digits) value =
     let power : value * 10 ^ length (d ∷ digits) ≡ value * (10 * 10 ^ length digits) = ap (λ p. value * p) (pow-succ' 10 (length digits)) in
     omega (arith, read_from-is digits (10 * value + (d - 48)), read_from-is digits (10 * 0 + (d - 48)), power)
 
 -- digits are below their power of ten
-number-small : (digits : List ℕ) → All IsDigit digits → number_of digits < 10 ^ length digits
+number-small : (digits : List ℕ) → All IsDigit digits → value_of_digits digits < 10 ^ length digits
 number-small [] are = omega arith
 number-small (d ∷ digits) are =
     let digit : IsDigit d = All-head IsDigit d digits are in
@@ -30,14 +30,14 @@ number-small (d ∷ digits) are =
 abbrev pub hundredths : ℕ → ℕ → ℕ
 hundredths a b = 10 * (a - 48) + (b - 48)
 
-number-two : (a b : ℕ) (rest : List ℕ) → number_of (a ∷ b ∷ rest) ≡ hundredths a b * 10 ^ length rest + number_of rest
+number-two : (a b : ℕ) (rest : List ℕ) → value_of_digits (a ∷ b ∷ rest) ≡ hundredths a b * 10 ^ length rest + value_of_digits rest
 number-two a b rest = omega (arith, read_from-is rest (10 * (10 * 0 + (a - 48)) + (b - 48)))
 
 hundred : (a b q : ℕ) (rest : List ℕ) → q * 10 ^ length (a ∷ b ∷ rest) ≡ 100 * (q * 10 ^ length rest)
 hundred a b q rest =
     ap (λ p. q * p) (pow-succ' 10 (length (b ∷ rest)) ∙ ap (λ p. 10 * p) (pow-succ' 10 (length rest))) ∙ omega arith
 
-is_quarter : (a b q : ℕ) (rest : List ℕ) → number_of rest ≡ 0 → hundredths a b ≡ 25 * q → IsQuarter (a ∷ b ∷ rest) q
+is_quarter : (a b q : ℕ) (rest : List ℕ) → value_of_digits rest ≡ 0 → hundredths a b ≡ 25 * q → IsQuarter (a ∷ b ∷ rest) q
 is_quarter a b q rest zeros is =
     omega (arith, number-two a b rest, hundred a b q rest, zeros, ap (λ d. d * 10 ^ length rest) is)
 
@@ -60,9 +60,9 @@ no_rest d q p r is small =
     (cases_lt (25 * q) d))
     (cases_lt d (25 * q))
 
-only_quarter : (a b q : ℕ) (rest : List ℕ) → All IsDigit rest → IsQuarter (a ∷ b ∷ rest) q → (hundredths a b ≡ 25 * q) × (number_of rest ≡ 0)
+only_quarter : (a b q : ℕ) (rest : List ℕ) → All IsDigit rest → IsQuarter (a ∷ b ∷ rest) q → (hundredths a b ≡ 25 * q) × (value_of_digits rest ≡ 0)
 only_quarter a b q rest are is =
-    no_rest (hundredths a b) q (10 ^ length rest) (number_of rest)
+    no_rest (hundredths a b) q (10 ^ length rest) (value_of_digits rest)
     (sym (ap (λ n. 4 * n) (number-two a b rest)) ∙ is ∙ hundred a b q rest)
     (number-small rest are)
 
@@ -84,20 +84,20 @@ one_first (a ∷ b ∷ rest) some few = absurd (omega arith)
 abbrev pub Hundredths : ℕ → Option ℕ → Type 0
 Hundredths h found = MatchOption found ((q : ℕ) → h ≡ 25 * q → ⊥) (λ q. h ≡ 25 * q)
 
-two_found : (a b : ℕ) (rest : List ℕ) (found : Option ℕ) → All IsDigit rest → number_of rest ≡ 0 → Hundredths (hundredths a b) found → AreQuarters (a ∷ b ∷ rest) found
+two_found : (a b : ℕ) (rest : List ℕ) (found : Option ℕ) → All IsDigit rest → value_of_digits rest ≡ 0 → Hundredths (hundredths a b) found → AreQuarters (a ∷ b ∷ rest) found
 two_found a b rest None are zeros none = λ q is. none q (only_quarter a b q rest are is).0
 two_found a b rest (Some q) are zeros is = is_quarter a b q rest zeros is
 
 -- two digits, and zeros behind them
-pub quarter-two : (fraction : List ℕ) (found : Option ℕ) → 2 ≤ length fraction → All IsDigit (behind_two fraction) → number_of (behind_two fraction) ≡ 0
+pub quarter-two : (fraction : List ℕ) (found : Option ℕ) → 2 ≤ length fraction → All IsDigit (behind_two fraction) → value_of_digits (behind_two fraction) ≡ 0
     → Hundredths (hundredths (get_or fraction 0 0) (get_or fraction 1 0)) found → AreQuarters fraction found
 quarter-two fraction found some are zeros is =
     subst (λ f. AreQuarters f found) (sym (two_first fraction some)) (two_found (get_or fraction 0 0) (get_or fraction 1 0) (behind_two fraction) found are zeros is)
 
 -- more than zeros behind the first two digits
-pub no_quarter : (fraction : List ℕ) → 2 ≤ length fraction → All IsDigit (behind_two fraction) → 0 < number_of (behind_two fraction) → (q : ℕ) → IsQuarter fraction q → ⊥
+pub no_quarter : (fraction : List ℕ) → 2 ≤ length fraction → All IsDigit (behind_two fraction) → 0 < value_of_digits (behind_two fraction) → (q : ℕ) → IsQuarter fraction q → ⊥
 no_quarter fraction some are more q is =
-    let none : number_of (behind_two fraction) ≡ 0 =
+    let none : value_of_digits (behind_two fraction) ≡ 0 =
     (only_quarter (get_or fraction 0 0) (get_or fraction 1 0) q (behind_two fraction) are (subst (λ f. IsQuarter f q) (two_first fraction some) is)).1 in
     omega arith
 

@@ -8,7 +8,7 @@ use Rattle.knitout_reader.specs.declared.number.TheConstants.{FAR}
 use Rattle.knitout_reader.specs.declared.number.NeedleToken.{NeedleToken}
 use Rattle.knit_base.specs.declared.needle.Bed.TheVariants.{Front, FrontSlider, Back, BackSlider}
 use Rattle.knit_base.specs.Spelling.{bed_word}
-use Rattle.knitout_reader.specs.Numbers.{IsDigit, IsNeedle, AreDigits, IsNear, IsSigned, number_of}
+use Rattle.knitout_reader.specs.Numbers.{IsDigit, IsNeedle, AreDigits, IsNear, IsSigned, value_of_digits}
 
 -- what a pattern leaves behind the first byte
 after_first : (text : List ℕ) → take (length text - 1) (drop 1 text) ≡ drop 1 text
@@ -28,29 +28,29 @@ near_down far n number small is =
     ⊎_elim (λ (lt : far < number). inr (inr (omega (arith, ints), omega (arith, ints)))) (λ (le : number ≤ far). inl (omega (arith, ints))) (cases_lt far number)
 
 -- digits without a sign
-pub plain_number : (text : List ℕ) (far n : ℕ) → far < 2 ^ 31 → AreDigits text × (n ≡ min (number_of text) far)
+pub plain_number : (text : List ℕ) (far n : ℕ) → far < 2 ^ 31 → AreDigits text × (n ≡ min (value_of_digits text) far)
     → (z : ℤ) × IsSigned text z × IsNear far (to_z w32 n) z
-plain_number text far n small found = (pos (number_of text), (text, found.0, inl (refl, refl)), near_up far n (number_of text) small found.1)
+plain_number text far n small found = (pos (value_of_digits text), (text, found.0, inl (refl, refl)), near_up far n (value_of_digits text) small found.1)
 
-rest_digits : (text : List ℕ) (far n : ℕ) → AreDigits (take (length text - 1) (drop 1 text)) × (n ≡ min (number_of (take (length text - 1) (drop 1 text))) far)
-    → AreDigits (drop 1 text) × (n ≡ min (number_of (drop 1 text)) far)
-rest_digits text far n found = subst (λ (ds : List ℕ). AreDigits ds × (n ≡ min (number_of ds) far)) (after_first text) found
+rest_digits : (text : List ℕ) (far n : ℕ) → AreDigits (take (length text - 1) (drop 1 text)) × (n ≡ min (value_of_digits (take (length text - 1) (drop 1 text))) far)
+    → AreDigits (drop 1 text) × (n ≡ min (value_of_digits (drop 1 text)) far)
+rest_digits text far n found = subst (λ (ds : List ℕ). AreDigits ds × (n ≡ min (value_of_digits ds) far)) (after_first text) found
 
 -- digits behind a `+`
 pub plus_number : (text : List ℕ) (far n : ℕ) → far < 2 ^ 31 → 1 ≤ length text → get_or text 0 0 ≡ 43
-    → AreDigits (take (length text - 1) (drop 1 text)) × (n ≡ min (number_of (take (length text - 1) (drop 1 text))) far)
+    → AreDigits (take (length text - 1) (drop 1 text)) × (n ≡ min (value_of_digits (take (length text - 1) (drop 1 text))) far)
     → (z : ℤ) × IsSigned text z × IsNear far (to_z w32 n) z
 plus_number text far n small some plus found =
-    let digits : AreDigits (drop 1 text) × (n ≡ min (number_of (drop 1 text)) far) = rest_digits text far n found in
-    (pos (number_of (drop 1 text)), (drop 1 text, digits.0, inr (inl (begins text 43 some plus, refl))), near_up far n (number_of (drop 1 text)) small digits.1)
+    let digits : AreDigits (drop 1 text) × (n ≡ min (value_of_digits (drop 1 text)) far) = rest_digits text far n found in
+    (pos (value_of_digits (drop 1 text)), (drop 1 text, digits.0, inr (inl (begins text 43 some plus, refl))), near_up far n (value_of_digits (drop 1 text)) small digits.1)
 
 -- digits behind a `-`
 pub minus_number : (text : List ℕ) (far n : ℕ) → far < 2 ^ 31 → 1 ≤ length text → get_or text 0 0 ≡ 45
-    → AreDigits (take (length text - 1) (drop 1 text)) × (n ≡ min (number_of (take (length text - 1) (drop 1 text))) far)
+    → AreDigits (take (length text - 1) (drop 1 text)) × (n ≡ min (value_of_digits (take (length text - 1) (drop 1 text))) far)
     → (z : ℤ) × IsSigned text z × IsNear far (to_z w32 (of_z w32 (pos 0 -ℤ to_z w32 n))) z
 minus_number text far n small some minus found =
-    let digits : AreDigits (drop 1 text) × (n ≡ min (number_of (drop 1 text)) far) = rest_digits text far n found in
-    (pos 0 -ℤ pos (number_of (drop 1 text)), (drop 1 text, digits.0, inr (inr (begins text 45 some minus, refl))), near_down far n (number_of (drop 1 text)) small digits.1)
+    let digits : AreDigits (drop 1 text) × (n ≡ min (value_of_digits (drop 1 text)) far) = rest_digits text far n found in
+    (pos 0 -ℤ pos (value_of_digits (drop 1 text)), (drop 1 text, digits.0, inr (inr (begins text 45 some minus, refl))), near_down far n (value_of_digits (drop 1 text)) small digits.1)
 
 -- equal texts have equal first bytes
 pub first_byte : (a b : ℕ) (xs ys : List ℕ) → a ∷ xs ≡ b ∷ ys → a ≡ b
@@ -66,13 +66,13 @@ s_is_no_number text z signed =
     let digits : List ℕ = signed.0 in
     let some : 0 < length (115 ∷ text) = omega arith in
     ⊎_elim
-    (λ (plain : (115 ∷ text ≡ digits) × (z ≡ pos (number_of digits))).
+    (λ (plain : (115 ∷ text ≡ digits) × (z ≡ pos (value_of_digits digits))).
     let digit : IsDigit 115 = subst (λ (l : List ℕ). 0 < length l → IsDigit (get_or l 0 0)) (sym plain.0) (signed.1.1 0 0) some in
     absurd (omega (arith, digit.1)))
-    (λ (signs : ((115 ∷ text ≡ 43 ∷ digits) × (z ≡ pos (number_of digits))) ⊎ ((115 ∷ text ≡ 45 ∷ digits) × (z ≡ pos 0 -ℤ pos (number_of digits)))).
+    (λ (signs : ((115 ∷ text ≡ 43 ∷ digits) × (z ≡ pos (value_of_digits digits))) ⊎ ((115 ∷ text ≡ 45 ∷ digits) × (z ≡ pos 0 -ℤ pos (value_of_digits digits)))).
     ⊎_elim
-    (λ (plus : (115 ∷ text ≡ 43 ∷ digits) × (z ≡ pos (number_of digits))). absurd (omega (arith, first_byte 115 43 text digits plus.0)))
-    (λ (minus : (115 ∷ text ≡ 45 ∷ digits) × (z ≡ pos 0 -ℤ pos (number_of digits))). absurd (omega (arith, first_byte 115 45 text digits minus.0)))
+    (λ (plus : (115 ∷ text ≡ 43 ∷ digits) × (z ≡ pos (value_of_digits digits))). absurd (omega (arith, first_byte 115 43 text digits plus.0)))
+    (λ (minus : (115 ∷ text ≡ 45 ∷ digits) × (z ≡ pos 0 -ℤ pos (value_of_digits digits))). absurd (omega (arith, first_byte 115 45 text digits minus.0)))
     signs)
     signed.2
 

@@ -26,15 +26,15 @@ use Rattle.knitout_reader.specs.declared.words.NeedleOperation.TheVariants as ne
 use Rattle.knitout_reader.specs.declared.words.FreeOperation.TheVariants as free_operation
 use Rattle.knitout_reader.specs.declared.words.Operation.{Operation}
 use Rattle.knitout_reader.specs.declared.words.Operation.TheVariants as operation
-use Rattle.knitout_reader.specs.Numbers.{AreDigits, IsDecimal, IsDigit, IsNeedle, IsNoPoint, IsRack, IsSign, IsSigned, number_of}
+use Rattle.knitout_reader.specs.Numbers.{AreDigits, IsDecimal, IsDigit, IsNeedle, IsNoPoint, IsRack, IsSign, IsSigned, value_of_digits}
 use Rattle.knitout_reader.specs.Operations.{IsWordOf, carrier_shape, carrier_word, loop_shape, loop_word, needle_operation_shape, needle_operation_word}
 use Rattle.knitout_reader.specs.Reading.{ReadsAs, CodeReadsAs, reading_of, unreadable}
-use Rattle.knitout_reader.specs.Shapes.{AreQuarters, BeginsWithNeedle, IsFormed, IsNamed, Shape, Spells, CarryInShape, CarryOutShape, HookInShape, HookOutShape, ReleaseHookShape, ExtensionShape, PauseShape, RackShape, SplitShape, StitchShape, XferShape}
+use Rattle.knitout_reader.specs.Shapes.{AreQuarters, BeginsWithNeedle, IsFormed, IsNamed, Shape, TokensSpell, CarryInShape, CarryOutShape, HookInShape, HookOutShape, ReleaseHookShape, ExtensionShape, PauseShape, RackShape, SplitShape, StitchShape, XferShape}
 use Rattle.knitout_reader.specs.Tokens.{before_comment, has_comment, tokens_of}
 use Rattle.knitout_reader.proofs.Decimals.{OneSign, at_point, bad-behind, bad-front, minus-first, no_point, plus-first, sign-absent}
 use Rattle.knitout_reader.proofs.Marks.{first_word, marks-agree, no_operation, not_divided, not_formed, not_racked, other_words}
 use Rattle.knitout_reader.proofs.Signs.{first_byte, is_hook, needle-on_bed, other_bytes}
-use Rattle.knitout_reader.proofs.OperandShapes.{NoNeedle, behind_needle, no_needle, undivided, undivided-2, unformed, unmoved, unmoved-2, unnamed, unracked}
+use Rattle.knitout_reader.proofs.OperandShapes.{NoNeedle, behind_needle, no_needle, no_needle_no_split_shape, undivided-2, no_needle_no_loop_shape, no_needle_no_xfer_shape, unmoved-2, more_tokens_no_needle_shape, no_rack_no_shape}
 
 same_word : (a b : List ℕ) → (a ≡ b) ⊎ (a ≢ b)
 same_word a b = by_test (bytes_eq a b) (λ is. inl ((bytes_eq-Decides a b).0 is)) (λ isnt. inr (λ e. false≢true (sym isnt ∙ (bytes_eq-Decides a b).1 e)))
@@ -80,37 +80,37 @@ Signed text = ((z : ℤ) × IsSigned text z) ⊎ ((z : ℤ) → IsSigned text z 
 no_number : (byte : ℕ) (rest : List ℕ) → (AreDigits (byte ∷ rest) → ⊥) → (byte ≡ 43 → AreDigits rest → ⊥) → (byte ≡ 45 → AreDigits rest → ⊥) → (z : ℤ) → IsSigned (byte ∷ rest) z → ⊥
 no_number byte rest plain plus minus z signed =
     ⊎_elim
-    (λ (p : (byte ∷ rest ≡ signed.0) × (z ≡ pos (number_of signed.0))). plain (subst AreDigits (sym p.0) signed.1))
-    (λ (signs : ((byte ∷ rest ≡ 43 ∷ signed.0) × (z ≡ pos (number_of signed.0))) ⊎ ((byte ∷ rest ≡ 45 ∷ signed.0) × (z ≡ pos 0 -ℤ pos (number_of signed.0)))).
+    (λ (p : (byte ∷ rest ≡ signed.0) × (z ≡ pos (value_of_digits signed.0))). plain (subst AreDigits (sym p.0) signed.1))
+    (λ (signs : ((byte ∷ rest ≡ 43 ∷ signed.0) × (z ≡ pos (value_of_digits signed.0))) ⊎ ((byte ∷ rest ≡ 45 ∷ signed.0) × (z ≡ pos 0 -ℤ pos (value_of_digits signed.0)))).
     ⊎_elim
-    (λ (p : (byte ∷ rest ≡ 43 ∷ signed.0) × (z ≡ pos (number_of signed.0))). plus (first_byte byte 43 rest signed.0 p.0) (subst AreDigits (sym (other_bytes byte 43 rest signed.0 p.0)) signed.1))
-    (λ (m : (byte ∷ rest ≡ 45 ∷ signed.0) × (z ≡ pos 0 -ℤ pos (number_of signed.0))). minus (first_byte byte 45 rest signed.0 m.0) (subst AreDigits (sym (other_bytes byte 45 rest signed.0 m.0)) signed.1))
+    (λ (p : (byte ∷ rest ≡ 43 ∷ signed.0) × (z ≡ pos (value_of_digits signed.0))). plus (first_byte byte 43 rest signed.0 p.0) (subst AreDigits (sym (other_bytes byte 43 rest signed.0 p.0)) signed.1))
+    (λ (m : (byte ∷ rest ≡ 45 ∷ signed.0) × (z ≡ pos 0 -ℤ pos (value_of_digits signed.0))). minus (first_byte byte 45 rest signed.0 m.0) (subst AreDigits (sym (other_bytes byte 45 rest signed.0 m.0)) signed.1))
     signs)
     signed.2
 
 no_empty_number : (z : ℤ) → IsSigned [] z → ⊥
 no_empty_number z signed =
     ⊎_elim
-    (λ (p : ([] ≡ signed.0) × (z ≡ pos (number_of signed.0))). absurd (omega (arith, signed.1.0, ap length p.0)))
-    (λ (signs : (([] ≡ 43 ∷ signed.0) × (z ≡ pos (number_of signed.0))) ⊎ (([] ≡ 45 ∷ signed.0) × (z ≡ pos 0 -ℤ pos (number_of signed.0)))).
+    (λ (p : ([] ≡ signed.0) × (z ≡ pos (value_of_digits signed.0))). absurd (omega (arith, signed.1.0, ap length p.0)))
+    (λ (signs : (([] ≡ 43 ∷ signed.0) × (z ≡ pos (value_of_digits signed.0))) ⊎ (([] ≡ 45 ∷ signed.0) × (z ≡ pos 0 -ℤ pos (value_of_digits signed.0)))).
     ⊎_elim
-    (λ (p : ([] ≡ 43 ∷ signed.0) × (z ≡ pos (number_of signed.0))). absurd (omega (arith, ap length p.0)))
-    (λ (m : ([] ≡ 45 ∷ signed.0) × (z ≡ pos 0 -ℤ pos (number_of signed.0))). absurd (omega (arith, ap length m.0)))
+    (λ (p : ([] ≡ 43 ∷ signed.0) × (z ≡ pos (value_of_digits signed.0))). absurd (omega (arith, ap length p.0)))
+    (λ (m : ([] ≡ 45 ∷ signed.0) × (z ≡ pos 0 -ℤ pos (value_of_digits signed.0))). absurd (omega (arith, ap length m.0)))
     signs)
     signed.2
 
 -- a number behind a sign, or none
 signed_rest : (byte : ℕ) (rest : List ℕ) → (AreDigits (byte ∷ rest) → ⊥) → AreDigits rest ⊎ (AreDigits rest → ⊥) → (byte ≡ 43) ⊎ (byte ≢ 43) → (byte ≡ 45) ⊎ (byte ≢ 45) → Signed (byte ∷ rest)
 signed_rest byte rest plain (inr arent) plus minus = inr (no_number byte rest plain (λ e are. arent are) (λ e are. arent are))
-signed_rest byte rest plain (inl are) (inl plus) minus = inl (pos (number_of rest), (rest, are, inr (inl (ap (λ b. b ∷ rest) plus, refl))))
-signed_rest byte rest plain (inl are) (inr plus) (inl minus) = inl (pos 0 -ℤ pos (number_of rest), (rest, are, inr (inr (ap (λ b. b ∷ rest) minus, refl))))
+signed_rest byte rest plain (inl are) (inl plus) minus = inl (pos (value_of_digits rest), (rest, are, inr (inl (ap (λ b. b ∷ rest) plus, refl))))
+signed_rest byte rest plain (inl are) (inr plus) (inl minus) = inl (pos 0 -ℤ pos (value_of_digits rest), (rest, are, inr (inr (ap (λ b. b ∷ rest) minus, refl))))
 signed_rest byte rest plain (inl are) (inr plus) (inr minus) = inr (no_number byte rest plain (λ e are. plus e) (λ e are. minus e))
 
 signed : (text : List ℕ) → Signed text
 signed [] = inr no_empty_number
 signed (byte ∷ rest) =
     ⊎_elim
-    (λ (are : AreDigits (byte ∷ rest)). inl (pos (number_of (byte ∷ rest)), (byte ∷ rest, are, inl (refl, refl))))
+    (λ (are : AreDigits (byte ∷ rest)). inl (pos (value_of_digits (byte ∷ rest)), (byte ∷ rest, are, inl (refl, refl))))
     (λ (arent : AreDigits (byte ∷ rest) → ⊥). signed_rest byte rest arent (are_digits rest) (same_byte byte 43) (same_byte byte 45))
     (are_digits (byte ∷ rest))
 
@@ -268,15 +268,15 @@ rack (byte ∷ text) =
 quarters : (fraction : List ℕ) → (count : Option ℕ) × AreQuarters fraction count
 quarters fraction =
     let some : 0 < 10 ^ length fraction = omega (arith, one-le-pow (length fraction) 10 (omega arith)) in
-    let count : ℕ = 4 * number_of fraction / 10 ^ length fraction in
+    let count : ℕ = 4 * value_of_digits fraction / 10 ^ length fraction in
     ⊎_elim
-    (λ (are : 4 * number_of fraction ≡ count * 10 ^ length fraction). (Some count, are))
-    (λ (arent : 4 * number_of fraction ≢ count * 10 ^ length fraction).
+    (λ (are : 4 * value_of_digits fraction ≡ count * 10 ^ length fraction). (Some count, are))
+    (λ (arent : 4 * value_of_digits fraction ≢ count * 10 ^ length fraction).
     (None, λ q is. arent (is ∙ ap (λ n. n * 10 ^ length fraction) (sym (ap (λ n. n / 10 ^ length fraction) is ∙ mul-div_cancel q some)))))
-    (same_byte (4 * number_of fraction) (count * 10 ^ length fraction))
+    (same_byte (4 * value_of_digits fraction) (count * 10 ^ length fraction))
 
 abbrev Shaped : List (List ℕ) → Type 0
-Shaped tokens = ((shape : Shape) × Spells tokens shape) ⊎ ((shape : Shape) → Spells tokens shape → ⊥)
+Shaped tokens = ((shape : Shape) × TokensSpell tokens shape) ⊎ ((shape : Shape) → TokensSpell tokens shape → ⊥)
 
 abbrev NeedleFirst : List (List ℕ) → Type 0
 NeedleFirst tokens = ((bed : Bed) × (at : ℤ) × (others : List (List ℕ)) × BeginsWithNeedle tokens bed at others) ⊎ NoNeedle tokens
@@ -301,7 +301,7 @@ dir_first (token ∷ tokens) =
     (direction token)
 
 formed_spells : (which : LoopOperation) (tokens : List (List ℕ)) (dir : Dir) (bed : Bed) (at : ℤ) (carriers : List (List ℕ))
-    → IsFormed (loop_word which) (loop_word which ∷ tokens) dir bed at carriers → Spells (loop_word which ∷ tokens) (loop_shape which dir bed at carriers)
+    → IsFormed (loop_word which) (loop_word which ∷ tokens) dir bed at carriers → TokensSpell (loop_word which ∷ tokens) (loop_shape which dir bed at carriers)
 formed_spells loop_operation.Knit tokens dir bed at carriers formed = formed
 formed_spells loop_operation.Tuck tokens dir bed at carriers formed = formed
 formed_spells loop_operation.Miss tokens dir bed at carriers formed = formed
@@ -316,7 +316,7 @@ formed_shape which tokens =
       loop_shape which front.0 found.0 found.1 found.2,
       formed_spells which tokens front.0 found.0 found.1 found.2 (record { operands = front.1; spelled = ap (λ ts. loop_word which ∷ ts) front.2; first = found.3 }),
     ))
-    (λ (none : NoNeedle front.1). inr (unformed which tokens front.1 front.0 front.2 none))
+    (λ (none : NoNeedle front.1). inr (no_needle_no_loop_shape which tokens front.1 front.0 front.2 none))
     (needle_first front.1))
     (λ (none : (dir : Dir) (operands : List (List ℕ)) → tokens ≡ dir_word dir ∷ operands → ⊥).
     inr (not_formed which tokens (λ dir bed at cs formed. none dir formed.operands (other_words _ _ _ _ formed.spelled))))
@@ -336,7 +336,7 @@ split_shape tokens =
     ))
     (λ (none : NoNeedle found.2). inr (undivided-2 tokens front.1 found.2 front.0 found.0 found.1 front.2 found.3 none))
     (needle_first found.2))
-    (λ (none : NoNeedle front.1). inr (undivided tokens front.1 front.0 front.2 none))
+    (λ (none : NoNeedle front.1). inr (no_needle_no_split_shape tokens front.1 front.0 front.2 none))
     (needle_first front.1))
     (λ (none : (dir : Dir) (operands : List (List ℕ)) → tokens ≡ dir_word dir ∷ operands → ⊥).
     inr (not_divided tokens (λ dir bed at bed2 at2 cs divided. none dir divided.operands (other_words _ _ _ _ divided.spelled))))
@@ -366,10 +366,10 @@ moved_shape tokens =
     inl (XferShape found.0 found.1 found2.0 found2.1, record { operands = tokens; others = found.2; spelled = refl; first = found.3; second = found2.2 }))
     (λ (none : (bed : Bed) (at : ℤ) → BeginsWithNeedle found.2 bed at [] → ⊥). inr (unmoved-2 tokens found.2 found.0 found.1 found.3 none))
     (one_needle found.2))
-    (λ (none : NoNeedle tokens). inr (unmoved tokens none))
+    (λ (none : NoNeedle tokens). inr (no_needle_no_xfer_shape tokens none))
     (needle_first tokens)
 
-named_spells : (which : NeedleOperation) (tokens : List (List ℕ)) (bed : Bed) (at : ℤ) → IsNamed (needle_operation_word which) (needle_operation_word which ∷ tokens) bed at → Spells (needle_operation_word which ∷ tokens) (needle_operation_shape which bed at)
+named_spells : (which : NeedleOperation) (tokens : List (List ℕ)) (bed : Bed) (at : ℤ) → IsNamed (needle_operation_word which) (needle_operation_word which ∷ tokens) bed at → TokensSpell (needle_operation_word which ∷ tokens) (needle_operation_shape which bed at)
 named_spells needle_operation.Drop tokens bed at named = named
 named_spells needle_operation.Amiss tokens bed at named = named
 
@@ -378,7 +378,7 @@ named_shape which tokens =
     ⊎_elim
     (λ (found : (bed : Bed) × (at : ℤ) × BeginsWithNeedle tokens bed at []).
     inl (needle_operation_shape which found.0 found.1, named_spells which tokens found.0 found.1 (record { operands = tokens; spelled = refl; first = found.2 })))
-    (λ (none : (bed : Bed) (at : ℤ) → BeginsWithNeedle tokens bed at [] → ⊥). inr (unnamed which tokens none))
+    (λ (none : (bed : Bed) (at : ℤ) → BeginsWithNeedle tokens bed at [] → ⊥). inr (more_tokens_no_needle_shape which tokens none))
     (one_needle tokens)
 
 racked_shape : (tokens : List (List ℕ)) → Shaped (codes "rack" ∷ tokens)
@@ -388,18 +388,18 @@ racked_shape (token ∷ []) =
     (λ (found : (negative : Bool) × (whole : List ℕ) × (fraction : List ℕ) × IsRack token negative whole fraction).
     let left = quarters found.2 in
     inl (RackShape found.0 found.1 left.0, record { token = token; fraction = found.2; spelled = refl; named = found.3; left = left.1 }))
-    (λ (none : (negative : Bool) (whole fraction : List ℕ) → IsRack token negative whole fraction → ⊥). inr (unracked (token ∷ []) [] token refl none))
+    (λ (none : (negative : Bool) (whole fraction : List ℕ) → IsRack token negative whole fraction → ⊥). inr (no_rack_no_shape (token ∷ []) [] token refl none))
     (rack token)
 racked_shape (token ∷ next ∷ tokens) = inr (not_racked (token ∷ next ∷ tokens) (λ negative whole quarters rack_reading. absurd (omega (arith, ap length rack_reading.spelled))))
 
-carried_spells : (which : CarrierOperation) (tokens : List (List ℕ)) → 0 < length tokens → Spells (carrier_word which ∷ tokens) (carrier_shape which tokens)
+carried_spells : (which : CarrierOperation) (tokens : List (List ℕ)) → 0 < length tokens → TokensSpell (carrier_word which ∷ tokens) (carrier_shape which tokens)
 carried_spells carrier_operation.In tokens some = record { spelled = refl; some = some }
 carried_spells carrier_operation.Out tokens some = record { spelled = refl; some = some }
 carried_spells carrier_operation.HookIn tokens some = record { spelled = refl; some = some }
 carried_spells carrier_operation.HookOut tokens some = record { spelled = refl; some = some }
 carried_spells carrier_operation.ReleaseHook tokens some = record { spelled = refl; some = some }
 
-uncarried_shape : (which : CarrierOperation) (shape : Shape) → Spells (carrier_word which ∷ []) shape → ⊥
+uncarried_shape : (which : CarrierOperation) (shape : Shape) → TokensSpell (carrier_word which ∷ []) shape → ⊥
 uncarried_shape carrier_operation.In (CarryInShape carriers) spelled = absurd (omega (arith, spelled.some, ap length spelled.spelled))
 uncarried_shape carrier_operation.In shape spelled = absurd (false≢true (marks-agree (codes "in") [] shape spelled))
 uncarried_shape carrier_operation.Out (CarryOutShape carriers) spelled = absurd (omega (arith, spelled.some, ap length spelled.spelled))
@@ -537,8 +537,8 @@ reading profile names [] false = (read.Blank, refl)
 reading profile names [] true = (read.Comment, refl)
 reading profile names (word ∷ tokens) comment =
     ⊎_elim
-    (λ (found : (shape : Shape) × Spells (word ∷ tokens) shape). (reading_of profile names found.0, inl (found.0, found.1, refl)))
-    (λ (none : (shape : Shape) → Spells (word ∷ tokens) shape → ⊥). (unreadable, inr (none, refl)))
+    (λ (found : (shape : Shape) × TokensSpell (word ∷ tokens) shape). (reading_of profile names found.0, inl (found.0, found.1, refl)))
+    (λ (none : (shape : Shape) → TokensSpell (word ∷ tokens) shape → ⊥). (unreadable, inr (none, refl)))
     (shaped word tokens)
 
 -- each line has a reading

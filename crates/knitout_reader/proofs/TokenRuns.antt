@@ -11,8 +11,8 @@ use Rattle.knit_base.proofs.Places.{by_test}
 use Rattle.knitout_reader.specs.Tokens.{tokens_of, before_comment, is_blank, is_semicolon, IsToken}
 
 -- the run has some bytes
-abbrev pub nonempty : List ℕ → Bool
-nonempty run = nat_lt 0 (length run)
+abbrev pub run_has_bytes : List ℕ → Bool
+run_has_bytes run = nat_lt 0 (length run)
 
 -- the byte is a blank
 abbrev pub Blank : ℕ → Type 0
@@ -23,27 +23,27 @@ abbrev pub Plain : ℕ → Type 0
 Plain byte = is_blank byte ≡ false
 
 -- a run that isn't empty is kept
-kept : (run : List ℕ) (runs : List (List ℕ)) → 0 < length run → filter nonempty (run ∷ runs) ≡ run ∷ filter nonempty runs
-kept run runs some = cond-true (nonempty run) (run ∷ filter nonempty runs) (filter nonempty runs) (lt-ltb 0 (length run) some)
+kept : (run : List ℕ) (runs : List (List ℕ)) → 0 < length run → filter run_has_bytes (run ∷ runs) ≡ run ∷ filter run_has_bytes runs
+kept run runs some = cond-true (run_has_bytes run) (run ∷ filter run_has_bytes runs) (filter run_has_bytes runs) (lt-ltb 0 (length run) some)
 
 -- blanks in front are no part of any token
 pub tokens_of-blanks : (blanks text : List ℕ) → All Blank blanks → tokens_of (blanks ++ text) ≡ tokens_of text
 tokens_of-blanks [] text are = refl
 tokens_of-blanks (b ∷ blanks) text are =
-    ap (filter nonempty) (slice_split-cons_yes is_blank b (blanks ++ text) (All-head Blank b blanks are))
+    ap (filter run_has_bytes) (slice_split-cons_yes is_blank b (blanks ++ text) (All-head Blank b blanks are))
     ∙ tokens_of-blanks blanks text (All-tail Blank b blanks are)
 
 -- a token that ends the text
 tokens_of-last : (token : List ℕ) → 0 < length token → All Plain token → tokens_of token ≡ token ∷ []
-tokens_of-last token some are = ap (filter nonempty) (slice_split_none is_blank token are) ∙ kept token [] some
+tokens_of-last token some are = ap (filter run_has_bytes) (slice_split_none is_blank token are) ∙ kept token [] some
 
 -- a token before a blank
 tokens_of-before : (token : List ℕ) (b : ℕ) (text : List ℕ) → 0 < length token → All Plain token → Blank b
     → tokens_of (token ++ b ∷ text) ≡ token ∷ tokens_of (b ∷ text)
 tokens_of-before token b text some are blank =
-    ap (filter nonempty) (slice_split_at is_blank token b text are blank)
+    ap (filter run_has_bytes) (slice_split_at is_blank token b text are blank)
     ∙ kept token (slice_split is_blank text) some
-    ∙ ap (λ ts. token ∷ ts) (sym (ap (filter nonempty) (slice_split-cons_yes is_blank b text blank)))
+    ∙ ap (λ ts. token ∷ ts) (sym (ap (filter run_has_bytes) (slice_split-cons_yes is_blank b text blank)))
 
 -- a token that goes on as long as it can
 pub tokens_of-token : (token text : List ℕ) → 0 < length token → All Plain token → (0 < length text → Blank (get_or text 0 0))
@@ -121,12 +121,12 @@ abbrev pub runs_len : List (List ℕ) → ℕ
 runs_len [] = 0
 runs_len (run ∷ runs) = (length run + 1) + runs_len runs
 
-two_each : (runs : List (List ℕ)) → 2 * length (filter nonempty runs) ≤ runs_len runs
+two_each : (runs : List (List ℕ)) → 2 * length (filter run_has_bytes runs) ≤ runs_len runs
 two_each [] = omega arith
 two_each (run ∷ runs) =
-    by_test (nonempty run)
-    (λ is. omega (arith, two_each runs, ltb-true 0 (length run) is, ap length (cond-true (nonempty run) (run ∷ filter nonempty runs) (filter nonempty runs) is)))
-    (λ isnt. omega (arith, two_each runs, ap length (cond-false (nonempty run) (run ∷ filter nonempty runs) (filter nonempty runs) isnt)))
+    by_test (run_has_bytes run)
+    (λ is. omega (arith, two_each runs, ltb-true 0 (length run) is, ap length (cond-true (run_has_bytes run) (run ∷ filter run_has_bytes runs) (filter run_has_bytes runs) is)))
+    (λ isnt. omega (arith, two_each runs, ap length (cond-false (run_has_bytes run) (run ∷ filter run_has_bytes runs) (filter run_has_bytes runs) isnt)))
 
 longer_first : (b : ℕ) (runs : List (List ℕ)) → 0 < length runs → runs_len (onto_first b runs) ≡ runs_len runs + 1
 longer_first b [] some = absurd (omega arith)

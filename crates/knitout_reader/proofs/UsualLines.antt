@@ -35,7 +35,7 @@ use Rattle.knitout_reader.specs.declared.byte_names.ByteNames.{ByteNames}
 use Rattle.knitout_reader.specs.declared.words.LoopOperation.{LoopOperation}
 use Rattle.knitout_reader.specs.declared.words.LoopOperation.TheVariants as loop_operation
 use Rattle.knitout_reader.specs.Carriers.{carrier_rule, carrier_twice, carriers_of}
-use Rattle.knitout_reader.specs.Numbers.{AreDigits, IsDigit, IsNeedle, number_of}
+use Rattle.knitout_reader.specs.Numbers.{AreDigits, IsDigit, IsNeedle, value_of_digits}
 use Rattle.knitout_reader.specs.Operations.{loop_instr, loop_slider, loop_word}
 use Rattle.knitout_reader.specs.Reading.{ReadsAs, CodeReadsAs, TokensReadAs, needle_on, not_opposite, off_bed, reading_or, slider_form}
 use Rattle.knitout_reader.specs.Shapes.{IsFormed, XferShape}
@@ -211,8 +211,8 @@ IsReadingOf profile names line usual =
     × ((other : Read) → ReadsAs profile names line other → other ≡ usual_read usual)
 
 -- what a line alone says that is so spelt
-pub alone : (profile : Profile) (names : List (List ℕ)) (line : List ℕ) (usual : Usual) → IsSpaced profile names (line ++ 10 ∷ []) [] usual → IsReadingOf profile names line usual
-alone profile names line usual h =
+pub usual_line_reading : (profile : Profile) (names : List (List ℕ)) (line : List ℕ) (usual : Usual) → IsSpaced profile names (line ++ 10 ∷ []) [] usual → IsReadingOf profile names line usual
+usual_line_reading profile names line usual h =
     let bytes : All IsLineByte (spaced (h.word ∷ h.tokens)) = bytes-spaced (h.word ∷ h.tokens) h.plain in
     let same : line ≡ spaced (h.word ∷ h.tokens) = append_cancel_right line (spaced (h.word ∷ h.tokens)) (10 ∷ []) h.text_is in
     let few : length h.tokens ≤ 3 = h.few in
@@ -268,7 +268,7 @@ on_bed profile n place on =
     let high : int_lt profile.high n.at ≡ false = not_off _ _ on.below in
     ap (λ b. broken_if (b || int_lt profile.high n.at) OffBed place) low ∙ ap (λ b. broken_if b OffBed place) high
 
-is_needle : (bed : Bed) (digits : List ℕ) (at : ℤ) → AreDigits digits → at ≡ pos (number_of digits) → IsNeedle (bed_word bed ++ digits) bed at
+is_needle : (bed : Bed) (digits : List ℕ) (at : ℤ) → AreDigits digits → at ≡ pos (value_of_digits digits) → IsNeedle (bed_word bed ++ digits) bed at
 is_needle bed digits at are is = (digits, refl, (digits, are, inl (refl, is)))
 
 -- the rule of one carrier, by what its name finds

@@ -11,7 +11,7 @@ use Rattle.knit_base.specs.Names.{carrier_of}
 use Rattle.knit_base.specs.Needle.{is_front, is_slider}
 use Rattle.knit_base.specs.Spelling.{bed_word, dir_word}
 use Rattle.knitout_reader.specs.Usual.{BeginsWithUsualName, BeginsWithUsualNeedle, BeginsWithUsualNeedles, BeginsWithUsualNumber, BeginsWithUsualOperands, IsByteName, IsShortToken, IsTokenByte}
-use Rattle.knitout_reader.proofs.UsualLines.{IsReadingOf, alone, knit_spaced, tuck_spaced, xfer_spaced}
+use Rattle.knitout_reader.proofs.UsualLines.{IsReadingOf, usual_line_reading, knit_spaced, tuck_spaced, xfer_spaced}
 
 number_longer : (text rest more : List ℕ) (at : ℤ) (end : ℕ) → BeginsWithUsualNumber text at end rest → BeginsWithUsualNumber (text ++ more) at end (rest ++ more)
 number_longer text rest more at end h = record {
@@ -91,17 +91,17 @@ longer word line operands is = ap (λ (l : List ℕ). l ++ 10 ∷ []) is ∙ app
 pub whole_knit : (profile : Profile) (names : List (List ℕ)) (line operands : List ℕ) (dir : Dir) (n : Needle) (c : CarrierNo) → line ≡ codes "knit" ++ operands
     → BeginsWithUsualOperands profile names (operands ++ 10 ∷ []) dir n c [] → IsReadingOf profile names line (Knit dir n c)
 whole_knit profile names line operands dir n c is front =
-    alone profile names line (Knit dir n c)
+    usual_line_reading profile names line (Knit dir n c)
     (knit_spaced profile names (line ++ 10 ∷ []) (operands ++ 10 ∷ []) [] dir n c (longer (codes "knit") line operands is) front)
 
 pub whole_tuck : (profile : Profile) (names : List (List ℕ)) (line operands : List ℕ) (dir : Dir) (n : Needle) (c : CarrierNo) → line ≡ codes "tuck" ++ operands
     → BeginsWithUsualOperands profile names (operands ++ 10 ∷ []) dir n c [] → IsReadingOf profile names line (Tuck dir n c)
 whole_tuck profile names line operands dir n c is front =
-    alone profile names line (Tuck dir n c)
+    usual_line_reading profile names line (Tuck dir n c)
     (tuck_spaced profile names (line ++ 10 ∷ []) (operands ++ 10 ∷ []) [] dir n c (longer (codes "tuck") line operands is) front)
 
 pub whole_xfer : (profile : Profile) (names : List (List ℕ)) (line operands : List ℕ) (n n2 : Needle) → line ≡ codes "xfer" ++ operands
     → BeginsWithUsualNeedles profile (operands ++ 10 ∷ []) n n2 [] → IsReadingOf profile names line (Xfer n n2)
 whole_xfer profile names line operands n n2 is front =
-    alone profile names line (Xfer n n2)
+    usual_line_reading profile names line (Xfer n n2)
     (xfer_spaced profile names (line ++ 10 ∷ []) (operands ++ 10 ∷ []) [] n n2 (longer (codes "xfer") line operands is) front)

@@ -1,7 +1,7 @@
 -- The lines of a file that come some at a time: of its head, and behind it of its body.
 use Rattle.std.specs.Prelude.{◌≡◌, ◌≢◌, ℕ, ◌≤◌, ◌<◌, false, List, [], ◌∷◌, ◌++◌, length, take, drop, All}
 use Rattle.knit_base.specs.Lines.{lines_of}
-use Rattle.line_cutter.specs.Cut.{IsBehind, IsGoodLine}
+use Rattle.line_cutter.specs.Cut.{IsPlaceBehind, IsGoodLine}
 use Rattle.knitout_reader.specs.declared.head.Head.{Head}
 use Rattle.knitout_reader.specs.declared.head.HeadFault.{HeadFault}
 use Rattle.knitout_reader.specs.declared.head.HeadFault.TheVariants.{NoMemory}
@@ -18,8 +18,8 @@ abbrev pub Seeing : Type 0 → Type 1
 Seeing W = List (List ℕ) → W → W → Type 0
 
 -- what is told of lines of a file with this head that a work has taken, by which it became another
-abbrev pub Taking : Type 0 → Type 1
-Taking W = Head → List (List ℕ) → W → W → Type 0
+abbrev pub TakingFileLines : Type 0 → Type 1
+TakingFileLines W = Head → List (List ℕ) → W → W → Type 0
 
 -- all lines are lines of the head, and the work has seen them
 pub record ReadsHead (W : Type 0) (Saw : Seeing W) (lines : List (List ℕ)) (start now : W) (reader : HeadReader) : Type 0 where
@@ -27,7 +27,7 @@ pub record ReadsHead (W : Type 0) (Saw : Seeing W) (lines : List (List ℕ)) (st
   pub seen : Saw lines start now
 
 -- The head is known by some lines, whatever stands behind them, and the work has taken it and lines of the body.
-pub record ReadsBody (W : Type 0) (Took : Taking W) (known lines : List (List ℕ)) (start now : W) (head : Head) : Type 0 where
+pub record ReadsBody (W : Type 0) (Took : TakingFileLines W) (known lines : List (List ℕ)) (start now : W) (head : Head) : Type 0 where
   pub head_is : (more : List (List ℕ)) → IsHead (known ++ more) head
   pub within : head.lines ≤ length lines
   pub taken : Took head lines start now
@@ -38,19 +38,19 @@ pub record IsRefusedBy (known : List (List ℕ)) (fault : HeadFault) : Type 0 wh
   pub named : fault ≢ NoMemory
 
 -- how far a file is read whose first lines are these
-abbrev pub StandsAt : (W : Type 0) → Seeing W → Taking W → List (List ℕ) → W → W → Stage → Type 0
-StandsAt W Saw Took lines start now (InHead reader) = ReadsHead W Saw lines start now reader
-StandsAt W Saw Took lines start now (InBody head) = ReadsBody W Took lines lines start now head
-StandsAt W Saw Took lines start now (Refused fault) = IsRefusedBy lines fault
+abbrev pub FileStandsAt : (W : Type 0) → Seeing W → TakingFileLines W → List (List ℕ) → W → W → Stage → Type 0
+FileStandsAt W Saw Took lines start now (InHead reader) = ReadsHead W Saw lines start now reader
+FileStandsAt W Saw Took lines start now (InBody head) = ReadsBody W Took lines lines start now head
+FileStandsAt W Saw Took lines start now (Refused fault) = IsRefusedBy lines fault
 
 -- these lines were taken, all of them good, and the work has become another
-pub record HasReadLines (W : Type 0) (Saw : Seeing W) (Took : Taking W) (lines : List (List ℕ)) (start now : FileReader W) : Type 0 where
+pub record HasReadLines (W : Type 0) (Saw : Seeing W) (Took : TakingFileLines W) (lines : List (List ℕ)) (start now : FileReader W) : Type 0 where
   pub counted : now.lines ≡ length lines
   pub good : All IsGoodLine lines
-  pub stage : StandsAt W Saw Took lines start.work now.work now.stage
+  pub stage : FileStandsAt W Saw Took lines start.work now.work now.stage
 
 -- The file with these lines was read to its end: its head, and the work that has taken all lines.
-pub record IsReadFile (W : Type 0) (Took : Taking W) (lines : List (List ℕ)) (start : W) (file : ReadFile W) : Type 0 where
+pub record IsReadFile (W : Type 0) (Took : TakingFileLines W) (lines : List (List ℕ)) (start : W) (file : ReadFile W) : Type 0 where
   pub head_is : IsHead lines file.head
   pub good : All IsGoodLine lines
   pub counted : file.lines ≡ length lines
@@ -62,20 +62,20 @@ pub record HasRefusedHead (lines : List (List ℕ)) (fault : HeadFault) : Type 0
   pub good : All IsGoodLine lines
 
 -- how far a file is read whose first lines are these, of which those that come next are known, too
-abbrev pub StandsBefore : (W : Type 0) → Seeing W → Taking W → List (List ℕ) → List (List ℕ) → W → W → Stage → Type 0
+abbrev pub StandsBefore : (W : Type 0) → Seeing W → TakingFileLines W → List (List ℕ) → List (List ℕ) → W → W → Stage → Type 0
 StandsBefore W Saw Took lines next start now (InHead reader) = ReadsHead W Saw lines start now reader × (next ≡ [])
 StandsBefore W Saw Took lines next start now (InBody head) = ReadsBody W Took (lines ++ next) lines start now head
 StandsBefore W Saw Took lines next start now (Refused fault) = IsRefusedBy (lines ++ next) fault
 
 -- These lines were taken, and the lines that come next don't go on with the head.
-pub record HasReadFront (W : Type 0) (Saw : Seeing W) (Took : Taking W) (lines next : List (List ℕ))
+pub record HasReadFront (W : Type 0) (Saw : Seeing W) (Took : TakingFileLines W) (lines next : List (List ℕ))
     (start now : FileReader W) : Type 0 where
   pub counted : now.lines ≡ length lines
   pub good : All IsGoodLine lines
   pub stage : StandsBefore W Saw Took lines next start.work now.work now.stage
 
 -- behind such lines the lines of the text up to this place were taken, and those behind it don't go on with the head
-pub record EntersText (W : Type 0) (Saw : Seeing W) (Took : Taking W) (lines : List (List ℕ)) (text : List ℕ) (next : ℕ)
+pub record EntersText (W : Type 0) (Saw : Seeing W) (Took : TakingFileLines W) (lines : List (List ℕ)) (text : List ℕ) (next : ℕ)
     (start now : FileReader W) : Type 0 where
   pub front : List (List ℕ)
   pub parts : lines_of text ≡ front ++ lines_of (drop next text)
@@ -93,7 +93,7 @@ pub record BeginBody (lines : List (List ℕ)) : Type 0 where
 -- So many lines of the text, up to this place, go on with the head, and the work saw them.
 pub record ReadsFront (W : Type 0) (Saw : Seeing W) (text : List ℕ) (count next : ℕ)
     (old new : HeadReader) (was is : W) : Type 0 where
-  pub behind : IsBehind text count next
+  pub behind : IsPlaceBehind text count next
   pub read : (lines : List (List ℕ)) → HasHeadLines lines old → HasHeadLines (lines ++ take count (lines_of text)) new
   pub seen : (start : W) (lines : List (List ℕ)) → Saw lines start was → Saw (lines ++ take count (lines_of text)) start is
 

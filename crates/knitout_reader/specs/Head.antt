@@ -88,17 +88,17 @@ pub record IsHead (lines : List (List ℕ)) (head : Head) : Type 0 where
   pub names : declared_names lines ≡ Ok head.declared
 
 -- The refusal that this answer is. Want of memory may come with any.
-abbrev pub IsRefusal : Result (List (List ℕ)) HeadFault → HeadFault → Type 0
-IsRefusal answer BadMagic = answer ≡ Err BadMagic
-IsRefusal answer NoCarriers = answer ≡ Err NoCarriers
-IsRefusal answer (TwoCarriers line) = answer ≡ Err (TwoCarriers line)
-IsRefusal answer (CarrierNameTwice line) = answer ≡ Err (CarrierNameTwice line)
-IsRefusal answer (ManyCarriers line) = answer ≡ Err (ManyCarriers line)
-IsRefusal answer NoMemory = Unit {0}
+abbrev pub IsHeadRefusal : Result (List (List ℕ)) HeadFault → HeadFault → Type 0
+IsHeadRefusal answer BadMagic = answer ≡ Err BadMagic
+IsHeadRefusal answer NoCarriers = answer ≡ Err NoCarriers
+IsHeadRefusal answer (TwoCarriers line) = answer ≡ Err (TwoCarriers line)
+IsHeadRefusal answer (CarrierNameTwice line) = answer ≡ Err (CarrierNameTwice line)
+IsHeadRefusal answer (ManyCarriers line) = answer ≡ Err (ManyCarriers line)
+IsHeadRefusal answer NoMemory = Unit {0}
 
 -- the head of the file with these lines is refused
 abbrev pub IsHeadFault : List (List ℕ) → HeadFault → Type 0
-IsHeadFault lines fault = IsRefusal (declared_names lines) fault
+IsHeadFault lines fault = IsHeadRefusal (declared_names lines) fault
 
 -- what stands behind the colon of a header, as a part of a line
 pub record IsNamesText (text : List ℕ) : Type 0 where

@@ -11,7 +11,7 @@ use Rattle.knit_base.specs.Names.{carrier_of}
 use Rattle.knit_base.specs.Needle.{is_slider}
 use Rattle.knit_base.specs.Spelling.{dir_word}
 use Rattle.knit_base.specs.Usual.{usual_read}
-use Rattle.knitout_reader.specs.Numbers.{AreDigits, IsNear, IsNeedle, IsSigned, number_of}
+use Rattle.knitout_reader.specs.Numbers.{AreDigits, IsNear, IsNeedle, IsSigned, value_of_digits}
 use Rattle.knitout_reader.specs.Reading.{TokensReadAs, not_opposite}
 use Rattle.knitout_reader.specs.Tokens.{before_comment, is_blank, tokens_of}
 use Rattle.knitout_reader.specs.Usual.{IsTokenByte}
@@ -66,7 +66,7 @@ pub record BeginsWithBytes (text token behind : List ℕ) : Type 0 where
 pub record BeginsWithDigits (far : ℕ) (text : List ℕ) (n : ℕ) (behind : List ℕ) : Type 0 where
   pub digits : List ℕ
   pub are : AreDigits digits
-  pub value : n ≡ min (number_of digits) far
+  pub value : n ≡ min (value_of_digits digits) far
   pub text_is : text ≡ digits ++ behind
 
 -- a number stands in front, with a sign or without one, and this is it, or `far` on its side where it is farther

@@ -12,15 +12,15 @@ abbrev pub AreDigits : List ℕ → Type 0
 AreDigits text = (0 < length text) × All IsDigit text
 
 -- the value of a list of digits
-abbrev pub number_of : List ℕ → ℕ
-number_of digits = fold (λ value digit. 10 * value + (digit - 48)) 0 digits
+abbrev pub value_of_digits : List ℕ → ℕ
+value_of_digits digits = fold (λ value digit. 10 * value + (digit - 48)) 0 digits
 
 -- an optional sign and digits, and their value
 abbrev pub IsSigned : List ℕ → ℤ → Type 0
 IsSigned text z = (digits : List ℕ) × AreDigits digits
-    × (((text ≡ digits) × (z ≡ pos (number_of digits)))
-    ⊎ ((text ≡ codes "+" ++ digits) × (z ≡ pos (number_of digits)))
-    ⊎ ((text ≡ codes "-" ++ digits) × (z ≡ pos 0 -ℤ pos (number_of digits))))
+    × (((text ≡ digits) × (z ≡ pos (value_of_digits digits)))
+    ⊎ ((text ≡ codes "+" ++ digits) × (z ≡ pos (value_of_digits digits)))
+    ⊎ ((text ≡ codes "-" ++ digits) × (z ≡ pos 0 -ℤ pos (value_of_digits digits))))
 
 -- a bed and a number
 abbrev pub IsNeedle : List ℕ → Bed → ℤ → Type 0
@@ -53,9 +53,9 @@ IsRack token negative whole fraction = (sign : List ℕ) × (text : List ℕ)
 
 -- the fraction is so many quarters
 abbrev pub IsQuarter : List ℕ → ℕ → Type 0
-IsQuarter fraction q = 4 * number_of fraction ≡ q * 10 ^ length fraction
+IsQuarter fraction q = 4 * value_of_digits fraction ≡ q * 10 ^ length fraction
 
 -- a rack in quarters
 abbrev pub rack_quarters : Bool → List ℕ → ℕ → ℤ
-rack_quarters false whole q = pos (4 * number_of whole + q)
-rack_quarters true whole q = pos 0 -ℤ pos (4 * number_of whole + q)
+rack_quarters false whole q = pos (4 * value_of_digits whole + q)
+rack_quarters true whole q = pos 0 -ℤ pos (4 * value_of_digits whole + q)

@@ -18,8 +18,8 @@ use Rattle.knit_base.specs.declared.needle.Needle.{Needle}
 use Rattle.knit_base.specs.Needle.{is_front, is_slider}
 use Rattle.knit_base.specs.Reasons.{broken_if, or_else}
 use Rattle.knitout_reader.specs.Carriers.{carrier_rule, carriers_of}
-use Rattle.knitout_reader.specs.Numbers.{number_of, rack_quarters}
-use Rattle.knitout_reader.specs.Shapes.{Shape, Spells, CarryInShape, CarryOutShape, HookInShape, HookOutShape, ReleaseHookShape, StitchShape, PauseShape, ExtensionShape, RackShape, KnitShape, TuckShape, MissShape, SplitShape, XferShape, DropShape, AmissShape}
+use Rattle.knitout_reader.specs.Numbers.{value_of_digits, rack_quarters}
+use Rattle.knitout_reader.specs.Shapes.{Shape, TokensSpell, CarryInShape, CarryOutShape, HookInShape, HookOutShape, ReleaseHookShape, StitchShape, PauseShape, ExtensionShape, RackShape, KnitShape, TuckShape, MissShape, SplitShape, XferShape, DropShape, AmissShape}
 use Rattle.knitout_reader.specs.Tokens.{tokens_of, before_comment, has_comment}
 
 -- below the lowest needle or above the highest
@@ -50,7 +50,7 @@ not_opposite bed bed2 place = or_else (broken_if (are_one_side bed bed2) SameBed
 -- the rack is no multiple of a quarter, or it is beyond the limit, on either side
 abbrev pub rack_rule : Profile → List ℕ → Option ℕ → Option Reason
 rack_rule profile whole None = Some (record { rule = RackStep; at = 1 })
-rack_rule profile whole (Some q) = broken_if (nat_lt (4 * profile.rack) (4 * number_of whole + q)) RackLimit 1
+rack_rule profile whole (Some q) = broken_if (nat_lt (4 * profile.rack) (4 * value_of_digits whole + q)) RackLimit 1
 
 -- a needle, direction and carriers are at places 2, 1 and from 3 on, and a loop is formed
 abbrev pub loop_rule : Profile → List (List ℕ) → Bed → ℤ → List (List ℕ) → Option Reason
@@ -127,8 +127,8 @@ unreadable = broken_at Unreadable 0
 -- the tokens have a shape, and this is its reading, or they have none
 abbrev pub TokensReadAs : Profile → List (List ℕ) → List (List ℕ) → Read → Type 0
 TokensReadAs profile names tokens r =
-    ((shape : Shape) × Spells tokens shape × (r ≡ reading_of profile names shape))
-    ⊎ (((shape : Shape) → Spells tokens shape → ⊥) × (r ≡ unreadable))
+    ((shape : Shape) × TokensSpell tokens shape × (r ≡ reading_of profile names shape))
+    ⊎ (((shape : Shape) → TokensSpell tokens shape → ⊥) × (r ≡ unreadable))
 
 -- a line without tokens is a comment where it has one, and else it is blank
 abbrev pub CodeReadsAs : Profile → List (List ℕ) → List (List ℕ) → Bool → Read → Type 0

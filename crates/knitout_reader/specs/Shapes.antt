@@ -55,7 +55,7 @@ pub record IsDivided (word : List ℕ) (tokens : List (List ℕ)) (dir : Dir) (b
   pub second : BeginsWithNeedle others bed2 at2 carriers
 
 -- a word and two needles
-pub record IsMoved (word : List ℕ) (tokens : List (List ℕ)) (bed : Bed) (at : ℤ) (bed2 : Bed) (at2 : ℤ) : Type 0 where
+pub record IsTwoNeedleShape (word : List ℕ) (tokens : List (List ℕ)) (bed : Bed) (at : ℤ) (bed2 : Bed) (at2 : ℤ) : Type 0 where
   pub operands : List (List ℕ)
   pub others : List (List ℕ)
   pub spelled : tokens ≡ word ∷ operands
@@ -81,37 +81,37 @@ pub record IsRacked (word : List ℕ) (tokens : List (List ℕ)) (negative : Boo
   pub left : AreQuarters fraction quarters
 
 -- the tokens of the carriers that an operation names
-abbrev pub carriers_in : Shape → List (List ℕ)
-carriers_in (CarryInShape carriers) = carriers
-carriers_in (CarryOutShape carriers) = carriers
-carriers_in (HookInShape carriers) = carriers
-carriers_in (HookOutShape carriers) = carriers
-carriers_in (ReleaseHookShape carriers) = carriers
-carriers_in (KnitShape dir bed at carriers) = carriers
-carriers_in (TuckShape dir bed at carriers) = carriers
-carriers_in (MissShape dir bed at carriers) = carriers
-carriers_in (SplitShape dir bed at bed2 at2 carriers) = carriers
-carriers_in shape = []
+abbrev pub shape_carriers : Shape → List (List ℕ)
+shape_carriers (CarryInShape carriers) = carriers
+shape_carriers (CarryOutShape carriers) = carriers
+shape_carriers (HookInShape carriers) = carriers
+shape_carriers (HookOutShape carriers) = carriers
+shape_carriers (ReleaseHookShape carriers) = carriers
+shape_carriers (KnitShape dir bed at carriers) = carriers
+shape_carriers (TuckShape dir bed at carriers) = carriers
+shape_carriers (MissShape dir bed at carriers) = carriers
+shape_carriers (SplitShape dir bed at bed2 at2 carriers) = carriers
+shape_carriers shape = []
 
 -- the tokens have this shape
-abbrev pub Spells : List (List ℕ) → Shape → Type 0
-Spells tokens (CarryInShape carriers) = AreCarried (codes "in") tokens carriers
-Spells tokens (CarryOutShape carriers) = AreCarried (codes "out") tokens carriers
-Spells tokens (HookInShape carriers) = AreCarried (codes "inhook") tokens carriers
-Spells tokens (HookOutShape carriers) = AreCarried (codes "outhook") tokens carriers
-Spells tokens (ReleaseHookShape carriers) = AreCarried (codes "releasehook") tokens carriers
-Spells tokens (StitchShape free) = tokens ≡ codes "stitch" ∷ free
-Spells tokens (PauseShape free) = tokens ≡ codes "pause" ∷ free
-Spells tokens (ExtensionShape name free) = tokens ≡ (codes "x-" ++ name) ∷ free
-Spells tokens (RackShape negative whole quarters) = IsRacked (codes "rack") tokens negative whole quarters
-Spells tokens (KnitShape dir bed at carriers) = IsFormed (codes "knit") tokens dir bed at carriers
-Spells tokens (TuckShape dir bed at carriers) = IsFormed (codes "tuck") tokens dir bed at carriers
-Spells tokens (MissShape dir bed at carriers) = IsFormed (codes "miss") tokens dir bed at carriers
-Spells tokens (SplitShape dir bed at bed2 at2 carriers) = IsDivided (codes "split") tokens dir bed at bed2 at2 carriers
-Spells tokens (XferShape bed at bed2 at2) = IsMoved (codes "xfer") tokens bed at bed2 at2
-Spells tokens (DropShape bed at) = IsNamed (codes "drop") tokens bed at
-Spells tokens (AmissShape bed at) = IsNamed (codes "amiss") tokens bed at
+abbrev pub TokensSpell : List (List ℕ) → Shape → Type 0
+TokensSpell tokens (CarryInShape carriers) = AreCarried (codes "in") tokens carriers
+TokensSpell tokens (CarryOutShape carriers) = AreCarried (codes "out") tokens carriers
+TokensSpell tokens (HookInShape carriers) = AreCarried (codes "inhook") tokens carriers
+TokensSpell tokens (HookOutShape carriers) = AreCarried (codes "outhook") tokens carriers
+TokensSpell tokens (ReleaseHookShape carriers) = AreCarried (codes "releasehook") tokens carriers
+TokensSpell tokens (StitchShape free) = tokens ≡ codes "stitch" ∷ free
+TokensSpell tokens (PauseShape free) = tokens ≡ codes "pause" ∷ free
+TokensSpell tokens (ExtensionShape name free) = tokens ≡ (codes "x-" ++ name) ∷ free
+TokensSpell tokens (RackShape negative whole quarters) = IsRacked (codes "rack") tokens negative whole quarters
+TokensSpell tokens (KnitShape dir bed at carriers) = IsFormed (codes "knit") tokens dir bed at carriers
+TokensSpell tokens (TuckShape dir bed at carriers) = IsFormed (codes "tuck") tokens dir bed at carriers
+TokensSpell tokens (MissShape dir bed at carriers) = IsFormed (codes "miss") tokens dir bed at carriers
+TokensSpell tokens (SplitShape dir bed at bed2 at2 carriers) = IsDivided (codes "split") tokens dir bed at bed2 at2 carriers
+TokensSpell tokens (XferShape bed at bed2 at2) = IsTwoNeedleShape (codes "xfer") tokens bed at bed2 at2
+TokensSpell tokens (DropShape bed at) = IsNamed (codes "drop") tokens bed at
+TokensSpell tokens (AmissShape bed at) = IsNamed (codes "amiss") tokens bed at
 
 -- The operation that the tokens spell, if they spell one, names at most four carriers.
 abbrev pub NameFewCarriers : List (List ℕ) → Type 0
-NameFewCarriers tokens = (shape : Shape) → Spells tokens shape → length (carriers_in shape) ≤ 4
+NameFewCarriers tokens = (shape : Shape) → TokensSpell tokens shape → length (shape_carriers shape) ≤ 4

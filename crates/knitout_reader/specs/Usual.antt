@@ -14,7 +14,7 @@ use Rattle.knit_base.specs.Spelling.{bed_word, dir_word}
 use Rattle.knit_base.specs.Usual.{usual_read}
 use Rattle.knitout_reader.specs.declared.byte_names.ByteNames.{ByteNames}
 use Rattle.knitout_reader.specs.declared.whole_line.LastNamed.{LastNamed}
-use Rattle.knitout_reader.specs.Numbers.{AreDigits, number_of}
+use Rattle.knitout_reader.specs.Numbers.{AreDigits, value_of_digits}
 use Rattle.knitout_reader.specs.Reading.{ReadsAs}
 use Rattle.knitout_reader.specs.Tokens.{is_blank}
 
@@ -43,8 +43,8 @@ abbrev pub pair_text : ℕ → List ℕ
 pair_text n = (48 + n / 10) ∷ (48 + n % 10) ∷ []
 
 -- the byte that was kept is the name of the carrier that was kept, if one was
-abbrev pub KnowsLast : List (List ℕ) → LastNamed → Type 0
-KnowsLast names last = IfSome last.carrier (λ c. IsByteName names last.byte c.0)
+abbrev pub KnowsLastCarrier : List (List ℕ) → LastNamed → Type 0
+KnowsLastCarrier names last = IfSome last.carrier (λ c. IsByteName names last.byte c.0)
 
 -- this number in two digits is the name of this carrier
 pub record IsPairName (names : List (List ℕ)) (pair number : ℕ) : Type 0 where
@@ -79,7 +79,7 @@ pub record BeginsWithUsualNumber (text : List ℕ) (at : ℤ) (end : ℕ) (rest 
   pub digits : List ℕ
   pub are : AreDigits digits
   pub few : length digits ≤ 3
-  pub at_is : at ≡ pos (number_of digits)
+  pub at_is : at ≡ pos (value_of_digits digits)
   pub text_is : text ≡ digits ++ end ∷ rest
 
 -- the text begins with a needle on a hook of the bed that is spelt with such a number, and this byte

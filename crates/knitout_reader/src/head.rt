@@ -5,7 +5,7 @@ ghost use Rattle.std.specs.Str.{bytes_eq};
 ghost use Rattle.knit_base.specs.Lines.{IsLine};
 ghost use Rattle.knitout_reader.specs.Tokens.{tokens_of};
 ghost use Rattle.knitout_reader.specs.declared.head.HeadFault.TheVariants as refused;
-ghost use Rattle.knitout_reader.specs.Head.{is_magic, is_head_line, is_carriers_line, carriers_word, has_name_twice, names_declared, names_in_line, IsHead, IsHeadFault, IsRefusal, IsNamesText};
+ghost use Rattle.knitout_reader.specs.Head.{is_magic, is_head_line, is_carriers_line, carriers_word, has_name_twice, names_declared, names_in_line, IsHead, IsHeadFault, IsHeadRefusal, IsNamesText};
 
 use crate::body::nth_line;
 use crate::head_reader::HeadReader;
@@ -128,7 +128,7 @@ pub fn declared_in(alloc: Global, line: &str) -> Result<Option<Declared>, NoMemo
 // The carriers that the header at this line declares.
 pub(crate) fn read_names(alloc: Global, text: &[u8], line: u32) -> Result<Declared, HeadFault>
     requires { IsNamesText text.now }
-    ensures names { let answer = names_declared (record { line = line; names = tokens_of text.now }) in MatchResult result (λ declared. answer ≡ Ok declared) (λ fault. IsRefusal answer fault) }
+    ensures names { let answer = names_declared (record { line = line; names = tokens_of text.now }) in MatchResult result (λ declared. answer ≡ Ok declared) (λ fault. IsHeadRefusal answer fault) }
 {
     if has_name_twice(text) {
         return Err(HeadFault::CarrierNameTwice { line });

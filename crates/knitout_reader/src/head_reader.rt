@@ -3,7 +3,7 @@ ghost use Rattle.std.specs.Prelude.{◌≡◌, ◌≢◌, ◌+◌, ◌<◌, ◌^
 ghost use Rattle.knit_base.specs.Lines.{IsLine};
 ghost use Rattle.knitout_reader.specs.Tokens.{tokens_of};
 ghost use Rattle.knitout_reader.specs.Head.{CarriersHeader, carriers_headers, is_head_line, one_declared};
-ghost use Rattle.knitout_reader.specs.Head.{IsHead, IsHeadFault, IsNamesText, IsRefusal};
+ghost use Rattle.knitout_reader.specs.Head.{IsHead, IsHeadFault, IsNamesText, IsHeadRefusal};
 ghost use Rattle.knitout_reader.specs.HeadLines.{AreBehindHead, AreHeaders, HasHeadLines};
 
 use crate::head::{Head, HeadFault, is_head_line, is_magic, names_text, read_names};
@@ -115,7 +115,7 @@ impl Headers {
             → one_declared headers ≡ Ok head.declared) }
         ensures len { IfOk result (λ head. head.lines ≡ lines) }
         ensures fault { IfErr result (λ fault. (headers : List CarriersHeader) → AreHeaders headers self
-            → IsRefusal (one_declared headers) fault) }
+            → IsHeadRefusal (one_declared headers) fault) }
         ensures named { IfErr result (λ fault. (headers : List CarriersHeader) → AreHeaders headers self → fault ≢ HeadFault.NoMemory) }
     {
         match self {

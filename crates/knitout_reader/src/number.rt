@@ -1,7 +1,7 @@
 //! Numbers and needles, as tokens spell them.
 ghost use Rattle.std.specs.Prelude.{◌≡◌, ◌+◌, ◌-◌, ◌*◌, ◌<◌, min, All, MatchOption, List, ℕ, ◌≢◌, ◌∷◌};
 ghost use Rattle.std.specs.Prelude.{ℤ};
-ghost use Rattle.knitout_reader.specs.Numbers.{AreDigits, IsDigit, IsNear, IsNeedle, IsSigned, number_of};
+ghost use Rattle.knitout_reader.specs.Numbers.{AreDigits, IsDigit, IsNear, IsNeedle, IsSigned, value_of_digits};
 ghost use Rattle.knit_base.specs.declared.needle.Bed.{Bed};
 
 use knit_base::Bed;
@@ -68,7 +68,7 @@ pub(crate) fn signed(text: &[u8]) -> Option<i32>
 
 /// The number that the digits spell, or `FAR` where it is greater. `None` where the text is empty or has another byte.
 pub(crate) fn number(digits: &[u8]) -> Option<u32>
-    ensures { MatchOption result (¬ AreDigits digits.now) (λ n. AreDigits digits.now × (n ≡ min (number_of digits.now) FAR)) }
+    ensures { MatchOption result (¬ AreDigits digits.now) (λ n. AreDigits digits.now × (n ≡ min (value_of_digits digits.now) FAR)) }
 {
     if digits.is_empty() {
         return None;
@@ -78,7 +78,7 @@ pub(crate) fn number(digits: &[u8]) -> Option<u32>
 
 // The number of none or more digits, or `FAR` where it is greater.
 pub(crate) fn value_of(digits: &[u8]) -> Option<u32>
-    ensures { MatchOption result (¬ All IsDigit digits.now) (λ n. All IsDigit digits.now × (n ≡ min (number_of digits.now) FAR)) }
+    ensures { MatchOption result (¬ All IsDigit digits.now) (λ n. All IsDigit digits.now × (n ≡ min (value_of_digits digits.now) FAR)) }
 {
     let mut value = 0;
     for digit in digits {

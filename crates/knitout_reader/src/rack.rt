@@ -1,6 +1,6 @@
 //! Racks, as tokens spell them.
 ghost use Rattle.std.specs.Prelude.{◌≡◌, ◌+◌, ◌-◌, ◌*◌, ◌<◌, ◌↔◌, min, List, ℕ, Bool, [], ◌∷◌, ◌++◌, All, MatchOption, IsTrue, nat_lt};
-ghost use Rattle.knitout_reader.specs.Numbers.{IsDecimal, IsDigit, IsNoPoint, IsQuarter, IsRack, number_of};
+ghost use Rattle.knitout_reader.specs.Numbers.{IsDecimal, IsDigit, IsNoPoint, IsQuarter, IsRack, value_of_digits};
 
 use crate::number::{FAR, after, number, value_of};
 
@@ -20,7 +20,7 @@ pub(crate) struct RackToken {
 pub(crate) fn rack(token: &[u8]) -> Option<RackToken>
     ensures { MatchOption result
         ((negative : Bool) (whole fraction : List ℕ) → IsRack token.now negative whole fraction → ⊥)
-        (λ r. (whole : List ℕ) × (fraction : List ℕ) × IsRack token.now r.negative whole fraction × (r.whole ≡ min (number_of whole) FAR)
+        (λ r. (whole : List ℕ) × (fraction : List ℕ) × IsRack token.now r.negative whole fraction × (r.whole ≡ min (value_of_digits whole) FAR)
         × MatchOption r.quarter ((q : ℕ) → IsQuarter fraction q → ⊥) (λ q. IsQuarter fraction q)) }
 {
     if let Some(text) = after(token, b'-') {
@@ -36,7 +36,7 @@ pub(crate) fn rack(token: &[u8]) -> Option<RackToken>
 fn unsigned(negative: bool, text: &[u8]) -> Option<RackToken>
     ensures { MatchOption result
         ((whole fraction : List ℕ) → IsDecimal text.now whole fraction → ⊥)
-        (λ r. (r.negative ≡ negative) × ((whole : List ℕ) × (fraction : List ℕ) × IsDecimal text.now whole fraction × (r.whole ≡ min (number_of whole) FAR)
+        (λ r. (r.negative ≡ negative) × ((whole : List ℕ) × (fraction : List ℕ) × IsDecimal text.now whole fraction × (r.whole ≡ min (value_of_digits whole) FAR)
         × MatchOption r.quarter ((q : ℕ) → IsQuarter fraction q → ⊥) (λ q. IsQuarter fraction q))) }
 {
     let Some((front, fraction)) = split_at_point(text) else {
@@ -102,7 +102,7 @@ fn quarter(fraction: &[u8]) -> Option<u8>
 // Whether the digits are more than zeros.
 fn has_value(digits: &[u8]) -> bool
     requires { All IsDigit digits.now }
-    ensures { result ≡ nat_lt 0 (number_of digits.now) }
+    ensures { result ≡ nat_lt 0 (value_of_digits digits.now) }
 {
     match value_of(digits) {
         Some(value) => value != 0,

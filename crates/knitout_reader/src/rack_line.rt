@@ -1,7 +1,7 @@
 //! The operation that racks the beds.
 ghost use Rattle.std.specs.Prelude.{◌≡◌, ◌∷◌, ◌≤◌, ℕ, List, codes, min};
 ghost use Rattle.knit_base.specs.declared.instr.Instr.TheVariants as instr;
-ghost use Rattle.knitout_reader.specs.Numbers.{number_of};
+ghost use Rattle.knitout_reader.specs.Numbers.{value_of_digits};
 ghost use Rattle.knitout_reader.specs.Reading.{TokensReadAs, rack_rule, reading_or, quarters_of};
 ghost use Rattle.knitout_reader.specs.Tokens.{tokens_of};
 
@@ -30,7 +30,7 @@ pub(crate) fn read_rack(code: &[u8], profile: &Profile) -> Read
 // What a `rack` of this shape says.
 fn rack_reading(rack: RackToken, profile: &Profile) -> Read
     requires { rack.whole ≤ FAR }
-    ensures { (whole : List ℕ) → rack.whole ≡ min (number_of whole) FAR → result ≡ reading_or (rack_rule profile.now whole rack.quarter) (instr.Rack (quarters_of rack.negative whole rack.quarter)) }
+    ensures { (whole : List ℕ) → rack.whole ≡ min (value_of_digits whole) FAR → result ≡ reading_or (rack_rule profile.now whole rack.quarter) (instr.Rack (quarters_of rack.negative whole rack.quarter)) }
 {
     let Some(quarter) = rack.quarter else {
         return broken(Rule::RackStep, 1);

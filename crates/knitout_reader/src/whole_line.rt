@@ -8,7 +8,7 @@ ghost use Rattle.knit_base.specs.Lawful.{IsLawfulRead};
 ghost use Rattle.knit_base.specs.Usual.{usual_read};
 ghost use Rattle.knitout_reader.specs.Numbers.{IsDigit};
 ghost use Rattle.knitout_reader.specs.Reading.{ReadsAs};
-ghost use Rattle.knitout_reader.specs.Usual.{BeginsWithUsualName, BeginsWithUsualNeedle, BeginsWithUsualNeedles, BeginsWithUsualNumber, BeginsWithUsualOperands, IsByteName, IsShortToken, IsTokenByte, KnowsLast};
+ghost use Rattle.knitout_reader.specs.Usual.{BeginsWithUsualName, BeginsWithUsualNeedle, BeginsWithUsualNeedles, BeginsWithUsualNumber, BeginsWithUsualOperands, IsByteName, IsShortToken, IsTokenByte, KnowsLastCarrier};
 
 use crate::usual::{
     behind_four, behind_space, digit, direction_and_bed, hook_bed, needle_on, usual_needle,
@@ -25,7 +25,7 @@ pub struct LastNamed {
 impl LastNamed {
     /// No line has named a carrier.
     pub fn none() -> Self
-        ensures { (names : List (List ℕ)) → KnowsLast names result }
+        ensures { (names : List (List ℕ)) → KnowsLastCarrier names result }
     {
         LastNamed {
             byte: 0,
@@ -36,9 +36,9 @@ impl LastNamed {
     // The carrier that this byte names alone.
     #[inline(always)]
     fn find(&mut self, byte: u8, declared: &Declared) -> Option<CarrierNo>
-        requires { KnowsLast declared.now self.old }
+        requires { KnowsLastCarrier declared.now self.old }
         ensures name { IfSome result (λ c. IsByteName declared.now byte c.0) }
-        ensures last { KnowsLast declared.now self.new }
+        ensures last { KnowsLastCarrier declared.now self.new }
     {
         if byte == self.byte && self.carrier.is_some() {
             return self.carrier;
@@ -49,9 +49,9 @@ impl LastNamed {
     // The same of a byte that wasn't the last one.
     #[inline(never)]
     fn look_up(&mut self, byte: u8, declared: &Declared) -> Option<CarrierNo>
-        requires { KnowsLast declared.now self.old }
+        requires { KnowsLastCarrier declared.now self.old }
         ensures name { IfSome result (λ c. IsByteName declared.now byte c.0) }
-        ensures last { KnowsLast declared.now self.new }
+        ensures last { KnowsLastCarrier declared.now self.new }
     {
         if !is_plain(byte) {
             return None;
@@ -72,8 +72,8 @@ pub fn usual_whole_line(
     declared: &Declared,
     last: &mut LastNamed,
 ) -> Option<Usual>
-    requires { KnowsLast declared.now last.old }
-    ensures last { KnowsLast declared.now last.new }
+    requires { KnowsLastCarrier declared.now last.old }
+    ensures last { KnowsLastCarrier declared.now last.new }
     ensures reads { IfSome result (λ usual. ReadsAs profile.now declared.now line.now (usual_read usual)) }
     ensures only { IfSome result (λ usual. (other : Read) → ReadsAs profile.now declared.now line.now other → other ≡ usual_read usual) }
     ensures lawful { IfSome result (λ usual. IsLawfulRead profile.now (length declared.now) (usual_read usual)) }
@@ -99,8 +99,8 @@ fn whole_operands(
     declared: &Declared,
     last: &mut LastNamed,
 ) -> Option<(Dir, Needle, CarrierNo)>
-    requires { KnowsLast declared.now last.old }
-    ensures last { KnowsLast declared.now last.new }
+    requires { KnowsLastCarrier declared.now last.old }
+    ensures last { KnowsLastCarrier declared.now last.new }
     ensures operands { IfSome result (λ found. BeginsWithUsualOperands profile.now declared.now (text.now ++ 10 ∷ []) found.0 found.1 found.2 []) }
 {
     let (dir, bed, behind) = direction_and_bed(text)?;
@@ -112,8 +112,8 @@ fn whole_operands(
 // The carrier of this name.
 #[inline(always)]
 fn whole_name(name: &[u8], declared: &Declared, last: &mut LastNamed) -> Option<CarrierNo>
-    requires { KnowsLast declared.now last.old }
-    ensures last { KnowsLast declared.now last.new }
+    requires { KnowsLastCarrier declared.now last.old }
+    ensures last { KnowsLastCarrier declared.now last.new }
     ensures name { IfSome result (λ c. BeginsWithUsualName declared.now (name.now ++ 10 ∷ []) c []) }
 {
     if let Some(byte) = only_byte(name) {

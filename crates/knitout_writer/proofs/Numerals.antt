@@ -11,13 +11,13 @@ use Rattle.knit_base.proofs.Places.{by_test}
 use Rattle.knitout_reader.specs.Tokens.{is_blank, is_semicolon}
 use Rattle.knitout_writer.proofs.SpacedTokens.{IsWordByte}
 use Rattle.std.proofs.lemmas.Bool.{eqb-true}
-use Rattle.knitout_reader.specs.Numbers.{IsDigit, IsSigned, IsNeedle, number_of}
+use Rattle.knitout_reader.specs.Numbers.{IsDigit, IsSigned, IsNeedle, value_of_digits}
 
 -- the digits spell the number
 pub record Spell (n : ℕ) (digits : List ℕ) : Type 0 where
   pub some : 0 < length digits
   pub each : All IsDigit digits
-  pub value : number_of digits ≡ n
+  pub value : value_of_digits digits ≡ n
 
 one_digit : (n : ℕ) → n < 10 → Spell n ((48 + n) ∷ [])
 one_digit n small = record { some = omega arith; each = All-cons IsDigit (48 + n) [] (omega arith, omega arith) (All-nil IsDigit); value = omega arith }

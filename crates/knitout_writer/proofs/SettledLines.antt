@@ -18,13 +18,13 @@ use Rattle.knit_base.specs.declared.rule.Reason.{Reason}
 use Rattle.knit_base.specs.declared.rule.Rule.TheVariants.{RackLimit}
 use Rattle.knit_base.specs.Reasons.{broken_if}
 use Rattle.knit_base.proofs.Places.{by_test}
-use Rattle.knitout_reader.specs.Numbers.{IsDecimal, IsDigit, IsQuarter, number_of}
-use Rattle.knitout_reader.specs.Shapes.{Shape, Spells, BeginsWithNeedle, IsFormed, CarryInShape, CarryOutShape, HookInShape, HookOutShape, ReleaseHookShape, StitchShape, PauseShape, ExtensionShape, RackShape, KnitShape, TuckShape, MissShape, SplitShape, XferShape, DropShape, AmissShape}
+use Rattle.knitout_reader.specs.Numbers.{IsDecimal, IsDigit, IsQuarter, value_of_digits}
+use Rattle.knitout_reader.specs.Shapes.{Shape, TokensSpell, BeginsWithNeedle, IsFormed, CarryInShape, CarryOutShape, HookInShape, HookOutShape, ReleaseHookShape, StitchShape, PauseShape, ExtensionShape, RackShape, KnitShape, TuckShape, MissShape, SplitShape, XferShape, DropShape, AmissShape}
 use Rattle.knitout_reader.specs.Tokens.{tokens_of, before_comment, has_comment}
-use Rattle.knitout_writer.specs.Canonical.{canonical, canonical_tokens, carrier_names, IsSettled, comment_behind, comment_of, spaced}
+use Rattle.knitout_writer.specs.Canonical.{canonical, canonical_tokens, carrier_names, IsStableSpelling, comment_behind, comment_of, tokens_spaced}
 use Rattle.knitout_writer.proofs.Numerals.{IsSmall, Spell, decimal_spells, digit_byte, needle_spells}
-use Rattle.knitout_writer.proofs.SpacedTokens.{IsWord, IsWordByte, IsRespaced, respaced}
-use Rattle.knitout_reader.proofs.Rules.{neither, unbroken}
+use Rattle.knitout_writer.proofs.SpacedTokens.{IsWord, IsWordByte, IsRespaced, spaced_words_canonical}
+use Rattle.knitout_reader.proofs.Rules.{neither_reason, unbroken_test_fails}
 use Rattle.knitout_writer.proofs.Words.{carriers_back, decimal_bytes, line_words, needle_word, sign_word}
 
 -- the canonical tokens of an instruction read as the instruction, and are their own canonical tokens
@@ -48,7 +48,7 @@ not_below a b e = grind (arith, ints)
 
 small_at : (profile : Profile) (place : ℕ) (at : ℤ) → IsLawfulProfile profile → off_bed profile place at ≡ None → IsSmall at
 small_at profile place at lawful none =
-    let within : (int_lt at profile.low ≡ false) × (int_lt profile.high at ≡ false) = or_false _ _ (unbroken _ _ _ none) in
+    let within : (int_lt at profile.low ≡ false) × (int_lt profile.high at ≡ false) = or_false _ _ (unbroken_test_fails _ _ _ none) in
     let low : profile.low ≤ℤ at = not_below _ _ within.0 in
     let high : at ≤ℤ profile.high = not_below _ _ within.1 in
     record { low = omega (arith, ints, lawful.lowest); high = omega (arith, ints, lawful.highest) }
@@ -153,7 +153,7 @@ settled_up : (profile : Profile) (names tokens : List (List ℕ)) (m : ℕ) → 
 settled_up profile names tokens m within few =
     let spell : Spell (m / 4) (decimal (m / 4)) = decimal_spells (m / 4) (omega arith) in
     let left : IsQuartered (decimal (m / 4)) (m % 4) = quartered (decimal (m / 4)) (m % 4) (omega arith) spell.some spell.each in
-    let value : 4 * number_of (decimal (m / 4)) + m % 4 ≡ m = omega (arith, spell.value) in
+    let value : 4 * value_of_digits (decimal (m / 4)) + m % 4 ≡ m = omega (arith, spell.value) in
     record {
       first = codes "rack";
       others = quarters_text m ∷ [];
@@ -163,7 +163,7 @@ settled_up profile names tokens m within few =
           inl (
             RackShape false (decimal (m / 4)) (Some (m % 4)),
             record { token = quarters_text m; fraction = fraction_of (m % 4); spelled = refl; named = ([], quarters_text m, refl, inl refl, left.spelled); left = left.value },
-            rack_reading profile m (4 * number_of (decimal (m / 4)) + m % 4) pos within value,
+            rack_reading profile m (4 * value_of_digits (decimal (m / 4)) + m % 4) pos within value,
           );
       again = refl;
     }
@@ -172,7 +172,7 @@ settled_down : (profile : Profile) (names tokens : List (List ℕ)) (k : ℕ) �
 settled_down profile names tokens k within few =
     let spell : Spell (suc k / 4) (decimal (suc k / 4)) = decimal_spells (suc k / 4) (omega arith) in
     let left : IsQuartered (decimal (suc k / 4)) (suc k % 4) = quartered (decimal (suc k / 4)) (suc k % 4) (omega arith) spell.some spell.each in
-    let value : 4 * number_of (decimal (suc k / 4)) + suc k % 4 ≡ suc k = omega (arith, spell.value) in
+    let value : 4 * value_of_digits (decimal (suc k / 4)) + suc k % 4 ≡ suc k = omega (arith, spell.value) in
     let minus : negsuc k ≡ pos 0 -ℤ pos (suc k) = omega (arith, ints) in
     let text : IsWord (quarters_text (suc k)) = quarters_bytes (suc k) (omega arith) left.bytes in
     let whole : IsWord (45 ∷ quarters_text (suc k)) = record { some = omega arith; bytes = sign_word (quarters_text (suc k)) text.bytes } in
@@ -186,7 +186,7 @@ settled_down profile names tokens k within few =
             RackShape true (decimal (suc k / 4)) (Some (suc k % 4)),
             record { token = 45 ∷ quarters_text (suc k); fraction = fraction_of (suc k % 4); spelled = refl; named = (codes "-", quarters_text (suc k), refl, refl, left.spelled); left = left.value },
             ap (λ z. read.Instr (instr.Rack (record { 0 = z }))) minus
-                ∙ rack_reading profile (suc k) (4 * number_of (decimal (suc k / 4)) + suc k % 4) (λ n. pos 0 -ℤ pos n) within value,
+                ∙ rack_reading profile (suc k) (4 * value_of_digits (decimal (suc k / 4)) + suc k % 4) (λ n. pos 0 -ℤ pos n) within value,
           );
       again = refl;
     }
@@ -203,12 +203,12 @@ settled_rack : (profile : Profile) (names tokens : List (List ℕ)) (negative : 
     → static_rule profile names (RackShape negative whole quarters) ≡ None → Settled profile names tokens (instr_of names (RackShape negative whole quarters))
 settled_rack profile names tokens negative whole None lawful none = cc
 settled_rack profile names tokens false whole (Some q) lawful none =
-    settled_up profile names tokens (4 * number_of whole + q) (not_less _ _ (unbroken _ _ _ none)) lawful.rack
+    settled_up profile names tokens (4 * value_of_digits whole + q) (not_less _ _ (unbroken_test_fails _ _ _ none)) lawful.rack
 settled_rack profile names tokens true whole (Some q) lawful none =
-    settled_minus profile names tokens (4 * number_of whole + q) (not_less _ _ (unbroken _ _ _ none)) lawful.rack
+    settled_minus profile names tokens (4 * value_of_digits whole + q) (not_less _ _ (unbroken_test_fails _ _ _ none)) lawful.rack
 
 -- each instruction settles
-settled : (profile : Profile) (names tokens : List (List ℕ)) (shape : Shape) → IsLawfulProfile profile → Spells tokens shape → static_rule profile names shape ≡ None → All IsWord tokens
+settled : (profile : Profile) (names tokens : List (List ℕ)) (shape : Shape) → IsLawfulProfile profile → TokensSpell tokens shape → static_rule profile names shape ≡ None → All IsWord tokens
     → Settled profile names tokens (instr_of names shape)
 settled profile names tokens (CarryInShape carriers) lawful spelt none are =
     let back : carrier_names names (carriers_of names carriers) ≡ carriers = carriers_back names carriers 1 none in
@@ -286,9 +286,9 @@ settled profile names tokens (ExtensionShape name free) lawful spelt none are = 
 }
 settled profile names tokens (RackShape negative whole quarters) lawful spelt none are = settled_rack profile names tokens negative whole quarters lawful none
 settled profile names tokens (KnitShape dir bed at carriers) lawful spelt none are =
-    let both = neither (off_bed profile 2 at) _ none in
+    let both = neither_reason (off_bed profile 2 at) _ none in
     let small : IsSmall at = small_at profile 2 at lawful both.0 in
-    let back : carrier_names names (carriers_of names carriers) ≡ carriers = carriers_back names carriers 3 (neither _ _ both.1).1 in
+    let back : carrier_names names (carriers_of names carriers) ≡ carriers = carriers_back names carriers 3 (neither_reason _ _ both.1).1 in
     record {
       first = codes "knit";
       others = dir_word dir ∷ needle_text (needle_on bed at) ∷ carriers;
@@ -298,9 +298,9 @@ settled profile names tokens (KnitShape dir bed at carriers) lawful spelt none a
       again = ap (λ cs. codes "knit" ∷ dir_word dir ∷ needle_text (needle_on bed at) ∷ cs) back;
     }
 settled profile names tokens (TuckShape dir bed at carriers) lawful spelt none are =
-    let both = neither (off_bed profile 2 at) _ none in
+    let both = neither_reason (off_bed profile 2 at) _ none in
     let small : IsSmall at = small_at profile 2 at lawful both.0 in
-    let back : carrier_names names (carriers_of names carriers) ≡ carriers = carriers_back names carriers 3 (neither _ _ both.1).1 in
+    let back : carrier_names names (carriers_of names carriers) ≡ carriers = carriers_back names carriers 3 (neither_reason _ _ both.1).1 in
     record {
       first = codes "tuck";
       others = dir_word dir ∷ needle_text (needle_on bed at) ∷ carriers;
@@ -310,7 +310,7 @@ settled profile names tokens (TuckShape dir bed at carriers) lawful spelt none a
       again = ap (λ cs. codes "tuck" ∷ dir_word dir ∷ needle_text (needle_on bed at) ∷ cs) back;
     }
 settled profile names tokens (MissShape dir bed at carriers) lawful spelt none are =
-    let both = neither (off_bed profile 2 at) _ none in
+    let both = neither_reason (off_bed profile 2 at) _ none in
     let small : IsSmall at = small_at profile 2 at lawful both.0 in
     let back : carrier_names names (carriers_of names carriers) ≡ carriers = carriers_back names carriers 3 both.1 in
     record {
@@ -322,11 +322,11 @@ settled profile names tokens (MissShape dir bed at carriers) lawful spelt none a
       again = ap (λ cs. codes "miss" ∷ dir_word dir ∷ needle_text (needle_on bed at) ∷ cs) back;
     }
 settled profile names tokens (SplitShape dir bed at bed2 at2 carriers) lawful spelt none are =
-    let both = neither (off_bed profile 2 at) _ none in
-    let second = neither (off_bed profile 3 at2) _ both.1 in
+    let both = neither_reason (off_bed profile 2 at) _ none in
+    let second = neither_reason (off_bed profile 3 at2) _ both.1 in
     let small : IsSmall at = small_at profile 2 at lawful both.0 in
     let small2 : IsSmall at2 = small_at profile 3 at2 lawful second.0 in
-    let back : carrier_names names (carriers_of names carriers) ≡ carriers = carriers_back names carriers 4 (neither _ _ (neither _ _ second.1).1).1 in
+    let back : carrier_names names (carriers_of names carriers) ≡ carriers = carriers_back names carriers 4 (neither_reason _ _ (neither_reason _ _ second.1).1).1 in
     let all : All IsWord (codes "split" ∷ dir_word dir ∷ spelt.operands) = subst (All IsWord) spelt.spelled are in
     let operands : All IsWord (dir_word dir ∷ spelt.operands) = All-tail IsWord (codes "split") (dir_word dir ∷ spelt.operands) all in
     let others_are : All IsWord spelt.others = behind spelt.operands bed at spelt.others spelt.first (All-tail IsWord (dir_word dir) spelt.operands operands) in
@@ -354,8 +354,8 @@ settled profile names tokens (SplitShape dir bed at bed2 at2 carriers) lawful sp
       again = ap (λ cs. codes "split" ∷ dir_word dir ∷ needle_text (needle_on bed at) ∷ needle_text (needle_on bed2 at2) ∷ cs) back;
     }
 settled profile names tokens (XferShape bed at bed2 at2) lawful spelt none are =
-    let both = neither (off_bed profile 1 at) _ none in
-    let second = neither (off_bed profile 2 at2) _ both.1 in
+    let both = neither_reason (off_bed profile 1 at) _ none in
+    let second = neither_reason (off_bed profile 2 at2) _ both.1 in
     let small : IsSmall at = small_at profile 1 at lawful both.0 in
     let small2 : IsSmall at2 = small_at profile 2 at2 lawful second.0 in
     record {
@@ -401,7 +401,7 @@ settled profile names tokens (AmissShape bed at) lawful spelt none are =
     }
 
 found : (profile : Profile) (names tokens : List (List ℕ)) (i : Instr) (shape : Shape) (reason : Option Reason) → static_rule profile names shape ≡ reason → read.Instr i ≡ reading_or reason (instr_of names shape)
-    → IsLawfulProfile profile → Spells tokens shape → All IsWord tokens → Settled profile names tokens i
+    → IsLawfulProfile profile → TokensSpell tokens shape → All IsWord tokens → Settled profile names tokens i
 found profile names tokens i shape None none is lawful spelt are =
     let same : instr_of names shape ≡ i = cc in
     subst (Settled profile names tokens) same (settled profile names tokens shape lawful spelt none are)
@@ -410,9 +410,9 @@ found profile names tokens i shape (Some reason) broken is lawful spelt are = cc
 settled_tokens : (profile : Profile) (names tokens : List (List ℕ)) (i : Instr) → IsLawfulProfile profile → All IsWord tokens → TokensReadAs profile names tokens (read.Instr i) → Settled profile names tokens i
 settled_tokens profile names tokens i lawful are reads =
     ⊎_elim
-    (λ (shaped : (shape : Shape) × Spells tokens shape × (read.Instr i ≡ reading_of profile names shape)).
+    (λ (shaped : (shape : Shape) × TokensSpell tokens shape × (read.Instr i ≡ reading_of profile names shape)).
     found profile names tokens i shaped.0 (static_rule profile names shaped.0) refl shaped.2 lawful shaped.1 are)
-    (λ (none : ((shape : Shape) → Spells tokens shape → ⊥) × (read.Instr i ≡ unreadable)). let other : read.Instr i ≡ unreadable = none.1 in cc)
+    (λ (none : ((shape : Shape) → TokensSpell tokens shape → ⊥) × (read.Instr i ≡ unreadable)). let other : read.Instr i ≡ unreadable = none.1 in cc)
     reads
 
 settled_code : (profile : Profile) (names tokens : List (List ℕ)) (comment : Bool) (i : Instr) → IsLawfulProfile profile → All IsWord tokens → CodeReadsAs profile names tokens comment (read.Instr i) → Settled profile names tokens i
@@ -422,20 +422,20 @@ settled_code profile names (token ∷ tokens) comment i lawful are reads = settl
 
 -- a line whose tokens and comment are these reads as the instruction, and is written as it is
 rewritten : (profile : Profile) (names : List (List ℕ)) (line new first : List ℕ) (others : List (List ℕ)) (i : Instr) → IsRespaced line new (first ∷ others)
-    → TokensReadAs profile names (first ∷ others) (read.Instr i) → canonical_tokens names i (first ∷ others) ≡ first ∷ others → new ≡ spaced (first ∷ others) ++ comment_behind (comment_of line)
+    → TokensReadAs profile names (first ∷ others) (read.Instr i) → canonical_tokens names i (first ∷ others) ≡ first ∷ others → new ≡ tokens_spaced (first ∷ others) ++ comment_behind (comment_of line)
     → ReadsAs profile names new (read.Instr i) × (canonical names (read.Instr i) new ≡ new)
 rewritten profile names line new first others i new_is reads again is = (
   subst (λ ts. CodeReadsAs profile names ts (has_comment new) (read.Instr i)) (sym new_is.spelled) reads,
-  ap (λ ts. spaced (canonical_tokens names i ts) ++ comment_behind (comment_of new)) new_is.spelled
-      ∙ ap (λ ts. spaced ts ++ comment_behind (comment_of new)) again
-      ∙ ap (λ c. spaced (first ∷ others) ++ comment_behind c) new_is.comment
+  ap (λ ts. tokens_spaced (canonical_tokens names i ts) ++ comment_behind (comment_of new)) new_is.spelled
+      ∙ ap (λ ts. tokens_spaced ts ++ comment_behind (comment_of new)) again
+      ∙ ap (λ c. tokens_spaced (first ∷ others) ++ comment_behind c) new_is.comment
       ∙ sym is,
 )
 
 -- the canonical spelling of a line reads as its instruction, and is its own
-pub settles : (profile : Profile) (names : List (List ℕ)) (line : List ℕ) → IsLawfulProfile profile → IsSettled profile names line
-settles profile names line lawful i reads =
+pub canonical_spelling_settles : (profile : Profile) (names : List (List ℕ)) (line : List ℕ) → IsLawfulProfile profile → IsStableSpelling profile names line
+canonical_spelling_settles profile names line lawful i reads =
     let s : Settled profile names (tokens_of (before_comment line)) i = settled_code profile names (tokens_of (before_comment line)) (has_comment line) i lawful (line_words line) reads in
-    let is : canonical names (read.Instr i) line ≡ spaced (s.first ∷ s.others) ++ comment_behind (comment_of line) = ap (λ ts. spaced ts ++ comment_behind (comment_of line)) s.canon in
-    let new : IsRespaced line (canonical names (read.Instr i) line) (s.first ∷ s.others) = subst (λ l. IsRespaced line l (s.first ∷ s.others)) (sym is) (respaced line s.first s.others s.words) in
+    let is : canonical names (read.Instr i) line ≡ tokens_spaced (s.first ∷ s.others) ++ comment_behind (comment_of line) = ap (λ ts. tokens_spaced ts ++ comment_behind (comment_of line)) s.canon in
+    let new : IsRespaced line (canonical names (read.Instr i) line) (s.first ∷ s.others) = subst (λ l. IsRespaced line l (s.first ∷ s.others)) (sym is) (spaced_words_canonical line s.first s.others s.words) in
     rewritten profile names line (canonical names (read.Instr i) line) s.first s.others i new s.reads s.again is

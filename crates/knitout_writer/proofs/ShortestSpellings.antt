@@ -11,36 +11,36 @@ use Rattle.knit_base.specs.Reasons.{or_else}
 use Rattle.knit_base.specs.Spelling.{bed_word, dir_word, needle_text}
 use Rattle.knitout_reader.specs.Carriers.{carrier_rule}
 use Rattle.knitout_reader.specs.Reading.{CodeReadsAs, TokensReadAs, instr_of, off_bed, reading_of, reading_or, slider_form, static_rule}
-use Rattle.knitout_reader.specs.Shapes.{Shape, Spells, KnitShape, TuckShape, XferShape}
+use Rattle.knitout_reader.specs.Shapes.{Shape, TokensSpell, KnitShape, TuckShape, XferShape}
 use Rattle.knitout_reader.specs.Shortest.{AreShortestNeedles, AreShortestOperands, BeginsWithShortestNeedle, IsShortestSpelling}
 use Rattle.knitout_reader.specs.Tokens.{before_comment, has_comment, is_blank, is_semicolon, tokens_of}
-use Rattle.knitout_writer.specs.Canonical.{IsCanonicalLine, canonical, canonical_tokens, comment_behind, comment_of, each_spaced, spaced}
+use Rattle.knitout_writer.specs.Canonical.{IsCanonicalLine, canonical, canonical_tokens, comment_behind, comment_of, each_spaced, tokens_spaced}
 use Rattle.knitout_writer.proofs.Numerals.{IsSmall, needle_spells}
-use Rattle.knitout_writer.proofs.SpacedTokens.{Commented, IsWord, IsWordByte, clear-spaced, tokens-spaced, uncommented}
-use Rattle.knitout_reader.proofs.Rules.{neither}
+use Rattle.knitout_writer.proofs.SpacedTokens.{Commented, IsWord, IsWordByte, clear-spaced, tokens-spaced, no_semicolon_all_code}
+use Rattle.knitout_reader.proofs.Rules.{neither_reason}
 use Rattle.knitout_writer.proofs.Words.{carriers_back, needle_word}
 
 -- what the canonical spelling is, by the rule that the line breaks
 by_rule : (profile : Profile) (names : List (List ℕ)) (line first : List ℕ) (others : List (List ℕ)) (shape : Shape) (broken : Option Reason)
-    → line ≡ spaced (first ∷ others) → tokens_of (before_comment line) ≡ first ∷ others → comment_of line ≡ [] → static_rule profile names shape ≡ broken
+    → line ≡ tokens_spaced (first ∷ others) → tokens_of (before_comment line) ≡ first ∷ others → comment_of line ≡ [] → static_rule profile names shape ≡ broken
     → (static_rule profile names shape ≡ None → canonical_tokens names (instr_of names shape) (first ∷ others) ≡ first ∷ others)
     → line ≡ canonical names (reading_or broken (instr_of names shape)) line
 by_rule profile names line first others shape (Some reason) is tokens bare rule back = refl
 by_rule profile names line first others shape None is tokens bare rule back =
     is
-    ∙ ap spaced (sym (ap (canonical_tokens names (instr_of names shape)) tokens ∙ back rule))
-    ∙ sym (append-nil (spaced (canonical_tokens names (instr_of names shape) (tokens_of (before_comment line)))))
-    ∙ ap (λ c. spaced (canonical_tokens names (instr_of names shape) (tokens_of (before_comment line))) ++ comment_behind c) (sym bare)
+    ∙ ap tokens_spaced (sym (ap (canonical_tokens names (instr_of names shape)) tokens ∙ back rule))
+    ∙ sym (append-nil (tokens_spaced (canonical_tokens names (instr_of names shape) (tokens_of (before_comment line)))))
+    ∙ ap (λ c. tokens_spaced (canonical_tokens names (instr_of names shape) (tokens_of (before_comment line))) ++ comment_behind c) (sym bare)
 
 -- a line of words with one space between two that spell a shape
 spelt : (profile : Profile) (names : List (List ℕ)) (line first : List ℕ) (others : List (List ℕ)) (shape : Shape)
-    → line ≡ spaced (first ∷ others) → All IsWord (first ∷ others) → Spells (first ∷ others) shape
+    → line ≡ tokens_spaced (first ∷ others) → All IsWord (first ∷ others) → TokensSpell (first ∷ others) shape
     → (static_rule profile names shape ≡ None → canonical_tokens names (instr_of names shape) (first ∷ others) ≡ first ∷ others)
     → IsCanonicalLine profile names line line
 spelt profile names line first others shape is are spells back =
-    let here : Commented line line [] false = subst (λ l. Commented l l [] false) (sym is) (uncommented (spaced (first ∷ others)) (clear-spaced first others are)) in
+    let here : Commented line line [] false = subst (λ l. Commented l l [] false) (sym is) (no_semicolon_all_code (tokens_spaced (first ∷ others)) (clear-spaced first others are)) in
     let tokens : tokens_of (before_comment line) ≡ first ∷ others =
-    ap tokens_of (here.before ∙ is ∙ sym (append-nil (spaced (first ∷ others))))
+    ap tokens_of (here.before ∙ is ∙ sym (append-nil (tokens_spaced (first ∷ others))))
     ∙ tokens-spaced first others [] are (λ some. absurd (omega arith)) ∙ ap (λ ts. first ∷ ts) (append-nil others) in
     let reads : TokensReadAs profile names (first ∷ others) (reading_of profile names shape) = inl (shape, spells, refl) in (
       reading_of profile names shape,
@@ -84,22 +84,22 @@ needle_front text rest begins =
 
 -- the carriers' rule is the last that is tried
 last_rule : (first second third : Option Reason) → or_else first (or_else second third) ≡ None → third ≡ None
-last_rule first second third e = (neither second third (neither first (or_else second third) e).1).1
+last_rule first second third e = (neither_reason second third (neither_reason first (or_else second third) e).1).1
 
 -- two words behind a first one, with their spaces
-spaced_three : (a b c : List ℕ) → spaced (a ∷ b ∷ c ∷ []) ≡ a ++ 32 ∷ (b ++ 32 ∷ c)
+spaced_three : (a b c : List ℕ) → tokens_spaced (a ∷ b ∷ c ∷ []) ≡ a ++ 32 ∷ (b ++ 32 ∷ c)
 spaced_three a b c = ap (λ (l : List ℕ). a ++ 32 ∷ (b ++ 32 ∷ l)) (append-nil c)
 
 -- and the names of carriers behind three words
-names_spaced : (names : List (List ℕ)) → 0 < length names → each_spaced names ≡ 32 ∷ spaced names
+names_spaced : (names : List (List ℕ)) → 0 < length names → each_spaced names ≡ 32 ∷ tokens_spaced names
 names_spaced [] some = absurd (omega arith)
 names_spaced (name ∷ names) some = refl
 
 -- The words of a line that forms loops. Behind its front, which ends with the first byte of the carriers' names, stands the rest
 -- of these.
 formed_spaced : (word text operands more : List ℕ) (carriers : List (List ℕ)) (spelled : AreShortestOperands operands) → text ≡ word ++ (operands ++ more)
-    → spelled.last.name ∷ more ≡ spaced carriers → 0 < length carriers
-    → text ≡ spaced (word ∷ dir_word spelled.dir ∷ needle_text (record { bed = spelled.needle.bed; at = pos spelled.needle.number.number }) ∷ carriers)
+    → spelled.last.name ∷ more ≡ tokens_spaced carriers → 0 < length carriers
+    → text ≡ tokens_spaced (word ∷ dir_word spelled.dir ∷ needle_text (record { bed = spelled.needle.bed; at = pos spelled.needle.number.number }) ∷ carriers)
 formed_spaced word text operands more carriers spelled is named some =
     let needle : List ℕ = needle_text (record { bed = spelled.needle.bed; at = pos spelled.needle.number.number }) in
     let behind : spelled.behind ++ more ≡ needle ++ each_spaced carriers =
@@ -113,7 +113,7 @@ formed_spaced word text operands more carriers spelled is named some =
 
 -- a `knit` whose front is in its shortest spelling, with the rest of its carriers' names behind that
 pub knit-canonical : (profile : Profile) (names : List (List ℕ)) (line operands more : List ℕ) (carriers : List (List ℕ)) → line ≡ codes "knit" ++ (operands ++ more)
-    → (spelled : AreShortestOperands operands) → spelled.last.name ∷ more ≡ spaced carriers → 0 < length carriers → All IsWord carriers → IsCanonicalLine profile names line line
+    → (spelled : AreShortestOperands operands) → spelled.last.name ∷ more ≡ tokens_spaced carriers → 0 < length carriers → All IsWord carriers → IsCanonicalLine profile names line line
 knit-canonical profile names line operands more carriers is spelled named some words =
     let at : ℤ = pos spelled.needle.number.number in
     let small : IsSmall at = small_number spelled.needle.number.number spelled.needle.number.small in
@@ -133,7 +133,7 @@ knit-canonical profile names line operands more carriers is spelled named some w
 
 -- a `tuck` whose front is in its shortest spelling, with the rest of its carriers' names behind that
 pub tuck-canonical : (profile : Profile) (names : List (List ℕ)) (line operands more : List ℕ) (carriers : List (List ℕ)) → line ≡ codes "tuck" ++ (operands ++ more)
-    → (spelled : AreShortestOperands operands) → spelled.last.name ∷ more ≡ spaced carriers → 0 < length carriers → All IsWord carriers → IsCanonicalLine profile names line line
+    → (spelled : AreShortestOperands operands) → spelled.last.name ∷ more ≡ tokens_spaced carriers → 0 < length carriers → All IsWord carriers → IsCanonicalLine profile names line line
 tuck-canonical profile names line operands more carriers is spelled named some words =
     let at : ℤ = pos spelled.needle.number.number in
     let small : IsSmall at = small_number spelled.needle.number.number spelled.needle.number.small in

@@ -12,7 +12,7 @@ use Rattle.std.proofs.lemmas.Bool.{eqb-true, ltb-true}
 use Rattle.knit_base.proofs.Places.{by_test}
 use Rattle.knitout_reader.specs.Tokens.{tokens_of, before_comment, has_comment, is_blank, is_semicolon}
 use Rattle.knitout_reader.proofs.TokenRuns.{Blank, Plain, tokens_of-blanks, tokens_of-token}
-use Rattle.knitout_writer.specs.Canonical.{spaced, each_spaced, comment_of, comment_from, comment_behind}
+use Rattle.knitout_writer.specs.Canonical.{tokens_spaced, each_spaced, comment_of, comment_from, comment_behind}
 
 -- no comment begins in the text
 abbrev pub Clear : List ℕ → Type 0
@@ -52,7 +52,7 @@ tokens-each (token ∷ tokens) rest are starts =
 
 -- words with one space between two are the tokens of their text
 pub tokens-spaced : (token : List ℕ) (tokens : List (List ℕ)) (rest : List ℕ) → All IsWord (token ∷ tokens) → Starts rest
-    → tokens_of (spaced (token ∷ tokens) ++ rest) ≡ token ∷ (tokens ++ tokens_of rest)
+    → tokens_of (tokens_spaced (token ∷ tokens) ++ rest) ≡ token ∷ (tokens ++ tokens_of rest)
 tokens-spaced token tokens rest are starts =
     let word : IsWord token = All-head IsWord token tokens are in
     ap tokens_of (append_assoc token (each_spaced tokens) rest)
@@ -67,7 +67,7 @@ clear-each (token ∷ tokens) are =
     (clear-each tokens (All-tail IsWord token tokens are))
 
 -- no comment begins among them
-pub clear-spaced : (token : List ℕ) (tokens : List (List ℕ)) → All IsWord (token ∷ tokens) → Clear (spaced (token ∷ tokens))
+pub clear-spaced : (token : List ℕ) (tokens : List (List ℕ)) → All IsWord (token ∷ tokens) → Clear (tokens_spaced (token ∷ tokens))
 clear-spaced token tokens are =
     All-append (λ byte. is_semicolon byte ≡ false) token (each_spaced tokens) (clear_of token (All-head IsWord token tokens are)) (clear-each tokens (All-tail IsWord token tokens are))
 
@@ -102,8 +102,8 @@ no_semicolon : (code : List ℕ) → Clear code → position_or_len is_semicolon
 no_semicolon code clear = position_or_len_is is_semicolon code (length code) 0 (omega arith) (λ k below. clear k 0 below) (λ inside. absurd (omega arith))
 
 -- a line without a `;` is all code
-pub uncommented : (code : List ℕ) → Clear code → Commented code code [] false
-uncommented code clear =
+pub no_semicolon_all_code : (code : List ℕ) → Clear code → Commented code code [] false
+no_semicolon_all_code code clear =
     let none : position is_semicolon code ≡ None =
     ap (λ i. cond (nat_lt i (length code)) (Some i) None) (no_semicolon code clear)
     ∙ by_test (nat_lt (length code) (length code)) (λ is. absurd (omega (arith, ltb-true (length code) (length code) is))) (λ isnt. cond-false (nat_lt (length code) (length code)) (Some (length code)) None isnt) in
@@ -129,31 +129,31 @@ pub record IsRespaced (line new : List ℕ) (tokens : List (List ℕ)) : Type 0 
   pub comment : comment_of new ≡ comment_of line
 
 -- a line of words with one space between two is its own spelling
-pub respaced : (line token : List ℕ) (tokens : List (List ℕ)) → All IsWord (token ∷ tokens)
-    → IsRespaced line (spaced (token ∷ tokens) ++ comment_behind (comment_of line)) (token ∷ tokens)
-respaced line token tokens are =
-    let clear : Clear (spaced (token ∷ tokens)) = clear-spaced token tokens are in
+pub spaced_words_canonical : (line token : List ℕ) (tokens : List (List ℕ)) → All IsWord (token ∷ tokens)
+    → IsRespaced line (tokens_spaced (token ∷ tokens) ++ comment_behind (comment_of line)) (token ∷ tokens)
+spaced_words_canonical line token tokens are =
+    let clear : Clear (tokens_spaced (token ∷ tokens)) = clear-spaced token tokens are in
     ⊎_elim
     (λ (none : (has_comment line ≡ false) × (comment_of line ≡ [])).
-    let bare : IsRespaced line (spaced (token ∷ tokens) ++ []) (token ∷ tokens) =
-    let plain : Commented (spaced (token ∷ tokens) ++ []) (spaced (token ∷ tokens)) [] false = subst (λ l. Commented l (spaced (token ∷ tokens)) [] false) (sym (append-nil (spaced (token ∷ tokens)))) (uncommented (spaced (token ∷ tokens)) clear) in
+    let bare : IsRespaced line (tokens_spaced (token ∷ tokens) ++ []) (token ∷ tokens) =
+    let plain : Commented (tokens_spaced (token ∷ tokens) ++ []) (tokens_spaced (token ∷ tokens)) [] false = subst (λ l. Commented l (tokens_spaced (token ∷ tokens)) [] false) (sym (append-nil (tokens_spaced (token ∷ tokens)))) (no_semicolon_all_code (tokens_spaced (token ∷ tokens)) clear) in
     record {
       spelled =
-          ap tokens_of (plain.before ∙ sym (append-nil (spaced (token ∷ tokens))))
+          ap tokens_of (plain.before ∙ sym (append-nil (tokens_spaced (token ∷ tokens))))
           ∙ tokens-spaced token tokens [] are (λ some. absurd (omega arith)) ∙ ap (λ ts. token ∷ ts) (append-nil tokens);
       has = plain.has ∙ sym none.0;
       comment = plain.behind ∙ sym none.1;
     } in
-    subst (λ c. IsRespaced line (spaced (token ∷ tokens) ++ comment_behind c) (token ∷ tokens)) (sym none.1) bare)
+    subst (λ c. IsRespaced line (tokens_spaced (token ∷ tokens) ++ comment_behind c) (token ∷ tokens)) (sym none.1) bare)
     (λ (some : (more : List ℕ) × (has_comment line ≡ true) × (comment_of line ≡ 59 ∷ more)).
-    let clear_before : Clear (spaced (token ∷ tokens) ++ 32 ∷ []) =
-    All-append (λ byte. is_semicolon byte ≡ false) (spaced (token ∷ tokens)) (32 ∷ []) clear (All-cons (λ byte. is_semicolon byte ≡ false) 32 [] refl (All-nil (λ byte. is_semicolon byte ≡ false))) in
-    let behind : Commented ((spaced (token ∷ tokens) ++ 32 ∷ []) ++ 59 ∷ some.0) (spaced (token ∷ tokens) ++ 32 ∷ []) (59 ∷ some.0) true = commented (spaced (token ∷ tokens) ++ 32 ∷ []) some.0 clear_before in
-    let joined : IsRespaced line ((spaced (token ∷ tokens) ++ 32 ∷ []) ++ 59 ∷ some.0) (token ∷ tokens) = record {
+    let clear_before : Clear (tokens_spaced (token ∷ tokens) ++ 32 ∷ []) =
+    All-append (λ byte. is_semicolon byte ≡ false) (tokens_spaced (token ∷ tokens)) (32 ∷ []) clear (All-cons (λ byte. is_semicolon byte ≡ false) 32 [] refl (All-nil (λ byte. is_semicolon byte ≡ false))) in
+    let behind : Commented ((tokens_spaced (token ∷ tokens) ++ 32 ∷ []) ++ 59 ∷ some.0) (tokens_spaced (token ∷ tokens) ++ 32 ∷ []) (59 ∷ some.0) true = commented (tokens_spaced (token ∷ tokens) ++ 32 ∷ []) some.0 clear_before in
+    let joined : IsRespaced line ((tokens_spaced (token ∷ tokens) ++ 32 ∷ []) ++ 59 ∷ some.0) (token ∷ tokens) = record {
       spelled = ap tokens_of behind.before ∙ tokens-spaced token tokens (32 ∷ []) are (λ inside. refl) ∙ ap (λ ts. token ∷ ts) (append-nil tokens);
       has = behind.has ∙ sym some.1;
       comment = behind.behind ∙ sym some.2;
     } in
-    subst (λ c. IsRespaced line (spaced (token ∷ tokens) ++ comment_behind c) (token ∷ tokens)) (sym some.2)
-    (subst (λ l. IsRespaced line l (token ∷ tokens)) (append_assoc (spaced (token ∷ tokens)) (32 ∷ []) (59 ∷ some.0)) joined))
+    subst (λ c. IsRespaced line (tokens_spaced (token ∷ tokens) ++ comment_behind c) (token ∷ tokens)) (sym some.2)
+    (subst (λ l. IsRespaced line l (token ∷ tokens)) (append_assoc (tokens_spaced (token ∷ tokens)) (32 ∷ []) (59 ∷ some.0)) joined))
     (comment_cases line (position is_semicolon line) refl)

@@ -24,8 +24,8 @@ use Rattle.knit_base.proofs.Places.{by_test, list_any-none}
 use Rattle.knitout_reader.specs.Carriers.{is_undeclared, carriers_of, carrier_rule}
 use Rattle.knitout_reader.specs.Numbers.{IsDigit}
 use Rattle.knitout_reader.specs.Tokens.{tokens_of, before_comment, is_blank, is_semicolon}
-use Rattle.knitout_reader.proofs.Rules.{neither}
-use Rattle.knitout_reader.proofs.TokenRuns.{nonempty}
+use Rattle.knitout_reader.proofs.Rules.{neither_reason}
+use Rattle.knitout_reader.proofs.TokenRuns.{run_has_bytes}
 use Rattle.knitout_writer.specs.Canonical.{carrier_names}
 use Rattle.knitout_writer.proofs.Numerals.{Spell, decimal_spells, digit_byte, IsSmall}
 use Rattle.knitout_writer.proofs.SpacedTokens.{IsWord, IsWordByte, Clear}
@@ -45,15 +45,15 @@ parts_words (b ∷ text) clear =
     subst (All (All IsWordByte)) (sym (slice_split-cons_no is_blank b text isnt))
     (onto_words b (slice_split is_blank text) (isnt, All-head (λ byte. is_semicolon byte ≡ false) b text clear) rest))
 
-words_kept : (parts : List (List ℕ)) → All (All IsWordByte) parts → All IsWord (filter nonempty parts)
+words_kept : (parts : List (List ℕ)) → All (All IsWordByte) parts → All IsWord (filter run_has_bytes parts)
 words_kept [] are = All-nil IsWord
 words_kept (part ∷ parts) are =
-    let rest : All IsWord (filter nonempty parts) = words_kept parts (All-tail (All IsWordByte) part parts are) in
-    by_test (nonempty part)
+    let rest : All IsWord (filter run_has_bytes parts) = words_kept parts (All-tail (All IsWordByte) part parts are) in
+    by_test (run_has_bytes part)
     (λ is.
     let word : IsWord part = record { some = ltb-true 0 (length part) is; bytes = All-head (All IsWordByte) part parts are } in
-    subst (All IsWord) (sym (cond-true (nonempty part) (part ∷ filter nonempty parts) (filter nonempty parts) is)) (All-cons IsWord part (filter nonempty parts) word rest))
-    (λ isnt. subst (All IsWord) (sym (cond-false (nonempty part) (part ∷ filter nonempty parts) (filter nonempty parts) isnt)) rest)
+    subst (All IsWord) (sym (cond-true (run_has_bytes part) (part ∷ filter run_has_bytes parts) (filter run_has_bytes parts) is)) (All-cons IsWord part (filter run_has_bytes parts) word rest))
+    (λ isnt. subst (All IsWord) (sym (cond-false (run_has_bytes part) (part ∷ filter run_has_bytes parts) (filter run_has_bytes parts) isnt)) rest)
 
 code_clear : (line : List ℕ) → Clear (before_comment line)
 code_clear line k d below =
@@ -126,4 +126,4 @@ all_back names (token ∷ tokens) known = back_with names token tokens (position
 -- declared carriers are written as they were
 pub carriers_back : (names tokens : List (List ℕ)) (at : ℕ) → carrier_rule names at tokens ≡ None → carrier_names names (carriers_of names tokens) ≡ tokens
 carriers_back names tokens at none =
-    all_back names tokens (list_any-none (is_undeclared names) tokens (no_place (position (is_undeclared names) tokens) NoCarrier at (neither _ _ none).0))
+    all_back names tokens (list_any-none (is_undeclared names) tokens (no_place (position (is_undeclared names) tokens) NoCarrier at (neither_reason _ _ none).0))

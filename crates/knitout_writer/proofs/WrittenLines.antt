@@ -10,9 +10,9 @@ use Rattle.std.proofs.Math.Seq.{drop-append_seam, take-add, take-append_seam}
 use Rattle.knit_base.specs.declared.profile.Profile.{Profile}
 use Rattle.knit_base.specs.Lines.{lines_of}
 use Rattle.knit_base.proofs.FirstLine.{lines_of-line}
-use Rattle.line_cutter.specs.Cut.{IsBehind, IsGoodLine, StandsAt}
+use Rattle.line_cutter.specs.Cut.{IsPlaceBehind, IsGoodLine, GoodLineStandsAt}
 use Rattle.knitout_writer.specs.Canonical.{IsCanonicalLine, with_line_feeds}
-use Rattle.knitout_writer.specs.Written.{BeginsWithCopy, IsCopiedLine, IsPlainByte, IsWritten, WroteAll, WroteOn}
+use Rattle.knitout_writer.specs.Written.{BeginsWithCopy, IsCopiedLine, IsPlainByte, IsWrittenCanonically, WroteAll, WroteOn}
 
 -- a line that is copied, and a line feed behind it
 pub copy-begins : (text line : List ℕ) (len : ℕ) → len < length text → len ≤ 32 → get_or text len 0 ≡ 10 → line ≡ take len text → IsCopiedLine line → BeginsWithCopy text (len + 1)
@@ -43,13 +43,13 @@ zip-append R (x ∷ xs) zs [] ws a b = absurd a
 zip-append R (x ∷ xs) zs (y ∷ ys) ws a b = (a.0, zip-append R xs zs ys ws a.1 b)
 
 -- no line
-pub written-none : (profile : Profile) (names : List (List ℕ)) (text : List ℕ) (at : ℕ) → at ≤ length text → IsWritten profile names text at at 0 []
+pub written-none : (profile : Profile) (names : List (List ℕ)) (text : List ℕ) (at : ℕ) → at ≤ length text → IsWrittenCanonically profile names text at at 0 []
 written-none profile names text at inside =
     record { lines = []; texts = []; first = refl; counted = refl; few = omega arith; within = omega arith; good = All-nil IsGoodLine; canonical = tt; spelt = refl }
 
 -- what was written of the lines up to a place, and of those from there on
 pub written-append : (profile : Profile) (names : List (List ℕ)) (text : List ℕ) (from mid to count more : ℕ) (front back : List ℕ)
-    → IsWritten profile names text from mid count front → IsWritten profile names text mid to more back → IsWritten profile names text from to (count + more) (front ++ back)
+    → IsWrittenCanonically profile names text from mid count front → IsWrittenCanonically profile names text mid to more back → IsWrittenCanonically profile names text from to (count + more) (front ++ back)
 written-append profile names text from mid to count more front back a b = record {
   lines = a.lines ++ b.lines;
   texts = a.texts ++ b.texts;
@@ -63,8 +63,8 @@ written-append profile names text from mid to count more front back a b = record
 }
 
 -- one line
-pub written-line : (profile : Profile) (names : List (List ℕ)) (text line spelling : List ℕ) (start next : ℕ) → start < length text → StandsAt text start line next
-    → IsCanonicalLine profile names line spelling → IsWritten profile names text start next 1 (spelling ++ 10 ∷ [])
+pub written-line : (profile : Profile) (names : List (List ℕ)) (text line spelling : List ℕ) (start next : ℕ) → start < length text → GoodLineStandsAt text start line next
+    → IsCanonicalLine profile names line spelling → IsWrittenCanonically profile names text start next 1 (spelling ++ 10 ∷ [])
 written-line profile names text line spelling start next some stands canonical = record {
   lines = line ∷ [];
   texts = spelling ∷ [];
@@ -79,7 +79,7 @@ written-line profile names text line spelling start next some stands canonical =
 
 -- a line that is copied
 pub written-copy : (profile : Profile) (names : List (List ℕ)) (text rest : List ℕ) (start len : ℕ) → start ≤ length text → rest ≡ take (length text - start) (drop start text)
-    → BeginsWithCopy rest len → IsWritten profile names text start (start + len) 1 (take len (drop start text))
+    → BeginsWithCopy rest len → IsWrittenCanonically profile names text start (start + len) 1 (take len (drop start text))
 written-copy profile names text rest start len inside is begins =
     let left : rest ≡ drop start text = is ∙ take_all (length text - start) (drop start text) (omega (arith, length-drop start text)) in
     let behind : drop len rest ≡ drop (start + len) text = ap (drop len) left ∙ drop-drop len start text ∙ ap (λ k. drop k text) (omega arith) in
@@ -99,7 +99,7 @@ written-copy profile names text rest start len inside is begins =
 pub record AreCopied (text : List ℕ) (start end count : ℕ) : Type 0 where
   pub few : start + count ≤ end
   pub within : end ≤ length text
-  pub written : (profile : Profile) (names : List (List ℕ)) → IsWritten profile names text start end count (take (end - start) (drop start text))
+  pub written : (profile : Profile) (names : List (List ℕ)) → IsWrittenCanonically profile names text start end count (take (end - start) (drop start text))
 
 pub copied-none : (text : List ℕ) (start : ℕ) → start ≤ length text → AreCopied text start start 0
 copied-none text start within = record {
@@ -108,7 +108,7 @@ copied-none text start within = record {
   written = λ profile names.
       let zero : 0 ≡ start - start = omega arith in
       let nothing : [] ≡ take (start - start) (drop start text) = ap (λ k. take k (drop start text)) zero in
-      subst (IsWritten profile names text start start 0) nothing (written-none profile names text start within);
+      subst (IsWrittenCanonically profile names text start start 0) nothing (written-none profile names text start within);
 }
 
 -- one line more
@@ -123,7 +123,7 @@ copied-more text rest start end count len here is begins =
           let bytes : take (end - start) (drop start text) ++ take len (drop end text) ≡ take (end + len - start) (drop start text) =
           ap (λ l. take (end - start) (drop start text) ++ take len l) (ap (λ k. drop k text) (omega (arith, here.few)) ∙ sym (drop-drop (end - start) start text))
           ∙ sym (take-add (end - start) len (drop start text)) ∙ ap (λ k. take k (drop start text)) (omega (arith, here.few)) in
-          subst (IsWritten profile names text start (end + len) (count + 1)) bytes
+          subst (IsWrittenCanonically profile names text start (end + len) (count + 1)) bytes
           (written-append profile names text start end (end + len) count 1 (take (end - start) (drop start text)) (take len (drop end text)) (here.written profile names)
           (written-copy profile names text rest end len here.within is begins));
     }
@@ -134,7 +134,7 @@ wrote-none profile names text old = record { written = []; is = written-none pro
 
 -- more was appended
 pub wrote-more : (profile : Profile) (names : List (List ℕ)) (text : List ℕ) (mid to count more : ℕ) (old so_far new back : List ℕ)
-    → WroteOn profile names text mid count old so_far → IsWritten profile names text mid to more back → new ≡ so_far ++ back → WroteOn profile names text to (count + more) old new
+    → WroteOn profile names text mid count old so_far → IsWrittenCanonically profile names text mid to more back → new ≡ so_far ++ back → WroteOn profile names text to (count + more) old new
 wrote-more profile names text mid to count more old so_far new back here is appended = record {
   written = here.written ++ back;
   is = written-append profile names text 0 mid to count more here.written back here.is is;
@@ -142,7 +142,7 @@ wrote-more profile names text mid to count more old so_far new back here is appe
 }
 
 -- the lines that were written stand before this place
-pub wrote-behind : (profile : Profile) (names : List (List ℕ)) (text : List ℕ) (to count : ℕ) (old new : List ℕ) → WroteOn profile names text to count old new → IsBehind text count to
+pub wrote-behind : (profile : Profile) (names : List (List ℕ)) (text : List ℕ) (to count : ℕ) (old new : List ℕ) → WroteOn profile names text to count old new → IsPlaceBehind text count to
 wrote-behind profile names text to count old new here =
     let lines = here.is.lines in
     let rest = lines_of (drop to text) in

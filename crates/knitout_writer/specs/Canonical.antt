@@ -23,9 +23,9 @@ abbrev pub each_spaced : List (List ℕ) → List ℕ
 each_spaced tokens = flat_map (λ token. 32 ∷ token) tokens
 
 -- the tokens, with one space between two
-abbrev pub spaced : List (List ℕ) → List ℕ
-spaced [] = []
-spaced (token ∷ tokens) = token ++ each_spaced tokens
+abbrev pub tokens_spaced : List (List ℕ) → List ℕ
+tokens_spaced [] = []
+tokens_spaced (token ∷ tokens) = token ++ each_spaced tokens
 
 -- The tokens of the instruction's one spelling, where its line has these tokens. The tokens behind `stitch`, `pause` and an
 -- extension have no other spelling.
@@ -65,7 +65,7 @@ comment_behind (byte ∷ bytes) = 32 ∷ byte ∷ bytes
 abbrev pub canonical : List (List ℕ) → Read → List ℕ → List ℕ
 canonical names read.Blank line = []
 canonical names read.Comment line = comment_of line
-canonical names (read.Instr i) line = spaced (canonical_tokens names i (tokens_of (before_comment line))) ++ comment_behind (comment_of line)
+canonical names (read.Instr i) line = tokens_spaced (canonical_tokens names i (tokens_of (before_comment line))) ++ comment_behind (comment_of line)
 canonical names (read.Broken reason) line = line
 
 -- the text is the canonical spelling of the line
@@ -83,8 +83,8 @@ IsCanonicalText profile head lines text =
     × (text ≡ with_line_feeds (take head.lines lines) ++ with_line_feeds body)
 
 -- Where the line is an instruction, its canonical spelling reads as the same instruction, and is its own canonical spelling.
-abbrev pub IsSettled : Profile → List (List ℕ) → List ℕ → Type 0
-IsSettled profile names line =
+abbrev pub IsStableSpelling : Profile → List (List ℕ) → List ℕ → Type 0
+IsStableSpelling profile names line =
     (i : Instr) → ReadsAs profile names line (read.Instr i)
     → ReadsAs profile names (canonical names (read.Instr i) line) (read.Instr i)
     × (canonical names (read.Instr i) (canonical names (read.Instr i) line) ≡ canonical names (read.Instr i) line)

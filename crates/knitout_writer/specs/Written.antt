@@ -5,7 +5,7 @@ use Rattle.knit_base.specs.declared.profile.Profile.{Profile}
 use Rattle.knit_base.specs.Lines.{lines_of}
 use Rattle.line_cutter.specs.Cut.{IsGoodLine}
 use Rattle.knitout_reader.specs.Tokens.{is_blank, is_semicolon}
-use Rattle.knitout_writer.specs.Canonical.{IsCanonicalLine, spaced, with_line_feeds}
+use Rattle.knitout_writer.specs.Canonical.{IsCanonicalLine, tokens_spaced, with_line_feeds}
 
 -- an ASCII byte that ends no line
 pub record IsPlainByte (byte : ℕ) : Type 0 where
@@ -14,22 +14,22 @@ pub record IsPlainByte (byte : ℕ) : Type 0 where
   pub back : byte ≢ 13
 
 -- a byte of a carrier's name, which begins no comment
-pub record IsNameByte (byte : ℕ) : Type 0 where
+pub record IsCopiedNameByte (byte : ℕ) : Type 0 where
   pub plain : IsPlainByte byte
   pub blank : is_blank byte ≡ false
   pub comment : is_semicolon byte ≡ false
 
 -- a name of such bytes
-pub record IsName (name : List ℕ) : Type 0 where
+pub record IsCopiedName (name : List ℕ) : Type 0 where
   pub some : 0 < length name
-  pub bytes : All IsNameByte name
+  pub bytes : All IsCopiedNameByte name
 
 -- some names, with one space between two
-pub record AreNames (text : List ℕ) : Type 0 where
+pub record AreSpacedNames (text : List ℕ) : Type 0 where
   pub names : List (List ℕ)
   pub some : 0 < length names
-  pub each : All IsName names
-  pub spelt : text ≡ spaced names
+  pub each : All IsCopiedName names
+  pub spelt : text ≡ tokens_spaced names
   pub bytes : All IsPlainByte text
 
 -- a line of plain bytes that is its own canonical spelling, whatever the profile and the carriers are
@@ -48,7 +48,7 @@ pub record BeginsWithCopy (text : List ℕ) (len : ℕ) : Type 0 where
   pub copied : IsCopiedLine line
 
 -- so many lines of the text stand between two places and are good, and this is their canonical text
-pub record IsWritten (profile : Profile) (names : List (List ℕ)) (text : List ℕ) (from to count : ℕ) (written : List ℕ) : Type 0 where
+pub record IsWrittenCanonically (profile : Profile) (names : List (List ℕ)) (text : List ℕ) (from to count : ℕ) (written : List ℕ) : Type 0 where
   pub lines : List (List ℕ)
   pub texts : List (List ℕ)
   pub first : lines_of (drop from text) ≡ lines ++ lines_of (drop to text)
@@ -62,7 +62,7 @@ pub record IsWritten (profile : Profile) (names : List (List ℕ)) (text : List 
 -- such a text, of so many lines before this place, was appended
 pub record WroteOn (profile : Profile) (names : List (List ℕ)) (text : List ℕ) (to count : ℕ) (old new : List ℕ) : Type 0 where
   pub written : List ℕ
-  pub is : IsWritten profile names text 0 to count written
+  pub is : IsWrittenCanonically profile names text 0 to count written
   pub appended : new ≡ old ++ written
 
 -- the canonical text of these lines was appended

@@ -1,6 +1,6 @@
 //! Lines that are copied: their spelling is seen to be canonical without reading them.
 ghost use Rattle.std.specs.Prelude.{◌≡◌, ◌<◌, ◌≤◌, length, take, slice_index, All, IfSome, IsTrue};
-ghost use Rattle.knitout_writer.specs.Written.{AreNames, BeginsWithCopy, IsCopiedLine, IsNameByte, IsPlainByte};
+ghost use Rattle.knitout_writer.specs.Written.{AreSpacedNames, BeginsWithCopy, IsCopiedLine, IsCopiedNameByte, IsPlainByte};
 
 use knitout_reader::is_shortest_spelling;
 
@@ -91,7 +91,7 @@ fn first_name(line: &[u8]) -> Option<usize>
 
 // Whether these are names with one space between two.
 fn are_names(text: &[u8]) -> bool
-    ensures { IsTrue result → AreNames text.now }
+    ensures { IsTrue result → AreSpacedNames text.now }
 {
     let mut rest = text;
     while let Some(others) = behind_name(rest) {
@@ -103,7 +103,7 @@ fn are_names(text: &[u8]) -> bool
 // What stands behind a name and a space.
 #[inline(always)]
 fn behind_name<'a>(text: &'a [u8]) -> Option<&'a [u8]>
-    ensures { IfSome result (λ rest. (length rest.now < length text.now) × (AreNames rest.now → AreNames text.now)) }
+    ensures { IfSome result (λ rest. (length rest.now < length text.now) × (AreSpacedNames rest.now → AreSpacedNames text.now)) }
 {
     let len = name_len(text);
     if len == 0 {
@@ -117,7 +117,7 @@ fn behind_name<'a>(text: &'a [u8]) -> Option<&'a [u8]>
 
 #[inline(always)]
 fn is_name(text: &[u8]) -> bool
-    ensures { IsTrue result → AreNames text.now }
+    ensures { IsTrue result → AreSpacedNames text.now }
 {
     let len = name_len(text);
     if len == 0 {
@@ -130,7 +130,7 @@ fn is_name(text: &[u8]) -> bool
 #[inline(always)]
 fn name_len(text: &[u8]) -> usize
     ensures within { result ≤ length text.now }
-    ensures name { All IsNameByte (take result text.now) }
+    ensures name { All IsCopiedNameByte (take result text.now) }
 {
     let mut len = 0;
     while len < text.len() && is_name_byte(text[len]) {
@@ -141,7 +141,7 @@ fn name_len(text: &[u8]) -> usize
 
 #[inline(always)]
 fn is_name_byte(byte: u8) -> bool
-    ensures { IsTrue result → IsNameByte byte }
+    ensures { IsTrue result → IsCopiedNameByte byte }
 {
     b' ' < byte && byte < 128 && byte != b';'
 }

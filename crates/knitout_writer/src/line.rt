@@ -4,7 +4,7 @@ ghost use Rattle.knit_base.specs.declared.profile.Profile.{Profile};
 ghost use Rattle.knit_base.specs.Limits.{IsLawfulProfile};
 ghost use Rattle.knit_base.specs.Spelling.{dir_word, needle_text, rack_text};
 ghost use Rattle.knitout_reader.specs.Tokens.{before_comment, tokens_of};
-ghost use Rattle.knitout_writer.specs.Canonical.{IsSettled, canonical, canonical_tokens, carrier_names, comment_of, comment_behind, spaced, each_spaced};
+ghost use Rattle.knitout_writer.specs.Canonical.{IsStableSpelling, canonical, canonical_tokens, carrier_names, comment_of, comment_behind, tokens_spaced, each_spaced};
 
 use knit_base::{
     Declared, Dir, Instr, Needle, NoMemory, Quarter, Read, Yarns, append_needle, append_rack,
@@ -25,7 +25,7 @@ pub fn write_line(
     ensures err { OnErr result (out.new.items ≡ out.old.items) }
 
     // Whatever the line is, its canonical spelling reads as the same instruction and is its own.
-    ensures settled { (profile : Profile) → IsLawfulProfile profile → IsSettled profile declared.now raw.now }
+    ensures settled { (profile : Profile) → IsLawfulProfile profile → IsStableSpelling profile declared.now raw.now }
 {
     let mut line = Vec::new(alloc);
     append_line(read, raw.as_bytes(), declared, &mut line)?;
@@ -95,7 +95,7 @@ fn append_instr(
     declared: &Declared,
     out: &mut Vec<u8>,
 ) -> Result<(), NoMemory>
-    ensures { OnOk result (out.new.items ≡ out.old.items ++ spaced (canonical_tokens declared.now instr.now (tokens_of (before_comment raw.now)))) }
+    ensures { OnOk result (out.new.items ≡ out.old.items ++ tokens_spaced (canonical_tokens declared.now instr.now (tokens_of (before_comment raw.now)))) }
 {
     match instr {
         Instr::CarryIn(carriers) => append_carriers(b"in", carriers, declared, out),
@@ -119,7 +119,7 @@ fn append_instr(
 
 // Appends the tokens as they are.
 fn append_tokens(code: &[u8], out: &mut Vec<u8>) -> Result<(), NoMemory>
-    ensures { OnOk result (out.new.items ≡ out.old.items ++ spaced (tokens_of code.now)) }
+    ensures { OnOk result (out.new.items ≡ out.old.items ++ tokens_spaced (tokens_of code.now)) }
 {
     let Some((first, mut rest)) = next_token(code) else {
         return Ok(());
@@ -139,7 +139,7 @@ fn append_carriers(
     declared: &Declared,
     out: &mut Vec<u8>,
 ) -> Result<(), NoMemory>
-    ensures { OnOk result (out.new.items ≡ out.old.items ++ spaced (word.now ∷ carrier_names declared.now carriers.now)) }
+    ensures { OnOk result (out.new.items ≡ out.old.items ++ tokens_spaced (word.now ∷ carrier_names declared.now carriers.now)) }
 {
     append(word, out)?;
     append_names(carriers, declared, out)
@@ -158,7 +158,7 @@ fn append_names(carriers: &Yarns, declared: &Declared, out: &mut Vec<u8>) -> Res
 }
 
 fn append_rack_line(rack: Quarter, out: &mut Vec<u8>) -> Result<(), NoMemory>
-    ensures { OnOk result (out.new.items ≡ out.old.items ++ spaced (codes "rack" ∷ rack_text rack.0 ∷ [])) }
+    ensures { OnOk result (out.new.items ≡ out.old.items ++ tokens_spaced (codes "rack" ∷ rack_text rack.0 ∷ [])) }
 {
     append(b"rack ", out)?;
     append_rack(rack, out)
@@ -173,7 +173,7 @@ fn append_loop(
     declared: &Declared,
     out: &mut Vec<u8>,
 ) -> Result<(), NoMemory>
-    ensures { OnOk result (out.new.items ≡ out.old.items ++ spaced (word.now ∷ dir_word dir ∷ needle_text n ∷ carrier_names declared.now carriers.now)) }
+    ensures { OnOk result (out.new.items ≡ out.old.items ++ tokens_spaced (word.now ∷ dir_word dir ∷ needle_text n ∷ carrier_names declared.now carriers.now)) }
 {
     append(word, out)?;
     append(dir_word(dir), out)?;
@@ -189,7 +189,7 @@ fn append_split(
     declared: &Declared,
     out: &mut Vec<u8>,
 ) -> Result<(), NoMemory>
-    ensures { OnOk result (out.new.items ≡ out.old.items ++ spaced (codes "split" ∷ dir_word dir ∷ needle_text n ∷ needle_text n2 ∷ carrier_names declared.now carriers.now)) }
+    ensures { OnOk result (out.new.items ≡ out.old.items ++ tokens_spaced (codes "split" ∷ dir_word dir ∷ needle_text n ∷ needle_text n2 ∷ carrier_names declared.now carriers.now)) }
 {
     append(b"split", out)?;
     append(dir_word(dir), out)?;
@@ -199,7 +199,7 @@ fn append_split(
 }
 
 fn append_xfer(n: Needle, n2: Needle, out: &mut Vec<u8>) -> Result<(), NoMemory>
-    ensures { OnOk result (out.new.items ≡ out.old.items ++ spaced (codes "xfer" ∷ needle_text n ∷ needle_text n2 ∷ [])) }
+    ensures { OnOk result (out.new.items ≡ out.old.items ++ tokens_spaced (codes "xfer" ∷ needle_text n ∷ needle_text n2 ∷ [])) }
 {
     append(b"xfer", out)?;
     append_needle_token(n, out)?;
@@ -208,7 +208,7 @@ fn append_xfer(n: Needle, n2: Needle, out: &mut Vec<u8>) -> Result<(), NoMemory>
 
 // Appends an operation on one needle.
 fn append_one_needle(word: &[u8], n: Needle, out: &mut Vec<u8>) -> Result<(), NoMemory>
-    ensures { OnOk result (out.new.items ≡ out.old.items ++ spaced (word.now ∷ needle_text n ∷ [])) }
+    ensures { OnOk result (out.new.items ≡ out.old.items ++ tokens_spaced (word.now ∷ needle_text n ∷ [])) }
 {
     append(word, out)?;
     append_needle_token(n, out)

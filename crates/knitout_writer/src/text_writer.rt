@@ -8,7 +8,7 @@ ghost use Rattle.knit_base.specs.Lines.{lines_of};
 ghost use Rattle.line_cutter.specs.Cut.{HasGoodLines, IsFirstBadBehind};
 ghost use Rattle.knitout_reader.specs.declared.head.Head.{Head};
 ghost use Rattle.knitout_writer.specs.Canonical.{IsCanonicalText};
-ghost use Rattle.knitout_writer.specs.Written.{IsWritten, WroteAll};
+ghost use Rattle.knitout_writer.specs.Written.{IsWrittenCanonically, WroteAll};
 ghost use Rattle.knitout_writer.specs.WrittenFiles.{HasSeen, HasWritten};
 
 use crate::copied_line::copied_len;
@@ -129,7 +129,7 @@ fn copied_lines(text: &[u8], start: usize) -> (u32, usize)
     ensures within { result.1 ≤ length text.now }
     ensures few { start + result.0 ≤ result.1 }
     ensures copied { (profile : Profile) → (names : List (List ℕ))
-        → IsWritten profile names text.now start result.1 result.0 (take (result.1 - start) (drop start text.now)) }
+        → IsWrittenCanonically profile names text.now start result.1 result.0 (take (result.1 - start) (drop start text.now)) }
 {
     let mut count = 0;
     let mut end = start;

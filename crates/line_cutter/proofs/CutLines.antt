@@ -5,27 +5,27 @@ use Rattle.std.proofs.lemmas.List.{take_all, drop_all, drop-drop, map-append, le
 use Rattle.std.proofs.lemmas.List.Sums.{fails_before_first}
 use Rattle.std.proofs.lemmas.List.Elements.{All-push}
 use Rattle.knit_base.specs.declared.lines.Span.{Span}
-use Rattle.knit_base.specs.Lines.{HasNoLineEnd, IsLine, IsWithin, is_line_feed, lines_of, piece, without_return}
+use Rattle.knit_base.specs.Lines.{HasNoLineEnd, IsLine, IsSpanWithin, is_line_feed, lines_of, span_bytes, without_return}
 use Rattle.line_cutter.specs.declared.line.Found.{Found}
 use Rattle.line_cutter.specs.declared.fault.CutFault.{CutFault}
 use Rattle.line_cutter.specs.declared.fault.CutFault.TheVariants.{NotUtf8, LineLong, NoMemory}
-use Rattle.line_cutter.specs.Cut.{AreCut, AreCutTo, IsFirstBad, IsGoodLine, IsNextLine, IsNextRefused, IsRefused}
+use Rattle.line_cutter.specs.Cut.{AreCut, AreCutTo, IsFirstBad, IsGoodLine, IsNextLine, IsNextRefused, IsLineRefused}
 use Rattle.line_cutter.proofs.Pieces.{lines_of-next}
 
 -- one more line
 pub cut_more : (text : List ℕ) (spans more : List Span) (next : ℕ) (found : Found) → AreCutTo text spans next → next < length text
     → IsNextLine text next found → more ≡ spans ++ found.line ∷ [] → AreCutTo text more found.next
 cut_more text spans more next found so_far some here pushed =
-    let grown : map (piece text) more ≡ map (piece text) spans ++ piece text found.line ∷ [] = ap (map (piece text)) pushed ∙ map-append (piece text) spans (found.line ∷ []) in
-    let line : IsLine (piece text found.line) = record { utf8 = here.good.utf8; one = here.one; short = omega (arith, here.good.short) } in
+    let grown : map (span_bytes text) more ≡ map (span_bytes text) spans ++ span_bytes text found.line ∷ [] = ap (map (span_bytes text)) pushed ∙ map-append (span_bytes text) spans (found.line ∷ []) in
+    let line : IsLine (span_bytes text found.line) = record { utf8 = here.good.utf8; one = here.one; short = omega (arith, here.good.short) } in
     let count : length more ≡ length spans + 1 = ap length pushed ∙ length-append spans (found.line ∷ []) in
     record {
       lines_are = ap (λ l. l ++ lines_of (drop found.next text)) grown
-          ∙ append_assoc (map (piece text) spans) (piece text found.line ∷ []) (lines_of (drop found.next text))
-          ∙ ap (λ l. map (piece text) spans ++ l) (sym here.first) ∙ so_far.lines_are;
-      good = subst (All IsGoodLine) (sym grown) (All-push IsGoodLine (map (piece text) spans) (piece text found.line) so_far.good here.good);
-      within = subst (All (IsWithin text)) (sym pushed) (All-push (IsWithin text) spans found.line so_far.within here.within);
-      lines = subst (All IsLine) (sym grown) (All-push IsLine (map (piece text) spans) (piece text found.line) so_far.lines line);
+          ∙ append_assoc (map (span_bytes text) spans) (span_bytes text found.line ∷ []) (lines_of (drop found.next text))
+          ∙ ap (λ l. map (span_bytes text) spans ++ l) (sym here.first) ∙ so_far.lines_are;
+      good = subst (All IsGoodLine) (sym grown) (All-push IsGoodLine (map (span_bytes text) spans) (span_bytes text found.line) so_far.good here.good);
+      within = subst (All (IsSpanWithin text)) (sym pushed) (All-push (IsSpanWithin text) spans found.line so_far.within here.within);
+      lines = subst (All IsLine) (sym grown) (All-push IsLine (map (span_bytes text) spans) (span_bytes text found.line) so_far.lines line);
       few = omega (arith, so_far.few, here.further, count);
       fit = omega (arith, so_far.few, count);
     }
@@ -44,7 +44,7 @@ cut_none text = record {
 -- nothing is left
 pub cut_all : (text : List ℕ) (spans : List Span) (next : ℕ) → AreCutTo text spans next → length text ≤ next → AreCut text spans
 cut_all text spans next all past = record {
-  lines_are = sym (append-nil (map (piece text) spans)) ∙ ap (λ rest. map (piece text) spans ++ lines_of rest) (sym (drop_all next text past)) ∙ all.lines_are;
+  lines_are = sym (append-nil (map (span_bytes text) spans)) ∙ ap (λ rest. map (span_bytes text) spans ++ lines_of rest) (sym (drop_all next text past)) ∙ all.lines_are;
   good = all.good;
   within = all.within;
   lines = all.lines;
@@ -55,20 +55,20 @@ cut_all text spans next all past = record {
 pub bad_found : (text : List ℕ) (spans : List Span) (next number : ℕ) (fault : CutFault) → AreCutTo text spans next → number ≡ length spans + 1
     → IsNextRefused text next number fault → IsFirstBad (lines_of text) fault
 bad_found text spans next number (NotUtf8 named) so_far count here = record {
-  before = map (piece text) spans;
+  before = map (span_bytes text) spans;
   bad = here.line;
   after = here.later;
-  lines_are = sym so_far.lines_are ∙ ap (λ l. map (piece text) spans ++ l) here.first;
-  counted = here.refused.0 ∙ count ∙ ap (λ n. n + 1) (sym (length-map spans (piece text)));
+  lines_are = sym so_far.lines_are ∙ ap (λ l. map (span_bytes text) spans ++ l) here.first;
+  counted = here.refused.0 ∙ count ∙ ap (λ n. n + 1) (sym (length-map spans (span_bytes text)));
   good_before = so_far.good;
   is_bad = here.refused.1;
 }
 bad_found text spans next number (LineLong named) so_far count here = record {
-  before = map (piece text) spans;
+  before = map (span_bytes text) spans;
   bad = here.line;
   after = here.later;
-  lines_are = sym so_far.lines_are ∙ ap (λ l. map (piece text) spans ++ l) here.first;
-  counted = here.refused.0 ∙ count ∙ ap (λ n. n + 1) (sym (length-map spans (piece text)));
+  lines_are = sym so_far.lines_are ∙ ap (λ l. map (span_bytes text) spans ++ l) here.first;
+  counted = here.refused.0 ∙ count ∙ ap (λ n. n + 1) (sym (length-map spans (span_bytes text)));
   good_before = so_far.good;
   is_bad = here.refused.1;
 }
@@ -82,7 +82,7 @@ is_no_feed byte fails same =
 -- the first line of what is left of a text
 pub record FirstLine (text line : List ℕ) (start next : ℕ) : Type 0 where
   pub first : lines_of (drop start text) ≡ line ∷ lines_of (drop next text)
-  pub here : piece text (record { start = start; end = start + length line }) ≡ line
+  pub here : span_bytes text (record { start = start; end = start + length line }) ≡ line
   pub inside : start + length line ≤ length text
   pub one : HasNoLineEnd line
 
@@ -125,7 +125,7 @@ good_line text line start next further found good = record {
 }
 
 -- it is refused
-pub bad_line : (text line : List ℕ) (start next number : ℕ) (fault : CutFault) → FirstLine text line start next → IsRefused line number fault → IsNextRefused text start number fault
+pub bad_line : (text line : List ℕ) (start next number : ℕ) (fault : CutFault) → FirstLine text line start next → IsLineRefused line number fault → IsNextRefused text start number fault
 bad_line text line start next number fault found refused = record {
   line = line;
   later = lines_of (drop next text);

@@ -6,14 +6,14 @@ use Rattle.std.proofs.lemmas.List.Elements.{All-append, All-cons, All-nil}
 use Rattle.knit_base.specs.Lines.{lines_of}
 use Rattle.line_cutter.specs.declared.fault.CutFault.{CutFault}
 use Rattle.line_cutter.specs.declared.fault.CutFault.TheVariants.{NotUtf8, LineLong, NoMemory}
-use Rattle.line_cutter.specs.Cut.{HasGoodLines, IsBehind, IsFirstBadBehind, IsFirstBadLine, IsGoodLine, IsNextRefused, StandBetween, StandsAt}
+use Rattle.line_cutter.specs.Cut.{HasGoodLines, IsPlaceBehind, IsFirstBadBehind, IsFirstBadLine, IsGoodLine, IsNextRefused, StandBetween, GoodLineStandsAt}
 
 -- the text begins behind no lines
-pub behind-none : (text : List ℕ) → IsBehind text 0 0
+pub behind-none : (text : List ℕ) → IsPlaceBehind text 0 0
 behind-none text = record { left = refl; within = omega arith; few = omega arith; fit = omega arith; good = λ k d below. absurd (omega arith) }
 
 -- the line that begins here
-pub line_here : (text line : List ℕ) (count start next : ℕ) → IsBehind text count start → StandsAt text start line next
+pub line_here : (text line : List ℕ) (count start next : ℕ) → IsPlaceBehind text count start → GoodLineStandsAt text start line next
     → (count < length (lines_of text)) × (get_or (lines_of text) count [] ≡ line)
 line_here text line count start next here stands =
     let left : drop count (lines_of text) ≡ line ∷ lines_of (drop next text) = here.left ∙ stands.first in
@@ -21,7 +21,7 @@ line_here text line count start next here stands =
     (within, ap (λ ls. get_or ls 0 []) (sym (drop_more (lines_of text) count [] within) ∙ left))
 
 -- one line stands between its place and the next
-pub between-one : (text line : List ℕ) (start next : ℕ) → start < length text → StandsAt text start line next → StandBetween text start 1 next
+pub between-one : (text line : List ℕ) (start next : ℕ) → start < length text → GoodLineStandsAt text start line next → StandBetween text start 1 next
 between-one text line start next some stands = record {
   lines = line ∷ [];
   further = stands.further;
@@ -33,7 +33,7 @@ between-one text line start next some stands = record {
 }
 
 -- so many lines more
-pub behind-between : (text : List ℕ) (count start more next : ℕ) → IsBehind text count start → StandBetween text start more next → IsBehind text (count + more) next
+pub behind-between : (text : List ℕ) (count start more next : ℕ) → IsPlaceBehind text count start → StandBetween text start more next → IsPlaceBehind text (count + more) next
 behind-between text count start more next here between =
     let left : drop count (lines_of text) ≡ between.lines ++ lines_of (drop next text) = here.left ∙ between.first in
     let all : lines_of text ≡ (take count (lines_of text) ++ between.lines) ++ lines_of (drop next text) =
@@ -53,18 +53,18 @@ behind-between text count start more next here between =
     }
 
 -- one line more
-pub behind-more : (text line : List ℕ) (count start next : ℕ) → start < length text → IsBehind text count start → StandsAt text start line next → IsBehind text (count + 1) next
+pub behind-more : (text line : List ℕ) (count start next : ℕ) → start < length text → IsPlaceBehind text count start → GoodLineStandsAt text start line next → IsPlaceBehind text (count + 1) next
 behind-more text line count start next some here stands = behind-between text count start 1 next here (between-one text line start next some stands)
 
 -- no line is left
-pub behind-all : (text : List ℕ) (count start : ℕ) → IsBehind text count start → length text ≤ start → (count ≡ length (lines_of text)) × All IsGoodLine (lines_of text)
+pub behind-all : (text : List ℕ) (count start : ℕ) → IsPlaceBehind text count start → length text ≤ start → (count ≡ length (lines_of text)) × All IsGoodLine (lines_of text)
 behind-all text count start here past =
     let none : drop count (lines_of text) ≡ [] = here.left ∙ ap lines_of (drop_all start text past) in
     let all : length (lines_of text) ≤ count = omega (arith, ap length none, length-drop count (lines_of text)) in
     (omega (arith, all, here.within), subst (All IsGoodLine) (take_all count (lines_of text) all) here.good)
 
 -- so the text has so many lines, all of them good
-pub behind-counted : (text : List ℕ) (count start : ℕ) → IsBehind text count start → length text ≤ start → HasGoodLines text count
+pub behind-counted : (text : List ℕ) (count start : ℕ) → IsPlaceBehind text count start → length text ≤ start → HasGoodLines text count
 behind-counted text count start here past = let all = behind-all text count start here past in record { counted = all.0; fit = here.fit; good = all.1 }
 
 -- the lines of the rest of a text stand between this place and its end
@@ -81,7 +81,7 @@ between-rest text start count some rest =
       good = rest.good;
     }
 
-bad_behind : (IsBad : List ℕ → Type 0) (text bad : List ℕ) (later : List (List ℕ)) (before count start number : ℕ) → IsBehind text count start → lines_of (drop start text) ≡ bad ∷ later → number ≡ before + count + 1
+bad_behind : (IsBad : List ℕ → Type 0) (text bad : List ℕ) (later : List (List ℕ)) (before count start number : ℕ) → IsPlaceBehind text count start → lines_of (drop start text) ≡ bad ∷ later → number ≡ before + count + 1
     → IsBad bad → (front : List (List ℕ)) → length front ≡ before → All IsGoodLine front → IsFirstBadLine IsBad (front ++ lines_of text) number
 bad_behind IsBad text bad later before count start number here first is wrong front len good = record {
   before = front ++ take count (lines_of text);
@@ -96,7 +96,7 @@ bad_behind IsBad text bad later before count start number here first is wrong fr
 }
 
 -- the line that is refused is the first bad one, wherever the lines of the text stand
-pub refused-behind : (text : List ℕ) (before count start number : ℕ) (fault : CutFault) → IsBehind text count start → IsNextRefused text start number fault → number ≡ before + count + 1
+pub refused-behind : (text : List ℕ) (before count start number : ℕ) (fault : CutFault) → IsPlaceBehind text count start → IsNextRefused text start number fault → number ≡ before + count + 1
     → IsFirstBadBehind before (lines_of text) fault
 refused-behind text before count start number (NotUtf8 named) here refused is =
     bad_behind _ text refused.line refused.later before count start named here refused.first (refused.refused.0 ∙ is) refused.refused.1

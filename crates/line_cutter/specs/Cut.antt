@@ -2,7 +2,7 @@
 use Rattle.std.specs.Prelude.{◌≡◌, ℕ, ◌+◌, ◌<◌, ◌≤◌, true, false, List, ◌∷◌, ◌++◌, length, take, drop, map, All}
 use Rattle.std.specs.Str.{is_utf8}
 use Rattle.knit_base.specs.declared.lines.Span.{Span}
-use Rattle.knit_base.specs.Lines.{HasNoLineEnd, IsLine, IsWithin, lines_of, piece}
+use Rattle.knit_base.specs.Lines.{HasNoLineEnd, IsLine, IsSpanWithin, lines_of, span_bytes}
 use Rattle.line_cutter.specs.declared.line.TheConstants.{LINE_LIMIT}
 use Rattle.line_cutter.specs.declared.fault.CutFault.{CutFault}
 use Rattle.line_cutter.specs.declared.fault.CutFault.TheVariants.{NotUtf8, LineLong, NoMemory}
@@ -18,7 +18,7 @@ abbrev pub IsNotUtf8 : List ℕ → Type 0
 IsNotUtf8 line = is_utf8 line ≡ false
 
 -- a line that is UTF-8 and too long
-pub record IsLong (line : List ℕ) : Type 0 where
+pub record IsLongLine (line : List ℕ) : Type 0 where
   pub utf8 : is_utf8 line ≡ true
   pub long : LINE_LIMIT < length line
 
@@ -35,15 +35,15 @@ pub record IsFirstBadLine (IsBad : List ℕ → Type 0) (lines : List (List ℕ)
 -- the refusal names the first bad line and what is wrong with it; want of memory says nothing of the lines
 abbrev pub IsFirstBad : List (List ℕ) → CutFault → Type 0
 IsFirstBad lines (NotUtf8 number) = IsFirstBadLine IsNotUtf8 lines number
-IsFirstBad lines (LineLong number) = IsFirstBadLine IsLong lines number
+IsFirstBad lines (LineLong number) = IsFirstBadLine IsLongLine lines number
 IsFirstBad lines NoMemory = Unit {0}
 
 -- the text's first lines lie here and are good: they, and behind them the lines from the next place on, are its lines
 pub record AreCutTo (text : List ℕ) (spans : List Span) (next : ℕ) : Type 0 where
-  pub lines_are : map (piece text) spans ++ lines_of (drop next text) ≡ lines_of text
-  pub good : All IsGoodLine (map (piece text) spans)
-  pub within : All (IsWithin text) spans
-  pub lines : All IsLine (map (piece text) spans)
+  pub lines_are : map (span_bytes text) spans ++ lines_of (drop next text) ≡ lines_of text
+  pub good : All IsGoodLine (map (span_bytes text) spans)
+  pub within : All (IsSpanWithin text) spans
+  pub lines : All IsLine (map (span_bytes text) spans)
   pub few : length spans ≤ next
   pub fit : length spans ≤ length text
 
@@ -53,36 +53,36 @@ IsFirstBadBehind before lines fault = (front : List (List ℕ)) → length front
 
 -- all lines of the text lie here, and they are good
 pub record AreCut (text : List ℕ) (spans : List Span) : Type 0 where
-  pub lines_are : map (piece text) spans ≡ lines_of text
-  pub good : All IsGoodLine (map (piece text) spans)
-  pub within : All (IsWithin text) spans
-  pub lines : All IsLine (map (piece text) spans)
+  pub lines_are : map (span_bytes text) spans ≡ lines_of text
+  pub good : All IsGoodLine (map (span_bytes text) spans)
+  pub within : All (IsSpanWithin text) spans
+  pub lines : All IsLine (map (span_bytes text) spans)
   pub fit : length spans ≤ length text
 
 -- the refusal names this line and what is wrong with it
-abbrev pub IsRefused : List ℕ → ℕ → CutFault → Type 0
-IsRefused line number (NotUtf8 named) = (named ≡ number) × IsNotUtf8 line
-IsRefused line number (LineLong named) = (named ≡ number) × IsLong line
-IsRefused line number NoMemory = ⊥
+abbrev pub IsLineRefused : List ℕ → ℕ → CutFault → Type 0
+IsLineRefused line number (NotUtf8 named) = (named ≡ number) × IsNotUtf8 line
+IsLineRefused line number (LineLong named) = (named ≡ number) × IsLongLine line
+IsLineRefused line number NoMemory = ⊥
 
 -- a good line begins here and is found, and the lines after it are those of the text from the next place on
 pub record IsNextLine (text : List ℕ) (start : ℕ) (found : Found) : Type 0 where
   pub here : found.line.start ≡ start
-  pub within : IsWithin text found.line
+  pub within : IsSpanWithin text found.line
   pub further : start < found.next
-  pub first : lines_of (drop start text) ≡ piece text found.line ∷ lines_of (drop found.next text)
-  pub good : IsGoodLine (piece text found.line)
-  pub one : HasNoLineEnd (piece text found.line)
+  pub first : lines_of (drop start text) ≡ span_bytes text found.line ∷ lines_of (drop found.next text)
+  pub good : IsGoodLine (span_bytes text found.line)
+  pub one : HasNoLineEnd (span_bytes text found.line)
 
 -- the line that begins here is refused
 pub record IsNextRefused (text : List ℕ) (start number : ℕ) (fault : CutFault) : Type 0 where
   pub line : List ℕ
   pub later : List (List ℕ)
   pub first : lines_of (drop start text) ≡ line ∷ later
-  pub refused : IsRefused line number fault
+  pub refused : IsLineRefused line number fault
 
 -- a good line begins here, and the next one there
-pub record StandsAt (text : List ℕ) (start : ℕ) (line : List ℕ) (next : ℕ) : Type 0 where
+pub record GoodLineStandsAt (text : List ℕ) (start : ℕ) (line : List ℕ) (next : ℕ) : Type 0 where
   pub further : start < next
   pub first : lines_of (drop start text) ≡ line ∷ lines_of (drop next text)
   pub good : IsGoodLine line
@@ -104,7 +104,7 @@ pub record HasGoodLines (text : List ℕ) (count : ℕ) : Type 0 where
   pub good : All IsGoodLine (lines_of text)
 
 -- So many lines stand before this place, and they are good.
-pub record IsBehind (text : List ℕ) (count start : ℕ) : Type 0 where
+pub record IsPlaceBehind (text : List ℕ) (count start : ℕ) : Type 0 where
   pub left : drop count (lines_of text) ≡ lines_of (drop start text)
   pub within : count ≤ length (lines_of text)
   pub few : count ≤ start

@@ -3,7 +3,7 @@ ghost use Rattle.std.specs.Prelude.{◌≡◌, ◌≤◌, ◌<◌, ◌^◌, IsTr
 ghost use Rattle.std.specs.List.{position_or_len};
 ghost use Rattle.std.specs.Str.{IsAscii, is_utf8};
 ghost use Rattle.knit_base.specs.Lines.{is_line_feed, without_return};
-ghost use Rattle.line_cutter.specs.Cut.{IsGoodLine, IsNextLine, IsRefused, IsNextRefused};
+ghost use Rattle.line_cutter.specs.Cut.{IsGoodLine, IsNextLine, IsLineRefused, IsNextRefused};
 
 use crate::CutFault;
 use knit_base::Span;
@@ -80,7 +80,7 @@ fn line_len(piece: &[u8]) -> usize
 fn check_line(line: &[u8], number: u32, is_ascii: bool) -> Result<(), CutFault>
     requires { IsTrue is_ascii → IsAscii line.now }
     ensures ok { OnOk result (IsGoodLine line.now) }
-    ensures err { IfErr result (IsRefused line.now number) }
+    ensures err { IfErr result (IsLineRefused line.now number) }
 {
     if !is_text(line, is_ascii) {
         return Err(CutFault::NotUtf8 { line: number });

@@ -1,7 +1,7 @@
 //! Lines of a text that are found one by one, and not kept: most callers look at a line once.
 ghost use Rattle.std.specs.Prelude.{◌≤◌, ◌<◌, length, IfErr, IfOk};
 ghost use Rattle.knit_base.specs.Lines.{HasNoLineEnd};
-ghost use Rattle.line_cutter.specs.Cut.{IsNextRefused, StandsAt};
+ghost use Rattle.line_cutter.specs.Cut.{IsNextRefused, GoodLineStandsAt};
 
 use crate::CutFault;
 use crate::line::next_line;
@@ -11,7 +11,7 @@ use crate::line::next_line;
 pub fn line_at<'a>(text: &'a [u8], start: usize, number: u32) -> Result<(&'a str, usize), CutFault>
     requires some { start < length text.now }
     requires size { length text.now ≤ 16777216 }
-    ensures ok { IfOk result (λ found. StandsAt text.now start found.0.now found.1) }
+    ensures ok { IfOk result (λ found. GoodLineStandsAt text.now start found.0.now found.1) }
     ensures one { IfOk result (λ found. HasNoLineEnd found.0.now) }
     ensures err { IfErr result (IsNextRefused text.now start number) }
 {

@@ -5,14 +5,14 @@ use Rattle.knit_ports.specs.WholeLines.{with_feed}
 use Rattle.edit_journal.specs.declared.opening.Opening.{Opening}
 use Rattle.input_answers.specs.Asked.{as_json}
 use Rattle.file_run.specs.Bodies.{body_of}
-use Rattle.input_answers.specs.Due.{Fits}
-use Rattle.input_answers.specs.DueLive.{IsOpening}
+use Rattle.input_answers.specs.Due.{BodyFits}
+use Rattle.input_answers.specs.DueLive.{IsScriptOpening}
 use Rattle.input_answers.specs.DueReplay.{journal_refusal}
 use Rattle.input_answers.specs.declared.outcome.Status.TheVariants as status
 use Rattle.input_answers.specs.declared.plan.Plan.{Plan}
 use Rattle.journal_file.specs.Faults.{HasNoSpelling, IsBadJournal}
-use Rattle.journal_file.specs.SavedParts.{IsLawfulSaved, opening_of}
-use Rattle.journal_file.specs.Spelling.{spelling}
+use Rattle.journal_file.specs.SavedParts.{IsLawfulSaved, opening_of_saved}
+use Rattle.journal_file.specs.Spelling.{saved_spelling}
 use Rattle.journal_file.specs.declared.fault.JournalCause.{JournalCause}
 use Rattle.journal_file.specs.declared.fault.JournalFault.TheVariants.{At}
 use Rattle.journal_file.specs.declared.saved.Saved.{Saved}
@@ -34,7 +34,7 @@ if-ok (Err e) f p = tt
 
 -- a document begins with the text
 pub begins-anew : (plan : Plan) (told : OpeningText) (text : List (List ℕ)) (head : Head) (opening : Opening) (begun : Begun) → told.kind ≡ kind.Text → text ≡ told.text → IsHead text head
-    → Fits plan.chosen.block (length (body_of text)) → IsOpening plan.chosen head text opening → HasBegun (as_json plan.command) (head_of text) opening [] begun → BeginsBy plan told begun
+    → BodyFits plan.chosen.block (length (body_of text)) → IsScriptOpening plan.chosen head text opening → HasBegun (as_json plan.command) (head_of text) opening [] begun → BeginsBy plan told begun
 begins-anew plan told text head opening begun is same has fits opens begins = record {
   head = head_of text;
   opening = opening;
@@ -45,13 +45,13 @@ begins-anew plan told text head opening begun is same has fits opens begins = re
 
 -- one goes on from the saved text
 pub begins-again : (plan : Plan) (told : OpeningText) (lines : List (List ℕ)) (saved : Saved) (begun : Begun) → told.kind ≡ kind.Saved → told.text ≡ lines
-    → flat_map with_feed lines ≡ spelling saved.head saved.profile saved.blocks saved.journal.entries → IsLawfulSaved saved.head saved.profile saved.blocks saved.journal.entries
-    → HasBegun (as_json plan.command) saved.head (opening_of saved.head saved.profile saved.blocks) saved.journal.entries begun → BeginsBy plan told begun
+    → flat_map with_feed lines ≡ saved_spelling saved.head saved.profile saved.blocks saved.journal.entries → IsLawfulSaved saved.head saved.profile saved.blocks saved.journal.entries
+    → HasBegun (as_json plan.command) saved.head (opening_of_saved saved.head saved.profile saved.blocks) saved.journal.entries begun → BeginsBy plan told begun
 begins-again plan told lines saved begun is same spelt lawful begins = record {
   head = saved.head;
-  opening = opening_of saved.head saved.profile saved.blocks;
+  opening = opening_of_saved saved.head saved.profile saved.blocks;
   entries = saved.journal.entries;
-  document = subst (λ (p : OpeningKind × List (List ℕ)). IsDocumentOf plan.chosen p.0 p.1 saved.head (opening_of saved.head saved.profile saved.blocks) saved.journal.entries) (λ i. (sym is i, sym same i))
+  document = subst (λ (p : OpeningKind × List (List ℕ)). IsDocumentOf plan.chosen p.0 p.1 saved.head (opening_of_saved saved.head saved.profile saved.blocks) saved.journal.entries) (λ i. (sym is i, sym same i))
       (again lines saved.head saved.profile saved.blocks saved.journal.entries spelt lawful);
   begun = begins;
 }
@@ -64,7 +64,7 @@ refused-again plan told lines bytes line why is same are bad none =
     bad_journal line why is (subst (λ (b : List ℕ). IsBadJournal b (At line why)) here bad) (subst HasNoSpelling here none)
 
 -- the lines of a saved text aren't too long together
-pub saved-few : (lines text : List (List ℕ)) (which : OpeningKind) → which ≡ kind.Saved → openings.IsOpening lines which text → length (flat_map with_feed text) ≤ OPENING_LIMIT
+pub saved-few : (lines text : List (List ℕ)) (which : OpeningKind) → which ≡ kind.Saved → openings.AreOpeningLines lines which text → length (flat_map with_feed text) ≤ OPENING_LIMIT
 saved-few lines text kind.Text is o = absurd (cc)
 saved-few lines text kind.Saved is o =
     let w = o.whole in

@@ -5,9 +5,9 @@ ghost use Rattle.knit_ports.specs.WholeLines.{with_feed};
 ghost use Rattle.edit_journal.specs.declared.opening.Opening.{Opening};
 ghost use Rattle.input_answers.specs.Asked.{as_json};
 ghost use Rattle.file_run.specs.Bodies.{body_of};
-ghost use Rattle.input_answers.specs.Due.{Fits};
-ghost use Rattle.input_answers.specs.DueLive.{IsOpening};
-ghost use Rattle.journal_file.specs.SavedParts.{IsLawfulSaved, opening_of};
+ghost use Rattle.input_answers.specs.Due.{BodyFits};
+ghost use Rattle.input_answers.specs.DueLive.{IsScriptOpening};
+ghost use Rattle.journal_file.specs.SavedParts.{IsLawfulSaved, opening_of_saved};
 ghost use Rattle.knitout_reader.specs.Head.{IsHead, head_of};
 ghost use Rattle.opening_reader.specs.Openings as openings;
 ghost use Rattle.opening_reader.specs.declared.opening.OpeningKind.TheVariants as kind;
@@ -17,7 +17,7 @@ ghost use Rattle.live_talk.specs.Begins.{HasBegun, IsBeginning};
 use command_words::Command;
 use edit_book::Book;
 use input_answers::{
-    Opened, Plan, Status, open, refusal_of_head, refusal_of_journal, refusal_of_size, saved_in,
+    OpenedBook, Plan, Status, open, refusal_of_head, refusal_of_journal, refusal_of_size, saved_in,
 };
 use journal_file::{JournalFault, Saved, reopen};
 use knit_base::{Lines, NoMemory, Steps};
@@ -58,7 +58,7 @@ pub(crate) fn begin<R: Threads + Wait + Sync>(
     plan: &Plan,
     opening: OpeningText,
 ) -> Result<Beginning, NoMemory>
-    requires opened { (lines : List (List ℕ)) × openings.IsOpening lines opening.kind opening.text }
+    requires opened { (lines : List (List ℕ)) × openings.AreOpeningLines lines opening.kind opening.text }
     requires short { All (λ line. length line < 65535) opening.text }
     ensures { IfOk result (IsBeginning plan.now opening) }
 {
@@ -113,8 +113,8 @@ fn begin_with<R: Threads + Wait + Sync>(
     head: &Head,
 ) -> Result<Begun, NoMemory>
     requires head { IsHead text.now head.now }
-    requires fits { Fits plan.now.chosen.block (length (body_of text.now)) }
-    ensures { IfOk result (λ begun. (opening : Opening) × IsOpening plan.now.chosen head.now text.now opening × HasBegun (as_json plan.now.command) (head_of text.now) opening [] begun) }
+    requires fits { BodyFits plan.now.chosen.block (length (body_of text.now)) }
+    ensures { IfOk result (λ begun. (opening : Opening) × IsScriptOpening plan.now.chosen head.now text.now opening × HasBegun (as_json plan.now.command) (head_of text.now) opening [] begun) }
 {
     let book = book_of::<Brand, R>(rt, Blank::new(1), alloc, plan, text, head)?;
     let style = Style {
@@ -156,7 +156,7 @@ fn begin_saved<R: Threads + Wait + Sync>(
     saved: Saved,
 ) -> Result<Begun, NoMemory>
     requires { IsLawfulSaved saved.head saved.profile saved.blocks saved.journal.entries }
-    ensures { IfOk result (HasBegun (as_json plan.now.command) saved.head (opening_of saved.head saved.profile saved.blocks) saved.journal.entries) }
+    ensures { IfOk result (HasBegun (as_json plan.now.command) saved.head (opening_of_saved saved.head saved.profile saved.blocks) saved.journal.entries) }
 {
     let style = Style {
         json: as_json(plan.command),
@@ -207,12 +207,12 @@ fn book_of<L: Ledger, R: Threads + Sync>(
     requires parts { blank.parts ≡ L.parts }
     requires some { 0 < L.parts }
     requires head { IsHead text.now head.now }
-    requires fits { Fits plan.now.chosen.block (length (body_of text.now)) }
-    ensures opening { IfOk result (λ book. IsOpening plan.now.chosen head.now text.now book.opening) }
+    requires fits { BodyFits plan.now.chosen.block (length (body_of text.now)) }
+    ensures opening { IfOk result (λ book. IsScriptOpening plan.now.chosen head.now text.now book.opening) }
     ensures profile { IfOk result (λ book. IsLawfulProfile book.opening.setting.profile) }
     ensures entries { IfOk result (λ book. book.entries ≡ []) }
 {
     let mut steps = Steps::<L>::start(rt, blank);
-    let Opened { book, .. } = open(rt, alloc, plan, text, head, &mut steps)?;
+    let OpenedBook { book, .. } = open(rt, alloc, plan, text, head, &mut steps)?;
     Ok(book)
 }

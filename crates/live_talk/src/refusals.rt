@@ -1,6 +1,6 @@
 //! What is said where there is nothing to go on with.
 ghost use Rattle.std.specs.Prelude.{◌≡◌, List};
-ghost use Rattle.knit_ports.specs.Pieces.{GoesOn, Piece};
+ghost use Rattle.knit_ports.specs.Pieces.{PiecesGoOn, Piece};
 ghost use Rattle.live_talk.specs.Begins.{HasEndCause};
 ghost use Rattle.live_talk.specs.Served.{IsEnded, line_refusal};
 ghost use Rattle.verdict_report.specs.Refusals.{refusal_text};
@@ -31,7 +31,7 @@ pub(crate) fn refuse<T: Talk>(
     status: Status,
     talk: &mut T,
 ) -> Status
-    ensures said { (pieces : List Piece) × GoesOn (T.told talk.old) (T.told talk.new) pieces × IsEnded (refusal_text refusal) status pieces result }
+    ensures said { (pieces : List Piece) × PiecesGoOn (T.told talk.old) (T.told talk.new) pieces × IsEnded (refusal_text refusal) status pieces result }
     ensures cause { HasEndCause status (T.faults talk.old) (T.faults talk.new) result }
 {
     let mut out = Vec::new(alloc);

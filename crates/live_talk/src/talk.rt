@@ -1,9 +1,9 @@
 //! A conversation whole.
 ghost use Rattle.std.specs.Prelude.{◌≡◌, ◌<◌, ◌++◌, ℕ, All, List, [], length, Ok};
-ghost use Rattle.knit_ports.specs.Pieces.{GoesOn, Piece};
+ghost use Rattle.knit_ports.specs.Pieces.{PiecesGoOn, Piece};
 ghost use Rattle.input_answers.specs.Asked.{as_json};
 ghost use Rattle.opening_reader.specs.HeardOpenings.{EndsOpening};
-ghost use Rattle.opening_reader.specs.Openings.{IsOpening};
+ghost use Rattle.opening_reader.specs.Openings.{AreOpeningLines};
 ghost use Rattle.live_talk.specs.Served.{HasServeCause, IsTalked, Served};
 
 use crate::begin::{Beginning, Begun, begin};
@@ -32,7 +32,7 @@ pub fn serve<R: Threads + Wait + Sync, T: Talk>(
     plan: &Plan,
     talk: &mut T,
 ) -> Status
-    ensures served { (pieces : List Piece) × GoesOn (T.told talk.old) (T.told talk.new) pieces × Served (as_json plan.now.command) plan.now.chosen pieces result }
+    ensures served { (pieces : List Piece) × PiecesGoOn (T.told talk.old) (T.told talk.new) pieces × Served (as_json plan.now.command) plan.now.chosen pieces result }
     ensures cause { HasServeCause (T.faults talk.old) (T.faults talk.new) result }
 {
     let Ok(mut ear) = Ear::new(alloc) else {
@@ -60,9 +60,9 @@ fn answer_opening<R: Threads + Wait + Sync, T: Talk>(
     ear: &mut Ear,
     talk: &mut T,
 ) -> Status
-    requires opened { (lines : List (List ℕ)) × IsOpening lines opening.kind opening.text }
+    requires opened { (lines : List (List ℕ)) × AreOpeningLines lines opening.kind opening.text }
     requires short { All (λ line. length line < 65535) opening.text }
-    ensures served { (heard : List Piece) → EndsOpening heard ear.old.pending (Ok opening) → (more : List Piece) × GoesOn (T.told talk.old) (T.told talk.new) more
+    ensures served { (heard : List Piece) → EndsOpening heard ear.old.pending (Ok opening) → (more : List Piece) × PiecesGoOn (T.told talk.old) (T.told talk.new) more
         × Served (as_json plan.now.command) plan.now.chosen (heard ++ more) result }
     ensures cause { HasServeCause (T.faults talk.old) (T.faults talk.new) result }
 {
@@ -90,7 +90,7 @@ fn talk_on<R: Threads + Wait + Sync, T: Talk, D: Desk>(
     requires first { first ≡ (D.asking (D.opening desk.old)).first }
     requires nothing { (D.asking (D.opening desk.old)).orders [] ≡ [] }
     requires begun { D.behind desk.old [] [] }
-    ensures talked { (pieces : List Piece) × GoesOn (T.told talk.old) (T.told talk.new) pieces × IsTalked (D.asking (D.opening desk.old)) (D.ends (D.opening desk.old)) text.items ear.old.pending pieces result }
+    ensures talked { (pieces : List Piece) × PiecesGoOn (T.told talk.old) (T.told talk.new) pieces × IsTalked (D.asking (D.opening desk.old)) (D.ends (D.opening desk.old)) text.items ear.old.pending pieces result }
     ensures cause { HasServeCause (T.faults talk.old) (T.faults talk.new) result }
 {
     let alloc = *text.allocator();

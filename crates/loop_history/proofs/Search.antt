@@ -74,8 +74,8 @@ probing-below rows offset low high probes i same newer row rising here some midd
     above k d from before = grind (arith, rising i k d, at_place rows i row d is, here.within)
 
 -- the row at this place is the one that is looked for
-pub placed : (rows : List LoopRow) (offset i : ℕ) (row : LoopRow) → OffsetsRise rows → i < length rows → slice_get rows i ≡ Some row → row.offset ≡ offset → position (is_at offset) rows ≡ Some i
-placed rows offset i row rising within is own =
+pub row_found_at_place : (rows : List LoopRow) (offset i : ℕ) (row : LoopRow) → OffsetsRise rows → i < length rows → slice_get rows i ≡ Some row → row.offset ≡ offset → position (is_at offset) rows ≡ Some i
+row_found_at_place rows offset i row rising within is own =
     ap (λ n. cond (nat_lt n (length rows)) (Some n) None) (position_or_len_is (is_at offset) rows i row (omega arith) before here)
     ∙ ap (λ b. cond b (Some i) None) (lt-ltb i (length rows) within)
   where
@@ -95,9 +95,9 @@ missed_at rows offset low high probes here over d k within = elim (cases_lt k lo
 ]
 
 -- nothing is left between the rows of earlier and those of later lines
-pub missed : (rows : List LoopRow) (offset low high probes : ℕ) → Probing rows offset low high probes → high ≤ low → position (is_at offset) rows ≡ None
-missed [] offset low high probes here over = refl
-missed (row ∷ rows) offset low high probes here over =
+pub row_not_found : (rows : List LoopRow) (offset low high probes : ℕ) → Probing rows offset low high probes → high ≤ low → position (is_at offset) rows ≡ None
+row_not_found [] offset low high probes here over = refl
+row_not_found (row ∷ rows) offset low high probes here over =
     ap (λ n. cond (nat_lt n (length (row ∷ rows))) (Some n) None)
     (position_or_len_is (is_at offset) (row ∷ rows) (length (row ∷ rows)) row (omega arith) (missed_at (row ∷ rows) offset low high probes here over row) (λ past. absurd (omega arith)))
     ∙ ap (λ b. cond b (Some (length (row ∷ rows))) None) (le-ltb (length (row ∷ rows)) (length (row ∷ rows)) (omega arith))
@@ -106,4 +106,4 @@ missed (row ∷ rows) offset low high probes here over =
 pub missed_all : (rows : List LoopRow) (offset low high probes : ℕ) → Probing rows offset low high probes → probes ≡ 13 → position (is_at offset) rows ≡ None
 missed_all rows offset low high probes here all =
     let few : (high - low) * 2 ^ 13 ≤ 4096 = subst (λ n. (high - low) * 2 ^ n ≤ 4096) all here.few in
-    missed rows offset low high probes here (omega arith)
+    row_not_found rows offset low high probes here (omega arith)

@@ -21,7 +21,7 @@ use Rattle.carriage_model.proofs.CarriageRuns.{loops_more, loops-more, one_more,
 use Rattle.face_data.specs.declared.face.Ending.TheVariants.{Through, Broken}
 use Rattle.face_data.specs.Segments.{AreRead}
 use Rattle.face_data.specs.Stands.{StandsFor, outcome_of_run}
-use Rattle.face_data.specs.Summaries.{Summary, applied}
+use Rattle.face_data.specs.Summaries.{Summary, summary_outcome}
 use Rattle.face_data.proofs.Stands.{ends_read, goes_through}
 use Rattle.loop_history.specs.declared.row.LoopRow.{LoopRow}
 use Rattle.loop_history.specs.Rows.{OffsetsRise, fact_of_row, facts_of_rows, rows_run}
@@ -188,7 +188,7 @@ pub broken_stops : (profile : Profile) (summary : Summary) (lines : List Read) (
     (s : State) (first : ℕ) → HasStopped (run profile s first lines)
 broken_stops profile summary lines fault sums broke s first = go (run profile s first lines) (sums.outcome s first)
   where
-    go : (ended : Ended) → applied summary s first ≡ outcome_of_run ended → HasStopped ended
+    go : (ended : Ended) → summary_outcome summary s first ≡ outcome_of_run ended → HasStopped ended
     go (Ends t) goes =
         let through = goes_through summary s t first goes in
         let same : Broken fault ≡ Through through.0 = sym broke ∙ through.1 in

@@ -27,7 +27,7 @@ use Rattle.face_data.specs.Through.{through}
 use Rattle.face_data.proofs.Stands.{ends_read, loops_made-append}
 use Rattle.face_data.proofs.Through.{read-through, with_stacks}
 use Rattle.loop_history.specs.declared.row.LoopRow.{LoopRow}
-use Rattle.loop_history.specs.Rows.{IsTable, OffsetsRise, fact_of_row, facts_of_rows, row_through, rows_run}
+use Rattle.loop_history.specs.Rows.{IsLoopTable, OffsetsRise, fact_of_row, facts_of_rows, row_through, rows_run}
 use Rattle.loop_history.specs.Tables.{IsOfEarlier, IsRowOf, TableStandsFor}
 use Rattle.loop_history.proofs.TableLines.{StopsAmong, rows_to, stops_among, within_wider}
 
@@ -232,8 +232,8 @@ table_both profile summary rows more xs ys sums here there fits =
     }
 
 -- The same rows may stand in a table.
-pub is_table_both : (changes : List Changed) (lines : ℕ) (rows more : List LoopRow) → IsTable rows → IsTable more → All (λ (row : LoopRow). row.offset < lines) rows → length rows + length more ≤ 4096
-    → IsTable (rows ++ map (row_through changes lines) more)
+pub is_table_both : (changes : List Changed) (lines : ℕ) (rows more : List LoopRow) → IsLoopTable rows → IsLoopTable more → All (λ (row : LoopRow). row.offset < lines) rows → length rows + length more ≤ 4096
+    → IsLoopTable (rows ++ map (row_through changes lines) more)
 is_table_both changes lines rows more first second before few =
     let mapped : List LoopRow = map (row_through changes lines) more in
     record {

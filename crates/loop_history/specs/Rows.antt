@@ -27,7 +27,7 @@ abbrev pub OffsetsRise : List LoopRow → Type 0
 OffsetsRise rows = AllPairs (λ (earlier later : LoopRow). earlier.offset < later.offset) rows
 
 -- the rows may stand in a table
-pub record IsTable (rows : List LoopRow) : Type 0 where
+pub record IsLoopTable (rows : List LoopRow) : Type 0 where
   pub few : length rows ≤ 4096
   pub rising : OffsetsRise rows
 

@@ -5,7 +5,7 @@ ghost use Rattle.std.specs.Option.{option_copied};
 ghost use Rattle.knit_base.specs.Needle.{same_needle};
 ghost use Rattle.carriage_model.specs.State.{State};
 ghost use Rattle.face_data.specs.Segments.{OffsetFits, read_seg, read_segs};
-ghost use Rattle.loop_history.specs.Entries.{AreEntriesOf, entered};
+ghost use Rattle.loop_history.specs.Entries.{AreEntriesOf, state_with_stacks};
 ghost use Rattle.loop_history.specs.Rows.{fact_of_row};
 
 use crate::LoopRow;
@@ -46,7 +46,7 @@ pub fn resolve(
 // Adds the lines of the loops that the segment stands for.
 fn add_lines(seg: Seg, first: u32, entries: &Entries, lines: &mut LoopLines) -> Result<(), NoMemory>
     requires { OffsetFits first seg }
-    ensures { OnOk result (lines.new ≡ lines.old ++ read_seg (entered entries.now) first seg) }
+    ensures { OnOk result (lines.new ≡ lines.old ++ read_seg (state_with_stacks entries.now) first seg) }
 {
     match seg {
         Seg::New(offset) => add_all(&[first + offset], lines),

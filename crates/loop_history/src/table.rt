@@ -23,13 +23,13 @@ pub struct LoopTable {
 impl Model for LoopTable {
     ghost use Rattle.std.specs.Prelude.{List};
     ghost use Rattle.loop_history.specs.declared.row.LoopRow.{LoopRow};
-    ghost use Rattle.loop_history.specs.Rows.{IsTable};
+    ghost use Rattle.loop_history.specs.Rows.{IsLoopTable};
 
     ghost Value = { List LoopRow };
 
     ghost view = { λ t. t.rows };
 
-    ghost invariant = { λ t. IsTable t.rows };
+    ghost invariant = { λ t. IsLoopTable t.rows };
 }
 
 impl LoopTable {

@@ -15,34 +15,34 @@ abbrev pub high_of : Options → ℤ
 high_of options = unwrap_or options.high (pos 1023)
 
 -- how many needles the beds rack to either side
-abbrev pub rack_of : Options → ℤ
-rack_of options = unwrap_or options.rack (pos 8)
+abbrev pub rack_option : Options → ℤ
+rack_option options = unwrap_or options.rack (pos 8)
 
 -- how many loops a needle may hold
 abbrev pub hold_of : Options → ℤ
 hold_of options = unwrap_or options.hold (pos 16)
 
 -- how many body lines an opening block has
-abbrev pub block_of : Options → ℤ
-block_of options = unwrap_or options.block (pos 64)
+abbrev pub block_option : Options → ℤ
+block_option options = unwrap_or options.block (pos 64)
 
 -- the option, where its value lies below the least or above the greatest
-abbrev pub outside : Which → ℤ → ℤ → ℤ → Option Which
-outside which least greatest value = if int_le least value && int_le value greatest then None else Some which
+abbrev pub option_outside : Which → ℤ → ℤ → ℤ → Option Which
+option_outside which least greatest value = if int_le least value && int_le value greatest then None else Some which
 
 -- the same of an option that has no default
 abbrev pub outside_if_any : Which → ℤ → ℤ → Option ℤ → Option Which
 outside_if_any which least greatest None = None
-outside_if_any which least greatest (Some value) = outside which least greatest value
+outside_if_any which least greatest (Some value) = option_outside which least greatest value
 
 -- the first option that is refused; the highest needle lies no lower than the lowest
-abbrev pub refused : Options → Option Which
-refused options =
-    option_or (outside Low (pos 0 -ℤ pos 4096) (pos 4096) (low_of options))
-    (option_or (outside High (low_of options) (pos 4096) (high_of options))
-    (option_or (outside Rack (pos 0) (pos 64) (rack_of options))
-    (option_or (outside Hold (pos 1) (pos 64) (hold_of options))
-    (option_or (outside Block (pos 1) (pos 4096) (block_of options))
+abbrev pub refused_option : Options → Option Which
+refused_option options =
+    option_or (option_outside Low (pos 0 -ℤ pos 4096) (pos 4096) (low_of options))
+    (option_or (option_outside High (low_of options) (pos 4096) (high_of options))
+    (option_or (option_outside Rack (pos 0) (pos 64) (rack_option options))
+    (option_or (option_outside Hold (pos 1) (pos 64) (hold_of options))
+    (option_or (option_outside Block (pos 1) (pos 4096) (block_option options))
     (outside_if_any Float (pos 1) (pos 8192) options.float)))))
 
 -- the profile and the block have these values
@@ -56,7 +56,7 @@ pub record HasValues (lowest highest needles loops lines : ℤ) (longest : Optio
 
 -- the profile and the block have the values of the options
 abbrev pub IsChosen : Options → Chosen → Type 0
-IsChosen options = HasValues (low_of options) (high_of options) (rack_of options) (hold_of options) (block_of options) options.float
+IsChosen options = HasValues (low_of options) (high_of options) (rack_option options) (hold_of options) (block_option options) options.float
 
 -- a block has 1 to 4,096 lines
 pub record IsBlockSize (lines : ℕ) : Type 0 where

@@ -8,7 +8,7 @@
 ghost use Rattle.std.specs.Prelude.{◌≡◌, ◌≤◌, ◌≤ℤ◌, negsuc, pos, IfOk, IfSome, MatchResult, None, Some, option_map};
 ghost use Rattle.knit_base.specs.Limits.{IsFloatLimit, IsLawfulProfile};
 ghost use Rattle.machine_profile.specs.declared.Which.TheVariants.{Float};
-ghost use Rattle.machine_profile.specs.Bounds.{HasValues, IsBlockSize, IsChosen, outside, outside_if_any, refused};
+ghost use Rattle.machine_profile.specs.Bounds.{HasValues, IsBlockSize, IsChosen, option_outside, outside_if_any, refused_option};
 
 use knit_base::Profile;
 
@@ -90,8 +90,8 @@ pub struct BadOption {
 
 /// The value of an option, unless it lies outside its bounds.
 fn within(which: Which, least: i64, greatest: i64, value: i64) -> Result<i64, BadOption>
-    ensures exact { MatchResult result (λ v. (outside which least greatest value ≡ None) × (v ≡ value))
-        (λ bad. outside which least greatest value ≡ Some bad.which) }
+    ensures exact { MatchResult result (λ v. (option_outside which least greatest value ≡ None) × (v ≡ value))
+        (λ bad. option_outside which least greatest value ≡ Some bad.which) }
     ensures bounds { IfOk result (λ v. (least ≤ℤ v) × (v ≤ℤ greatest)) }
 {
     if value < least || value > greatest {
@@ -153,8 +153,8 @@ fn float_within(float: Option<i64>) -> Result<Option<i64>, BadOption>
 /// The limits that the options choose, or the first option that is refused, in the order of `Which`. A highest needle below
 /// the lowest is refused as `High`.
 pub fn profile_of(options: &Options) -> Result<Chosen, BadOption>
-    ensures refuses { MatchResult result (λ _. refused options.now ≡ None)
-        (λ bad. refused options.now ≡ Some bad.which) }
+    ensures refuses { MatchResult result (λ _. refused_option options.now ≡ None)
+        (λ bad. refused_option options.now ≡ Some bad.which) }
     ensures values { IfOk result (IsChosen options.now) }
     ensures lawful { IfOk result (λ chosen. IsLawfulProfile chosen.profile) }
     ensures block { IfOk result (λ chosen. IsBlockSize chosen.block) }

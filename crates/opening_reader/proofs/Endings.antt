@@ -2,7 +2,7 @@
 use Rattle.std.proofs.Common.{◌≡◌, ℕ, ◌+◌, ◌<◌, List, [], ◌∷◌, ◌++◌, length, map, ap, ◌∙◌, append-nil, sym, refl, subst, arith}
 use Rattle.std.specs.Prelude.{Result, Err}
 use Rattle.knit_base.specs.Lines.{without_return}
-use Rattle.opening_reader.specs.Fronts.{HoldsFront, IsFinished, IsOpen, StopsAt, at_last, behind_last}
+use Rattle.opening_reader.specs.Fronts.{HoldsFront, IsFinished, IsOpeningUnfinished, StopsAt, at_last, behind_last}
 use Rattle.opening_reader.specs.HeardOpenings.{last_line}
 use Rattle.opening_reader.specs.Openings.{cause_at_end}
 use Rattle.opening_reader.specs.declared.front.Front.{Front}
@@ -20,19 +20,19 @@ last-some came [] some = absurd (omega (arith, some))
 last-some came (byte ∷ bytes) some = refl
 
 -- an opening would go on behind all lines
-unfinished-behind : (front : Front) (lines text all : List (List ℕ)) (last : List ℕ) (told : OpeningFault) → all ≡ lines ++ map without_return (last_line last) → HoldsFront front all text → IsOpen front.wanted
+unfinished-behind : (front : Front) (lines text all : List (List ℕ)) (last : List ℕ) (told : OpeningFault) → all ≡ lines ++ map without_return (last_line last) → HoldsFront front all text → IsOpeningUnfinished front.wanted
     → told ≡ fault.At (length all + 1) (cause_at_end all) → IsFinished (refusal told) lines last
 unfinished-behind front lines text all last told is h wanted same =
     subst (λ (f : OpeningFault). IsFinished (refusal f) lines last) (sym same) (behind_last all is (front-of front all text h wanted) refl refl)
 
 -- there is no last line
-pub none-behind : (front : Front) (lines text : List (List ℕ)) (last : List ℕ) (told : OpeningFault) → HoldsFront front lines text → IsOpen front.wanted → last ≡ []
+pub none-behind : (front : Front) (lines text : List (List ℕ)) (last : List ℕ) (told : OpeningFault) → HoldsFront front lines text → IsOpeningUnfinished front.wanted → last ≡ []
     → told ≡ fault.At (length lines + 1) (cause_at_end lines) → IsFinished (refusal told) lines last
 none-behind front lines text last told h wanted none same =
     unfinished-behind front lines text lines last told (sym (append-nil lines) ∙ ap (λ (l : List ℕ). lines ++ map without_return (last_line l)) (sym none)) h wanted same
 
 -- one was taken, and more are wanted
-pub more-wanted : (front : Front) (lines text : List (List ℕ)) (last : List ℕ) (told : OpeningFault) → HoldsFront front (lines ++ without_return last ∷ []) text → IsOpen front.wanted → 0 < length last
+pub more-wanted : (front : Front) (lines text : List (List ℕ)) (last : List ℕ) (told : OpeningFault) → HoldsFront front (lines ++ without_return last ∷ []) text → IsOpeningUnfinished front.wanted → 0 < length last
     → told ≡ fault.At (length (lines ++ without_return last ∷ []) + 1) (cause_at_end (lines ++ without_return last ∷ [])) → IsFinished (refusal told) lines last
 more-wanted front lines text last told h wanted some same =
     unfinished-behind front lines text (lines ++ without_return last ∷ []) last told (ap (λ (l : List (List ℕ)). lines ++ l) (sym (last-some lines last some))) h wanted same

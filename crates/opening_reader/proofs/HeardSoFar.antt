@@ -6,8 +6,8 @@ use Rattle.std.proofs.lemmas.List.{length-map, map-append}
 use Rattle.std.proofs.lemmas.List.Concat.{flat_map-append}
 use Rattle.std.proofs.lemmas.List.Elements.{All-head, All-nil, All-push, All-tail}
 use Rattle.knit_base.specs.Lines.{HasNoLineEnd, IsLine, without_return}
-use Rattle.knit_ports.specs.Ears.{AreWaitedFor, EarView, IsFrontHeard, IsHeard}
-use Rattle.knit_ports.specs.Pieces.{Piece, Heard, Said, GoesOn, heard_in}
+use Rattle.knit_ports.specs.Ears.{AreWaitedFor, EarView, IsFrontHeard, IsLineHeard}
+use Rattle.knit_ports.specs.Pieces.{Piece, Heard, Said, PiecesGoOn, heard_in}
 use Rattle.knit_ports.specs.WholeLines.{rest_behind, rest_of, whole_lines, with_feed}
 use Rattle.knit_ports.specs.declared.ear.LineEnd.{LineEnd}
 use Rattle.knit_ports.specs.declared.limit.TheConstants.{HEARD_LIMIT}
@@ -15,9 +15,9 @@ use Rattle.knit_ports.specs.declared.ear.LineEnd.TheVariants.{LineFeed, InputEnd
 use Rattle.knit_ports.proofs.HeardLines.{heard_in-append}
 use Rattle.knit_ports.proofs.SaidPieces.{goes-trans}
 use Rattle.knit_ports.proofs.WholeLines.{rest-more, taken-ends, taken-lines, taken-more}
-use Rattle.opening_reader.specs.Fronts.{HoldsFront, IsFinished, IsOpen, IsWanted, IsWhole, StopsAt, StopsAtEnd, at_last, behind_last, told_by}
-use Rattle.opening_reader.specs.HeardOpenings.{AreAll, AreHeard, AreLines, EndsIn, EndsOpening, IsAwaited, IsOver, IsRefused, OpeningCause, at_end, at_line, behind_all, broken_off, endless, last_line, whole}
-use Rattle.opening_reader.specs.Openings.{CantStand, IsFront, IsNextText, IsTooMuch}
+use Rattle.opening_reader.specs.Fronts.{HoldsFront, IsFinished, IsOpeningUnfinished, IsWanted, IsWholeOpening, StopsAt, StopsAtEnd, at_last, behind_last, lines_told_by}
+use Rattle.opening_reader.specs.HeardOpenings.{AreAll, ArePiecesHeard, AreLinesHeard, EndsIn, EndsOpening, IsAwaited, IsHearingOver, IsOpeningRefused, OpeningCause, at_end, at_line, behind_all, broken_off, endless, last_line, whole}
+use Rattle.opening_reader.specs.Openings.{CantStand, IsOpeningFront, IsNextText, IsTooMuch}
 use Rattle.opening_reader.specs.declared.front.Front.{Front}
 use Rattle.opening_reader.specs.declared.opening.OpeningFault.{OpeningFault}
 use Rattle.opening_reader.specs.declared.opening.OpeningFault.TheVariants as fault
@@ -66,7 +66,7 @@ awaited-behind lines heard before (Heard bytes ∷ ps) ones is w =
       awaited-behind lines (heard ++ bytes) (before ++ bytes) ps ones (ap (λ (l : List ℕ). l ++ bytes) is ∙ append_assoc (flat_map with_feed lines) before bytes) w.1,
     )
 
-goes-none : (a : Option (List Piece)) → GoesOn a a []
+goes-none : (a : Option (List Piece)) → PiecesGoOn a a []
 goes-none None = tt
 goes-none (Some ps) = sym (append-nil ps)
 
@@ -74,14 +74,14 @@ goes-none (Some ps) = sym (append-nil ps)
 pub record SoFar (old now : Option (List Piece)) (pending : List ℕ) (text : List (List ℕ)) (front : Front) (count : ℕ) : Type 0 where
   pub pieces : List Piece
   pub came : List (List ℕ)
-  pub goes : GoesOn old now pieces
-  pub heard : AreHeard pieces came pending (length came)
+  pub goes : PiecesGoOn old now pieces
+  pub heard : ArePiecesHeard pieces came pending (length came)
   pub holds : HoldsFront front (map without_return came) text
-  pub wanted : IsOpen front.wanted
+  pub wanted : IsOpeningUnfinished front.wanted
   pub counted : count ≡ length came
 
 abbrev pub Ended : Option (List Piece) → Option (List Piece) → List ℕ → Result OpeningText OpeningFault → Type 0
-Ended old new pending r = (pieces : List Piece) × GoesOn old new pieces × EndsOpening pieces pending r
+Ended old new pending r = (pieces : List Piece) × PiecesGoOn old new pieces × EndsOpening pieces pending r
 
 -- there aren't so many lines that no more are heard
 pub never-over : (old now : Option (List Piece)) (pending : List ℕ) (text : List (List ℕ)) (front : Front) (count : ℕ) → SoFar old now pending text front count → 16777217 ≤ count → ⊥
@@ -94,7 +94,7 @@ never-over old now pending text front count s many =
 
 -- more was heard where no whole line was pending
 hears : (old now : Option (List Piece)) (pending : List ℕ) (text : List (List ℕ)) (front : Front) (count : ℕ) (s : SoFar old now pending text front count) (ps : List Piece) → AreWaitedFor pending ps
-    → AreHeard (s.pieces ++ ps) s.came (pending ++ heard_in ps) (length s.came + 1)
+    → ArePiecesHeard (s.pieces ++ ps) s.came (pending ++ heard_in ps) (length s.came + 1)
 hears old now pending text front count s ps w =
     let h = s.heard in
     record {
@@ -104,8 +104,8 @@ hears old now pending text front count s ps w =
     }
 
 -- nothing was heard yet
-pub starts : (old : Option (List Piece)) (pending : List ℕ) (text : List (List ℕ)) (front : Front) → pending ≡ [] → text ≡ [] → front.lines ≡ 0 → front.bytes ≡ 0 → front.wanted ≡ None → SoFar old old pending text front 0
-starts old pending text front none no_text no_lines no_bytes unknown = record {
+pub nothing_heard_so_far : (old : Option (List Piece)) (pending : List ℕ) (text : List (List ℕ)) (front : Front) → pending ≡ [] → text ≡ [] → front.lines ≡ 0 → front.bytes ≡ 0 → front.wanted ≡ None → SoFar old old pending text front 0
+nothing_heard_so_far old pending text front none no_text no_lines no_bytes unknown = record {
   pieces = [];
   came = [];
   goes = goes-none old;
@@ -115,16 +115,16 @@ starts old pending text front none no_text no_lines no_bytes unknown = record {
     bytes = no_bytes;
     good = record { readable = tt; few = omega arith };
     wanted = subst (IsWanted []) (sym unknown) refl;
-    text_is = no_text ∙ ap (λ (o : Option Wanted). told_by o []) (sym unknown);
+    text_is = no_text ∙ ap (λ (o : Option Wanted). lines_told_by o []) (sym unknown);
     texts = subst (All IsLine) (sym no_text) (All-nil IsLine);
     short = subst (All (λ (l : List ℕ). length l ≤ HEARD_LIMIT)) (sym no_text) (All-nil (λ (l : List ℕ). length l ≤ HEARD_LIMIT));
   };
-  wanted = subst IsOpen (sym unknown) tt;
+  wanted = subst IsOpeningUnfinished (sym unknown) tt;
   counted = refl;
 }
 
 -- one more line has its feed
-line-more : (pieces : List Piece) (came : List (List ℕ)) (line pending : List ℕ) (count : ℕ) → AreHeard pieces came (line ++ 10 ∷ pending) count → HasNoLineEnd line → AreHeard pieces (came ++ line ∷ []) pending count
+line-more : (pieces : List Piece) (came : List (List ℕ)) (line pending : List ℕ) (count : ℕ) → ArePiecesHeard pieces came (line ++ 10 ∷ pending) count → HasNoLineEnd line → ArePiecesHeard pieces (came ++ line ∷ []) pending count
 line-more pieces came line pending count h one = record {
   heard = h.heard ∙ ap (λ (l : List ℕ). flat_map with_feed came ++ l) (sym (append_assoc line (10 ∷ []) pending)) ∙ sym (append_assoc (flat_map with_feed came) (with_feed line) pending)
       ∙ ap (λ (l : List ℕ). (flat_map with_feed came ++ l) ++ pending) (sym (append-nil (with_feed line))) ∙ ap (λ (l : List ℕ). l ++ pending) (sym (flat_map-append with_feed came (line ∷ [])));
@@ -133,25 +133,25 @@ line-more pieces came line pending count h one = record {
 }
 
 module _ (old now heard : Option (List Piece)) (before after : EarView) (text : List (List ℕ)) (front : Front) (count : ℕ) (s : SoFar old now before.pending text front count) where
-  open-front : IsFront (map without_return s.came)
+  open-front : IsOpeningFront (map without_return s.came)
   open-front = front-of front (map without_return s.came) text s.holds s.wanted
 
-  line-heard : (h : IsHeard now heard before after LineFeed) → AreHeard (s.pieces ++ (h.pieces ++ [])) (s.came ++ h.line ∷ []) after.pending (length (s.came ++ h.line ∷ []))
+  line-heard : (h : IsLineHeard now heard before after LineFeed) → ArePiecesHeard (s.pieces ++ (h.pieces ++ [])) (s.came ++ h.line ∷ []) after.pending (length (s.came ++ h.line ∷ []))
   line-heard h =
       let ps : List Piece = h.pieces ++ [] in
       let parted : before.pending ++ heard_in ps ≡ h.line ++ 10 ∷ after.pending = ap (λ (l : List Piece). before.pending ++ heard_in l) (append-nil h.pieces) ∙ h.ends in
-      let many : AreHeard (s.pieces ++ ps) s.came (h.line ++ 10 ∷ after.pending) (length s.came + 1) =
-      subst (λ (l : List ℕ). AreHeard (s.pieces ++ ps) s.came l (length s.came + 1)) parted (hears old now before.pending text front count s ps h.waited) in
-      subst (AreHeard (s.pieces ++ ps) (s.came ++ h.line ∷ []) after.pending) (sym (length-append s.came (h.line ∷ []))) (line-more (s.pieces ++ ps) s.came h.line after.pending (length s.came + 1) many h.one)
+      let many : ArePiecesHeard (s.pieces ++ ps) s.came (h.line ++ 10 ∷ after.pending) (length s.came + 1) =
+      subst (λ (l : List ℕ). ArePiecesHeard (s.pieces ++ ps) s.came l (length s.came + 1)) parted (hears old now before.pending text front count s ps h.waited) in
+      subst (ArePiecesHeard (s.pieces ++ ps) (s.came ++ h.line ∷ []) after.pending) (sym (length-append s.came (h.line ∷ []))) (line-more (s.pieces ++ ps) s.came h.line after.pending (length s.came + 1) many h.one)
 
-  line-taken : (h : IsHeard now heard before after LineFeed) → AreLines (s.pieces ++ (h.pieces ++ [])) (map without_return s.came ++ without_return h.line ∷ []) after.pending
+  line-taken : (h : IsLineHeard now heard before after LineFeed) → AreLinesHeard (s.pieces ++ (h.pieces ++ [])) (map without_return s.came ++ without_return h.line ∷ []) after.pending
   line-taken h = whole (s.came ++ h.line ∷ []) (sym (map-append without_return s.came (h.line ∷ []))) (line-heard h)
 
-  goes-to : (h : IsHeard now heard before after LineFeed) → GoesOn old heard (s.pieces ++ (h.pieces ++ []))
+  goes-to : (h : IsLineHeard now heard before after LineFeed) → PiecesGoOn old heard (s.pieces ++ (h.pieces ++ []))
   goes-to h = goes-trans old now heard s.pieces (h.pieces ++ []) s.goes h.goes
 
   -- one more line is taken
-  pub goes-on : (h : IsHeard now heard before after LineFeed) (next : Front) (new : List (List ℕ)) → HoldsFront next (map without_return s.came ++ without_return h.line ∷ []) new → IsOpen next.wanted
+  pub goes-on : (h : IsLineHeard now heard before after LineFeed) (next : Front) (new : List (List ℕ)) → HoldsFront next (map without_return s.came ++ without_return h.line ∷ []) new → IsOpeningUnfinished next.wanted
       → SoFar old heard after.pending new next (count + 1)
   goes-on h next new holds wanted = record {
     pieces = s.pieces ++ (h.pieces ++ []);
@@ -163,30 +163,30 @@ module _ (old now heard : Option (List Piece)) (before after : EarView) (text : 
     counted = ap (λ (n : ℕ). n + 1) s.counted ∙ sym (length-append s.came (h.line ∷ []));
   }
 
-  ends-in : (h : IsHeard now heard before after LineFeed) (IsLast : List (List ℕ) → List ℕ → Type 0) → IsLast (map without_return s.came) (without_return h.line) → EndsIn (s.pieces ++ (h.pieces ++ [])) after.pending IsLast
+  ends-in : (h : IsLineHeard now heard before after LineFeed) (IsLast : List (List ℕ) → List ℕ → Type 0) → IsLast (map without_return s.came) (without_return h.line) → EndsIn (s.pieces ++ (h.pieces ++ [])) after.pending IsLast
   ends-in h IsLast last = record { lines = map without_return s.came; line = without_return h.line; heard = line-taken h; front = open-front; last = last }
 
-  stops-by : (h : IsHeard now heard before after LineFeed) (f : OpeningFault) → StopsAt (map without_return s.came) (without_return h.line) f → EndsOpening (s.pieces ++ (h.pieces ++ [])) after.pending (Err f)
+  stops-by : (h : IsLineHeard now heard before after LineFeed) (f : OpeningFault) → StopsAt (map without_return s.came) (without_return h.line) f → EndsOpening (s.pieces ++ (h.pieces ++ [])) after.pending (Err f)
   stops-by h (fault.At number cause) stops = at_line (ends-in h (λ lines line. (number ≡ length lines + 1) × CantStand lines line cause) stops)
   stops-by h fault.TooManyBytes stops = ends-in h IsTooMuch stops
   stops-by h fault.Failed stops = absurd stops
   stops-by h fault.NoMemory stops = ends-in h IsNextText stops
 
   -- it can't be taken
-  pub stopped : (h : IsHeard now heard before after LineFeed) (f : OpeningFault) → StopsAt (map without_return s.came) (without_return h.line) f → Ended old heard after.pending (Err f)
-  stopped h f stops = (s.pieces ++ (h.pieces ++ []), goes-to h, stops-by h f stops)
+  pub ended_by_refused_line : (h : IsLineHeard now heard before after LineFeed) (f : OpeningFault) → StopsAt (map without_return s.came) (without_return h.line) f → Ended old heard after.pending (Err f)
+  ended_by_refused_line h f stops = (s.pieces ++ (h.pieces ++ []), goes-to h, stops-by h f stops)
 
   -- the opening is whole with it
-  pub opened : (h : IsHeard now heard before after LineFeed) (opening : OpeningText) → IsWhole (map without_return s.came ++ without_return h.line ∷ []) opening → Ended old heard after.pending (Ok opening)
-  opened h opening w = (
+  pub ended_by_whole_opening : (h : IsLineHeard now heard before after LineFeed) (opening : OpeningText) → IsWholeOpening (map without_return s.came ++ without_return h.line ∷ []) opening → Ended old heard after.pending (Ok opening)
+  ended_by_whole_opening h opening w = (
     s.pieces ++ (h.pieces ++ []),
     goes-to h,
     record { lines = map without_return s.came ++ without_return h.line ∷ []; heard = line-taken h; counted = w.counted; is_opening = w.is_opening },
   )
 
   -- the call failed
-  pub failed : IsFrontHeard now heard before after → Ended old heard after.pending (Err fault.Failed)
-  failed h = (
+  pub ended_by_failure : IsFrontHeard now heard before after → Ended old heard after.pending (Err fault.Failed)
+  ended_by_failure h = (
     s.pieces ++ h.pieces,
     goes-trans old now heard s.pieces h.pieces s.goes h.goes,
     record {
@@ -200,17 +200,17 @@ module _ (old now heard : Option (List Piece)) (before after : EarView) (text : 
   )
 
 -- what is told where the input ends
-module _ (pieces : List Piece) (came : List (List ℕ)) (last pending : List ℕ) (front : IsFront (map without_return came)) (a : AreHeard pieces came (last ++ pending) (length came + 1)) (one : HasNoLineEnd last) (over : IsOver pieces pending) where
+module _ (pieces : List Piece) (came : List (List ℕ)) (last pending : List ℕ) (front : IsOpeningFront (map without_return came)) (a : ArePiecesHeard pieces came (last ++ pending) (length came + 1)) (one : HasNoLineEnd last) (over : IsHearingOver pieces pending) where
   all-heard : AreAll pieces (map without_return came ++ map without_return (last_line last)) last pending
   all-heard = record { came = came; lines_are = sym (map-append without_return came (last_line last)); heard = a; one = one; over = over }
 
-  last-taken : 0 < length last → AreLines pieces (map without_return came ++ without_return last ∷ []) pending
+  last-taken : 0 < length last → AreLinesHeard pieces (map without_return came ++ without_return last ∷ []) pending
   last-taken some = broken_off last some (subst (λ (l : List (List ℕ)). AreAll pieces (map without_return came ++ l) last pending) (last-some came last some) all-heard)
 
   last-in : (IsLast : List (List ℕ) → List ℕ → Type 0) → 0 < length last → IsLast (map without_return came) (without_return last) → EndsIn pieces pending IsLast
   last-in IsLast some is = record { lines = map without_return came; line = without_return last; heard = last-taken some; front = front; last = is }
 
-  refused-at : (number : ℕ) (cause : Cause) → StopsAtEnd (map without_return came) last number cause → IsRefused pieces pending number cause
+  refused-at : (number : ℕ) (cause : Cause) → StopsAtEnd (map without_return came) last number cause → IsOpeningRefused pieces pending number cause
   refused-at number cause (at_last some stops) = at_line (last-in (λ lines line. (number ≡ length lines + 1) × CantStand lines line cause) some stops)
   refused-at number cause (behind_last all is front_all counted same) = behind_all all last (subst (λ (l : List (List ℕ)). AreAll pieces l last pending) (sym is) all-heard) front_all counted same
 
@@ -222,17 +222,17 @@ module _ (pieces : List Piece) (came : List (List ℕ)) (last pending : List ℕ
   finished-by (Err fault.NoMemory) f = last-in IsNextText f.0 f.1
 
 module _ (old now heard : Option (List Piece)) (before after : EarView) (text : List (List ℕ)) (front : Front) (count : ℕ) (s : SoFar old now before.pending text front count) where
-  ends-by : (ps : List Piece) (line : List ℕ) (r : Result OpeningText OpeningFault) → GoesOn now heard ps → AreWaitedFor before.pending ps → before.pending ++ heard_in ps ≡ line ++ after.pending → HasNoLineEnd line
-      → IsOver (s.pieces ++ ps) after.pending → IsFinished r (map without_return s.came) line → Ended old heard after.pending r
+  ends-by : (ps : List Piece) (line : List ℕ) (r : Result OpeningText OpeningFault) → PiecesGoOn now heard ps → AreWaitedFor before.pending ps → before.pending ++ heard_in ps ≡ line ++ after.pending → HasNoLineEnd line
+      → IsHearingOver (s.pieces ++ ps) after.pending → IsFinished r (map without_return s.came) line → Ended old heard after.pending r
   ends-by ps line r goes waited parted one over f = (
     s.pieces ++ ps,
     goes-trans old now heard s.pieces ps s.goes goes,
     finished-by (s.pieces ++ ps) s.came line after.pending (front-of front (map without_return s.came) text s.holds s.wanted)
-        (subst (λ (l : List ℕ). AreHeard (s.pieces ++ ps) s.came l (length s.came + 1)) parted (hears old now before.pending text front count s ps waited)) one over r f,
+        (subst (λ (l : List ℕ). ArePiecesHeard (s.pieces ++ ps) s.came l (length s.came + 1)) parted (hears old now before.pending text front count s ps waited)) one over r f,
   )
 
   -- the input came to its end, or no feed to the line
-  pub input-over : (end : LineEnd) (h : IsHeard now heard before after end) (r : Result OpeningText OpeningFault) → (end ≡ LineFeed → ⊥) → IsFinished r (map without_return s.came) h.line → Ended old heard after.pending r
+  pub input-over : (end : LineEnd) (h : IsLineHeard now heard before after end) (r : Result OpeningText OpeningFault) → (end ≡ LineFeed → ⊥) → IsFinished r (map without_return s.came) h.line → Ended old heard after.pending r
   input-over LineFeed h r not f = absurd (not refl)
   input-over InputEnd h r not f =
       ends-by (h.pieces ++ Heard [] ∷ []) h.line r h.goes h.waited

@@ -7,8 +7,8 @@ use Rattle.std.proofs.lemmas.List.Elements.{All-nil, All-push}
 use Rattle.knit_base.specs.Lines.{IsLine}
 use Rattle.knit_ports.specs.WholeLines.{with_feed}
 use Rattle.knit_ports.specs.declared.limit.TheConstants.{HEARD_LIMIT}
-use Rattle.opening_reader.specs.Fronts.{HasRoom, HoldsFront, IsCounted, IsOpen, IsWanted, IsWhole, limit_for, told_by}
-use Rattle.opening_reader.specs.Openings.{AreReadable, AskFor, CanBeRead, CantStand, IsFront, IsNextText, IsTooMuch, IsUnfinished, MayFollow, bytes_of, kind_in, limit_behind, limit_of, no_first, no_other, nothing_yet, texts_in, told_in, wanted_in, wanting}
+use Rattle.opening_reader.specs.Fronts.{HasLineRoom, HoldsFront, IsFrontCounted, IsOpeningUnfinished, IsWanted, IsWholeOpening, limit_for, lines_told_by}
+use Rattle.opening_reader.specs.Openings.{AreReadable, AskFor, CanBeRead, CantStand, IsOpeningFront, IsNextText, IsTooMuch, IsUnfinished, MayFollow, bytes_of, kind_in, limit_behind, limit_of, no_first, no_other, nothing_yet, texts_in_lines, told_in, wanted_in, wanting}
 use Rattle.opening_reader.specs.declared.front.Front.{Front}
 use Rattle.opening_reader.specs.declared.front.TheConstants.{OPENING_LIMIT}
 use Rattle.opening_reader.specs.declared.opening.OpeningKind.{OpeningKind}
@@ -18,30 +18,30 @@ use Rattle.opening_reader.specs.declared.opening.Wanted.{Wanted}
 use Rattle.script_reader.specs.declared.fault.Cause.TheVariants.{BadLine, NoServe}
 use Rattle.script_reader.specs.Statements.{is_skipped, is_text_line}
 
-abbrev pub wants : OpeningKind → ℕ → Wanted
-wants kind missing = record { kind = kind; missing = missing }
+abbrev pub wanted_of_kind : OpeningKind → ℕ → Wanted
+wanted_of_kind kind missing = record { kind = kind; missing = missing }
 
 texts-by : (b : Bool) (text : List ℕ) (all front more : List (List ℕ)) → all ≡ front ++ more → (if b then text ∷ all else all) ≡ (if b then text ∷ front else front) ++ more
 texts-by true text all front more is = ap (λ (l : List (List ℕ)). text ∷ l) is
 texts-by false text all front more is = is
 
-pub texts-more : (lines more : List (List ℕ)) → texts_in (lines ++ more) ≡ texts_in lines ++ texts_in more
+pub texts-more : (lines more : List (List ℕ)) → texts_in_lines (lines ++ more) ≡ texts_in_lines lines ++ texts_in_lines more
 texts-more [] more = refl
-texts-more (line ∷ lines) more = texts-by (is_text_line line) (drop 1 line) (texts_in (lines ++ more)) (texts_in lines) (texts_in more) (texts-more lines more)
+texts-more (line ∷ lines) more = texts-by (is_text_line line) (drop 1 line) (texts_in_lines (lines ++ more)) (texts_in_lines lines) (texts_in_lines more) (texts-more lines more)
 
-text-one : (line : List ℕ) → is_text_line line ≡ true → texts_in (line ∷ []) ≡ drop 1 line ∷ []
+text-one : (line : List ℕ) → is_text_line line ≡ true → texts_in_lines (line ∷ []) ≡ drop 1 line ∷ []
 text-one line is = ap (λ (b : Bool). if b then drop 1 line ∷ [] else []) is
 
-text-none : (line : List ℕ) → is_text_line line ≡ false → texts_in (line ∷ []) ≡ []
+text-none : (line : List ℕ) → is_text_line line ≡ false → texts_in_lines (line ∷ []) ≡ []
 text-none line isnt = ap (λ (b : Bool). if b then drop 1 line ∷ [] else []) isnt
 
 few-by : (b : Bool) (text : List ℕ) (texts : List (List ℕ)) (count : ℕ) → length texts ≤ count → length (if b then text ∷ texts else texts) ≤ suc count
 few-by true text texts count few = omega (arith, few)
 few-by false text texts count few = omega (arith, few)
 
-texts-few : (lines : List (List ℕ)) → length (texts_in lines) ≤ length lines
+texts-few : (lines : List (List ℕ)) → length (texts_in_lines lines) ≤ length lines
 texts-few [] = omega arith
-texts-few (line ∷ lines) = few-by (is_text_line line) (drop 1 line) (texts_in lines) (length lines) (texts-few lines)
+texts-few (line ∷ lines) = few-by (is_text_line line) (drop 1 line) (texts_in_lines lines) (length lines) (texts-few lines)
 
 pub bytes-more : (lines : List (List ℕ)) (line : List ℕ) → bytes_of (lines ++ line ∷ []) ≡ bytes_of lines + length line + 1
 bytes-more lines line =
@@ -68,7 +68,7 @@ told-few : (kind : OpeningKind) (lines : List (List ℕ)) → length (told_in ki
 told-few Text lines = texts-few lines
 told-few Saved lines = omega arith
 
-told-by-few : (wanted : Option Wanted) (lines : List (List ℕ)) → length (told_by wanted lines) ≤ length lines
+told-by-few : (wanted : Option Wanted) (lines : List (List ℕ)) → length (lines_told_by wanted lines) ≤ length lines
 told-by-few None lines = omega arith
 told-by-few (Some wanted) lines = told-few wanted.kind lines
 
@@ -85,7 +85,7 @@ pub saved-told : (kind : OpeningKind) (line : List ℕ) → kind ≡ Saved → (
 saved-told kind line is = subst (λ (k : OpeningKind). (told_in k (line ∷ []) ≡ line ∷ []) × MayFollow k line) (sym is) (refl, tt)
 
 -- the numbers of a front are small enough for one more line
-pub has-room : (front : Front) (lines text : List (List ℕ)) → HoldsFront front lines text → HasRoom front text
+pub has-room : (front : Front) (lines text : List (List ℕ)) → HoldsFront front lines text → HasLineRoom front text
 has-room front lines text h =
     let counted = h.counted in
     let bytes = h.bytes in
@@ -121,12 +121,12 @@ limit-by lines (Some wanted) a = sym (ap limit_behind a.lines_are ∙ ap (λ (o 
 pub limit-is : (front : Front) (lines text : List (List ℕ)) → HoldsFront front lines text → limit_for front.wanted ≡ limit_behind lines
 limit-is front lines text h = limit-by lines front.wanted h.wanted
 
-unfinished-by : (lines : List (List ℕ)) (wanted : Option Wanted) → IsWanted lines wanted → IsOpen wanted → IsUnfinished lines
+unfinished-by : (lines : List (List ℕ)) (wanted : Option Wanted) → IsWanted lines wanted → IsOpeningUnfinished wanted → IsUnfinished lines
 unfinished-by lines None none is = nothing_yet none
 unfinished-by lines (Some wanted) asks some = wanting wanted.kind wanted.missing some asks
 
 -- an opening goes on behind a front that is open
-pub front-of : (front : Front) (lines text : List (List ℕ)) → HoldsFront front lines text → IsOpen front.wanted → IsFront lines
+pub front-of : (front : Front) (lines text : List (List ℕ)) → HoldsFront front lines text → IsOpeningUnfinished front.wanted → IsOpeningFront lines
 front-of front lines text h is = record { good = h.good; unfinished = unfinished-by lines front.wanted h.wanted is }
 
 -- a line behind a first line tells one
@@ -140,7 +140,7 @@ ask-told lines line told kind missing a some is follows =
       first = a.first;
       others = a.others ++ line ∷ [];
       lines_are = ap (λ (l : List (List ℕ)). l ++ line ∷ []) a.lines_are;
-      asked = a.asked ∙ ap (λ (n : ℕ). Some (wants kind n)) same;
+      asked = a.asked ∙ ap (λ (n : ℕ). Some (wanted_of_kind kind n)) same;
       fit = All-push (MayFollow kind) a.others line a.fit follows;
     }
 
@@ -153,7 +153,7 @@ ask-passed lines line kind missing a none follows =
       first = a.first;
       others = a.others ++ line ∷ [];
       lines_are = ap (λ (l : List (List ℕ)). l ++ line ∷ []) a.lines_are;
-      asked = a.asked ∙ ap (λ (l : List (List ℕ)). Some (wants kind (length l + missing))) (sym same);
+      asked = a.asked ∙ ap (λ (l : List (List ℕ)). Some (wanted_of_kind kind (length l + missing))) (sym same);
       fit = All-push (MayFollow kind) a.others line a.fit follows;
     }
 
@@ -166,7 +166,7 @@ ask-first lines line wanted alone asked =
       first = line;
       others = [];
       lines_are = alone;
-      asked = asked ∙ ap (λ (n : ℕ). Some (wants wanted.kind n)) same;
+      asked = asked ∙ ap (λ (n : ℕ). Some (wanted_of_kind wanted.kind n)) same;
       fit = All-nil (MayFollow wanted.kind);
     }
 
@@ -181,11 +181,11 @@ asks front lines text wanted h is = subst (IsWanted lines) is h.wanted
 
 -- and so much was told
 tells : (front : Front) (lines text : List (List ℕ)) (wanted : Wanted) → HoldsFront front lines text → front.wanted ≡ Some wanted → text ≡ told_in wanted.kind (drop 1 lines)
-tells front lines text wanted h is = h.text_is ∙ ap (λ (o : Option Wanted). told_by o (drop 1 lines)) is
+tells front lines text wanted h is = h.text_is ∙ ap (λ (o : Option Wanted). lines_told_by o (drop 1 lines)) is
 
 -- what a line tells is taken
-pub hold-told : (front counted after : Front) (lines text new : List (List ℕ)) (line told : List ℕ) (wanted : Wanted) → HoldsFront front lines text → front.wanted ≡ Some wanted → 0 < wanted.missing → IsCounted counted lines line
-    → after.lines ≡ counted.lines → after.bytes ≡ counted.bytes → after.wanted ≡ Some (wants wanted.kind (wanted.missing - 1)) → told_in wanted.kind (line ∷ []) ≡ told ∷ [] → MayFollow wanted.kind line → IsLine told
+pub hold-told : (front counted after : Front) (lines text new : List (List ℕ)) (line told : List ℕ) (wanted : Wanted) → HoldsFront front lines text → front.wanted ≡ Some wanted → 0 < wanted.missing → IsFrontCounted counted lines line
+    → after.lines ≡ counted.lines → after.bytes ≡ counted.bytes → after.wanted ≡ Some (wanted_of_kind wanted.kind (wanted.missing - 1)) → told_in wanted.kind (line ∷ []) ≡ told ∷ [] → MayFollow wanted.kind line → IsLine told
     → length told ≤ HEARD_LIMIT → new ≡ text ++ told ∷ [] → HoldsFront after (lines ++ line ∷ []) new
 hold-told front counted after lines text new line told wanted h is some c same_lines same_bytes same_wanted told_is follows told_line short made =
     let a = asks front lines text wanted h is in
@@ -195,7 +195,7 @@ hold-told front counted after lines text new line told wanted h is some c same_l
       good = c.good;
       wanted = subst (IsWanted (lines ++ line ∷ [])) (sym same_wanted) (ask-told lines line told wanted.kind wanted.missing a some told_is follows);
       text_is = made ∙ ap (λ (l : List (List ℕ)). l ++ told ∷ []) (tells front lines text wanted h is) ∙ ap (λ (l : List (List ℕ)). told_in wanted.kind (drop 1 lines) ++ l) (sym told_is)
-          ∙ sym (told-behind lines line wanted.kind wanted.missing a) ∙ ap (λ (o : Option Wanted). told_by o (drop 1 (lines ++ line ∷ []))) (sym same_wanted);
+          ∙ sym (told-behind lines line wanted.kind wanted.missing a) ∙ ap (λ (o : Option Wanted). lines_told_by o (drop 1 (lines ++ line ∷ []))) (sym same_wanted);
       texts = subst (All IsLine) (sym made) (All-push IsLine text told h.texts told_line);
       short = subst (All (λ (l : List ℕ). length l ≤ HEARD_LIMIT)) (sym made) (All-push (λ (l : List ℕ). length l ≤ HEARD_LIMIT) text told h.short short);
     }
@@ -204,13 +204,13 @@ some-told : (told : List ℕ) → told ∷ [] ≢ []
 some-told told none = let many : 1 ≡ 0 = ap length none in omega (arith, many)
 
 -- or there is no memory for it
-pub next-told : (front counted : Front) (lines text : List (List ℕ)) (line told : List ℕ) (wanted : Wanted) → HoldsFront front lines text → front.wanted ≡ Some wanted → IsCounted counted lines line
+pub next-told : (front counted : Front) (lines text : List (List ℕ)) (line told : List ℕ) (wanted : Wanted) → HoldsFront front lines text → front.wanted ≡ Some wanted → IsFrontCounted counted lines line
     → told_in wanted.kind (line ∷ []) ≡ told ∷ [] → IsNextText lines line
 next-told front counted lines text line told wanted h is c told_is =
     record { kind = wanted.kind; missing = wanted.missing; asked = asks front lines text wanted h is; good = c.good; text = λ none. some-told told (sym told_is ∙ none) }
 
 -- a line that is passed over is taken
-pub hold-passed : (front counted : Front) (lines text : List (List ℕ)) (line : List ℕ) (wanted : Wanted) → HoldsFront front lines text → front.wanted ≡ Some wanted → counted.wanted ≡ Some wanted → IsCounted counted lines line
+pub hold-passed : (front counted : Front) (lines text : List (List ℕ)) (line : List ℕ) (wanted : Wanted) → HoldsFront front lines text → front.wanted ≡ Some wanted → counted.wanted ≡ Some wanted → IsFrontCounted counted lines line
     → told_in wanted.kind (line ∷ []) ≡ [] → MayFollow wanted.kind line → HoldsFront counted (lines ++ line ∷ []) text
 hold-passed front counted lines text line wanted h is same c none follows =
     let a = asks front lines text wanted h is in
@@ -220,13 +220,13 @@ hold-passed front counted lines text line wanted h is same c none follows =
       good = c.good;
       wanted = subst (IsWanted (lines ++ line ∷ [])) (sym same) (ask-passed lines line wanted.kind wanted.missing a none follows);
       text_is = tells front lines text wanted h is ∙ sym (append-nil (told_in wanted.kind (drop 1 lines))) ∙ ap (λ (l : List (List ℕ)). told_in wanted.kind (drop 1 lines) ++ l) (sym none)
-          ∙ sym (told-behind lines line wanted.kind wanted.missing a) ∙ ap (λ (o : Option Wanted). told_by o (drop 1 (lines ++ line ∷ []))) (sym same);
+          ∙ sym (told-behind lines line wanted.kind wanted.missing a) ∙ ap (λ (o : Option Wanted). lines_told_by o (drop 1 (lines ++ line ∷ []))) (sym same);
       texts = h.texts;
       short = h.short;
     }
 
 -- the first line is taken
-pub hold-first : (front counted after : Front) (lines text : List (List ℕ)) (line : List ℕ) (wanted : Wanted) → HoldsFront front lines text → front.wanted ≡ None → IsCounted counted lines line
+pub hold-first : (front counted after : Front) (lines text : List (List ℕ)) (line : List ℕ) (wanted : Wanted) → HoldsFront front lines text → front.wanted ≡ None → IsFrontCounted counted lines line
     → after.lines ≡ counted.lines → after.bytes ≡ counted.bytes → after.wanted ≡ Some wanted → wanted_in line ≡ Some wanted → HoldsFront after (lines ++ line ∷ []) text
 hold-first front counted after lines text line wanted h is c same_lines same_bytes same_wanted asked =
     let none : lines ≡ [] = subst (IsWanted lines) is h.wanted in
@@ -236,8 +236,8 @@ hold-first front counted after lines text line wanted h is c same_lines same_byt
       bytes = same_bytes ∙ c.bytes;
       good = c.good;
       wanted = subst (IsWanted (lines ++ line ∷ [])) (sym same_wanted) (ask-first (lines ++ line ∷ []) line wanted alone asked);
-      text_is = h.text_is ∙ ap (λ (o : Option Wanted). told_by o (drop 1 lines)) is ∙ sym (told-none wanted.kind) ∙ ap (λ (l : List (List ℕ)). told_in wanted.kind (drop 1 l)) (sym alone)
-          ∙ ap (λ (o : Option Wanted). told_by o (drop 1 (lines ++ line ∷ []))) (sym same_wanted);
+      text_is = h.text_is ∙ ap (λ (o : Option Wanted). lines_told_by o (drop 1 lines)) is ∙ sym (told-none wanted.kind) ∙ ap (λ (l : List (List ℕ)). told_in wanted.kind (drop 1 l)) (sym alone)
+          ∙ ap (λ (o : Option Wanted). lines_told_by o (drop 1 (lines ++ line ∷ []))) (sym same_wanted);
       texts = h.texts;
       short = h.short;
     }
@@ -247,9 +247,9 @@ readable-more [] line all good = (good, All-nil (CanBeRead (limit_of (kind_in li
 readable-more (first ∷ others) line all good = (all.0, All-push (CanBeRead (limit_of (kind_in first))) others line all.1 good)
 
 -- one more line is counted
-pub counts : (front counted : Front) (lines text : List (List ℕ)) (line : List ℕ) → HoldsFront front lines text → counted.lines ≡ front.lines + 1 → counted.bytes ≡ front.bytes + length line + 1
-    → counted.bytes ≤ OPENING_LIMIT → CanBeRead (limit_behind lines) line → IsCounted counted lines line
-counts front counted lines text line h next longer few good =
+pub front_counts_line : (front counted : Front) (lines text : List (List ℕ)) (line : List ℕ) → HoldsFront front lines text → counted.lines ≡ front.lines + 1 → counted.bytes ≡ front.bytes + length line + 1
+    → counted.bytes ≤ OPENING_LIMIT → CanBeRead (limit_behind lines) line → IsFrontCounted counted lines line
+front_counts_line front counted lines text line h next longer few good =
     let bytes : counted.bytes ≡ bytes_of (lines ++ line ∷ []) = longer ∙ ap (λ (n : ℕ). n + length line + 1) h.bytes ∙ sym (bytes-more lines line) in
     record {
       counted = next ∙ ap (λ (n : ℕ). n + 1) h.counted;
@@ -264,16 +264,16 @@ too-much front lines text line h many good =
     record { readable = good; many = omega (arith, bytes, many) }
 
 -- the lines are an opening
-pub whole-of : (front : Front) (before : List (List ℕ)) (line : List ℕ) (text : List (List ℕ)) (kind : OpeningKind) (opening : OpeningText) → HoldsFront front (before ++ line ∷ []) text → front.wanted ≡ Some (wants kind 0)
-    → IsUnfinished before → opening.kind ≡ kind → opening.text ≡ text → opening.lines ≡ front.lines → IsWhole (before ++ line ∷ []) opening
+pub whole-of : (front : Front) (before : List (List ℕ)) (line : List ℕ) (text : List (List ℕ)) (kind : OpeningKind) (opening : OpeningText) → HoldsFront front (before ++ line ∷ []) text → front.wanted ≡ Some (wanted_of_kind kind 0)
+    → IsUnfinished before → opening.kind ≡ kind → opening.text ≡ text → opening.lines ≡ front.lines → IsWholeOpening (before ++ line ∷ []) opening
 whole-of front before line text kind opening h is wanted same_kind same_text same_lines =
     let all : List (List ℕ) = before ++ line ∷ [] in
     record {
       counted = same_lines ∙ h.counted;
       is_opening = record {
         good = h.good;
-        whole = subst (λ (k : OpeningKind). AskFor all k 0) (sym same_kind) (asks front all text (wants kind 0) h is);
-        text_is = same_text ∙ tells front all text (wants kind 0) h is ∙ ap (λ (k : OpeningKind). told_in k (drop 1 all)) (sym same_kind);
+        whole = subst (λ (k : OpeningKind). AskFor all k 0) (sym same_kind) (asks front all text (wanted_of_kind kind 0) h is);
+        text_is = same_text ∙ tells front all text (wanted_of_kind kind 0) h is ∙ ap (λ (k : OpeningKind). told_in k (drop 1 all)) (sym same_kind);
         before = before;
         last = line;
         parted = refl;
@@ -287,12 +287,12 @@ whole-of front before line text kind opening h is wanted same_kind same_text sam
     }
 
 -- the first line asks for nothing
-pub first-refused : (front counted : Front) (lines text : List (List ℕ)) (line : List ℕ) → HoldsFront front lines text → front.wanted ≡ None → IsCounted counted lines line → wanted_in line ≡ None
+pub first-refused : (front counted : Front) (lines text : List (List ℕ)) (line : List ℕ) → HoldsFront front lines text → front.wanted ≡ None → IsFrontCounted counted lines line → wanted_in line ≡ None
     → (counted.lines ≡ length lines + 1) × CantStand lines line NoServe
 first-refused front counted lines text line h is c none = (c.counted, no_first (subst (IsWanted lines) is h.wanted) c.good none)
 
 -- a later line of an opening text is neither a text line nor passed over
-pub other-refused : (front counted : Front) (lines text : List (List ℕ)) (line : List ℕ) (wanted : Wanted) → HoldsFront front lines text → front.wanted ≡ Some wanted → wanted.kind ≡ Text → IsCounted counted lines line
+pub other-refused : (front counted : Front) (lines text : List (List ℕ)) (line : List ℕ) (wanted : Wanted) → HoldsFront front lines text → front.wanted ≡ Some wanted → wanted.kind ≡ Text → IsFrontCounted counted lines line
     → is_text_line line ≡ false → is_skipped line ≡ false → (counted.lines ≡ length lines + 1) × CantStand lines line BadLine
 other-refused front counted lines text line wanted h is of_text c no_text no_skipped =
     let a : AskFor lines Text wanted.missing = subst (λ (k : OpeningKind). AskFor lines k wanted.missing) of_text (asks front lines text wanted h is) in

@@ -27,13 +27,13 @@ abbrev pub wanted_in : List ℕ → Option Wanted
 wanted_in line = wanted_by (talk_opening line)
 
 -- the texts of the text lines among these
-abbrev pub texts_in : List (List ℕ) → List (List ℕ)
-texts_in [] = []
-texts_in (line ∷ lines) = if is_text_line line then drop 1 line ∷ texts_in lines else texts_in lines
+abbrev pub texts_in_lines : List (List ℕ) → List (List ℕ)
+texts_in_lines [] = []
+texts_in_lines (line ∷ lines) = if is_text_line line then drop 1 line ∷ texts_in_lines lines else texts_in_lines lines
 
 -- what lines behind the first tell: the text lines their texts, and the lines of a saved text themselves
 abbrev pub told_in : OpeningKind → List (List ℕ) → List (List ℕ)
-told_in kind.Text lines = texts_in lines
+told_in kind.Text lines = texts_in_lines lines
 told_in kind.Saved lines = lines
 
 -- a line that may stand behind the first: a text line, or one that is passed over; any, in a saved text
@@ -72,7 +72,7 @@ AreReadable [] = Unit {0}
 AreReadable (first ∷ others) = CanBeRead LINE_LIMIT first × All (CanBeRead (limit_of (kind_in first))) others
 
 -- all of the lines can be read, and they aren't too long together
-pub record AreGood (lines : List (List ℕ)) : Type 0 where
+pub record AreReadableLines (lines : List (List ℕ)) : Type 0 where
   pub readable : AreReadable lines
   pub few : bytes_of lines ≤ OPENING_LIMIT
 
@@ -90,13 +90,13 @@ pub data IsUnfinished (lines : List (List ℕ)) : Type 0 where
   wanting : (kind : OpeningKind) (missing : ℕ) → 0 < missing → AskFor lines kind missing → IsUnfinished lines
 
 -- an opening begins with these lines, and goes on behind them
-pub record IsFront (lines : List (List ℕ)) : Type 0 where
-  pub good : AreGood lines
+pub record IsOpeningFront (lines : List (List ℕ)) : Type 0 where
+  pub good : AreReadableLines lines
   pub unfinished : IsUnfinished lines
 
 -- the lines are an opening of this kind, with this text: none is missing, and without the last of them one is
-pub record IsOpening (lines : List (List ℕ)) (kind : OpeningKind) (text : List (List ℕ)) : Type 0 where
-  pub good : AreGood lines
+pub record AreOpeningLines (lines : List (List ℕ)) (kind : OpeningKind) (text : List (List ℕ)) : Type 0 where
+  pub good : AreReadableLines lines
   pub whole : AskFor lines kind 0
   pub text_is : text ≡ told_in kind (drop 1 lines)
   pub before : List (List ℕ)
@@ -108,8 +108,8 @@ pub record IsOpening (lines : List (List ℕ)) (kind : OpeningKind) (text : List
 -- asks for nothing, or a later one of an opening text is no text line and isn't passed over.
 pub data CantStand (lines : List (List ℕ)) (line : List ℕ) : Cause → Type 0 where
   unreadable : (cause : Cause) → fault_within (limit_behind lines) line ≡ Some cause → CantStand lines line cause
-  no_first : lines ≡ [] → AreGood (lines ++ line ∷ []) → wanted_in line ≡ None → CantStand lines line NoServe
-  no_other : (missing : ℕ) → AskFor lines kind.Text missing → AreGood (lines ++ line ∷ []) → is_text_line line ≡ false → is_skipped line ≡ false
+  no_first : lines ≡ [] → AreReadableLines (lines ++ line ∷ []) → wanted_in line ≡ None → CantStand lines line NoServe
+  no_other : (missing : ℕ) → AskFor lines kind.Text missing → AreReadableLines (lines ++ line ∷ []) → is_text_line line ≡ false → is_skipped line ≡ false
       → CantStand lines line BadLine
 
 -- the line can be read, and the lines are too long with it
@@ -122,7 +122,7 @@ pub record IsNextText (lines : List (List ℕ)) (line : List ℕ) : Type 0 where
   pub kind : OpeningKind
   pub missing : ℕ
   pub asked : AskFor lines kind missing
-  pub good : AreGood (lines ++ line ∷ [])
+  pub good : AreReadableLines (lines ++ line ∷ [])
   pub text : told_in kind (line ∷ []) ≢ []
 
 -- why the input can't end behind these lines: there is no first line, or lines are missing

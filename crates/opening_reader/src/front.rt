@@ -3,7 +3,7 @@ ghost use Rattle.std.specs.Prelude.{◌≡◌, ◌≤◌, ◌<◌, ◌+◌, ◌�
 ghost use Rattle.knit_base.specs.Lines.{HasNoLineEnd, IsLine, without_return};
 ghost use Rattle.knit_ports.specs.Ears.{kept_front};
 ghost use Rattle.knit_ports.specs.declared.limit.TheConstants.{HEARD_LIMIT};
-ghost use Rattle.opening_reader.specs.Fronts.{HasRoom, HoldsFront, IsCounted, IsOpen, IsTaken};
+ghost use Rattle.opening_reader.specs.Fronts.{HasLineRoom, HoldsFront, IsFrontCounted, IsOpeningUnfinished, IsOpeningLineTaken};
 ghost use Rattle.opening_reader.specs.Openings.{CanBeRead, MayFollow, cause_at_end, limit_behind, told_in};
 ghost use Rattle.opening_reader.specs.declared.opening.OpeningFault.TheVariants as fault;
 ghost use Rattle.opening_reader.specs.declared.opening.OpeningKind.TheVariants as kind;
@@ -27,7 +27,7 @@ pub(crate) struct Front {
 
 /// The kind of the opening, if it is whole.
 pub(crate) fn whole_kind(front: Front) -> Option<OpeningKind>
-    ensures { MatchOption result (IsOpen front.wanted) (λ kind. front.wanted ≡ Some (record { kind = kind; missing = 0 })) }
+    ensures { MatchOption result (IsOpeningUnfinished front.wanted) (λ kind. front.wanted ≡ Some (record { kind = kind; missing = 0 })) }
 {
     match front.wanted {
         Some(wanted) if wanted.missing == 0 => Some(wanted.kind),
@@ -54,9 +54,9 @@ pub(crate) fn unfinished(number: u32, front: Front) -> OpeningFault
 /// Takes one more line, of which these bytes are kept.
 pub(crate) fn take(text: &mut Lines, front: Front, kept: &[u8]) -> Result<Front, OpeningFault>
     requires one { HasNoLineEnd kept.now }
-    requires room { HasRoom front text.old }
-    requires wanted { IsOpen front.wanted }
-    ensures { (lines : List (List ℕ)) (line : List ℕ) → HoldsFront front lines text.old → kept.now ≡ kept_front line → IsTaken result text.new lines (without_return line) }
+    requires room { HasLineRoom front text.old }
+    requires wanted { IsOpeningUnfinished front.wanted }
+    ensures { (lines : List (List ℕ)) (line : List ℕ) → HoldsFront front lines text.old → kept.now ≡ kept_front line → IsOpeningLineTaken result text.new lines (without_return line) }
 {
     match readable(without_return(kept), limit_for(front.wanted)) {
         Ok(line) => take_readable(text, front, line),
@@ -71,9 +71,9 @@ pub(crate) fn take(text: &mut Lines, front: Front, kept: &[u8]) -> Result<Front,
 fn take_readable(text: &mut Lines, front: Front, line: &str) -> Result<Front, OpeningFault>
     requires line { IsLine line.now }
     requires short { length line.now ≤ HEARD_LIMIT }
-    requires room { HasRoom front text.old }
-    requires wanted { IsOpen front.wanted }
-    ensures { (lines : List (List ℕ)) → HoldsFront front lines text.old → CanBeRead (limit_behind lines) line.now → IsTaken result text.new lines line.now }
+    requires room { HasLineRoom front text.old }
+    requires wanted { IsOpeningUnfinished front.wanted }
+    ensures { (lines : List (List ℕ)) → HoldsFront front lines text.old → CanBeRead (limit_behind lines) line.now → IsOpeningLineTaken result text.new lines line.now }
 {
     let bytes = front.bytes + line.len() as u32 + 1;
     if OPENING_LIMIT < bytes {
@@ -92,7 +92,7 @@ fn take_readable(text: &mut Lines, front: Front, line: &str) -> Result<Front, Op
 
 // Takes the first line, which is counted already.
 fn take_first(counted: Front, line: &str) -> Result<Front, OpeningFault>
-    ensures { (front : Front) (lines text : List (List ℕ)) → HoldsFront front lines text → front.wanted ≡ None → IsCounted counted lines line.now → IsTaken result text lines line.now }
+    ensures { (front : Front) (lines text : List (List ℕ)) → HoldsFront front lines text → front.wanted ≡ None → IsFrontCounted counted lines line.now → IsOpeningLineTaken result text lines line.now }
 {
     match wanted_in(line.as_bytes()) {
         Some(wanted) => Ok(Front {
@@ -118,7 +118,7 @@ fn take_other(
     requires short { length line.now ≤ HEARD_LIMIT }
     requires some { 0 < wanted.missing }
     requires few { length text.old < 16777217 }
-    ensures { (front : Front) (lines : List (List ℕ)) → HoldsFront front lines text.old → front.wanted ≡ Some wanted → counted.wanted ≡ Some wanted → IsCounted counted lines line.now → IsTaken result text.new lines line.now }
+    ensures { (front : Front) (lines : List (List ℕ)) → HoldsFront front lines text.old → front.wanted ≡ Some wanted → counted.wanted ≡ Some wanted → IsFrontCounted counted lines line.now → IsOpeningLineTaken result text.new lines line.now }
 {
     match wanted.kind {
         OpeningKind::Text => take_text(text, counted, wanted, line),
@@ -138,7 +138,7 @@ fn take_text(
     requires text { wanted.kind ≡ kind.Text }
     requires some { 0 < wanted.missing }
     requires few { length text.old < 16777217 }
-    ensures { (front : Front) (lines : List (List ℕ)) → HoldsFront front lines text.old → front.wanted ≡ Some wanted → counted.wanted ≡ Some wanted → IsCounted counted lines line.now → IsTaken result text.new lines line.now }
+    ensures { (front : Front) (lines : List (List ℕ)) → HoldsFront front lines text.old → front.wanted ≡ Some wanted → counted.wanted ≡ Some wanted → IsFrontCounted counted lines line.now → IsOpeningLineTaken result text.new lines line.now }
 {
     if is_text_line(line.as_bytes()) {
         return take_piece(text, counted, wanted, text_of(line));
@@ -163,8 +163,8 @@ fn take_piece(
     requires short { length piece.now ≤ HEARD_LIMIT }
     requires some { 0 < wanted.missing }
     requires few { length text.old < 16777217 }
-    ensures { (front : Front) (lines : List (List ℕ)) (line : List ℕ) → HoldsFront front lines text.old → front.wanted ≡ Some wanted → IsCounted counted lines line
-        → told_in wanted.kind (line ∷ []) ≡ piece.now ∷ [] → MayFollow wanted.kind line → IsTaken result text.new lines line }
+    ensures { (front : Front) (lines : List (List ℕ)) (line : List ℕ) → HoldsFront front lines text.old → front.wanted ≡ Some wanted → IsFrontCounted counted lines line
+        → told_in wanted.kind (line ∷ []) ≡ piece.now ∷ [] → MayFollow wanted.kind line → IsOpeningLineTaken result text.new lines line }
 {
     match text.push(piece) {
         Ok(()) => Ok(Front {

@@ -2,9 +2,9 @@
 ghost use Rattle.std.specs.Prelude.{◌≡◌, ◌≤◌, [], All, IfOk, List, ℕ, length};
 ghost use Rattle.knit_base.specs.Lines.{HasNoLineEnd, IsLine};
 ghost use Rattle.knit_ports.specs.Ears.{kept_front};
-ghost use Rattle.knit_ports.specs.Pieces.{GoesOn, Piece};
+ghost use Rattle.knit_ports.specs.Pieces.{PiecesGoOn, Piece};
 ghost use Rattle.knit_ports.specs.declared.limit.TheConstants.{HEARD_LIMIT};
-ghost use Rattle.opening_reader.specs.Fronts.{HasRoom, HoldsFront, IsFinished, IsOpen};
+ghost use Rattle.opening_reader.specs.Fronts.{HasLineRoom, HoldsFront, IsFinished, IsOpeningUnfinished};
 ghost use Rattle.opening_reader.specs.HeardOpenings.{EndsOpening, OpeningCause};
 
 use crate::front::{Front, OPENING_LIMIT, take, unfinished, whole_kind};
@@ -23,7 +23,7 @@ pub fn hear_opening<T: Talk>(
     ear: &mut Ear,
 ) -> Result<OpeningText, OpeningFault>
     requires fresh { ear.old.pending ≡ [] }
-    ensures heard { (pieces : List Piece) × GoesOn (T.told talk.old) (T.told talk.new) pieces × EndsOpening pieces ear.new.pending result }
+    ensures heard { (pieces : List Piece) × PiecesGoOn (T.told talk.old) (T.told talk.new) pieces × EndsOpening pieces ear.new.pending result }
     ensures texts { IfOk result (λ opening. All IsLine opening.text) }
     ensures short { IfOk result (λ opening. All (λ line. length line ≤ HEARD_LIMIT) opening.text) }
     ensures few { IfOk result (λ opening. length opening.text ≤ 16777216) }
@@ -63,8 +63,8 @@ pub fn hear_opening<T: Talk>(
 // What is told where the input ends behind this line, which has no line feed, or is empty.
 fn finish(text: Lines, front: Front, line: &[u8]) -> Result<OpeningText, OpeningFault>
     requires one { HasNoLineEnd line.now }
-    requires room { HasRoom front text }
-    requires wanted { IsOpen front.wanted }
+    requires room { HasLineRoom front text }
+    requires wanted { IsOpeningUnfinished front.wanted }
     ensures { (lines : List (List ℕ)) (last : List ℕ) → HoldsFront front lines text → line.now ≡ kept_front last → IsFinished result lines last }
 {
     let number = front.lines + 1;

@@ -5,7 +5,7 @@ use Rattle.std.proofs.lemmas.List.{map-append}
 use Rattle.pass_grouping.specs.declared.fact.PassFact.{PassFact}
 use Rattle.pass_grouping.specs.declared.operation.PassOp.{PassOp}
 use Rattle.pass_grouping.specs.Facts.{fact_between, last_of, told_of}
-use Rattle.pass_grouping.specs.Groupings.{Part, operations_in, parts}
+use Rattle.pass_grouping.specs.Groupings.{PassRange, operations_in, ranges_from_starts}
 use Rattle.pass_grouping.proofs.PartialGroupings.{parts-push}
 
 -- the last of the first operations, by its place
@@ -45,16 +45,16 @@ told-part ops start behind d some within =
 
 -- one part more is told
 pub told-push : (ops : List PassOp) (earlier : List ℕ) (start behind : ℕ) (facts all : List PassFact) (fact : PassFact)
-    → facts ≡ flat_map told_of (map (operations_in ops) (parts earlier start))
+    → facts ≡ flat_map told_of (map (operations_in ops) (ranges_from_starts earlier start))
     → told_of (operations_in ops (record { start = start; behind = behind })) ≡ fact ∷ [] → all ≡ facts ++ fact ∷ []
-    → all ≡ flat_map told_of (map (operations_in ops) (parts (earlier ++ start ∷ []) behind))
+    → all ≡ flat_map told_of (map (operations_in ops) (ranges_from_starts (earlier ++ start ∷ []) behind))
 told-push ops earlier start behind facts all fact told one pushed =
-    let part : Part = record { start = start; behind = behind } in
-    let passes : List (List PassOp) = map (operations_in ops) (parts earlier start) in
+    let part : PassRange = record { start = start; behind = behind } in
+    let passes : List (List PassOp) = map (operations_in ops) (ranges_from_starts earlier start) in
     pushed
     ∙ ap (λ fs. fs ++ fact ∷ []) told
     ∙ ap (λ fs. flat_map told_of passes ++ fs) (sym one)
     ∙ ap (λ fs. flat_map told_of passes ++ fs) (sym (append-nil (told_of (operations_in ops part))))
     ∙ sym (flat_map-append told_of passes (operations_in ops part ∷ []))
-    ∙ ap (flat_map told_of) (sym (map-append (operations_in ops) (parts earlier start) (part ∷ [])))
+    ∙ ap (flat_map told_of) (sym (map-append (operations_in ops) (ranges_from_starts earlier start) (part ∷ [])))
     ∙ ap (λ ps. flat_map told_of (map (operations_in ops) ps)) (sym (parts-push earlier start behind))

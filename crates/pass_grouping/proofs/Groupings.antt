@@ -4,57 +4,57 @@ use Rattle.std.proofs.lemmas.List.{get_or-map, length-map}
 use Rattle.std.proofs.lemmas.List.Elements.{All-head, All-tail}
 use Rattle.pass_grouping.specs.declared.operation.PassOp.{PassOp}
 use Rattle.pass_grouping.specs.declared.certificate.Window.{Window}
-use Rattle.pass_grouping.specs.Groupings.{Part, operations_in, parts, passes_from, first_or, IsPass, IsGrouping, IsFewest, IsWindow, AreApart, IsCertificate}
+use Rattle.pass_grouping.specs.Groupings.{PassRange, operations_in, ranges_from_starts, passes_from, first_or, IsPass, IsGrouping, IsFewest, IsWindow, AreApart, IsCertificate}
 use Rattle.pass_grouping.proofs.Passes.{by_order, one_pass-shrink}
 
-pub length-parts : (starts : List ℕ) (behind : ℕ) → length (parts starts behind) ≡ length starts
+pub length-parts : (starts : List ℕ) (behind : ℕ) → length (ranges_from_starts starts behind) ≡ length starts
 length-parts [] behind = refl
 length-parts (s ∷ ss) behind = ap suc (length-parts ss behind)
 
 -- the part from this start to the first of the later ones
-abbrev part_from : ℕ → List ℕ → ℕ → Part
+abbrev part_from : ℕ → List ℕ → ℕ → PassRange
 part_from start later behind = record { start = start; behind = first_or later behind }
 
 -- the part that begins at a start of the list
-abbrev pub part_at : List ℕ → ℕ → ℕ → Part
+abbrev pub part_at : List ℕ → ℕ → ℕ → PassRange
 part_at starts behind k = record { start = get_or starts k 0; behind = first_or (drop (k + 1) starts) behind }
 
-parts-at : (starts : List ℕ) (behind k : ℕ) (d : Part) → k < length starts → get_or (parts starts behind) k d ≡ part_at starts behind k
+parts-at : (starts : List ℕ) (behind k : ℕ) (d : PassRange) → k < length starts → get_or (ranges_from_starts starts behind) k d ≡ part_at starts behind k
 parts-at [] behind k d below = absurd (omega arith)
 parts-at (s ∷ ss) behind zero d below = refl
 parts-at (s ∷ ss) behind (suc k) d below =
     let behind_it : suc (k + 1) ≡ suc k + 1 = omega arith in
     parts-at ss behind k d (omega arith) ∙ ap (λ n. part_from (get_or ss k 0) (drop n (s ∷ ss)) behind) behind_it
 
-pub passes-all : (ops : List PassOp) (starts : List ℕ) (behind : ℕ) → ((k : ℕ) → k < length starts → IsPass ops (part_at starts behind k)) → All (IsPass ops) (parts starts behind)
+pub passes-all : (ops : List PassOp) (starts : List ℕ) (behind : ℕ) → ((k : ℕ) → k < length starts → IsPass ops (part_at starts behind k)) → All (IsPass ops) (ranges_from_starts starts behind)
 passes-all ops starts behind each k d below =
     let within : k < length starts = omega (arith, length-parts starts behind) in
     subst (IsPass ops) (sym (parts-at starts behind k d within)) (each k within)
 
-pub passes-at : (ops : List PassOp) (starts : List ℕ) (behind k : ℕ) → k < length starts → All (IsPass ops) (parts starts behind) → IsPass ops (part_at starts behind k)
+pub passes-at : (ops : List PassOp) (starts : List ℕ) (behind k : ℕ) → k < length starts → All (IsPass ops) (ranges_from_starts starts behind) → IsPass ops (part_at starts behind k)
 passes-at ops starts behind k within passes =
-    let below : k < length (parts starts behind) = omega (arith, length-parts starts behind) in
+    let below : k < length (ranges_from_starts starts behind) = omega (arith, length-parts starts behind) in
     subst (IsPass ops) (parts-at starts behind k (part_at starts behind k) within) (passes k (part_at starts behind k) below)
 
 -- how many passes there are
 pub length-passes : (ops : List PassOp) (starts : List ℕ) → length (passes_from ops starts) ≡ length starts
-length-passes ops starts = length-map (parts starts (length ops)) (operations_in ops) ∙ length-parts starts (length ops)
+length-passes ops starts = length-map (ranges_from_starts starts (length ops)) (operations_in ops) ∙ length-parts starts (length ops)
 
 -- the operations of the pass at this place
 pub passes_from-at : (ops : List PassOp) (starts : List ℕ) (k : ℕ) → k < length starts → get_or (passes_from ops starts) k [] ≡ operations_in ops (part_at starts (length ops) k)
 passes_from-at ops starts k within =
-    let none : Part = part_at starts (length ops) k in
-    get_or-map (operations_in ops) (parts starts (length ops)) k none [] (omega (arith, length-parts starts (length ops)))
+    let none : PassRange = part_at starts (length ops) k in
+    get_or-map (operations_in ops) (ranges_from_starts starts (length ops)) k none [] (omega (arith, length-parts starts (length ops)))
     ∙ ap (operations_in ops) (parts-at starts (length ops) k none within)
 
 -- no window lies within a part
-outside : {P : Type 0} (ops : List PassOp) (part : Part) (window : Window) → IsPass ops part → IsWindow ops window → part.start ≤ window.from → window.to < part.behind → P
+outside : {P : Type 0} (ops : List PassOp) (part : PassRange) (window : Window) → IsPass ops part → IsWindow ops window → part.start ≤ window.from → window.to < part.behind → P
 outside ops part window pass is from to =
     absurd (is.broken (one_pass-shrink ops part.start (part.behind - 1) window.from window.to from (omega arith) pass.pass))
 
 -- the windows from the one at j on, all behind the start s, and the parts from s on
 counted : (ops : List PassOp) (windows : List Window) (d : Window) → All (IsWindow ops) windows → AreApart windows
-    → (s : ℕ) (ss : List ℕ) (j : ℕ) → All (IsPass ops) (parts (s ∷ ss) (length ops)) → (j < length windows → s ≤ (get_or windows j d).from)
+    → (s : ℕ) (ss : List ℕ) (j : ℕ) → All (IsPass ops) (ranges_from_starts (s ∷ ss) (length ops)) → (j < length windows → s ≤ (get_or windows j d).from)
     → length windows < length (s ∷ ss) + j
 counted ops windows d hold apart s [] j passes behind =
     by_order j (length windows)
@@ -67,8 +67,8 @@ counted ops windows d hold apart s (t ∷ ts) j passes behind =
     by_order j (length windows)
     (λ below.
     let is : IsWindow ops (get_or windows j d) = hold j d below in
-    let part : IsPass ops (record { start = s; behind = t }) = All-head (IsPass ops) (record { start = s; behind = t }) (parts (t ∷ ts) (length ops)) passes in
-    let later : All (IsPass ops) (parts (t ∷ ts) (length ops)) = All-tail (IsPass ops) (record { start = s; behind = t }) (parts (t ∷ ts) (length ops)) passes in
+    let part : IsPass ops (record { start = s; behind = t }) = All-head (IsPass ops) (record { start = s; behind = t }) (ranges_from_starts (t ∷ ts) (length ops)) passes in
+    let later : All (IsPass ops) (ranges_from_starts (t ∷ ts) (length ops)) = All-tail (IsPass ops) (record { start = s; behind = t }) (ranges_from_starts (t ∷ ts) (length ops)) passes in
     by_order (get_or windows j d).to t
     (λ inside. outside ops (record { start = s; behind = t }) (get_or windows j d) part is (behind below) inside)
     (λ reached. by_order (get_or windows j d).from t
@@ -95,7 +95,7 @@ more_parts ops windows (s ∷ ss) hold apart some grouping =
 pub no_starts : (ops : List PassOp) (starts : List ℕ) → length ops ≡ 0 → IsGrouping ops starts → starts ≡ []
 no_starts ops [] none grouping = refl
 no_starts ops (s ∷ ss) none grouping =
-    let part : IsPass ops (record { start = s; behind = first_or ss (length ops) }) = All-head (IsPass ops) (record { start = s; behind = first_or ss (length ops) }) (parts ss (length ops)) grouping.passes in
+    let part : IsPass ops (record { start = s; behind = first_or ss (length ops) }) = All-head (IsPass ops) (record { start = s; behind = first_or ss (length ops) }) (ranges_from_starts ss (length ops)) grouping.passes in
     absurd (omega (arith, part.some, part.within))
 
 pub no_windows : (ops : List PassOp) (windows : List Window) → length ops ≡ 0 → All (IsWindow ops) windows → windows ≡ []
@@ -121,9 +121,9 @@ some_start ops [] some grouping = absurd (omega (arith, grouping.first))
 some_start ops (s ∷ ss) some grouping = omega arith
 
 -- what the tests of a certificate show
-pub certified : (ops read : List PassOp) (starts : List ℕ) (windows : List Window) → read ≡ ops → IsGrouping read starts → All (IsWindow read) windows × AreApart windows
+pub certificate_tests_show : (ops read : List PassOp) (starts : List ℕ) (windows : List Window) → read ≡ ops → IsGrouping read starts → All (IsWindow read) windows × AreApart windows
     → (0 < length read → length starts - 1 ≡ length windows) → IsCertificate ops starts windows
-certified ops read starts windows same grouping stand counts =
+certificate_tests_show ops read starts windows same grouping stand counts =
     subst (λ (l : List PassOp). IsCertificate l starts windows) same (record {
       grouping = grouping;
       hold = stand.0;

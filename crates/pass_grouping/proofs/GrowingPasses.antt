@@ -13,10 +13,10 @@ use Rattle.pass_grouping.specs.declared.growing.Growing.{Growing}
 use Rattle.pass_grouping.specs.declared.growing.ToldPasses.{ToldPasses}
 use Rattle.pass_grouping.specs.declared.operation.PassOp.{PassOp}
 use Rattle.pass_grouping.specs.Facts.{fact_between, told_of, way_of}
-use Rattle.pass_grouping.specs.Groupings.{operations_in, parts}
+use Rattle.pass_grouping.specs.Groupings.{operations_in, ranges_from_starts}
 use Rattle.pass_grouping.specs.Growing.{AreGoing, BeganSo, GoesSo, Grouped, IsGoingBehind, IsGoingWay, IsGrowing, fact_now}
-use Rattle.pass_grouping.specs.Passes.{AreAlike, Follows, GoesOneWay, IsBeyond, IsOnePass}
-use Rattle.pass_grouping.specs.Told.{AreCounted, AreTold}
+use Rattle.pass_grouping.specs.Passes.{AreOneKindOfOperation, Follows, GoesOneWay, IsBeyond, IsOnePass}
+use Rattle.pass_grouping.specs.Told.{AreOperationCounts, AreTold}
 use Rattle.pass_grouping.proofs.Facts.{told-part, told-push}
 use Rattle.pass_grouping.proofs.Groupings.{certificate-fewest}
 use Rattle.pass_grouping.proofs.PartialGroupings.{grouped-end, grouped-more, grouped-next, grouped-none, grouped-start}
@@ -70,15 +70,15 @@ goes-no_other (Some way) told ops more start last op w goes is follows going =
     one-way w way _ _ (going.pairs start (start + 1) op (omega arith) (omega arith) (omega (arith, goes.0))).place pair.place ∙ is
 
 -- all operations of a pass are alike, so the first is like the last
-alike-last : (way : Option Dir) (ops : List PassOp) (start : ℕ) (last : PassOp) → GoesSo way ops start → ((d : PassOp) → get_or ops (length ops - 1) d ≡ last) → AreAlike (get_or ops start last) last
+alike-last : (way : Option Dir) (ops : List PassOp) (start : ℕ) (last : PassOp) → GoesSo way ops start → ((d : PassOp) → get_or ops (length ops - 1) d ≡ last) → AreOneKindOfOperation (get_or ops start last) last
 alike-last None ops start last goes ends =
     let same : get_or ops start last ≡ last = ap (λ n. get_or ops n last) (omega (arith, goes)) ∙ ends last in
     record { stretch = ap (λ (op : PassOp). op.stretch) same; class = ap (λ (op : PassOp). op.class) same; dir = ap (λ (op : PassOp). op.dir) same; yarns = ap (λ (op : PassOp). op.yarns) same }
 alike-last (Some way) ops start last goes ends =
-    subst (AreAlike (get_or ops start last)) (ends last) (goes.1.pairs start (length ops - 1) last (omega arith) (omega (arith, goes.0)) (omega arith)).alike
+    subst (AreOneKindOfOperation (get_or ops start last)) (ends last) (goes.1.pairs start (length ops - 1) last (omega arith) (omega (arith, goes.0)) (omega arith)).alike
 
 -- what is told of the pass that goes on is told of its operations
-told-now : (ops more : List PassOp) (start : ℕ) (begun : Begun) (last : PassOp) → start < length ops → BeganSo ops start begun → AreAlike (get_or ops start last) last
+told-now : (ops more : List PassOp) (start : ℕ) (begun : Begun) (last : PassOp) → start < length ops → BeganSo ops start begun → AreOneKindOfOperation (get_or ops start last) last
     → ((d : PassOp) → get_or ops (length ops - 1) d ≡ last)
     → told_of (operations_in (ops ++ more) (record { start = start; behind = length ops })) ≡ fact_now begun last (length ops) ∷ []
 told-now ops more start begun last some began alike ends =
@@ -97,7 +97,7 @@ told-now ops more start begun last some began alike ends =
     } ∷ [])
 
 -- an operation that is alike is told from this one by its line and its place
-pub moved-to : (last op : PassOp) → AreAlike last op → record { line = op.line; stretch = last.stretch; class = last.class; dir = last.dir; yarns = last.yarns; place = op.place } ≡ op
+pub moved-to : (last op : PassOp) → AreOneKindOfOperation last op → record { line = op.line; stretch = last.stretch; class = last.class; dir = last.dir; yarns = last.yarns; place = op.place } ≡ op
 moved-to last op alike = λ i. record { line = op.line; stretch = alike.stretch i; class = alike.class i; dir = alike.dir i; yarns = alike.yarns i; place = op.place }
 
 -- an operation that begins a pass
@@ -165,7 +165,7 @@ going-more ops last op told old new here is follows ended begun way =
           (grouped-more (ops ++ op ∷ more) starts here.windows here.start (length ops) (here.grouped (op ∷ more)) (omega (arith, length-append ops (op ∷ more)))
           (one_pass told (ops ++ op ∷ more) here.start (length ops) (goes more))));
       told = λ more. ended ∙ here.told (op ∷ more)
-          ∙ ap (λ (os : List PassOp). flat_map told_of (map (operations_in os) (parts here.earlier here.start))) (sym (append_assoc ops (op ∷ []) more));
+          ∙ ap (λ (os : List PassOp). flat_map told_of (map (operations_in os) (ranges_from_starts here.earlier here.start))) (sym (append_assoc ops (op ∷ []) more));
       counted = ap length ended ∙ here.counted;
       began = subst (BeganSo (ops ++ op ∷ []) here.start) (sym begun) (began-on ops op here.start old.begun some here.began);
       ends = last-is ops op;
@@ -174,7 +174,7 @@ going-more ops last op told old new here is follows ended begun way =
 
 -- the passes up to the last operation, whatever comes behind it
 ended-told : (ops more : List PassOp) (last : PassOp) (old : Growing) (facts : List PassFact) (here : AreGoing ops last old) → facts ≡ old.ended ++ fact_now old.begun last (length ops) ∷ []
-    → facts ≡ flat_map told_of (map (operations_in (ops ++ more)) (parts (here.earlier ++ here.start ∷ []) (length ops)))
+    → facts ≡ flat_map told_of (map (operations_in (ops ++ more)) (ranges_from_starts (here.earlier ++ here.start ∷ []) (length ops)))
 ended-told ops more last old facts here pushed =
     told-push (ops ++ more) here.earlier here.start (length ops) old.ended facts (fact_now old.begun last (length ops)) (here.told more)
     (told-now ops more here.start old.begun last (here.grouped []).some here.began (alike-last old.way ops here.start last here.goes here.ends) here.ends) pushed
@@ -206,7 +206,7 @@ going-next ops last op told old new here is breaks ended begun way =
           (inl (goes-one Right (ops ++ op ∷ more) (length ops) (length ops + 1 - 1) (omega arith)))));
       told = λ more.
           ended-told ops (op ∷ more) last old new.ended here ended
-          ∙ ap (λ (os : List PassOp). flat_map told_of (map (operations_in os) (parts starts (length ops)))) (sym (append_assoc ops (op ∷ []) more));
+          ∙ ap (λ (os : List PassOp). flat_map told_of (map (operations_in os) (ranges_from_starts starts (length ops)))) (sym (append_assoc ops (op ∷ []) more));
       counted = omega (arith, ap length ended, here.counted, length-append old.ended (fact_now old.begun last (length ops) ∷ []), length-append here.earlier (here.start ∷ []));
       began = began-so ops op new.begun (length ops) begun refl;
       ends = last-is ops op;
@@ -273,7 +273,7 @@ grouped-all ops last growing here =
 
 -- what was counted
 pub counted-some : (ops : List PassOp) (last : PassOp) (growing : Growing) (counts : Counts) → IsGrowing ops growing → growing.last ≡ Some last → counts.operations ≡ growing.operations
-    → counts.windows ≡ length growing.ended → counts.passes ≡ length growing.ended + 1 → AreCounted ops counts
+    → counts.windows ≡ length growing.ended → counts.passes ≡ length growing.ended + 1 → AreOperationCounts ops counts
 counted-some ops last growing counts is some operations windows passes =
     let here : AreGoing ops last growing = going-some ops last growing is some in
     let starts : List ℕ = here.earlier ++ here.start ∷ [] in
@@ -291,7 +291,7 @@ counted-some ops last growing counts is some operations windows passes =
     }
 
 pub counted-none : (ops : List PassOp) (growing : Growing) (counts : Counts) → IsGrowing ops growing → growing.last ≡ None → counts.operations ≡ growing.operations
-    → counts.windows ≡ length growing.ended → counts.passes ≡ length growing.ended → AreCounted ops counts
+    → counts.windows ≡ length growing.ended → counts.passes ≡ length growing.ended → AreOperationCounts ops counts
 counted-none ops growing counts is last operations windows passes =
     let none = going-none ops growing is last in
     let certificate = grouped-none ops [] [] (ap length none.0) refl refl in
@@ -324,7 +324,7 @@ told-some ops last growing passes fact is some made facts operations =
       operations_counted = operations ∙ is.operations;
       facts_told =
           ended-told ops [] last growing passes.facts here (facts ∙ ap (λ (f : PassFact). growing.ended ++ f ∷ []) fact_is)
-          ∙ ap (λ (os : List PassOp). flat_map told_of (map (operations_in os) (parts starts (length ops)))) (append-nil ops);
+          ∙ ap (λ (os : List PassOp). flat_map told_of (map (operations_in os) (ranges_from_starts starts (length ops)))) (append-nil ops);
     }
 
 pub told-none : (ops : List PassOp) (growing : Growing) (passes : ToldPasses) → IsGrowing ops growing → growing.last ≡ None → passes.facts ≡ growing.ended → passes.operations ≡ growing.operations

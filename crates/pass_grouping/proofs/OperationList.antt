@@ -10,7 +10,7 @@ use Rattle.knit_base.specs.Instr.{rack_of}
 use Rattle.pass_grouping.specs.declared.listing.Listing.{Listing}
 use Rattle.pass_grouping.specs.declared.operation.PassOp.{PassOp}
 use Rattle.pass_grouping.specs.Listings.{HasListed}
-use Rattle.pass_grouping.specs.Operations.{operations_after, operation_of, ends_stretch, rack_or, rack_behind, rack_after, IsRackWithin, IsSetWithin, IsWithinGreatestRack}
+use Rattle.pass_grouping.specs.Operations.{operations_after, operation_of, ends_stretch, rack_or, rack_behind, rack_after_lines, IsRackWithin, IsSetWithin, IsWithinGreatestRack}
 
 set-within : (rack : ℤ) (set : Option Quarter) → IsWithinGreatestRack rack → IsSetWithin set → IsWithinGreatestRack (rack_or rack set)
 set-within rack None within set = within
@@ -29,7 +29,7 @@ one_at_most (Some op) = omega arith
 
 -- the operation of a line behind these earlier ones
 abbrev operation_behind : ℕ → List Read → Read → List PassOp
-operation_behind first earlier r = option_to_list (operation_of (first + length earlier) (count_by ends_stretch earlier) (rack_after earlier) r)
+operation_behind first earlier r = option_to_list (operation_of (first + length earlier) (count_by ends_stretch earlier) (rack_after_lines earlier) r)
 
 operations-push : (first : ℕ) (earlier reads : List Read) (r : Read)
     → operations_after first earlier (reads ++ r ∷ []) ≡ operations_after first earlier reads ++ operation_behind first (earlier ++ reads) r
@@ -47,7 +47,7 @@ pub listed-more : (first : ℕ) (reads : List Read) (r : Read) (op : Option Pass
     → op ≡ operation_of old.line old.stretch old.rack r → new.ops ≡ old.ops ++ option_to_list op → new.line ≡ old.line + 1
     → new.stretch ≡ old.stretch + (if ends_stretch r then 1 else 0) → new.rack ≡ rack_behind old.rack r → HasListed first (reads ++ r ∷ []) new
 listed-more first reads r op old new has racks made pushed next counted set =
-    let here : op ≡ operation_of (first + length reads) (count_by ends_stretch reads) (rack_after reads) r =
+    let here : op ≡ operation_of (first + length reads) (count_by ends_stretch reads) (rack_after_lines reads) r =
     made ∙ ap (λ n. operation_of n old.stretch old.rack r) has.lines ∙ ap (λ n. operation_of (first + length reads) n old.rack r) has.stretch
     ∙ ap (λ q. operation_of (first + length reads) (count_by ends_stretch reads) q r) has.rack in
     record {

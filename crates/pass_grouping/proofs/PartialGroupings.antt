@@ -5,7 +5,7 @@ use Rattle.std.proofs.lemmas.List.Elements.{All-push}
 use Rattle.pass_grouping.specs.declared.operation.PassOp.{PassOp}
 use Rattle.pass_grouping.specs.declared.certificate.Window.{Window}
 use Rattle.pass_grouping.specs.Passes.{IsOnePass}
-use Rattle.pass_grouping.specs.Groupings.{Part, parts, first_or, IsPass, IsWindow, AreApart, IsCertificate, between_starts}
+use Rattle.pass_grouping.specs.Groupings.{PassRange, ranges_from_starts, first_or, IsPass, IsWindow, AreApart, IsCertificate, between_starts}
 use Rattle.pass_grouping.specs.Growing.{Grouped}
 
 first_or-push : (starts : List ℕ) (start behind : ℕ) → first_or (starts ++ start ∷ []) behind ≡ first_or starts start
@@ -16,11 +16,11 @@ first_or-any : (starts : List ℕ) (m n : ℕ) → 0 < length starts → first_o
 first_or-any [] m n some = absurd (omega arith)
 first_or-any (s ∷ ss) m n some = refl
 
-pub parts-push : (starts : List ℕ) (start behind : ℕ) → parts (starts ++ start ∷ []) behind ≡ parts starts start ++ record { start = start; behind = behind } ∷ []
+pub parts-push : (starts : List ℕ) (start behind : ℕ) → ranges_from_starts (starts ++ start ∷ []) behind ≡ ranges_from_starts starts start ++ record { start = start; behind = behind } ∷ []
 parts-push [] start behind = refl
 parts-push (s ∷ ss) start behind =
-    ap (λ n. record { start = s; behind = n } ∷ parts (ss ++ start ∷ []) behind) (first_or-push ss start behind)
-    ∙ ap (λ (ps : List Part). record { start = s; behind = first_or ss start } ∷ ps) (parts-push ss start behind)
+    ap (λ n. record { start = s; behind = n } ∷ ranges_from_starts (ss ++ start ∷ []) behind) (first_or-push ss start behind)
+    ∙ ap (λ (ps : List PassRange). record { start = s; behind = first_or ss start } ∷ ps) (parts-push ss start behind)
 
 between-push : (earlier : List ℕ) (s t : ℕ) → between_starts ((earlier ++ s ∷ []) ++ t ∷ []) ≡ between_starts (earlier ++ s ∷ []) ++ record { from = s; to = t } ∷ []
 between-push [] s t = refl
@@ -69,9 +69,9 @@ grouped-next ops starts starts' windows windows' start behind behind' so_far bro
           ap (λ (ss : List ℕ). first_or ss (length ops)) pushed_start ∙ first_or-push starts behind (length ops)
           ∙ first_or-any starts behind (length ops) (omega (arith, so_far.counts)) ∙ so_far.first;
       passes =
-          subst (λ (ss : List ℕ). All (IsPass ops) (parts ss behind')) (sym pushed_start)
+          subst (λ (ss : List ℕ). All (IsPass ops) (ranges_from_starts ss behind')) (sym pushed_start)
           (subst (All (IsPass ops)) (sym (parts-push starts behind behind'))
-          (All-push (IsPass ops) (parts starts behind) (record { start = behind; behind = behind' }) so_far.passes (record { some = some; within = within; pass = pass })));
+          (All-push (IsPass ops) (ranges_from_starts starts behind) (record { start = behind; behind = behind' }) so_far.passes (record { some = some; within = within; pass = pass })));
       between = windows_are ∙ ap between_starts (sym pushed_start);
       hold =
           subst (All (IsWindow ops)) (sym pushed_window)
@@ -85,23 +85,23 @@ grouped-next ops starts starts' windows windows' start behind behind' so_far bro
     }
 
 -- what holds of all holds of the first
-all-front : (P : Part → Type 0) (xs ys : List Part) → All P (xs ++ ys) → All P xs
+all-front : (P : PassRange → Type 0) (xs ys : List PassRange) → All P (xs ++ ys) → All P xs
 all-front P xs ys all k d below = subst P (get_or_append_left xs ys d k below) (all k d (omega (arith, length-append xs ys)))
 
 -- the last part is one operation longer
 pub grouped-more : (ops : List PassOp) (starts : List ℕ) (windows : List Window) (start behind : ℕ) → Grouped ops starts windows start behind → behind < length ops → IsOnePass ops start behind
     → Grouped ops starts windows start (behind + 1)
 grouped-more ops starts windows start behind so_far more pass =
-    let were : All (IsPass ops) (parts so_far.earlier start ++ record { start = start; behind = behind } ∷ []) =
-    subst (All (IsPass ops)) (ap (λ (ss : List ℕ). parts ss behind) so_far.last ∙ parts-push so_far.earlier start behind) so_far.passes in
+    let were : All (IsPass ops) (ranges_from_starts so_far.earlier start ++ record { start = start; behind = behind } ∷ []) =
+    subst (All (IsPass ops)) (ap (λ (ss : List ℕ). ranges_from_starts ss behind) so_far.last ∙ parts-push so_far.earlier start behind) so_far.passes in
     let part : IsPass ops (record { start = start; behind = behind + 1 }) =
     record { some = omega (arith, so_far.some); within = omega arith; pass = subst (IsOnePass ops start) (omega arith) pass } in
     record {
       first = so_far.first;
       passes =
-          subst (All (IsPass ops)) (sym (ap (λ (ss : List ℕ). parts ss (behind + 1)) so_far.last ∙ parts-push so_far.earlier start (behind + 1)))
-          (All-push (IsPass ops) (parts so_far.earlier start) (record { start = start; behind = behind + 1 })
-          (all-front (IsPass ops) (parts so_far.earlier start) (record { start = start; behind = behind } ∷ []) were) part);
+          subst (All (IsPass ops)) (sym (ap (λ (ss : List ℕ). ranges_from_starts ss (behind + 1)) so_far.last ∙ parts-push so_far.earlier start (behind + 1)))
+          (All-push (IsPass ops) (ranges_from_starts so_far.earlier start) (record { start = start; behind = behind + 1 })
+          (all-front (IsPass ops) (ranges_from_starts so_far.earlier start) (record { start = start; behind = behind } ∷ []) were) part);
       between = so_far.between;
       hold = so_far.hold;
       counts = so_far.counts;
@@ -117,7 +117,7 @@ pub grouped-end : (ops : List PassOp) (starts : List ℕ) (windows : List Window
 grouped-end ops starts windows start behind so_far all =
     let end : behind ≡ length ops = omega (arith, so_far.within) in
     record {
-      grouping = record { first = so_far.first; passes = subst (λ n. All (IsPass ops) (parts starts n)) end so_far.passes };
+      grouping = record { first = so_far.first; passes = subst (λ n. All (IsPass ops) (ranges_from_starts starts n)) end so_far.passes };
       hold = so_far.hold;
       apart = subst AreApart (sym so_far.between) (between-apart starts);
       counts = λ _. so_far.counts;

@@ -6,7 +6,7 @@ use Rattle.pass_grouping.specs.declared.certificate.Window.{Window}
 use Rattle.pass_grouping.specs.Passes.{IsOnePass}
 
 -- a part of the operations: from its start up to the start behind it, which isn't counted
-pub record Part : Type 0 where
+pub record PassRange : Type 0 where
   pub start : ℕ
   pub behind : ℕ
 
@@ -16,20 +16,20 @@ first_or [] behind = behind
 first_or (start ∷ starts) behind = start
 
 -- the parts that begin at these starts, with this number behind the last of them
-abbrev pub parts : List ℕ → ℕ → List Part
-parts [] behind = []
-parts (start ∷ starts) behind = record { start = start; behind = first_or starts behind } ∷ parts starts behind
+abbrev pub ranges_from_starts : List ℕ → ℕ → List PassRange
+ranges_from_starts [] behind = []
+ranges_from_starts (start ∷ starts) behind = record { start = start; behind = first_or starts behind } ∷ ranges_from_starts starts behind
 
 -- the operations of a part
-abbrev pub operations_in : List PassOp → Part → List PassOp
+abbrev pub operations_in : List PassOp → PassRange → List PassOp
 operations_in ops part = take (part.behind - part.start) (drop part.start ops)
 
 -- the operations of each pass, where the passes begin with these operations
 abbrev pub passes_from : List PassOp → List ℕ → List (List PassOp)
-passes_from ops starts = map (operations_in ops) (parts starts (length ops))
+passes_from ops starts = map (operations_in ops) (ranges_from_starts starts (length ops))
 
 -- a part that holds an operation and is one pass
-pub record IsPass (ops : List PassOp) (part : Part) : Type 0 where
+pub record IsPass (ops : List PassOp) (part : PassRange) : Type 0 where
   pub some : part.start < part.behind
   pub within : part.behind ≤ length ops
   pub pass : IsOnePass ops part.start (part.behind - 1)
@@ -38,7 +38,7 @@ pub record IsPass (ops : List PassOp) (part : Part) : Type 0 where
 -- no operation there is no start.
 pub record IsGrouping (ops : List PassOp) (starts : List ℕ) : Type 0 where
   pub first : first_or starts (length ops) ≡ 0
-  pub passes : All (IsPass ops) (parts starts (length ops))
+  pub passes : All (IsPass ops) (ranges_from_starts starts (length ops))
 
 -- a grouping, and every other grouping of the same operations has as many parts or more
 pub record IsFewest (ops : List PassOp) (starts : List ℕ) : Type 0 where

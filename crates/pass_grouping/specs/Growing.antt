@@ -8,13 +8,13 @@ use Rattle.pass_grouping.specs.declared.growing.Begun.{Begun}
 use Rattle.pass_grouping.specs.declared.growing.Growing.{Growing}
 use Rattle.pass_grouping.specs.declared.operation.PassOp.{PassOp}
 use Rattle.pass_grouping.specs.Facts.{told_of, way_of}
-use Rattle.pass_grouping.specs.Groupings.{parts, first_or, operations_in, IsPass, IsWindow, between_starts}
+use Rattle.pass_grouping.specs.Groupings.{ranges_from_starts, first_or, operations_in, IsPass, IsWindow, between_starts}
 use Rattle.pass_grouping.specs.Passes.{GoesOneWay, IsBeyond}
 
 -- the operations before this one are grouped, the last part from this start on
 pub record Grouped (ops : List PassOp) (starts : List ℕ) (windows : List Window) (start behind : ℕ) : Type 0 where
   pub first : first_or starts (length ops) ≡ 0
-  pub passes : All (IsPass ops) (parts starts behind)
+  pub passes : All (IsPass ops) (ranges_from_starts starts behind)
   pub between : windows ≡ between_starts starts
   pub hold : All (IsWindow ops) windows
   pub counts : length starts ≡ length windows + 1
@@ -53,7 +53,7 @@ pub record AreGoing (ops : List PassOp) (op : PassOp) (growing : Growing) : Type
   pub windows : List Window
   pub start : ℕ
   pub grouped : (more : List PassOp) → Grouped (ops ++ more) (earlier ++ start ∷ []) windows start (length ops)
-  pub told : (more : List PassOp) → growing.ended ≡ flat_map told_of (map (operations_in (ops ++ more)) (parts earlier start))
+  pub told : (more : List PassOp) → growing.ended ≡ flat_map told_of (map (operations_in (ops ++ more)) (ranges_from_starts earlier start))
   pub counted : length growing.ended ≡ length earlier
   pub began : BeganSo ops start growing.begun
   pub ends : (d : PassOp) → get_or ops (length ops - 1) d ≡ op

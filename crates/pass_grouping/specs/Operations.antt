@@ -25,16 +25,16 @@ quarters_on rack Back at = (pos 4 *ℤ at) +ℤ rack
 quarters_on rack BackSlider at = (pos 4 *ℤ at) +ℤ rack
 
 -- the place of a needle at this rack
-abbrev pub place_of : ℤ → Needle → ℤ
-place_of rack n = quarters_on rack n.bed n.at
+abbrev pub operation_place : ℤ → Needle → ℤ
+operation_place rack n = quarters_on rack n.bed n.at
 
 -- an operation that goes in a direction and uses carriers
-abbrev pub carried : Class → ℕ → ℕ → ℤ → Dir → Needle → List CarrierNo → PassOp
-carried class line stretch rack dir n cs = record { line = line; stretch = stretch; class = class; dir = Some dir; yarns = cs; place = place_of rack n }
+abbrev pub operation_with_carriers : Class → ℕ → ℕ → ℤ → Dir → Needle → List CarrierNo → PassOp
+operation_with_carriers class line stretch rack dir n cs = record { line = line; stretch = stretch; class = class; dir = Some dir; yarns = cs; place = operation_place rack n }
 
 -- an operation without direction and carriers
-abbrev pub uncarried : Class → ℕ → ℕ → ℤ → Needle → PassOp
-uncarried class line stretch rack n = record { line = line; stretch = stretch; class = class; dir = None; yarns = []; place = place_of rack n }
+abbrev pub plain_operation : Class → ℕ → ℕ → ℤ → Needle → PassOp
+plain_operation class line stretch rack n = record { line = line; stretch = stretch; class = class; dir = None; yarns = []; place = operation_place rack n }
 
 -- the operation of an instruction. `knit` and `tuck` without carriers drop loops, `split` without carriers moves them, and
 -- `miss` without carriers is no operation
@@ -48,17 +48,17 @@ operation_of_instr line stretch rack Stitch = None
 operation_of_instr line stretch rack Pause = None
 operation_of_instr line stretch rack Extension = None
 operation_of_instr line stretch rack (Rack q) = None
-operation_of_instr line stretch rack (Knit dir n []) = Some (uncarried class.Drop line stretch rack n)
-operation_of_instr line stretch rack (Knit dir n (c ∷ cs)) = Some (carried class.Form line stretch rack dir n (c ∷ cs))
-operation_of_instr line stretch rack (Tuck dir n []) = Some (uncarried class.Drop line stretch rack n)
-operation_of_instr line stretch rack (Tuck dir n (c ∷ cs)) = Some (carried class.Form line stretch rack dir n (c ∷ cs))
+operation_of_instr line stretch rack (Knit dir n []) = Some (plain_operation class.Drop line stretch rack n)
+operation_of_instr line stretch rack (Knit dir n (c ∷ cs)) = Some (operation_with_carriers class.Form line stretch rack dir n (c ∷ cs))
+operation_of_instr line stretch rack (Tuck dir n []) = Some (plain_operation class.Drop line stretch rack n)
+operation_of_instr line stretch rack (Tuck dir n (c ∷ cs)) = Some (operation_with_carriers class.Form line stretch rack dir n (c ∷ cs))
 operation_of_instr line stretch rack (Miss dir n []) = None
-operation_of_instr line stretch rack (Miss dir n (c ∷ cs)) = Some (carried class.Form line stretch rack dir n (c ∷ cs))
-operation_of_instr line stretch rack (Split dir n n2 []) = Some (uncarried class.Move line stretch rack n)
-operation_of_instr line stretch rack (Split dir n n2 (c ∷ cs)) = Some (carried class.Split line stretch rack dir n (c ∷ cs))
-operation_of_instr line stretch rack (Xfer n n2) = Some (uncarried class.Move line stretch rack n)
-operation_of_instr line stretch rack (Drop n) = Some (uncarried class.Drop line stretch rack n)
-operation_of_instr line stretch rack (Amiss n) = Some (uncarried class.Drop line stretch rack n)
+operation_of_instr line stretch rack (Miss dir n (c ∷ cs)) = Some (operation_with_carriers class.Form line stretch rack dir n (c ∷ cs))
+operation_of_instr line stretch rack (Split dir n n2 []) = Some (plain_operation class.Move line stretch rack n)
+operation_of_instr line stretch rack (Split dir n n2 (c ∷ cs)) = Some (operation_with_carriers class.Split line stretch rack dir n (c ∷ cs))
+operation_of_instr line stretch rack (Xfer n n2) = Some (plain_operation class.Move line stretch rack n)
+operation_of_instr line stretch rack (Drop n) = Some (plain_operation class.Drop line stretch rack n)
+operation_of_instr line stretch rack (Amiss n) = Some (plain_operation class.Drop line stretch rack n)
 
 -- the operation of a line
 abbrev pub operation_of : ℕ → ℕ → ℤ → Read → Option PassOp
@@ -105,15 +105,15 @@ rack_behind rack (read.Instr i) = rack_or rack (rack_of i)
 rack_behind rack r = rack
 
 -- the rack behind these lines, which is 0 before the first
-abbrev pub rack_after : List Read → ℤ
-rack_after = fold rack_behind (pos 0)
+abbrev pub rack_after_lines : List Read → ℤ
+rack_after_lines = fold rack_behind (pos 0)
 
 -- The operations of the later lines, behind these earlier ones. The first line of all has this number. An operation's stretch
 -- is how many lines before it end a stretch, and its place is that of its needle at the rack behind those lines.
 abbrev pub operations_after : ℕ → List Read → List Read → List PassOp
 operations_after first earlier [] = []
 operations_after first earlier (r ∷ later) =
-    option_to_list (operation_of (first + length earlier) (count_by ends_stretch earlier) (rack_after earlier) r) ++ operations_after first (earlier ++ r ∷ []) later
+    option_to_list (operation_of (first + length earlier) (count_by ends_stretch earlier) (rack_after_lines earlier) r) ++ operations_after first (earlier ++ r ∷ []) later
 
 -- from -256 to 256 quarters, which is 64 needles to either side
 abbrev pub IsWithinGreatestRack : ℤ → Type 0

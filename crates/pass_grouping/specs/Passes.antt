@@ -8,7 +8,7 @@ use Rattle.pass_grouping.specs.declared.operation.Class.TheVariants as class
 use Rattle.pass_grouping.specs.declared.operation.PassOp.{PassOp}
 
 -- the same stretch, class, direction, and list of carriers
-pub record AreAlike (a b : PassOp) : Type 0 where
+pub record AreOneKindOfOperation (a b : PassOp) : Type 0 where
   pub stretch : a.stretch ≡ b.stretch
   pub class : a.class ≡ b.class
   pub dir : a.dir ≡ b.dir
@@ -33,7 +33,7 @@ IsBeyond Left a b = b <ℤ a
 
 -- the second operation may come later than the first in one pass that goes this way
 pub record Follows (way : Dir) (a b : PassOp) : Type 0 where
-  pub alike : AreAlike a b
+  pub alike : AreOneKindOfOperation a b
   pub free : IsFree (way_asked a.class a.dir) way
   pub place : IsBeyond way a.place b.place
 

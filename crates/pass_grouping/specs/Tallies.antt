@@ -9,8 +9,8 @@ use Rattle.pass_grouping.specs.Listings.{HasListed}
 use Rattle.pass_grouping.specs.Operations.{operations_after}
 
 -- the number of the line whose reading comes next
-abbrev pub next_line : Tally → ℕ
-next_line tally = tally.line
+abbrev pub next_tally_line : Tally → ℕ
+next_tally_line tally = tally.line
 
 -- a listing that stands where the tally does, with these operations
 abbrev pub listing_at : List PassOp → Tally → Listing

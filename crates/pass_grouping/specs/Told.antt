@@ -8,7 +8,7 @@ use Rattle.pass_grouping.specs.Facts.{pass_facts}
 use Rattle.pass_grouping.specs.Groupings.{IsFewest, IsCertificate, between_starts}
 
 -- there are so many operations, the fewest passes that carry them out are so many, and so many windows show it
-pub record AreCounted (ops : List PassOp) (counts : Counts) : Type 0 where
+pub record AreOperationCounts (ops : List PassOp) (counts : Counts) : Type 0 where
   pub starts : List ℕ
   pub windows : List Window
   pub fewest : IsFewest ops starts

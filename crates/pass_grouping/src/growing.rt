@@ -3,7 +3,7 @@ ghost use Rattle.std.specs.Prelude.{◌≡◌, ◌+◌, ◌-◌, ◌<◌, ◌≤
 ghost use Rattle.std.specs.Option.{option_to_list};
 ghost use Rattle.pass_grouping.specs.declared.operation.PassOp.{PassOp};
 ghost use Rattle.pass_grouping.specs.Growing.{IsGoingWay, IsGrowing, fact_now};
-ghost use Rattle.pass_grouping.specs.Told.{AreCounted, AreTold};
+ghost use Rattle.pass_grouping.specs.Told.{AreOperationCounts, AreTold};
 
 use crate::fact::{PassFact, PassFacts, PassYarns, way_of};
 use crate::operation::PassOp;
@@ -123,7 +123,7 @@ impl Growing {
 
     /// How many operations, passes and windows there are.
     pub fn counts(&self) -> Counts
-        ensures { (ops : List PassOp) → IsGrowing ops self.now → AreCounted ops result }
+        ensures { (ops : List PassOp) → IsGrowing ops self.now → AreOperationCounts ops result }
     {
         let operations = self.operations;
         let windows = self.ended.len();

@@ -1,7 +1,7 @@
 //! The carriage operations of a text, reading by reading or of all of its readings.
 ghost use Rattle.std.specs.Prelude.{◌≡◌, ◌+◌, ◌<◌, ◌^◌, ℕ, List, [], ◌∷◌, ◌++◌, length, All, IfOk, OnOk, OnErr};
 ghost use Rattle.knit_base.specs.declared.instr.Read.{Read};
-ghost use Rattle.pass_grouping.specs.Listings.{HasListed, IsListing, next_line};
+ghost use Rattle.pass_grouping.specs.Listings.{HasListed, IsOperationListing, next_listing_line};
 ghost use Rattle.pass_grouping.specs.Operations.{operations_after, IsRackWithin};
 
 use crate::PassOps;
@@ -35,8 +35,8 @@ impl Listing {
     /// Takes the reading of the next line. A line that the reader found broken ends a stretch. The rack that it sets lies within the
     /// limits where the reading is lawful (`proofs/Racks`). After `NoMemory` nothing was taken.
     pub fn take(&mut self, alloc: Global, read: &Read) -> Result<(), NoMemory>
-        requires listing { IsListing self.old }
-        requires lines { next_line self.old + 1 < 2 ^ 32 }
+        requires listing { IsOperationListing self.old }
+        requires lines { next_listing_line self.old + 1 < 2 ^ 32 }
         requires rack { IsRackWithin read.now }
         ensures ok { OnOk result ((first : ℕ) (reads : List Read) → HasListed first reads self.old → HasListed first (reads ++ read.now ∷ []) self.new) }
         ensures err { OnErr result (self.new ≡ self.old) }

@@ -4,7 +4,7 @@ ghost use Rattle.std.specs.Option.{option_to_list};
 ghost use Rattle.knit_base.specs.declared.profile.Profile.{Profile};
 ghost use Rattle.knit_base.specs.Lawful.{IsLawfulRead};
 ghost use Rattle.knit_base.specs.Usual.{usual_read};
-ghost use Rattle.pass_grouping.specs.Operations.{operation_of_instr, operation_of, ends_stretch, rack_behind, place_of, IsWithinGreatestRack, carried, uncarried};
+ghost use Rattle.pass_grouping.specs.Operations.{operation_of_instr, operation_of, ends_stretch, rack_behind, operation_place, IsWithinGreatestRack, operation_with_carriers, plain_operation};
 
 use knit_base::{Bed, CarrierNo, Dir, Instr, ListOf, Needle, NoMemory, Read, Usual, Yarns};
 use std::alloc::Global;
@@ -176,7 +176,7 @@ impl Spot {
         yarns: &Yarns,
     ) -> Result<Option<PassOp>, NoMemory>
         requires { IsWithinGreatestRack self.rack }
-        ensures { IfOk result (λ op. op ≡ Some (carried class self.line self.stretch self.rack dir n yarns.now)) }
+        ensures { IfOk result (λ op. op ≡ Some (operation_with_carriers class self.line self.stretch self.rack dir n yarns.now)) }
     {
         Ok(Some(PassOp {
             line: self.line,
@@ -193,7 +193,7 @@ impl Spot {
     fn formed(self, alloc: Global, dir: Dir, n: Needle, c: CarrierNo) -> PassOp
         requires rack { IsWithinGreatestRack self.rack }
         requires carrier { c.0 < 64 }
-        ensures { result ≡ carried class.Form self.line self.stretch self.rack dir n (c ∷ []) }
+        ensures { result ≡ operation_with_carriers class.Form self.line self.stretch self.rack dir n (c ∷ []) }
     {
         PassOp {
             line: self.line,
@@ -209,7 +209,7 @@ impl Spot {
     #[inline(always)]
     fn uncarried(self, alloc: Global, class: Class, n: Needle) -> PassOp
         requires { IsWithinGreatestRack self.rack }
-        ensures { result ≡ uncarried class self.line self.stretch self.rack n }
+        ensures { result ≡ plain_operation class self.line self.stretch self.rack n }
     {
         PassOp {
             line: self.line,
@@ -225,7 +225,7 @@ impl Spot {
     #[inline(always)]
     fn place_of(self, n: Needle) -> i32
         requires { IsWithinGreatestRack self.rack }
-        ensures { result ≡ place_of self.rack n }
+        ensures { result ≡ operation_place self.rack n }
     {
         let place = quarters(n.at);
         match n.bed {

@@ -1,7 +1,7 @@
 //! One pass of the carriage over a range of operations.
 ghost use Rattle.std.specs.Prelude.{◌≡◌, ◌+◌, ◌-◌, ◌<◌, ◌≤◌, ◌↔◌, ℕ, length, IsTrue};
 ghost use Rattle.knit_base.specs.declared.needle.Dir.{Dir};
-ghost use Rattle.pass_grouping.specs.Passes.{AreAlike, way_asked, IsFree, IsBeyond, Follows, GoesOneWay, IsOnePass};
+ghost use Rattle.pass_grouping.specs.Passes.{AreOneKindOfOperation, way_asked, IsFree, IsBeyond, Follows, GoesOneWay, IsOnePass};
 
 use crate::{Class, PassOp};
 use knit_base::{CarrierNo, Dir};
@@ -94,7 +94,7 @@ pub(crate) fn follows(way: Dir, a: &PassOp, b: &PassOp) -> bool
 
 #[inline(always)]
 fn are_alike(a: &PassOp, b: &PassOp) -> bool
-    ensures { IsTrue result ↔ AreAlike a.now b.now }
+    ensures { IsTrue result ↔ AreOneKindOfOperation a.now b.now }
 {
     if a.stretch != b.stretch {
         return false;

@@ -5,8 +5,8 @@ ghost use Rattle.knit_base.specs.declared.profile.Profile.{Profile};
 ghost use Rattle.knit_base.specs.Lawful.{IsLawfulRead};
 ghost use Rattle.knit_base.specs.Usual.{usual_read};
 ghost use Rattle.pass_grouping.specs.Operations.{operations_after, IsRackWithin};
-ghost use Rattle.pass_grouping.specs.Tallies.{HasTallied, IsTallying, next_line};
-ghost use Rattle.pass_grouping.specs.Told.{AreCounted, AreTold};
+ghost use Rattle.pass_grouping.specs.Tallies.{HasTallied, IsTallying, next_tally_line};
+ghost use Rattle.pass_grouping.specs.Told.{AreOperationCounts, AreTold};
 
 use crate::growing::{Counts, Growing, ToldPasses};
 use crate::operation::{operation_of, rack_behind, stretches_ended, usual_operation};
@@ -38,7 +38,7 @@ impl Tally {
     /// Takes the reading of the next line, as `Listing::take` does. After `NoMemory` nothing was taken.
     pub fn take(&mut self, alloc: Global, read: &Read) -> Result<(), NoMemory>
         requires tally { IsTallying self.old }
-        requires lines { next_line self.old + 1 < 2 ^ 32 }
+        requires lines { next_tally_line self.old + 1 < 2 ^ 32 }
         requires rack { IsRackWithin read.now }
         ensures ok { OnOk result ((first : ℕ) (reads : List Read) → HasTallied first reads self.old → HasTallied first (reads ++ read.now ∷ []) self.new) }
         ensures err { OnErr result (self.new ≡ self.old) }
@@ -55,7 +55,7 @@ impl Tally {
     #[inline(always)]
     pub fn take_usual(&mut self, alloc: Global, usual: Usual) -> Result<(), NoMemory>
         requires tally { IsTallying self.old }
-        requires lines { next_line self.old + 1 < 2 ^ 32 }
+        requires lines { next_tally_line self.old + 1 < 2 ^ 32 }
         requires lawful { (profile : Profile) × (carriers : ℕ) × (carriers ≤ 64) × IsLawfulRead profile carriers (usual_read usual) }
         ensures ok { OnOk result ((first : ℕ) (reads : List Read) → HasTallied first reads self.old → HasTallied first (reads ++ usual_read usual ∷ []) self.new) }
         ensures err { OnErr result (self.new ≡ self.old) }
@@ -68,7 +68,7 @@ impl Tally {
 
     /// How many operations, passes and windows there are.
     pub fn counts(&self) -> Counts
-        ensures { (first : ℕ) (reads : List Read) → HasTallied first reads self.now → AreCounted (operations_after first [] reads) result }
+        ensures { (first : ℕ) (reads : List Read) → HasTallied first reads self.now → AreOperationCounts (operations_after first [] reads) result }
     {
         self.passes.counts()
     }

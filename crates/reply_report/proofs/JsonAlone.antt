@@ -12,7 +12,7 @@ use Rattle.serde_json.specs.Data.{object}
 use Rattle.serde_json.specs.Written.{compact_text, members_text}
 use Rattle.verdict_report.specs.VerdictText.{Text}
 use Rattle.reply_report.specs.TalkText.{broken_place, line_of_brief, line_of_verdict}
-use Rattle.reply_report.specs.TalkJson.{IsFinalJson, IsOpenedJson, final_members, json_line, opened_members}
+use Rattle.reply_report.specs.TalkJson.{IsFinalJson, IsOpenedJson, final_members, value_json_line, opened_members}
 
 -- the members of an opening were written into an object of its own, which was appended as a line
 pub opened_json : (opening : Opening) (entries : List Entry) (told : Brief) (version blocks : ℕ) (place : Option LinePlace) (opened text old new : Text)
@@ -26,7 +26,7 @@ opened_json opening entries told version blocks place opened text old new judged
     brief_given = told;
     judged = judged;
     said = ap (λ (t : Text). t ++ codes "\n") (is ∙ ap (λ (t : Text). t ++ members_text false (opened_members version blocks place told)) is_opened)
-        ∙ (λ i. json_line (object (opened_members (is_version i) (is_blocks i) (is_place i) told)));
+        ∙ (λ i. value_json_line (object (opened_members (is_version i) (is_blocks i) (is_place i) told)));
   },
 )
 
@@ -44,6 +44,6 @@ final_json opening entries verdict broken text old new judged is_line is appende
         verdict_given = verdict;
         judged = judged;
         said = ap (λ (t : Text). t ++ codes "\n") is
-            ∙ ap (λ (line : Text). json_line (object (final_members d.header.names (length entries) (broken_place opening entries (line_of_verdict verdict)) line verdict))) is_line;
+            ∙ ap (λ (line : Text). value_json_line (object (final_members d.header.names (length entries) (broken_place opening entries (line_of_verdict verdict)) line verdict))) is_line;
       },
     )

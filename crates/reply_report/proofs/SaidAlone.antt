@@ -9,7 +9,7 @@ use Rattle.edit_journal.specs.Documents.{Document, body, document_of}
 use Rattle.edit_book.specs.Verdicts.{HasVerdict, IsBriefOn, setting_of}
 use Rattle.verdict_report.specs.LiveText.{final_text}
 use Rattle.verdict_report.specs.VerdictText.{Text}
-use Rattle.reply_report.specs.TalkText.{IsFinalSaid, IsOpenedSaid, broken_text, line_of_verdict, opened_text}
+use Rattle.reply_report.specs.TalkText.{IsFinalSaid, IsOpenedSaid, document_broken_text, line_of_verdict, opened_text}
 
 -- the verdict in short was written into a text of its own, which was appended
 pub opened_alone : (opening : Opening) (entries : List Entry) (told : Brief) (empty text old new : Text) → empty ≡ []
@@ -22,11 +22,11 @@ opened_alone opening entries told empty text old new none judged is appended =
 pub final_alone : (opening : Opening) (entries : List Entry) (verdict : Verdict) (broken text old new : Text)
     → (let d = document_of opening entries in HasVerdict (setting_of opening d) (body d) verdict)
     → (let d = document_of opening entries in broken ≡ broken_line (setting_of opening d).first (body d) verdict)
-    → text ≡ final_text (document_of opening entries).header.names (length entries) broken verdict ++ broken_text opening entries (line_of_verdict verdict)
+    → text ≡ final_text (document_of opening entries).header.names (length entries) broken verdict ++ document_broken_text opening entries (line_of_verdict verdict)
     → new ≡ old ++ (text ++ codes "\n") → (said : Text) × (new ≡ old ++ said) × IsFinalSaid opening entries said
 final_alone opening entries verdict broken text old new judged is_line is appended =
     let d : Document = document_of opening entries in
-    let place : Text = broken_text opening entries (line_of_verdict verdict) in (
+    let place : Text = document_broken_text opening entries (line_of_verdict verdict) in (
       text ++ codes "\n",
       appended,
       record {

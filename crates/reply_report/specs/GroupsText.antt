@@ -8,16 +8,16 @@ use Rattle.edit_journal.specs.Documents.{names_at}
 use Rattle.edit_groups.specs.declared.reply.GroupReply.{GroupReply}
 use Rattle.edit_groups.specs.declared.reply.GroupReply.TheVariants as group
 use Rattle.verdict_report.specs.LiveText.{IsEnd, told_reply}
-use Rattle.knit_base.specs.Spelling.{labelled}
+use Rattle.knit_base.specs.Spelling.{labelled_number}
 use Rattle.verdict_report.specs.VerdictText.{Text, brief_text}
 
 -- a group that was done
 abbrev pub done_text : ℕ → ℕ → Brief → Text
-done_text version from brief = labelled (codes "group version ") version ++ (labelled (codes " from ") from ++ (codes " " ++ (brief_text brief ++ codes "\n")))
+done_text version from brief = labelled_number (codes "group version ") version ++ (labelled_number (codes " from ") from ++ (codes " " ++ (brief_text brief ++ codes "\n")))
 
 -- and one that was refused
 abbrev pub refused_text : (ℕ → List Text) → ℕ → ℕ → Reply → Text
-refused_text names base at told = labelled (codes "refused version ") base ++ (labelled (codes " at ") at ++ (codes " " ++ told_reply names told))
+refused_text names base at told = labelled_number (codes "refused version ") base ++ (labelled_number (codes " at ") at ++ (codes " " ++ told_reply names told))
 
 -- what a step is answered
 abbrev pub step_text : (ℕ → List Text) → GroupReply → Text
@@ -38,7 +38,7 @@ steps_text names n (r ∷ rs) = numbered_step names n r ++ steps_text names (n +
 
 -- a session's number, and its replies
 abbrev pub steps_session : (ℕ → List Text) → ℕ → List GroupReply → Text
-steps_session names s rs = labelled (codes "session ") s ++ (codes "\n" ++ steps_text names 1 rs)
+steps_session names s rs = labelled_number (codes "session ") s ++ (codes "\n" ++ steps_text names 1 rs)
 
 -- the sessions, numbered from here on, each with its replies
 abbrev pub steps_sessions : (ℕ → List Text) → ℕ → List (List GroupReply) → Text

@@ -25,12 +25,12 @@ use Rattle.edit_book.specs.declared.listed.BlockPlace.{BlockPlace}
 use Rattle.edit_book.specs.declared.listed.LinePlace.{LinePlace}
 use Rattle.edit_book.specs.declared.reply.Reply.{Reply}
 use Rattle.edit_book.specs.declared.reply.Reply.TheVariants as reply
-use Rattle.edit_book.specs.Listing.{places}
+use Rattle.edit_book.specs.Listing.{block_places}
 use Rattle.edit_book.specs.Verdicts.{HasVerdict, IsBriefOn, setting_of}
 use Rattle.edit_groups.specs.declared.reply.GroupReply.{GroupReply}
 use Rattle.edit_groups.specs.declared.reply.GroupReply.TheVariants as group
 use Rattle.script_reader.specs.declared.fault.Cause.{Cause}
-use Rattle.verdict_report.specs.Carriers.{name_of}
+use Rattle.verdict_report.specs.Carriers.{carrier_name_of}
 use Rattle.verdict_report.specs.LiveText.{block_name_text, version_named, which_word}
 use Rattle.verdict_report.specs.VerdictJson.{count_value, list_value, loop_value, verdict_value}
 use Rattle.verdict_report.specs.VerdictText.{Text}
@@ -38,8 +38,8 @@ use Rattle.reply_report.specs.declared.frame.Frame.{Frame}
 use Rattle.reply_report.specs.TalkText.{broken_place, cause_name, line_of_brief, line_of_step, line_of_verdict}
 
 -- the line of a value
-abbrev pub json_line : Data → Text
-json_line value = compact_text value ++ codes "\n"
+abbrev pub value_json_line : Data → Text
+value_json_line value = compact_text value ++ codes "\n"
 
 -- ---- members that many replies have
 
@@ -104,7 +104,7 @@ texts_member lines rest = member (codes "lines") (list_value string lines) rest
 
 -- the name of a carrier as a string, for private clauses
 abbrev pub carrier_string : List Text → CarrierNo → Text
-carrier_string names c = quoted (name_of names c)
+carrier_string names c = quoted (carrier_name_of names c)
 
 -- the loop that was asked for, or that there is none
 abbrev pub fact_value : List Text → Option LoopFact → Data
@@ -147,7 +147,7 @@ step_members names broken f group.NoMemory = frame_members (Some f) (codes "nome
 
 -- the line of what a step is answered
 abbrev pub step_json : Opening → List Entry → Frame → GroupReply → Text
-step_json opening entries f r = json_line (object (step_members (names_at opening entries) (broken_place opening entries (line_of_step r)) f r))
+step_json opening entries f r = value_json_line (object (step_members (names_at opening entries) (broken_place opening entries (line_of_step r)) f r))
 
 -- ---- answers to questions
 
@@ -158,7 +158,7 @@ listed_value p = object (count_member (codes "block") p.block (count_member (cod
 -- the blocks as they stand, in their order
 abbrev pub blocks_members : Opening → List Entry → Frame → Members
 blocks_members opening entries f =
-    member (codes "blocks") (list_value listed_value (places opening (document_of opening entries))) (frame_members (Some f) (codes "blocks") (version_member (length entries)))
+    member (codes "blocks") (list_value listed_value (block_places opening (document_of opening entries))) (frame_members (Some f) (codes "blocks") (version_member (length entries)))
 
 -- there are no such blocks to be tallied
 abbrev pub no_range_members : Opening → List Entry → Frame → Members
@@ -200,7 +200,7 @@ opened_members version blocks broken told =
 pub record IsOpenedJson (opening : Opening) (entries : List Entry) (text : Text) : Type 0 where
   pub brief_given : Brief
   pub judged : let d = document_of opening entries in IsBriefOn (setting_of opening d) (body d) brief_given
-  pub said : text ≡ json_line (object (opened_members (length entries) (length (document_of opening entries).blocks) (broken_place opening entries (line_of_brief brief_given)) brief_given))
+  pub said : text ≡ value_json_line (object (opened_members (length entries) (length (document_of opening entries).blocks) (broken_place opening entries (line_of_brief brief_given)) brief_given))
 
 -- a line of the conversation is refused
 abbrev pub bad_line_members : ℕ → Cause → Members
@@ -215,7 +215,7 @@ pub record IsFinalJson (opening : Opening) (entries : List Entry) (text : Text) 
   pub verdict_given : Verdict
   pub judged : let d = document_of opening entries in HasVerdict (setting_of opening d) (body d) verdict_given
   pub said : let d = document_of opening entries in
-      text ≡ json_line (object (final_members d.header.names (length entries) (broken_place opening entries (line_of_verdict verdict_given)) (broken_line (setting_of opening d).first (body d) verdict_given) verdict_given))
+      text ≡ value_json_line (object (final_members d.header.names (length entries) (broken_place opening entries (line_of_verdict verdict_given)) (broken_line (setting_of opening d).first (body d) verdict_given) verdict_given))
 
 -- ---- the entries behind a version
 

@@ -7,14 +7,14 @@ use Rattle.knit_base.specs.Spelling.{needle_text}
 use Rattle.knit_base.specs.declared.needle.Needle.{Needle}
 use Rattle.pass_grouping.specs.declared.operation.Class.{Class}
 use Rattle.pass_grouping.specs.declared.operation.Class.TheVariants as class
-use Rattle.tally_tree.specs.Tallies.{Counted, class_place}
+use Rattle.tally_tree.specs.Tallies.{TallyCounts, class_place}
 use Rattle.verdict_report.specs.VerdictJson.{list_value}
 use Rattle.verdict_report.specs.VerdictText.{Text}
 use Rattle.reply_report.specs.declared.frame.Frame.{Frame}
 use Rattle.reply_report.specs.TalkJson.{count_member, frame_members}
 
 -- how many operations of this class there are
-abbrev pub class_count : Counted → Class → ℕ
+abbrev pub class_count : TallyCounts → Class → ℕ
 class_count v kind = slice_index v.ops (class_place kind)
 
 -- the carrier of this name, and how many lines form loops with it
@@ -36,7 +36,7 @@ abbrev pub needle_string : Needle → Text
 needle_string n = quoted (needle_text n)
 
 -- what the blocks from one place to another come to, for carriers of these names
-abbrev pub tally_members : Frame → ℕ → ℕ → List Text → Counted → Members
+abbrev pub tally_members : Frame → ℕ → ℕ → List Text → TallyCounts → Members
 tally_members f from to names v =
     count_member (codes "drop") (class_count v class.Drop)
     (count_member (codes "form") (class_count v class.Form)

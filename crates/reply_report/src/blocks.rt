@@ -1,9 +1,9 @@
 //! What is said of a document's blocks and of its journal.
 ghost use Rattle.std.specs.Prelude.{◌≡◌, ◌+◌, ◌-◌, ◌++◌, ◌<◌, ◌≤◌, drop, flat_map, length, OnOk, OnErr};
 ghost use Rattle.edit_book.specs.Books.{document};
-ghost use Rattle.edit_book.specs.Listing.{places};
+ghost use Rattle.edit_book.specs.Listing.{block_places};
 ghost use Rattle.verdict_report.specs.LiveText.{entries_text, entry_text};
-ghost use Rattle.reply_report.specs.TalkText.{block_line, blocks_text, entries_behind, framed, no_range_text, no_version_text, since_text};
+ghost use Rattle.reply_report.specs.TalkText.{block_line, blocks_text, entries_behind_text, framed_reply, no_range_text, no_version_text, since_text};
 
 use crate::Frame;
 use crate::frame::{append_two_counts, begin, end};
@@ -19,7 +19,7 @@ pub fn say_blocks(
     book: &Book,
     out: &mut Vec<u8>,
 ) -> Result<(), NoMemory>
-    ensures ok { OnOk result (out.new.items ≡ out.old.items ++ framed frame (blocks_text book.now.opening book.now.entries)) }
+    ensures ok { OnOk result (out.new.items ≡ out.old.items ++ framed_reply frame (blocks_text book.now.opening book.now.entries)) }
     ensures err { OnErr result (out.new.items ≡ out.old.items) }
 {
     let mut text = begin(alloc, frame)?;
@@ -38,7 +38,7 @@ fn append_listing(book: &Book, out: &mut Vec<u8>) -> Result<(), NoMemory>
 
 // Appends a line for each block.
 fn append_blocks(book: &Book, out: &mut Vec<u8>) -> Result<(), NoMemory>
-    ensures { OnOk result (out.new.items ≡ out.old.items ++ flat_map block_line (places book.now.opening (document book.now))) }
+    ensures { OnOk result (out.new.items ≡ out.old.items ++ flat_map block_line (block_places book.now.opening (document book.now))) }
 {
     'each: for at in 0..book.block_count() {
         append_block_at(at, book, out)?;
@@ -48,7 +48,7 @@ fn append_blocks(book: &Book, out: &mut Vec<u8>) -> Result<(), NoMemory>
 
 // Appends the line of the block at this place, if there is one.
 fn append_block_at(at: u32, book: &Book, out: &mut Vec<u8>) -> Result<(), NoMemory>
-    ensures { OnOk result (out.new.items ++ flat_map block_line (drop (at + 1) (places book.now.opening (document book.now))) ≡ out.old.items ++ flat_map block_line (drop at (places book.now.opening (document book.now)))) }
+    ensures { OnOk result (out.new.items ++ flat_map block_line (drop (at + 1) (block_places book.now.opening (document book.now))) ≡ out.old.items ++ flat_map block_line (drop at (block_places book.now.opening (document book.now)))) }
 {
     match book.block_at(at) {
         Some(place) => append_block(place, out),
@@ -76,7 +76,7 @@ pub fn say_since(
     from: u32,
     out: &mut Vec<u8>,
 ) -> Result<(), NoMemory>
-    ensures ok { OnOk result (out.new.items ≡ out.old.items ++ framed frame (since_text book.now.entries from)) }
+    ensures ok { OnOk result (out.new.items ≡ out.old.items ++ framed_reply frame (since_text book.now.entries from)) }
     ensures err { OnErr result (out.new.items ≡ out.old.items) }
 {
     let mut text = begin(alloc, frame)?;
@@ -109,7 +109,7 @@ fn append_no_version(version: u32, at: u32, out: &mut Vec<u8>) -> Result<(), NoM
 // Appends how many entries stand behind a version, and the entries.
 fn append_behind(journal: &Journal, from: u32, out: &mut Vec<u8>) -> Result<(), NoMemory>
     requires { from ≤ length journal.now.entries }
-    ensures { OnOk result (out.new.items ≡ out.old.items ++ entries_behind journal.now.entries from) }
+    ensures { OnOk result (out.new.items ≡ out.old.items ++ entries_behind_text journal.now.entries from) }
 {
     let count = u64::from(journal.len() - from);
     append_labelled("since version ", u64::from(journal.len()), out)?;
@@ -159,7 +159,7 @@ pub fn say_no_range(
     book: &Book,
     out: &mut Vec<u8>,
 ) -> Result<(), NoMemory>
-    ensures ok { OnOk result (out.new.items ≡ out.old.items ++ framed frame (no_range_text book.now.opening book.now.entries)) }
+    ensures ok { OnOk result (out.new.items ≡ out.old.items ++ framed_reply frame (no_range_text book.now.opening book.now.entries)) }
     ensures err { OnErr result (out.new.items ≡ out.old.items) }
 {
     let mut text = begin(alloc, frame)?;

@@ -1,6 +1,6 @@
 //! Where a reply tells that the document is broken.
 ghost use Rattle.std.specs.Prelude.{◌≡◌, ◌++◌, OnOk};
-ghost use Rattle.reply_report.specs.TalkText.{broken_place, broken_text, line_of_brief, line_of_reply, line_of_step, line_of_verdict, place_text};
+ghost use Rattle.reply_report.specs.TalkText.{broken_place, document_broken_text, line_of_brief, line_of_reply, line_of_step, line_of_verdict, line_place_text};
 
 use crate::frame::append_two_counts;
 use carriage_model::{Brief, Verdict};
@@ -63,7 +63,7 @@ pub(crate) fn broken_place(line: Option<u32>, book: &Book) -> Option<LinePlace>
 
 // Appends where a document is broken, if it is.
 fn append_place(place: Option<LinePlace>, out: &mut Vec<u8>) -> Result<(), NoMemory>
-    ensures { OnOk result (out.new.items ≡ out.old.items ++ place_text place) }
+    ensures { OnOk result (out.new.items ≡ out.old.items ++ line_place_text place) }
 {
     match place {
         Some(place) => append_two_counts(
@@ -83,7 +83,7 @@ pub(crate) fn append_broken(
     book: &Book,
     out: &mut Vec<u8>,
 ) -> Result<(), NoMemory>
-    ensures { OnOk result (out.new.items ≡ out.old.items ++ broken_text book.now.opening book.now.entries line) }
+    ensures { OnOk result (out.new.items ≡ out.old.items ++ document_broken_text book.now.opening book.now.entries line) }
 {
     append_place(broken_place(line, book), out)
 }

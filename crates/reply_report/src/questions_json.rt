@@ -5,9 +5,9 @@ ghost use Rattle.serde_json.specs.Data.{Members, member, object};
 ghost use Rattle.serde_json.specs.View.{items_of};
 ghost use Rattle.serde_json.specs.Written.{compact_text, items_text, members_text};
 ghost use Rattle.edit_book.specs.Books.{document};
-ghost use Rattle.edit_book.specs.Listing.{places};
+ghost use Rattle.edit_book.specs.Listing.{block_places};
 ghost use Rattle.verdict_report.specs.VerdictJson.{list_value};
-ghost use Rattle.reply_report.specs.TalkJson.{blocks_members, json_line, listed_value, no_range_members, no_version_members, old_members, text_at_members};
+ghost use Rattle.reply_report.specs.TalkJson.{blocks_members, value_json_line, listed_value, no_range_members, no_version_members, old_members, text_at_members};
 
 use crate::Frame;
 use crate::frame::end;
@@ -28,7 +28,7 @@ pub fn json_blocks(
     book: &Book,
     out: &mut Vec<u8>,
 ) -> Result<(), NoMemory>
-    ensures ok { OnOk result (out.new.items ≡ out.old.items ++ json_line (object (blocks_members book.now.opening book.now.entries frame))) }
+    ensures ok { OnOk result (out.new.items ≡ out.old.items ++ value_json_line (object (blocks_members book.now.opening book.now.entries frame))) }
     ensures err { OnErr result (out.new.items ≡ out.old.items) }
 {
     let mut text = object(alloc)?;
@@ -47,14 +47,14 @@ fn append_listing(frame: Frame, book: &Book, out: &mut Vec<u8>) -> Result<(), No
 
 // Appends the blocks, as a member.
 fn append_blocks(book: &Book, out: &mut Vec<u8>) -> Result<(), NoMemory>
-    ensures { OnOk result ((rest : Members) → out.new.items ++ members_text true rest ≡ out.old.items ++ members_text false (member (codes "blocks") (list_value listed_value (places book.now.opening (document book.now))) rest)) }
+    ensures { OnOk result ((rest : Members) → out.new.items ++ members_text true rest ≡ out.old.items ++ members_text false (member (codes "blocks") (list_value listed_value (block_places book.now.opening (document book.now))) rest)) }
 {
     append_key(false, "blocks", out)?;
     append_block_list(book, out)
 }
 
 fn append_block_list(book: &Book, out: &mut Vec<u8>) -> Result<(), NoMemory>
-    ensures { OnOk result (out.new.items ≡ out.old.items ++ compact_text (list_value listed_value (places book.now.opening (document book.now)))) }
+    ensures { OnOk result (out.new.items ≡ out.old.items ++ compact_text (list_value listed_value (block_places book.now.opening (document book.now)))) }
 {
     out.extend_from_slice(b"[")?;
     append_block_items(book, out)?;
@@ -64,7 +64,7 @@ fn append_block_list(book: &Book, out: &mut Vec<u8>) -> Result<(), NoMemory>
 
 // Appends the blocks, with commas between.
 fn append_block_items(book: &Book, out: &mut Vec<u8>) -> Result<(), NoMemory>
-    ensures { OnOk result (out.new.items ++ 93 ∷ [] ≡ out.old.items ++ items_text false (items_of (map listed_value (places book.now.opening (document book.now))))) }
+    ensures { OnOk result (out.new.items ++ 93 ∷ [] ≡ out.old.items ++ items_text false (items_of (map listed_value (block_places book.now.opening (document book.now))))) }
 {
     let mut later = false;
     'each: for at in 0..book.block_count() {
@@ -76,8 +76,8 @@ fn append_block_items(book: &Book, out: &mut Vec<u8>) -> Result<(), NoMemory>
 
 // Appends the block at this place, behind a comma where one stands before.
 fn append_block_at(later: bool, at: u32, book: &Book, out: &mut Vec<u8>) -> Result<(), NoMemory>
-    requires { at < length (places book.now.opening (document book.now)) }
-    ensures { OnOk result (out.new.items ++ items_text true (items_of (map listed_value (drop (at + 1) (places book.now.opening (document book.now))))) ≡ out.old.items ++ items_text later (items_of (map listed_value (drop at (places book.now.opening (document book.now)))))) }
+    requires { at < length (block_places book.now.opening (document book.now)) }
+    ensures { OnOk result (out.new.items ++ items_text true (items_of (map listed_value (drop (at + 1) (block_places book.now.opening (document book.now))))) ≡ out.old.items ++ items_text later (items_of (map listed_value (drop at (block_places book.now.opening (document book.now)))))) }
 {
     let Some(place) = book.block_at(at) else {
         unreachable!();
@@ -105,7 +105,7 @@ pub fn json_no_range(
     book: &Book,
     out: &mut Vec<u8>,
 ) -> Result<(), NoMemory>
-    ensures ok { OnOk result (out.new.items ≡ out.old.items ++ json_line (object (no_range_members book.now.opening book.now.entries frame))) }
+    ensures ok { OnOk result (out.new.items ≡ out.old.items ++ value_json_line (object (no_range_members book.now.opening book.now.entries frame))) }
     ensures err { OnErr result (out.new.items ≡ out.old.items) }
 {
     let mut text = object(alloc)?;
@@ -130,7 +130,7 @@ pub fn json_no_version(
     at: u32,
     out: &mut Vec<u8>,
 ) -> Result<(), NoMemory>
-    ensures ok { OnOk result (out.new.items ≡ out.old.items ++ json_line (object (no_version_members frame version at))) }
+    ensures ok { OnOk result (out.new.items ≡ out.old.items ++ value_json_line (object (no_version_members frame version at))) }
     ensures err { OnErr result (out.new.items ≡ out.old.items) }
 {
     let mut text = object(alloc)?;
@@ -163,7 +163,7 @@ pub fn json_text_at<L: Ledger>(
     out: &mut Vec<u8>,
     steps: &mut Steps<L>,
 ) -> Result<(), NoMemory>
-    ensures ok { OnOk result (out.new.items ≡ out.old.items ++ json_line (object (text_at_members book.now.opening book.now.entries frame block stamp))) }
+    ensures ok { OnOk result (out.new.items ≡ out.old.items ++ value_json_line (object (text_at_members book.now.opening book.now.entries frame block stamp))) }
     ensures err { OnErr result (out.new.items ≡ out.old.items) }
 {
     let mut text = object(alloc)?;

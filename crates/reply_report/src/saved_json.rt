@@ -4,9 +4,9 @@ ghost use Rattle.serde_json.specs.Data.{Members, object, string};
 ghost use Rattle.serde_json.specs.View.{items_of};
 ghost use Rattle.serde_json.specs.Written.{compact_text, items_text, members_text};
 ghost use Rattle.knit_base.specs.Lines.{is_line_feed};
-ghost use Rattle.journal_file.specs.Spelling.{spelling};
+ghost use Rattle.journal_file.specs.Spelling.{saved_spelling};
 ghost use Rattle.verdict_report.specs.VerdictJson.{list_value};
-ghost use Rattle.reply_report.specs.TalkJson.{json_line, saved_lines, saved_members, texts_member};
+ghost use Rattle.reply_report.specs.TalkJson.{value_json_line, saved_lines, saved_members, texts_member};
 
 use crate::Frame;
 use crate::frame::end;
@@ -27,7 +27,7 @@ pub fn json_saved<L: Ledger>(
     out: &mut Vec<u8>,
     steps: &mut Steps<L>,
 ) -> Result<(), NoMemory>
-    ensures ok { OnOk result (out.new.items ≡ out.old.items ++ json_line (object (saved_members frame version (spelling saved.now.head saved.now.profile saved.now.blocks saved.now.journal.entries)))) }
+    ensures ok { OnOk result (out.new.items ≡ out.old.items ++ value_json_line (object (saved_members frame version (saved_spelling saved.now.head saved.now.profile saved.now.blocks saved.now.journal.entries)))) }
     ensures err { OnErr result (out.new.items ≡ out.old.items) }
 {
     let mut text = object(alloc)?;

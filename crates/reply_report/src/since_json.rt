@@ -4,7 +4,7 @@ ghost use Rattle.serde_json.specs.Data.{Members, array, member, object, string};
 ghost use Rattle.serde_json.specs.View.{items_of};
 ghost use Rattle.serde_json.specs.Written.{compact_text, items_text, members_text};
 ghost use Rattle.verdict_report.specs.VerdictJson.{list_value};
-ghost use Rattle.reply_report.specs.TalkJson.{add_members, anchor_value, behind_members, cut_members, edit_members, entry_value, head_members, json_line, numbered_values, put_members, seen_members, since_members};
+ghost use Rattle.reply_report.specs.TalkJson.{add_members, anchor_value, behind_members, cut_members, edit_members, entry_value, head_members, value_json_line, numbered_values, put_members, seen_members, since_members};
 
 use crate::Frame;
 use crate::frame::end;
@@ -28,7 +28,7 @@ pub fn json_since(
     from: u32,
     out: &mut Vec<u8>,
 ) -> Result<(), NoMemory>
-    ensures ok { OnOk result (out.new.items ≡ out.old.items ++ json_line (object (since_members frame book.now.entries from))) }
+    ensures ok { OnOk result (out.new.items ≡ out.old.items ++ value_json_line (object (since_members frame book.now.entries from))) }
     ensures err { OnErr result (out.new.items ≡ out.old.items) }
 {
     let mut text = object(alloc)?;

@@ -1,7 +1,7 @@
 //! The report of a tally.
 ghost use Rattle.std.specs.Prelude.{◌≡◌, ◌++◌, length, IfOk, OnOk};
-ghost use Rattle.tally_tree.specs.Tallies.{counted};
-ghost use Rattle.reply_report.specs.TallyText.{class_labels, labelled_each, spaced_needles, tally_line, tally_text, with_line, with_lines};
+ghost use Rattle.tally_tree.specs.Tallies.{counts_of_tally};
+ghost use Rattle.reply_report.specs.TallyText.{class_labels, labelled_each, spaced_needles, tally_line, tally_text, carrier_line_text, with_lines};
 
 use knit_base::{CarrierNo, Declared, Needle, NoMemory, append_labelled, append_needle};
 use std::alloc::Global;
@@ -17,7 +17,7 @@ pub fn tally_of(
     declared: &Declared,
 ) -> Result<Vec<u8>, NoMemory>
     requires { length tally.now.with.items ≡ length declared.now }
-    ensures { IfOk result (λ text. text.items ≡ tally_text from to declared.now (counted tally.now)) }
+    ensures { IfOk result (λ text. text.items ≡ tally_text from to declared.now (counts_of_tally tally.now)) }
 {
     let mut text = Vec::new(alloc);
     append_tally(from, to, tally, declared, &mut text)?;
@@ -33,7 +33,7 @@ pub(crate) fn append_tally(
     out: &mut Vec<u8>,
 ) -> Result<(), NoMemory>
     requires { length tally.now.with.items ≡ length declared.now }
-    ensures { OnOk result (out.new.items ≡ out.old.items ++ tally_text from to declared.now (counted tally.now)) }
+    ensures { OnOk result (out.new.items ≡ out.old.items ++ tally_text from to declared.now (counts_of_tally tally.now)) }
 {
     append_first_line(from, to, tally, out)?;
     append_with(declared, &tally.with, out)?;
@@ -45,7 +45,7 @@ pub(crate) fn append_tally(
 
 // Appends the places, the number of lines, and that of the operations of each class.
 fn append_first_line(from: u32, to: u32, tally: &Tally, out: &mut Vec<u8>) -> Result<(), NoMemory>
-    ensures { OnOk result (out.new.items ≡ out.old.items ++ tally_line from to (counted tally.now)) }
+    ensures { OnOk result (out.new.items ≡ out.old.items ++ tally_line from to (counts_of_tally tally.now)) }
 {
     append_labelled("tally ", u64::from(from), out)?;
     append_labelled("-", u64::from(to), out)?;
@@ -83,7 +83,7 @@ fn append_with(declared: &Declared, numbers: &[u32], out: &mut Vec<u8>) -> Resul
 
 // Appends the line of a carrier.
 fn append_with_line(name: &str, number: u32, out: &mut Vec<u8>) -> Result<(), NoMemory>
-    ensures { OnOk result (out.new.items ≡ out.old.items ++ with_line name.now number) }
+    ensures { OnOk result (out.new.items ≡ out.old.items ++ carrier_line_text name.now number) }
 {
     out.extend_from_slice(b"with ")?;
     out.extend_from_slice(name.as_bytes())?;

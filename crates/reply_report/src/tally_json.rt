@@ -3,10 +3,10 @@ ghost use Rattle.std.specs.Prelude.{◌≡◌, ◌∷◌, ◌+◌, ◌<◌, ◌+
 ghost use Rattle.serde_json.specs.Data.{Members, array, member, object};
 ghost use Rattle.serde_json.specs.View.{items_of};
 ghost use Rattle.serde_json.specs.Written.{compact_text, items_text, members_text};
-ghost use Rattle.tally_tree.specs.Tallies.{counted};
+ghost use Rattle.tally_tree.specs.Tallies.{counts_of_tally};
 ghost use Rattle.verdict_report.specs.JsonText.{list_text, more_text, next_text};
 ghost use Rattle.verdict_report.specs.VerdictJson.{list_value};
-ghost use Rattle.reply_report.specs.TalkJson.{json_line};
+ghost use Rattle.reply_report.specs.TalkJson.{value_json_line};
 ghost use Rattle.reply_report.specs.TallyJson.{carrier_value, carrier_values, needle_string, needle_value, tally_members};
 
 use crate::Frame;
@@ -30,7 +30,7 @@ pub fn json_tally(
     out: &mut Vec<u8>,
 ) -> Result<(), NoMemory>
     requires { length tally.now.with.items ≡ length declared.now }
-    ensures ok { OnOk result (out.new.items ≡ out.old.items ++ json_line (object (tally_members frame from to declared.now (counted tally.now)))) }
+    ensures ok { OnOk result (out.new.items ≡ out.old.items ++ value_json_line (object (tally_members frame from to declared.now (counts_of_tally tally.now)))) }
     ensures err { OnErr result (out.new.items ≡ out.old.items) }
 {
     let mut text = object(alloc)?;
@@ -48,7 +48,7 @@ fn append_tally(
     out: &mut Vec<u8>,
 ) -> Result<(), NoMemory>
     requires { length tally.now.with.items ≡ length declared.now }
-    ensures { OnOk result (out.new.items ≡ out.old.items ++ members_text false (tally_members frame from to declared.now (counted tally.now))) }
+    ensures { OnOk result (out.new.items ≡ out.old.items ++ members_text false (tally_members frame from to declared.now (counts_of_tally tally.now))) }
 {
     let [form, split, moves, drop] = tally.ops;
     append_count(false, "drop", drop, out)?;

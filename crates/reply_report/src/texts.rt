@@ -2,10 +2,10 @@
 ghost use Rattle.std.specs.Prelude.{◌≡◌, ◌+◌, ◌++◌, ◌<◌, codes, count_by, drop, flat_map, length, OnOk, OnErr};
 ghost use Rattle.std.specs.Option.{option_copied};
 ghost use Rattle.knit_base.specs.Lines.{is_line_feed};
-ghost use Rattle.journal_file.specs.Spelling.{spelling};
-ghost use Rattle.tally_tree.specs.Tallies.{counted};
-ghost use Rattle.verdict_report.specs.LiveText.{barred};
-ghost use Rattle.reply_report.specs.TalkText.{at_stamp, framed, old_text, saved_said, text_at_text};
+ghost use Rattle.journal_file.specs.Spelling.{saved_spelling};
+ghost use Rattle.tally_tree.specs.Tallies.{counts_of_tally};
+ghost use Rattle.verdict_report.specs.LiveText.{barred_line};
+ghost use Rattle.reply_report.specs.TalkText.{at_stamp, framed_reply, old_text, saved_said, text_at_text};
 ghost use Rattle.reply_report.specs.TallyText.{tally_text};
 
 use crate::Frame;
@@ -30,7 +30,7 @@ pub fn say_text_at<L: Ledger>(
     out: &mut Vec<u8>,
     steps: &mut Steps<L>,
 ) -> Result<(), NoMemory>
-    ensures ok { OnOk result (out.new.items ≡ out.old.items ++ framed frame (text_at_text book.now.opening book.now.entries block stamp)) }
+    ensures ok { OnOk result (out.new.items ≡ out.old.items ++ framed_reply frame (text_at_text book.now.opening book.now.entries block stamp)) }
     ensures err { OnErr result (out.new.items ≡ out.old.items) }
 {
     let mut text = begin(alloc, frame)?;
@@ -130,7 +130,7 @@ fn append_lines<L: Ledger>(
     out: &mut Vec<u8>,
     steps: &mut Steps<L>,
 ) -> Result<(), NoMemory>
-    ensures { OnOk result (out.new.items ≡ out.old.items ++ flat_map barred text.now) }
+    ensures { OnOk result (out.new.items ≡ out.old.items ++ flat_map barred_line text.now) }
 {
     'lines: for at in 0..text.len() {
         append_line(at, text, out, steps)?;
@@ -146,14 +146,14 @@ fn append_line<L: Ledger>(
     steps: &mut Steps<L>,
 ) -> Result<(), NoMemory>
     requires { at < length text.now }
-    ensures { OnOk result (out.new.items ++ flat_map barred (drop (at + 1) text.now) ≡ out.old.items ++ flat_map barred (drop at text.now)) }
+    ensures { OnOk result (out.new.items ++ flat_map barred_line (drop (at + 1) text.now) ≡ out.old.items ++ flat_map barred_line (drop at text.now)) }
 {
     append_barred(text.line(at, steps), out)
 }
 
 // Appends a line, behind a bar.
 fn append_barred(line: &str, out: &mut Vec<u8>) -> Result<(), NoMemory>
-    ensures { OnOk result (out.new.items ≡ out.old.items ++ barred line.now) }
+    ensures { OnOk result (out.new.items ≡ out.old.items ++ barred_line line.now) }
 {
     out.extend_from_slice(b"|")?;
     out.extend_from_slice(line.as_bytes())?;
@@ -171,7 +171,7 @@ pub fn say_saved<L: Ledger>(
     out: &mut Vec<u8>,
     steps: &mut Steps<L>,
 ) -> Result<(), NoMemory>
-    ensures ok { OnOk result (out.new.items ≡ out.old.items ++ framed frame (saved_said version (spelling saved.now.head saved.now.profile saved.now.blocks saved.now.journal.entries))) }
+    ensures ok { OnOk result (out.new.items ≡ out.old.items ++ framed_reply frame (saved_said version (saved_spelling saved.now.head saved.now.profile saved.now.blocks saved.now.journal.entries))) }
     ensures err { OnErr result (out.new.items ≡ out.old.items) }
 {
     let mut text = begin(alloc, frame)?;
@@ -219,7 +219,7 @@ pub fn say_tally(
     out: &mut Vec<u8>,
 ) -> Result<(), NoMemory>
     requires { length tally.now.with.items ≡ length declared.now }
-    ensures ok { OnOk result (out.new.items ≡ out.old.items ++ framed frame (tally_text from to declared.now (counted tally.now))) }
+    ensures ok { OnOk result (out.new.items ≡ out.old.items ++ framed_reply frame (tally_text from to declared.now (counts_of_tally tally.now))) }
     ensures err { OnErr result (out.new.items ≡ out.old.items) }
 {
     let mut text = begin(alloc, frame)?;

@@ -4,7 +4,7 @@ ghost use Rattle.block_summary.specs.Verdicts.{broken_line};
 ghost use Rattle.edit_journal.specs.Documents.{body, document_of};
 ghost use Rattle.edit_book.specs.Verdicts.{HasVerdict, setting_of};
 ghost use Rattle.verdict_report.specs.LiveText.{final_text};
-ghost use Rattle.reply_report.specs.TalkText.{IsFinalSaid, IsOpenedSaid, bad_line_said, broken_text, cause_name, line_of_brief, line_of_verdict, opened_text};
+ghost use Rattle.reply_report.specs.TalkText.{IsFinalSaid, IsOpenedSaid, bad_line_said, document_broken_text, cause_name, line_of_brief, line_of_verdict, opened_text};
 
 use crate::broken::{append_broken, line_of_brief, line_of_verdict};
 use crate::frame::end;
@@ -87,13 +87,16 @@ pub(crate) fn cause_name(cause: Cause) -> &'static str
 
 /// The verdict on the document as it is, and the line at which it is broken.
 #[derive(Drop)]
-pub(crate) struct Ending {
+pub(crate) struct DocumentVerdict {
     pub(crate) verdict: Verdict,
     pub(crate) broken: Text,
 }
 
 /// What the document comes to at its version.
-pub(crate) fn ending_of<L: Ledger>(book: &Book, steps: &mut Steps<L>) -> Result<Ending, NoMemory>
+pub(crate) fn ending_of<L: Ledger>(
+    book: &Book,
+    steps: &mut Steps<L>,
+) -> Result<DocumentVerdict, NoMemory>
     ensures ending { IfOk result (λ ending. let d = document_of book.now.opening book.now.entries in HasVerdict (setting_of book.now.opening d) (body d) ending.verdict × (ending.broken ≡ broken_line (setting_of book.now.opening d).first (body d) ending.verdict)) }
     ensures steps { steps.new ≤ steps.old + 1 }
 {
@@ -102,7 +105,7 @@ pub(crate) fn ending_of<L: Ledger>(book: &Book, steps: &mut Steps<L>) -> Result<
             version: _,
             verdict,
             text,
-        } => Ok(Ending {
+        } => Ok(DocumentVerdict {
             verdict,
             broken: text,
         }),
@@ -128,11 +131,11 @@ pub fn say_final<L: Ledger>(
 }
 
 // The version of the document, this verdict, and where it is broken.
-fn final_of(alloc: Global, book: &Book, ending: &Ending) -> Result<Vec<u8>, NoMemory>
+fn final_of(alloc: Global, book: &Book, ending: &DocumentVerdict) -> Result<Vec<u8>, NoMemory>
     ensures { IfOk result (λ text. text.items ≡ final_text (document_of book.now.opening book.now.entries).header.names (length book.now.entries) ending.now.broken ending.now.verdict
-        ++ broken_text book.now.opening book.now.entries (line_of_verdict ending.now.verdict)) }
+        ++ document_broken_text book.now.opening book.now.entries (line_of_verdict ending.now.verdict)) }
 {
-    let Ending { verdict, broken } = ending;
+    let DocumentVerdict { verdict, broken } = ending;
     let mut text = Vec::new(alloc);
     append_verdict(alloc, book, verdict, broken.as_str(), &mut text)?;
     append_broken(line_of_verdict(verdict), book, &mut text)?;

@@ -4,7 +4,7 @@ ghost use Rattle.serde_json.specs.Data.{object};
 ghost use Rattle.serde_json.specs.Written.{compact_text, members_text};
 ghost use Rattle.edit_journal.specs.Documents.{document_of};
 ghost use Rattle.reply_report.specs.TalkText.{broken_place, line_of_verdict};
-ghost use Rattle.reply_report.specs.TalkJson.{IsFinalJson, IsOpenedJson, bad_line_members, final_members, json_line, opened_members};
+ghost use Rattle.reply_report.specs.TalkJson.{IsFinalJson, IsOpenedJson, bad_line_members, final_members, value_json_line, opened_members};
 
 use crate::broken::{broken_place, line_of_brief, line_of_verdict};
 use crate::frame::end;
@@ -12,7 +12,7 @@ use crate::members::{append_count, append_version, append_wide, append_word, clo
 use crate::values::{
     append_brief_member, append_broken_first, append_broken_member, append_verdict_member,
 };
-use crate::whole::{Ending, cause_name, ending_of};
+use crate::whole::{DocumentVerdict, cause_name, ending_of};
 use carriage_model::{Brief, Verdict};
 use edit_book::{Book, LinePlace};
 use knit_base::{Declared, NoMemory, Steps};
@@ -65,7 +65,7 @@ pub fn json_bad_line(
     cause: Cause,
     out: &mut Vec<u8>,
 ) -> Result<(), NoMemory>
-    ensures ok { OnOk result (out.new.items ≡ out.old.items ++ json_line (object (bad_line_members line cause))) }
+    ensures ok { OnOk result (out.new.items ≡ out.old.items ++ value_json_line (object (bad_line_members line cause))) }
     ensures err { OnErr result (out.new.items ≡ out.old.items) }
 {
     let mut text = object(alloc)?;
@@ -100,10 +100,10 @@ pub fn json_final<L: Ledger>(
 }
 
 // What is said of the document at its end, without the end of the line.
-fn final_of(alloc: Global, book: &Book, ending: &Ending) -> Result<Vec<u8>, NoMemory>
+fn final_of(alloc: Global, book: &Book, ending: &DocumentVerdict) -> Result<Vec<u8>, NoMemory>
     ensures { IfOk result (λ text. text.items ≡ compact_text (object (final_members (document_of book.now.opening book.now.entries).header.names (length book.now.entries) (broken_place book.now.opening book.now.entries (line_of_verdict ending.now.verdict)) ending.now.broken ending.now.verdict))) }
 {
-    let Ending { verdict, broken } = ending;
+    let DocumentVerdict { verdict, broken } = ending;
     let place = broken_place(line_of_verdict(verdict), book);
     let (version, declared) = (book.version(), &book.setting().declared);
     let mut text = object(alloc)?;

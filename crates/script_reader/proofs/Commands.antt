@@ -3,7 +3,7 @@ use Rattle.std.proofs.Common.{◌≡◌, ◌≢◌, ◌⊎◌, inl, inr, ℕ, �
 use Rattle.script_reader.specs.Command.{BeginsNoCommand, IsCommandAt, begin_cause}
 use Rattle.script_reader.specs.Places.{IsAtSaid, Say}
 use Rattle.script_reader.specs.Reading.{IsCommandBehind, IsCommandRead, IsPassed}
-use Rattle.script_reader.specs.Script.{adds_of, command_line_in, command_statement, command_statements, is_put_head, names_known, takes_text, text_in}
+use Rattle.script_reader.specs.Script.{adds_of, command_line_in, command_statement, command_statements, is_put_head, names_known, takes_text, text_of_command}
 use Rattle.script_reader.specs.Statements.{Statement, Nothing, Text, Session, Command, Mark, Nonsense, kind_of, statements_of}
 use Rattle.script_reader.specs.declared.command.Command as declared
 use Rattle.script_reader.specs.declared.command.Command.TheVariants as command
@@ -33,8 +33,8 @@ module _ (lines : List (List ℕ)) (at : ℕ) (within : at < length lines) (adds
       plain_statement c (ap is_put_head behind.line_is ∙ no_put_head (get_or lines at []) h is) ∙ ap (λ (l : CommandLine). Command l) behind.line_is in
       record {
         begins = λ skipped. let clash : kind.Skipped ≡ kind.Command h = sym skipped ∙ is in cc;
-        says = subst (λ (x : Statement). Say lines at next (x ∷ map Text (text_in c))) (sym said)
-            (say_more lines at (at + 1) next (Command h ∷ []) (map Text (text_in c)) (say_here lines at (Command h) within (told_at lines at within false (kind.Command h) is) refl) behind.says);
+        says = subst (λ (x : Statement). Say lines at next (x ∷ map Text (text_of_command c))) (sym said)
+            (say_more lines at (at + 1) next (Command h ∷ []) (map Text (text_of_command c)) (say_here lines at (Command h) within (told_at lines at within false (kind.Command h) is) refl) behind.says);
         known = ap (names_known adds) behind.line_is ∙ known;
         heading = λ takes. behind.heading (sym (ap takes_text behind.line_is) ∙ takes);
       }
@@ -62,7 +62,7 @@ module _ (lines : List (List ℕ)) (at : ℕ) (within : at < length lines) (adds
 
 -- a command takes at least its line
 pub command_grows : (lines : List (List ℕ)) (at adds next : ℕ) (c : declared.Command) → IsCommandRead lines at adds c next → at < next
-command_grows lines at adds next c is = say_grows lines at next (command_statement c) (map Text (text_in c)) is.says
+command_grows lines at adds next c is = say_grows lines at next (command_statement c) (map Text (text_of_command c)) is.says
 
 pub few_adds : (c : declared.Command) → adds_of (command_line_in c) ≤ 1
 few_adds (command.Look name) = omega arith

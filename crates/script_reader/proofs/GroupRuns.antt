@@ -2,7 +2,7 @@
 use Rattle.std.proofs.Common.{◌≡◌, inl, inr, ℕ, ◌+◌, ◌<◌, ◌≤◌, Bool, true, cond, ◌&&◌, leb, ltb, List, [], ◌∷◌, ◌++◌, length, map, Option, Some, None, sym, ap, ◌∙◌, refl, subst, append_assoc, append-nil, arith, length-append}
 use Rattle.std.specs.List.{flat_map, list_all}
 use Rattle.std.proofs.lemmas.Bool.{leb-true, lt-ltb}
-use Rattle.script_reader.specs.Groups.{IsGroupRefusal, IsGroupScript, IsLawfulEnd, IsLawfulOpen, OpenScript, are_known, cause_behind, cause_of, closed_cause, command_cause, commands_of, commands_of_step, group_cause, group_grammar, group_statements, is_edit, is_lawful_step, last_adds, open_group_statements, open_statements, step_cause, step_statements, step_takes_text, steps_statements, text_cause}
+use Rattle.script_reader.specs.Groups.{IsGroupRefusal, IsGroupScript, IsLawfulEnd, IsLawfulOpen, OpenScript, are_known, cause_behind, group_statement_cause, closed_cause, group_command_cause, commands_of_steps, commands_of_step, group_cause, group_grammar, group_statements, is_edit, is_lawful_step, last_adds, open_group_statements, open_statements, step_cause, step_statements, step_takes_text, steps_statements, group_text_cause}
 use Rattle.script_reader.specs.Reading.{open_of}
 use Rattle.script_reader.specs.Script.{adds_in, adds_of, all_known, command_line_in, command_statement, command_statements, last_is, names_known, takes_text}
 use Rattle.script_reader.specs.Statements.{Statement, Nothing, Text, Session, Command, Header, Mark, Nonsense}
@@ -20,17 +20,17 @@ use Rattle.script_reader.specs.declared.step.Step.TheVariants as step
 use Rattle.script_reader.proofs.Bools.{first_true, second_true}
 use Rattle.script_reader.proofs.Ends.{adds_more, adds_one, flat-snoc, known_back, known_front, last_is-snoc, last_session-snoc, on_last, on_last-snoc}
 use Rattle.script_reader.proofs.Outside.{IsRunning, outside_none}
-use Rattle.script_reader.proofs.Runs.{IsSlot, bare, bare_of, command_run, longer, runs, runs_append, runs_step}
+use Rattle.script_reader.proofs.Runs.{IsSlot, bare_command, bare_of, command_run, command_with_line, statements_run, runs_append, runs_step}
 
 -- with one more line of text
 abbrev longer_step : List ℕ → Step → Step
-longer_step line (step.One command) = step.One (longer line command)
+longer_step line (step.One command) = step.One (command_with_line line command)
 longer_step line (step.Group commands) = step.Group commands
 longer_step line step.Undo = step.Undo
 
 -- with one more line of the opening text, or of the last command's
 abbrev with_text : List (List ℕ) → List (List Step) → Option (List declared.Command) → List ℕ → OpenScript
-with_text text sessions (Some commands) line = open_of text sessions (Some (on_last (longer line) commands))
+with_text text sessions (Some commands) line = open_of text sessions (Some (on_last (command_with_line line) commands))
 with_text text [] None line = open_of (text ++ line ∷ []) [] None
 with_text text (session ∷ sessions) None line = open_of text (on_last (on_last (longer_step line)) (session ∷ sessions)) None
 
@@ -62,17 +62,17 @@ with_statement so_far (Mark mark) = with_mark so_far.script.text so_far.script.s
 with_statement so_far Nonsense = so_far
 
 abbrev run : OpenScript → List Statement → Option OpenScript
-run = runs cause_of with_statement
+run = statements_run group_statement_cause with_statement
 
 -- what is known where the last session is
-pub text_cause-snoc : (done : List (List Step)) (steps : List Step) → text_cause (done ++ steps ∷ []) ≡ cond (last_is step_takes_text steps) None (Some BadLine)
+pub text_cause-snoc : (done : List (List Step)) (steps : List Step) → group_text_cause (done ++ steps ∷ []) ≡ cond (last_is step_takes_text steps) None (Some BadLine)
 text_cause-snoc [] steps = refl
 text_cause-snoc (s ∷ ss) steps = ap (λ (l : List Step). cond (last_is step_takes_text l) None (Some BadLine)) (last_session-snoc (s ∷ ss) steps)
 
-pub last_adds-snoc : (done : List (List Step)) (steps : List Step) → last_adds (done ++ steps ∷ []) ≡ adds_in (commands_of steps)
-last_adds-snoc done steps = ap (λ (l : List Step). adds_in (commands_of l)) (last_session-snoc done steps)
+pub last_adds-snoc : (done : List (List Step)) (steps : List Step) → last_adds (done ++ steps ∷ []) ≡ adds_in (commands_of_steps steps)
+last_adds-snoc done steps = ap (λ (l : List Step). adds_in (commands_of_steps l)) (last_session-snoc done steps)
 
-pub command_cause-snoc : (done : List (List Step)) (steps : List Step) (h : CommandLine) → command_cause (done ++ steps ∷ []) h ≡ cond (names_known (adds_in (commands_of steps)) h) None (Some NoOwn)
+pub command_cause-snoc : (done : List (List Step)) (steps : List Step) (h : CommandLine) → group_command_cause (done ++ steps ∷ []) h ≡ cond (names_known (adds_in (commands_of_steps steps)) h) None (Some NoOwn)
 command_cause-snoc [] steps h = refl
 command_cause-snoc (s ∷ ss) steps h = ap (λ (n : ℕ). cond (names_known n h) None (Some NoOwn)) (last_adds-snoc (s ∷ ss) steps)
 
@@ -85,13 +85,13 @@ with_text-snoc text [] steps line = refl
 with_text-snoc text (s ∷ ss) steps line = ap (λ (l : List (List Step)). open_of text l None) (on_last-snoc (on_last (longer_step line)) (s ∷ ss) steps)
 
 -- a command may stand behind the last session
-closed_free : (done : List (List Step)) (steps : List Step) (c : declared.Command) → names_known (adds_in (commands_of steps)) (command_line_in c) ≡ true → closed_cause (done ++ steps ∷ []) (command_statement c) ≡ None
+closed_free : (done : List (List Step)) (steps : List Step) (c : declared.Command) → names_known (adds_in (commands_of_steps steps)) (command_line_in c) ≡ true → closed_cause (done ++ steps ∷ []) (command_statement c) ≡ None
 closed_free done steps c known = go c known
   where
-    free : (h : CommandLine) → names_known (adds_in (commands_of steps)) h ≡ true → command_cause (done ++ steps ∷ []) h ≡ None
+    free : (h : CommandLine) → names_known (adds_in (commands_of_steps steps)) h ≡ true → group_command_cause (done ++ steps ∷ []) h ≡ None
     free h known = command_cause-snoc done steps h ∙ ap (λ b. cond b None (Some NoOwn)) known
 
-    go : (c : declared.Command) → names_known (adds_in (commands_of steps)) (command_line_in c) ≡ true → closed_cause (done ++ steps ∷ []) (command_statement c) ≡ None
+    go : (c : declared.Command) → names_known (adds_in (commands_of_steps steps)) (command_line_in c) ≡ true → closed_cause (done ++ steps ∷ []) (command_statement c) ≡ None
     go (command.Look name) known = free (command_line_in (command.Look name)) known
     go (command.Put name text) known = free (command_line_in (command.Put name text)) known
     go (command.Add place text) known = free (command_line_in (command.Add place text)) known
@@ -101,7 +101,7 @@ closed_free done steps c known = go c known
     go command.LookHead known = free (command_line_in command.LookHead) known
     go (command.PutHead names) known = step_cause-snoc done steps
 
-begins_with : (so_far : OpenScript) (c : declared.Command) → with_statement so_far (command_statement c) ≡ with_command so_far.script.text so_far.script.sessions so_far.group (bare c)
+begins_with : (so_far : OpenScript) (c : declared.Command) → with_statement so_far (command_statement c) ≡ with_command so_far.script.text so_far.script.sessions so_far.group (bare_command c)
 begins_with so_far (command.Look name) = refl
 begins_with so_far (command.Put name text) = refl
 begins_with so_far (command.Add place text) = refl
@@ -134,17 +134,17 @@ opening_texts so_far (t ∷ ts) = opening_texts (so_far ++ t ∷ []) ts ∙ ap (
 
 module _ (text : List (List ℕ)) where
   -- a session's last step is this command
-  one_slot : (done : List (List Step)) (steps : List Step) → IsSlot cause_of with_statement (λ c. open_of text (done ++ (steps ++ step.One c ∷ []) ∷ []) None)
+  one_slot : (done : List (List Step)) (steps : List Step) → IsSlot group_statement_cause with_statement (λ c. open_of text (done ++ (steps ++ step.One c ∷ []) ∷ []) None)
   one_slot done steps = record {
     free = λ c line takes. text_cause-snoc done (steps ++ step.One c ∷ []) ∙ ap (λ b. cond b None (Some BadLine)) (last_is-snoc step_takes_text steps (step.One c) ∙ takes);
     more = λ c line takes. with_text-snoc text done (steps ++ step.One c ∷ []) line ∙ ap (λ (l : List Step). open_of text (done ++ l ∷ []) None) (on_last-snoc (longer_step line) steps (step.One c));
   }
 
   -- a group's last command is this
-  edit_slot : (sessions : List (List Step)) (commands : List declared.Command) → IsSlot cause_of with_statement (λ c. open_of text sessions (Some (commands ++ c ∷ [])))
+  edit_slot : (sessions : List (List Step)) (commands : List declared.Command) → IsSlot group_statement_cause with_statement (λ c. open_of text sessions (Some (commands ++ c ∷ [])))
   edit_slot sessions commands = record {
     free = λ c line takes. ap (λ b. cond b None (Some BadLine)) (last_is-snoc (λ c. takes_text (command_line_in c)) commands c ∙ takes);
-    more = λ c line takes. ap (λ (l : List declared.Command). open_of text sessions (Some l)) (on_last-snoc (longer line) commands c);
+    more = λ c line takes. ap (λ (l : List declared.Command). open_of text sessions (Some l)) (on_last-snoc (command_with_line line) commands c);
   }
 
   edits_run : (sessions : List (List Step)) (commands more : List declared.Command) → list_all is_edit more ≡ true → length commands + length more ≤ 64 → all_known (last_adds sessions + adds_in commands) more ≡ true
@@ -152,8 +152,8 @@ module _ (text : List (List ℕ)) where
   edits_run sessions commands [] edits few known = ap (λ (l : List declared.Command). Some (open_of text sessions (Some l))) (sym (append-nil commands))
   edits_run sessions commands (c ∷ cs) edits few known =
       let adds : ℕ = last_adds sessions + adds_in commands in
-      runs_append cause_of with_statement (open_of text sessions (Some commands)) (open_of text sessions (Some (commands ++ c ∷ []))) (command_statements c) (flat_map command_statements cs)
-      (command_run cause_of with_statement (λ c. open_of text sessions (Some (commands ++ c ∷ []))) (edit_slot sessions commands) (open_of text sessions (Some commands)) c
+      runs_append group_statement_cause with_statement (open_of text sessions (Some commands)) (open_of text sessions (Some (commands ++ c ∷ []))) (command_statements c) (flat_map command_statements cs)
+      (command_run group_statement_cause with_statement (λ c. open_of text sessions (Some (commands ++ c ∷ []))) (edit_slot sessions commands) (open_of text sessions (Some commands)) c
       (edit_free (last_adds sessions) commands c (first_true (is_edit c) (list_all is_edit cs) edits) (omega arith) (first_true (names_known adds (command_line_in c)) (all_known (adds + adds_of (command_line_in c)) cs) known))
       (begins_with (open_of text sessions (Some commands)) c))
       ∙ edits_run sessions (commands ++ c ∷ []) cs (second_true (is_edit c) (list_all is_edit cs) edits) (omega (arith, length-append commands (c ∷ [])))
@@ -164,45 +164,45 @@ module _ (text : List (List ℕ)) where
   group_begins : (sessions : List (List Step)) (commands : List declared.Command) → step_cause sessions ≡ None → list_all is_edit commands ≡ true → length commands ≤ 64 → all_known (last_adds sessions) commands ≡ true
       → run (open_of text sessions None) (Mark mark.Group ∷ flat_map command_statements commands) ≡ Some (open_of text sessions (Some commands))
   group_begins sessions commands free edits few known =
-      runs_step cause_of with_statement (open_of text sessions None) (open_of text sessions (Some [])) (Mark mark.Group) (flat_map command_statements commands) free refl
+      runs_step group_statement_cause with_statement (open_of text sessions None) (open_of text sessions (Some [])) (Mark mark.Group) (flat_map command_statements commands) free refl
       ∙ edits_run sessions [] commands edits (omega (arith, few)) (subst (λ n. all_known n commands ≡ true) (omega arith) known)
 
-  step_run : (done : List (List Step)) (steps : List Step) (s : Step) → is_lawful_step s ≡ true → all_known (adds_in (commands_of steps)) (commands_of_step s) ≡ true
+  step_run : (done : List (List Step)) (steps : List Step) (s : Step) → is_lawful_step s ≡ true → all_known (adds_in (commands_of_steps steps)) (commands_of_step s) ≡ true
       → run (open_of text (done ++ steps ∷ []) None) (step_statements s) ≡ Some (open_of text (done ++ (steps ++ s ∷ []) ∷ []) None)
   step_run done steps (step.One c) lawful known =
-      command_run cause_of with_statement (λ c. open_of text (done ++ (steps ++ step.One c ∷ []) ∷ []) None) (one_slot done steps) (open_of text (done ++ steps ∷ []) None) c
-      (closed_free done steps c (first_true (names_known (adds_in (commands_of steps)) (command_line_in c)) true known))
-      (begins_with (open_of text (done ++ steps ∷ []) None) c ∙ ap (λ (l : List (List Step)). open_of text l None) (on_last-snoc (λ l. l ++ step.One (bare c) ∷ []) done steps))
+      command_run group_statement_cause with_statement (λ c. open_of text (done ++ (steps ++ step.One c ∷ []) ∷ []) None) (one_slot done steps) (open_of text (done ++ steps ∷ []) None) c
+      (closed_free done steps c (first_true (names_known (adds_in (commands_of_steps steps)) (command_line_in c)) true known))
+      (begins_with (open_of text (done ++ steps ∷ []) None) c ∙ ap (λ (l : List (List Step)). open_of text l None) (on_last-snoc (λ l. l ++ step.One (bare_command c) ∷ []) done steps))
   step_run done steps (step.Group cs) lawful known =
       let open_at : OpenScript = open_of text (done ++ steps ∷ []) (Some cs) in
       let long : (ltb 0 (length cs) && leb (length cs) 64) ≡ true = first_true (ltb 0 (length cs) && leb (length cs) 64) (list_all is_edit cs) lawful in
       let edits : list_all is_edit cs ≡ true = second_true (ltb 0 (length cs) && leb (length cs) 64) (list_all is_edit cs) lawful in
-      runs_append cause_of with_statement (open_of text (done ++ steps ∷ []) None) open_at (Mark mark.Group ∷ flat_map command_statements cs) (Mark mark.End ∷ [])
+      runs_append group_statement_cause with_statement (open_of text (done ++ steps ∷ []) None) open_at (Mark mark.Group ∷ flat_map command_statements cs) (Mark mark.End ∷ [])
       (group_begins (done ++ steps ∷ []) cs (step_cause-snoc done steps) edits (leb-true (length cs) 64 (second_true (ltb 0 (length cs)) (leb (length cs) 64) long))
       (subst (λ n. all_known n cs ≡ true) (sym (last_adds-snoc done steps)) known))
-      ∙ runs_step cause_of with_statement open_at (open_of text (done ++ (steps ++ step.Group cs ∷ []) ∷ []) None) (Mark mark.End) [] (ap (λ b. cond b None (Some BadLine)) (first_true (ltb 0 (length cs)) (leb (length cs) 64) long))
+      ∙ runs_step group_statement_cause with_statement open_at (open_of text (done ++ (steps ++ step.Group cs ∷ []) ∷ []) None) (Mark mark.End) [] (ap (λ b. cond b None (Some BadLine)) (first_true (ltb 0 (length cs)) (leb (length cs) 64) long))
       (ap (λ (l : List (List Step)). open_of text l None) (on_last-snoc (λ l. l ++ step.Group cs ∷ []) done steps))
   step_run done steps step.Undo lawful known =
-      runs_step cause_of with_statement (open_of text (done ++ steps ∷ []) None) (open_of text (done ++ (steps ++ step.Undo ∷ []) ∷ []) None) (Mark mark.Undo) [] (step_cause-snoc done steps)
+      runs_step group_statement_cause with_statement (open_of text (done ++ steps ∷ []) None) (open_of text (done ++ (steps ++ step.Undo ∷ []) ∷ []) None) (Mark mark.Undo) [] (step_cause-snoc done steps)
       (ap (λ (l : List (List Step)). open_of text l None) (on_last-snoc (λ l. l ++ step.Undo ∷ []) done steps))
 
-  steps_run : (done : List (List Step)) (steps more : List Step) → list_all is_lawful_step more ≡ true → all_known (adds_in (commands_of steps)) (commands_of more) ≡ true
+  steps_run : (done : List (List Step)) (steps more : List Step) → list_all is_lawful_step more ≡ true → all_known (adds_in (commands_of_steps steps)) (commands_of_steps more) ≡ true
       → run (open_of text (done ++ steps ∷ []) None) (flat_map step_statements more) ≡ Some (open_of text (done ++ (steps ++ more) ∷ []) None)
   steps_run done steps [] lawful known = ap (λ (l : List Step). Some (open_of text (done ++ l ∷ []) None)) (sym (append-nil steps))
   steps_run done steps (s ∷ ss) lawful known =
-      runs_append cause_of with_statement (open_of text (done ++ steps ∷ []) None) (open_of text (done ++ (steps ++ s ∷ []) ∷ []) None) (step_statements s) (flat_map step_statements ss)
-      (step_run done steps s (first_true (is_lawful_step s) (list_all is_lawful_step ss) lawful) (known_front (adds_in (commands_of steps)) (commands_of_step s) (commands_of ss) known))
+      runs_append group_statement_cause with_statement (open_of text (done ++ steps ∷ []) None) (open_of text (done ++ (steps ++ s ∷ []) ∷ []) None) (step_statements s) (flat_map step_statements ss)
+      (step_run done steps s (first_true (is_lawful_step s) (list_all is_lawful_step ss) lawful) (known_front (adds_in (commands_of_steps steps)) (commands_of_step s) (commands_of_steps ss) known))
       ∙ steps_run done (steps ++ s ∷ []) ss (second_true (is_lawful_step s) (list_all is_lawful_step ss) lawful)
-      (subst (λ n. all_known n (commands_of ss) ≡ true) (sym (ap adds_in (flat-snoc commands_of_step steps s) ∙ adds_more (commands_of steps) (commands_of_step s)))
-      (known_back (adds_in (commands_of steps)) (commands_of_step s) (commands_of ss) known))
+      (subst (λ n. all_known n (commands_of_steps ss) ≡ true) (sym (ap adds_in (flat-snoc commands_of_step steps s) ∙ adds_more (commands_of_steps steps) (commands_of_step s)))
+      (known_back (adds_in (commands_of_steps steps)) (commands_of_step s) (commands_of_steps ss) known))
       ∙ ap (λ (l : List Step). Some (open_of text (done ++ l ∷ []) None)) (append_assoc steps (s ∷ []) ss)
 
   sessions_run : (done sessions : List (List Step)) → length done + length sessions ≤ 64 → list_all are_known sessions ≡ true → list_all (list_all is_lawful_step) sessions ≡ true
       → run (open_of text done None) (flat_map steps_statements sessions) ≡ Some (open_of text (done ++ sessions) None)
   sessions_run done [] few known lawful = ap (λ (l : List (List Step)). Some (open_of text l None)) (sym (append-nil done))
   sessions_run done (s ∷ ss) few known lawful =
-      runs_append cause_of with_statement (open_of text done None) (open_of text (done ++ s ∷ []) None) (steps_statements s) (flat_map steps_statements ss)
-      (runs_step cause_of with_statement (open_of text done None) (open_of text (done ++ [] ∷ []) None) Session (flat_map step_statements s) (ap (λ b. cond b None (Some ManySessions)) (lt-ltb (length done) 64 (omega arith))) refl
+      runs_append group_statement_cause with_statement (open_of text done None) (open_of text (done ++ s ∷ []) None) (steps_statements s) (flat_map steps_statements ss)
+      (runs_step group_statement_cause with_statement (open_of text done None) (open_of text (done ++ [] ∷ []) None) Session (flat_map step_statements s) (ap (λ b. cond b None (Some ManySessions)) (lt-ltb (length done) 64 (omega arith))) refl
       ∙ steps_run done [] s (first_true (list_all is_lawful_step s) (list_all (list_all is_lawful_step) ss) lawful) (first_true (are_known s) (list_all are_known ss) known))
       ∙ sessions_run (done ++ s ∷ []) ss (omega (arith, length-append done (s ∷ []))) (second_true (are_known s) (list_all are_known ss) known) (second_true (list_all is_lawful_step s) (list_all (list_all is_lawful_step) ss) lawful)
       ∙ ap (λ (l : List (List Step)). Some (open_of text l None)) (append_assoc done (s ∷ []) ss)
@@ -220,8 +220,8 @@ runs_open : (so_far : OpenScript) → IsLawfulOpen so_far → run (open_of [] []
 runs_open so_far lawful =
     let text : List (List ℕ) = so_far.script.text in
     let sessions : List (List Step) = so_far.script.sessions in
-    runs_append cause_of with_statement (open_of [] [] None) (open_of text sessions None) (group_statements so_far.script) (open_group_statements so_far.group)
-    (runs_append cause_of with_statement (open_of [] [] None) (open_of text [] None) (map Text text) (flat_map steps_statements sessions) (opening_texts [] text)
+    runs_append group_statement_cause with_statement (open_of [] [] None) (open_of text sessions None) (group_statements so_far.script) (open_group_statements so_far.group)
+    (runs_append group_statement_cause with_statement (open_of [] [] None) (open_of text [] None) (map Text text) (flat_map steps_statements sessions) (opening_texts [] text)
     ∙ sessions_run text [] sessions (omega (arith, lawful.few)) lawful.known lawful.groups)
     ∙ open_run text sessions so_far.group lawful.group
 

@@ -2,9 +2,9 @@
 use Rattle.std.proofs.Common.{◌≡◌, ◌≢◌, inl, inr, ⊎_elim, ℕ, ◌+◌, ◌<◌, ◌≤◌, true, false, cond, List, [], ◌∷◌, ◌++◌, length, drop, get_or, map, Some, None, sym, ap, ◌∙◌, refl, subst, append_assoc, append-nil, arith, length-append, zero-add}
 use Rattle.std.specs.List.{flat_map, list_all}
 use Rattle.script_reader.specs.Command.{IsNoCommand}
-use Rattle.script_reader.specs.Groups.{IsGroupRefusal, IsGroupScript, IsLawfulOpen, are_known, closed_cause, commands_of, commands_of_step, group_grammar, is_lawful_step, step_statements, step_takes_text, steps_statements}
+use Rattle.script_reader.specs.Groups.{IsGroupRefusal, IsGroupScript, IsLawfulOpen, are_known, closed_cause, commands_of_steps, commands_of_step, group_grammar, is_lawful_step, step_statements, step_takes_text, steps_statements}
 use Rattle.script_reader.specs.Places.{Say}
-use Rattle.script_reader.specs.Reading.{IsCommandRead, IsPartAt, IsStop, commands_parts, is_good_session, open_of, steps_parts}
+use Rattle.script_reader.specs.Reading.{IsCommandRead, IsScriptPartAt, IsGrammarStop, commands_parts, is_good_session, open_of, steps_parts}
 use Rattle.script_reader.specs.Script.{adds_in, all_known, is_put_head, last_is, names_known}
 use Rattle.script_reader.specs.Statements.{Text, Session, Mark, is_groups, kind_of, statements_of}
 use Rattle.script_reader.specs.declared.command.Command as declared
@@ -22,7 +22,7 @@ use Rattle.script_reader.proofs.Ends.{flat-snoc, known_more}
 use Rattle.script_reader.proofs.GroupRuns.{command_cause-snoc, group_runs, text_cause-snoc, with_statement}
 use Rattle.script_reader.proofs.Lines.{told_at}
 use Rattle.script_reader.proofs.LiveSessions.{bad_either}
-use Rattle.script_reader.proofs.Outside.{early, outside}
+use Rattle.script_reader.proofs.Outside.{refusal_ends_early, refusal_is_outside}
 use Rattle.script_reader.proofs.Parts.{PartsSoFar, command_part}
 use Rattle.script_reader.proofs.Places.{say_all, say_here, say_more}
 use Rattle.script_reader.proofs.Refused.{AsCommand}
@@ -62,12 +62,12 @@ lawful_with text done steps others lawful good = record {
 }
 
 -- with one more step
-good_more : (steps : List Step) (s : Step) → is_good_session steps ≡ true → all_known (adds_in (commands_of steps)) (commands_of_step s) ≡ true → is_lawful_step s ≡ true → is_good_session (steps ++ s ∷ []) ≡ true
+good_more : (steps : List Step) (s : Step) → is_good_session steps ≡ true → all_known (adds_in (commands_of_steps steps)) (commands_of_step s) ≡ true → is_lawful_step s ≡ true → is_good_session (steps ++ s ∷ []) ≡ true
 good_more steps s good known lawful =
     both_true (are_known (steps ++ s ∷ [])) (list_all is_lawful_step (steps ++ s ∷ []))
     (subst (λ cs. all_known 0 cs ≡ true) (sym (flat-snoc commands_of_step steps s))
-    (known_more 0 (commands_of steps) (commands_of_step s) (first_true (are_known steps) (list_all is_lawful_step steps) good)
-    (subst (λ n. all_known n (commands_of_step s) ≡ true) (sym (zero-add (adds_in (commands_of steps)))) known)))
+    (known_more 0 (commands_of_steps steps) (commands_of_step s) (first_true (are_known steps) (list_all is_lawful_step steps) good)
+    (subst (λ n. all_known n (commands_of_step s) ≡ true) (sym (zero-add (adds_in (commands_of_steps steps)))) known)))
     (all_snoc is_lawful_step steps s (second_true (are_known steps) (list_all is_lawful_step steps) good) lawful)
 
 -- what one more step says
@@ -81,7 +81,7 @@ step_grows lines text done steps s =
     ∙ ap (λ l. l ++ step_statements s) (sym (grows steps))
 
 -- the line of `undo`
-pub undo_read : (lines : List (List ℕ)) (at adds : ℕ) → at < length lines → kind_of (get_or lines at []) ≡ kind.Mark mark.Undo → IsPartAt steps_parts lines at adds step.Undo (at + 1)
+pub undo_read : (lines : List (List ℕ)) (at adds : ℕ) → at < length lines → kind_of (get_or lines at []) ≡ kind.Mark mark.Undo → IsScriptPartAt steps_parts lines at adds step.Undo (at + 1)
 undo_read lines at adds within is = record {
   low = omega arith;
   says = say_here lines at (Mark mark.Undo) within (told_at lines at within false (kind.Mark mark.Undo) is) refl;
@@ -93,15 +93,15 @@ undo_read lines at adds within is = record {
 
 -- `end` closes nothing
 pub closing_stops : (lines : List (List ℕ)) (at : ℕ) → at < length lines → kind_of (get_or lines at []) ≡ kind.Mark mark.End → (text : List (List ℕ)) (done : List (List Step)) (steps : List Step) → IsLawfulOpen (open_of text (done ++ steps ∷ []) None)
-    → IsStop group_grammar (open_of text (done ++ steps ∷ []) None) lines at (At (at + 1) BadLine)
+    → IsGrammarStop group_grammar (open_of text (done ++ steps ∷ []) None) lines at (At (at + 1) BadLine)
 closing_stops lines at within is text done steps lawful =
     inl (stop_here group_grammar (open_of text (done ++ steps ∷ []) None) lines at (Mark mark.End) (statements_of (drop (at + 1) lines)) BadLine lawful (told_at lines at within false (kind.Mark mark.End) is) refl)
 
 -- where no command could be read, and the line is no mark
 pub one_stops : (lines : List (List ℕ)) (at adds : ℕ) (fault : ScriptFault) → at < length lines → kind_of (get_or lines at []) ≢ kind.Skipped → kind_of (get_or lines at []) ≢ kind.Session
     → ((m : marks.Mark) → kind_of (get_or lines at []) ≢ kind.Mark m) → IsNoCommand lines at adds fault
-    → (text : List (List ℕ)) (done : List (List Step)) (steps : List Step) → IsLawfulOpen (open_of text (done ++ steps ∷ []) None) → adds ≡ adds_in (commands_of steps)
-    → (last_is step_takes_text steps ≡ true → kind_of (get_or lines at []) ≢ kind.Text) → IsStop group_grammar (open_of text (done ++ steps ∷ []) None) lines at fault
+    → (text : List (List ℕ)) (done : List (List Step)) (steps : List Step) → IsLawfulOpen (open_of text (done ++ steps ∷ []) None) → adds ≡ adds_in (commands_of_steps steps)
+    → (last_is step_takes_text steps ≡ true → kind_of (get_or lines at []) ≢ kind.Text) → IsGrammarStop group_grammar (open_of text (done ++ steps ∷ []) None) lines at fault
 one_stops lines at adds fault within said not_session not_mark refused text done steps lawful counted no_text =
     command_stops group_grammar (open_of text (done ++ steps ∷ []) None) lines at adds fault within lawful like (λ number cause none. header) refused
   where
@@ -129,22 +129,22 @@ module _ (lines : List (List ℕ)) (start at : ℕ) (steps : List Step) (adds : 
 
   -- a refusal of the next step, told of the session
   pub step_stops : (fault : ScriptFault) → at < length lines
-      → ((text : List (List ℕ)) (done : List (List Step)) (steps : List Step) → IsLawfulOpen (open_of text (done ++ steps ∷ []) None) → adds ≡ adds_in (commands_of steps)
-      → (last_is step_takes_text steps ≡ true → kind_of (get_or lines at []) ≢ kind.Text) → IsStop group_grammar (open_of text (done ++ steps ∷ []) None) lines at fault)
-      → (text : List (List ℕ)) (done : List (List Step)) → IsLawfulOpen (open_of text (done ++ [] ∷ []) None) → IsStop group_grammar (open_of text (done ++ [] ∷ []) None) lines start fault
+      → ((text : List (List ℕ)) (done : List (List Step)) (steps : List Step) → IsLawfulOpen (open_of text (done ++ steps ∷ []) None) → adds ≡ adds_in (commands_of_steps steps)
+      → (last_is step_takes_text steps ≡ true → kind_of (get_or lines at []) ≢ kind.Text) → IsGrammarStop group_grammar (open_of text (done ++ steps ∷ []) None) lines at fault)
+      → (text : List (List ℕ)) (done : List (List Step)) → IsLawfulOpen (open_of text (done ++ [] ∷ []) None) → IsGrammarStop group_grammar (open_of text (done ++ [] ∷ []) None) lines start fault
   step_stops fault within refused text done lawful =
       stop_behind group_grammar (open_of text (done ++ [] ∷ []) None) (open_of text (done ++ steps ∷ []) None) lines start at (flat_map step_statements steps) fault s.says
       (session_grows step_statements is_good_session lines group_grammar closed_of group_sessions text done steps)
-      (refused text done steps (lawful_with text done [] steps lawful steps_good) (s.counted ∙ zero-add (adds_in (commands_of steps))) (λ takes. (s.heading takes).no_text within))
+      (refused text done steps (lawful_with text done [] steps lawful steps_good) (s.counted ∙ zero-add (adds_in (commands_of_steps steps))) (λ takes. (s.heading takes).no_text within))
 
 -- a refusal of what stands behind the opening text, told of all lines
-pub groups_refused : (lines text : List (List ℕ)) (next : ℕ) (fault : ScriptFault) → 0 < length lines → Say lines 1 next (map Text text) → IsStop group_grammar (open_of text [] None) lines next fault → IsGroupRefusal lines fault
+pub groups_refused : (lines text : List (List ℕ)) (next : ℕ) (fault : ScriptFault) → 0 < length lines → Say lines 1 next (map Text text) → IsGrammarStop group_grammar (open_of text [] None) lines next fault → IsGroupRefusal lines fault
 groups_refused lines text next NoMemory some says stop = tt
 groups_refused [] text next (At number cause) some says stop = absurd (omega (arith, some))
 groups_refused (first ∷ rest) text next (At number cause) some says stop =
     ⊎_elim
-    (λ s. inr (inl (outside group_grammar with_statement (open_of [] [] None) IsGroupScript group_runs first rest number cause s)))
-    (λ e. inr (inr (early group_grammar with_statement (open_of [] [] None) IsGroupScript group_runs first rest number cause e)))
+    (λ s. inr (inl (refusal_is_outside group_grammar with_statement (open_of [] [] None) IsGroupScript group_runs first rest number cause s)))
+    (λ e. inr (inr (refusal_ends_early group_grammar with_statement (open_of [] [] None) IsGroupScript group_runs first rest number cause e)))
     (stop_behind group_grammar (open_of [] [] None) (open_of text [] None) (first ∷ rest) 1 next (map Text text) (At number cause) says
     (append-nil (map Text text ++ []) ∙ append-nil (map Text text)) stop)
 
@@ -161,7 +161,7 @@ groups_spelled (first ∷ rest) text next sessions some begun opening says few g
 }
 
 -- a command as a step
-pub one_part : (lines : List (List ℕ)) (at adds : ℕ) (c : declared.Command) (next : ℕ) → IsCommandRead lines at adds c next → IsPartAt steps_parts lines at adds (step.One c) next
+pub one_part : (lines : List (List ℕ)) (at adds : ℕ) (c : declared.Command) (next : ℕ) → IsCommandRead lines at adds c next → IsScriptPartAt steps_parts lines at adds (step.One c) next
 one_part lines at adds c next is =
-    let part : IsPartAt commands_parts lines at adds c next = command_part (λ command. true) lines at adds c next refl is in
+    let part : IsScriptPartAt commands_parts lines at adds c next = command_part (λ command. true) lines at adds c next refl is in
     record { low = part.low; says = part.says; known = part.known; lawful = refl; few = part.few; heading = part.heading }

@@ -6,15 +6,15 @@ use Rattle.std.proofs.lemmas.List.{length-append}
 use Rattle.std.proofs.lemmas.Str.{IsUtf8-from_is_utf8, is_utf8-from_IsUtf8}
 use Rattle.knit_base.specs.Lines.{HasNoLineEnd, IsLine}
 use Rattle.script_reader.specs.Groups.{commands_of_step}
-use Rattle.script_reader.specs.Hearing.{Hearing, alone, awaited, command_with, fault_of, whole, with_adds}
-use Rattle.script_reader.specs.Listener.{HoldsGroup, IsMoved, Keeps, adds_behind, counted, line_of_edit, moved}
+use Rattle.script_reader.specs.Hearing.{Hearing, asked_alone, edit_awaited, command_with, fault_of, whole, with_adds}
+use Rattle.script_reader.specs.Listener.{HoldsGroup, IsListenerMoved, KeepsItems, adds_behind, capped_adds, line_of_edit, listener_moved}
 use Rattle.script_reader.specs.Orders.{edit_with}
 use Rattle.script_reader.specs.Script.{adds_in, adds_of, command_line_in, names_known}
 use Rattle.script_reader.specs.declared.command.Command as declared
 use Rattle.script_reader.specs.declared.command.Command.TheVariants as command
 use Rattle.script_reader.specs.declared.fault.Cause.TheVariants.{NotUtf8}
 use Rattle.script_reader.specs.declared.line.CommandLine.{CommandLine}
-use Rattle.script_reader.specs.declared.listener.state.Moved.{Moved}
+use Rattle.script_reader.specs.declared.listener.state.ListenerMove.{ListenerMove}
 use Rattle.script_reader.specs.declared.listener.state.OpenGroup.{OpenGroup}
 use Rattle.script_reader.specs.declared.listener.state.State.TheVariants as states
 use Rattle.script_reader.specs.declared.order.Order as declared_orders
@@ -41,12 +41,12 @@ bad_line line short bad =
     rw (fits, fails) refl
 
 -- a command whose names are known, and an edit
-pub plain_known : (m : Moved) (h : Hearing) (number session : ℕ) (a : Asked) (c : CommandLine) → a ≡ asked.Plain c → names_known (h.adds session) c ≡ true
-    → IsMoved m h.adds number (whole h session (command_with c [])) → IsMoved m h.adds number (alone h number session a)
+pub plain_known : (m : ListenerMove) (h : Hearing) (number session : ℕ) (a : Asked) (c : CommandLine) → a ≡ asked.Plain c → names_known (h.adds session) c ≡ true
+    → IsListenerMoved m h.adds number (whole h session (command_with c [])) → IsListenerMoved m h.adds number (asked_alone h number session a)
 plain_known m h number session a c is known told = rw is (rw known told)
 
-pub edit_known : (m : Moved) (h : Hearing) (number session count : ℕ) (a : Asked) (c : CommandLine) → a ≡ asked.Edit c count → names_known (h.adds session) c ≡ true
-    → IsMoved m h.adds number (awaited h session c count []) → IsMoved m h.adds number (alone h number session a)
+pub edit_known : (m : ListenerMove) (h : Hearing) (number session count : ℕ) (a : Asked) (c : CommandLine) → a ≡ asked.Edit c count → names_known (h.adds session) c ≡ true
+    → IsListenerMoved m h.adds number (edit_awaited h session c count []) → IsListenerMoved m h.adds number (asked_alone h number session a)
 edit_known m h number session count a c is known told = rw is (rw known told)
 
 few_adds : (c : declared.Command) → adds_of (command_line_in c) ≤ 1
@@ -61,7 +61,7 @@ few_adds (command.PutHead names) = omega arith
 
 -- a group with one more edit
 pub holds_more : (before after : OpenGroup) (commands : List declared.Command) (c : declared.Command) → HoldsGroup before commands → before.edits < 64
-    → after.edits ≡ min (before.edits + 1) 4294967295 → after.adds ≡ min (before.adds + adds_of (command_line_in c)) 4294967295 → Keeps after.commands (commands ++ c ∷ [])
+    → after.edits ≡ min (before.edits + 1) 4294967295 → after.adds ≡ min (before.adds + adds_of (command_line_in c)) 4294967295 → KeepsItems after.commands (commands ++ c ∷ [])
     → HoldsGroup after (commands ++ c ∷ [])
 holds_more before after commands c holds room edits adds kept =
     let count : length (commands ++ c ∷ []) ≡ length commands + 1 = length-append commands (c ∷ []) in
@@ -82,7 +82,7 @@ holds_more before after commands c holds room edits adds kept =
 -- the same, of an edit with its text
 pub holds_edit : (before after : OpenGroup) (commands : List declared.Command) (e : TextEdit) (lines : List (List ℕ)) (c : declared.Command) → c ≡ edit_with e lines
     → HoldsGroup before commands → before.edits < 64
-    → after.edits ≡ min (before.edits + 1) 4294967295 → after.adds ≡ min (before.adds + adds_of (command_line_in c)) 4294967295 → Keeps after.commands (commands ++ c ∷ [])
+    → after.edits ≡ min (before.edits + 1) 4294967295 → after.adds ≡ min (before.adds + adds_of (command_line_in c)) 4294967295 → KeepsItems after.commands (commands ++ c ∷ [])
     → HoldsGroup after (commands ++ edit_with e lines ∷ [])
 holds_edit before after commands e lines c is holds room edits adds kept =
     subst (λ (one : declared.Command). HoldsGroup after (commands ++ one ∷ [])) is (holds_more before after commands c holds room edits adds kept)
@@ -93,26 +93,26 @@ line_in_edit (edit.Put name) lines = refl
 line_in_edit (edit.Add place) lines = refl
 
 pub adds_of_edit_with : (before after : OpenGroup) (commands : List declared.Command) (e : TextEdit) (lines : List (List ℕ)) → HoldsGroup before commands → before.edits < 64
-    → after.edits ≡ min (before.edits + 1) 4294967295 → after.adds ≡ min (before.adds + adds_of (line_of_edit e)) 4294967295 → Keeps after.commands (commands ++ edit_with e lines ∷ [])
+    → after.edits ≡ min (before.edits + 1) 4294967295 → after.adds ≡ min (before.adds + adds_of (line_of_edit e)) 4294967295 → KeepsItems after.commands (commands ++ edit_with e lines ∷ [])
     → HoldsGroup after (commands ++ edit_with e lines ∷ [])
 adds_of_edit_with before after commands e lines holds room edits adds kept =
     holds_more before after commands (edit_with e lines) holds room edits
     (subst (λ (line : CommandLine). after.adds ≡ min (before.adds + adds_of line) 4294967295) (sym (line_in_edit e lines)) adds) kept
 
 -- lines that are kept are those that were heard
-pub kept_lines : (kept : Option (List (List ℕ))) (held lines : List (List ℕ)) → kept ≡ Some held → Keeps kept lines → held ≡ lines
+pub kept_lines : (kept : Option (List (List ℕ))) (held lines : List (List ℕ)) → kept ≡ Some held → KeepsItems kept lines → held ≡ lines
 kept_lines kept held lines is keeps = rw is at keeps
 
 -- the adds of a step
 pub adds_counted : (all : ℕ → ℕ) (given : declared_orders.Order) (session : ℕ) (s : Step) (adds n count : ℕ) → given ≡ order.Ask session s → adds ≡ adds_in (commands_of_step s)
-    → count ≡ counted (with_adds session adds all n) → count ≡ counted (adds_behind (Some given) all n)
+    → count ≡ capped_adds (with_adds session adds all n) → count ≡ capped_adds (adds_behind (Some given) all n)
 adds_counted all given session s adds n count is same counts =
-    subst (λ (o : declared_orders.Order). count ≡ counted (adds_behind (Some o) all n)) (sym is) (subst (λ (k : ℕ). count ≡ counted (with_adds session k all n)) same counts)
+    subst (λ (o : declared_orders.Order). count ≡ capped_adds (adds_behind (Some o) all n)) (sym is) (subst (λ (k : ℕ). count ≡ capped_adds (with_adds session k all n)) same counts)
 
 -- the last line of the text of an edit in a group
-pub group_whole : (m : Moved) (h : Hearing) (number missing : ℕ) (after : OpenGroup) (commands : List declared.Command) (e : TextEdit) (lines : List (List ℕ))
-    → m ≡ moved false (states.Group after) None → missing ≡ 0 → h.session ≡ after.session → h.group ≡ Some commands → HoldsGroup after (commands ++ edit_with e lines ∷ [])
-    → IsMoved m h.adds number (awaited h h.session (line_of_edit e) missing lines)
+pub group_whole : (m : ListenerMove) (h : Hearing) (number missing : ℕ) (after : OpenGroup) (commands : List declared.Command) (e : TextEdit) (lines : List (List ℕ))
+    → m ≡ listener_moved false (states.Group after) None → missing ≡ 0 → h.session ≡ after.session → h.group ≡ Some commands → HoldsGroup after (commands ++ edit_with e lines ∷ [])
+    → IsListenerMoved m h.adds number (edit_awaited h h.session (line_of_edit e) missing lines)
 group_whole m h number missing after commands (edit.Put name) lines is none session group holds =
     rw is (rw none (rw group (record { state = (record { edits = commands ++ command.Put name lines ∷ []; session = session; is = refl; holds = holds }, refl); counts = refl; orders = tt })))
 group_whole m h number missing after commands (edit.Add place) lines is none session group holds =

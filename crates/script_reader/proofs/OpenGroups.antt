@@ -4,10 +4,10 @@ use Rattle.std.specs.List.{flat_map, list_all}
 use Rattle.std.proofs.lemmas.Bool.{le-leb}
 use Rattle.knitout_reader.specs.Head.{names_in_line}
 use Rattle.script_reader.specs.Command.{GivesNoNames, IsNoCommand}
-use Rattle.script_reader.specs.Groups.{IsLawfulOpen, OpenScript, commands_of, group_cause, group_grammar, group_statements, is_edit, is_edit_line, last_adds}
+use Rattle.script_reader.specs.Groups.{IsLawfulOpen, OpenScript, commands_of_steps, group_cause, group_grammar, group_statements, is_edit, is_edit_line, last_adds}
 use Rattle.script_reader.specs.Places.{Say}
-use Rattle.script_reader.specs.Reading.{IsCommandRead, IsPartAt, IsStop, StopsBehind, edits_parts, is_edit_kind, is_end_kind, open_of, steps_parts}
-use Rattle.script_reader.specs.Script.{adds_in, all_known, command_line_in, command_statement, command_statements, last_takes_text, names_known, text_in}
+use Rattle.script_reader.specs.Reading.{IsCommandRead, IsScriptPartAt, IsGrammarStop, StopsBehind, edits_parts, is_edit_kind, is_end_kind, open_of, steps_parts}
+use Rattle.script_reader.specs.Script.{adds_in, all_known, command_line_in, command_statement, command_statements, last_takes_text, names_known, text_of_command}
 use Rattle.script_reader.specs.Statements.{Statement, Text, Session, Command, Header, Mark, Nonsense, header_said, kind_of, says_something, statements_of, text_ahead, told_from}
 use Rattle.script_reader.specs.declared.command.Command as declared
 use Rattle.script_reader.specs.declared.command.Command.TheVariants as command
@@ -62,7 +62,7 @@ edit_is_read lines at adds c next within edit is = go (kind_of (get_or lines at 
     go kind.Text same edit = absurd (cc)
     go kind.Session same edit = absurd (cc)
     go (kind.Command h) same edit =
-        sym (ap is_edit_line (line_is c h (first_said lines at h within same is.says.front (statements_of (drop next lines)) (command_statement c) (map Text (text_in c)) is.says.told is.says.are))) ∙ edit
+        sym (ap is_edit_line (line_is c h (first_said lines at h within same is.says.front (statements_of (drop next lines)) (command_statement c) (map Text (text_of_command c)) is.says.told is.says.are))) ∙ edit
     go kind.Header same edit = absurd (cc)
     go (kind.Mark m) same edit = absurd (cc)
     go kind.Other same edit = absurd (cc)
@@ -78,7 +78,7 @@ module _ (lines : List (List ℕ)) (start : ℕ) (begins : start < length lines)
   group_said = say_more lines start (start + 1) at (Mark mark.Group ∷ []) (flat_map command_statements commands) (say_here lines start (Mark mark.Group) begins (told_at lines start begins false (kind.Mark mark.Group) group) refl) s.says
 
   -- the line `end` closes it
-  pub group_read : at < length lines → (is_end_kind (kind_of (get_or lines at [])) && ltb 0 (length commands)) ≡ true → IsPartAt steps_parts lines start adds_before (step.Group commands) (at + 1)
+  pub group_read : at < length lines → (is_end_kind (kind_of (get_or lines at [])) && ltb 0 (length commands)) ≡ true → IsScriptPartAt steps_parts lines start adds_before (step.Group commands) (at + 1)
   group_read within closes = record {
     low = let low = group_said.low in omega arith;
     says = say_more lines start at (at + 1) (Mark mark.Group ∷ flat_map command_statements commands) (Mark mark.End ∷ []) group_said
@@ -101,7 +101,7 @@ module _ (lines : List (List ℕ)) (start : ℕ) (begins : start < length lines)
       is_end (kind.Mark mark.Undo) is = absurd (cc)
       is_end kind.Other is = absurd (cc)
 
-  module _ (text : List (List ℕ)) (done : List (List Step)) (steps : List Step) (lawful : IsLawfulOpen (open_of text (done ++ steps ∷ []) None)) (same : adds_before ≡ adds_in (commands_of steps)) where
+  module _ (text : List (List ℕ)) (done : List (List Step)) (steps : List Step) (lawful : IsLawfulOpen (open_of text (done ++ steps ∷ []) None)) (same : adds_before ≡ adds_in (commands_of_steps steps)) where
     -- what was read, with the open group
     abbrev closed : OpenScript
     closed = open_of text (done ++ steps ∷ []) None
@@ -128,11 +128,11 @@ module _ (lines : List (List ℕ)) (start : ℕ) (begins : start < length lines)
     opened_grows : group_grammar.says opened ≡ group_grammar.says closed ++ (Mark mark.Group ∷ flat_map command_statements commands)
     opened_grows = ap (λ l. l ++ (Mark mark.Group ∷ flat_map command_statements commands)) (sym (append-nil (group_statements closed.script)))
 
-    opened_stop : (fault : ScriptFault) → IsStop group_grammar opened lines at fault → IsStop group_grammar closed lines start fault
+    opened_stop : (fault : ScriptFault) → IsGrammarStop group_grammar opened lines at fault → IsGrammarStop group_grammar closed lines start fault
     opened_stop fault stop = stop_behind group_grammar closed opened lines start at (Mark mark.Group ∷ flat_map command_statements commands) fault group_said opened_grows stop
 
     -- the lines end
-    pub end_stops : (count : ℕ) → count ≡ length lines → length lines ≤ at → IsStop group_grammar closed lines start (At (count + 1) BadLine)
+    pub end_stops : (count : ℕ) → count ≡ length lines → length lines ≤ at → IsGrammarStop group_grammar closed lines start (At (count + 1) BadLine)
     end_stops count all past = inr (record {
       so_far = opened;
       lawful = opened_lawful;
@@ -145,7 +145,7 @@ module _ (lines : List (List ℕ)) (start : ℕ) (begins : start < length lines)
 
     -- the line is neither `end` behind an edit nor one more edit
     pub line_stops : at < length lines → kind_of (get_or lines at []) ≢ kind.Skipped → (is_end_kind (kind_of (get_or lines at [])) && ltb 0 (length commands)) ≡ false → (is_edit_kind (kind_of (get_or lines at [])) && ltb (length commands) 64) ≡ false
-        → IsStop group_grammar closed lines start (At (at + 1) BadLine)
+        → IsGrammarStop group_grammar closed lines start (At (at + 1) BadLine)
     line_stops within said not_end not_edit = opened_stop (At (at + 1) BadLine) (inl (go (kind_of (get_or lines at [])) refl not_end not_edit))
       where
         stops : (x : Statement) (back : List Statement) → statements_of (drop at lines) ≡ x ∷ back → group_cause (last_adds (done ++ steps ∷ [])) commands x ≡ Some BadLine → StopsBehind group_grammar opened lines at (at + 1) BadLine
@@ -169,7 +169,7 @@ module _ (lines : List (List ℕ)) (start : ℕ) (begins : start < length lines)
         go kind.Other is not_end not_edit = stops Nonsense (statements_of (drop (at + 1) lines)) (told_at lines at within false kind.Other is) refl
 
     -- the line may be that of an edit, and no command could be read
-    pub edit_stops : (fault : ScriptFault) → at < length lines → (is_edit_kind (kind_of (get_or lines at [])) && ltb (length commands) 64) ≡ true → IsNoCommand lines at adds fault → IsStop group_grammar closed lines start fault
+    pub edit_stops : (fault : ScriptFault) → at < length lines → (is_edit_kind (kind_of (get_or lines at [])) && ltb (length commands) 64) ≡ true → IsNoCommand lines at adds fault → IsGrammarStop group_grammar closed lines start fault
     edit_stops fault within edit refused = opened_stop fault (go (kind_of (get_or lines at [])) refl (first_true (is_edit_kind (kind_of (get_or lines at []))) (ltb (length commands) 64) edit))
       where
         like : (h : CommandLine) → kind_of (get_or lines at []) ≡ kind.Command h → is_edit_line h ≡ true → AsCommand (group_cause (last_adds (done ++ steps ∷ [])) commands) adds (kind_of (get_or lines at []))
@@ -188,7 +188,7 @@ module _ (lines : List (List ℕ)) (start : ℕ) (begins : start < length lines)
           nonsense = refl;
         }
 
-        go : (k : Kind) → kind_of (get_or lines at []) ≡ k → is_edit_kind k ≡ true → IsStop group_grammar opened lines at fault
+        go : (k : Kind) → kind_of (get_or lines at []) ≡ k → is_edit_kind k ≡ true → IsGrammarStop group_grammar opened lines at fault
         go kind.Skipped is edits = absurd (cc)
         go kind.Text is edits = absurd (cc)
         go kind.Session is edits = absurd (cc)

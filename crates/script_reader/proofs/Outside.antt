@@ -3,14 +3,14 @@ use Rattle.std.proofs.Common.{◌≡◌, ◌≢◌, ◌⊎◌, inl, inr, ℕ, ze
 use Rattle.knitout_reader.specs.Head.{names_in_line}
 use Rattle.script_reader.specs.Grammar.{Grammar, BeginNone, EndsEarly, IsOutside, LacksHeader}
 use Rattle.script_reader.specs.Reading.{EndsBehind, StopsBehind}
-use Rattle.script_reader.specs.Statements.{Statement, Nothing, Text, Session, Command, Header, Mark, Nonsense, header_said, kind_of, names_said, says_something, statements_of, text_ahead, text_or, told, told_from}
+use Rattle.script_reader.specs.Statements.{Statement, Nothing, Text, Session, Command, Header, Mark, Nonsense, header_said, kind_of, names_said, says_something, statements_of, text_ahead, text_or, statements_told, told_from}
 use Rattle.script_reader.specs.declared.fault.Cause.{Cause}
 use Rattle.script_reader.specs.declared.fault.Cause.TheVariants.{BadLine}
 use Rattle.script_reader.specs.declared.line.Kind.{Kind}
 use Rattle.script_reader.specs.declared.line.Kind.TheVariants as kind
 use Rattle.script_reader.proofs.Lines.{first_is, length_told, told_line}
 use Rattle.script_reader.proofs.Places.{say_all}
-use Rattle.script_reader.proofs.Runs.{IsQuiet, onward, runs, runs_append, runs_something}
+use Rattle.script_reader.proofs.Runs.{IsQuiet, onward, statements_run, runs_append, runs_something}
 
 -- the line at a place, with those before and behind it
 record IsCut (lines : List (List ℕ)) (n : ℕ) : Type 0 where
@@ -57,7 +57,7 @@ placed_at wants [] rest = record { front = []; next = wants; long = refl; told_a
 placed_at wants (x ∷ before) rest = go (kind_of x) refl wants (λ w. placed_at w before rest)
   where
     one : (w : Bool) (k : Kind) → kind_of x ≡ k → (y : Statement) (v : Bool)
-        → ((more : List (List ℕ)) → text_ahead more ≡ text_ahead rest → told k w x (text_ahead (before ++ more)) (λ u. told_from u (before ++ more)) ≡ y ∷ told_from v (before ++ more)) → IsPlaced v before rest → IsPlaced w (x ∷ before) rest
+        → ((more : List (List ℕ)) → text_ahead more ≡ text_ahead rest → statements_told k w x (text_ahead (before ++ more)) (λ u. told_from u (before ++ more)) ≡ y ∷ told_from v (before ++ more)) → IsPlaced v before rest → IsPlaced w (x ∷ before) rest
     one w k is y v says p = record {
       front = y ∷ p.front;
       next = p.next;
@@ -92,13 +92,13 @@ pub record IsRunning (g : Grammar) (with_statement : g.SoFar → Statement → g
   pub quiet : IsQuiet g.cause_of with_statement
   pub nonsense : (s : g.SoFar) → g.cause_of s Nonsense ≡ Some BadLine
   pub header : (s : g.SoFar) (names others : List (List ℕ)) → g.cause_of s (Header names) ≡ g.cause_of s (Header others)
-  pub lawful_runs : (s : g.SoFar) → g.IsLawful s → runs g.cause_of with_statement start (g.says s) ≡ Some s
+  pub lawful_runs : (s : g.SoFar) → g.IsLawful s → statements_run g.cause_of with_statement start (g.says s) ≡ Some s
   pub script_runs : (first : List ℕ) (lines : List (List ℕ)) (script : T) → IsOf (first ∷ lines) script
-      → (s : g.SoFar) × (g.end_cause s ≡ None) × (runs g.cause_of with_statement start (filter says_something (statements_of lines)) ≡ Some s)
+      → (s : g.SoFar) × (g.end_cause s ≡ None) × (statements_run g.cause_of with_statement start (filter says_something (statements_of lines)) ≡ Some s)
 
 module _ (g : Grammar) (with_statement : g.SoFar → Statement → g.SoFar) (start : g.SoFar) {T : Type 0} (IsOf : List (List ℕ) → T → Type 0) (running : IsRunning g with_statement start IsOf) where
   abbrev run : g.SoFar → List Statement → Option g.SoFar
-  run = runs g.cause_of with_statement
+  run = statements_run g.cause_of with_statement
 
   -- what lines make of the empty script that say what was read
   front_runs : (so_far : g.SoFar) (front : List Statement) → g.IsLawful so_far → filter says_something front ≡ g.says so_far → run start front ≡ Some so_far
@@ -122,7 +122,7 @@ module _ (g : Grammar) (with_statement : g.SoFar → Statement → g.SoFar) (sta
         cc
 
     -- what a line of this kind says, where that doesn't hang on what comes behind it
-    plain_none : (k : Kind) → kind_of line ≡ k → k ≢ kind.Skipped → (y : Statement) (v : Bool) (c : Cause) → ((more : List (List ℕ)) → told k w line (text_ahead more) (λ u. told_from u more) ≡ y ∷ told_from v more)
+    plain_none : (k : Kind) → kind_of line ≡ k → k ≢ kind.Skipped → (y : Statement) (v : Bool) (c : Cause) → ((more : List (List ℕ)) → statements_told k w line (text_ahead more) (λ u. told_from u more) ≡ y ∷ told_from v more)
         → g.cause_of so_far y ≡ Some c → (after : List (List ℕ)) → ((more : List (List ℕ)) → text_ahead more ≡ text_ahead (line ∷ after) → statements_of (before ++ more) ≡ fr ++ told_from w more)
         → BeginNone IsOf (first ∷ before ++ line ∷ [])
     plain_none k is isnt y v c says stops after told_are = begin_none (λ more. (
@@ -151,7 +151,7 @@ module _ (g : Grammar) (with_statement : g.SoFar → Statement → g.SoFar) (sta
         → BeginNone IsOf (first ∷ before ++ line ∷ []) ⊎ LacksHeader line after
     ends_here here back after cause are stops told_are = go (kind_of line) refl w refl
       where
-        at : (k : Kind) → kind_of line ≡ k → told k w line (text_ahead after) (λ u. told_from u after) ≡ here ∷ back
+        at : (k : Kind) → kind_of line ≡ k → statements_told k w line (text_ahead after) (λ u. told_from u after) ≡ here ∷ back
         at k is = sym (told_line w line after k is) ∙ are
 
         has : (y : Statement) (ys : List Statement) → y ∷ ys ≡ here ∷ back → g.cause_of so_far y ≡ Some cause
@@ -165,12 +165,12 @@ module _ (g : Grammar) (with_statement : g.SoFar → Statement → g.SoFar) (sta
         go : (k : Kind) → kind_of line ≡ k → (v : Bool) → w ≡ v → BeginNone IsOf (first ∷ before ++ line ∷ []) ⊎ LacksHeader line after
         go kind.Skipped is v same = let none : None ≡ Some cause = sym (running.quiet.free so_far) ∙ has Nothing (told_from w after) (at kind.Skipped is) in absurd (cc)
         go kind.Text is true same =
-            let says : (more : List (List ℕ)) → told kind.Text w line (text_ahead more) (λ u. told_from u more) ≡ names_said (names_in_line (drop 1 line)) ∷ told_from false more =
-            λ more. ap (λ (b : Bool). told kind.Text b line (text_ahead more) (λ u. told_from u more)) same in
+            let says : (more : List (List ℕ)) → statements_told kind.Text w line (text_ahead more) (λ u. told_from u more) ≡ names_said (names_in_line (drop 1 line)) ∷ told_from false more =
+            λ more. ap (λ (b : Bool). statements_told kind.Text b line (text_ahead more) (λ u. told_from u more)) same in
             inl (plain_none kind.Text is (λ e. cc) (names_said (names_in_line (drop 1 line))) false cause says (has (names_said (names_in_line (drop 1 line))) (told_from false after) (sym (says after) ∙ at kind.Text is)) after told_are)
         go kind.Text is false same =
-            let says : (more : List (List ℕ)) → told kind.Text w line (text_ahead more) (λ u. told_from u more) ≡ Text (drop 1 line) ∷ told_from false more =
-            λ more. ap (λ (b : Bool). told kind.Text b line (text_ahead more) (λ u. told_from u more)) same in
+            let says : (more : List (List ℕ)) → statements_told kind.Text w line (text_ahead more) (λ u. told_from u more) ≡ Text (drop 1 line) ∷ told_from false more =
+            λ more. ap (λ (b : Bool). statements_told kind.Text b line (text_ahead more) (λ u. told_from u more)) same in
             inl (plain_none kind.Text is (λ e. cc) (Text (drop 1 line)) false cause says (has (Text (drop 1 line)) (told_from false after) (sym (says after) ∙ at kind.Text is)) after told_are)
         go kind.Session is v same = inl (plain_none kind.Session is (λ e. cc) Session false cause (λ more. refl) (has Session (told_from false after) (at kind.Session is)) after told_are)
         go (kind.Command h) is v same = inl (plain_none (kind.Command h) is (λ e. cc) (Command h) false cause (λ more. refl) (has (Command h) (told_from false after) (at (kind.Command h) is)) after told_are)
@@ -183,8 +183,8 @@ module _ (g : Grammar) (with_statement : g.SoFar → Statement → g.SoFar) (sta
   grown so_far said is = is ∙ ap (λ l. l ++ said) running.empty
 
   -- a refusal of lines is of the first line outside
-  pub outside : (first : List ℕ) (lines : List (List ℕ)) (number : ℕ) (cause : Cause) → StopsBehind g start (first ∷ lines) 1 number cause → IsOutside g IsOf (first ∷ lines) number cause
-  outside first lines number cause s =
+  pub refusal_is_outside : (first : List ℕ) (lines : List (List ℕ)) (number : ℕ) (cause : Cause) → StopsBehind g start (first ∷ lines) 1 number cause → IsOutside g IsOf (first ∷ lines) number cause
+  refusal_is_outside first lines number cause s =
       let front : List Statement = s.stands.front in
       let back : List Statement = s.stands.back in
       let n : ℕ = length front in
@@ -218,8 +218,8 @@ module _ (g : Grammar) (with_statement : g.SoFar → Statement → g.SoFar) (sta
       }
 
   -- or of lines that end too early
-  pub early : (first : List ℕ) (lines : List (List ℕ)) (number : ℕ) (cause : Cause) → EndsBehind g start (first ∷ lines) 1 number cause → EndsEarly g IsOf (first ∷ lines) number cause
-  early first lines number cause e =
+  pub refusal_ends_early : (first : List ℕ) (lines : List (List ℕ)) (number : ℕ) (cause : Cause) → EndsBehind g start (first ∷ lines) 1 number cause → EndsEarly g IsOf (first ∷ lines) number cause
+  refusal_ends_early first lines number cause e =
       let good : filter says_something (statements_of lines) ≡ g.says e.so_far = say_all (first ∷ lines) 1 e.said e.says ∙ sym (grown e.so_far e.said e.grows) in
       record {
         first = first;

@@ -2,7 +2,7 @@
 use Rattle.std.proofs.Common.{◌≡◌, ℕ, ◌+◌, ◌<◌, ◌≤◌, Bool, true, List, [], ◌∷◌, ◌++◌, length, get_or, sym, ap, ◌∙◌, refl, subst, arith, length-append}
 use Rattle.std.specs.List.{flat_map, list_all}
 use Rattle.script_reader.specs.Places.{Say}
-use Rattle.script_reader.specs.Reading.{IsAtHeading, IsCommandRead, IsPartAt, Parts}
+use Rattle.script_reader.specs.Reading.{IsAtHeading, IsCommandRead, IsScriptPartAt, PartGrammar}
 use Rattle.script_reader.specs.Script.{adds_in, all_known, command_line_in, command_statements, last_is, names_known, takes_text}
 use Rattle.script_reader.specs.Statements.{kind_of}
 use Rattle.script_reader.specs.declared.command.Command as declared
@@ -13,7 +13,7 @@ use Rattle.script_reader.proofs.Ends.{adds_more, adds_one, flat-snoc, known_more
 use Rattle.script_reader.proofs.Places.{passed_more, passed_none, say_more, say_none, say_on}
 
 -- the parts that were read from these lines, from the place `start` up to the place `at`, behind so many add commands
-pub record PartsSoFar {X : Type 0} (parts : Parts X) (lines : List (List ℕ)) (start at : ℕ) (read : List X) (adds_before adds : ℕ) : Type 0 where
+pub record PartsSoFar {X : Type 0} (parts : PartGrammar X) (lines : List (List ℕ)) (start at : ℕ) (read : List X) (adds_before adds : ℕ) : Type 0 where
   pub says : Say lines start at (flat_map parts.says read)
   pub known : all_known adds_before (flat_map parts.commands read) ≡ true
   pub lawful : list_all parts.is_lawful read ≡ true
@@ -22,7 +22,7 @@ pub record PartsSoFar {X : Type 0} (parts : Parts X) (lines : List (List ℕ)) (
   pub short : length read + start ≤ at
   pub heading : last_is parts.takes_text read ≡ true → IsAtHeading lines at
 
-module _ {X : Type 0} (parts : Parts X) (lines : List (List ℕ)) (start : ℕ) where
+module _ {X : Type 0} (parts : PartGrammar X) (lines : List (List ℕ)) (start : ℕ) where
   pub parts_begin : (adds : ℕ) → start ≤ length lines → PartsSoFar parts lines start start [] adds adds
   parts_begin adds high = record {
     says = say_none lines start high;
@@ -46,7 +46,7 @@ module _ {X : Type 0} (parts : Parts X) (lines : List (List ℕ)) (start : ℕ) 
     heading = λ takes. absurd ((s.heading takes).said within is);
   }
 
-  pub parts_more : (at : ℕ) (read : List X) (adds_before adds : ℕ) (part : X) (next more : ℕ) → PartsSoFar parts lines start at read adds_before adds → IsPartAt parts lines at adds part next → more ≡ adds_in (parts.commands part)
+  pub parts_more : (at : ℕ) (read : List X) (adds_before adds : ℕ) (part : X) (next more : ℕ) → PartsSoFar parts lines start at read adds_before adds → IsScriptPartAt parts lines at adds part next → more ≡ adds_in (parts.commands part)
       → PartsSoFar parts lines start next (read ++ part ∷ []) adds_before (adds + more)
   parts_more at read adds_before adds part next more s is more_is = record {
     says = subst (Say lines start next) (sym (flat-snoc parts.says read part)) (say_more lines start at next (flat_map parts.says read) (parts.says part) s.says is.says);
@@ -61,7 +61,7 @@ module _ {X : Type 0} (parts : Parts X) (lines : List (List ℕ)) (start : ℕ) 
 
 -- a command as a part
 pub command_part : (is_lawful : declared.Command → Bool) (lines : List (List ℕ)) (at adds : ℕ) (c : declared.Command) (next : ℕ) → is_lawful c ≡ true → IsCommandRead lines at adds c next
-    → IsPartAt (record { says = command_statements; commands = λ command. command ∷ []; is_lawful = is_lawful; takes_text = λ command. takes_text (command_line_in command) }) lines at adds c next
+    → IsScriptPartAt (record { says = command_statements; commands = λ command. command ∷ []; is_lawful = is_lawful; takes_text = λ command. takes_text (command_line_in command) }) lines at adds c next
 command_part is_lawful lines at adds c next lawful is =
     let low : at < next = command_grows lines at adds next c is in
     record {

@@ -2,7 +2,7 @@
 use Rattle.std.proofs.Common.{◌≡◌, ◌≢◌, ℕ, ◌+◌, ◌<◌, true, false, List, [], ◌∷◌, length, drop, get_or, Option, Some, None, unwrap_or, sym, ap, ◌∙◌, refl}
 use Rattle.knitout_reader.specs.Head.{names_in_line}
 use Rattle.script_reader.specs.Command.{begin_cause}
-use Rattle.script_reader.specs.Statements.{Statement, Text, Session, Command, Header, Mark, Nonsense, header_said, kind_of, statements_of, text_ahead, told, told_from}
+use Rattle.script_reader.specs.Statements.{Statement, Text, Session, Command, Header, Mark, Nonsense, header_said, kind_of, statements_of, text_ahead, statements_told, told_from}
 use Rattle.script_reader.specs.declared.fault.Cause.{Cause}
 use Rattle.script_reader.specs.declared.fault.Cause.TheVariants.{BadLine}
 use Rattle.script_reader.specs.declared.line.CommandLine.{CommandLine}
@@ -37,7 +37,7 @@ refused_here lines at within cause adds like here back found told_is stops = go 
         let clash : None ≡ Some found = ap (begin_cause adds) same ∙ stops in
         absurd (cc)
 
-    go : (k : Kind) → kind_of this ≡ k → told k false this (text_ahead (drop (at + 1) lines)) (λ w. told_from w (drop (at + 1) lines)) ≡ here ∷ back → cause here ≡ Some found
+    go : (k : Kind) → kind_of this ≡ k → statements_told k false this (text_ahead (drop (at + 1) lines)) (λ w. told_from w (drop (at + 1) lines)) ≡ here ∷ back → cause here ≡ Some found
     go kind.Skipped is r = absurd (like.said is)
     go kind.Text is r = by (Text (drop 1 this)) (told_from false (drop (at + 1) lines)) r (like.text is (drop 1 this))
     go kind.Session is r = by Session (told_from false (drop (at + 1) lines)) r (like.session is)

@@ -4,7 +4,7 @@ use Rattle.std.proofs.lemmas.List.Elements.{All-nil, All-cons, All-head, All-tai
 use Rattle.knitout_reader.specs.Head.{names_in_line}
 use Rattle.script_reader.specs.declared.line.Kind.{Kind}
 use Rattle.script_reader.specs.declared.line.Kind.TheVariants as kind
-use Rattle.script_reader.specs.Statements.{Statement, Nothing, Text, Session, Command, Header, Mark, Nonsense, header_said, kind_of, names_said, statements_of, text_ahead, told, told_from}
+use Rattle.script_reader.specs.Statements.{Statement, Nothing, Text, Session, Command, Header, Mark, Nonsense, header_said, kind_of, names_said, statements_of, text_ahead, statements_told, told_from}
 
 -- how long the text is that a line says
 abbrev pub text_len : Statement → ℕ
@@ -33,7 +33,7 @@ module _ (limit : ℕ) where
 
   -- what a short line says is short
   told_short : (is : Kind) (wants : Bool) (line : List ℕ) (ahead : Option (List ℕ)) (rest : Bool → List Statement) → 0 < limit → IsShortLine line → ((wants : Bool) → All IsShort (rest wants))
-      → All IsShort (told is wants line ahead rest)
+      → All IsShort (statements_told is wants line ahead rest)
   told_short kind.Skipped wants line ahead rest some short rests = All-cons IsShort Nothing (rest wants) some (rests wants)
   told_short kind.Text false line ahead rest some short rests = All-cons IsShort (Text (drop 1 line)) (rest false) (omega (arith, length-drop 1 line)) (rests false)
   told_short kind.Text true line ahead rest some short rests =

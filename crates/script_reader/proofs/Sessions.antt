@@ -4,7 +4,7 @@ use Rattle.std.specs.List.{flat_map, list_all}
 use Rattle.knitout_reader.specs.Head.{names_in_line}
 use Rattle.script_reader.specs.Grammar.{Grammar}
 use Rattle.script_reader.specs.Places.{Say}
-use Rattle.script_reader.specs.Reading.{IsAtHeading, IsAtSession, IsStop, StopsBehind}
+use Rattle.script_reader.specs.Reading.{IsAtHeading, IsAtSession, IsGrammarStop, StopsBehind}
 use Rattle.script_reader.specs.Script.{session_cause}
 use Rattle.script_reader.specs.Statements.{Statement, Text, Session, Command, Header, Mark, Nonsense, header_said, kind_of, statements_of, text_ahead, told_from}
 use Rattle.script_reader.specs.declared.fault.Cause.TheVariants.{BadLine, ManySessions}
@@ -91,7 +91,7 @@ module _ {X : Type 0} (item_says : X → List Statement) (is_good : List X → B
         go kind.Other is a b c = stops Nonsense (statements_of (drop (at + 1) lines)) (told_at lines at within false kind.Other is) (knows.nonsense text)
 
     module _ (start at : ℕ) (sessions : List (List X)) (within : at < length lines) (s : SessionsSoFar item_says is_good lines start at sessions) where
-      pub no_session_stops : kind_of (get_or lines at []) ≢ kind.Session → (text : List (List ℕ)) → IsStop g (state text []) lines start (At (at + 1) BadLine)
+      pub no_session_stops : kind_of (get_or lines at []) ≢ kind.Session → (text : List (List ℕ)) → IsGrammarStop g (state text []) lines start (At (at + 1) BadLine)
       no_session_stops isnt text = ⊎_elim
           (λ is. absurd (isnt (is within)))
           (λ first. stop_behind g (state text []) (state text []) lines start at [] (At (at + 1) BadLine)
@@ -99,14 +99,14 @@ module _ {X : Type 0} (item_says : X → List Statement) (is_good : List X → B
           (inl (heading_stops text at within (kind_of (get_or lines at [])) refl isnt (first.1.said within) (first.1.no_text within))))
           s.next
 
-      pub many_stops : kind_of (get_or lines at []) ≡ kind.Session → length sessions ≡ 64 → (text : List (List ℕ)) → IsStop g (state text []) lines start (At (at + 1) ManySessions)
+      pub many_stops : kind_of (get_or lines at []) ≡ kind.Session → length sessions ≡ 64 → (text : List (List ℕ)) → IsGrammarStop g (state text []) lines start (At (at + 1) ManySessions)
       many_stops is many text = stop_behind g (state text []) (state text sessions) lines start at (flat_map (λ session. Session ∷ flat_map item_says session) sessions) (At (at + 1) ManySessions) s.says (grows text sessions)
           (inl (stop_here g (state text sessions) lines at Session (statements_of (drop (at + 1) lines)) ManySessions (knows.lawful text sessions s.few s.good) (told_at lines at within false kind.Session is)
           (knows.session text sessions ∙ ap (λ n. cond (ltb n 64) None (Some ManySessions)) many)))
 
       pub session_stops : (fault : ScriptFault) → kind_of (get_or lines at []) ≡ kind.Session → length sessions ≢ 64
-          → ((text : List (List ℕ)) (done : List (List X)) → g.IsLawful (state text (done ++ [] ∷ [])) → IsStop g (state text (done ++ [] ∷ [])) lines (at + 1) fault)
-          → (text : List (List ℕ)) → IsStop g (state text []) lines start fault
+          → ((text : List (List ℕ)) (done : List (List X)) → g.IsLawful (state text (done ++ [] ∷ [])) → IsGrammarStop g (state text (done ++ [] ∷ [])) lines (at + 1) fault)
+          → (text : List (List ℕ)) → IsGrammarStop g (state text []) lines start fault
       session_stops fault is not_many refused text =
           let few : length (sessions ++ [] ∷ []) ≤ 64 = let few = s.few in omega (arith, not_many, length-append sessions ([] ∷ [])) in
           let all : List Statement = flat_map (λ session. Session ∷ flat_map item_says session) (sessions ++ [] ∷ []) in

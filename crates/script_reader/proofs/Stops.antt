@@ -3,7 +3,7 @@ use Rattle.std.proofs.Common.{◌≡◌, inl, inr, ℕ, ◌+◌, ◌<◌, List, 
 use Rattle.script_reader.specs.Command.{GivesNoNames, IsNoCommand}
 use Rattle.script_reader.specs.Grammar.{Grammar}
 use Rattle.script_reader.specs.Places.{Say}
-use Rattle.script_reader.specs.Reading.{IsStop, StopsBehind}
+use Rattle.script_reader.specs.Reading.{IsGrammarStop, StopsBehind}
 use Rattle.script_reader.specs.Statements.{Statement, Header, Nonsense, kind_of, statements_of}
 use Rattle.script_reader.specs.declared.fault.Cause.{Cause}
 use Rattle.script_reader.specs.declared.fault.Cause.TheVariants.{BadLine}
@@ -14,7 +14,7 @@ use Rattle.script_reader.proofs.Refused.{AsCommand, refused_here}
 
 module _ (g : Grammar) where
   -- behind more lines
-  pub stop_behind : (before next : g.SoFar) (lines : List (List ℕ)) (start at : ℕ) (said : List Statement) (fault : ScriptFault) → Say lines start at said → g.says next ≡ g.says before ++ said → IsStop g next lines at fault → IsStop g before lines start fault
+  pub stop_behind : (before next : g.SoFar) (lines : List (List ℕ)) (start at : ℕ) (said : List Statement) (fault : ScriptFault) → Say lines start at said → g.says next ≡ g.says before ++ said → IsGrammarStop g next lines at fault → IsGrammarStop g before lines start fault
   stop_behind before next lines start at said (At number cause) says grows (inl s) = inl (record {
     so_far = s.so_far;
     lawful = s.lawful;
@@ -59,7 +59,7 @@ module _ (g : Grammar) where
     pub is_cause : g.cause_of next Nonsense ≡ Some BadLine
 
   -- where no command could be read
-  pub command_stops : (so_far : g.SoFar) (lines : List (List ℕ)) (at adds : ℕ) (fault : ScriptFault) → at < length lines → g.IsLawful so_far → AsCommand (g.cause_of so_far) adds (kind_of (get_or lines at [])) → ((number : ℕ) (cause : Cause) → GivesNoNames lines at number cause → TakesHeader so_far) → IsNoCommand lines at adds fault → IsStop g so_far lines at fault
+  pub command_stops : (so_far : g.SoFar) (lines : List (List ℕ)) (at adds : ℕ) (fault : ScriptFault) → at < length lines → g.IsLawful so_far → AsCommand (g.cause_of so_far) adds (kind_of (get_or lines at [])) → ((number : ℕ) (cause : Cause) → GivesNoNames lines at number cause → TakesHeader so_far) → IsNoCommand lines at adds fault → IsGrammarStop g so_far lines at fault
   command_stops so_far lines at adds (At number cause) within lawful like takes (inl b) = inl (record {
     so_far = so_far;
     lawful = lawful;

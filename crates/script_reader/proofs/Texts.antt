@@ -15,7 +15,7 @@ use Rattle.script_reader.specs.declared.line.Mark as marks
 use Rattle.knitout_reader.specs.Tokens.{tokens_of}
 use Rattle.std.specs.Option.{option_map, option_map_or}
 use Rattle.script_reader.specs.Script.{is_put_head}
-use Rattle.script_reader.specs.Words.{name_in, number_in, place_in}
+use Rattle.script_reader.specs.Words.{name_in, number_in, anchor_in_word}
 
 first_byte : (line : List ℕ) → is_text_line line ≡ true → (0 < length line) × (get_or line 0 0 ≡ 124)
 first_byte [] is = absurd (cc)
@@ -78,11 +78,11 @@ named_no_put f isnt (Some a) h is = let same : f a ≡ h = cc in subst (λ c. is
 line_no_put : (word operand : List ℕ) (h : CommandLine) → command_line_of word operand ≡ Some h → is_put_head h ≡ false
 line_no_put word operand h is = go (bytes_eq word (codes "look")) (bytes_eq operand (codes "head")) (bytes_eq word (codes "put")) (bytes_eq word (codes "add")) (bytes_eq word (codes "cut")) (bytes_eq word (codes "loop")) is
   where
-    go : (a b c d e f : Bool) → cond a (cond b (Some LookHead) (option_map Look (name_in operand))) (cond c (option_map Put (name_in operand)) (cond d (option_map Add (place_in operand)) (cond e (option_map Cut (name_in operand)) (cond f (option_map LoopAt (number_in operand)) None)))) ≡ Some h → is_put_head h ≡ false
+    go : (a b c d e f : Bool) → cond a (cond b (Some LookHead) (option_map Look (name_in operand))) (cond c (option_map Put (name_in operand)) (cond d (option_map Add (anchor_in_word operand)) (cond e (option_map Cut (name_in operand)) (cond f (option_map LoopAt (number_in operand)) None)))) ≡ Some h → is_put_head h ≡ false
     go true true c d e f is = let same : LookHead ≡ h = cc in subst (λ x. is_put_head x ≡ false) same refl
     go true false c d e f is = named_no_put Look (λ a. refl) (name_in operand) h is
     go false b true d e f is = named_no_put Put (λ a. refl) (name_in operand) h is
-    go false b false true e f is = named_no_put Add (λ a. refl) (place_in operand) h is
+    go false b false true e f is = named_no_put Add (λ a. refl) (anchor_in_word operand) h is
     go false b false false true f is = named_no_put Cut (λ a. refl) (name_in operand) h is
     go false b false false false true is = named_no_put LoopAt (λ a. refl) (number_in operand) h is
     go false b false false false false is = absurd (cc)

@@ -40,8 +40,8 @@ commands_of_step (step.One command) = command ∷ []
 commands_of_step (step.Group commands) = commands
 commands_of_step step.Undo = []
 
-abbrev pub commands_of : List Step → List declared.Command
-commands_of steps = flat_map commands_of_step steps
+abbrev pub commands_of_steps : List Step → List declared.Command
+commands_of_steps steps = flat_map commands_of_step steps
 
 -- the command edits a block
 abbrev pub is_edit_line : CommandLine → Bool
@@ -65,7 +65,7 @@ is_lawful_step step.Undo = true
 
 -- each command of the session names blocks of add commands before it
 abbrev pub are_known : List Step → Bool
-are_known steps = all_known 0 (commands_of steps)
+are_known steps = all_known 0 (commands_of_steps steps)
 
 -- the lines spell this script
 pub record SpellsGroups (first : List ℕ) (lines : List (List ℕ)) (script : GroupScript) : Type 0 where
@@ -95,7 +95,7 @@ open_statements so_far = group_statements so_far.script ++ open_group_statements
 
 -- how many add commands the last session has, those of an open group not counted
 abbrev pub last_adds : List (List Step) → ℕ
-last_adds sessions = adds_in (commands_of (last_session sessions))
+last_adds sessions = adds_in (commands_of_steps (last_session sessions))
 
 -- an open group is in a session, and its commands, which are at most 64, are edits that name known blocks
 pub record IsLawfulGroup (sessions : List (List Step)) (commands : List declared.Command) : Type 0 where
@@ -122,9 +122,9 @@ step_takes_text (step.Group commands) = false
 step_takes_text step.Undo = false
 
 -- why a text can't stand behind these sessions, where no group is open: the last step takes none
-abbrev pub text_cause : List (List Step) → Option Cause
-text_cause [] = None
-text_cause (session ∷ sessions) = if last_is step_takes_text (last_session (session ∷ sessions)) then None else Some BadLine
+abbrev pub group_text_cause : List (List Step) → Option Cause
+group_text_cause [] = None
+group_text_cause (session ∷ sessions) = if last_is step_takes_text (last_session (session ∷ sessions)) then None else Some BadLine
 
 -- why a group, or `undo`, can't stand there: there is no session
 abbrev pub step_cause : List (List Step) → Option Cause
@@ -132,9 +132,9 @@ step_cause [] = Some BadLine
 step_cause (session ∷ sessions) = None
 
 -- why a command can't stand there: there is no session, or the name is that of an add command to come
-abbrev pub command_cause : List (List Step) → CommandLine → Option Cause
-command_cause [] command_line = Some BadLine
-command_cause (session ∷ sessions) command_line = if names_known (last_adds (session ∷ sessions)) command_line then None else Some NoOwn
+abbrev pub group_command_cause : List (List Step) → CommandLine → Option Cause
+group_command_cause [] command_line = Some BadLine
+group_command_cause (session ∷ sessions) command_line = if names_known (last_adds (session ∷ sessions)) command_line then None else Some NoOwn
 
 -- why a mark can't stand there: `end` closes nothing
 abbrev pub mark_cause : List (List Step) → marks.Mark → Option Cause
@@ -145,9 +145,9 @@ mark_cause sessions mark.Undo = step_cause sessions
 -- why a line that says this can't stand behind the sessions, where no group is open
 abbrev pub closed_cause : List (List Step) → Statement → Option Cause
 closed_cause sessions Nothing = None
-closed_cause sessions (Text text) = text_cause sessions
+closed_cause sessions (Text text) = group_text_cause sessions
 closed_cause sessions Session = session_cause sessions
-closed_cause sessions (Command command_line) = if is_put_head command_line then Some BadLine else command_cause sessions command_line
+closed_cause sessions (Command command_line) = if is_put_head command_line then Some BadLine else group_command_cause sessions command_line
 closed_cause sessions (Header names) = step_cause sessions
 closed_cause sessions (Mark mark) = mark_cause sessions mark
 closed_cause sessions Nonsense = Some BadLine
@@ -179,8 +179,8 @@ abbrev pub cause_behind : List (List Step) → Option (List declared.Command) �
 cause_behind sessions None said = closed_cause sessions said
 cause_behind sessions (Some commands) said = group_cause (last_adds sessions) commands said
 
-abbrev pub cause_of : OpenScript → Statement → Option Cause
-cause_of so_far said = cause_behind so_far.script.sessions so_far.group said
+abbrev pub group_statement_cause : OpenScript → Statement → Option Cause
+group_statement_cause so_far said = cause_behind so_far.script.sessions so_far.group said
 
 -- why the lines can't end there: a group is open
 abbrev pub open_cause : Option (List declared.Command) → Option Cause
@@ -188,7 +188,7 @@ open_cause None = None
 open_cause (Some commands) = Some BadLine
 
 abbrev pub group_grammar : Grammar
-group_grammar = record { SoFar = OpenScript; says = open_statements; IsLawful = IsLawfulOpen; cause_of = cause_of; end_cause = λ so_far. open_cause so_far.group }
+group_grammar = record { SoFar = OpenScript; says = open_statements; IsLawful = IsLawfulOpen; cause_of = group_statement_cause; end_cause = λ so_far. open_cause so_far.group }
 
 -- the line with this number is the first that can't stand behind those before it
 abbrev pub IsOutsideGroups : List (List ℕ) → ℕ → Cause → Type 0

@@ -33,20 +33,20 @@ pub record IsLost (session adds : ℕ) (asked : Order) : Type 0 where
   pub counted : adds ≡ adds_in (commands_of_step lost)
 
 -- the order that is given stands for this one
-abbrev pub StandsFor : declared.Order → Order → Type 0
-StandsFor (order.Refuse line cause) asked = asked ≡ Refuse line cause
-StandsFor (order.Ask session s) asked = asked ≡ Ask session s
-StandsFor (order.TooLong session e lines) asked = IsTooLong session e lines asked
-StandsFor (order.Lost session adds) asked = IsLost session adds asked
-StandsFor (order.Tell session question) asked = asked ≡ Tell session question
+abbrev pub OrderStandsFor : declared.Order → Order → Type 0
+OrderStandsFor (order.Refuse line cause) asked = asked ≡ Refuse line cause
+OrderStandsFor (order.Ask session s) asked = asked ≡ Ask session s
+OrderStandsFor (order.TooLong session e lines) asked = IsTooLong session e lines asked
+OrderStandsFor (order.Lost session adds) asked = IsLost session adds asked
+OrderStandsFor (order.Tell session question) asked = asked ≡ Tell session question
 
 -- an order is given for the only one, or none where there is none
-abbrev pub IsTold : Option declared.Order → List Order → Type 0
-IsTold None [] = Unit {0}
-IsTold None (asked ∷ more) = ⊥
-IsTold (Some given) [] = ⊥
-IsTold (Some given) (asked ∷ []) = StandsFor given asked
-IsTold (Some given) (asked ∷ next ∷ more) = ⊥
+abbrev pub IsOnlyOrder : Option declared.Order → List Order → Type 0
+IsOnlyOrder None [] = Unit {0}
+IsOnlyOrder None (asked ∷ more) = ⊥
+IsOnlyOrder (Some given) [] = ⊥
+IsOnlyOrder (Some given) (asked ∷ []) = OrderStandsFor given asked
+IsOnlyOrder (Some given) (asked ∷ next ∷ more) = ⊥
 
 -- the refusal of a text that the line with this number broke off, if it did
 abbrev pub breaking : ℕ → Bool → List Order
@@ -54,11 +54,11 @@ breaking number false = []
 breaking number true = Refuse number BadLine ∷ []
 
 -- what is given for the orders of a line: that it broke a text off, and an order
-abbrev pub AreTold : ℕ → Bool → Option declared.Order → List Order → Type 0
-AreTold number false given asked = IsTold given asked
-AreTold number true given [] = ⊥
-AreTold number true given (asked ∷ more) = (asked ≡ Refuse number BadLine) × IsTold given more
+abbrev pub AreOrdersOfLine : ℕ → Bool → Option declared.Order → List Order → Type 0
+AreOrdersOfLine number false given asked = IsOnlyOrder given asked
+AreOrdersOfLine number true given [] = ⊥
+AreOrdersOfLine number true given (asked ∷ more) = (asked ≡ Refuse number BadLine) × IsOnlyOrder given more
 
 -- what a listener answers to the line with this number stands for these orders
 abbrev pub AreOrders : ℕ → given.Heard → List Order → Type 0
-AreOrders number heard asked = AreTold number heard.broken_off heard.order asked
+AreOrders number heard asked = AreOrdersOfLine number heard.broken_off heard.order asked

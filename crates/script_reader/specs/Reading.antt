@@ -5,7 +5,7 @@ use Rattle.knit_base.specs.Lines.{IsLine}
 use Rattle.script_reader.specs.Grammar.{Grammar}
 use Rattle.script_reader.specs.Groups.{OpenScript, are_known, commands_of_step, is_edit, is_edit_line, is_lawful_step, step_statements, step_takes_text}
 use Rattle.script_reader.specs.Places.{IsAtSaid, Say, StandsBehind}
-use Rattle.script_reader.specs.Script.{adds_in, all_known, command_line_in, command_statements, names_known, takes_text, text_in}
+use Rattle.script_reader.specs.Script.{adds_in, all_known, command_line_in, command_statements, names_known, takes_text, text_of_command}
 use Rattle.script_reader.specs.Statements.{Statement, Text, is_text_line, kind_of, says_something, text_ahead, told_from}
 use Rattle.script_reader.specs.declared.command.Command as declared
 use Rattle.script_reader.specs.declared.command.Script.{Script}
@@ -50,7 +50,7 @@ pub record IsPassed (lines : List (List ℕ)) (start next : ℕ) : Type 0 where
 -- a command with this line, whose text stands between the two places
 pub record IsCommandBehind (lines : List (List ℕ)) (start : ℕ) (command_line : CommandLine) (command : declared.Command) (next : ℕ) : Type 0 where
   pub line_is : command_line_in command ≡ command_line
-  pub says : Say lines start next (map Text (text_in command))
+  pub says : Say lines start next (map Text (text_of_command command))
   pub heading : takes_text command_line ≡ true → IsAtHeading lines next
 
 -- The line at the place `at` is that of this command, behind so many add commands of the session, and its text ends at the place `next`.
@@ -61,24 +61,24 @@ pub record IsCommandRead (lines : List (List ℕ)) (at adds : ℕ) (command : de
   pub heading : takes_text (command_line_in command) ≡ true → IsAtHeading lines next
 
 -- what a session or a group is made of: what a part says, its commands, whether it is lawful, and whether text lines may stand behind it
-pub record Parts (X : Type 0) : Type 0 where
+pub record PartGrammar (X : Type 0) : Type 0 where
   pub says : X → List Statement
   pub commands : X → List declared.Command
   pub is_lawful : X → Bool
   pub takes_text : X → Bool
 
 -- the commands of a session, the edits of a group, and the steps of a session
-abbrev pub commands_parts : Parts declared.Command
+abbrev pub commands_parts : PartGrammar declared.Command
 commands_parts = record { says = command_statements; commands = λ command. command ∷ []; is_lawful = λ command. true; takes_text = λ command. takes_text (command_line_in command) }
 
-abbrev pub edits_parts : Parts declared.Command
+abbrev pub edits_parts : PartGrammar declared.Command
 edits_parts = record { says = command_statements; commands = λ command. command ∷ []; is_lawful = is_edit; takes_text = λ command. takes_text (command_line_in command) }
 
-abbrev pub steps_parts : Parts Step
+abbrev pub steps_parts : PartGrammar Step
 steps_parts = record { says = step_statements; commands = commands_of_step; is_lawful = is_lawful_step; takes_text = step_takes_text }
 
 -- the part whose first line stands at the place `at`, behind so many add commands of the session, and the place behind it
-pub record IsPartAt {X : Type 0} (parts : Parts X) (lines : List (List ℕ)) (at adds : ℕ) (part : X) (next : ℕ) : Type 0 where
+pub record IsScriptPartAt {X : Type 0} (parts : PartGrammar X) (lines : List (List ℕ)) (at adds : ℕ) (part : X) (next : ℕ) : Type 0 where
   pub low : at < next
   pub says : Say lines at next (parts.says part)
   pub known : all_known adds (parts.commands part) ≡ true
@@ -87,7 +87,7 @@ pub record IsPartAt {X : Type 0} (parts : Parts X) (lines : List (List ℕ)) (at
   pub heading : parts.takes_text part ≡ true → IsAtHeading lines next
 
 abbrev pub IsStepAt : List (List ℕ) → ℕ → ℕ → Step → ℕ → Type 0
-IsStepAt lines at adds step next = IsPartAt steps_parts lines at adds step next
+IsStepAt lines at adds step next = IsScriptPartAt steps_parts lines at adds step next
 
 -- a session of steps
 abbrev pub is_good_session : List Step → Bool
@@ -138,6 +138,6 @@ pub record EndsBehind (grammar : Grammar) (before : grammar.SoFar) (lines : List
   pub is_cause : grammar.end_cause so_far ≡ Some cause
 
 -- the refusal of the lines from the place `start` on, behind what was read before; want of memory may come with any
-abbrev pub IsStop : (grammar : Grammar) → grammar.SoFar → List (List ℕ) → ℕ → ScriptFault → Type 0
-IsStop grammar before lines start (At number cause) = StopsBehind grammar before lines start number cause ⊎ EndsBehind grammar before lines start number cause
-IsStop grammar before lines start NoMemory = Unit {0}
+abbrev pub IsGrammarStop : (grammar : Grammar) → grammar.SoFar → List (List ℕ) → ℕ → ScriptFault → Type 0
+IsGrammarStop grammar before lines start (At number cause) = StopsBehind grammar before lines start number cause ⊎ EndsBehind grammar before lines start number cause
+IsGrammarStop grammar before lines start NoMemory = Unit {0}

@@ -34,15 +34,15 @@ command_line_in command.LookHead = command_lines.LookHead
 command_line_in (command.PutHead names) = command_lines.PutHead
 
 -- and its text
-abbrev pub text_in : declared.Command → List (List ℕ)
-text_in (command.Look name) = []
-text_in (command.Put name text) = text
-text_in (command.Add place text) = text
-text_in (command.Cut name) = []
-text_in (command.LoopAt line) = []
-text_in command.Verdict = []
-text_in command.LookHead = []
-text_in (command.PutHead names) = []
+abbrev pub text_of_command : declared.Command → List (List ℕ)
+text_of_command (command.Look name) = []
+text_of_command (command.Put name text) = text
+text_of_command (command.Add place text) = text
+text_of_command (command.Cut name) = []
+text_of_command (command.LoopAt line) = []
+text_of_command command.Verdict = []
+text_of_command command.LookHead = []
+text_of_command (command.PutHead names) = []
 
 -- what a command says without its text
 abbrev pub command_statement : declared.Command → Statement
@@ -57,7 +57,7 @@ command_statement (command.PutHead names) = Header names
 
 -- a command is that, and the lines of its text
 abbrev pub command_statements : declared.Command → List Statement
-command_statements command = command_statement command ∷ map Text (text_in command)
+command_statements command = command_statement command ∷ map Text (text_of_command command)
 
 -- a session is the line `session`, and its commands
 abbrev pub session_statements : List declared.Command → List Statement
@@ -68,20 +68,20 @@ abbrev pub statements : Script → List Statement
 statements script = map Text script.text ++ flat_map session_statements script.sessions
 
 -- the name is an id, or that of an add command among so many
-abbrev pub is_known : ℕ → BlockName → Bool
-is_known adds (Id id) = true
-is_known adds (Own n) = nat_le 1 n && nat_le n adds
+abbrev pub is_known_name : ℕ → BlockName → Bool
+is_known_name adds (Id id) = true
+is_known_name adds (Own n) = nat_le 1 n && nat_le n adds
 
 abbrev pub is_known_place : ℕ → Place → Bool
 is_known_place adds Start = true
-is_known_place adds (After name) = is_known adds name
+is_known_place adds (After name) = is_known_name adds name
 
 -- the command names a block that can have been made, behind so many add commands of its session
 abbrev pub names_known : ℕ → CommandLine → Bool
-names_known adds (command_lines.Look name) = is_known adds name
-names_known adds (command_lines.Put name) = is_known adds name
+names_known adds (command_lines.Look name) = is_known_name adds name
+names_known adds (command_lines.Put name) = is_known_name adds name
 names_known adds (command_lines.Add place) = is_known_place adds place
-names_known adds (command_lines.Cut name) = is_known adds name
+names_known adds (command_lines.Cut name) = is_known_name adds name
 names_known adds (command_lines.LoopAt line) = true
 names_known adds command_lines.Verdict = true
 names_known adds command_lines.LookHead = true
@@ -108,7 +108,7 @@ all_known adds [] = true
 all_known adds (command ∷ commands) = names_known adds (command_line_in command) && all_known (adds + adds_of (command_line_in command)) commands
 
 -- the lines spell this script
-pub record Spells (first : List ℕ) (lines : List (List ℕ)) (script : Script) : Type 0 where
+pub record LinesSpell (first : List ℕ) (lines : List (List ℕ)) (script : Script) : Type 0 where
   pub live : is_live first ≡ true
   pub said : filter says_something (statements_of lines) ≡ statements script
   pub few : length script.sessions ≤ 64
@@ -117,7 +117,7 @@ pub record Spells (first : List ℕ) (lines : List (List ℕ)) (script : Script)
 -- these are the lines of this script
 abbrev pub IsScript : List (List ℕ) → Script → Type 0
 IsScript [] script = ⊥
-IsScript (first ∷ lines) script = Spells first lines script
+IsScript (first ∷ lines) script = LinesSpell first lines script
 
 -- the line is `put head`, whose text says what it is
 abbrev pub is_put_head : CommandLine → Bool
@@ -172,23 +172,23 @@ command_cause [] command_line = Some BadLine
 command_cause (session ∷ sessions) command_line = if names_known (adds_in (last_session (session ∷ sessions))) command_line then None else Some NoOwn
 
 -- why a line that says this can't stand behind the lines of the script
-abbrev pub cause_of : Script → Statement → Option Cause
-cause_of script Nothing = None
-cause_of script (Text text) = text_cause script.sessions
-cause_of script Session = session_cause script.sessions
-cause_of script (Command command_line) = if is_put_head command_line then Some BadLine else command_cause script.sessions command_line
-cause_of script (Header names) = command_cause script.sessions command_lines.PutHead
-cause_of script (Mark mark) = Some BadLine
-cause_of script Nonsense = Some BadLine
+abbrev pub script_statement_cause : Script → Statement → Option Cause
+script_statement_cause script Nothing = None
+script_statement_cause script (Text text) = text_cause script.sessions
+script_statement_cause script Session = session_cause script.sessions
+script_statement_cause script (Command command_line) = if is_put_head command_line then Some BadLine else command_cause script.sessions command_line
+script_statement_cause script (Header names) = command_cause script.sessions command_lines.PutHead
+script_statement_cause script (Mark mark) = Some BadLine
+script_statement_cause script Nonsense = Some BadLine
 
 -- at most 64 sessions, whose commands name known blocks
-pub record IsLawful (script : Script) : Type 0 where
+pub record IsLawfulScript (script : Script) : Type 0 where
   pub few : length script.sessions ≤ 64
   pub known : list_all (all_known 0) script.sessions ≡ true
 
 -- a script may end behind each of its lines
 abbrev pub live_grammar : Grammar
-live_grammar = record { SoFar = Script; says = statements; IsLawful = IsLawful; cause_of = cause_of; end_cause = λ script. None }
+live_grammar = record { SoFar = Script; says = statements; IsLawful = IsLawfulScript; cause_of = script_statement_cause; end_cause = λ script. None }
 
 -- no script begins with these lines
 abbrev pub BeginNoScript : List (List ℕ) → Type 0
@@ -203,6 +203,6 @@ abbrev pub HasNoLive : List (List ℕ) → ℕ → Cause → Type 0
 HasNoLive lines number cause = HasOtherForm IsScript NoLive lines number cause
 
 -- the refusal names the first line outside the grammar, and its cause; want of memory says nothing of the lines
-abbrev pub IsRefusal : List (List ℕ) → ScriptFault → Type 0
-IsRefusal lines (At number cause) = HasNoLive lines number cause ⊎ IsFirstOutside lines number cause
-IsRefusal lines NoMemory = Unit {0}
+abbrev pub IsScriptRefusal : List (List ℕ) → ScriptFault → Type 0
+IsScriptRefusal lines (At number cause) = HasNoLive lines number cause ⊎ IsFirstOutside lines number cause
+IsScriptRefusal lines NoMemory = Unit {0}

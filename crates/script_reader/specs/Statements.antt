@@ -5,7 +5,7 @@ use Rattle.std.specs.Option.{option_map, option_map_or}
 use Rattle.std.specs.Str.{bytes_eq}
 use Rattle.knitout_reader.specs.Tokens.{is_blank, tokens_of}
 use Rattle.knitout_reader.specs.Head.{names_in_line}
-use Rattle.script_reader.specs.Words.{name_in, number_in, place_in}
+use Rattle.script_reader.specs.Words.{name_in, number_in, anchor_in_word}
 use Rattle.script_reader.specs.declared.line.CommandLine.{CommandLine}
 use Rattle.script_reader.specs.declared.line.CommandLine.TheVariants.{Look, Put, Add, Cut, LoopAt, Verdict, LookHead}
 use Rattle.script_reader.specs.declared.line.Kind.{Kind}
@@ -41,7 +41,7 @@ abbrev pub command_line_of : List ℕ → List ℕ → Option CommandLine
 command_line_of word operand =
     if bytes_eq word (codes "look") then (if bytes_eq operand (codes "head") then Some LookHead else option_map Look (name_in operand))
     else (if bytes_eq word (codes "put") then option_map Put (name_in operand)
-    else (if bytes_eq word (codes "add") then option_map Add (place_in operand)
+    else (if bytes_eq word (codes "add") then option_map Add (anchor_in_word operand)
     else (if bytes_eq word (codes "cut") then option_map Cut (name_in operand)
     else (if bytes_eq word (codes "loop") then option_map LoopAt (number_in operand)
     else None))))
@@ -118,19 +118,19 @@ names_said None = Nonsense
 names_said (Some names) = Nothing
 
 -- what these lines say, one by one; where `put head` wants its text, the first text line is what it reads
-abbrev pub told : Kind → Bool → List ℕ → Option (List ℕ) → (Bool → List Statement) → List Statement
-told kind.Skipped wants line ahead rest = Nothing ∷ rest wants
-told kind.Text false line ahead rest = Text (drop 1 line) ∷ rest false
-told kind.Text true line ahead rest = names_said (names_in_line (drop 1 line)) ∷ rest false
-told kind.Session wants line ahead rest = Session ∷ rest false
-told (kind.Command command_line) wants line ahead rest = Command command_line ∷ rest false
-told kind.Header wants line ahead rest = header_said ahead ∷ rest true
-told (kind.Mark mark) wants line ahead rest = Mark mark ∷ rest false
-told kind.Other wants line ahead rest = Nonsense ∷ rest false
+abbrev pub statements_told : Kind → Bool → List ℕ → Option (List ℕ) → (Bool → List Statement) → List Statement
+statements_told kind.Skipped wants line ahead rest = Nothing ∷ rest wants
+statements_told kind.Text false line ahead rest = Text (drop 1 line) ∷ rest false
+statements_told kind.Text true line ahead rest = names_said (names_in_line (drop 1 line)) ∷ rest false
+statements_told kind.Session wants line ahead rest = Session ∷ rest false
+statements_told (kind.Command command_line) wants line ahead rest = Command command_line ∷ rest false
+statements_told kind.Header wants line ahead rest = header_said ahead ∷ rest true
+statements_told (kind.Mark mark) wants line ahead rest = Mark mark ∷ rest false
+statements_told kind.Other wants line ahead rest = Nonsense ∷ rest false
 
 abbrev pub told_from : Bool → List (List ℕ) → List Statement
 told_from wants [] = []
-told_from wants (line ∷ lines) = told (kind_of line) wants line (text_ahead lines) (λ wants. told_from wants lines)
+told_from wants (line ∷ lines) = statements_told (kind_of line) wants line (text_ahead lines) (λ wants. told_from wants lines)
 
 -- what lines say
 abbrev pub statements_of : List (List ℕ) → List Statement

@@ -45,14 +45,14 @@ asked_by_one word =
     else option_map asked.Mark (mark_of word)))
 
 -- a command that takes no text
-abbrev pub plain : CommandLine → Option Asked
-plain c = if takes_text c then None else Some (asked.Plain c)
+abbrev pub asked_without_text : CommandLine → Option Asked
+asked_without_text c = if takes_text c then None else Some (asked.Plain c)
 
 -- two words: a command without a text, as in a script, or `since V`
 abbrev pub asked_by_two : List ℕ → List ℕ → Option Asked
 asked_by_two word operand =
     if bytes_eq word (codes "since") then option_map (λ version. asked.Tell (question.Since version)) (number_in operand)
-    else option_and_then plain (command_line_of word operand)
+    else option_and_then asked_without_text (command_line_of word operand)
 
 -- three: `tally FROM TO`
 abbrev pub asked_by_three : List ℕ → List ℕ → List ℕ → Option Asked
@@ -81,25 +81,25 @@ asked_by_four word operand key value =
     else None)
 
 -- what these words ask, if they ask anything
-abbrev pub asked_by : List (List ℕ) → Option Asked
-asked_by [] = None
-asked_by (word ∷ []) = asked_by_one word
-asked_by (word ∷ operand ∷ []) = asked_by_two word operand
-asked_by (word ∷ from ∷ to ∷ []) = asked_by_three word from to
-asked_by (word ∷ operand ∷ key ∷ value ∷ []) = asked_by_four word operand key value
-asked_by (word ∷ operand ∷ key ∷ value ∷ more ∷ words) = None
+abbrev pub asked_by_words : List (List ℕ) → Option Asked
+asked_by_words [] = None
+asked_by_words (word ∷ []) = asked_by_one word
+asked_by_words (word ∷ operand ∷ []) = asked_by_two word operand
+asked_by_words (word ∷ from ∷ to ∷ []) = asked_by_three word from to
+asked_by_words (word ∷ operand ∷ key ∷ value ∷ []) = asked_by_four word operand key value
+asked_by_words (word ∷ operand ∷ key ∷ value ∷ more ∷ words) = None
 
-abbrev pub asked_of : ℕ → Option Asked → TalkLine
-asked_of session None = talk.Bad BadLine
-asked_of session (Some a) = if nat_lt session 64 then talk.Command session a else talk.Bad ManySessions
+abbrev pub talk_line_asking : ℕ → Option Asked → TalkLine
+talk_line_asking session None = talk.Bad BadLine
+talk_line_asking session (Some a) = if nat_lt session 64 then talk.Command session a else talk.Bad ManySessions
 
 -- a command, in front of which `session` and a number may stand; else it is one of session 0
 abbrev pub command_in : List (List ℕ) → TalkLine
 command_in [] = talk.Bad BadLine
-command_in (word ∷ []) = asked_of 0 (asked_by (word ∷ []))
+command_in (word ∷ []) = talk_line_asking 0 (asked_by_words (word ∷ []))
 command_in (word ∷ number ∷ words) =
-    if bytes_eq word (codes "session") then option_map_or (λ session. asked_of session (asked_by words)) (number_in number) (talk.Bad BadLine)
-    else asked_of 0 (asked_by (word ∷ number ∷ words))
+    if bytes_eq word (codes "session") then option_map_or (λ session. talk_line_asking session (asked_by_words words)) (number_in number) (talk.Bad BadLine)
+    else talk_line_asking 0 (asked_by_words (word ∷ number ∷ words))
 
 abbrev pub talk_line_of : List ℕ → TalkLine
 talk_line_of line = if is_text_line line then talk.Text else (if is_skipped line then talk.Skipped else command_in (tokens_of line))

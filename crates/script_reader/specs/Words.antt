@@ -6,7 +6,7 @@ use Rattle.std.specs.Str.{bytes_eq}
 use Rattle.edit_journal.specs.declared.edit.BlockName.{BlockName}
 use Rattle.edit_journal.specs.declared.edit.BlockName.TheVariants.{Id, Own}
 use Rattle.edit_journal.specs.Entries.{head_id}
-use Rattle.knitout_reader.specs.Numbers.{number_of}
+use Rattle.knitout_reader.specs.Numbers.{value_of_digits}
 use Rattle.script_reader.specs.declared.command.Place.{Place}
 use Rattle.script_reader.specs.declared.command.Place.TheVariants.{Start, After}
 
@@ -15,12 +15,12 @@ abbrev pub is_digit : ℕ → Bool
 is_digit byte = nat_le 48 byte && nat_le byte 57
 
 -- 1 to 10 digits, of a value that fits 32 bits
-abbrev pub is_number : List ℕ → Bool
-is_number word = nat_lt 0 (length word) && nat_le (length word) 10 && list_all is_digit word && nat_lt (number_of word) 4294967296
+abbrev pub is_id_number : List ℕ → Bool
+is_id_number word = nat_lt 0 (length word) && nat_le (length word) 10 && list_all is_digit word && nat_lt (value_of_digits word) 4294967296
 
 -- the number that a word spells
 abbrev pub number_in : List ℕ → Option ℕ
-number_in word = if is_number word then Some (number_of word) else None
+number_in word = if is_id_number word then Some (value_of_digits word) else None
 
 -- the id that a word spells: a number that isn't the header's
 abbrev pub id_in : List ℕ → Option ℕ
@@ -32,5 +32,5 @@ name_in [] = None
 name_in (byte ∷ bytes) = if byte == 64 then option_map Own (number_in bytes) else option_map Id (id_in (byte ∷ bytes))
 
 -- the place that a word names: `start`, or behind a block
-abbrev pub place_in : List ℕ → Option Place
-place_in word = if bytes_eq word (codes "start") then Some Start else option_map After (name_in word)
+abbrev pub anchor_in_word : List ℕ → Option Place
+anchor_in_word word = if bytes_eq word (codes "start") then Some Start else option_map After (name_in word)

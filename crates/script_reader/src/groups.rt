@@ -1,9 +1,9 @@
 //! A script of groups, read from its first line to its last.
 ghost use Rattle.std.specs.Prelude.{◌≡◌, ◌≢◌, ◌^◌, get_or, ◌+◌, ◌<◌, ◌≤◌, true, List, ℕ, [], ◌∷◌, ◌++◌, ◌&&◌, None, length, nat_lt, IfOk, IfErr};
 ghost use Rattle.std.specs.List.{flat_map, list_all};
-ghost use Rattle.script_reader.specs.Groups.{IsGroupRefusal, IsGroupScript, IsLawfulOpen, commands_of, commands_of_step, group_grammar, step_statements, step_takes_text, steps_statements};
+ghost use Rattle.script_reader.specs.Groups.{IsGroupRefusal, IsGroupScript, IsLawfulOpen, commands_of_steps, commands_of_step, group_grammar, step_statements, step_takes_text, steps_statements};
 ghost use Rattle.script_reader.specs.Places.{Say};
-ghost use Rattle.script_reader.specs.Reading.{IsAtHeading, IsAtSession, IsStepAt, IsStop, is_edit_kind, is_end_kind, is_good_session, open_of};
+ghost use Rattle.script_reader.specs.Reading.{IsAtHeading, IsAtSession, IsStepAt, IsGrammarStop, is_edit_kind, is_end_kind, is_good_session, open_of};
 ghost use Rattle.script_reader.specs.Script.{adds_in, last_is};
 ghost use Rattle.script_reader.specs.Statements.{kind_of};
 ghost use Rattle.script_reader.specs.declared.line.Kind.TheVariants as kinds;
@@ -60,7 +60,7 @@ fn read_sessions(alloc: Global, lines: &Lines, start: u32) -> Result<StepScripts
     ensures says { IfOk result (λ sessions. Say lines.now start (length lines.now) (flat_map steps_statements sessions)) }
     ensures few { IfOk result (λ sessions. length sessions ≤ 64) }
     ensures good { IfOk result (λ sessions. list_all is_good_session sessions ≡ true) }
-    ensures fault { IfErr result (λ fault. (text : List (List ℕ)) → IsStop group_grammar (open_of text [] None) lines.now start fault) }
+    ensures fault { IfErr result (λ fault. (text : List (List ℕ)) → IsGrammarStop group_grammar (open_of text [] None) lines.now start fault) }
 {
     let mut sessions = ListOf::new(alloc);
     let mut at = start;
@@ -87,7 +87,7 @@ fn read_steps(alloc: Global, lines: &Lines, start: u32) -> Result<(StepList, u32
     ensures says { IfOk result (λ read. Say lines.now start read.1 (flat_map step_statements read.0)) }
     ensures good { IfOk result (λ read. is_good_session read.0 ≡ true) }
     ensures session { IfOk result (λ read. IsAtSession lines.now read.1) }
-    ensures fault { IfErr result (λ fault. (text : List (List ℕ)) (done : List (List Step)) → IsLawfulOpen (open_of text (done ++ [] ∷ []) None) → IsStop group_grammar (open_of text (done ++ [] ∷ []) None) lines.now start fault) }
+    ensures fault { IfErr result (λ fault. (text : List (List ℕ)) (done : List (List Step)) → IsLawfulOpen (open_of text (done ++ [] ∷ []) None) → IsGrammarStop group_grammar (open_of text (done ++ [] ∷ []) None) lines.now start fault) }
 {
     let mut steps = ListOf::new(alloc);
     let mut adds = 0;
@@ -121,7 +121,7 @@ fn read_step(
     requires session { kind ≢ kinds.Session }
     requires few { adds ≤ at }
     ensures step { IfOk result (λ read. IsStepAt lines.now at adds read.0 read.1) }
-    ensures fault { IfErr result (λ fault. (text : List (List ℕ)) (done : List (List Step)) (steps : List Step) → IsLawfulOpen (open_of text (done ++ steps ∷ []) None) → adds ≡ adds_in (commands_of steps) → (last_is step_takes_text steps ≡ true → kind ≢ kinds.Text) → IsStop group_grammar (open_of text (done ++ steps ∷ []) None) lines.now at fault) }
+    ensures fault { IfErr result (λ fault. (text : List (List ℕ)) (done : List (List Step)) (steps : List Step) → IsLawfulOpen (open_of text (done ++ steps ∷ []) None) → adds ≡ adds_in (commands_of_steps steps) → (last_is step_takes_text steps ≡ true → kind ≢ kinds.Text) → IsGrammarStop group_grammar (open_of text (done ++ steps ∷ []) None) lines.now at fault) }
 {
     match kind {
         Kind::Mark(mark) => read_marked(alloc, mark, lines, at, adds),
@@ -144,7 +144,7 @@ fn read_marked(
     requires kind { kind_of (get_or lines.now at []) ≡ kinds.Mark mark }
     requires few { adds ≤ at }
     ensures step { IfOk result (λ read. IsStepAt lines.now at adds read.0 read.1) }
-    ensures fault { IfErr result (λ fault. (text : List (List ℕ)) (done : List (List Step)) (steps : List Step) → IsLawfulOpen (open_of text (done ++ steps ∷ []) None) → adds ≡ adds_in (commands_of steps) → IsStop group_grammar (open_of text (done ++ steps ∷ []) None) lines.now at fault) }
+    ensures fault { IfErr result (λ fault. (text : List (List ℕ)) (done : List (List Step)) (steps : List Step) → IsLawfulOpen (open_of text (done ++ steps ∷ []) None) → adds ≡ adds_in (commands_of_steps steps) → IsGrammarStop group_grammar (open_of text (done ++ steps ∷ []) None) lines.now at fault) }
 {
     prove!(at < lines.len());
     match mark {
@@ -169,7 +169,7 @@ fn read_group(
     requires kind { kind_of (get_or lines.now start []) ≡ kinds.Mark marks.Group }
     requires few { adds_before ≤ start }
     ensures group { IfOk result (λ read. IsStepAt lines.now start adds_before (step.Group read.0) read.1) }
-    ensures fault { IfErr result (λ fault. (text : List (List ℕ)) (done : List (List Step)) (steps : List Step) → IsLawfulOpen (open_of text (done ++ steps ∷ []) None) → adds_before ≡ adds_in (commands_of steps) → IsStop group_grammar (open_of text (done ++ steps ∷ []) None) lines.now start fault) }
+    ensures fault { IfErr result (λ fault. (text : List (List ℕ)) (done : List (List Step)) (steps : List Step) → IsLawfulOpen (open_of text (done ++ steps ∷ []) None) → adds_before ≡ adds_in (commands_of_steps steps) → IsGrammarStop group_grammar (open_of text (done ++ steps ∷ []) None) lines.now start fault) }
 {
     prove!(start < lines.len());
     let mut commands = ListOf::new(alloc);

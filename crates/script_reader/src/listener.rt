@@ -3,7 +3,7 @@ ghost use Rattle.std.specs.Prelude.{◌≡◌};
 ghost use Rattle.knit_base.specs.Lines.{HasNoLineEnd};
 ghost use Rattle.script_reader.specs.Hearing.{Hearing, first_hearing, heard, orders_at_end};
 ghost use Rattle.script_reader.specs.Listener.{Hears};
-ghost use Rattle.script_reader.specs.Orders.{AreOrders, IsTold};
+ghost use Rattle.script_reader.specs.Orders.{AreOrders, IsOnlyOrder};
 
 mod alone;
 mod counts;
@@ -17,7 +17,7 @@ mod texts;
 use crate::fault::Cause;
 use crate::listener::counts::count;
 use crate::listener::lines::line_heard;
-use crate::listener::state::{Moved, State};
+use crate::listener::state::{ListenerMove, State};
 use crate::order::{Heard, Order};
 use std::alloc::Global;
 use std::mem;
@@ -52,7 +52,7 @@ impl Listener {
     {
         let state = mem::replace(&mut self.state, State::Rest);
         let moved = line_heard(self.alloc, &self.adds, state, number, line);
-        let Moved {
+        let ListenerMove {
             broken_off,
             state,
             order,
@@ -65,7 +65,7 @@ impl Listener {
     /// What the end of the input asks for, where the line behind the last one would have this number: the refusal of a text or a group
     /// that isn't whole.
     pub fn end(&self, number: u64) -> Option<Order>
-        ensures { (h : Hearing) → Hears self.now h → IsTold result (orders_at_end h number) }
+        ensures { (h : Hearing) → Hears self.now h → IsOnlyOrder result (orders_at_end h number) }
     {
         match self.state {
             State::Rest | State::Passing => None,

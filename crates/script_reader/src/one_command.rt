@@ -2,7 +2,7 @@
 ghost use Rattle.std.specs.Prelude.{◌≡◌, get_or, ◌+◌, ◌<◌, ◌≤◌, ◌^◌, [], false, length, ℕ, IfOk, IfErr};
 ghost use Rattle.script_reader.specs.Command.{IsCommandAt, IsNoCommand};
 ghost use Rattle.script_reader.specs.Reading.{IsCommandBehind, IsCommandRead};
-ghost use Rattle.script_reader.specs.Script.{adds_of, command_line_in, is_known, is_put_head, names_known};
+ghost use Rattle.script_reader.specs.Script.{adds_of, command_line_in, is_known_name, is_put_head, names_known};
 ghost use Rattle.script_reader.specs.Statements.{kind_of};
 ghost use Rattle.script_reader.specs.declared.line.Kind.TheVariants as kind;
 ghost use Rattle.script_reader.specs.declared.fault.Cause.TheVariants.{BadLine};
@@ -149,7 +149,7 @@ fn names_known(adds: u32, command_line: CommandLine) -> bool
 }
 
 fn is_known(adds: u32, name: BlockName) -> bool
-    ensures { result ≡ is_known adds name }
+    ensures { result ≡ is_known_name adds name }
 {
     match name {
         BlockName::Id(_) => true,

@@ -2,8 +2,8 @@
 ghost use Rattle.std.specs.Prelude.{◌≡◌, ◌↔◌, IsTrue, ◌≤◌, true, List, ℕ, [], ◌∷◌, ◌++◌, length, IfOk, IfErr};
 ghost use Rattle.std.specs.List.{flat_map, list_all};
 ghost use Rattle.script_reader.specs.Places.{Say};
-ghost use Rattle.script_reader.specs.Reading.{IsAtHeading, IsAtSession, IsStop, script_of};
-ghost use Rattle.script_reader.specs.Script.{IsLawful, IsRefusal, IsScript, all_known, command_statements, live_grammar, session_statements};
+ghost use Rattle.script_reader.specs.Reading.{IsAtHeading, IsAtSession, IsGrammarStop, script_of};
+ghost use Rattle.script_reader.specs.Script.{IsLawfulScript, IsScriptRefusal, IsScript, all_known, command_statements, live_grammar, session_statements};
 ghost use Rattle.script_reader.specs.declared.command.Command.{Command};
 ghost use Rattle.script_reader.specs.declared.command.Script.{Script};
 
@@ -26,14 +26,14 @@ const SESSION_LIMIT: u32 = 64;
 pub fn read_script(alloc: Global, lines: &Lines) -> Result<Script, ScriptFault>
     ensures script { IfOk result (IsScript lines.now) }
     ensures only { IfOk result (λ script. (other : Script) → IsScript lines.now other → other ≡ script) }
-    ensures fault { IfErr result (IsRefusal lines.now) }
+    ensures fault { IfErr result (IsScriptRefusal lines.now) }
 {
     read(alloc, lines)
 }
 
 fn read(alloc: Global, lines: &Lines) -> Result<Script, ScriptFault>
     ensures script { IfOk result (IsScript lines.now) }
-    ensures fault { IfErr result (IsRefusal lines.now) }
+    ensures fault { IfErr result (IsScriptRefusal lines.now) }
 {
     if lines.len() == 0 || !is_live(nth_line(lines, 0).as_bytes()) {
         return Err(ScriptFault::At {
@@ -53,7 +53,7 @@ fn read_sessions(alloc: Global, lines: &Lines, start: u32) -> Result<SessionScri
     ensures says { IfOk result (λ sessions. Say lines.now start (length lines.now) (flat_map session_statements sessions)) }
     ensures few { IfOk result (λ sessions. length sessions ≤ 64) }
     ensures known { IfOk result (λ sessions. list_all (all_known 0) sessions ≡ true) }
-    ensures fault { IfErr result (λ fault. (text : List (List ℕ)) → IsStop live_grammar (script_of text []) lines.now start fault) }
+    ensures fault { IfErr result (λ fault. (text : List (List ℕ)) → IsGrammarStop live_grammar (script_of text []) lines.now start fault) }
 {
     let mut sessions = ListOf::new(alloc);
     let mut at = start;
@@ -91,7 +91,7 @@ fn read_commands(
     ensures says { IfOk result (λ read. Say lines.now start read.1 (flat_map command_statements read.0)) }
     ensures known { IfOk result (λ read. all_known 0 read.0 ≡ true) }
     ensures session { IfOk result (λ read. IsAtSession lines.now read.1) }
-    ensures fault { IfErr result (λ fault. (text : List (List ℕ)) (done : List (List Command)) → IsLawful (script_of text (done ++ [] ∷ [])) → IsStop live_grammar (script_of text (done ++ [] ∷ [])) lines.now start fault) }
+    ensures fault { IfErr result (λ fault. (text : List (List ℕ)) (done : List (List Command)) → IsLawfulScript (script_of text (done ++ [] ∷ [])) → IsGrammarStop live_grammar (script_of text (done ++ [] ∷ [])) lines.now start fault) }
 {
     let mut commands = ListOf::new(alloc);
     let mut adds = 0;

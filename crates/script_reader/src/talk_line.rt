@@ -3,7 +3,7 @@ ghost use Rattle.std.specs.Prelude.{◌≡◌, IfSome};
 ghost use Rattle.knitout_reader.specs.Tokens.{tokens_of};
 ghost use Rattle.script_reader.specs.Listening.{IsFairAsked, IsFairLine};
 ghost use Rattle.script_reader.specs.Script.{takes_text};
-ghost use Rattle.script_reader.specs.TalkLines.{asked_by, asked_by_four, asked_by_one, asked_by_three, asked_by_two, asked_of, edit, edit_by, look_by, opening_by, plain, talk_line_of, talk_opening};
+ghost use Rattle.script_reader.specs.TalkLines.{asked_by_words, asked_by_four, asked_by_one, asked_by_three, asked_by_two, talk_line_asking, edit, edit_by, look_by, opening_by, asked_without_text, talk_line_of, talk_opening};
 
 use crate::fault::Cause;
 use crate::line::{CommandLine, Mark, command_line_of, is_skipped, is_text_line, mark_of};
@@ -151,7 +151,7 @@ pub(crate) fn talk_line(line: &[u8]) -> TalkLine
 
 fn asked_of(session: u32, asked: Option<Asked>) -> TalkLine
     requires fair { IfSome asked IsFairAsked }
-    ensures is { result ≡ asked_of session asked }
+    ensures is { result ≡ talk_line_asking session asked }
     ensures fair { IsFairLine result }
 {
     match asked {
@@ -167,7 +167,7 @@ fn asked_of(session: u32, asked: Option<Asked>) -> TalkLine
 
 // What the words ask, if they ask anything.
 fn asked_by(words: &[u8]) -> Option<Asked>
-    ensures is { result ≡ asked_by (tokens_of words.now) }
+    ensures is { result ≡ asked_by_words (tokens_of words.now) }
     ensures fair { IfSome result IsFairAsked }
 {
     let Some((word, rest)) = next_token(words) else {
@@ -216,7 +216,7 @@ fn asked_by_two(word: &[u8], operand: &[u8]) -> Option<Asked>
 
 // The command, if it takes no text.
 fn plain(command_line: CommandLine) -> Option<Asked>
-    ensures is { result ≡ plain command_line }
+    ensures is { result ≡ asked_without_text command_line }
     ensures fair { IfSome result IsFairAsked }
 {
     if takes_text(command_line) {

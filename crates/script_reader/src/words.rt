@@ -1,8 +1,8 @@
 //! Numbers and names of blocks, as words spell them.
 ghost use Rattle.std.specs.Prelude.{◌≡◌, min, length};
 ghost use Rattle.std.specs.List.{list_all};
-ghost use Rattle.knitout_reader.specs.Numbers.{number_of};
-ghost use Rattle.script_reader.specs.Words.{id_in, is_digit, name_in, number_in, place_in};
+ghost use Rattle.knitout_reader.specs.Numbers.{value_of_digits};
+ghost use Rattle.script_reader.specs.Words.{id_in, is_digit, name_in, number_in, anchor_in_word};
 
 use crate::command::Place;
 use edit_journal::{BlockName, HEAD};
@@ -17,7 +17,7 @@ const START: &[u8] = b"start";
 
 /// The place that a word names: `start`, or behind a block.
 pub(crate) fn place(word: &[u8]) -> Option<Place>
-    ensures { result ≡ place_in word.now }
+    ensures { result ≡ anchor_in_word word.now }
 {
     if word == START {
         return Some(Place::Start);
@@ -68,7 +68,7 @@ fn are_digits(word: &[u8]) -> bool
 
 // The number that the digits spell, or `TOO_GREAT` where it is greater.
 fn value_of(digits: &[u8]) -> u64
-    ensures { result ≡ min (number_of digits.now) TOO_GREAT }
+    ensures { result ≡ min (value_of_digits digits.now) TOO_GREAT }
 {
     let mut value = 0;
     for digit in digits {

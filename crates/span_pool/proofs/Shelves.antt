@@ -5,11 +5,11 @@ use Rattle.std.proofs.lemmas.Bool.{cases_lt}
 use Rattle.std.proofs.lemmas.Bool.Decides.{eqb_tells}
 use Rattle.std.specs.Prelude.{slice_set, slice_index_or}
 use Rattle.span_pool.specs.Shelf.{ShelfView}
-use Rattle.span_pool.specs.Pool.{PoolView, bare, shelf_of, spare_of, out_of, KeepsOthers, AreBare}
+use Rattle.span_pool.specs.Pool.{PoolView, unreserved_shelf, shelf_of, spare_of, out_of, KeepsOthers, AreBare}
 
 -- what was read at a class is its shelf
 pub read_here : (shelves : PoolView) (class : ℕ) (shelf : ShelfView) → shelf ≡ slice_index_or shelves class shelf → class < length shelves → shelf ≡ shelf_of shelves class
-read_here shelves class shelf e inside = e ∙ get_or_default shelves class shelf bare inside
+read_here shelves class shelf e inside = e ∙ get_or_default shelves class shelf unreserved_shelf inside
 
 -- what a pool that is seen as these shelves has of a class
 pub spare_seen : (shelves pool : PoolView) (class : ℕ) (shelf : ShelfView) → shelves ≡ pool → shelf ≡ shelf_of shelves class → spare_of pool class ≡ shelf.spare
@@ -23,11 +23,11 @@ out_seen shelves pool class shelf view here = ap (λ p. (shelf_of p class).out) 
 -- nothing behind the last shelf
 pub spare_past : (shelves pool : PoolView) (class : ℕ) → shelves ≡ pool → length shelves ≤ class → spare_of pool class ≡ 0
 unfolding spare_of
-spare_past shelves pool class view past = ap (λ p. (shelf_of p class).spare) (sym view) ∙ ap (λ (s : ShelfView). s.spare) (get_or_past shelves class bare past)
+spare_past shelves pool class view past = ap (λ p. (shelf_of p class).spare) (sym view) ∙ ap (λ (s : ShelfView). s.spare) (get_or_past shelves class unreserved_shelf past)
 
 pub out_past : (shelves pool : PoolView) (class : ℕ) → shelves ≡ pool → length shelves ≤ class → out_of pool class ≡ 0
 unfolding out_of
-out_past shelves pool class view past = ap (λ p. (shelf_of p class).out) (sym view) ∙ ap (λ (s : ShelfView). s.out) (get_or_past shelves class bare past)
+out_past shelves pool class view past = ap (λ p. (shelf_of p class).out) (sym view) ∙ ap (λ (s : ShelfView). s.out) (get_or_past shelves class unreserved_shelf past)
 
 -- so a class of which a span is out has a shelf
 pub has_shelf : (shelves pool : PoolView) (class : ℕ) → shelves ≡ pool → 1 ≤ out_of pool class → class < length shelves
@@ -49,14 +49,14 @@ pub is_put : (shelves pool : PoolView) (class : ℕ) (before after : ShelfView) 
     → IsPut pool (slice_set shelves class after) class before after
 unfolding spare_of out_of
 is_put shelves pool class before after view inside here =
-    let now = get_or-set_same shelves class after bare inside in
+    let now = get_or-set_same shelves class after unreserved_shelf inside in
     record {
       had_spare = spare_seen shelves pool class before view here;
       has_spare = ap (λ (s : ShelfView). s.spare) now;
       had_out = out_seen shelves pool class before view here;
       has_out = ap (λ (s : ShelfView). s.out) now;
-      other_spare = λ other differ. ap (λ (s : ShelfView). s.spare) (get_or-set_other shelves class other after bare differ) ∙ ap (λ p. (shelf_of p other).spare) view;
-      other_out = λ other differ. ap (λ (s : ShelfView). s.out) (get_or-set_other shelves class other after bare differ) ∙ ap (λ p. (shelf_of p other).out) view;
+      other_spare = λ other differ. ap (λ (s : ShelfView). s.spare) (get_or-set_other shelves class other after unreserved_shelf differ) ∙ ap (λ p. (shelf_of p other).spare) view;
+      other_out = λ other differ. ap (λ (s : ShelfView). s.out) (get_or-set_other shelves class other after unreserved_shelf differ) ∙ ap (λ p. (shelf_of p other).out) view;
     }
 
 -- where the other one has as many out, each class has
@@ -70,7 +70,7 @@ shelf_bare : (shelves : PoolView) (class : ℕ) → AreBare shelves → ((shelf_
 shelf_bare shelves class are = elim (cases_lt class (length shelves)) [
   | inl w ↦ (ap (λ (s : ShelfView). s.spare) (are class w), ap (λ (s : ShelfView). s.out) (are class w))
   | inr w ↦
-      let none = get_or_past shelves class bare w in
+      let none = get_or_past shelves class unreserved_shelf w in
       (ap (λ (s : ShelfView). s.spare) none, ap (λ (s : ShelfView). s.out) none)
 ]
 

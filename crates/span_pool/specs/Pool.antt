@@ -30,12 +30,12 @@ abbrev pub PoolView : Type 0
 PoolView = List ShelfView
 
 -- a class for which nothing was reserved yet
-abbrev pub bare : ShelfView
-bare = record { spare = 0; out = 0; room = 0 }
+abbrev pub unreserved_shelf : ShelfView
+unreserved_shelf = record { spare = 0; out = 0; room = 0 }
 
 -- the spans of a class
 abbrev pub shelf_of : PoolView → ℕ → ShelfView
-shelf_of pool class = slice_index_or pool class bare
+shelf_of pool class = slice_index_or pool class unreserved_shelf
 
 -- how many spans of a class are spare
 unfoldable pub spare_of : PoolView → ℕ → ℕ

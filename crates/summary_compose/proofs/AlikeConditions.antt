@@ -17,17 +17,17 @@ use Rattle.face_data.specs.declared.face.Cond.{Cond}
 use Rattle.face_data.specs.declared.face.FaceView.{FaceView}
 use Rattle.face_data.specs.declared.face.Seg.{Seg}
 use Rattle.face_data.specs.declared.face.Seg.TheVariants.{Entry}
-use Rattle.face_data.specs.Answers.{Answer}
-use Rattle.face_data.specs.Answers.Answer.{yes_it_does, asks}
+use Rattle.face_data.specs.Answers.{ConditionAnswer}
+use Rattle.face_data.specs.Answers.ConditionAnswer.{yes_it_does, asks}
 use Rattle.face_data.specs.Bearings.{bearing, same_or_not, if_so}
-use Rattle.face_data.specs.Composition.{from_bearing, settled}
+use Rattle.face_data.specs.Composition.{from_bearing, answer_of_kept}
 use Rattle.face_data.specs.Conditions.{Ask, ask_of, part_of}
 use Rattle.face_data.specs.Conditions.Ask.{rack_is, carrier_in, carrier_out, hook_free, hook_is, hook_lacks, size_at_most, last_near}
 use Rattle.face_data.specs.Digests.{IsPlainCondition, digest_bearing, digest_of}
 use Rattle.face_data.specs.Goodness.{IsIrredundant}
 use Rattle.face_data.specs.Segments.{change_at, segments_on}
-use Rattle.face_data.specs.Summaries.{Asked}
-use Rattle.face_data.specs.View.{asked_of, changed_of}
+use Rattle.face_data.specs.Summaries.{AskedCondition}
+use Rattle.face_data.specs.View.{asked_of_check, changed_of}
 use Rattle.face_data.proofs.Digests.{settled-plain}
 use Rattle.face_data.proofs.Members.{Contains-cons_cases, Contains-none, contains_mapped}
 use Rattle.summary_compose.specs.Changes.{SpareSliders}
@@ -48,27 +48,27 @@ own_bearing (last_near c at float) plain = absurd plain
 own_bearing (size_at_most names most) plain = absurd plain
 
 -- a condition that is kept is settled, since none before it says anything of it
-settled_own : (kept : List Asked) (c : Asked) → Contains kept c → IsIrredundant kept → IsPlainCondition c.ask → settled kept c.ask ≡ yes_it_does
-unfolding settled
+settled_own : (kept : List AskedCondition) (c : AskedCondition) → Contains kept c → IsIrredundant kept → IsPlainCondition c.ask → answer_of_kept kept c.ask ≡ yes_it_does
+unfolding answer_of_kept
 settled_own [] c there apart plain = absurd (Contains-none c there)
 settled_own (k ∷ ks) c there apart plain = elim (Contains-cons_cases k ks c there) [
-  | inl same ↦ ap (λ r. from_bearing r (settled ks c.ask)) (ap (λ (x : Asked). bearing x.ask c.ask) same ∙ own_bearing c.ask plain)
-  | inr later ↦ ap (λ r. from_bearing r (settled ks c.ask)) (apart.0 c later) ∙ settled_own ks c later apart.1 plain
+  | inl same ↦ ap (λ r. from_bearing r (answer_of_kept ks c.ask)) (ap (λ (x : AskedCondition). bearing x.ask c.ask) same ∙ own_bearing c.ask plain)
+  | inr later ↦ ap (λ r. from_bearing r (answer_of_kept ks c.ask)) (apart.0 c later) ∙ settled_own ks c later apart.1 plain
 ]
 
 -- so where the face's condition at a place is the same
 pub same_at_place : (a : FaceView) (at : ℕ) (d : Check) (c : Cond) → at < length a.checks.now → IsIrredundant (checks_in a) → IsPlainCond c → (get_or a.checks.now at d).cond ≡ c →
     from_bearing (digest_bearing (digest_of (checks_in a)) (ask_of [] c)) (asks (ask_of [] c)) ≡ yes_it_does
 same_at_place a at d c there apart plain same =
-    let kept : Asked = asked_of a.names.now (get_or a.checks.now at d) in
+    let kept : AskedCondition = asked_of_check a.names.now (get_or a.checks.now at d) in
     let is : kept.ask ≡ ask_of [] c = ap (ask_of a.names.now) same ∙ plain_ask a.names.now c plain in
     let is_plain : IsPlainCondition kept.ask = subst IsPlainCondition (sym is) (plain_condition c plain) in
     ap (λ q. from_bearing (digest_bearing (digest_of (checks_in a)) q) (asks q)) (sym is)
     ∙ sym (settled-plain (checks_in a) kept.ask is_plain apart)
-    ∙ settled_own (checks_in a) kept (contains_mapped (asked_of a.names.now) a.checks.now at d there) apart is_plain
+    ∙ settled_own (checks_in a) kept (contains_mapped (asked_of_check a.names.now) a.checks.now at d there) apart is_plain
 
 -- what is known where the effect says nothing
-pub where_silent : (r : Bearing) (rest : Answer) → r ≡ Silent → rest ≡ yes_it_does → from_bearing r rest ≡ yes_it_does
+pub where_silent : (r : Bearing) (rest : ConditionAnswer) → r ≡ Silent → rest ≡ yes_it_does → from_bearing r rest ≡ yes_it_does
 where_silent r rest silent holds = ap (λ b. from_bearing b rest) silent ∙ holds
 
 unchanged_slider : (segs : List Seg) (changes : List Change) (n : Needle) → SpareSliders changes → is_slider n.bed ≡ true →

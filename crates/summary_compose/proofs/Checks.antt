@@ -14,9 +14,9 @@ use Rattle.face_data.specs.declared.face.Part.{Part}
 use Rattle.face_data.specs.Conditions.{ask_of}
 use Rattle.face_data.specs.Digests.{IsUnsized}
 use Rattle.face_data.specs.Conditions.Ask.{size_at_most}
-use Rattle.face_data.specs.Goodness.{names_in}
-use Rattle.face_data.specs.Summaries.{Asked}
-use Rattle.face_data.specs.View.{asked_of, names_of, AreNamed, CondFits}
+use Rattle.face_data.specs.Goodness.{size_needles_in}
+use Rattle.face_data.specs.Summaries.{AskedCondition}
+use Rattle.face_data.specs.View.{asked_of_check, size_needles_of, AreNamed, CondFits}
 use Rattle.summary_compose.specs.Known.{names_count}
 use Rattle.summary_compose.specs.declared.sizes.SizeWord.TheVariants.{Asks}
 use Rattle.summary_compose.proofs.Parts.{part_of-end}
@@ -25,12 +25,12 @@ use Rattle.face_data.proofs.Parts.{checks-more, checks_fit-more, names-more}
 -- one condition on sizes more, with its needles behind the others
 pub size_kept : (cs now : List Check) (old more all : List Needle) (c : Check) (p : Part) (most : ℕ) → AreNamed old cs → all ≡ old ++ more →
     c.cond ≡ SizeAtMost p most → p.start ≡ length old → p.len ≡ length more → now ≡ cs ++ c ∷ [] →
-    map (asked_of all) now ≡ map (asked_of old) cs ++ record { fault = c.fault; ask = size_at_most more most } ∷ []
+    map (asked_of_check all) now ≡ map (asked_of_check old) cs ++ record { fault = c.fault; ask = size_at_most more most } ∷ []
 size_kept cs now old more all c p most named e is s l n =
     let part = part_of-end old more p s l in
-    ap₂ (λ (names : List Needle) (list : List Check). map (asked_of names) list) e n
-    ∙ map-append (asked_of (old ++ more)) cs (c ∷ [])
-    ∙ ap₂ (λ (xs ys : List Asked). xs ++ ys) (checks-more cs old more named.fit)
+    ap₂ (λ (names : List Needle) (list : List Check). map (asked_of_check names) list) e n
+    ∙ map-append (asked_of_check (old ++ more)) cs (c ∷ [])
+    ∙ ap₂ (λ (xs ys : List AskedCondition). xs ++ ys) (checks-more cs old more named.fit)
     ((λ i. record { fault = c.fault; ask = ask_of (old ++ more) (is i) } ∷ []) ∙ (λ i. record { fault = c.fault; ask = size_at_most (part i) most } ∷ []))
 
 -- and the parts still make up the list of names
@@ -41,14 +41,14 @@ size_named cs now old more all c p most named e is s l n =
     let here : CondFits (old ++ more) (SizeAtMost p most) = omega arith in
     let known : AreNamed (old ++ more) (cs ++ c ∷ []) = record {
       fit = All-push (λ (c : Check). CondFits (old ++ more) c.cond) cs c (checks_fit-more cs old more named.fit) (subst (CondFits (old ++ more)) (sym is) here);
-      whole = flat_map-append (λ (c : Check). names_of (old ++ more) c.cond) cs (c ∷ [])
+      whole = flat_map-append (λ (c : Check). size_needles_of (old ++ more) c.cond) cs (c ∷ [])
           ∙ ap₂ (λ (xs ys : List Needle). xs ++ ys) (names-more cs old more named.fit ∙ named.whole)
-          (append-nil (names_of (old ++ more) c.cond) ∙ ap (names_of (old ++ more)) is ∙ part_of-end old more p s l);
+          (append-nil (size_needles_of (old ++ more) c.cond) ∙ ap (size_needles_of (old ++ more)) is ∙ part_of-end old more p s l);
     } in
     subst (λ names. AreNamed names now) (sym e) (subst (λ list. AreNamed (old ++ more) list) (sym n) known)
 
 -- the needles of a condition
-pub names_in_ask : (names : List Needle) (c : Cond) → names_in (ask_of names c) ≡ names_of names c
+pub names_in_ask : (names : List Needle) (c : Cond) → size_needles_in (ask_of names c) ≡ size_needles_of names c
 names_in_ask names (SizeAtMost p most) = refl
 names_in_ask names (RackIs q) = refl
 names_in_ask names (CarrierIn c) = refl
@@ -58,15 +58,15 @@ names_in_ask names (HookIs set) = refl
 names_in_ask names (HookLacks c) = refl
 names_in_ask names (LastNear c at float) = refl
 
-names_sum : (names : List Needle) (cs : List Check) → length (flat_map (λ (c : Check). names_of names c.cond) cs) ≡ names_count (map (asked_of names) cs)
+names_sum : (names : List Needle) (cs : List Check) → length (flat_map (λ (c : Check). size_needles_of names c.cond) cs) ≡ names_count (map (asked_of_check names) cs)
 names_sum names [] = refl
 names_sum names (c ∷ cs) =
-    length-append (names_of names c.cond) (flat_map (λ (c : Check). names_of names c.cond) cs)
+    length-append (size_needles_of names c.cond) (flat_map (λ (c : Check). size_needles_of names c.cond) cs)
     ∙ ap₂ (λ (n m : ℕ). n + m) (ap length (sym (names_in_ask names c.cond))) (names_sum names cs)
-    ∙ sym (sum_by-cons (λ (c : Asked). length (names_in c.ask)) (asked_of names c) (map (asked_of names) cs))
+    ∙ sym (sum_by-cons (λ (c : AskedCondition). length (size_needles_in c.ask)) (asked_of_check names c) (map (asked_of_check names) cs))
 
 -- how many names there are
-pub named_size : (names : List Needle) (cs : List Check) → AreNamed names cs → length names ≡ names_count (map (asked_of names) cs)
+pub named_size : (names : List Needle) (cs : List Check) → AreNamed names cs → length names ≡ names_count (map (asked_of_check names) cs)
 named_size names cs named = sym (ap length named.whole) ∙ names_sum names cs
 
 -- one condition, one limit
@@ -84,7 +84,7 @@ unsized_ask names (HookIs set) plain = refl
 unsized_ask names (HookLacks c) plain = refl
 unsized_ask names (LastNear c at float) plain = refl
 
-unsized_names : (names : List Needle) (c : Cond) → IsUnsized (ask_of [] c) → names_of names c ≡ []
+unsized_names : (names : List Needle) (c : Cond) → IsUnsized (ask_of [] c) → size_needles_of names c ≡ []
 unsized_names names (SizeAtMost p most) plain = absurd plain
 unsized_names names (RackIs q) plain = refl
 unsized_names names (CarrierIn c) plain = refl
@@ -106,17 +106,17 @@ unsized_fits names (LastNear c at float) plain = tt
 
 -- one such condition more
 pub one_kept : (cs now : List Check) (names : List Needle) (c : Check) → now ≡ cs ++ c ∷ [] → IsUnsized (ask_of [] c.cond)
-    → map (asked_of names) now ≡ map (asked_of names) cs ++ record { fault = c.fault; ask = ask_of [] c.cond } ∷ []
+    → map (asked_of_check names) now ≡ map (asked_of_check names) cs ++ record { fault = c.fault; ask = ask_of [] c.cond } ∷ []
 one_kept cs now names c e plain =
-    ap (map (asked_of names)) e ∙ map-append (asked_of names) cs (c ∷ [])
-    ∙ ap (λ q. map (asked_of names) cs ++ record { fault = c.fault; ask = q } ∷ []) (unsized_ask names c.cond plain)
+    ap (map (asked_of_check names)) e ∙ map-append (asked_of_check names) cs (c ∷ [])
+    ∙ ap (λ q. map (asked_of_check names) cs ++ record { fault = c.fault; ask = q } ∷ []) (unsized_ask names c.cond plain)
 
 pub one_named : (cs now : List Check) (names : List Needle) (c : Check) → AreNamed names cs → now ≡ cs ++ c ∷ [] → IsUnsized (ask_of [] c.cond) → AreNamed names now
 one_named cs now names c named e plain =
     let known : AreNamed names (cs ++ c ∷ []) = record {
       fit = All-push (λ (c : Check). CondFits names c.cond) cs c named.fit (unsized_fits names c.cond plain);
-      whole = flat_map-append (λ (c : Check). names_of names c.cond) cs (c ∷ [])
-          ∙ ap₂ (λ (xs ys : List Needle). xs ++ ys) named.whole (append-nil (names_of names c.cond) ∙ unsized_names names c.cond plain)
+      whole = flat_map-append (λ (c : Check). size_needles_of names c.cond) cs (c ∷ [])
+          ∙ ap₂ (λ (xs ys : List Needle). xs ++ ys) named.whole (append-nil (size_needles_of names c.cond) ∙ unsized_names names c.cond plain)
           ∙ append-nil names;
     } in
     subst (λ list. AreNamed names list) (sym e) known

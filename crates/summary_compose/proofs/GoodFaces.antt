@@ -18,9 +18,9 @@ use Rattle.face_data.specs.Conditions.{ask_of, part_of}
 use Rattle.face_data.specs.Digests.{CarrierFits}
 use Rattle.face_data.specs.Goodness.{AskFits, EndingFits, IsGood, IsGoodFace}
 use Rattle.face_data.specs.Segments.{segments_on, names_through, new_of, new_through}
-use Rattle.face_data.specs.Sets.{IsDistinct, IsWithin}
+use Rattle.face_data.specs.Sets.{IsDistinct, AreNeedlesWithin}
 use Rattle.face_data.specs.Summaries.{Summary}
-use Rattle.face_data.specs.View.{IsPacked, asked_of, names_of, summary_of}
+use Rattle.face_data.specs.View.{IsPacked, asked_of_check, size_needles_of, summary_of}
 use Rattle.face_data.proofs.Goodness.{composed_good, good_within, within_known}
 use Rattle.face_data.specs.Items.{items, most_items}
 use Rattle.face_data.proofs.Items.{change_items_bound, items_bound, new_on_at_most}
@@ -29,19 +29,19 @@ use Rattle.face_data.proofs.Owners.{distinct_through, member_cases}
 use Rattle.face_data.proofs.FaceOffsets.{offsets_fit}
 use Rattle.summary_compose.specs.Changes.{changes_in, merged_of, segs_in}
 use Rattle.summary_compose.specs.Composing.{Composes, EndingRises}
-use Rattle.summary_compose.specs.Known.{AreGood, IsFewThrough, checks_in}
+use Rattle.summary_compose.specs.Known.{AreGoodFaces, IsFewThrough, checks_in}
 use Rattle.face_data.specs.Spots.{IsNumbered}
 use Rattle.face_data.proofs.NeedleSpots.{few_needles}
 
-few_within : (xs known : List Needle) → IsDistinct xs → IsWithin xs known → All IsNumbered known → length xs ≤ 2 ^ 18
+few_within : (xs known : List Needle) → IsDistinct xs → AreNeedlesWithin xs known → All IsNumbered known → length xs ≤ 2 ^ 18
 few_within xs known d w numbers = few_needles xs d (λ n there. All-contains IsNumbered known n numbers (w n there))
 
 -- the same needles, each once
 record Once (known : List Needle) : Type 0 where
   needles : List Needle
   distinct : IsDistinct needles
-  all : IsWithin known needles
-  none_else : IsWithin needles known
+  all : AreNeedlesWithin known needles
+  none_else : AreNeedlesWithin needles known
 
 once_more : (x : Needle) (xs : List Needle) (o : Once xs) → Contains o.needles x ⊎ (Contains o.needles x → ⊥) → Once (x ∷ xs)
 once_more x xs o (inl there) = record {
@@ -77,7 +77,7 @@ few_segs carriers limit known f g numbers few_loops =
     omega (arith, few, bound, most)
 
 few_read : (carriers limit : ℕ) (first second names : List Needle) (a : FaceView) (c : Cond) → IsGood carriers limit first (summary_of a) → All IsNumbered (first ++ second) → limit < 2 ^ 8 →
-    AskFits carriers limit second (ask_of names c) → IsFewThrough a (names_of names c)
+    AskFits carriers limit second (ask_of names c) → IsFewThrough a (size_needles_of names c)
 few_read carriers limit first second names a (SizeAtMost p most) ga numbers few_loops fits =
     let xs = part_of names p in
     let own : length xs ≤ 2 ^ 18 = few_needles xs fits.distinct (λ n there. All-contains IsNumbered (first ++ second) n numbers (Contains-append_right first second n (fits.within n there))) in
@@ -95,7 +95,7 @@ few_read carriers limit first second names a (HookIs set) ga numbers few_loops f
 few_read carriers limit first second names a (HookLacks c) ga numbers few_loops fits = record { names = omega arith; new = omega arith }
 few_read carriers limit first second names a (LastNear c at float) ga numbers few_loops fits = record { names = omega arith; new = omega arith }
 
-few_named : (carriers limit : ℕ) (known names : List Needle) (c : Cond) → All IsNumbered known → AskFits carriers limit known (ask_of names c) → length (names_of names c) < 2 ^ 32
+few_named : (carriers limit : ℕ) (known names : List Needle) (c : Cond) → All IsNumbered known → AskFits carriers limit known (ask_of names c) → length (size_needles_of names c) < 2 ^ 32
 few_named carriers limit known names (SizeAtMost p most) numbers fits = omega (arith, few_within (part_of names p) known fits.distinct fits.within numbers)
 few_named carriers limit known names (RackIs q) numbers fits = omega arith
 few_named carriers limit known names (CarrierIn c) numbers fits = omega arith
@@ -115,8 +115,8 @@ carrier_fits carriers limit known names (HookIs set) few fits = tt
 carrier_fits carriers limit known names (HookLacks c) few fits = omega (arith, few, fits)
 carrier_fits carriers limit known names (LastNear c at float) few fits = omega (arith, few, fits)
 
-asked_at : (face : FaceView) (k : ℕ) (d : Check) → k < length face.checks.now → Contains (checks_in face) (asked_of face.names.now (get_or face.checks.now k d))
-asked_at face k d within = contains_mapped (asked_of face.names.now) face.checks.now k d within
+asked_at : (face : FaceView) (k : ℕ) (d : Check) → k < length face.checks.now → Contains (checks_in face) (asked_of_check face.names.now (get_or face.checks.now k d))
+asked_at face k d within = contains_mapped (asked_of_check face.names.now) face.checks.now k d within
 
 ending_rises : (carriers : ℕ) (a : FaceView) (b : Summary) (e : Ending) → EndingFits carriers b e → a.lines + b.lines < 2 ^ 32 → EndingRises a e
 ending_rises carriers a b (Through effect) fits sum = tt
@@ -131,22 +131,22 @@ merged_changes a b effect more first second goes_on =
     ∙ ap (λ e. changes_with e (merged_of a b)) second
 
 -- All that the code asks of two faces follows.
-pub composable : (a b : FaceView) → AreGood a b → IsPacked a → IsPacked b → a.lines + b.lines < 2 ^ 32 → Composes a b
-composable a b g pa pb sum =
+pub good_faces_compose : (a b : FaceView) → AreGoodFaces a b → IsPacked a → IsPacked b → a.lines + b.lines < 2 ^ 32 → Composes a b
+good_faces_compose a b g pa pb sum =
     let numbers : All IsNumbered (g.first_known ++ g.second_known) = All-append IsNumbered g.first_known g.second_known g.first_numbers g.second_numbers in
     record {
       good = g;
       named = record { fit = pa.checks_fit; whole = pa.names };
-      carriers = λ k d within. carrier_fits g.carriers g.limit g.first_known a.names.now (get_or a.checks.now k d).cond g.few (g.first.fair.asks_fit (asked_of a.names.now (get_or a.checks.now k d)) (asked_at a k d within));
-      few_names = λ k d within. few_named g.carriers g.limit g.first_known a.names.now (get_or a.checks.now k d).cond g.first_numbers (g.first.fair.asks_fit (asked_of a.names.now (get_or a.checks.now k d)) (asked_at a k d within));
+      carriers = λ k d within. carrier_fits g.carriers g.limit g.first_known a.names.now (get_or a.checks.now k d).cond g.few (g.first.fair.asks_fit (asked_of_check a.names.now (get_or a.checks.now k d)) (asked_at a k d within));
+      few_names = λ k d within. few_named g.carriers g.limit g.first_known a.names.now (get_or a.checks.now k d).cond g.first_numbers (g.first.fair.asks_fit (asked_of_check a.names.now (get_or a.checks.now k d)) (asked_at a k d within));
       readable = λ k d within.
-          let fits = g.second.fair.asks_fit (asked_of b.names.now (get_or b.checks.now k d)) (asked_at b k d within) in
+          let fits = g.second.fair.asks_fit (asked_of_check b.names.now (get_or b.checks.now k d)) (asked_at b k d within) in
           record {
             fit = pb.checks_fit k d within;
             carrier = carrier_fits g.carriers g.limit g.second_known b.names.now (get_or b.checks.now k d).cond g.few fits;
             few = few_read g.carriers g.limit g.first_known g.second_known b.names.now a (get_or b.checks.now k d).cond g.first numbers g.few_loops fits;
           };
-      raised = λ k d within. omega (arith, g.second.fair.within (asked_of b.names.now (get_or b.checks.now k d)) (asked_at b k d within), sum);
+      raised = λ k d within. omega (arith, g.second.fair.within (asked_of_check b.names.now (get_or b.checks.now k d)) (asked_at b k d within), sum);
       fit = pa.changes_fit;
       order = g.first.fair.in_order;
       second_fit = pb.changes_fit;
@@ -163,7 +163,7 @@ composable a b g pa pb sum =
     }
 
 -- The composition of two good faces is a good face.
-pub composed_good_face : (a b : FaceView) → AreGood a b → IsGoodFace (composed (summary_of a) (summary_of b))
+pub composed_good_face : (a b : FaceView) → AreGoodFaces a b → IsGoodFace (composed (summary_of a) (summary_of b))
 composed_good_face a b g = record {
   carriers = g.carriers;
   limit = g.limit;
@@ -174,7 +174,7 @@ composed_good_face a b g = record {
 }
 
 -- needles named twice are no more needles
-pub twice_within : (known : List Needle) → IsWithin (known ++ known) known
+pub twice_within : (known : List Needle) → AreNeedlesWithin (known ++ known) known
 twice_within known n h = elim (Contains-append_cases known known n h) [ inl w ↦ w | inr w ↦ w ]
 
 -- The composition of two summaries that are good for these needles has no more items than a good one can have.

@@ -9,20 +9,20 @@ use Rattle.face_data.specs.declared.bearing.Bearing.TheVariants.{Implied}
 use Rattle.face_data.specs.declared.face.Check.{Check}
 use Rattle.face_data.specs.declared.face.Cond.{Cond}
 use Rattle.face_data.specs.declared.face.Cond.TheVariants.{RackIs, CarrierIn, CarrierOut, HookFree, HookIs, HookLacks, SizeAtMost, LastNear}
-use Rattle.face_data.specs.Answers.{Answer}
-use Rattle.face_data.specs.Answers.Answer.{asks}
+use Rattle.face_data.specs.Answers.{ConditionAnswer}
+use Rattle.face_data.specs.Answers.ConditionAnswer.{asks}
 use Rattle.face_data.specs.Bearings.{bearing, if_so}
-use Rattle.face_data.specs.Composition.{from_bearing, settled}
+use Rattle.face_data.specs.Composition.{from_bearing, answer_of_kept}
 use Rattle.face_data.specs.Conditions.{ask_of}
 use Rattle.face_data.specs.Conditions.Ask.{last_near}
-use Rattle.face_data.specs.View.{asked_of}
+use Rattle.face_data.specs.View.{asked_of_check}
 use Rattle.summary_compose.specs.Known.{asks_near}
 
-either_implies : (a b : Bool) (rest : Answer) → from_bearing (if_so a Implied) (from_bearing (if_so b Implied) rest) ≡ from_bearing (if_so (a || b) Implied) rest
+either_implies : (a b : Bool) (rest : ConditionAnswer) → from_bearing (if_so a Implied) (from_bearing (if_so b Implied) rest) ≡ from_bearing (if_so (a || b) Implied) rest
 either_implies true b rest = refl
 either_implies false b rest = refl
 
-one_near : (names : List Needle) (cond : Cond) (c : CarrierNo) (at : ℤ) (float : ℕ) (b : Bool) (rest : Answer) →
+one_near : (names : List Needle) (cond : Cond) (c : CarrierNo) (at : ℤ) (float : ℕ) (b : Bool) (rest : ConditionAnswer) →
     from_bearing (bearing (ask_of names cond) (last_near c at float)) (from_bearing (if_so b Implied) rest) ≡ from_bearing (if_so (asks_near cond c at float || b) Implied) rest
 unfolding bearing
 one_near names (LastNear d n f) c at float b rest = either_implies (nat_eq d.0 c.0 && (int_eq n at && nat_eq f float)) b rest
@@ -36,8 +36,8 @@ one_near names (SizeAtMost p most) c at float b rest = refl
 
 -- what is kept settles such a condition exactly where it is kept itself
 pub settled_near : (names : List Needle) (cs : List Check) (c : CarrierNo) (at : ℤ) (float : ℕ) →
-    settled (map (asked_of names) cs) (last_near c at float) ≡ from_bearing (if_so (list_any (λ (k : Check). asks_near k.cond c at float) cs) Implied) (asks (last_near c at float))
-unfolding settled
+    answer_of_kept (map (asked_of_check names) cs) (last_near c at float) ≡ from_bearing (if_so (list_any (λ (k : Check). asks_near k.cond c at float) cs) Implied) (asks (last_near c at float))
+unfolding answer_of_kept
 settled_near names [] c at float = refl
 settled_near names (k ∷ ks) c at float =
     ap (from_bearing (bearing (ask_of names k.cond) (last_near c at float))) (settled_near names ks c at float)

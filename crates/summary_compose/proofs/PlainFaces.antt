@@ -11,13 +11,13 @@ use Rattle.face_data.specs.Drafts.{no_effect}
 use Rattle.face_data.specs.Conditions.{Ask}
 use Rattle.face_data.specs.Conditions.Ask.{rack_is, carrier_in, carrier_out, hook_free, hook_is, hook_lacks, size_at_most, last_near}
 use Rattle.face_data.specs.Digests.{IsPlainCondition}
-use Rattle.face_data.specs.Goodness.{AgreeOnLast, AskFits, EndingFits, IsGood, IsSet, ThroughFits, names_in}
-use Rattle.face_data.specs.Summaries.{Asked, Summary}
+use Rattle.face_data.specs.Goodness.{AgreeOnLast, AskFits, EndingFits, IsGood, IsSet, ThroughFits, size_needles_in}
+use Rattle.face_data.specs.Summaries.{AskedCondition, Summary}
 use Rattle.face_data.proofs.Drafts.{no_lines_good}
 use Rattle.face_data.proofs.Members.{Contains-none, Contains-cons_cases}
 
 -- a line with these conditions and this ending
-abbrev pub one_line : List Asked → Ending → Summary
+abbrev pub one_line : List AskedCondition → Ending → Summary
 one_line checks ending = record { lines = 1; made = 0; checks = checks; changes = []; lasts = []; ending = ending }
 
 unasked_good : (ending : Ending) → EndingFits 0 (one_line [] ending) ending → IsGood 0 0 [] (one_line [] ending)
@@ -74,12 +74,12 @@ comes_fits = record {
   nears = λ c there. absurd (Contains-none c there);
 }
 
-only_check : (x c : Asked) → Contains (x ∷ []) c → x ≡ c
+only_check : (x c : AskedCondition) → Contains (x ∷ []) c → x ≡ c
 only_check x c there = elim (Contains-cons_cases x [] c there) [ inl same ↦ same | inr none ↦ absurd (Contains-none c none) ]
 
-unnamed : (x c : Asked) → names_in x.ask ≡ [] → Contains (x ∷ []) c → (n : Needle) → Contains (names_in c.ask) n → ⊥
+unnamed : (x c : AskedCondition) → size_needles_in x.ask ≡ [] → Contains (x ∷ []) c → (n : Needle) → Contains (size_needles_in c.ask) n → ⊥
 unnamed x c none there n named =
-    Contains-none n (subst (λ ns. Contains ns n) none (subst (λ (a : Asked). Contains (names_in a.ask) n) (sym (only_check x c there)) named))
+    Contains-none n (subst (λ ns. Contains ns n) none (subst (λ (a : AskedCondition). Contains (size_needles_in a.ask) n) (sym (only_check x c there)) named))
 
 agrees : (p q : Ask) → IsPlainCondition p → AgreeOnLast p q
 agrees (rack_is x) q plain = tt
@@ -102,18 +102,18 @@ set_plain (size_at_most names most) plain = absurd plain
 set_plain (last_near c at float) plain = absurd plain
 
 -- a line with one condition that isn't on sizes or on a last needle
-pub one_check_good : (x : Asked) (effect : Effect) → x.fault.line ≡ 0 → names_in x.ask ≡ [] → IsPlainCondition x.ask → AskFits 1 0 [] x.ask → ThroughFits 1 (one_line [] (Through effect)) effect →
+pub one_check_good : (x : AskedCondition) (effect : Effect) → x.fault.line ≡ 0 → size_needles_in x.ask ≡ [] → IsPlainCondition x.ask → AskFits 1 0 [] x.ask → ThroughFits 1 (one_line [] (Through effect)) effect →
     IsGood 1 0 [] (one_line (x ∷ []) (Through effect))
 one_check_good x effect line none plain fits ending =
     let idle = (no_lines_good 1 0 []).fair in
     record {
       fair = record {
         made = omega arith;
-        asks_fit = λ c there. subst (λ (a : Asked). AskFits 1 0 [] a.ask) (only_check x c there) fits;
-        within = λ c there. subst (λ (a : Asked). a.fault.line < 1) (only_check x c there) (omega (arith, line));
+        asks_fit = λ c there. subst (λ (a : AskedCondition). AskFits 1 0 [] a.ask) (only_check x c there) fits;
+        within = λ c there. subst (λ (a : AskedCondition). a.fault.line < 1) (only_check x c there) (omega (arith, line));
         in_turn = ((λ d later. absurd (Contains-none d later)), tt);
         nested = λ c d here there. inl (λ n named. absurd (unnamed x c none here n named));
-        agree = λ c d here there. subst (λ (a : Asked). AgreeOnLast a.ask d.ask) (only_check x c here) (agrees x.ask d.ask plain);
+        agree = λ c d here there. subst (λ (a : AskedCondition). AgreeOnLast a.ask d.ask) (only_check x c here) (agrees x.ask d.ask plain);
         in_order = idle.in_order;
         changes_fit = λ c there. absurd (Contains-none c there);
         owns = idle.owns;
@@ -126,7 +126,7 @@ one_check_good x effect line none plain fits ending =
           came = ending.came;
           went = ending.went;
           hook = ending.hook;
-          nears = λ c there. subst (λ (a : Asked). IsSet [] a.ask) (only_check x c there) (set_plain x.ask plain);
+          nears = λ c there. subst (λ (a : AskedCondition). IsSet [] a.ask) (only_check x c there) (set_plain x.ask plain);
         };
       };
       irredundant = ((λ d later. absurd (Contains-none d later)), tt);

@@ -11,7 +11,7 @@ use Rattle.face_data.specs.declared.face.Part.{Part}
 use Rattle.face_data.specs.declared.face.Seg.{Seg}
 use Rattle.face_data.specs.declared.face.Seg.TheVariants.{Entry, New}
 use Rattle.face_data.specs.Conditions.{part_of}
-use Rattle.face_data.specs.Segments.{Changed, OffsetFits, entries_in, entries_of}
+use Rattle.face_data.specs.Segments.{Changed, OffsetFits, entry_needles_in, entry_needles_of}
 use Rattle.face_data.specs.Through.{changes_through, through}
 use Rattle.face_data.specs.View.{changed_of, ArePacked}
 use Rattle.summary_compose.specs.Changes.{HaveOffsets, raised_seg}
@@ -26,19 +26,19 @@ nil_right xs ys e =
     let size : length (xs ++ ys) ≡ 0 = ap length e in
     nil_from_length ys (omega (arith, size, length-append xs ys))
 
-entries_split : (n : ℕ) (segs : List Seg) → entries_of segs ≡ [] → entries_of (take n segs) ++ entries_of (drop n segs) ≡ []
-entries_split n segs none = sym (flat_map-append entries_in (take n segs) (drop n segs)) ∙ ap entries_of (take-append-drop n segs) ∙ none
+entries_split : (n : ℕ) (segs : List Seg) → entry_needles_of segs ≡ [] → entry_needles_of (take n segs) ++ entry_needles_of (drop n segs) ≡ []
+entries_split n segs none = sym (flat_map-append entry_needles_in (take n segs) (drop n segs)) ∙ ap entry_needles_of (take-append-drop n segs) ∙ none
 
-entries_part : (segs : List Seg) (p : Part) → entries_of segs ≡ [] → entries_of (part_of segs p) ≡ []
+entries_part : (segs : List Seg) (p : Part) → entry_needles_of segs ≡ [] → entry_needles_of (part_of segs p) ≡ []
 entries_part segs p none =
     let size = (p.start + p.len) - p.start in
-    let behind = nil_right (entries_of (take p.start segs)) (entries_of (drop p.start segs)) (entries_split p.start segs none) in
-    nil_left (entries_of (part_of segs p)) (entries_of (drop size (drop p.start segs))) (entries_split size (drop p.start segs) behind)
+    let behind = nil_right (entry_needles_of (take p.start segs)) (entry_needles_of (drop p.start segs)) (entries_split p.start segs none) in
+    nil_left (entry_needles_of (part_of segs p)) (entry_needles_of (drop size (drop p.start segs))) (entries_split size (drop p.start segs) behind)
 
-through_raised : (changes : List Changed) (lines : ℕ) (segs : List Seg) → entries_of segs ≡ [] → through changes lines segs ≡ map (raised_seg lines) segs
+through_raised : (changes : List Changed) (lines : ℕ) (segs : List Seg) → entry_needles_of segs ≡ [] → through changes lines segs ≡ map (raised_seg lines) segs
 through_raised changes lines [] none = refl
 through_raised changes lines (Entry n ∷ segs) none =
-    let size : suc (length (entries_of segs)) ≡ 0 = ap length none in
+    let size : suc (length (entry_needles_of segs)) ≡ 0 = ap length none in
     absurd (omega (arith, size))
 through_raised changes lines (New offset ∷ segs) none = ap (λ (xs : List Seg). New (lines + offset) ∷ xs) (through_raised changes lines segs none)
 
@@ -48,7 +48,7 @@ part_raised lines segs p =
     ap (take size) (drop-map (raised_seg lines) p.start segs) ∙ take-map (raised_seg lines) size (drop p.start segs)
 
 -- the second face's changes are its own, with the lines of new loops raised
-pub changes_raised : (changes : List Changed) (lines : ℕ) (segs : List Seg) (cs : List Change) → entries_of segs ≡ [] →
+pub changes_raised : (changes : List Changed) (lines : ℕ) (segs : List Seg) (cs : List Change) → entry_needles_of segs ≡ [] →
     changes_through changes lines (map (changed_of segs) cs) ≡ map (changed_of (map (raised_seg lines) segs)) cs
 changes_raised changes lines segs [] none = refl
 changes_raised changes lines segs (c ∷ cs) none =

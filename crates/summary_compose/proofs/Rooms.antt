@@ -17,24 +17,24 @@ use Rattle.face_data.specs.declared.face.Change.{Change}
 use Rattle.face_data.specs.declared.face.FaceView.{FaceView}
 use Rattle.face_data.specs.declared.face.Seg.{Seg}
 use Rattle.face_data.specs.declared.face.Seg.TheVariants.{Entry, New}
-use Rattle.face_data.specs.Composition.{by_order, merged, merged_from}
+use Rattle.face_data.specs.Composition.{by_order, changes_merged, merged_from}
 use Rattle.face_data.specs.Conditions.{part_of}
-use Rattle.face_data.specs.Goodness.{IsInOrder, OwnsOnce, entries_on, names_in}
-use Rattle.face_data.specs.Segments.{Changed, change_at, segments_on, entries_in, entries_of, names_through, new_in, new_of, new_through, segs_or_own}
+use Rattle.face_data.specs.Goodness.{IsInOrder, OwnsOnce, entries_on, size_needles_in}
+use Rattle.face_data.specs.Segments.{Changed, change_at, segments_on, entry_needles_in, entry_needles_of, names_through, new_in, new_of, new_through, segs_or_own}
 use Rattle.face_data.specs.Sets.{IsDistinct}
-use Rattle.face_data.specs.Summaries.{Asked}
+use Rattle.face_data.specs.Summaries.{AskedCondition}
 use Rattle.face_data.specs.Through.{change_through, changes_through, through}
-use Rattle.face_data.specs.View.{IsPacked, asked_of, changed_of}
+use Rattle.face_data.specs.View.{IsPacked, asked_of_check, changed_of}
 use Rattle.face_data.proofs.Goodness.{members_merged, members_through}
 use Rattle.face_data.proofs.Items.{all_entries, change_found, segments_found, in_needles, length-segs, length_within, needle_in, needles_distinct, needles_changed}
-use Rattle.face_data.proofs.Members.{Contains-none, Contains-head, Contains-tail, Contains-cons_cases, dropped, dropped_keeps, sum_dropped}
+use Rattle.face_data.proofs.Members.{Contains-none, Contains-head, Contains-tail, Contains-cons_cases, without_first_needle, dropped_keeps, sum_dropped}
 use Rattle.face_data.proofs.ChangeLists.{segments_on-both, order_merged, order_through}
 use Rattle.face_data.proofs.Owners.{changed_or_own, distinct_through, from_through, member_cases, only_itself}
 use Rattle.face_data.proofs.Parts.{change_absent}
 use Rattle.summary_compose.specs.Changes.{changes_in, segs_in}
 use Rattle.summary_compose.specs.Composing.{FindsRoom, IsNoGreater}
-use Rattle.summary_compose.specs.Known.{AreGood, checks_in, names_count, names_read_count}
-use Rattle.summary_compose.specs.Rooms.{CanBeMade, capped, names_after, room_after, room_of, room_of_both, widest_of}
+use Rattle.summary_compose.specs.Known.{AreGoodFaces, checks_in, names_count, names_read_count}
+use Rattle.summary_compose.specs.Rooms.{CanBeMade, capped_room, names_after, room_after, room_of_face, room_of_both_faces, widest_of}
 use Rattle.summary_compose.specs.declared.room.Room.{Room}
 use Rattle.summary_compose.proofs.Checks.{named_size}
 use Rattle.summary_compose.proofs.Parts.{packed_size}
@@ -42,11 +42,11 @@ use Rattle.summary_compose.proofs.Widths.{names_read_wide, widest_some}
 use Rattle.face_data.proofs.KnownAnswers.{AskFits-distinct}
 
 -- an entry of a change is one of all
-pub in_all : (cs : List Changed) (c : Changed) (n : Needle) → Contains cs c → Contains (entries_of c.1) n → Contains (all_entries cs) n
+pub in_all : (cs : List Changed) (c : Changed) (n : Needle) → Contains cs c → Contains (entry_needles_of c.1) n → Contains (all_entries cs) n
 in_all [] c n h k = absurd (Contains-none c h)
 in_all (x ∷ cs) c n h k = elim (Contains-cons_cases x cs c h) [
-  | inl same ↦ Contains-append_left (entries_of x.1) (all_entries cs) n (subst (λ (w : Changed). Contains (entries_of w.1) n) (sym same) k)
-  | inr later ↦ Contains-append_right (entries_of x.1) (all_entries cs) n (in_all cs c n later k)
+  | inl same ↦ Contains-append_left (entry_needles_of x.1) (all_entries cs) n (subst (λ (w : Changed). Contains (entry_needles_of w.1) n) (sym same) k)
+  | inr later ↦ Contains-append_right (entry_needles_of x.1) (all_entries cs) n (in_all cs c n later k)
 ]
 
 -- needles that are read through changes are the needles themselves and the changes' entries, at most
@@ -58,30 +58,30 @@ read_within ch xs o d =
       length_within (names_through ch xs) (xs ++ all_entries ch) (distinct_through ch xs o d) (λ n h.
           let v = from_through ch xs n h in
           elim (changed_or_own ch v.0) [
-            | inl c ↦ Contains-append_right xs (all_entries ch) n (in_all ch c.0 n c.1 (subst (λ segs. Contains (entries_of segs) n) c.3 v.2))
-            | inr own ↦ Contains-append_left xs (all_entries ch) n (subst (Contains xs) (only_itself v.0 n (subst (λ segs. Contains (entries_of segs) n) own v.2)) v.1)
+            | inl c ↦ Contains-append_right xs (all_entries ch) n (in_all ch c.0 n c.1 (subst (λ segs. Contains (entry_needles_of segs) n) c.3 v.2))
+            | inr own ↦ Contains-append_left xs (all_entries ch) n (subst (Contains xs) (only_itself v.0 n (subst (λ segs. Contains (entry_needles_of segs) n) own v.2)) v.1)
           ]),
     )
 
 -- how many needles the conditions name when they are read through a block
-pub names_read_bound : (ch : List Changed) (cs : List Asked) → OwnsOnce ch → ((c : Asked) → Contains cs c → IsDistinct (names_in c.ask)) →
+pub names_read_bound : (ch : List Changed) (cs : List AskedCondition) → OwnsOnce ch → ((c : AskedCondition) → Contains cs c → IsDistinct (size_needles_in c.ask)) →
     names_read_count ch cs ≤ names_count cs + length cs * length (all_entries ch)
 names_read_bound ch [] o d = omega arith
 names_read_bound ch (c ∷ cs) o d =
     omega (
       arith,
-      read_within ch (names_in c.ask) o (d c (Contains-head c cs)),
+      read_within ch (size_needles_in c.ask) o (d c (Contains-head c cs)),
       names_read_bound ch cs o (λ q there. d q (Contains-tail c cs q there)),
-      sum_by-cons (λ (c : Asked). length (names_in c.ask)) c cs,
-      sum_by-cons (λ (c : Asked). length (names_through ch (names_in c.ask))) c cs,
+      sum_by-cons (λ (c : AskedCondition). length (size_needles_in c.ask)) c cs,
+      sum_by-cons (λ (c : AskedCondition). length (names_through ch (size_needles_in c.ask))) c cs,
     )
 
 -- the entries of packed changes are those of the list of segments
-pub all_entries_flat : (segs : List Seg) (cs : List Change) → entries_of (flat_map (λ (c : Change). part_of segs c.part) cs) ≡ all_entries (map (changed_of segs) cs)
+pub all_entries_flat : (segs : List Seg) (cs : List Change) → entry_needles_of (flat_map (λ (c : Change). part_of segs c.part) cs) ≡ all_entries (map (changed_of segs) cs)
 all_entries_flat segs [] = refl
 all_entries_flat segs (c ∷ cs) =
-    flat_map-append entries_in (part_of segs c.part) (flat_map (λ (c : Change). part_of segs c.part) cs)
-    ∙ ap (λ r. entries_of (part_of segs c.part) ++ r) (all_entries_flat segs cs)
+    flat_map-append entry_needles_in (part_of segs c.part) (flat_map (λ (c : Change). part_of segs c.part) cs)
+    ∙ ap (λ r. entry_needles_of (part_of segs c.part) ++ r) (all_entries_flat segs cs)
 
 by_order_length : (o : Ordering) (xs ys zs : List Changed) (n : ℕ) → length xs ≤ n → length ys ≤ n → length zs ≤ n → length (by_order o xs ys zs) ≤ n
 by_order_length Less xs ys zs n h k l = h
@@ -95,9 +95,9 @@ merged_from_length a rest n h (b ∷ bs) =
     by_order_length (needle_cmp a.0 b.0) (a ∷ rest (b ∷ bs)) (b ∷ rest bs) (b ∷ merged_from a rest bs) (suc n + length (b ∷ bs)) (omega (arith, h (b ∷ bs))) (omega (arith, h bs)) (omega (arith, merged_from_length a rest n h bs))
 
 -- how many needles both blocks change
-pub merged_length : (others bs : List Changed) → length (merged others bs) ≤ length others + length bs
+pub merged_length : (others bs : List Changed) → length (changes_merged others bs) ≤ length others + length bs
 merged_length [] bs = omega arith
-merged_length (a ∷ others) bs = merged_from_length a (merged others) (length others) (merged_length others) bs
+merged_length (a ∷ others) bs = merged_from_length a (changes_merged others) (length others) (merged_length others) bs
 
 -- a sum over distinct needles is at most that over a list that has each of them where the term isn't 0
 sum_support : (f : Needle → ℕ) (xs ys : List Needle) → IsDistinct xs → ((n : Needle) → Contains xs n → Contains ys n ⊎ (f n ≡ 0)) → sum_by f xs ≤ sum_by f ys
@@ -105,7 +105,7 @@ sum_support f [] ys d w = omega arith
 sum_support f (x ∷ xs) ys d w = elim (w x (Contains-head x xs)) [
   | inl there ↦ omega (
     arith,
-    sum_support f xs (dropped x ys) d.1 (λ q h. elim (w q (Contains-tail x xs q h)) [
+    sum_support f xs (without_first_needle x ys) d.1 (λ q h. elim (w q (Contains-tail x xs q h)) [
       | inl here ↦ inl (dropped_keeps x q ys (λ e. d.0 (subst (Contains xs) (sym e) h)) here)
       | inr none ↦ inr none
     ]),
@@ -178,26 +178,26 @@ new_sum whole (x ∷ cs) order sub =
       arith,
       ap new_of (segments_found whole x order (sub x (Contains-head x cs))),
       length-segs x.1,
-      length-append (entries_of x.1) (all_entries cs),
+      length-append (entry_needles_of x.1) (all_entries cs),
       new_sum whole cs order (λ c h. sub c (Contains-tail x cs c h)),
       sum_by-cons (λ n. new_of (segments_on whole n)) x.0 (needles_changed cs),
       sum_by-cons (λ (c : Changed). length c.1) x cs,
     )
 
-through_length : (ch : List Changed) (lines : ℕ) (segs : List Seg) → length (through ch lines segs) ≡ sum_by (λ n. length (segments_on ch n)) (entries_of segs) + new_of segs
+through_length : (ch : List Changed) (lines : ℕ) (segs : List Seg) → length (through ch lines segs) ≡ sum_by (λ n. length (segments_on ch n)) (entry_needles_of segs) + new_of segs
 through_length ch lines [] = refl
 through_length ch lines (Entry n ∷ segs) =
     omega (
       arith,
       length-append (segments_on ch n) (through ch lines segs),
       through_length ch lines segs,
-      sum_by-cons (λ n. length (segments_on ch n)) n (entries_of segs),
+      sum_by-cons (λ n. length (segments_on ch n)) n (entry_needles_of segs),
       sum_by-cons new_in (Entry n) segs,
     )
 through_length ch lines (New o ∷ segs) = omega (arith, through_length ch lines segs, sum_by-cons new_in (New o) segs)
 
 both_sum : (a b : List Changed) (lines : ℕ) (ns : List Needle) → IsInOrder b →
-    sum_by (λ n. length (segments_on (merged a (changes_through a lines b)) n)) ns ≡ sum_by (λ n. length (segments_on a n)) (names_through b ns) + new_through b ns
+    sum_by (λ n. length (segments_on (changes_merged a (changes_through a lines b)) n)) ns ≡ sum_by (λ n. length (segments_on a n)) (names_through b ns) + new_through b ns
 both_sum a b lines [] order = refl
 both_sum a b lines (n ∷ ns) order =
     omega (
@@ -206,7 +206,7 @@ both_sum a b lines (n ∷ ns) order =
       through_length a lines (segments_on b n),
       both_sum a b lines ns order,
       sum_by-append (λ n. length (segments_on a n)) (entries_on b n) (names_through b ns),
-      sum_by-cons (λ n. length (segments_on (merged a (changes_through a lines b)) n)) n ns,
+      sum_by-cons (λ n. length (segments_on (changes_merged a (changes_through a lines b)) n)) n ns,
       sum_by-cons (λ n. new_of (segments_on b n)) n ns,
     )
 
@@ -219,24 +219,24 @@ own_small None = omega arith
 own_small (Some segs) = omega arith
 
 -- a needle that both blocks change together is changed by one of them
-pub from_both : (a b : List Changed) (lines : ℕ) (n : Needle) → Contains (needles_changed (merged a (changes_through a lines b))) n → Contains (needles_changed a) n ⊎ Contains (needles_changed b) n
+pub from_both : (a b : List Changed) (lines : ℕ) (n : Needle) → Contains (needles_changed (changes_merged a (changes_through a lines b))) n → Contains (needles_changed a) n ⊎ Contains (needles_changed b) n
 from_both a b lines n h =
-    let c = in_needles (merged a (changes_through a lines b)) n h in
+    let c = in_needles (changes_merged a (changes_through a lines b)) n h in
     subst (λ m. Contains (needles_changed a) m ⊎ Contains (needles_changed b) m) c.2
     (members_merged (λ (c : Changed). Contains (needles_changed a) c.0 ⊎ Contains (needles_changed b) c.0) a (changes_through a lines b)
     (λ d there. inl (needle_in a d there))
     (members_through (λ (c : Changed). Contains (needles_changed a) c.0 ⊎ Contains (needles_changed b) c.0) a lines b (λ d there. inr (needle_in b d there))) c.0 c.1)
 
 -- an entry that a merged needle holds is one of the second block's, or the first block changes it
-entry_or_changed : (a b : List Changed) (lines : ℕ) (m : Needle) → IsInOrder a → IsInOrder b → Contains (names_through b (needles_changed (merged a (changes_through a lines b)))) m →
+entry_or_changed : (a b : List Changed) (lines : ℕ) (m : Needle) → IsInOrder a → IsInOrder b → Contains (names_through b (needles_changed (changes_merged a (changes_through a lines b)))) m →
     Contains (all_entries b) m ⊎ (own_size (change_at a m) ≡ 0)
 entry_or_changed a b lines m order_a order_b h =
-    let v = from_through b (needles_changed (merged a (changes_through a lines b))) m h in
+    let v = from_through b (needles_changed (changes_merged a (changes_through a lines b))) m h in
     elim (named_or_none b v.0) [
       | inl there ↦ (let c = in_needles b v.0 there in
           let found : segments_on b v.0 ≡ c.0.1 = ap (segments_on b) (sym c.2) ∙ segments_found b c.0 order_b c.1 in
-          inl (in_all b c.0 m c.1 (subst (λ segs. Contains (entries_of segs) m) found v.2)))
-      | inr none ↦ (let same = only_itself v.0 m (subst (λ segs. Contains (entries_of segs) m) (own_none b v.0 none) v.2) in
+          inl (in_all b c.0 m c.1 (subst (λ segs. Contains (entry_needles_of segs) m) found v.2)))
+      | inr none ↦ (let same = only_itself v.0 m (subst (λ segs. Contains (entry_needles_of segs) m) (own_none b v.0 none) v.2) in
           elim (from_both a b lines v.0 v.1) [
             | inl in_a ↦ (let c = in_needles a v.0 in_a in
                 inr (ap (λ n. own_size (change_at a n)) (sym same ∙ sym c.2) ∙ ap own_size (change_found a c.0 order_a c.1)))
@@ -251,9 +251,9 @@ entry_or_changed a b lines m order_a order_b h =
     some_not_none segs e = cc
 
 -- The merged changes have at most the segments of both.
-pub merged_segs : (a b : List Changed) (lines : ℕ) → IsInOrder a → IsInOrder b → OwnsOnce b → segs_in (merged a (changes_through a lines b)) ≤ segs_in a + segs_in b
+pub merged_segs : (a b : List Changed) (lines : ℕ) → IsInOrder a → IsInOrder b → OwnsOnce b → segs_in (changes_merged a (changes_through a lines b)) ≤ segs_in a + segs_in b
 merged_segs a b lines order_a order_b o =
-    let m = merged a (changes_through a lines b) in
+    let m = changes_merged a (changes_through a lines b) in
     let order = order_merged a (changes_through a lines b) order_a (order_through a lines b order_b) in
     let ns = needles_changed m in
     let distinct = needles_distinct m order in
@@ -285,7 +285,7 @@ capped_at n true e = omega (arith, ltb-true (2 ^ 62) n e)
 capped_at n false e = omega (arith, ltb-false (2 ^ 62) n e)
 
 -- a capped number is the lesser of it and one past all room
-pub capped_is_min : (n : ℕ) → capped n ≡ min n (2 ^ 62 + 1)
+pub capped_is_min : (n : ℕ) → capped_room n ≡ min n (2 ^ 62 + 1)
 capped_is_min n = capped_at n (nat_lt (2 ^ 62) n) refl
 
 -- a number that isn't past all room
@@ -294,18 +294,18 @@ capped_if n true e h = absurd (omega (arith, h))
 capped_if n false e h = refl
 
 -- a number that is within a room, capped, is within it
-pub capped_is : (n most : ℕ) → capped n ≤ most → most ≤ 2 ^ 62 → n ≤ most
+pub capped_is : (n most : ℕ) → capped_room n ≤ most → most ≤ 2 ^ 62 → n ≤ most
 capped_is n most h small =
     let is = capped_if n (nat_lt (2 ^ 62) n) refl (omega (arith, h, small)) in
     omega (arith, is, h)
 
 -- what the needles of conditions are read to is within both bounds, where these aren't past all room
-names_there : (read each own more : ℕ) → read ≤ each → read ≤ own + more → min (capped each) (capped (own + capped more)) ≤ 2 ^ 62 → read ≤ min (capped each) (capped (own + capped more))
+names_there : (read each own more : ℕ) → read ≤ each → read ≤ own + more → min (capped_room each) (capped_room (own + capped_room more)) ≤ 2 ^ 62 → read ≤ min (capped_room each) (capped_room (own + capped_room more))
 names_there read each own more h k small =
-    omega (arith, h, k, small, capped_is_min each, capped_is_min more, capped_is_min (own + capped more))
+    omega (arith, h, k, small, capped_is_min each, capped_is_min more, capped_is_min (own + capped_room more))
 
 -- Room for both faces by their lists is room for their composition.
-pub finds_room : (a b : FaceView) → AreGood a b → IsPacked a → IsPacked b → (room : Room) → CanBeMade room → IsNoGreater (room_of_both a b) room → FindsRoom a b room
+pub finds_room : (a b : FaceView) → AreGoodFaces a b → IsPacked a → IsPacked b → (room : Room) → CanBeMade room → IsNoGreater (room_of_both_faces a b) room → FindsRoom a b room
 finds_room a b g pa pb room made h =
     let ca = changes_in a in
     let cb = changes_in b in
@@ -316,22 +316,22 @@ finds_room a b g pa pb room made h =
     let lines_a = length-map a.changes.now (changed_of a.segs.now) in
     let lines_b = length-map b.changes.now (changed_of b.segs.now) in
     let lines_t = length-map cb (change_through ca a.lines) in
-    let entries : length (all_entries ca) ≡ length (entries_of a.segs.now)
-    = ap length (sym (all_entries_flat a.segs.now a.changes.now) ∙ ap entries_of pa.segs) in
-    let asked : length (checks_in b) * length (all_entries ca) ≡ length b.checks.now * length (entries_of a.segs.now)
-    = ap₂ (λ (x y : ℕ). x * y) (length-map b.checks.now (asked_of b.names.now)) entries in
+    let entries : length (all_entries ca) ≡ length (entry_needles_of a.segs.now)
+    = ap length (sym (all_entries_flat a.segs.now a.changes.now) ∙ ap entry_needles_of pa.segs) in
+    let asked : length (checks_in b) * length (all_entries ca) ≡ length b.checks.now * length (entry_needles_of a.segs.now)
+    = ap₂ (λ (x y : ℕ). x * y) (length-map b.checks.now (asked_of_check b.names.now)) entries in
     let read = names_read_bound ca (checks_in b) g.first.fair.owns (λ c there. AskFits-distinct g.carriers g.limit g.second_known c.ask (g.second.fair.asks_fit c there)) in
     let wide_some : 1 * 1 ≤ widest_of ca * widest_of cb = mul-le-mul (widest_some ca) (widest_some cb) in
     let wide : names_read_count ca (checks_in b) ≤ length b.names.now * widest_of ca
     = subst (λ n. names_read_count ca (checks_in b) ≤ n * widest_of ca) (sym nb) (names_read_wide ca (checks_in b)) in
-    let names = capped_is (length a.names.now + names_after (room_of a) (room_of b)) room.names h.names made.names in
-    let through = names_there (names_read_count ca (checks_in b)) (length b.names.now * widest_of ca) (length b.names.now) (length b.checks.now * length (entries_of a.segs.now)) wide (omega (arith, read, asked, nb)) (omega (arith, names, made.names)) in
+    let names = capped_is (length a.names.now + names_after (room_of_face a) (room_of_face b)) room.names h.names made.names in
+    let through = names_there (names_read_count ca (checks_in b)) (length b.names.now * widest_of ca) (length b.names.now) (length b.checks.now * length (entry_needles_of a.segs.now)) wide (omega (arith, read, asked, nb)) (omega (arith, names, made.names)) in
     record {
       checks = capped_is (length a.checks.now + length b.checks.now) room.checks h.checks made.checks;
       names = omega (arith, na, names, through);
       changes = omega (arith, merged_length ca (changes_through ca a.lines cb), lines_a, lines_b, lines_t, capped_is (length a.changes.now + length b.changes.now) room.changes h.changes made.changes);
       segs = omega (arith, merged_segs ca cb a.lines g.first.fair.in_order g.second.fair.in_order g.second.fair.owns, sa, sb, capped_is (length a.segs.now + length b.segs.now) room.segs h.segs made.segs);
-      some = omega (arith, h.widest, wide_some, capped_is_min (widest_of ca * widest_of cb), capped_is_min (length (entries_of a.segs.now) + length (entries_of b.segs.now)));
+      some = omega (arith, h.widest, wide_some, capped_is_min (widest_of ca * widest_of cb), capped_is_min (length (entry_needles_of a.segs.now) + length (entry_needles_of b.segs.now)));
       lasts = capped_is (length a.lasts.now + length b.lasts.now) room.lasts h.lasts made.lasts;
     }
 
@@ -341,7 +341,7 @@ capped_more n m true false e f h = absurd (omega (arith, h, ltb-true (2 ^ 62) n 
 capped_more n m false true e f h = omega (arith, ltb-false (2 ^ 62) n e)
 capped_more n m false false e f h = h
 
-capped_grows : (n m : ℕ) → n ≤ m → capped n ≤ capped m
+capped_grows : (n m : ℕ) → n ≤ m → capped_room n ≤ capped_room m
 capped_grows n m h = capped_more n m (nat_lt (2 ^ 62) n) (nat_lt (2 ^ 62) m) refl refl h
 
 -- Greater rooms leave no less room for the composition.
@@ -349,7 +349,7 @@ pub after_grows : (room more next later : Room) → IsNoGreater room more → Is
 after_grows room more next later h k =
     let read = capped_grows (next.checks * room.entries) (later.checks * more.entries) (mul-le-mul k.checks h.entries) in
     let each = capped_grows (next.names * room.widest) (later.names * more.widest) (mul-le-mul k.names h.widest) in
-    let all = capped_grows (next.names + capped (next.checks * room.entries)) (later.names + capped (later.checks * more.entries)) (omega (arith, read, k.names)) in
+    let all = capped_grows (next.names + capped_room (next.checks * room.entries)) (later.names + capped_room (later.checks * more.entries)) (omega (arith, read, k.names)) in
     let entries = capped_grows (room.entries + next.entries) (more.entries + later.entries) (omega (arith, h.entries, k.entries)) in
     let widest = capped_grows (room.widest * next.widest) (more.widest * later.widest) (mul-le-mul h.widest k.widest) in
     record {

@@ -18,7 +18,7 @@ use Rattle.face_data.specs.Goodness.{IsInOrder}
 use Rattle.face_data.specs.Segments.{Changed, change_at, segments_on}
 use Rattle.face_data.specs.View.{changed_of, PartsFit}
 use Rattle.summary_compose.specs.Changes.{changed_needles}
-use Rattle.summary_compose.specs.Tables.{Leads, IsTableOf, IsWritten}
+use Rattle.summary_compose.specs.Tables.{Leads, IsTableOf, IsPlaceWritten}
 use Rattle.summary_compose.proofs.Tables.{leads_nowhere, tells_push}
 use Rattle.knit_base.proofs.Needles.{same_needle-same, needle_cmp-refl, same_needle-false}
 use Rattle.face_data.proofs.ChangeLists.{not_less_and_equal}
@@ -30,7 +30,7 @@ needle_at (c ∷ cs) zero d n within = refl
 needle_at (c ∷ cs) (suc i) d n within = needle_at cs i d n (omega arith)
 
 -- the table with the places of one change more
-pub tells_more : (entries more : List ℕ) (changes : List Change) (i : ℕ) (d : Change) → i < length changes → IsWritten entries more (get_or changes i d).needle i →
+pub tells_more : (entries more : List ℕ) (changes : List Change) (i : ℕ) (d : Change) → i < length changes → IsPlaceWritten entries more (get_or changes i d).needle i →
     IsTableOf entries (changed_needles (take i changes)) → IsTableOf more (changed_needles (take (i + 1) changes))
 tells_more entries more changes i d within written h =
     let name : Change → Needle = λ (c : Change). c.needle in
@@ -39,7 +39,7 @@ tells_more entries more changes i d within written h =
     let now : changed_needles (take (i + 1) changes) ≡ changed_needles front ++ (get_or changes i d).needle ∷ [] =
     ap changed_needles (take_more changes i d within) ∙ map-append name front (get_or changes i d ∷ []) in
     subst (λ ns. IsTableOf more ns) (sym now)
-    (tells_push entries more (changed_needles front) (get_or changes i d).needle h (subst (IsWritten entries more (get_or changes i d).needle) (sym len) written))
+    (tells_push entries more (changed_needles front) (get_or changes i d).needle h (subst (IsPlaceWritten entries more (get_or changes i d).needle) (sym len) written))
 
 -- all places were noted
 pub tells_all : (entries : List ℕ) (changes : List Change) (i : ℕ) → length changes ≤ i → IsTableOf entries (changed_needles (take i changes)) → IsTableOf entries (changed_needles changes)

@@ -8,8 +8,8 @@ use Rattle.std.proofs.lemmas.Bool.{leb-true, leb-false, true≢false}
 use Rattle.knit_base.specs.declared.needle.Needle.{Needle}
 use Rattle.knit_base.specs.Needle.{same_needle, same_needle-true}
 use Rattle.face_data.specs.Spots.{spot_of}
-use Rattle.summary_compose.specs.Tables.{Leads, IsTableOf, IsWritten, link_needles, AreLinked, note_of, note_room, suits}
-use Rattle.summary_compose.specs.declared.index.Link.{Link}
+use Rattle.summary_compose.specs.Tables.{Leads, IsTableOf, IsPlaceWritten, link_needles, TableChainsLeadBack, note_of, note_room, note_suits}
+use Rattle.summary_compose.specs.declared.index.NeedleLink.{NeedleLink}
 use Rattle.face_data.proofs.NeedleSpots.{spot_of-injective}
 use Rattle.knit_base.proofs.Needles.{same_needle-same}
 
@@ -44,7 +44,7 @@ leads_other names m n place differ h k within here = go (last_or_before k (lengt
         (at.0, room, get_or_append_left names (m ∷ []) n place at.1 ∙ at.2)
     go (inr last) = absurd (differ (sym (get_or_push names m n k (sym last)) ∙ here))
 
-tells_at : (entries more : List ℕ) (names : List Needle) (m : Needle) → IsTableOf entries names → IsWritten entries more m (length names) → (n : Needle) →
+tells_at : (entries more : List ℕ) (names : List Needle) (m : Needle) → IsTableOf entries names → IsPlaceWritten entries more m (length names) → (n : Needle) →
     (m ≡ n) ⊎ (m ≡ n → ⊥) → Leads (names ++ m ∷ []) n (get_or more (spot_of n) 0)
 tells_at entries more names m h w n (inl same) =
     let is : length names ≡ get_or more (spot_of n) 0 = sym w.here ∙ ap (λ (x : Needle). get_or more (spot_of x) 0) same in
@@ -54,7 +54,7 @@ tells_at entries more names m h w n (inr differ) =
     subst (λ p. Leads (names ++ m ∷ []) n p) (sym is) (leads_other names m n (get_or entries (spot_of n) 0) differ (h n))
 
 -- a table with one more place noted
-pub tells_push : (entries more : List ℕ) (names : List Needle) (m : Needle) → IsTableOf entries names → IsWritten entries more m (length names) → IsTableOf more (names ++ m ∷ [])
+pub tells_push : (entries more : List ℕ) (names : List Needle) (m : Needle) → IsTableOf entries names → IsPlaceWritten entries more m (length names) → IsTableOf more (names ++ m ∷ [])
 tells_push entries more names m h w n = tells_at entries more names m h w n (needle_cases m n)
 
 -- no needle, no place
@@ -86,40 +86,40 @@ room_more spots links places more h k = go (nat_le (2 ^ 18) spots) refl
     go false e = omega arith
 
 -- no link
-pub linked_none : AreLinked []
+pub linked_none : TableChainsLeadBack []
 linked_none k d within = absurd (omega arith)
 
 -- links and one more
-pub linked_push : (links : List Link) (l : Link) → AreLinked links → Leads (link_needles links) l.needle l.next → AreLinked (links ++ l ∷ [])
+pub linked_push : (links : List NeedleLink) (l : NeedleLink) → TableChainsLeadBack links → Leads (link_needles links) l.needle l.next → TableChainsLeadBack (links ++ l ∷ [])
 linked_push links l h last k d within = go (last_or_before k (length links) (subst (λ j. k < j) (length_push links l) within))
   where
     go : (k < length links) ⊎ (k ≡ length links) → Leads (link_needles (take k (links ++ l ∷ []))) (get_or (links ++ l ∷ []) k d).needle (get_or (links ++ l ∷ []) k d).next
     go (inl before) =
         subst (λ xs. Leads (link_needles xs) (get_or (links ++ l ∷ []) k d).needle (get_or (links ++ l ∷ []) k d).next)
         (sym (take-append-le k links (l ∷ []) (omega arith)))
-        (subst (λ (x : Link). Leads (link_needles (take k links)) x.needle x.next) (sym (get_or_append_left links (l ∷ []) d k before)) (h k d before))
+        (subst (λ (x : NeedleLink). Leads (link_needles (take k links)) x.needle x.next) (sym (get_or_append_left links (l ∷ []) d k before)) (h k d before))
     go (inr seam) =
         subst (λ xs. Leads (link_needles xs) (get_or (links ++ l ∷ []) k d).needle (get_or (links ++ l ∷ []) k d).next)
         (sym (take_at links (l ∷ []) k (sym seam)))
-        (subst (λ (x : Link). Leads (link_needles links) x.needle x.next) (sym (get_or_push links l d k (sym seam))) last)
+        (subst (λ (x : NeedleLink). Leads (link_needles links) x.needle x.next) (sym (get_or_push links l d k (sym seam))) last)
 
 -- the test of all links but the first
-suits_first : (n : Needle) (len most : ℕ) (l : Link) (b : Bool) → same_needle l.needle n ≡ b → (l.needle ≡ n → ⊥) → suits n len most (note_of l) ≡ false
+suits_first : (n : Needle) (len most : ℕ) (l : NeedleLink) (b : Bool) → same_needle l.needle n ≡ b → (l.needle ≡ n → ⊥) → note_suits n len most (note_of l) ≡ false
 suits_first n len most l true e differ = absurd (differ (same_needle-true l.needle n e))
 suits_first n len most l false e differ = ap (λ b. b && (nat_le len l.len && nat_le l.most most)) e
 
-suits_not : (n : Needle) (len most : ℕ) (l : Link) → (l.needle ≡ n → ⊥) → suits n len most (note_of l) ≡ false
+suits_not : (n : Needle) (len most : ℕ) (l : NeedleLink) → (l.needle ≡ n → ⊥) → note_suits n len most (note_of l) ≡ false
 suits_not n len most l differ = suits_first n len most l (same_needle l.needle n) refl differ
 
 either_false : (x y : Bool) → x ≡ false → y ≡ false → (x || y) ≡ false
 either_false x y p q = ap (λ b. b || y) p ∙ q
 
 -- nothing suits where the needle isn't
-pub suits_none : (n : Needle) (len most : ℕ) (links : List Link) → ((k : ℕ) → k < length (link_needles links) → get_or (link_needles links) k n ≡ n → ⊥) →
-    list_any (suits n len most) (map note_of links) ≡ false
+pub suits_none : (n : Needle) (len most : ℕ) (links : List NeedleLink) → ((k : ℕ) → k < length (link_needles links) → get_or (link_needles links) k n ≡ n → ⊥) →
+    list_any (note_suits n len most) (map note_of links) ≡ false
 suits_none n len most [] h = refl
 suits_none n len most (l ∷ links) h =
-    either_false (suits n len most (note_of l)) (list_any (suits n len most) (map note_of links)) (suits_not n len most l (h 0 (omega arith)))
+    either_false (note_suits n len most (note_of l)) (list_any (note_suits n len most) (map note_of links)) (suits_not n len most l (h 0 (omega arith)))
     (suits_none n len most links (λ k within. h (suc k) (omega arith)))
 
 -- what doesn't lead to a place of the needle says that the needle isn't there
@@ -131,14 +131,14 @@ or_nothing : (x y z : Bool) → x ≡ y → z ≡ false → (z || x) ≡ y
 or_nothing x y z p q = ap (λ b. b || x) q ∙ p
 
 -- behind the last place of the needle, and there where that note doesn't suit, is nothing that suits
-pub suits_before : (n : Needle) (len most : ℕ) (links : List Link) (place : ℕ) (d : Link) → Leads (link_needles links) n place → place < length links →
-    suits n len most (note_of (get_or links place d)) ≡ false → list_any (suits n len most) (map note_of links) ≡ list_any (suits n len most) (map note_of (take place links))
+pub suits_before : (n : Needle) (len most : ℕ) (links : List NeedleLink) (place : ℕ) (d : NeedleLink) → Leads (link_needles links) n place → place < length links →
+    note_suits n len most (note_of (get_or links place d)) ≡ false → list_any (note_suits n len most) (map note_of links) ≡ list_any (note_suits n len most) (map note_of (take place links))
 suits_before n len most [] place d h within fails = absurd (omega arith)
 suits_before n len most (l ∷ links) zero d h within fails =
-    or_nothing (list_any (suits n len most) (map note_of links)) false (suits n len most (note_of l))
+    or_nothing (list_any (note_suits n len most) (map note_of links)) false (note_suits n len most (note_of l))
     (suits_none n len most links (λ k small here. let at = h (suc k) (omega arith) here in absurd (let behind : suc k ≤ 0 = at.0 in omega arith))) fails
 suits_before n len most (l ∷ links) (suc place) d h within fails =
-    ap (λ b. suits n len most (note_of l) || b) (suits_before n len most links place d shifted (omega arith) fails)
+    ap (λ b. note_suits n len most (note_of l) || b) (suits_before n len most links place d shifted (omega arith) fails)
   where
     shifted : Leads (link_needles links) n place
     shifted k small here =
@@ -152,48 +152,48 @@ or_something true y e = refl
 or_something false y e = e
 
 -- a note that suits
-pub suits_at : (n : Needle) (len most : ℕ) (links : List Link) (place : ℕ) (d : Link) → place < length links →
-    suits n len most (note_of (get_or links place d)) ≡ true → list_any (suits n len most) (map note_of links) ≡ true
+pub suits_at : (n : Needle) (len most : ℕ) (links : List NeedleLink) (place : ℕ) (d : NeedleLink) → place < length links →
+    note_suits n len most (note_of (get_or links place d)) ≡ true → list_any (note_suits n len most) (map note_of links) ≡ true
 suits_at n len most [] place d within so = absurd (omega arith)
-suits_at n len most (l ∷ links) zero d within so = ap (λ b. b || list_any (suits n len most) (map note_of links)) so
+suits_at n len most (l ∷ links) zero d within so = ap (λ b. b || list_any (note_suits n len most) (map note_of links)) so
 suits_at n len most (l ∷ links) (suc place) d within so =
-    or_something (suits n len most (note_of l)) (list_any (suits n len most) (map note_of links)) (suits_at n len most links place d (omega arith) so)
+    or_something (note_suits n len most (note_of l)) (list_any (note_suits n len most) (map note_of links)) (suits_at n len most links place d (omega arith) so)
 
 -- the needle of the link at a place
-pub needle_of-get_or : (links : List Link) (i : ℕ) (d : Link) (n : Needle) → i < length links → get_or (link_needles links) i n ≡ (get_or links i d).needle
+pub needle_of-get_or : (links : List NeedleLink) (i : ℕ) (d : NeedleLink) (n : Needle) → i < length links → get_or (link_needles links) i n ≡ (get_or links i d).needle
 needle_of-get_or [] i d n within = absurd (omega arith)
 needle_of-get_or (l ∷ links) zero d n within = refl
 needle_of-get_or (l ∷ links) (suc i) d n within = needle_of-get_or links i d n (omega arith)
 
 -- one link more is in the table
-pub tells_more : (entries more : List ℕ) (links now : List Link) (l : Link) (place : ℕ) → place ≡ length links → IsWritten entries more l.needle place →
+pub tells_more : (entries more : List ℕ) (links now : List NeedleLink) (l : NeedleLink) (place : ℕ) → place ≡ length links → IsPlaceWritten entries more l.needle place →
     now ≡ links ++ l ∷ [] → IsTableOf entries (link_needles links) → IsTableOf more (link_needles now)
 tells_more entries more links now l place here written e h =
-    let name : Link → Needle = λ (x : Link). x.needle in
+    let name : NeedleLink → Needle = λ (x : NeedleLink). x.needle in
     let at : place ≡ length (link_needles links) = here ∙ sym (length-map links name) in
     let now_is : link_needles now ≡ link_needles links ++ l.needle ∷ [] = ap link_needles e ∙ map-append name links (l ∷ []) in
-    subst (λ ns. IsTableOf more ns) (sym now_is) (tells_push entries more (link_needles links) l.needle h (subst (IsWritten entries more l.needle) at written))
+    subst (λ ns. IsTableOf more ns) (sym now_is) (tells_push entries more (link_needles links) l.needle h (subst (IsPlaceWritten entries more l.needle) at written))
 
 -- one link more leads on
-pub linked_more : (links xs now : List Link) (l : Link) → xs ≡ links → now ≡ links ++ l ∷ [] → AreLinked links → Leads (link_needles xs) l.needle l.next → AreLinked now
+pub linked_more : (links xs now : List NeedleLink) (l : NeedleLink) → xs ≡ links → now ≡ links ++ l ∷ [] → TableChainsLeadBack links → Leads (link_needles xs) l.needle l.next → TableChainsLeadBack now
 linked_more links xs now l same e h last =
-    subst AreLinked (sym e) (linked_push links l h (subst (λ ys. Leads (link_needles ys) l.needle l.next) same last))
+    subst TableChainsLeadBack (sym e) (linked_push links l h (subst (λ ys. Leads (link_needles ys) l.needle l.next) same last))
 
 -- what is known in the middle of the walk back over the links of a needle
-pub record Walks (links : List Link) (n : Needle) (len most limit place : ℕ) (whole : Bool) : Type 0 where
+pub record Walks (links : List NeedleLink) (n : Needle) (len most limit place : ℕ) (whole : Bool) : Type 0 where
   pub within : limit ≤ length links
   pub leads : Leads (link_needles (take limit links)) n place
-  pub same : list_any (suits n len most) (map note_of (take limit links)) ≡ whole
+  pub same : list_any (note_suits n len most) (map note_of (take limit links)) ≡ whole
 
 -- a walk from link to link begins
-pub walk_begins : (links xs : List Link) (n : Needle) (len most place limit : ℕ) → xs ≡ links → limit ≡ length links → Leads (link_needles xs) n place →
-    Walks links n len most limit place (list_any (suits n len most) (map note_of links))
+pub walk_begins : (links xs : List NeedleLink) (n : Needle) (len most place limit : ℕ) → xs ≡ links → limit ≡ length links → Leads (link_needles xs) n place →
+    Walks links n len most limit place (list_any (note_suits n len most) (map note_of links))
 walk_begins links xs n len most place limit same all h =
     let whole : take limit links ≡ links = take_all limit links (omega arith) in
     record {
       within = omega arith;
       leads = subst (λ ys. Leads (link_needles ys) n place) (same ∙ sym whole) h;
-      same = ap (λ ys. list_any (suits n len most) (map note_of ys)) whole;
+      same = ap (λ ys. list_any (note_suits n len most) (map note_of ys)) whole;
     }
 
 and_false : (x y : Bool) → y ≡ false → (x && y) ≡ false
@@ -203,50 +203,50 @@ and_false false y e = refl
 and_true : (x y : Bool) → x ≡ true → y ≡ true → (x && y) ≡ true
 and_true x y p q = ap (λ b. b && y) p ∙ q
 
-at_read : (links : List Link) (limit place : ℕ) (x : Link) → place < limit → x ≡ get_or links place x → get_or (take limit links) place x ≡ x
+at_read : (links : List NeedleLink) (limit place : ℕ) (x : NeedleLink) → place < limit → x ≡ get_or links place x → get_or (take limit links) place x ≡ x
 at_read links limit place x before is = get_or-take limit links place x before ∙ sym is
 
 -- goes on to the link before
-pub walk_on : (links : List Link) (n : Needle) (len most limit place : ℕ) (whole : Bool) (x : Link) → Walks links n len most limit place whole → AreLinked links →
+pub walk_on : (links : List NeedleLink) (n : Needle) (len most limit place : ℕ) (whole : Bool) (x : NeedleLink) → Walks links n len most limit place whole → TableChainsLeadBack links →
     place < limit → x ≡ get_or links place x → x.needle ≡ n → (nat_le len x.len && nat_le x.most most) ≡ false → Walks links n len most place x.next whole
 walk_on links n len most limit place whole x w linked before is mine refused =
     let within : limit ≤ length links = w.within in
     let few = length-take-le limit links within in
     let read = at_read links limit place x before is in
-    let unfit : suits n len most (note_of (get_or (take limit links) place x)) ≡ false =
-    ap (λ (l : Link). suits n len most (note_of l)) read ∙ and_false (same_needle x.needle n) (nat_le len x.len && nat_le x.most most) refused in
+    let unfit : note_suits n len most (note_of (get_or (take limit links) place x)) ≡ false =
+    ap (λ (l : NeedleLink). note_suits n len most (note_of l)) read ∙ and_false (same_needle x.needle n) (nat_le len x.len && nat_le x.most most) refused in
     record {
       within = omega arith;
-      leads = subst (λ m. Leads (link_needles (take place links)) m x.next) mine (subst (λ (l : Link). Leads (link_needles (take place links)) l.needle l.next) (sym is) (linked place x (omega arith)));
-      same = ap (λ ys. list_any (suits n len most) (map note_of ys)) (sym (take-take place limit links (omega arith)))
+      leads = subst (λ m. Leads (link_needles (take place links)) m x.next) mine (subst (λ (l : NeedleLink). Leads (link_needles (take place links)) l.needle l.next) (sym is) (linked place x (omega arith)));
+      same = ap (λ ys. list_any (note_suits n len most) (map note_of ys)) (sym (take-take place limit links (omega arith)))
           ∙ sym (suits_before n len most (take limit links) place x w.leads (omega arith) unfit) ∙ w.same;
     }
 
 -- finds a note that suits
-pub walk_finds : (links : List Link) (n : Needle) (len most limit place : ℕ) (whole : Bool) (x : Link) → Walks links n len most limit place whole →
+pub walk_finds : (links : List NeedleLink) (n : Needle) (len most limit place : ℕ) (whole : Bool) (x : NeedleLink) → Walks links n len most limit place whole →
     place < limit → x ≡ get_or links place x → x.needle ≡ n → (nat_le len x.len && nat_le x.most most) ≡ true → true ≡ whole
 walk_finds links n len most limit place whole x w before is mine so =
     let within : limit ≤ length links = w.within in
     let few = length-take-le limit links within in
     let read = at_read links limit place x before is in
-    let fit : suits n len most (note_of (get_or (take limit links) place x)) ≡ true =
-    ap (λ (l : Link). suits n len most (note_of l)) read ∙ and_true (same_needle x.needle n) (nat_le len x.len && nat_le x.most most) (same_needle-same x.needle n mine) so in
+    let fit : note_suits n len most (note_of (get_or (take limit links) place x)) ≡ true =
+    ap (λ (l : NeedleLink). note_suits n len most (note_of l)) read ∙ and_true (same_needle x.needle n) (nat_le len x.len && nat_le x.most most) (same_needle-same x.needle n mine) so in
     sym (suits_at n len most (take limit links) place x (omega arith) fit) ∙ w.same
 
 -- ends where no link is left
-pub walk_ends : (links : List Link) (n : Needle) (len most limit place : ℕ) (whole : Bool) → Walks links n len most limit place whole →
+pub walk_ends : (links : List NeedleLink) (n : Needle) (len most limit place : ℕ) (whole : Bool) → Walks links n len most limit place whole →
     (place < limit → get_or (link_needles (take limit links)) place n ≡ n → ⊥) → false ≡ whole
 walk_ends links n len most limit place whole w absent =
     let within : limit ≤ length links = w.within in
     let few = length-take-le limit links within in
-    let len' = length-map (take limit links) (λ (l : Link). l.needle) in
+    let len' = length-map (take limit links) (λ (l : NeedleLink). l.needle) in
     sym (suits_none n len most (take limit links) (leads_nowhere (link_needles (take limit links)) n place w.leads (λ small. absent (omega arith)))) ∙ w.same
 
 -- or at the link of another needle
-pub walk_ends_at : (links : List Link) (n : Needle) (len most limit place : ℕ) (whole : Bool) (x : Link) → Walks links n len most limit place whole →
+pub walk_ends_at : (links : List NeedleLink) (n : Needle) (len most limit place : ℕ) (whole : Bool) (x : NeedleLink) → Walks links n len most limit place whole →
     place < limit → x ≡ get_or links place x → (x.needle ≡ n → ⊥) → false ≡ whole
 walk_ends_at links n len most limit place whole x w before is differ =
     let within : limit ≤ length links = w.within in
     let few = length-take-le limit links within in
     walk_ends links n len most limit place whole w
-    (λ small here. differ (ap (λ (l : Link). l.needle) (sym (at_read links limit place x before is)) ∙ sym (needle_of-get_or (take limit links) place x n (omega arith)) ∙ here))
+    (λ small here. differ (ap (λ (l : NeedleLink). l.needle) (sym (at_read links limit place x before is)) ∙ sym (needle_of-get_or (take limit links) place x n (omega arith)) ∙ here))

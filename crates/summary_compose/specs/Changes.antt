@@ -8,7 +8,7 @@ use Rattle.face_data.specs.declared.face.Seg.{Seg}
 use Rattle.face_data.specs.declared.face.Seg.TheVariants.{Entry, New}
 use Rattle.face_data.specs.Conditions.{part_of}
 use Rattle.face_data.specs.declared.face.FaceView.{FaceView}
-use Rattle.face_data.specs.Composition.{merged}
+use Rattle.face_data.specs.Composition.{changes_merged}
 use Rattle.face_data.specs.Segments.{Changed, OffsetFits}
 use Rattle.face_data.specs.Through.{changes_through}
 use Rattle.face_data.specs.View.{changed_of}
@@ -40,7 +40,7 @@ SpareSliders changes = All (λ (c : Change). is_slider c.needle.bed ≡ false) c
 
 -- the changes of both faces, those of the second read through the first
 abbrev pub merged_of : FaceView → FaceView → List Changed
-merged_of a b = merged (changes_in a) (changes_through (changes_in a) a.lines (changes_in b))
+merged_of a b = changes_merged (changes_in a) (changes_through (changes_in a) a.lines (changes_in b))
 
 -- what contracts see of changes in the making: the changes, and for how many of them and of their segments there is room
 pub record LaidView : Type 0 where

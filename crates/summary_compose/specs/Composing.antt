@@ -10,10 +10,10 @@ use Rattle.face_data.specs.Digests.{CarrierFits}
 use Rattle.face_data.specs.Goodness.{IsInOrder}
 use Rattle.face_data.specs.Lasts.{AreInOrder}
 use Rattle.face_data.specs.Summaries.{Summary}
-use Rattle.face_data.specs.View.{names_of, AreNamed, ArePacked, PartsFit}
+use Rattle.face_data.specs.View.{size_needles_of, AreNamed, ArePacked, PartsFit}
 use Rattle.summary_compose.specs.Changes.{changes_in, merged_of, segs_in, HaveOffsets}
-use Rattle.summary_compose.specs.Known.{AreGood, IsReadable, checks_in, names_count, names_read_count}
-use Rattle.summary_compose.specs.Tables.{HasPlaces}
+use Rattle.summary_compose.specs.Known.{AreGoodFaces, IsReadable, checks_in, names_count, names_read_count}
+use Rattle.summary_compose.specs.Tables.{HasNeedlePlaces}
 use Rattle.summary_compose.specs.declared.making.Making.{Making}
 use Rattle.summary_compose.specs.declared.room.Room.{Room}
 
@@ -24,10 +24,10 @@ EndingRises a (Broken fault) = a.lines + fault.line < 2 ^ 32
 
 -- What the code asks of the two faces: good ones whose lists are packed and whose lines add up have all of it.
 pub record Composes (a b : FaceView) : Type 0 where
-  pub good : AreGood a b
+  pub good : AreGoodFaces a b
   pub named : AreNamed a.names.now a.checks.now
   pub carriers : All (λ (c : Check). CarrierFits c.cond) a.checks.now
-  pub few_names : All (λ (c : Check). length (names_of a.names.now c.cond) < 2 ^ 32) a.checks.now
+  pub few_names : All (λ (c : Check). length (size_needles_of a.names.now c.cond) < 2 ^ 32) a.checks.now
   pub readable : All (λ (c : Check). IsReadable a b.names.now c.cond) b.checks.now
   pub raised : All (λ (c : Check). a.lines + c.fault.line < 2 ^ 32) b.checks.now
   pub fit : PartsFit a.segs.now a.changes.now
@@ -52,18 +52,18 @@ pub record FindsRoom (a b : FaceView) (room : Room) : Type 0 where
   pub lasts : length a.lasts.now + length b.lasts.now ≤ room.lasts
 
 -- so many items find room, and, unless the room is none, each needle has a place
-pub record Holds (making : Making) (room : Room) : Type 0 where
+pub record MakingHasRoom (making : Making) (room : Room) : Type 0 where
   pub checks : room.checks ≤ making.kept.check_room
   pub names : room.names ≤ making.kept.name_room
   pub index : room.names ≤ making.index.room
-  pub places : 1 ≤ room.widest → HasPlaces making.places
+  pub places : 1 ≤ room.widest → HasNeedlePlaces making.places
   pub changes : room.changes ≤ making.laid.change_room
   pub segs : room.segs ≤ making.laid.seg_room
   pub lasts : room.lasts ≤ making.lasts.room
 
 -- each room that there was is there
 abbrev pub KeepsRooms : Making → Making → Type 0
-KeepsRooms old new = (room : Room) → Holds old room → Holds new room
+KeepsRooms old new = (room : Room) → MakingHasRoom old room → MakingHasRoom new room
 
 -- the room is in each field no greater than the other
 pub record IsNoGreater (room other : Room) : Type 0 where

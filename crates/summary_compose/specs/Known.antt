@@ -15,16 +15,16 @@ use Rattle.face_data.specs.Conditions.{Ask}
 use Rattle.face_data.specs.Conditions.Ask.{size_at_most}
 use Rattle.face_data.specs.Digests.{CarrierFits, digest_of}
 use Rattle.face_data.specs.Segments.{Changed, names_through, new_through}
-use Rattle.face_data.specs.Goodness.{IsGood, names_in}
-use Rattle.face_data.specs.Summaries.{Asked}
+use Rattle.face_data.specs.Goodness.{IsGood, size_needles_in}
+use Rattle.face_data.specs.Summaries.{AskedCondition}
 use Rattle.face_data.specs.declared.face.FaceView.{FaceView}
 use Rattle.summary_compose.specs.Changes.{changes_in}
-use Rattle.face_data.specs.Answers.{Answer}
-use Rattle.face_data.specs.Answers.Answer.{yes_it_does, no_it_does_not, asks}
+use Rattle.face_data.specs.Answers.{ConditionAnswer}
+use Rattle.face_data.specs.Answers.ConditionAnswer.{yes_it_does, no_it_does_not, asks}
 use Rattle.face_data.specs.Composition.{from_bearing, reads}
-use Rattle.face_data.specs.View.{asked_of, summary_of, CondFits, names_of}
+use Rattle.face_data.specs.View.{asked_of_check, summary_of, CondFits, size_needles_of}
 use Rattle.face_data.specs.Spots.{IsNumbered}
-use Rattle.summary_compose.specs.Tables.{Note, suits}
+use Rattle.summary_compose.specs.Tables.{Note, note_suits}
 use Rattle.summary_compose.specs.declared.sizes.SizeWord.{SizeWord}
 use Rattle.summary_compose.specs.declared.sizes.SizeWord.TheVariants.{Holds, Fails, Asks}
 
@@ -45,46 +45,46 @@ notes_in (size_at_most names most) = map (λ n. record { needle = n; len = lengt
 notes_in ask = []
 
 -- the notes of all conditions, in their order
-abbrev pub notes_of : List Asked → List Note
-notes_of kept = flat_map (λ (c : Asked). notes_in c.ask) kept
+abbrev pub notes_of : List AskedCondition → List Note
+notes_of kept = flat_map (λ (c : AskedCondition). notes_in c.ask) kept
 
 -- the digest and the notes are those of the kept conditions
-pub record Knows (digest : Digest) (notes : List Note) (kept : List Asked) : Type 0 where
+pub record Knows (digest : Digest) (notes : List Note) (kept : List AskedCondition) : Type 0 where
   pub digest_is : digest ≡ digest_of kept
   pub notes_are : notes ≡ notes_of kept
 
 -- what the notes say of so many loops on these needles
-abbrev pub noted_left : List Note → List Needle → ℕ → Answer
+abbrev pub noted_left : List Note → List Needle → ℕ → ConditionAnswer
 noted_left notes [] left = yes_it_does
-noted_left notes (n ∷ ns) left = from_bearing (if_so (list_any (suits n (length (n ∷ ns)) left) notes) Implied) (asks (size_at_most (n ∷ ns) left))
+noted_left notes (n ∷ ns) left = from_bearing (if_so (list_any (note_suits n (length (n ∷ ns)) left) notes) Implied) (asks (size_at_most (n ∷ ns) left))
 
 -- what they say of these needles and so many new loops together
-unfoldable pub noted_answer : List Note → List Needle → ℕ → ℕ → Answer
+unfoldable pub noted_answer : List Note → List Needle → ℕ → ℕ → ConditionAnswer
 noted_answer notes names new most = if nat_lt most new then no_it_does_not else noted_left notes names (most - new)
 
 -- what the code knows of a condition on the sizes of these needles
-abbrev pub answer_in : List Needle → SizeWord → Answer
+abbrev pub answer_in : List Needle → SizeWord → ConditionAnswer
 answer_in names Holds = yes_it_does
 answer_in names Fails = no_it_does_not
 answer_in names (Asks left) = asks (size_at_most names left)
 
 -- how many needles the conditions name
-abbrev pub names_count : List Asked → ℕ
-names_count kept = sum_by (λ (c : Asked). length (names_in c.ask)) kept
+abbrev pub names_count : List AskedCondition → ℕ
+names_count kept = sum_by (λ (c : AskedCondition). length (size_needles_in c.ask)) kept
 
 -- how many needles the conditions name when they are read through the changes
-abbrev pub names_read_count : List Changed → List Asked → ℕ
-names_read_count changes more = sum_by (λ (c : Asked). length (names_through changes (names_in c.ask))) more
+abbrev pub names_read_count : List Changed → List AskedCondition → ℕ
+names_read_count changes more = sum_by (λ (c : AskedCondition). length (names_through changes (size_needles_in c.ask))) more
 
 -- what contracts see of conditions that are kept: the conditions, and for how many of them and of their needles there is room
 pub record KeptView : Type 0 where
-  pub checks : List Asked
+  pub checks : List AskedCondition
   pub check_room : ℕ
   pub name_room : ℕ
 
 -- What becomes of the kept conditions by one more with this answer and this fault: whether the reading goes on, and what is kept
 -- then.
-abbrev pub StepIs : Answer → List Asked → Fault → Bool → List Asked → Type 0
+abbrev pub StepIs : ConditionAnswer → List AskedCondition → Fault → Bool → List AskedCondition → Type 0
 StepIs yes_it_does kept fault goes_on now = (goes_on ≡ true) × (now ≡ kept)
 StepIs no_it_does_not kept fault goes_on now = (goes_on ≡ false) × (now ≡ kept)
 StepIs (asks ask) kept fault goes_on now = (goes_on ≡ true) × (now ≡ kept ++ record { fault = fault; ask = ask } ∷ [])
@@ -98,15 +98,15 @@ pub record IsFewThrough (a : FaceView) (needles : List Needle) : Type 0 where
 pub record IsReadable (a : FaceView) (names : List Needle) (c : Cond) : Type 0 where
   pub fit : CondFits names c
   pub carrier : CarrierFits c
-  pub few : IsFewThrough a (names_of names c)
+  pub few : IsFewThrough a (size_needles_of names c)
 
 -- the conditions of a face with their needles written out
-abbrev pub checks_in : FaceView → List Asked
-checks_in face = map (asked_of face.names.now) face.checks.now
+abbrev pub checks_in : FaceView → List AskedCondition
+checks_in face = map (asked_of_check face.names.now) face.checks.now
 
 -- Both faces are good for the same number of carriers, of which there are at most 64, and the same limit on loops, of 8 bits. The
 -- numbers of the known needles have 16 bits.
-pub record AreGood (a b : FaceView) : Type 0 where
+pub record AreGoodFaces (a b : FaceView) : Type 0 where
   pub carriers : ℕ
   pub limit : ℕ
   pub first_known : List Needle
@@ -119,6 +119,6 @@ pub record AreGood (a b : FaceView) : Type 0 where
   pub second : IsGood carriers limit second_known (summary_of b)
 
 -- so many of the second face's first conditions hold for what those of the first face ask, so that the others alone are to be read
-pub record AreAlike (a b : FaceView) (effect : Effect) (count : ℕ) : Type 0 where
+pub record AreImpliedChecks (a b : FaceView) (effect : Effect) (count : ℕ) : Type 0 where
   pub within : count ≤ length b.checks.now
   pub others : reads effect a.lasts.now (changes_in a) a.lines (checks_in a) (drop count (checks_in b)) ≡ reads effect a.lasts.now (changes_in a) a.lines (checks_in a) (checks_in b)

@@ -3,7 +3,7 @@ use Rattle.std.specs.Prelude.{◌≡◌, ◌≢◌, ℕ, ◌<◌, ◌≤◌, ◌
 use Rattle.knit_base.specs.declared.needle.Needle.{Needle}
 use Rattle.knit_base.specs.Needle.{same_needle}
 use Rattle.face_data.specs.Spots.{spot_of}
-use Rattle.summary_compose.specs.declared.index.Link.{Link}
+use Rattle.summary_compose.specs.declared.index.NeedleLink.{NeedleLink}
 use Rattle.summary_compose.specs.declared.places.Places.{Places}
 
 -- if the needle is in the list, it stands at this place, and at none behind it
@@ -15,21 +15,21 @@ abbrev pub IsTableOf : List ℕ → List Needle → Type 0
 IsTableOf entries names = (n : Needle) → Leads names n (slice_index_or entries (spot_of n) 0)
 
 -- a table as before, but with this number for the needle
-pub record IsWritten (entries more : List ℕ) (n : Needle) (number : ℕ) : Type 0 where
+pub record IsPlaceWritten (entries more : List ℕ) (n : Needle) (number : ℕ) : Type 0 where
   pub here : slice_index_or more (spot_of n) 0 ≡ number
   pub others : (spot : ℕ) → spot ≢ spot_of n → slice_index_or more spot 0 ≡ slice_index_or entries spot 0
 
 -- the table has room for an entry for each needle
-abbrev pub HasPlaces : Places → Type 0
-HasPlaces places = 2 ^ 18 ≤ vec_capacity places.table.entries
+abbrev pub HasNeedlePlaces : Places → Type 0
+HasNeedlePlaces places = 2 ^ 18 ≤ vec_capacity places.table.entries
 
 -- the needles of links
-abbrev pub link_needles : List Link → List Needle
-link_needles links = map (λ (l : Link). l.needle) links
+abbrev pub link_needles : List NeedleLink → List Needle
+link_needles links = map (λ (l : NeedleLink). l.needle) links
 
 -- each link leads to its needle's place before it
-abbrev pub AreLinked : List Link → Type 0
-AreLinked links = (k : ℕ) (d : Link) → k < length links → Leads (link_needles (take k links)) (slice_index_or links k d).needle (slice_index_or links k d).next
+abbrev pub TableChainsLeadBack : List NeedleLink → Type 0
+TableChainsLeadBack links = (k : ℕ) (d : NeedleLink) → k < length links → Leads (link_needles (take k links)) (slice_index_or links k d).needle (slice_index_or links k d).next
 
 -- one needle of a kept condition on sizes: how many needles that names, and how many loops it allows them together
 pub record Note : Type 0 where
@@ -38,12 +38,12 @@ pub record Note : Type 0 where
   pub most : ℕ
 
 -- what a link notes
-abbrev pub note_of : Link → Note
+abbrev pub note_of : NeedleLink → Note
 note_of l = record { needle = l.needle; len = l.len; most = l.most }
 
 -- the note is of this needle, of a condition that names at least so many needles and allows at most so many loops
-abbrev pub suits : Needle → ℕ → ℕ → Note → Bool
-suits n len most note = same_needle note.needle n && (nat_le len note.len && nat_le note.most most)
+abbrev pub note_suits : Needle → ℕ → ℕ → Note → Bool
+note_suits n len most note = same_needle note.needle n && (nat_le len note.len && nat_le note.most most)
 
 -- for how many notes there is room: for none where the table has no room for each needle
 abbrev pub note_room : ℕ → ℕ → ℕ

@@ -5,7 +5,7 @@ ghost use Rattle.std.specs.List.{list_any};
 ghost use Rattle.face_data.specs.declared.face.Check.{Check};
 ghost use Rattle.face_data.specs.declared.bearing.Bearing.TheVariants.{Implied};
 ghost use Rattle.face_data.specs.Lasts.{last_bearing};
-ghost use Rattle.face_data.specs.Answers.Answer.{yes_it_does, asks};
+ghost use Rattle.face_data.specs.Answers.ConditionAnswer.{yes_it_does, asks};
 ghost use Rattle.face_data.specs.Composition.{from_bearing};
 ghost use Rattle.face_data.specs.Conditions.{ask_of, part_of};
 ghost use Rattle.face_data.specs.Digests.{CarrierFits, digest_bearing, digest_of, effect_bearing};
@@ -13,8 +13,8 @@ ghost use Rattle.face_data.specs.Goodness.{IsInOrder, IsIrredundant};
 ghost use Rattle.face_data.specs.Segments.{names_through, new_through};
 ghost use Rattle.face_data.specs.View.{CondFits, PartsFit};
 ghost use Rattle.summary_compose.specs.Changes.{SpareSliders, changed_needles, changes_in};
-ghost use Rattle.summary_compose.specs.Known.{AreAlike, AreGood, IsPlainCond, IsReadable, checks_in, noted_answer, notes_of};
-ghost use Rattle.summary_compose.specs.Tables.{HasPlaces, IsTableOf, Note, suits};
+ghost use Rattle.summary_compose.specs.Known.{AreImpliedChecks, AreGoodFaces, IsPlainCond, IsReadable, checks_in, noted_answer, notes_of};
+ghost use Rattle.summary_compose.specs.Tables.{HasNeedlePlaces, IsTableOf, Note, note_suits};
 
 use crate::laid::count_new;
 use crate::names::{names_at, one_name};
@@ -60,17 +60,17 @@ const SPARE_OF_MANY: usize = 8;
 
 // A walk through a face's conditions, round and round: at which place it is, and how many places it may yet pass over.
 #[derive(Clone, Copy, Debug, PartialEq, Eq)]
-struct Walk {
+struct ConditionWalk {
     place: usize,
     spare: usize,
 }
 
-impl Walk {
+impl ConditionWalk {
     // From the first condition on.
     #[inline(always)]
-    fn through(face: &FaceView) -> Walk {
+    fn through(face: &FaceView) -> ConditionWalk {
         let is_small = face.checks.len() <= FEW;
-        Walk {
+        ConditionWalk {
             place: 0,
             spare: if is_small { SPARE } else { SPARE_OF_MANY },
         }
@@ -79,7 +79,7 @@ impl Walk {
 
 // Whether a condition that isn't on sizes is implied: by the effect, or by the same condition of the first face, which a walk finds.
 #[inline(never)]
-fn plain_implied(a: &FaceView, effect: &Effect, cond: &Cond, walk: Walk) -> bool
+fn plain_implied(a: &FaceView, effect: &Effect, cond: &Cond, walk: ConditionWalk) -> bool
     requires irredundant { IsIrredundant (checks_in a.now) }
     requires carrier { CarrierFits cond.now }
     ensures { result ≡ true → from_bearing (effect_bearing effect.now (ask_of [] cond.now)) (from_bearing (digest_bearing (digest_of (checks_in a.now)) (ask_of [] cond.now)) (asks (ask_of [] cond.now))) ≡ yes_it_does }
@@ -92,7 +92,7 @@ fn plain_implied(a: &FaceView, effect: &Effect, cond: &Cond, walk: Walk) -> bool
 }
 
 // Whether a walk from here finds the same condition.
-fn find_same(a: &FaceView, cond: Cond, from: Walk) -> bool
+fn find_same(a: &FaceView, cond: Cond, from: ConditionWalk) -> bool
     requires irredundant { IsIrredundant (checks_in a.now) }
     ensures { result ≡ true → from_bearing (digest_bearing (digest_of (checks_in a.now)) (ask_of [] cond)) (asks (ask_of [] cond)) ≡ yes_it_does }
 {
@@ -116,7 +116,7 @@ fn find_same(a: &FaceView, cond: Cond, from: Walk) -> bool
 fn allows(a: &FaceView, at: usize, needle: Needle, most: u8) -> bool
     requires there { at < length a.now.checks.now }
     requires fits { All (λ (c : Check). CondFits a.now.names.now c.cond) a.now.checks.now }
-    ensures { result ≡ true → list_any (suits needle 1 most) (notes_of (checks_in a.now)) ≡ true }
+    ensures { result ≡ true → list_any (note_suits needle 1 most) (notes_of (checks_in a.now)) ≡ true }
 {
     let Cond::SizeAtMost(part, least) = a.checks[at].cond else {
         return false;
@@ -132,9 +132,9 @@ fn allows(a: &FaceView, at: usize, needle: Needle, most: u8) -> bool
 
 // Whether a walk finds such a condition. It goes on behind it.
 #[inline(always)]
-fn find_size(a: &FaceView, needle: Needle, most: u8, walk: &mut Walk) -> bool
+fn find_size(a: &FaceView, needle: Needle, most: u8, walk: &mut ConditionWalk) -> bool
     requires fits { All (λ (c : Check). CondFits a.now.names.now c.cond) a.now.checks.now }
-    ensures { result ≡ true → list_any (suits needle 1 most) (notes_of (checks_in a.now)) ≡ true }
+    ensures { result ≡ true → list_any (note_suits needle 1 most) (notes_of (checks_in a.now)) ≡ true }
 {
     while walk.spare > 0 {
         let at = walk.place;
@@ -192,7 +192,13 @@ fn hold_new(a: &FaceView, places: &Places, needles: &[Needle], most: u8) -> bool
 
 // Whether it is implied that a slider holds at most so many loops, where the first face changes none.
 #[inline(always)]
-fn slider_implied(a: &FaceView, names: &[Needle], part: Part, most: u8, walk: &mut Walk) -> bool
+fn slider_implied(
+    a: &FaceView,
+    names: &[Needle],
+    part: Part,
+    most: u8,
+    walk: &mut ConditionWalk,
+) -> bool
     requires spared { SpareSliders a.now.changes.now }
     requires fits { All (λ (c : Check). CondFits a.now.names.now c.cond) a.now.checks.now }
     requires part { part.start + part.len ≤ length names.now }
@@ -216,7 +222,7 @@ fn size_implied(
     names: &[Needle],
     part: Part,
     most: u8,
-    walk: &mut Walk,
+    walk: &mut ConditionWalk,
 ) -> bool
     requires fits { All (λ (c : Check). CondFits a.now.names.now c.cond) a.now.checks.now }
     requires part { part.start + part.len ≤ length names.now }
@@ -244,11 +250,11 @@ fn size_holds(
     names: &[Needle],
     part: Part,
     most: u8,
-    walk: &mut Walk,
+    walk: &mut ConditionWalk,
 ) -> bool
     requires spared { spared ≡ true → SpareSliders a.now.changes.now }
     requires noted { noted.old ≡ true → IsTableOf places.old.table.entries.items (changed_needles a.now.changes.now) }
-    requires places { HasPlaces places.old }
+    requires places { HasNeedlePlaces places.old }
     requires fits { All (λ (c : Check). CondFits a.now.names.now c.cond) a.now.checks.now }
     requires part { part.start + part.len ≤ length names.now }
     requires few { new_through (changes_in a.now) (part_of names.now part) < 2 ^ 64 }
@@ -256,7 +262,7 @@ fn size_holds(
     requires order { IsInOrder (changes_in a.now) }
     ensures holds { result ≡ true → noted_answer (notes_of (checks_in a.now)) (names_through (changes_in a.now) (part_of names.now part)) (new_through (changes_in a.now) (part_of names.now part)) most ≡ yes_it_does }
     ensures noted { noted.new ≡ true → IsTableOf places.new.table.entries.items (changed_needles a.now.changes.now) }
-    ensures places { HasPlaces places.new }
+    ensures places { HasNeedlePlaces places.new }
 {
     if spared {
         if slider_implied(a, names, part, most, walk) {
@@ -278,22 +284,22 @@ fn implied(
     effect: &Effect,
     b: &FaceView,
     at: usize,
-    walk: &mut Walk,
+    walk: &mut ConditionWalk,
 ) -> bool
-    requires good { AreGood a.now b.now }
+    requires good { AreGoodFaces a.now b.now }
     requires through { a.now.ending ≡ Ending.Through effect.now }
-    requires alike { AreAlike a.now b.now effect.now at }
+    requires alike { AreImpliedChecks a.now b.now effect.now at }
     requires there { at < length b.now.checks.now }
     requires spared { spared ≡ true → SpareSliders a.now.changes.now }
     requires noted { noted.old ≡ true → IsTableOf places.old.table.entries.items (changed_needles a.now.changes.now) }
-    requires places { HasPlaces places.old }
+    requires places { HasNeedlePlaces places.old }
     requires fits { All (λ (c : Check). CondFits a.now.names.now c.cond) a.now.checks.now }
     requires readable { All (λ (c : Check). IsReadable a.now b.now.names.now c.cond) b.now.checks.now }
     requires fit { PartsFit a.now.segs.now a.now.changes.now }
     requires order { IsInOrder (changes_in a.now) }
-    ensures alike { result ≡ true → AreAlike a.now b.now effect.now (at + 1) }
+    ensures alike { result ≡ true → AreImpliedChecks a.now b.now effect.now (at + 1) }
     ensures noted { noted.new ≡ true → IsTableOf places.new.table.entries.items (changed_needles a.now.changes.now) }
-    ensures places { HasPlaces places.new }
+    ensures places { HasNeedlePlaces places.new }
 {
     if let Cond::SizeAtMost(part, most) = b.checks[at].cond {
         return size_holds(spared, noted, places, a, b.names, part, most, walk);
@@ -321,20 +327,20 @@ pub fn count_alike(
     effect: &Effect,
     b: &FaceView,
 ) -> (usize, bool)
-    requires good { AreGood a.now b.now }
+    requires good { AreGoodFaces a.now b.now }
     requires through { a.now.ending ≡ Ending.Through effect.now }
     requires fits { All (λ (c : Check). CondFits a.now.names.now c.cond) a.now.checks.now }
     requires readable { All (λ (c : Check). IsReadable a.now b.now.names.now c.cond) b.now.checks.now }
     requires fit { PartsFit a.now.segs.now a.now.changes.now }
     requires order { IsInOrder (changes_in a.now) }
-    requires places { HasPlaces places.old }
-    ensures alike { AreAlike a.now b.now effect.now result.0 }
+    requires places { HasNeedlePlaces places.old }
+    ensures alike { AreImpliedChecks a.now b.now effect.now result.0 }
     ensures noted { result.1 ≡ true → IsTableOf places.new.table.entries.items (changed_needles a.now.changes.now) }
-    ensures places { HasPlaces places.new }
+    ensures places { HasNeedlePlaces places.new }
 {
     let spared = are_spared(a, b);
     let mut noted = false;
-    let mut walk = Walk::through(a);
+    let mut walk = ConditionWalk::through(a);
     let mut i = 0;
     while i < b.checks.len() {
         if !implied(spared, &mut noted, places, a, effect, b, i, &mut walk) {

@@ -3,22 +3,22 @@ ghost use Rattle.std.specs.Prelude.{◌≡◌, ℕ, ◌<◌, ◌≤◌, ◌+◌,
 ghost use Rattle.knit_base.specs.declared.needle.Needle.{Needle};
 ghost use Rattle.face_data.specs.declared.digest.Digest.{Digest};
 ghost use Rattle.face_data.specs.Answers.{read_answer};
-ghost use Rattle.face_data.specs.Answers.Answer.{asks};
+ghost use Rattle.face_data.specs.Answers.ConditionAnswer.{asks};
 ghost use Rattle.face_data.specs.Chains.{answer_known, chain_at};
-ghost use Rattle.face_data.specs.Composition.{from_bearing, settled};
+ghost use Rattle.face_data.specs.Composition.{from_bearing, answer_of_kept};
 ghost use Rattle.face_data.specs.Conditions.Ask.{last_near};
 ghost use Rattle.face_data.specs.Lasts.{last_bearing};
 ghost use Rattle.face_data.specs.Conditions.{ask_of, part_of};
 ghost use Rattle.face_data.specs.Digests.{CarrierFits, digest_bearing, effect_bearing};
 ghost use Rattle.face_data.specs.Goodness.{IsInOrder};
 ghost use Rattle.face_data.specs.Segments.{names_through, new_through};
-ghost use Rattle.face_data.specs.View.{names_of, PartsFit};
+ghost use Rattle.face_data.specs.View.{size_needles_of, PartsFit};
 ghost use Rattle.summary_compose.specs.Changes.{changed_needles, changes_in};
 ghost use Rattle.summary_compose.specs.Known.{IsPlainCond, IsReadable, Knows, StepIs, names_count, noted_answer};
 ghost use Rattle.summary_compose.specs.Tables.{Note, IsTableOf};
 
 use crate::index::Index;
-use crate::kept::Kept;
+use crate::kept::KeptFaceConditions;
 use crate::names::names_at;
 use crate::places::Places;
 use crate::sizes::SizeWord;
@@ -28,7 +28,7 @@ use knit_base::{CarrierNo, Fault, Needle};
 /// Asks a condition that isn't on sizes. False where it can't hold.
 #[inline(always)]
 pub fn ask_plain(
-    kept: &mut Kept,
+    kept: &mut KeptFaceConditions,
     digest: &mut Digest,
     effect: &Effect,
     cond: Cond,
@@ -60,7 +60,7 @@ pub fn ask_plain(
 /// Asks a condition on the sizes of these needles. False where it can't hold.
 #[inline(always)]
 pub fn ask_sized(
-    kept: &mut Kept,
+    kept: &mut KeptFaceConditions,
     index: &mut Index,
     a: &FaceView,
     places: &Places,
@@ -98,7 +98,7 @@ pub fn ask_sized(
 /// Asks that a carrier's last needle is near. False where it can't be.
 #[inline(never)]
 pub fn ask_near(
-    kept: &mut Kept,
+    kept: &mut KeptFaceConditions,
     a: &FaceView,
     c: CarrierNo,
     at: i16,
@@ -106,7 +106,7 @@ pub fn ask_near(
     fault: Fault,
 ) -> bool
     requires room { length kept.old.checks < kept.old.check_room }
-    ensures step { StepIs (from_bearing (last_bearing a.now.lasts.now c at float) (settled kept.old.checks (last_near c at float))) kept.old.checks fault result kept.new.checks }
+    ensures step { StepIs (from_bearing (last_bearing a.now.lasts.now c at float) (answer_of_kept kept.old.checks (last_near c at float))) kept.old.checks fault result kept.new.checks }
     ensures knows { (digest : Digest) (notes : List Note) → Knows digest notes kept.old.checks → result ≡ true → Knows digest notes kept.new.checks }
     ensures check_room { kept.new.check_room ≡ kept.old.check_room }
     ensures name_room { kept.new.name_room ≡ kept.old.name_room }
@@ -126,7 +126,7 @@ pub fn ask_near(
 /// Asks a condition of the second face. False where it can't hold.
 #[inline(always)]
 pub fn ask(
-    kept: &mut Kept,
+    kept: &mut KeptFaceConditions,
     index: &mut Index,
     digest: &mut Digest,
     places: &Places,
@@ -139,8 +139,8 @@ pub fn ask(
     requires readable { IsReadable a.now names.now cond }
     requires knows { Knows digest.old index.old.notes kept.old.checks }
     requires check_room { length kept.old.checks < kept.old.check_room }
-    requires name_room { names_count kept.old.checks + length (names_through (changes_in a.now) (names_of names.now cond)) ≤ kept.old.name_room }
-    requires index_room { names_count kept.old.checks + length (names_through (changes_in a.now) (names_of names.now cond)) ≤ index.old.room }
+    requires name_room { names_count kept.old.checks + length (names_through (changes_in a.now) (size_needles_of names.now cond)) ≤ kept.old.name_room }
+    requires index_room { names_count kept.old.checks + length (names_through (changes_in a.now) (size_needles_of names.now cond)) ≤ index.old.room }
     requires noted { IsTableOf places.now.table.entries.items (changed_needles a.now.changes.now) }
     requires fit { PartsFit a.now.segs.now a.now.changes.now }
     requires order { IsInOrder (changes_in a.now) }

@@ -2,7 +2,7 @@
 ghost use Rattle.std.specs.Prelude.{◌≡◌, ◌≤◌, ◌<◌, ◌+◌, ◌^◌, [], ◌∷◌, ◌++◌, length, map, OnOk, nat_le, ◌&&◌};
 ghost use Rattle.std.specs.List.{list_any};
 ghost use Rattle.knit_base.specs.declared.needle.Needle.{Needle};
-ghost use Rattle.summary_compose.specs.Tables.{Leads, IsTableOf, link_needles, suits, Note};
+ghost use Rattle.summary_compose.specs.Tables.{Leads, IsTableOf, link_needles, note_suits, Note};
 
 use crate::spots::{Table, is_same};
 use knit_base::{Needle, NoMemory};
@@ -12,14 +12,14 @@ use std::marker::Model;
 /// One needle of a kept condition: how many needles that names, how many loops it allows them together, and where the needle
 /// may stand before.
 #[derive(Clone, Copy, Debug, PartialEq, Eq)]
-pub struct Link {
+pub struct NeedleLink {
     pub next: usize,
     pub needle: Needle,
     pub len: u32,
     pub most: u8,
 }
 
-impl Link {
+impl NeedleLink {
     #[inline(always)]
     fn allows(&self, len: u32, most: u8) -> bool
         ensures { result ≡ (nat_le len self.now.len && nat_le self.now.most most) }
@@ -33,18 +33,18 @@ impl Link {
 #[derive(Drop)]
 pub struct Index {
     table: Table,
-    links: Vec<Link>,
+    links: Vec<NeedleLink>,
 }
 
 impl Model for Index {
     ghost use Rattle.std.specs.Prelude.{map, vec_capacity};
-    ghost use Rattle.summary_compose.specs.Tables.{IndexView, note_of, note_room, link_needles, IsTableOf, AreLinked};
+    ghost use Rattle.summary_compose.specs.Tables.{IndexView, note_of, note_room, link_needles, IsTableOf, TableChainsLeadBack};
 
     ghost Value = { IndexView };
 
     ghost view = { λ i. record { notes = map note_of i.links.items; room = note_room (vec_capacity i.table.entries) (vec_capacity i.links) } };
 
-    ghost invariant = { λ i. IsTableOf i.table.entries.items (link_needles i.links.items) × AreLinked i.links.items };
+    ghost invariant = { λ i. IsTableOf i.table.entries.items (link_needles i.links.items) × TableChainsLeadBack i.links.items };
 }
 
 impl Index {
@@ -88,7 +88,7 @@ impl Index {
         let next = self.table.get(needle);
         let place = self.links.len();
         self.table.set(needle, place);
-        self.links.push_reserved(Link {
+        self.links.push_reserved(NeedleLink {
             next,
             needle,
             len,
@@ -99,7 +99,7 @@ impl Index {
     /// Whether a kept condition names this needle and at least so many needles, and allows at most so many loops.
     #[inline(always)]
     pub fn covers(&self, n: Needle, len: u32, most: u8) -> bool
-        ensures { result ≡ list_any (suits n len most) self.now.notes }
+        ensures { result ≡ list_any (note_suits n len most) self.now.notes }
     {
         let mut limit = self.links.len();
         let mut place = self.table.get(n);

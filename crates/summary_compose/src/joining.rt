@@ -1,17 +1,17 @@
 //! Composition.
 ghost use Rattle.std.specs.Prelude.{◌≡◌, ◌<◌, ◌≤◌, ◌+◌, ◌^◌, true, [], length};
-ghost use Rattle.face_data.specs.Composition.{composed, composed_at, reads, closed};
+ghost use Rattle.face_data.specs.Composition.{composed, composed_at, reads, gathering_closed};
 ghost use Rattle.face_data.specs.Lasts.{AreInOrder, lasts_of_both};
 ghost use Rattle.face_data.specs.View.{summary_of};
 ghost use Rattle.summary_compose.specs.Changes.{changed_needles, changes_in, merged_of, segs_in};
-ghost use Rattle.summary_compose.specs.Composing.{Composes, FindsRoom, Holds, KeepsRooms, made_in};
-ghost use Rattle.summary_compose.specs.Known.{AreAlike, checks_in, names_count, names_read_count};
-ghost use Rattle.summary_compose.specs.Tables.{HasPlaces, IsTableOf};
+ghost use Rattle.summary_compose.specs.Composing.{Composes, FindsRoom, MakingHasRoom, KeepsRooms, made_in};
+ghost use Rattle.summary_compose.specs.Known.{AreImpliedChecks, checks_in, names_count, names_read_count};
+ghost use Rattle.summary_compose.specs.Tables.{HasNeedlePlaces, IsTableOf};
 ghost use Rattle.summary_compose.specs.declared.room.Room.{Room};
 
 use crate::alike::count_alike;
 use crate::index::Index;
-use crate::kept::Kept;
+use crate::kept::KeptFaceConditions;
 use crate::making::Making;
 use crate::merging::merge;
 use crate::noting::note_plain;
@@ -22,7 +22,7 @@ use knit_base::Fault;
 
 // Gathers the conditions of both faces. Answers the fault of one that can't hold, and whether the first face's changes were noted.
 fn gather(
-    kept: &mut Kept,
+    kept: &mut KeptFaceConditions,
     index: &mut Index,
     places: &mut Places,
     a: &FaceView,
@@ -35,10 +35,10 @@ fn gather(
     requires check_room { length a.now.checks.now + length b.now.checks.now ≤ kept.old.check_room }
     requires name_room { names_count (checks_in a.now) + names_read_count (changes_in a.now) (checks_in b.now) ≤ kept.old.name_room }
     requires index_room { names_count (checks_in a.now) + names_read_count (changes_in a.now) (checks_in b.now) ≤ index.old.room }
-    requires places { HasPlaces places.old }
+    requires places { HasNeedlePlaces places.old }
     ensures read { reads effect.now a.now.lasts.now (changes_in a.now) a.now.lines (checks_in a.now) (checks_in b.now) ≡ record { checks = kept.new.checks; stop = result.0 } }
     ensures noted { result.1 ≡ true → IsTableOf places.new.table.entries.items (changed_needles a.now.changes.now) }
-    ensures places { HasPlaces places.new }
+    ensures places { HasNeedlePlaces places.new }
     ensures check_room { kept.new.check_room ≡ kept.old.check_room }
     ensures name_room { kept.new.name_room ≡ kept.old.name_room }
     ensures index_room { index.new.room ≡ index.old.room }
@@ -54,7 +54,7 @@ fn gather(
 // Reads the conditions of the second face from a place on, those before which hold.
 #[inline(never)]
 fn read_rest(
-    kept: &mut Kept,
+    kept: &mut KeptFaceConditions,
     index: &mut Index,
     places: &Places,
     a: &FaceView,
@@ -65,7 +65,7 @@ fn read_rest(
     requires composes { Composes a.now b.now }
     requires through { a.now.ending ≡ Ending.Through effect.now }
     requires begun { kept.old.checks ≡ checks_in a.now }
-    requires alike { AreAlike a.now b.now effect.now alike }
+    requires alike { AreImpliedChecks a.now b.now effect.now alike }
     requires noted { IsTableOf places.now.table.entries.items (changed_needles a.now.changes.now) }
     requires check_room { length a.now.checks.now + length b.now.checks.now ≤ kept.old.check_room }
     requires name_room { names_count (checks_in a.now) + names_read_count (changes_in a.now) (checks_in b.now) ≤ kept.old.name_room }
@@ -112,7 +112,7 @@ fn put_lasts(lasts: &mut Lasts, a: &FaceView, b: &FaceView)
 #[inline(never)]
 pub fn put_together(a: &FaceView, b: &FaceView, making: &mut Making)
     requires composes { Composes a.now b.now }
-    requires room { (room : Room) × FindsRoom a.now b.now room × Holds making.old room }
+    requires room { (room : Room) × FindsRoom a.now b.now room × MakingHasRoom making.old room }
     ensures made { made_in making.new ≡ composed (summary_of a.now) (summary_of b.now) }
     ensures keeps { KeepsRooms making.old making.new }
 {
@@ -131,13 +131,13 @@ pub fn put_together(a: &FaceView, b: &FaceView, making: &mut Making)
 fn go_on(a: &FaceView, effect: &Effect, b: &FaceView, making: &mut Making)
     requires composes { Composes a.now b.now }
     requires through { a.now.ending ≡ Ending.Through effect.now }
-    requires room { (room : Room) × FindsRoom a.now b.now room × Holds making.old room }
+    requires room { (room : Room) × FindsRoom a.now b.now room × MakingHasRoom making.old room }
     requires begun { making.old.kept.checks ≡ checks_in a.now }
     requires none { making.old.laid.changes ≡ [] }
     requires no_lasts { making.old.lasts.lasts ≡ [] }
     requires lines { making.old.lines ≡ a.now.lines + b.now.lines }
     requires made { making.old.made ≡ 0 }
-    ensures made { made_in making.new ≡ closed (reads effect.now a.now.lasts.now (changes_in a.now) a.now.lines (checks_in a.now) (checks_in b.now)) effect.now (summary_of a.now) (summary_of b.now) }
+    ensures made { made_in making.new ≡ gathering_closed (reads effect.now a.now.lasts.now (changes_in a.now) a.now.lines (checks_in a.now) (checks_in b.now)) effect.now (summary_of a.now) (summary_of b.now) }
     ensures keeps { KeepsRooms making.old making.new }
 {
     let (stop, noted) = gather(

@@ -7,11 +7,11 @@ ghost use Rattle.face_data.specs.Conditions.Ask.{last_near, size_at_most};
 ghost use Rattle.face_data.specs.Goodness.{IsInOrder};
 ghost use Rattle.face_data.specs.Segments.{names_through, new_through};
 ghost use Rattle.face_data.specs.declared.bearing.Bearing.TheVariants.{Implied};
-ghost use Rattle.face_data.specs.Answers.Answer.{asks};
+ghost use Rattle.face_data.specs.Answers.ConditionAnswer.{asks};
 ghost use Rattle.face_data.specs.Bearings.{if_so};
-ghost use Rattle.face_data.specs.Composition.{from_bearing, settled};
+ghost use Rattle.face_data.specs.Composition.{from_bearing, answer_of_kept};
 ghost use Rattle.face_data.specs.Digests.{IsUnsized};
-ghost use Rattle.face_data.specs.View.{asked_of, AreNamed, PartsFit};
+ghost use Rattle.face_data.specs.View.{asked_of_check, AreNamed, PartsFit};
 ghost use Rattle.summary_compose.specs.Changes.{changed_needles, changes_in};
 ghost use Rattle.face_data.specs.declared.digest.Digest.{Digest};
 ghost use Rattle.summary_compose.specs.Known.{Knows, StepIs, answer_in, asks_near, checks_in, names_count, noted_answer, notes_in};
@@ -28,19 +28,19 @@ use std::marker::Model;
 
 /// Conditions that are kept. The needles of those on sizes stand in one list.
 #[derive(Drop)]
-pub struct Kept {
+pub struct KeptFaceConditions {
     checks: Vec<Check>,
     names: Vec<Needle>,
 }
 
-impl Model for Kept {
+impl Model for KeptFaceConditions {
     ghost use Rattle.std.specs.Prelude.{map, vec_capacity};
-    ghost use Rattle.face_data.specs.View.{asked_of, AreNamed};
+    ghost use Rattle.face_data.specs.View.{asked_of_check, AreNamed};
     ghost use Rattle.summary_compose.specs.Known.{KeptView};
 
     ghost Value = { KeptView };
 
-    ghost view = { λ k. record { checks = map (asked_of k.names.items) k.checks.items; check_room = vec_capacity k.checks; name_room = vec_capacity k.names } };
+    ghost view = { λ k. record { checks = map (asked_of_check k.names.items) k.checks.items; check_room = vec_capacity k.checks; name_room = vec_capacity k.names } };
 
     ghost invariant = { λ k. AreNamed k.names.items k.checks.items };
 }
@@ -54,12 +54,12 @@ pub fn append<T: Copy>(items: &[T], list: &mut Vec<T>)
     let _ = list.extend_from_slice(items);
 }
 
-impl Kept {
+impl KeptFaceConditions {
     /// No conditions, and no room, which takes no memory.
     pub fn new(alloc: Global) -> Self
         ensures { result.checks ≡ [] }
     {
-        Kept {
+        KeptFaceConditions {
             checks: Vec::new(alloc),
             names: Vec::new(alloc),
         }
@@ -101,7 +101,7 @@ impl Kept {
 
     /// The conditions, and the names in which their needles stand.
     pub fn lists(&self) -> (&[Check], &[Needle])
-        ensures checks { map (asked_of result.1.now) result.0.now ≡ self.now.checks }
+        ensures checks { map (asked_of_check result.1.now) result.0.now ≡ self.now.checks }
         ensures named { AreNamed result.1.now result.0.now }
     {
         (&self.checks, &self.names)
@@ -121,7 +121,7 @@ impl Kept {
 
     /// Whether it is kept that the carrier's last needle is near this number.
     pub fn has(&self, c: CarrierNo, at: i16, float: u16) -> bool
-        ensures { settled self.now.checks (last_near c at float) ≡ from_bearing (if_so result Implied) (asks (last_near c at float)) }
+        ensures { answer_of_kept self.now.checks (last_near c at float) ≡ from_bearing (if_so result Implied) (asks (last_near c at float)) }
     {
         has_near(&self.checks, c, at, float)
     }

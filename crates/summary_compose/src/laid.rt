@@ -3,9 +3,9 @@ ghost use Rattle.std.specs.Prelude.{◌≡◌, ◌<◌, ◌≤◌, ◌+◌, ◌^
 ghost use Rattle.face_data.specs.declared.face.Seg.TheVariants.{New};
 ghost use Rattle.face_data.specs.Conditions.{part_of};
 ghost use Rattle.face_data.specs.Goodness.{IsInOrder};
-ghost use Rattle.face_data.specs.Segments.{OffsetFits, entries_of, new_of};
-ghost use Rattle.face_data.specs.Through.{piece, through, change_through, changes_through};
-ghost use Rattle.face_data.specs.Composition.{merged};
+ghost use Rattle.face_data.specs.Segments.{OffsetFits, entry_needles_of, new_of};
+ghost use Rattle.face_data.specs.Through.{seg_through, through, change_through, changes_through};
+ghost use Rattle.face_data.specs.Composition.{changes_merged};
 ghost use Rattle.face_data.specs.View.{changed_of, ArePacked, PartsFit};
 ghost use Rattle.summary_compose.specs.Changes.{changed_needles, raised_seg, segs_in};
 ghost use Rattle.summary_compose.specs.Tables.{IsTableOf};
@@ -19,12 +19,12 @@ use std::marker::Model;
 
 /// Changes in the making, with their segments.
 #[derive(Drop)]
-pub struct Laid {
+pub struct ComposedChanges {
     changes: Vec<Change>,
     segs: Vec<Seg>,
 }
 
-impl Model for Laid {
+impl Model for ComposedChanges {
     ghost use Rattle.std.specs.Prelude.{map, vec_capacity};
     ghost use Rattle.face_data.specs.View.{changed_of, ArePacked};
     ghost use Rattle.summary_compose.specs.Changes.{LaidView};
@@ -36,12 +36,12 @@ impl Model for Laid {
     ghost invariant = { λ l. ArePacked l.segs.items l.changes.items };
 }
 
-impl Laid {
+impl ComposedChanges {
     /// No changes, and no room, which takes no memory.
     pub fn new(alloc: Global) -> Self
         ensures { result.changes ≡ [] }
     {
-        Laid {
+        ComposedChanges {
             changes: Vec::new(alloc),
             segs: Vec::new(alloc),
         }
@@ -162,7 +162,7 @@ impl Laid {
 /// How many new loops these segments are, unless the loops of an entry are among them.
 #[inline(always)]
 pub fn count_new(segs: &[Seg]) -> Option<u64>
-    ensures entries { IfSome result (λ count. entries_of segs.now ≡ []) }
+    ensures entries { IfSome result (λ count. entry_needles_of segs.now ≡ []) }
     ensures count { IfSome result (λ count. count ≡ new_of segs.now) }
 {
     let mut count = 0;
@@ -252,12 +252,12 @@ fn read_segs(more: &[Seg], a: &FaceView, places: &Places, segs: &mut Vec<Seg>)
 
 #[inline(always)]
 fn read_seg(seg: Seg, a: &FaceView, places: &Places, segs: &mut Vec<Seg>)
-    requires room { vec_len segs.old + length (piece (map (changed_of a.now.segs.now) a.now.changes.now) a.now.lines seg) ≤ vec_capacity segs.old }
+    requires room { vec_len segs.old + length (seg_through (map (changed_of a.now.segs.now) a.now.changes.now) a.now.lines seg) ≤ vec_capacity segs.old }
     requires offset { OffsetFits a.now.lines seg }
     requires noted { IsTableOf places.now.table.entries.items (changed_needles a.now.changes.now) }
     requires fit { PartsFit a.now.segs.now a.now.changes.now }
     requires order { IsInOrder (map (changed_of a.now.segs.now) a.now.changes.now) }
-    ensures items { segs.new.items ≡ segs.old.items ++ piece (map (changed_of a.now.segs.now) a.now.changes.now) a.now.lines seg }
+    ensures items { segs.new.items ≡ segs.old.items ++ seg_through (map (changed_of a.now.segs.now) a.now.changes.now) a.now.lines seg }
     ensures capacity { vec_capacity segs.new ≡ vec_capacity segs.old }
 {
     match seg {

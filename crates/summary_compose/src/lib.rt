@@ -9,7 +9,7 @@
 //! the code asks of two faces and of a scratch, `specs/Rooms` how much room there is, `specs/Changes` and `specs/Known` what is
 //! kept on the way, `specs/Tables` where needles are found (by `face_data/specs/Spots`). Lemmas that the crates above cite:
 //! `proofs/GoodFaces` (good faces can be composed, to a good face), `proofs/Widths` (how many entries needles hold), `proofs/Rooms`
-//! (greater rooms leave no less room) and `proofs/ComposedRooms` (the room of the result is within `room_of_both`). Below it stand
+//! (greater rooms leave no less room) and `proofs/ComposedRooms` (the room of the result is within `room_of_both_faces`). Below it stand
 //! std, `knit_base`, `carriage_model` and `face_data`.
 #![tactic(auto)]
 

@@ -1,12 +1,12 @@
 //! A face in the making.
 ghost use Rattle.std.specs.Prelude.{◌≡◌, ◌≤◌, OnOk, OnErr};
 ghost use Rattle.face_data.specs.View.{IsPacked, summary_of};
-ghost use Rattle.summary_compose.specs.Composing.{made_in, Holds, IsNoGreater};
+ghost use Rattle.summary_compose.specs.Composing.{made_in, MakingHasRoom, IsNoGreater};
 ghost use Rattle.summary_compose.specs.declared.room.Room.{Room};
 
 use crate::index::Index;
-use crate::kept::Kept;
-use crate::laid::Laid;
+use crate::kept::KeptFaceConditions;
+use crate::laid::ComposedChanges;
 use crate::places::Places;
 use crate::room::Room;
 use face_data::{Effect, Ending, FaceView, Lasts};
@@ -19,8 +19,8 @@ pub struct Making {
     pub lines: u32,
     pub made: u32,
     pub ending: Ending,
-    pub kept: Kept,
-    pub laid: Laid,
+    pub kept: KeptFaceConditions,
+    pub laid: ComposedChanges,
     pub lasts: Lasts,
     pub index: Index,
     pub places: Places,
@@ -38,8 +38,8 @@ impl Making {
                 went: 0,
                 hook: None,
             }),
-            kept: Kept::new(alloc),
-            laid: Laid::new(alloc),
+            kept: KeptFaceConditions::new(alloc),
+            laid: ComposedChanges::new(alloc),
             lasts: Lasts::new(alloc),
             index: Index::new(alloc),
             places: Places::new(alloc),
@@ -48,8 +48,8 @@ impl Making {
 
     /// Makes so much room, beside what there is. The face that was made last stays.
     pub fn reserve(&mut self, room: &Room) -> Result<(), NoMemory>
-        ensures has { OnOk result (Holds self.new room.now) }
-        ensures keeps { (had : Room) → IsNoGreater had room.now → Holds self.old had → Holds self.new had }
+        ensures has { OnOk result (MakingHasRoom self.new room.now) }
+        ensures keeps { (had : Room) → IsNoGreater had room.now → MakingHasRoom self.old had → MakingHasRoom self.new had }
         ensures face { made_in self.new ≡ made_in self.old }
     {
         let alloc = self.kept.allocator();

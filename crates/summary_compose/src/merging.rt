@@ -1,17 +1,17 @@
 //! The changes of two faces in the order of needles.
 ghost use Rattle.std.specs.Prelude.{◌≡◌, ◌<◌, ◌≤◌, ◌+◌, ◌^◌, ◌⊎◌, true, [], ◌++◌, All, drop, length, map, slice_index_or};
-ghost use Rattle.face_data.specs.Composition.{merged};
+ghost use Rattle.face_data.specs.Composition.{changes_merged};
 ghost use Rattle.face_data.specs.Through.{changes_through};
 ghost use Rattle.knit_base.specs.Needle.{needle_cmp};
 ghost use Rattle.face_data.specs.declared.face.Change.{Change};
 ghost use Rattle.face_data.specs.Conditions.{part_of};
 ghost use Rattle.face_data.specs.Goodness.{IsInOrder};
-ghost use Rattle.face_data.specs.Segments.{entries_of};
+ghost use Rattle.face_data.specs.Segments.{entry_needles_of};
 ghost use Rattle.face_data.specs.View.{changed_of, ArePacked, PartsFit};
 ghost use Rattle.summary_compose.specs.Changes.{changed_needles, HaveOffsets, segs_in, changes_in, merged_of};
-ghost use Rattle.summary_compose.specs.Tables.{HasPlaces, IsTableOf};
+ghost use Rattle.summary_compose.specs.Tables.{HasNeedlePlaces, IsTableOf};
 
-use crate::laid::{Laid, count_new, new_in};
+use crate::laid::{ComposedChanges, count_new, new_in};
 use crate::places::Places;
 use crate::spots::is_same;
 use face_data::{Change, FaceView, Seg};
@@ -70,13 +70,13 @@ fn segs_of<'a>(segs: &'a [Seg], change: Change) -> &'a [Seg]
 
 // Lays the changes at the same places of both faces, as long as both are of one needle and the second leaves one new loop on it.
 // Answers how many they are.
-fn lay_alike(laid: &mut Laid, a: &FaceView, b: &FaceView) -> usize
+fn lay_alike(laid: &mut ComposedChanges, a: &FaceView, b: &FaceView) -> usize
     requires none { laid.old.changes ≡ [] }
     requires room { length (merged_of a.now b.now) ≤ laid.old.change_room }
     requires seg_room { segs_in (merged_of a.now b.now) ≤ laid.old.seg_room }
     requires second_fit { PartsFit b.now.segs.now b.now.changes.now }
     requires offsets { HaveOffsets a.now.lines b.now.segs.now b.now.changes.now }
-    ensures rest { laid.new.changes ++ merged (drop result (changes_in a.now)) (drop result (changes_through (changes_in a.now) a.now.lines (changes_in b.now))) ≡ merged_of a.now b.now }
+    ensures rest { laid.new.changes ++ changes_merged (drop result (changes_in a.now)) (drop result (changes_through (changes_in a.now) a.now.lines (changes_in b.now))) ≡ merged_of a.now b.now }
     ensures change_room { laid.new.change_room ≡ laid.old.change_room }
     ensures seg_room { laid.new.seg_room ≡ laid.old.seg_room }
 {
@@ -121,7 +121,7 @@ fn change_same(a: &FaceView, b: &FaceView) -> bool
 // Whether all segments are new loops.
 #[inline(always)]
 fn are_new(segs: &[Seg]) -> bool
-    ensures { result ≡ true → entries_of segs.now ≡ [] }
+    ensures { result ≡ true → entry_needles_of segs.now ≡ [] }
 {
     match count_new(segs) {
         Some(_) => true,
@@ -131,13 +131,19 @@ fn are_new(segs: &[Seg]) -> bool
 
 /// Lays the changes of both faces in the order of needles, those of the second read through the first. Notes the first face's changes
 /// only where that is needed.
-pub fn merge(laid: &mut Laid, a: &FaceView, b: &FaceView, places: &mut Places, noted: bool)
+pub fn merge(
+    laid: &mut ComposedChanges,
+    a: &FaceView,
+    b: &FaceView,
+    places: &mut Places,
+    noted: bool,
+)
     requires none { laid.old.changes ≡ [] }
     requires room { length (merged_of a.now b.now) ≤ laid.old.change_room }
     requires seg_room { segs_in (merged_of a.now b.now) ≤ laid.old.seg_room }
     requires few { segs_in (merged_of a.now b.now) < 2 ^ 32 }
     requires noted { noted ≡ true → IsTableOf places.old.table.entries.items (changed_needles a.now.changes.now) }
-    requires places { HasPlaces places.old }
+    requires places { HasNeedlePlaces places.old }
     requires fit { PartsFit a.now.segs.now a.now.changes.now }
     requires order { IsInOrder (map (changed_of a.now.segs.now) a.now.changes.now) }
     requires second_packed { ArePacked b.now.segs.now b.now.changes.now }
@@ -145,7 +151,7 @@ pub fn merge(laid: &mut Laid, a: &FaceView, b: &FaceView, places: &mut Places, n
     ensures changes { laid.new.changes ≡ merged_of a.now b.now }
     ensures change_room { laid.old.change_room ≤ laid.new.change_room }
     ensures seg_room { laid.old.seg_room ≤ laid.new.seg_room }
-    ensures places { HasPlaces places.new }
+    ensures places { HasNeedlePlaces places.new }
 {
     if change_same(a, b) {
         if are_new(b.segs) {
@@ -163,8 +169,8 @@ pub fn merge(laid: &mut Laid, a: &FaceView, b: &FaceView, places: &mut Places, n
 
 // Lays the changes from this place of both faces on.
 #[inline(never)]
-fn lay_others(laid: &mut Laid, a: &FaceView, b: &FaceView, places: &Places, alike: usize)
-    requires begun { laid.old.changes ++ merged (drop alike (changes_in a.now)) (drop alike (changes_through (changes_in a.now) a.now.lines (changes_in b.now))) ≡ merged_of a.now b.now }
+fn lay_others(laid: &mut ComposedChanges, a: &FaceView, b: &FaceView, places: &Places, alike: usize)
+    requires begun { laid.old.changes ++ changes_merged (drop alike (changes_in a.now)) (drop alike (changes_through (changes_in a.now) a.now.lines (changes_in b.now))) ≡ merged_of a.now b.now }
     requires room { length (merged_of a.now b.now) ≤ laid.old.change_room }
     requires seg_room { segs_in (merged_of a.now b.now) ≤ laid.old.seg_room }
     requires few { segs_in (merged_of a.now b.now) < 2 ^ 32 }

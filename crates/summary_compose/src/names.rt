@@ -2,7 +2,7 @@
 ghost use Rattle.std.specs.Prelude.{◌≡◌, ◌<◌, ◌≤◌, ◌+◌, ◌^◌, [], ◌∷◌, ◌++◌, length, map, vec_len, vec_capacity, IfSome};
 ghost use Rattle.face_data.specs.Conditions.{part_of};
 ghost use Rattle.face_data.specs.Goodness.{IsInOrder};
-ghost use Rattle.face_data.specs.Segments.{segments_on, entries_of, names_through, new_of, new_through};
+ghost use Rattle.face_data.specs.Segments.{segments_on, entry_needles_of, names_through, new_of, new_through};
 ghost use Rattle.summary_compose.specs.Changes.{changed_needles, changes_in};
 ghost use Rattle.face_data.specs.View.{PartsFit};
 ghost use Rattle.summary_compose.specs.Tables.{IsTableOf};
@@ -56,11 +56,11 @@ pub fn read_names(more: &[Needle], a: &FaceView, places: &Places, names: &mut Ve
 // The same of one needle.
 #[inline(always)]
 fn read_needle(n: Needle, a: &FaceView, places: &Places, names: &mut Vec<Needle>) -> u64
-    requires room { vec_len names.old + length (entries_of (segments_on (changes_in a.now) n)) ≤ vec_capacity names.old }
+    requires room { vec_len names.old + length (entry_needles_of (segments_on (changes_in a.now) n)) ≤ vec_capacity names.old }
     requires noted { IsTableOf places.now.table.entries.items (changed_needles a.now.changes.now) }
     requires fit { PartsFit a.now.segs.now a.now.changes.now }
     requires order { IsInOrder (changes_in a.now) }
-    ensures items { names.new.items ≡ names.old.items ++ entries_of (segments_on (changes_in a.now) n) }
+    ensures items { names.new.items ≡ names.old.items ++ entry_needles_of (segments_on (changes_in a.now) n) }
     ensures capacity { vec_capacity names.new ≡ vec_capacity names.old }
     ensures count { result ≡ new_of (segments_on (changes_in a.now) n) }
 {
@@ -76,8 +76,8 @@ fn read_needle(n: Needle, a: &FaceView, places: &Places, names: &mut Vec<Needle>
 // The same of segments.
 #[inline(always)]
 fn read_entries(segs: &[Seg], names: &mut Vec<Needle>) -> u64
-    requires room { vec_len names.old + length (entries_of segs.now) ≤ vec_capacity names.old }
-    ensures items { names.new.items ≡ names.old.items ++ entries_of segs.now }
+    requires room { vec_len names.old + length (entry_needles_of segs.now) ≤ vec_capacity names.old }
+    ensures items { names.new.items ≡ names.old.items ++ entry_needles_of segs.now }
     ensures capacity { vec_capacity names.new ≡ vec_capacity names.old }
     ensures count { result ≡ new_of segs.now }
 {

@@ -6,7 +6,7 @@ ghost use Rattle.face_data.specs.Goodness.{IsInOrder};
 ghost use Rattle.face_data.specs.Segments.{segments_on};
 ghost use Rattle.face_data.specs.View.{changed_of, PartsFit};
 ghost use Rattle.summary_compose.specs.Changes.{changed_needles};
-ghost use Rattle.summary_compose.specs.Tables.{HasPlaces, IsTableOf};
+ghost use Rattle.summary_compose.specs.Tables.{HasNeedlePlaces, IsTableOf};
 
 use crate::spots::{Table, is_same};
 use face_data::{Change, FaceView, Seg};
@@ -29,17 +29,17 @@ impl Places {
 
     /// Makes room for all needles.
     pub fn reserve(&mut self) -> Result<(), NoMemory>
-        ensures room { OnOk result (HasPlaces self.new) }
-        ensures keeps { HasPlaces self.old → HasPlaces self.new }
+        ensures room { OnOk result (HasNeedlePlaces self.new) }
+        ensures keeps { HasNeedlePlaces self.old → HasNeedlePlaces self.new }
     {
         self.table.reserve()
     }
 
     /// Notes the places of all changes.
     pub fn note(&mut self, changes: &[Change])
-        requires { HasPlaces self.old }
+        requires { HasNeedlePlaces self.old }
         ensures table { IsTableOf self.new.table.entries.items (changed_needles changes.now) }
-        ensures room { HasPlaces self.new }
+        ensures room { HasNeedlePlaces self.new }
     {
         for (place, change) in changes.iter().enumerate() {
             self.table.set(change.needle, place);
@@ -49,9 +49,9 @@ impl Places {
     /// Notes the places of all changes, unless they are noted already.
     pub fn note_once(&mut self, changes: &[Change], noted: bool)
         requires noted { noted ≡ true → IsTableOf self.old.table.entries.items (changed_needles changes.now) }
-        requires room { HasPlaces self.old }
+        requires room { HasNeedlePlaces self.old }
         ensures table { IsTableOf self.new.table.entries.items (changed_needles changes.now) }
-        ensures room { HasPlaces self.new }
+        ensures room { HasNeedlePlaces self.new }
     {
         if !noted {
             self.note(changes);

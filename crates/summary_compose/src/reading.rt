@@ -4,15 +4,15 @@ ghost use Rattle.face_data.specs.declared.face.Check.{Check};
 ghost use Rattle.face_data.specs.Composition.{reads};
 ghost use Rattle.face_data.specs.Digests.{digest_of};
 ghost use Rattle.face_data.specs.Goodness.{IsInOrder};
-ghost use Rattle.face_data.specs.Summaries.{raised};
-ghost use Rattle.face_data.specs.View.{asked_of, names_of, CondFits, PartsFit};
+ghost use Rattle.face_data.specs.Summaries.{fault_raised};
+ghost use Rattle.face_data.specs.View.{asked_of_check, size_needles_of, CondFits, PartsFit};
 ghost use Rattle.summary_compose.specs.Changes.{changed_needles, changes_in};
-ghost use Rattle.summary_compose.specs.Known.{AreAlike, AreGood, IsPlainCond, IsReadable, checks_in, names_count, names_read_count};
+ghost use Rattle.summary_compose.specs.Known.{AreImpliedChecks, AreGoodFaces, IsPlainCond, IsReadable, checks_in, names_count, names_read_count};
 ghost use Rattle.summary_compose.specs.Tables.{IsTableOf};
 
 use crate::asking::{ask, ask_plain};
 use crate::index::Index;
-use crate::kept::Kept;
+use crate::kept::KeptFaceConditions;
 use crate::noting::note_sizes;
 use crate::places::Places;
 use face_data::{Cond, Digest, Effect, Ending, FaceView};
@@ -22,7 +22,7 @@ use knit_base::Fault;
 #[inline(always)]
 fn raised(a: &FaceView, fault: Fault) -> Fault
     requires { a.now.lines + fault.line < 2 ^ 32 }
-    ensures { result ≡ raised a.now.lines fault }
+    ensures { result ≡ fault_raised a.now.lines fault }
 {
     Fault {
         line: a.lines + fault.line,
@@ -50,7 +50,7 @@ fn is_plain(cond: &Cond) -> bool
 /// sizes noted. Those before it hold for these. The others are noted where the first condition on sizes is read. Answers the fault of the
 /// first one that can't hold.
 pub fn read_checks(
-    kept: &mut Kept,
+    kept: &mut KeptFaceConditions,
     index: &mut Index,
     digest: &mut Digest,
     places: &Places,
@@ -59,13 +59,13 @@ pub fn read_checks(
     b: &FaceView,
     start: usize,
 ) -> Option<Fault>
-    requires good { AreGood a.now b.now }
+    requires good { AreGoodFaces a.now b.now }
     requires through { a.now.ending ≡ Ending.Through effect.now }
     requires begun { kept.old.checks ≡ checks_in a.now }
-    requires alike { AreAlike a.now b.now effect.now start }
+    requires alike { AreImpliedChecks a.now b.now effect.now start }
     requires digest { digest.old ≡ digest_of (checks_in a.now) }
     requires fits { All (λ (c : Check). CondFits a.now.names.now c.cond) a.now.checks.now }
-    requires few { All (λ (c : Check). length (names_of a.now.names.now c.cond) < 2 ^ 32) a.now.checks.now }
+    requires few { All (λ (c : Check). length (size_needles_of a.now.names.now c.cond) < 2 ^ 32) a.now.checks.now }
     requires readable { All (λ (c : Check). IsReadable a.now b.now.names.now c.cond) b.now.checks.now }
     requires raised { All (λ (c : Check). a.now.lines + c.fault.line < 2 ^ 32) b.now.checks.now }
     requires check_room { length a.now.checks.now + length b.now.checks.now ≤ kept.old.check_room }

@@ -1,10 +1,10 @@
 //! Room for faces, as numbers of items.
 ghost use Rattle.std.specs.Prelude.{◌≡◌, ◌↔◌, ◌+◌, ◌*◌, IsTrue, length, map, false};
 ghost use Rattle.face_data.specs.Conditions.{part_of};
-ghost use Rattle.face_data.specs.Segments.{entries_of};
+ghost use Rattle.face_data.specs.Segments.{entry_needles_of};
 ghost use Rattle.face_data.specs.View.{changed_of};
 ghost use Rattle.summary_compose.specs.Composing.{IsNoGreater};
-ghost use Rattle.summary_compose.specs.Rooms.{CanBeMade, capped, greater, kept_of, room_after, room_of, room_of_both, widest_of};
+ghost use Rattle.summary_compose.specs.Rooms.{CanBeMade, capped_room, greater_room, kept_of, room_after, room_of_face, room_of_both_faces, widest_of};
 
 use face_data::{Change, FaceView, Part, Seg};
 
@@ -26,19 +26,19 @@ const GREATEST: u64 = 1 << 62;
 
 #[inline(always)]
 fn kept(n: u64) -> u64
-    ensures { result ≡ capped n }
+    ensures { result ≡ capped_room n }
 {
     if n > GREATEST { GREATEST + 1 } else { n }
 }
 
 fn sum(a: u64, b: u64) -> u64
-    ensures { result ≡ capped (a + b) }
+    ensures { result ≡ capped_room (a + b) }
 {
     kept(a.saturating_add(b))
 }
 
 fn product(a: u64, b: u64) -> u64
-    ensures { result ≡ capped (a * b) }
+    ensures { result ≡ capped_room (a * b) }
 {
     kept(a.saturating_mul(b))
 }
@@ -70,7 +70,7 @@ impl Room {
 
     /// The greater of both in each field.
     pub fn max(&self, other: &Room) -> Room
-        ensures exact { result ≡ greater self.now other.now }
+        ensures exact { result ≡ greater_room self.now other.now }
         ensures first { IsNoGreater self.now result }
         ensures second { IsNoGreater other.now result }
     {
@@ -113,7 +113,7 @@ impl Room {
 
     /// The room that the face takes.
     pub fn of(face: &FaceView) -> Room
-        ensures { result ≡ room_of face.now }
+        ensures { result ≡ room_of_face face.now }
     {
         let entries = entries_in(face.segs);
         Room {
@@ -148,7 +148,7 @@ impl Room {
 }
 
 fn entries_in(segs: &[Seg]) -> u64
-    ensures { result ≡ length (entries_of segs.now) }
+    ensures { result ≡ length (entry_needles_of segs.now) }
 {
     let mut entries = 0u64;
     for seg in segs {
@@ -184,7 +184,7 @@ fn widest_in(segs: &[Seg], changes: &[Change]) -> u64
 
 /// Room for the composition of the two faces. Takes no memory.
 pub fn room_for(a: &FaceView, b: &FaceView) -> Room
-    ensures { result ≡ room_of_both a.now b.now }
+    ensures { result ≡ room_of_both_faces a.now b.now }
 {
     Room::of(a).after(&Room::of(b))
 }

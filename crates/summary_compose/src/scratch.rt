@@ -6,11 +6,11 @@ ghost use Rattle.face_data.specs.declared.face.FaceView.{FaceView};
 ghost use Rattle.face_data.specs.Composition.{and_then, composed};
 ghost use Rattle.face_data.specs.Goodness.{IsGood};
 ghost use Rattle.face_data.specs.Items.{items, most_items};
-ghost use Rattle.face_data.specs.Summaries.{applied};
+ghost use Rattle.face_data.specs.Summaries.{summary_outcome};
 ghost use Rattle.face_data.specs.View.{IsPacked, summary_of};
 ghost use Rattle.summary_compose.specs.Composing.{IsNoGreater};
-ghost use Rattle.summary_compose.specs.Known.{AreGood};
-ghost use Rattle.summary_compose.specs.Rooms.{no_room, room_of, room_of_both};
+ghost use Rattle.summary_compose.specs.Known.{AreGoodFaces};
+ghost use Rattle.summary_compose.specs.Rooms.{no_room, room_of_face, room_of_both_faces};
 
 use crate::charging::charge;
 use crate::joining::put_together;
@@ -30,14 +30,14 @@ pub struct Scratch {
 }
 
 impl Model for Scratch {
-    ghost use Rattle.summary_compose.specs.Composing.{made_in, Holds, ScratchView};
+    ghost use Rattle.summary_compose.specs.Composing.{made_in, MakingHasRoom, ScratchView};
     ghost use Rattle.summary_compose.specs.Rooms.{CanBeMade};
 
     ghost Value = { ScratchView };
 
     ghost view = { λ s. record { summary = made_in s.making; room = s.room } };
 
-    ghost invariant = { λ s. Holds s.making s.room × CanBeMade s.room };
+    ghost invariant = { λ s. MakingHasRoom s.making s.room × CanBeMade s.room };
 }
 
 impl Scratch {
@@ -96,17 +96,17 @@ pub fn compose_into<L: Ledger>(
     scratch: &mut Scratch,
     steps: &mut Steps<L>,
 )
-    requires good { AreGood a.now b.now }
+    requires good { AreGoodFaces a.now b.now }
     requires packed { IsPacked a.now }
     requires second_packed { IsPacked b.now }
     requires lines { a.now.lines + b.now.lines < 2 ^ 32 }
-    requires room { IsNoGreater (room_of_both a.now b.now) scratch.old.room }
+    requires room { IsNoGreater (room_of_both_faces a.now b.now) scratch.old.room }
     ensures composed { scratch.new.summary ≡ composed (summary_of a.now) (summary_of b.now) }
-    ensures runs_both { (s : State) (first : ℕ) → applied (scratch.new.summary) s first ≡ and_then (applied (summary_of a.now) s first) (λ t. applied (summary_of b.now) t (first + a.now.lines)) }
+    ensures runs_both { (s : State) (first : ℕ) → summary_outcome (scratch.new.summary) s first ≡ and_then (summary_outcome (summary_of a.now) s first) (λ t. summary_outcome (summary_of b.now) t (first + a.now.lines)) }
     ensures good { (carriers limit : ℕ) (first second : List Needle) → IsGood carriers limit first (summary_of a.now) → IsGood carriers limit second (summary_of b.now) → IsGood carriers limit (first ++ second) (scratch.new.summary) }
     ensures bound { (carriers limit : ℕ) (known : List Needle) → IsGood carriers limit known (summary_of a.now) → IsGood carriers limit known (summary_of b.now) → items (scratch.new.summary) ≤ most_items carriers limit (length known) }
     ensures room { scratch.new.room ≡ scratch.old.room }
-    ensures fits { (face : FaceView) → IsPacked face → summary_of face ≡ scratch.new.summary → IsNoGreater (room_of face) (room_of_both a.now b.now) }
+    ensures fits { (face : FaceView) → IsPacked face → summary_of face ≡ scratch.new.summary → IsNoGreater (room_of_face face) (room_of_both_faces a.now b.now) }
     ensures steps { steps.new ≡ steps.old + items (summary_of a.now) + items (summary_of b.now) + items (scratch.new.summary) }
 {
     charge(a, steps);
@@ -123,12 +123,12 @@ pub fn compose<L: Ledger>(
     b: &FaceView,
     steps: &mut Steps<L>,
 ) -> Result<Face, NoMemory>
-    requires good { AreGood a.now b.now }
+    requires good { AreGoodFaces a.now b.now }
     requires packed { IsPacked a.now }
     requires second_packed { IsPacked b.now }
     requires lines { a.now.lines + b.now.lines < 2 ^ 32 }
     ensures composed { IfOk result (λ face. face ≡ composed (summary_of a.now) (summary_of b.now)) }
-    ensures runs_both { IfOk result (λ face. (s : State) (first : ℕ) → applied face s first ≡ and_then (applied (summary_of a.now) s first) (λ t. applied (summary_of b.now) t (first + a.now.lines))) }
+    ensures runs_both { IfOk result (λ face. (s : State) (first : ℕ) → summary_outcome face s first ≡ and_then (summary_outcome (summary_of a.now) s first) (λ t. summary_outcome (summary_of b.now) t (first + a.now.lines))) }
     ensures good { IfOk result (λ face. (carriers limit : ℕ) (first second : List Needle) → IsGood carriers limit first (summary_of a.now) → IsGood carriers limit second (summary_of b.now) → IsGood carriers limit (first ++ second) face) }
     ensures bound { IfOk result (λ face. (carriers limit : ℕ) (known : List Needle) → IsGood carriers limit known (summary_of a.now) → IsGood carriers limit known (summary_of b.now) → items face ≤ most_items carriers limit (length known)) }
     ensures steps { IfOk result (λ face. steps.new ≡ steps.old + items (summary_of a.now) + items (summary_of b.now) + items face) }

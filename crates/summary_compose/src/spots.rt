@@ -1,7 +1,7 @@
 //! The needles in one row, those of small numbers first, and tables that are found by needle.
 ghost use Rattle.std.specs.Prelude.{◌≡◌, ◌↔◌, ℕ, IsTrue, ◌<◌, ◌≤◌, ◌*◌, ◌+◌, ◌^◌, [], length, OnOk, slice_index_or, vec_capacity};
 ghost use Rattle.face_data.specs.Spots.{spot_of};
-ghost use Rattle.summary_compose.specs.Tables.{IsWritten};
+ghost use Rattle.summary_compose.specs.Tables.{IsPlaceWritten};
 
 use knit_base::{Needle, NoMemory};
 use std::alloc::Global;
@@ -77,7 +77,7 @@ impl Table {
     #[inline(always)]
     pub fn set(&mut self, n: Needle, number: usize)
         requires { 2 ^ 18 ≤ vec_capacity self.old.entries }
-        ensures written { IsWritten self.old.entries.items self.new.entries.items n number }
+        ensures written { IsPlaceWritten self.old.entries.items self.new.entries.items n number }
         ensures room { 2 ^ 18 ≤ vec_capacity self.new.entries }
     {
         let spot = spot_of(n);

@@ -8,7 +8,7 @@ use Rattle.std.proofs.lemmas.Bool.Decides.{eqb_tells}
 use Rattle.std.proofs.lemmas.List.{get_or_past, get_or_default, get_or-set_same, get_or-set_other}
 use Rattle.std.proofs.lemmas.List.Sums.{sum_by-append, sum_by-cons, sum_by-set}
 use Rattle.std.proofs.Math.ListN.{get_or-map}
-use Rattle.face_data.specs.View.{asked_of, changed_of, summary_of, AreNamed, ArePacked, IsPacked}
+use Rattle.face_data.specs.View.{asked_of_check, changed_of, summary_of, AreNamed, ArePacked, IsPacked}
 use Rattle.face_data.specs.declared.face.FaceView.{FaceView}
 use Rattle.span_pool.specs.Pool.{OneFewer, OneMore, PoolView, out_of, spare_of}
 use Rattle.summary_compose.specs.declared.room.Room.{Room}
@@ -16,11 +16,11 @@ use Rattle.summary_tree.specs.declared.faces.Entry.{Entry}
 use Rattle.summary_tree.specs.declared.faces.Pools.{Pools}
 use Rattle.summary_tree.specs.declared.faces.FaceList.{FaceList}
 use Rattle.summary_tree.specs.declared.faces.FaceList.TheVariants.{Checks, Names, Changes, Segs, Lasts}
-use Rattle.summary_tree.specs.Faces.{IsPackedEntry, IsTable, KeepsSpares, TookSpans, class_in, length_in, pool_in, spans_at, spare_in, spares_of, summary_in, table_view}
+use Rattle.summary_tree.specs.Faces.{IsPackedEntry, IsEntryTable, KeepsSpares, TookSpans, class_in, length_in, pool_in, spans_at, spare_in, spares_of, summary_in, table_view}
 use Rattle.summary_tree.specs.Lists.{Exchanged, TookSpan}
 use Rattle.summary_tree.specs.Rooms.{kept_room}
 use Rattle.summary_tree.specs.declared.faces.Head.{Head}
-use Rattle.summary_tree.proofs.SpanCounts.{fewer, more}
+use Rattle.summary_tree.proofs.SpanCounts.{one_fewer_counted, one_more_counted}
 
 -- the summary at a place
 pub seen_at : (entries : List (Option Entry)) (at : ℕ) → slice_index_or (map (option_map summary_in) entries) at None ≡ option_map summary_in (slice_index_or entries at None)
@@ -39,7 +39,7 @@ packed_as e face checks names changes segs lasts head p = record {
     same = λ i. record {
       lines = (head i).lines;
       made = (head i).made;
-      checks = map (asked_of (names i)) (checks i);
+      checks = map (asked_of_check (names i)) (checks i);
       changes = map (changed_of (segs i)) (changes i);
       lasts = lasts i;
       ending = (head i).ending;
@@ -88,17 +88,17 @@ inside entries at e is = elim (cases_lt at (length entries)) [
 ]
 
 -- the spans of an entry are out
-pub are_out : (entries : List (Option Entry)) (pools : Pools) (at : ℕ) (e : Entry) → IsTable entries pools → slice_index_or entries at None ≡ Some e → (list : FaceList) → 1 ≤ out_of (pool_in list pools) (class_in list e)
+pub are_out : (entries : List (Option Entry)) (pools : Pools) (at : ℕ) (e : Entry) → IsEntryTable entries pools → slice_index_or entries at None ≡ Some e → (list : FaceList) → 1 ≤ out_of (pool_in list pools) (class_in list e)
 are_out entries pools at e table is list =
     let class = class_in list e in
     let here : spans_at list class (slice_index_or entries at None) ≡ 1 = ap (spans_at list class) is ∙ one_here class in
     omega (arith, here, sum_by-set (spans_at list class) entries at None None (inside entries at e is), table.out list class)
 
 -- a place is written, and the spans that are out change by those that are there
-pub written : (entries : List (Option Entry)) (old new : Pools) (at : ℕ) (o : Option Entry) → IsTable entries old → at < length entries
+pub written : (entries : List (Option Entry)) (old new : Pools) (at : ℕ) (o : Option Entry) → IsEntryTable entries old → at < length entries
     → ((e : Entry) → o ≡ Some e → IsPackedEntry e)
     → ((list : FaceList) (class : ℕ) → out_of (pool_in list new) class + spans_at list class (slice_index_or entries at None) ≡ out_of (pool_in list old) class + spans_at list class o)
-    → IsTable (slice_set entries at o) new
+    → IsEntryTable (slice_set entries at o) new
 written entries old new at o table within packed out = record {
   packed = λ k e is. elim (eqb_tells k at) [
     | inl w ↦ packed e (sym (get_or-set_same entries at o None within) ∙ (ap (λ n. slice_index_or (slice_set entries at o) n None) (sym w.1) ∙ is))
@@ -115,25 +115,25 @@ only : {A : Type 0} (P : A → Type 0) (a b : A) → Some a ≡ Some b → P a �
 only P a b e p = let is : a ≡ b = cc (e) in subst P is p
 
 -- the lists of another face are put into the spans of an entry
-pub refilled : (entries : List (Option Entry)) (old new : Pools) (at : ℕ) (before after : Entry) → IsTable entries old → at < length entries → slice_index_or entries at None ≡ Some before → IsPackedEntry after
-    → ((list : FaceList) → Exchanged (out_of (pool_in list old)) (out_of (pool_in list new)) (class_in list after) (class_in list before)) → IsTable (slice_set entries at (Some after)) new
-refilled entries old new at before after table within is packed out =
+pub table_refilled : (entries : List (Option Entry)) (old new : Pools) (at : ℕ) (before after : Entry) → IsEntryTable entries old → at < length entries → slice_index_or entries at None ≡ Some before → IsPackedEntry after
+    → ((list : FaceList) → Exchanged (out_of (pool_in list old)) (out_of (pool_in list new)) (class_in list after) (class_in list before)) → IsEntryTable (slice_set entries at (Some after)) new
+table_refilled entries old new at before after table within is packed out =
     written entries old new at (Some after) table within (λ e same. only IsPackedEntry after e same packed)
     (λ list class. ap (λ o. out_of (pool_in list new) class + spans_at list class o) is ∙ out list class)
 
 -- an entry is put at a place where none is
-pub filled : (entries : List (Option Entry)) (old new : Pools) (at : ℕ) (after : Entry) → IsTable entries old → at < length entries → slice_index_or entries at None ≡ None → IsPackedEntry after
-    → ((list : FaceList) → OneMore (out_of (pool_in list old)) (out_of (pool_in list new)) (class_in list after)) → IsTable (slice_set entries at (Some after)) new
-filled entries old new at after table within is packed out =
+pub table_filled : (entries : List (Option Entry)) (old new : Pools) (at : ℕ) (after : Entry) → IsEntryTable entries old → at < length entries → slice_index_or entries at None ≡ None → IsPackedEntry after
+    → ((list : FaceList) → OneMore (out_of (pool_in list old)) (out_of (pool_in list new)) (class_in list after)) → IsEntryTable (slice_set entries at (Some after)) new
+table_filled entries old new at after table within is packed out =
     written entries old new at (Some after) table within (λ e same. only IsPackedEntry after e same packed)
-    (λ list class. ap (λ o. out_of (pool_in list new) class + spans_at list class o) is ∙ omega (arith, more (out_of (pool_in list old)) (out_of (pool_in list new)) (class_in list after) class (out list)))
+    (λ list class. ap (λ o. out_of (pool_in list new) class + spans_at list class o) is ∙ omega (arith, one_more_counted (out_of (pool_in list old)) (out_of (pool_in list new)) (class_in list after) class (out list)))
 
 -- an entry's spans are given back
-pub emptied : (entries : List (Option Entry)) (old new : Pools) (at : ℕ) (before : Entry) → IsTable entries old → at < length entries → slice_index_or entries at None ≡ Some before
-    → ((list : FaceList) → OneFewer (out_of (pool_in list old)) (out_of (pool_in list new)) (class_in list before)) → IsTable (slice_set entries at None) new
-emptied entries old new at before table within is out =
+pub table_emptied : (entries : List (Option Entry)) (old new : Pools) (at : ℕ) (before : Entry) → IsEntryTable entries old → at < length entries → slice_index_or entries at None ≡ Some before
+    → ((list : FaceList) → OneFewer (out_of (pool_in list old)) (out_of (pool_in list new)) (class_in list before)) → IsEntryTable (slice_set entries at None) new
+table_emptied entries old new at before table within is out =
     written entries old new at None table within (λ e same. absurd (no_some e same))
-    (λ list class. ap (λ o. out_of (pool_in list new) class + spans_at list class o) is ∙ omega (arith, fewer (out_of (pool_in list old)) (out_of (pool_in list new)) (class_in list before) class (out list)))
+    (λ list class. ap (λ o. out_of (pool_in list new) class + spans_at list class o) is ∙ omega (arith, one_fewer_counted (out_of (pool_in list old)) (out_of (pool_in list new)) (class_in list before) class (out list)))
   where
     no_some : (e : Entry) → None ≡ Some e → ⊥
     no_some e same = cc (same)
@@ -149,9 +149,9 @@ pub spans_pushed : (list : FaceList) (class : ℕ) (entries : List (Option Entry
 spans_pushed list class entries = omega (arith, sum_by-append (spans_at list class) entries (None ∷ []), sum_by-cons (spans_at list class) None [])
 
 -- other pools that have as many out, and other entries that take as many
-pub same_table : (entries others : List (Option Entry)) (old new : Pools) → IsTable entries old → ((at : ℕ) → slice_index_or others at None ≡ slice_index_or entries at None)
+pub same_table : (entries others : List (Option Entry)) (old new : Pools) → IsEntryTable entries old → ((at : ℕ) → slice_index_or others at None ≡ slice_index_or entries at None)
     → ((list : FaceList) (class : ℕ) → sum_by (spans_at list class) others ≡ sum_by (spans_at list class) entries)
-    → ((list : FaceList) (class : ℕ) → out_of (pool_in list new) class ≡ out_of (pool_in list old) class) → IsTable others new
+    → ((list : FaceList) (class : ℕ) → out_of (pool_in list new) class ≡ out_of (pool_in list old) class) → IsEntryTable others new
 same_table entries others old new table same spans out = record {
   packed = λ at e is. table.packed at e (sym (same at) ∙ is);
   out = λ list class. omega (arith, table.out list class, spans list class, out list class);

@@ -4,25 +4,25 @@ use Rattle.std.proofs.lemmas.List.{take-append-drop}
 use Rattle.std.proofs.Math.Nat.{mul-le-mul_left}
 use Rattle.loop_history.specs.declared.row.LoopRow.{LoopRow}
 use Rattle.summary_compose.specs.declared.room.Room.{Room}
-use Rattle.tree_shape.specs.Fewest.{inserted, highest}
+use Rattle.tree_shape.specs.Fewest.{list_inserted, highest}
 use Rattle.tree_shape.specs.Values.{leaf_values}
-use Rattle.tree_shape.specs.View.{ShapeView, IsSameShape, count_of}
-use Rattle.value_tree.specs.Found.{total}
+use Rattle.tree_shape.specs.View.{ShapeView, IsSameShape, leaf_count_of}
+use Rattle.value_tree.specs.Found.{total_count}
 use Rattle.value_tree.specs.Kept.{HasLeafPlace}
 use Rattle.value_tree.proofs.LeafLists.{count_values}
 use Rattle.summary_tree.specs.Faces.{FacesView}
-use Rattle.summary_tree.specs.Leaves.{Leaf, AreSound, leaf_lines, lines_of}
-use Rattle.summary_tree.specs.Store.{leaf_in, node_in, places_in, HasRooms}
+use Rattle.summary_tree.specs.Leaves.{Leaf, AreSound, leaf_lines, leaf_line_count}
+use Rattle.summary_tree.specs.Store.{leaf_in, node_in, faces_place_count, HasRooms}
 use Rattle.summary_tree.specs.Trees.{NeedView, TreeView, IsTree, IsSameTree, Meets, laid_out, change_steps}
 use Rattle.summary_tree.proofs.SoundLeaves.{sound_of}
 
 module _ (shape : ShapeView) (faces : FacesView) (tables : List (Option (List LoopRow))) (scratch : Room) (v : TreeView) (is : laid_out shape faces tables scratch ≡ v) (kept : IsTree shape faces tables) where
   -- there are as many leaves as the shape has
-  pub count_is : length v.leaves ≡ count_of shape.tree
+  pub count_is : length v.leaves ≡ leaf_count_of shape.tree
   count_is = ap (λ (w : TreeView). length w.leaves) (sym is) ∙ count_values (leaf_in faces tables) shape.tree kept.there
 
   -- they may stand in one tree
-  pub is_sound : count_of shape.tree ≤ 65536 → AreSound v.leaves
+  pub is_sound : leaf_count_of shape.tree ≤ 65536 → AreSound v.leaves
   is_sound few =
       subst (λ (w : TreeView). AreSound w.leaves) is (sound_of (leaf_values (leaf_in faces tables) shape.tree) kept.sound_leaves (omega (arith, few, count_values (leaf_in faces tables) shape.tree kept.there)))
 
@@ -38,7 +38,7 @@ module _ (shape : ShapeView) (faces : FacesView) (tables : List (Option (List Lo
   -- and one with as much room or more keeps it for each need
   pub keeps_room : (other : ShapeView) (other_faces : FacesView) (other_tables : List (Option (List LoopRow))) (other_scratch : Room)
       → ((needed : List Room) → HasRooms faces scratch needed → HasRooms other_faces other_scratch needed)
-      → (HasLeafPlace (places_in faces tables) shape → HasLeafPlace (places_in other_faces other_tables) other)
+      → (HasLeafPlace (faces_place_count faces tables) shape → HasLeafPlace (faces_place_count other_faces other_tables) other)
       → (need : NeedView) → Meets v need → Meets (laid_out other other_faces other_tables other_scratch) need
   keeps_room other other_faces other_tables other_scratch rooms leaf need =
       subst (λ (w : TreeView). Meets w need → Meets (laid_out other other_faces other_tables other_scratch) need) is (λ m. record { rooms = rooms need.rooms m.rooms; leaf = λ one. leaf (m.leaf one) })
@@ -51,7 +51,7 @@ keeps_place slots more old new h same p = record {
   inner = omega (arith, h, p.inner, ap (λ (s : ShapeView). s.inner_numbers.drawn) same);
 }
 
-pub length_inserted : {X : Type 0} (at : ℕ) (x : X) (xs : List X) → length (inserted at x xs) ≡ length xs + 1
+pub length_inserted : {X : Type 0} (at : ℕ) (x : X) (xs : List X) → length (list_inserted at x xs) ≡ length xs + 1
 length_inserted at x xs =
     let all : length (take at xs) + length (drop at xs) ≡ length xs = sym (length-append (take at xs) (drop at xs)) ∙ ap length (take-append-drop at xs) in
     length-append (take at xs) (x ∷ drop at xs) ∙ omega (arith, all)
@@ -66,6 +66,6 @@ steps_within now start each rows leaves h few =
     regroup a b = omega arith
 
 -- the lines of leaves, counted leaf by leaf
-pub total_lines : (xs : List Leaf) → total leaf_lines xs ≡ lines_of xs
+pub total_lines : (xs : List Leaf) → total_count leaf_lines xs ≡ leaf_line_count xs
 total_lines [] = refl
 total_lines (x ∷ xs) = ap (λ n. x.0.lines + n) (total_lines xs)

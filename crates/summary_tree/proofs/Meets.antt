@@ -15,24 +15,24 @@ use Rattle.loop_history.specs.declared.row.LoopRow.{LoopRow}
 use Rattle.tree_shape.specs.declared.node.Child.{Child}
 use Rattle.tree_shape.specs.declared.node.Child.TheVariants.{Leaf, Inner}
 use Rattle.tree_shape.specs.Values.{part}
-use Rattle.summary_tree.specs.Store.{place_of, leaf_from, leaf_in, node_in, HasRooms}
+use Rattle.summary_tree.specs.Store.{child_slot, leaf_from, leaf_in, node_in, HasRooms}
 use Rattle.std.proofs.Math.Pow.{pow_mono}
 use Rattle.face_data.specs.declared.face.FaceView.{FaceView}
 use Rattle.face_data.specs.Summaries.{Summary}
-use Rattle.face_data.specs.View.{IsPacked, asked_of, changed_of, summary_of}
+use Rattle.face_data.specs.View.{IsPacked, asked_of_check, changed_of, summary_of}
 use Rattle.face_data.proofs.Items.{all_entries}
 use Rattle.span_pool.specs.Class.{IsClassOf}
 use Rattle.summary_compose.specs.Changes.{changes_in}
 use Rattle.summary_compose.specs.Composing.{IsNoGreater}
-use Rattle.summary_compose.specs.Rooms.{capped, kept_of, names_after, room_of, room_after, room_of_both, widest_of}
+use Rattle.summary_compose.specs.Rooms.{capped_room, kept_of, names_after, room_of_face, room_after, room_of_both_faces, widest_of}
 use Rattle.summary_compose.specs.declared.room.Room.{Room}
 use Rattle.summary_compose.proofs.Checks.{named_size}
 use Rattle.summary_compose.proofs.Rooms.{all_entries_flat, capped_is_min}
-use Rattle.face_data.specs.Segments.{entries_of}
+use Rattle.face_data.specs.Segments.{entry_needles_of}
 use Rattle.summary_compose.proofs.Parts.{packed_size}
 use Rattle.summary_tree.specs.declared.faces.FaceList.{FaceList}
 use Rattle.summary_tree.specs.declared.faces.FaceList.TheVariants.{Checks, Names, Changes, Segs, Lasts}
-use Rattle.summary_tree.specs.Faces.{FacesView, AreMet, TookSpans, KeepsSpares, spare_in, length_in, face_in}
+use Rattle.summary_tree.specs.Faces.{FacesView, AreSpansReserved, TookSpans, KeepsSpares, spare_in, length_in, face_in}
 use Rattle.summary_tree.specs.Laws.{capped_product, names_kept, sum_kept, along_rooms, bounds}
 use Rattle.summary_tree.specs.Leaves.{LeavesFit}
 use Rattle.face_data.specs.Composition.{composed}
@@ -40,8 +40,8 @@ use Rattle.summary_tree.specs.Meeting.{reaches, IsMet}
 use Rattle.summary_tree.specs.Rooms.{kept_room}
 
 -- a test can't have failed and passed
-pub clash : {X : Type 0} (b : Bool) → b ≡ false → b ≡ true → X
-clash b e f = let no : false ≡ true = sym e ∙ f in absurd (cc)
+pub test_both_ways_absurd : {X : Type 0} (b : Bool) → b ≡ false → b ≡ true → X
+test_both_ways_absurd b e f = let no : false ≡ true = sym e ∙ f in absurd (cc)
 
 exponent : (a b : ℕ) → 2 ^ a < 2 ^ b → a < b
 exponent a b h = elim (cases_lt a b) [
@@ -113,7 +113,7 @@ module _ {X : Type 0} (len : X → ℕ) where
   none_beyond : (class k longest : ℕ) (rooms : List X) → class ≤ k → All (λ r. len r ≤ longest) rooms → reaches class longest ≡ false → count_by (λ r. reaches k (len r)) rooms ≡ 0
   none_beyond class k longest [] up all short = refl
   none_beyond class k longest (r ∷ rest) up all short = elim (cases_Bool (reaches k (len r))) [
-    | inl w ↦ clash (reaches class longest) short (stops class k (len r) longest up (All-head (λ x. len x ≤ longest) r rest all) w)
+    | inl w ↦ test_both_ways_absurd (reaches class longest) short (stops class k (len r) longest up (All-head (λ x. len x ≤ longest) r rest all) w)
     | inr w ↦ omega (arith, none_beyond class k longest rest up (All-tail (λ x. len x ≤ longest) r rest all) short, ap {B = ℕ} (λ b. cond b 1 0) w, sum_by-cons (λ x. cond (reaches k (len x)) 1 0) r rest)
   ]
 
@@ -134,24 +134,24 @@ no_greater_in a b h Segs = h.segs
 no_greater_in a b h Lasts = h.lasts
 
 -- the room of a packed face's summary is that of its lists
-pub kept_is : (face : FaceView) → IsPacked face → kept_room (summary_of face) ≡ kept_of (room_of face)
+pub kept_is : (face : FaceView) → IsPacked face → kept_room (summary_of face) ≡ kept_of (room_of_face face)
 kept_is face p =
     let names = sym (named_size face.names.now face.checks.now (record { fit = p.checks_fit; whole = p.names })) in
     let segs = sym (packed_size face.segs.now face.changes.now (record { fit = p.changes_fit; whole = p.segs })) in
-    let checks = length-map face.checks.now (asked_of face.names.now) in
+    let checks = length-map face.checks.now (asked_of_check face.names.now) in
     let changes = length-map face.changes.now (changed_of face.segs.now) in
-    let entries : length (all_entries (map (changed_of face.segs.now) face.changes.now)) ≡ length (entries_of face.segs.now) = ap length (sym (all_entries_flat face.segs.now face.changes.now) ∙ ap entries_of p.segs) in
+    let entries : length (all_entries (map (changed_of face.segs.now) face.changes.now)) ≡ length (entry_needles_of face.segs.now) = ap length (sym (all_entries_flat face.segs.now face.changes.now) ∙ ap entry_needles_of p.segs) in
     λ i. record {
-      checks = capped (checks i);
-      names = capped (names i);
-      changes = capped (changes i);
-      segs = capped (segs i);
-      entries = capped (entries i);
-      widest = capped (widest_of (changes_in face));
-      lasts = capped (length face.lasts.now);
+      checks = capped_room (checks i);
+      names = capped_room (names i);
+      changes = capped_room (changes i);
+      segs = capped_room (segs i);
+      entries = capped_room (entries i);
+      widest = capped_room (widest_of (changes_in face));
+      lasts = capped_room (length face.lasts.now);
     }
 
-capped_in : (list : FaceList) (r : Room) → length_in list (kept_of r) ≡ capped (length_in list r)
+capped_in : (list : FaceList) (r : Room) → length_in list (kept_of r) ≡ capped_room (length_in list r)
 capped_in Checks r = refl
 capped_in Names r = refl
 capped_in Changes r = refl
@@ -159,27 +159,27 @@ capped_in Segs r = refl
 capped_in Lasts r = refl
 
 -- no list of a face is longer than one that was reckoned with
-pub list_fits : (v : FacesView) (face : FaceView) (r : Room) (rest : List Room) → AreMet v (r ∷ rest) → IsPacked face → IsNoGreater (kept_room (summary_of face)) r
-    → (list : FaceList) → (length_in list (room_of face) ≤ length_in list r) × (length_in list (room_of face) ≤ 2 ^ 62)
+pub list_fits : (v : FacesView) (face : FaceView) (r : Room) (rest : List Room) → AreSpansReserved v (r ∷ rest) → IsPacked face → IsNoGreater (kept_room (summary_of face)) r
+    → (list : FaceList) → (length_in list (room_of_face face) ≤ length_in list r) × (length_in list (room_of_face face) ≤ 2 ^ 62)
 list_fits v face r rest m p h list =
     let low : length_in list r ≤ 2 ^ 62 = All-head (λ x. length_in list x ≤ 2 ^ 62) r rest (m list).low in
-    let within : length_in list (kept_of (room_of face)) ≤ length_in list r = no_greater_in (kept_of (room_of face)) r (subst (λ x. IsNoGreater x r) (kept_is face p) h) list in
-    let kept = capped_in list (room_of face) in
-    (omega (arith, low, within, kept, capped_is_min (length_in list (room_of face))), omega (arith, low, within, kept, capped_is_min (length_in list (room_of face))))
+    let within : length_in list (kept_of (room_of_face face)) ≤ length_in list r = no_greater_in (kept_of (room_of_face face)) r (subst (λ x. IsNoGreater x r) (kept_is face p) h) list in
+    let kept = capped_in list (room_of_face face) in
+    (omega (arith, low, within, kept, capped_is_min (length_in list (room_of_face face))), omega (arith, low, within, kept, capped_is_min (length_in list (room_of_face face))))
 
 -- there are spans for the face's lists
-pub spans_there : (v : FacesView) (face : FaceView) (r : Room) (rest : List Room) → AreMet v (r ∷ rest) → IsPacked face → IsNoGreater (kept_room (summary_of face)) r
-    → (list : FaceList) (class : ℕ) → IsClassOf (length_in list (room_of face)) class → 1 ≤ spare_in v list class
+pub spans_there : (v : FacesView) (face : FaceView) (r : Room) (rest : List Room) → AreSpansReserved v (r ∷ rest) → IsPacked face → IsNoGreater (kept_room (summary_of face)) r
+    → (list : FaceList) (class : ℕ) → IsClassOf (length_in list (room_of_face face)) class → 1 ≤ spare_in v list class
 spans_there v face r rest m p h list class c =
-    spare_here (length_in list) (spare_in v list) r rest (length_in list (room_of face)) class (m list) c (list_fits v face r rest m p h list).0
+    spare_here (length_in list) (spare_in v list) r rest (length_in list (room_of_face face)) class (m list) c (list_fits v face r rest m p h list).0
 
 -- and once they are taken, there are still those for the other rooms
-pub spans_left : (old new : FacesView) (face : FaceView) (r : Room) (rest : List Room) → AreMet old (r ∷ rest) → IsPacked face → IsNoGreater (kept_room (summary_of face)) r → TookSpans old new (room_of face) → AreMet new rest
+pub spans_left : (old new : FacesView) (face : FaceView) (r : Room) (rest : List Room) → AreSpansReserved old (r ∷ rest) → IsPacked face → IsNoGreater (kept_room (summary_of face)) r → TookSpans old new (room_of_face face) → AreSpansReserved new rest
 spans_left old new face r rest m p h t = λ list.
-    met_rest (length_in list) (spare_in old list) (spare_in new list) r rest (length_in list (room_of face)) (m list) (list_fits old face r rest m p h list).0 (t.of_class list) (t.of_others list)
+    met_rest (length_in list) (spare_in old list) (spare_in new list) r rest (length_in list (room_of_face face)) (m list) (list_fits old face r rest m p h list).0 (t.of_class list) (t.of_others list)
 
 -- more spare spans are no harm
-pub spans_more : (old new : FacesView) (rooms : List Room) → KeepsSpares old new → AreMet old rooms → AreMet new rooms
+pub spans_more : (old new : FacesView) (rooms : List Room) → KeepsSpares old new → AreSpansReserved old rooms → AreSpansReserved new rooms
 spans_more old new rooms more m = λ list. met_more (length_in list) (spare_in old list) (spare_in new list) rooms (more list) (m list)
 
 -- nor is more room of the scratch
@@ -190,8 +190,8 @@ rooms_more old new scratch more rooms spares wider h = record {
 }
 
 -- the room for two faces by their lists is within the room by their kept rooms
-pub both_kept : (a b : FaceView) → IsPacked a → IsPacked b → IsNoGreater (room_of_both a b) (room_after (kept_room (summary_of a)) (kept_room (summary_of b)))
-both_kept a b p q = subst (λ x. IsNoGreater (room_of_both a b) (room_after x (kept_room (summary_of b)))) (sym (kept_is a p)) (subst (λ y. IsNoGreater (room_of_both a b) (room_after (kept_of (room_of a)) y)) (sym (kept_is b q)) (go (room_of a) (room_of b)))
+pub both_kept : (a b : FaceView) → IsPacked a → IsPacked b → IsNoGreater (room_of_both_faces a b) (room_after (kept_room (summary_of a)) (kept_room (summary_of b)))
+both_kept a b p q = subst (λ x. IsNoGreater (room_of_both_faces a b) (room_after x (kept_room (summary_of b)))) (sym (kept_is a p)) (subst (λ y. IsNoGreater (room_of_both_faces a b) (room_after (kept_of (room_of_face a)) y)) (sym (kept_is b q)) (go (room_of_face a) (room_of_face b)))
   where
     go : (r s : Room) → IsNoGreater (room_after r s) (room_after (kept_of r) (kept_of s))
     go r s =
@@ -199,7 +199,7 @@ both_kept a b p q = subst (λ x. IsNoGreater (room_of_both a b) (room_after x (k
         record {
           checks = sum_kept (r.checks + s.checks) r.checks s.checks (omega arith);
           names = names_kept (r.names + names_after r s) r.names (min (s.names * r.widest) (s.names + s.checks * r.entries)) s.names s.checks r.entries r.widest
-              (omega (arith, capped_is_min (s.names * r.widest), capped_is_min (s.checks * r.entries), capped_is_min (s.names + capped (s.checks * r.entries)))) (omega arith) (omega arith);
+              (omega (arith, capped_is_min (s.names * r.widest), capped_is_min (s.checks * r.entries), capped_is_min (s.names + capped_room (s.checks * r.entries)))) (omega arith) (omega arith);
           changes = sum_kept (r.changes + s.changes) r.changes s.changes (omega arith);
           segs = sum_kept (r.segs + s.segs) r.segs s.segs (omega arith);
           entries = entries;
@@ -208,14 +208,14 @@ both_kept a b p q = subst (λ x. IsNoGreater (room_of_both a b) (room_after x (k
         }
 
 -- what a child of the tree has is the face at its place
-pub part_face : (faces : FacesView) (tables : List (Option (List LoopRow))) (child : Child) (v : Summary × List LoopRow) → part (leaf_in faces tables) (node_in faces) child ≡ Some v → face_in faces (place_of child) ≡ Some v.0
-part_face faces tables (Leaf n) v e = of_leaf (face_in faces (place_of (Leaf n))) (slice_index_or tables n None) v e
+pub part_face : (faces : FacesView) (tables : List (Option (List LoopRow))) (child : Child) (v : Summary × List LoopRow) → part (leaf_in faces tables) (node_in faces) child ≡ Some v → face_in faces (child_slot child) ≡ Some v.0
+part_face faces tables (Leaf n) v e = of_leaf (face_in faces (child_slot (Leaf n))) (slice_index_or tables n None) v e
   where
     of_leaf : (o : Option Summary) (t : Option (List LoopRow)) (v : Summary × List LoopRow) → leaf_from o t ≡ Some v → o ≡ Some v.0
     of_leaf None t v e = cc
     of_leaf (Some face) None v e = cc
     of_leaf (Some face) (Some table) v e = let same : (face, table) ≡ v = cc in ap (λ (p : Summary × List LoopRow). Some p.0) same
-part_face faces tables (Inner n) v e = of_node (face_in faces (place_of (Inner n))) v e
+part_face faces tables (Inner n) v e = of_node (face_in faces (child_slot (Inner n))) v e
   where
     of_node : (o : Option Summary) (v : Summary × List LoopRow) → option_map (λ (face : Summary). (face, [])) o ≡ Some v → o ≡ Some v.0
     of_node None v e = cc

@@ -14,7 +14,7 @@ use Rattle.face_data.specs.declared.face.Seg.TheVariants.{Entry, New}
 use Rattle.face_data.specs.Composition.{and_then}
 use Rattle.face_data.specs.Goodness.{ChangeFits, IsInOrder}
 use Rattle.face_data.specs.Segments.{AreRead, Changed, OffsetFits, change_at, segs_or_own, segments_on, read_segs}
-use Rattle.face_data.specs.Summaries.{Summary, Outcome, applied, first_fault, outcome_of}
+use Rattle.face_data.specs.Summaries.{Summary, Outcome, summary_outcome, first_fault, outcome_of}
 use Rattle.face_data.specs.Summaries.Outcome.{went_on, faulted}
 use Rattle.face_data.specs.Through.{through}
 use Rattle.face_data.proofs.Members.{Contains-head, Contains-tail}
@@ -28,11 +28,11 @@ use Rattle.tree_shape.specs.Values.{part}
 use Rattle.value_tree.specs.Parts.{StandFor}
 use Rattle.value_tree.proofs.TreeParts.{last_stands}
 use Rattle.summary_tree.specs.Faces.{FacesView, face_in}
-use Rattle.summary_tree.specs.Store.{place_of, leaf_in, node_in}
+use Rattle.summary_tree.specs.Store.{child_slot, leaf_in, node_in}
 use Rattle.summary_tree.proofs.Meets.{part_face, same_there}
 use Rattle.summary_tree.specs.Entries.{IsToldBehind}
 use Rattle.summary_tree.specs.Laws.{stand_laws, lines_append, applied_append}
-use Rattle.summary_tree.specs.Leaves.{Leaf, lines_of, StandTogether, applied_each, WholeLeaf}
+use Rattle.summary_tree.specs.Leaves.{Leaf, leaf_line_count, StandTogether, applied_each, WholeLeaf}
 
 -- what goes on did so before
 went_before : (o : Outcome) (f : State → Outcome) (t : State) → and_then o f ≡ went_on t → (u : State) × (o ≡ went_on u) × (f u ≡ went_on t)
@@ -46,7 +46,7 @@ read_alike s t first (Entry n ∷ segs) same = ap₂ (λ (here rest : List ℕ).
 read_alike s t first (New offset ∷ segs) same = ap (λ rest. read_segs s first (New offset ∷ []) ++ rest) (read_alike s t first segs same)
 
 -- read behind a summary, they are those that are read through it before
-read_before : (summary : Summary) (s t : State) (first : ℕ) (segs : List Seg) → applied summary s first ≡ went_on t → read_segs t (first + summary.lines) segs ≡ read_segs s first (through summary.changes summary.lines segs)
+read_before : (summary : Summary) (s t : State) (first : ℕ) (segs : List Seg) → summary_outcome summary s first ≡ went_on t → read_segs t (first + summary.lines) segs ≡ read_segs s first (through summary.changes summary.lines segs)
 read_before summary s t first segs goes =
     read_alike t (with_stacks s (λ n. read_segs s first (segments_on summary.changes n))) (first + summary.lines) segs (ends_read_at (first_fault summary.checks s) summary.ending summary.lasts summary.changes s t first goes)
     ∙ sym (read-through s first summary.lines summary.changes segs)
@@ -103,10 +103,10 @@ told_before all needle front back whole segs s w h =
       offsets = through_own whole.0.lines h.others b.known whole.0.changes segs good.fair.changes_fit h.offsets;
       told = λ first end goes.
           let behind = h.told first end goes in
-          let before = went_before (applied_each front empty_state first) (λ u. applied_each back u (first + lines_of front)) behind.0 (sym (applied_append front back empty_state first) ∙ behind.1) in
-          let part : applied whole.0 before.0 (first + lines_of front) ≡ went_on behind.0 = w.runs_all before.0 (first + lines_of front) ∙ before.2 in
-          let there : first + lines_of (front ++ back) ≡ first + lines_of front + whole.0.lines = omega (arith, lines_append front back, w.lines) in
-          (before.0, before.1, behind.2 ∙ (ap (λ n. read_segs behind.0 n segs) there ∙ read_before whole.0 before.0 behind.0 (first + lines_of front) segs part));
+          let before = went_before (applied_each front empty_state first) (λ u. applied_each back u (first + leaf_line_count front)) behind.0 (sym (applied_append front back empty_state first) ∙ behind.1) in
+          let part : summary_outcome whole.0 before.0 (first + leaf_line_count front) ≡ went_on behind.0 = w.runs_all before.0 (first + leaf_line_count front) ∙ before.2 in
+          let there : first + leaf_line_count (front ++ back) ≡ first + leaf_line_count front + whole.0.lines = omega (arith, lines_append front back, w.lines) in
+          (before.0, before.1, behind.2 ∙ (ap (λ n. read_segs behind.0 n segs) there ∙ read_before whole.0 before.0 behind.0 (first + leaf_line_count front) segs part));
     }
 
 -- all that is left to read is read on empty beds
@@ -139,7 +139,7 @@ module _ (faces : FacesView) (tables : List (Option (List LoopRow))) (all : List
     last : (front : List Leaf) × (back : List Leaf) × (v : Leaf) × (t.0 ≡ front ++ back) × StandFor WholeLeaf (part (leaf_in faces tables) (node_in faces)) rest front × (part (leaf_in faces tables) (node_in faces) child ≡ Some v) × WholeLeaf back v
     last = last_stands WholeLeaf (part (leaf_in faces tables) (node_in faces)) rest child t.0 (subst (λ cs. StandFor WholeLeaf (part (leaf_in faces tables) (node_in faces)) cs t.0) split t.2)
 
-    has_face : face_in faces (place_of child) ≡ Some last.2.0
+    has_face : face_in faces (child_slot child) ≡ Some last.2.0
     has_face = part_face faces tables child last.2 last.5
 
     together_there : StandTogether (last.0 ++ last.1)
@@ -149,25 +149,25 @@ module _ (faces : FacesView) (tables : List (Option (List LoopRow))) (all : List
     told_there = subst (λ some. IsToldBehind all needle some segs) last.3 t.3
 
     -- the last part has a face
-    pub part_there : face_in faces (place_of child) ≡ None → ⊥
+    pub part_there : face_in faces (child_slot child) ≡ None → ⊥
     part_there e = let bad : Some last.2.0 ≡ None = sym has_face ∙ e in cc (bad)
 
-    pub part_fits : (summary : Summary) → face_in faces (place_of child) ≡ Some summary → StandTogether all → All (OffsetFits summary.lines) segs
+    pub part_fits : (summary : Summary) → face_in faces (child_slot child) ≡ Some summary → StandTogether all → All (OffsetFits summary.lines) segs
     part_fits summary e s =
-        let same : last.2.0 ≡ summary = same_there (face_in faces (place_of child)) last.2.0 summary has_face e in
+        let same : last.2.0 ≡ summary = same_there (face_in faces (child_slot child)) last.2.0 summary has_face e in
         subst (λ (f : Summary). All (OffsetFits f.lines) segs) same (offsets_fit all needle last.0 last.1 last.2 segs s last.6 told_there)
 
     -- a part's changes stand in the order of their needles
-    pub part_in_order : (summary : Summary) → face_in faces (place_of child) ≡ Some summary → IsInOrder summary.changes
+    pub part_in_order : (summary : Summary) → face_in faces (child_slot child) ≡ Some summary → IsInOrder summary.changes
     part_in_order summary e =
-        let same : last.2.0 ≡ summary = same_there (face_in faces (place_of child)) last.2.0 summary has_face e in
+        let same : last.2.0 ≡ summary = same_there (face_in faces (child_slot child)) last.2.0 summary has_face e in
         let b = stand_laws.back last.0 last.1 together_there in
         subst (λ (f : Summary). IsInOrder f.changes) same (last.6.good b.carriers b.limit b.known b.good).fair.in_order
 
     -- one part less
-    pub part_read : (summary : Summary) (next : List Seg) → face_in faces (place_of child) ≡ Some summary → next ≡ through summary.changes summary.lines segs → IsToldOf rest next
+    pub part_read : (summary : Summary) (next : List Seg) → face_in faces (child_slot child) ≡ Some summary → next ≡ through summary.changes summary.lines segs → IsToldOf rest next
     part_read summary next e is =
-        let same : last.2.0 ≡ summary = same_there (face_in faces (place_of child)) last.2.0 summary has_face e in
+        let same : last.2.0 ≡ summary = same_there (face_in faces (child_slot child)) last.2.0 summary has_face e in
         let before = told_before all needle last.0 last.1 last.2 segs together_there last.6 told_there in (
           last.0,
           stand_laws.front last.0 last.1 together_there,
@@ -180,7 +180,7 @@ module _ (faces : FacesView) (tables : List (Option (List LoopRow))) (all : List
   no_part (child ∷ parts) segs none t = absurd (omega (arith, none))
   no_part [] segs none t = subst (λ some. IsToldBehind all needle some segs) t.2 t.3
 
-  pub lines_fit : (parts : List Child) (segs : List Seg) (first : ℕ) → length parts ≡ 0 → IsToldOf parts segs → first + lines_of all < 2 ^ 32 → All (OffsetFits first) segs
+  pub lines_fit : (parts : List Child) (segs : List Seg) (first : ℕ) → length parts ≡ 0 → IsToldOf parts segs → first + leaf_line_count all < 2 ^ 32 → All (OffsetFits first) segs
   lines_fit parts segs first none t room =
       let h = no_part parts segs none t in
       own_fit h.others first segs (omega (arith, room, h.lines)) h.offsets

@@ -7,7 +7,7 @@ use Rattle.summary_compose.specs.declared.room.Room.{Room}
 use Rattle.summary_tree.specs.declared.faces.FaceList.{FaceList}
 use Rattle.summary_tree.specs.declared.faces.FaceList.TheVariants.{Checks, Names, Changes, Segs, Lasts}
 use Rattle.summary_tree.specs.Faces.{length_in}
-use Rattle.summary_compose.specs.Rooms.{greater}
+use Rattle.summary_compose.specs.Rooms.{greater_room}
 use Rattle.summary_tree.specs.Rooms.{greatest_of}
 
 pub no_greater_same : (r : Room) → IsNoGreater r r
@@ -20,7 +20,7 @@ max_round : (a b c : ℕ) → max a (max b c) ≡ max (max a b) c
 max_round a b c = omega arith
 
 -- one room more
-pub greatest_push : (rooms : List Room) (r : Room) → greatest_of (rooms ++ r ∷ []) ≡ greater (greatest_of rooms) r
+pub greatest_push : (rooms : List Room) (r : Room) → greatest_of (rooms ++ r ∷ []) ≡ greater_room (greatest_of rooms) r
 greatest_push [] r = λ i. record {
   checks = max_swap r.checks i;
   names = max_swap r.names i;
@@ -32,7 +32,7 @@ greatest_push [] r = λ i. record {
 }
 greatest_push (x ∷ rooms) r =
     let g = greatest_of rooms in
-    ap (greater x) (greatest_push rooms r)
+    ap (greater_room x) (greatest_push rooms r)
     ∙ λ i. record {
       checks = max_round x.checks g.checks r.checks i;
       names = max_round x.names g.names r.names i;
@@ -68,7 +68,7 @@ greatest_within (x ∷ rooms) bound all =
     }
 
 -- the longer list of both rooms
-longer : (list : FaceList) (a b : Room) → length_in list (greater a b) ≡ max (length_in list a) (length_in list b)
+longer : (list : FaceList) (a b : Room) → length_in list (greater_room a b) ≡ max (length_in list a) (length_in list b)
 longer Checks a b = refl
 longer Names a b = refl
 longer Changes a b = refl

@@ -7,18 +7,18 @@ use Rattle.face_data.proofs.EmptyBeds.{few_new}
 use Rattle.face_data.proofs.Goodness.{good_within}
 use Rattle.face_data.proofs.Items.{items_bound}
 use Rattle.face_data.specs.declared.face.FaceView.{FaceView}
-use Rattle.face_data.specs.Sets.{IsWithin}
+use Rattle.face_data.specs.Sets.{AreNeedlesWithin}
 use Rattle.face_data.specs.Spots.{IsNumbered}
 use Rattle.face_data.specs.View.{IsPacked, summary_of}
-use Rattle.tree_shape.specs.Fewest.{removed}
+use Rattle.tree_shape.specs.Fewest.{list_removed}
 use Rattle.summary_tree.specs.Laws.{lines_append, stand_laws}
-use Rattle.summary_tree.specs.Leaves.{Leaf, lines_of, IsGoodFor, AreGoodFor, AreSound, StandTogether, IsWholeOf, IsRootOf}
+use Rattle.summary_tree.specs.Leaves.{Leaf, leaf_line_count, IsGoodFor, AreGoodFor, AreSound, StandTogether, IsWholeOf, IsRootOf}
 
 abbrev IsGoodLeaf : ℕ → ℕ → Leaf → Type 0
 IsGoodLeaf carriers limit leaf = IsGoodFor carriers limit leaf.0
 
 module _ (carriers limit : ℕ) where
-  good_for_more : (known more : List Needle) (xs : List Leaf) → IsWithin known more → AreGoodFor carriers limit known xs → AreGoodFor carriers limit more xs
+  good_for_more : (known more : List Needle) (xs : List Leaf) → AreNeedlesWithin known more → AreGoodFor carriers limit known xs → AreGoodFor carriers limit more xs
   good_for_more known more [] within g = tt
   good_for_more known more (x ∷ xs) within g = (good_within carriers limit known more x.0 within g.0, good_for_more known more xs within g.1)
 
@@ -54,8 +54,8 @@ module _ (carriers limit : ℕ) where
   good_both known [] ys g h = h
   good_both known (x ∷ xs) ys g h = (g.0, good_both known xs ys g.1 h)
 
-pub together : (leaves : List Leaf) → AreSound leaves → StandTogether leaves
-together leaves s =
+pub sound_leaves_stand_together : (leaves : List Leaf) → AreSound leaves → StandTogether leaves
+sound_leaves_stand_together leaves s =
     let g = good_together s.carriers s.limit leaves s.good in
     record { carriers = s.carriers; limit = s.limit; known = g.0; few_carriers = s.few_carriers; few_loops = s.few_loops; numbered = g.1; good = g.2; few_lines = s.few_lines }
 
@@ -70,17 +70,17 @@ sound_of leaves s few = record {
   few_lines = s.few_lines;
 }
 
-lines_fall : (n : ℕ) (xs : List Leaf) → lines_of (take n xs) + lines_of (drop (n + 1) xs) ≤ lines_of xs
+lines_fall : (n : ℕ) (xs : List Leaf) → leaf_line_count (take n xs) + leaf_line_count (drop (n + 1) xs) ≤ leaf_line_count xs
 lines_fall zero [] = omega arith
 lines_fall zero (x ∷ xs) = omega arith
 lines_fall (suc n) [] = let next : suc n + 1 ≡ suc (n + 1) = omega arith in rw next (omega arith)
 lines_fall (suc n) (x ∷ xs) = let next : suc n + 1 ≡ suc (n + 1) = omega arith in rw next (omega (arith, lines_fall n xs))
 
-pub lines_removed : (at : ℕ) (xs : List Leaf) → lines_of (removed at xs) ≤ lines_of xs
+pub lines_removed : (at : ℕ) (xs : List Leaf) → leaf_line_count (list_removed at xs) ≤ leaf_line_count xs
 lines_removed at xs = omega (arith, lines_fall at xs, lines_append (take at xs) (drop (at + 1) xs))
 
 -- without one of them they still may
-pub together_removed : (at : ℕ) (leaves : List Leaf) → StandTogether leaves → StandTogether (removed at leaves)
+pub together_removed : (at : ℕ) (leaves : List Leaf) → StandTogether leaves → StandTogether (list_removed at leaves)
 together_removed at leaves s = record {
   carriers = s.carriers;
   limit = s.limit;
@@ -107,5 +107,5 @@ pub taken_together : (n : ℕ) (leaves : List Leaf) → StandTogether leaves →
 taken_together n leaves s = stand_laws.front (take n leaves) (drop n leaves) (subst StandTogether (sym (take-append-drop n leaves)) s)
 
 -- and have no more lines
-pub fewer_lines : (n : ℕ) (leaves : List Leaf) → lines_of (take n leaves) ≤ lines_of leaves
-fewer_lines n leaves = omega (arith, lines_append (take n leaves) (drop n leaves), ap lines_of (take-append-drop n leaves))
+pub fewer_lines : (n : ℕ) (leaves : List Leaf) → leaf_line_count (take n leaves) ≤ leaf_line_count leaves
+fewer_lines n leaves = omega (arith, lines_append (take n leaves) (drop n leaves), ap leaf_line_count (take-append-drop n leaves))

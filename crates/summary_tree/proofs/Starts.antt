@@ -3,7 +3,7 @@ use Rattle.std.proofs.Common.{◌≡◌, ℕ, zero, suc, ◌+◌, ◌<◌, List,
 use Rattle.std.specs.List.{slice_get}
 use Rattle.tree_shape.specs.Building.{numbers_from}
 use Rattle.tree_shape.specs.Changes.{numbers_below}
-use Rattle.tree_shape.specs.Values.{AreThere, gathered, joined_on}
+use Rattle.tree_shape.specs.Values.{AreThere, values_of_numbers, joined_on}
 use Rattle.tree_shape.proofs.Halves.{below_from}
 
 -- what is first of the rest stands at that place
@@ -28,7 +28,7 @@ module _ {V : Type 0} (leaf_at : ℕ → Option V) where
   -- leaves at numbers that follow one another are there, and are these
   pub record AreLeaves (ns : List ℕ) (xs : List V) : Type 0 where
     pub there : AreThere leaf_at ns
-    pub values : gathered leaf_at ns ≡ xs
+    pub values : values_of_numbers leaf_at ns ≡ xs
 
   leaves_from : (first : ℕ) (xs : List V) → ((k : ℕ) → k < length xs → leaf_at (first + k) ≡ slice_get xs k) → AreLeaves (numbers_from first (length xs)) xs
   leaves_from first [] each = record { there = tt; values = refl }
@@ -36,7 +36,7 @@ module _ {V : Type 0} (leaf_at : ℕ → Option V) where
       let same : first ≡ first + 0 = omega arith in
       let here : leaf_at first ≡ Some x = ap leaf_at same ∙ each 0 (omega arith) in
       let rest = leaves_from (suc first) xs (λ k h. let next : suc first + k ≡ first + suc k = omega arith in ap leaf_at next ∙ each (suc k) (omega (arith, h))) in
-      record { there = ((x, here), rest.there); values = ap (λ o. joined_on o (gathered leaf_at (numbers_from (suc first) (length xs)))) here ∙ ap (λ vs. x ∷ vs) rest.values }
+      record { there = ((x, here), rest.there); values = ap (λ o. joined_on o (values_of_numbers leaf_at (numbers_from (suc first) (length xs)))) here ∙ ap (λ vs. x ∷ vs) rest.values }
 
   pub leaves_below : (many : ℕ) (xs : List V) → many ≡ length xs → ((k : ℕ) → k < length xs → leaf_at k ≡ slice_get xs k) → AreLeaves (numbers_below many) xs
   leaves_below many xs is each =

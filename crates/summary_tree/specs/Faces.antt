@@ -3,7 +3,7 @@ use Rattle.std.specs.Prelude.{◌≡◌, ◌≢◌, ℕ, ◌+◌, ◌≤◌, ◌
 use Rattle.std.specs.List.{sum_by}
 use Rattle.std.specs.Option.{option_map}
 use Rattle.face_data.specs.Summaries.{Summary}
-use Rattle.face_data.specs.View.{asked_of, changed_of, AreNamed, ArePacked}
+use Rattle.face_data.specs.View.{asked_of_check, changed_of, AreNamed, ArePacked}
 use Rattle.span_pool.specs.Class.{IsClassOf}
 use Rattle.span_pool.specs.Pool.{PoolView, out_of}
 use Rattle.span_pool.specs.Shelf.{ShelfView}
@@ -20,7 +20,7 @@ abbrev pub summary_in : Entry → Summary
 summary_in e = record {
   lines = e.head.lines;
   made = e.head.made;
-  checks = map (asked_of e.names.items) e.checks.items;
+  checks = map (asked_of_check e.names.items) e.checks.items;
   changes = map (changed_of e.segs.items) e.changes.items;
   lasts = e.lasts.items;
   ending = e.head.ending;
@@ -54,7 +54,7 @@ spans_at list class None = 0
 spans_at list class (Some e) = cond (class == class_in list e) 1 0
 
 -- each entry is packed, and the spans that are out are those in the table
-pub record IsTable (entries : List (Option Entry)) (pools : Pools) : Type 0 where
+pub record IsEntryTable (entries : List (Option Entry)) (pools : Pools) : Type 0 where
   pub packed : (at : ℕ) (e : Entry) → slice_index_or entries at None ≡ Some e → IsPackedEntry e
   pub out : (list : FaceList) (class : ℕ) → sum_by (spans_at list class) entries ≡ out_of (pool_in list pools) class
 
@@ -107,8 +107,8 @@ abbrev pub face_in : FacesView → ℕ → Option Summary
 face_in v at = slice_index_or v.faces at None
 
 -- there is a span for each of the lists of these rooms, one after the other
-abbrev pub AreMet : FacesView → List Room → Type 0
-AreMet v rooms = (list : FaceList) → IsMet (spare_in v list) (length_in list) rooms
+abbrev pub AreSpansReserved : FacesView → List Room → Type 0
+AreSpansReserved v rooms = (list : FaceList) → IsMet (spare_in v list) (length_in list) rooms
 
 -- each list of a face with this room took one span of its class
 pub record TookSpans (old new : FacesView) (room : Room) : Type 0 where

@@ -14,7 +14,7 @@ use Rattle.carriage_model.specs.State.{State}
 use Rattle.face_data.specs.Composition.{and_then, composed}
 use Rattle.face_data.specs.Items.{most_items}
 use Rattle.face_data.specs.Stands.{StandsFor}
-use Rattle.face_data.specs.Summaries.{Outcome, applied}
+use Rattle.face_data.specs.Summaries.{Outcome, summary_outcome}
 use Rattle.face_data.specs.Summaries.Outcome.{went_on, faulted}
 use Rattle.face_data.proofs.Goodness.{composed_good, composed_runs_both, good_within}
 use Rattle.face_data.proofs.Items.{all_entries, items_bound}
@@ -24,7 +24,7 @@ use Rattle.face_data.proofs.Stands.{lines-composed, stands_both, and_then_same, 
 use Rattle.summary_compose.specs.Composing.{IsNoGreater}
 use Rattle.summary_compose.specs.Known.{names_count, names_read_count}
 use Rattle.summary_compose.specs.Changes.{segs_in}
-use Rattle.summary_compose.specs.Rooms.{capped, room_after, widest_of}
+use Rattle.summary_compose.specs.Rooms.{capped_room, room_after, widest_of}
 use Rattle.summary_compose.specs.declared.room.Room.{Room}
 use Rattle.summary_compose.proofs.ComposedRooms.{composed_sizes}
 use Rattle.summary_compose.proofs.GoodFaces.{twice_within}
@@ -34,11 +34,11 @@ use Rattle.tree_shape.specs.Composing.{StandLaws, RoomLaws, Costs}
 use Rattle.summary_tree.specs.Faces.{FacesView, spare_in, length_in}
 use Rattle.summary_tree.specs.Meeting.{reaches, IsMet}
 use Rattle.summary_tree.specs.Store.{HasRooms}
-use Rattle.summary_tree.specs.Leaves.{Leaf, lines_of, AreGoodFor, StandTogether, applied_each, EachStandsFor, all_lines, WholeLeaf, joined_leaf, LeavesFit, leaf_items, leaf_room, leaf_lines}
+use Rattle.summary_tree.specs.Leaves.{Leaf, leaf_line_count, AreGoodFor, StandTogether, applied_each, EachStandsFor, all_lines, WholeLeaf, joined_leaf, LeavesFit, leaf_items, leaf_room, leaf_lines}
 
 -- Leaves that stand in one tree.
 
-pub lines_append : (xs ys : List Leaf) → lines_of (xs ++ ys) ≡ lines_of xs + lines_of ys
+pub lines_append : (xs ys : List Leaf) → leaf_line_count (xs ++ ys) ≡ leaf_line_count xs + leaf_line_count ys
 lines_append [] ys = omega arith
 lines_append (x ∷ xs) ys = omega (arith, lines_append xs ys)
 
@@ -81,7 +81,7 @@ after_none (faulted fault) = refl
 one_leaf : (leaf : Leaf) → WholeLeaf (leaf ∷ []) leaf
 one_leaf leaf = record {
   lines = omega arith;
-  runs_all = λ s first. after_none (applied leaf.0 s first);
+  runs_all = λ s first. after_none (summary_outcome leaf.0 s first);
   good = λ carriers limit known g. g.0;
   stands = λ profile blocks e. one_text profile blocks e;
 }
@@ -95,13 +95,13 @@ one_leaf leaf = record {
     one_text profile (block ∷ []) e = subst (StandsFor profile leaf.0) (nothing block) e.0
     one_text profile (block ∷ (other ∷ blocks)) e = absurd e.1
 
-pub applied_append : (xs ys : List Leaf) (s : State) (first : ℕ) → applied_each (xs ++ ys) s first ≡ and_then (applied_each xs s first) (λ t. applied_each ys t (first + lines_of xs))
+pub applied_append : (xs ys : List Leaf) (s : State) (first : ℕ) → applied_each (xs ++ ys) s first ≡ and_then (applied_each xs s first) (λ t. applied_each ys t (first + leaf_line_count xs))
 applied_append [] ys s first = let same : first ≡ first + 0 = omega arith in ap (applied_each ys s) same
 applied_append (x ∷ xs) ys s first =
-    and_then_same (applied x.0 s first) (λ t. applied_each (xs ++ ys) t (first + x.0.lines)) (λ t. and_then (applied_each xs t (first + x.0.lines)) (λ u. applied_each ys u (first + x.0.lines + lines_of xs)))
+    and_then_same (summary_outcome x.0 s first) (λ t. applied_each (xs ++ ys) t (first + x.0.lines)) (λ t. and_then (applied_each xs t (first + x.0.lines)) (λ u. applied_each ys u (first + x.0.lines + leaf_line_count xs)))
     (λ t. applied_append xs ys t (first + x.0.lines))
-    ∙ (sym (and_then_twice (applied x.0 s first) (λ t. applied_each xs t (first + x.0.lines)) (λ u. applied_each ys u (first + x.0.lines + lines_of xs)))
-    ∙ (let same : first + x.0.lines + lines_of xs ≡ first + (x.0.lines + lines_of xs) = omega arith in ap (λ n. and_then (and_then (applied x.0 s first) (λ t. applied_each xs t (first + x.0.lines))) (λ u. applied_each ys u n)) same))
+    ∙ (sym (and_then_twice (summary_outcome x.0 s first) (λ t. applied_each xs t (first + x.0.lines)) (λ u. applied_each ys u (first + x.0.lines + leaf_line_count xs)))
+    ∙ (let same : first + x.0.lines + leaf_line_count xs ≡ first + (x.0.lines + leaf_line_count xs) = omega arith in ap (λ n. and_then (and_then (summary_outcome x.0 s first) (λ t. applied_each xs t (first + x.0.lines))) (λ u. applied_each ys u n)) same))
 
 -- the texts of the first leaves and those of the others
 split_texts : (profile : Profile) (xs ys : List Leaf) (blocks : List (List Read)) → EachStandsFor profile (xs ++ ys) blocks
@@ -131,8 +131,8 @@ both_leaves xs ys a b s p q =
         lines = omega (arith, lines-composed a.0 b.0, lines_append xs ys, p.lines, q.lines);
         runs_all = λ t first.
             composed_runs_both s.carriers s.limit s.known s.known a.0 b.0 ga gb t first
-            ∙ (ap (λ o. and_then o (λ u. applied b.0 u (first + a.0.lines))) (p.runs_all t first)
-            ∙ (and_then_same (applied_each xs t first) (λ u. applied b.0 u (first + a.0.lines)) (λ u. applied_each ys u (first + lines_of xs)) (λ u. q.runs_all u (first + a.0.lines) ∙ ap (λ n. applied_each ys u (first + n)) p.lines)
+            ∙ (ap (λ o. and_then o (λ u. summary_outcome b.0 u (first + a.0.lines))) (p.runs_all t first)
+            ∙ (and_then_same (applied_each xs t first) (λ u. summary_outcome b.0 u (first + a.0.lines)) (λ u. applied_each ys u (first + leaf_line_count xs)) (λ u. q.runs_all u (first + a.0.lines) ∙ ap (λ n. applied_each ys u (first + n)) p.lines)
             ∙ sym (applied_append xs ys t first)));
         good = λ carriers limit known g.
             good_within carriers limit (known ++ known) known (composed a.0 b.0) (twice_within known)
@@ -206,22 +206,22 @@ product_kept x y = elim (cases_lt (2 ^ 62) x) [
         let least : 1 * (2 ^ 62 + 1) ≤ min (suc x) (2 ^ 62 + 1) * (2 ^ 62 + 1) = mul-le-mul one same in
         rw second (omega (arith, least))
 
-pub sum_kept : (n a b : ℕ) → n ≤ a + b → capped n ≤ capped (capped a + capped b)
-sum_kept n a b h = omega (arith, h, capped_is_min n, capped_is_min a, capped_is_min b, capped_is_min (capped a + capped b))
+pub sum_kept : (n a b : ℕ) → n ≤ a + b → capped_room n ≤ capped_room (capped_room a + capped_room b)
+sum_kept n a b h = omega (arith, h, capped_is_min n, capped_is_min a, capped_is_min b, capped_is_min (capped_room a + capped_room b))
 
-pub capped_product : (x y : ℕ) → capped (x * y) ≤ capped (capped x * capped y)
+pub capped_product : (x y : ℕ) → capped_room (x * y) ≤ capped_room (capped_room x * capped_room y)
 capped_product x y =
-    omega (arith, product_kept x y, capped_is_min (x * y), ap₂ (λ (a b : ℕ). a * b) (capped_is_min x) (capped_is_min y), capped_is_min (capped x * capped y))
+    omega (arith, product_kept x y, capped_is_min (x * y), ap₂ (λ (a b : ℕ). a * b) (capped_is_min x) (capped_is_min y), capped_is_min (capped_room x * capped_room y))
 
 -- as many names as are read of a second one's, within both bounds
 pub names_kept : (n own read next checks entries widest : ℕ) → n ≤ own + read → read ≤ next * widest → read ≤ next + checks * entries →
-    capped n ≤ capped (capped own + min (capped (capped next * capped widest)) (capped (capped next + capped (capped checks * capped entries))))
+    capped_room n ≤ capped_room (capped_room own + min (capped_room (capped_room next * capped_room widest)) (capped_room (capped_room next + capped_room (capped_room checks * capped_room entries))))
 names_kept n own read next checks entries widest h k l =
-    let each : capped read ≤ capped (capped next * capped widest) = omega (arith, k, capped_product next widest, capped_is_min read, capped_is_min (next * widest)) in
+    let each : capped_room read ≤ capped_room (capped_room next * capped_room widest) = omega (arith, k, capped_product next widest, capped_is_min read, capped_is_min (next * widest)) in
     let more = capped_product checks entries in
-    let all : capped read ≤ capped (capped next + capped (capped checks * capped entries))
-    = omega (arith, l, more, capped_is_min read, capped_is_min next, capped_is_min (checks * entries), capped_is_min (capped next + capped (capped checks * capped entries))) in
-    omega (arith, h, each, all, capped_is_min n, capped_is_min own, capped_is_min read, capped_is_min (capped own + min (capped (capped next * capped widest)) (capped (capped next + capped (capped checks * capped entries)))))
+    let all : capped_room read ≤ capped_room (capped_room next + capped_room (capped_room checks * capped_room entries))
+    = omega (arith, l, more, capped_is_min read, capped_is_min next, capped_is_min (checks * entries), capped_is_min (capped_room next + capped_room (capped_room checks * capped_room entries))) in
+    omega (arith, h, each, all, capped_is_min n, capped_is_min own, capped_is_min read, capped_is_min (capped_room own + min (capped_room (capped_room next * capped_room widest)) (capped_room (capped_room next + capped_room (capped_room checks * capped_room entries)))))
 
 pub bounds : (a b : Leaf) → LeavesFit a b → IsNoGreater (leaf_room (joined_leaf a b)) (room_after (leaf_room a) (leaf_room b))
 bounds a b f =

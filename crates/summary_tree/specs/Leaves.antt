@@ -11,7 +11,7 @@ use Rattle.face_data.specs.Goodness.{IsGood}
 use Rattle.face_data.specs.Items.{items, most_items}
 use Rattle.face_data.specs.Segments.{Changed, new_of}
 use Rattle.face_data.specs.Stands.{StandsFor}
-use Rattle.face_data.specs.Summaries.{Summary, Outcome, applied}
+use Rattle.face_data.specs.Summaries.{Summary, Outcome, summary_outcome}
 use Rattle.face_data.specs.Summaries.Outcome.{went_on}
 use Rattle.face_data.specs.Spots.{IsNumbered}
 use Rattle.face_data.specs.View.{IsPacked, summary_of}
@@ -25,9 +25,9 @@ abbrev pub Leaf : Type 0
 Leaf = Summary × List LoopRow
 
 -- how many lines the leaves have
-abbrev pub lines_of : List Leaf → ℕ
-lines_of [] = 0
-lines_of (leaf ∷ leaves) = leaf.0.lines + lines_of leaves
+abbrev pub leaf_line_count : List Leaf → ℕ
+leaf_line_count [] = 0
+leaf_line_count (leaf ∷ leaves) = leaf.0.lines + leaf_line_count leaves
 
 -- a summary is good for so many carriers, this limit on the loops of a needle, and some needles whose numbers have 16 bits
 pub record IsGoodFor (carriers limit : ℕ) (summary : Summary) : Type 0 where
@@ -48,7 +48,7 @@ pub record AreSound (leaves : List Leaf) : Type 0 where
   pub few_loops : limit < 2 ^ 8
   pub good : All (λ (leaf : Leaf). IsGoodFor carriers limit leaf.0) leaves
   pub few_leaves : length leaves ≤ 65536
-  pub few_lines : lines_of leaves ≤ 1048576
+  pub few_lines : leaf_line_count leaves ≤ 1048576
 
 -- the same of leaves that are good for the same needles
 pub record StandTogether (leaves : List Leaf) : Type 0 where
@@ -59,12 +59,12 @@ pub record StandTogether (leaves : List Leaf) : Type 0 where
   pub few_loops : limit < 2 ^ 8
   pub numbered : All IsNumbered known
   pub good : AreGoodFor carriers limit known leaves
-  pub few_lines : lines_of leaves ≤ 1048576
+  pub few_lines : leaf_line_count leaves ≤ 1048576
 
 -- how a document ends whose blocks are carried out one after the other, from a state and a first line on
 abbrev pub applied_each : List Leaf → State → ℕ → Outcome
 applied_each [] s first = went_on s
-applied_each (leaf ∷ leaves) s first = and_then (applied leaf.0 s first) (λ t. applied_each leaves t (first + leaf.0.lines))
+applied_each (leaf ∷ leaves) s first = and_then (summary_outcome leaf.0 s first) (λ t. applied_each leaves t (first + leaf.0.lines))
 
 -- each leaf stands for a text's lines
 abbrev pub EachStandsFor : Profile → List Leaf → List (List Read) → Type 0
@@ -77,8 +77,8 @@ all_lines blocks = flat_map (λ (block : List Read). block) blocks
 -- The summary of all leaves, one after the other: it has their lines, does what they do, is good for what they are good for, and
 -- stands for the lines of all texts for which they stand.
 pub record IsWholeOf (leaves : List Leaf) (whole : Summary) : Type 0 where
-  pub lines : whole.lines ≡ lines_of leaves
-  pub runs_all : (s : State) (first : ℕ) → applied whole s first ≡ applied_each leaves s first
+  pub lines : whole.lines ≡ leaf_line_count leaves
+  pub runs_all : (s : State) (first : ℕ) → summary_outcome whole s first ≡ applied_each leaves s first
   pub good : (carriers limit : ℕ) (known : List Needle) → AreGoodFor carriers limit known leaves → IsGood carriers limit known whole
   pub stands : (profile : Profile) (blocks : List (List Read)) → EachStandsFor profile leaves blocks → StandsFor profile whole (all_lines blocks)
 

@@ -8,12 +8,12 @@ use Rattle.summary_compose.specs.Composing.{IsNoGreater}
 use Rattle.summary_compose.specs.declared.room.Room.{Room}
 use Rattle.tree_shape.specs.declared.node.Child.{Child}
 use Rattle.tree_shape.specs.declared.node.Child.TheVariants.{Leaf, Inner}
-use Rattle.summary_tree.specs.Faces.{FacesView, AreMet, face_in}
+use Rattle.summary_tree.specs.Faces.{FacesView, AreSpansReserved, face_in}
 
 -- leaves and inner nodes in one table
-abbrev pub place_of : Child → ℕ
-place_of (Leaf n) = 2 * n
-place_of (Inner n) = 2 * n + 1
+abbrev pub child_slot : Child → ℕ
+child_slot (Leaf n) = 2 * n
+child_slot (Inner n) = 2 * n + 1
 
 -- a summary and a table of loops, if both are there
 abbrev pub leaf_from : Option Summary → Option (List LoopRow) → Option (Summary × List LoopRow)
@@ -23,17 +23,17 @@ leaf_from (Some face) (Some table) = Some (face, table)
 
 -- the leaf with a number
 abbrev pub leaf_in : FacesView → List (Option (List LoopRow)) → ℕ → Option (Summary × List LoopRow)
-leaf_in faces tables n = leaf_from (face_in faces (place_of (Leaf n))) (slice_index_or tables n None)
+leaf_in faces tables n = leaf_from (face_in faces (child_slot (Leaf n))) (slice_index_or tables n None)
 
 -- the summary of an inner node, without loops
 abbrev pub node_in : FacesView → ℕ → Option (Summary × List LoopRow)
-node_in faces n = option_map (λ (face : Summary). (face, [])) (face_in faces (place_of (Inner n)))
+node_in faces n = option_map (λ (face : Summary). (face, [])) (face_in faces (child_slot (Inner n)))
 
 -- how many leaves and inner nodes there is a place for
-abbrev pub places_in : FacesView → List (Option (List LoopRow)) → ℕ
-places_in faces tables = min (length faces.faces / 2) (length tables)
+abbrev pub faces_place_count : FacesView → List (Option (List LoopRow)) → ℕ
+faces_place_count faces tables = min (length faces.faces / 2) (length tables)
 
 -- there are spans for faces of these rooms, one after the other, and the scratch has room for each
 pub record HasRooms (faces : FacesView) (scratch : Room) (rooms : List Room) : Type 0 where
-  pub spans : AreMet faces rooms
+  pub spans : AreSpansReserved faces rooms
   pub scratch_has : All (λ r. IsNoGreater r scratch) rooms

@@ -7,11 +7,11 @@ use Rattle.summary_compose.specs.declared.room.Room.{Room}
 use Rattle.tree_shape.specs.Fewest.{highest}
 use Rattle.tree_shape.specs.Values.{leaf_values}
 use Rattle.tree_shape.specs.View.{ShapeView, IsSameShape}
-use Rattle.value_tree.specs.Kept.{HasLeafPlace, IsKept, IsReplaceNeed, IsInsertNeed, IsRemoveNeed}
+use Rattle.value_tree.specs.Kept.{HasLeafPlace, KeepsLeafValues, IsReplaceNeed, IsInsertNeed, IsRemoveNeed}
 use Rattle.summary_tree.specs.Faces.{FacesView}
 use Rattle.summary_tree.specs.Leaves.{Leaf, StandTogether, joined_leaf, leaf_room}
 use Rattle.summary_tree.specs.Rooms.{kept_room}
-use Rattle.summary_tree.specs.Store.{leaf_in, node_in, places_in, HasRooms}
+use Rattle.summary_tree.specs.Store.{leaf_in, node_in, faces_place_count, HasRooms}
 
 -- How a tree lies in memory: its shape, the faces and the tables of loops by their places, and the room of the scratch. A reader
 -- of the contracts needn't look.
@@ -36,7 +36,7 @@ laid_out shape faces tables scratch = record {
 -- What always holds of it: each leaf has its face and its table, they may stand in one tree, and each inner node has the face
 -- composed of those below it.
 abbrev pub IsTree : ShapeView → FacesView → List (Option (List LoopRow)) → Type 0
-IsTree shape faces tables = IsKept joined_leaf StandTogether (leaf_in faces tables) (node_in faces) (places_in faces tables) shape
+IsTree shape faces tables = KeepsLeafValues joined_leaf StandTogether (leaf_in faces tables) (node_in faces) (faces_place_count faces tables) shape
 
 -- the rooms of the faces that a change makes, in the order in which it makes them, and whether it makes a leaf
 pub record NeedView : Type 0 where
@@ -56,7 +56,7 @@ pub record IsSameTree (old new : TreeView) : Type 0 where
 -- the room is there that a change needs
 pub record Meets (tree : TreeView) (need : NeedView) : Type 0 where
   pub rooms : HasRooms tree.laid.faces tree.laid.scratch need.rooms
-  pub leaf : need.leaf ≡ true → HasLeafPlace (places_in tree.laid.faces tree.laid.tables) tree.laid.shape
+  pub leaf : need.leaf ≡ true → HasLeafPlace (faces_place_count tree.laid.faces tree.laid.tables) tree.laid.shape
 
 -- the room is there for another face at this position
 pub record CanReplace (tree : TreeView) (at : ℕ) (summary : Summary) : Type 0 where
@@ -69,7 +69,7 @@ pub record CanInsert (tree : TreeView) (at : ℕ) (summary : Summary) : Type 0 w
   pub rooms : List Room
   pub met : HasRooms tree.laid.faces tree.laid.scratch rooms
   pub need : IsInsertNeed leaf_room room_after (leaf_in tree.laid.faces tree.laid.tables) (node_in tree.laid.faces) tree.laid.shape at (kept_room summary) rooms
-  pub leaf : HasLeafPlace (places_in tree.laid.faces tree.laid.tables) tree.laid.shape
+  pub leaf : HasLeafPlace (faces_place_count tree.laid.faces tree.laid.tables) tree.laid.shape
 
 -- the room is there to take out the face of this position
 pub record CanRemove (tree : TreeView) (at : ℕ) : Type 0 where

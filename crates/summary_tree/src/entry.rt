@@ -4,7 +4,7 @@ ghost use Rattle.carriage_model.specs.State.{State, empty_state};
 ghost use Rattle.face_data.specs.Summaries.Outcome.{went_on};
 ghost use Rattle.tree_shape.specs.Values.{part};
 ghost use Rattle.value_tree.specs.Parts.{StandFor};
-ghost use Rattle.summary_tree.specs.Leaves.{Leaf, StandTogether, WholeLeaf, applied_each, lines_of};
+ghost use Rattle.summary_tree.specs.Leaves.{Leaf, StandTogether, WholeLeaf, applied_each, leaf_line_count};
 ghost use Rattle.summary_tree.specs.Store.{leaf_in, node_in};
 
 use crate::store::FaceStore;
@@ -23,7 +23,7 @@ pub(crate) fn loops_behind(
     needle: Needle,
     first: u32,
 ) -> Result<LoopLines, NoMemory>
-    requires { (all : List Leaf) × StandTogether all × StandFor WholeLeaf (part (leaf_in store.now.faces store.now.tables.items) (node_in store.now.faces)) parts.items all × (first + lines_of all < 2 ^ 32) }
+    requires { (all : List Leaf) × StandTogether all × StandFor WholeLeaf (part (leaf_in store.now.faces store.now.tables.items) (node_in store.now.faces)) parts.items all × (first + leaf_line_count all < 2 ^ 32) }
     ensures { IfOk result (λ loops. (all : List Leaf) → StandTogether all → StandFor WholeLeaf (part (leaf_in store.now.faces store.now.tables.items) (node_in store.now.faces)) parts.items all
         → (s : State) → applied_each all empty_state first ≡ went_on s → loops ≡ s.stacks needle) }
 {

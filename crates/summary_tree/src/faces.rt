@@ -5,7 +5,7 @@ ghost use Rattle.face_data.specs.Summaries.{Summary};
 ghost use Rattle.face_data.specs.View.{IsPacked, summary_of};
 ghost use Rattle.span_pool.specs.Class.{IsClassOf};
 ghost use Rattle.span_pool.specs.Pool.{OneFewer, OneMore, out_of, spare_of};
-ghost use Rattle.summary_compose.specs.Rooms.{no_room, room_of};
+ghost use Rattle.summary_compose.specs.Rooms.{no_room, room_of_face};
 ghost use Rattle.summary_tree.specs.Lists.{Exchanged, TookSpan};
 ghost use Rattle.summary_tree.specs.Faces.{IsPackedEntry, summary_in, class_in, pool_in, spans_at, face_in, spare_in, length_in, TookSpans, KeepsSpares};
 ghost use Rattle.summary_tree.specs.Rooms.{kept_room};
@@ -127,14 +127,14 @@ impl Pools {
     // The face in spans of its own.
     fn entry_of(&mut self, face: &FaceView) -> Entry
         requires packed { IsPacked face.now }
-        requires few { (list : FaceList) → length_in list (room_of face.now) ≤ 2 ^ 62 }
-        requires spare { (list : FaceList) (class : ℕ) → IsClassOf (length_in list (room_of face.now)) class → 1 ≤ spare_of (pool_in list self.old) class }
+        requires few { (list : FaceList) → length_in list (room_of_face face.now) ≤ 2 ^ 62 }
+        requires spare { (list : FaceList) (class : ℕ) → IsClassOf (length_in list (room_of_face face.now)) class → 1 ≤ spare_of (pool_in list self.old) class }
         ensures summary { summary_in result ≡ summary_of face.now }
         ensures packed { IsPackedEntry result }
-        ensures least { (list : FaceList) → IsClassOf (length_in list (room_of face.now)) (class_in list result) }
+        ensures least { (list : FaceList) → IsClassOf (length_in list (room_of_face face.now)) (class_in list result) }
         ensures taken { (list : FaceList) → OneFewer (spare_of (pool_in list self.old)) (spare_of (pool_in list self.new)) (class_in list result) }
         ensures out { (list : FaceList) → OneMore (out_of (pool_in list self.old)) (out_of (pool_in list self.new)) (class_in list result) }
-        ensures took { (list : FaceList) → TookSpan (spare_of (pool_in list self.old)) (spare_of (pool_in list self.new)) (length_in list (room_of face.now)) }
+        ensures took { (list : FaceList) → TookSpan (spare_of (pool_in list self.old)) (spare_of (pool_in list self.new)) (length_in list (room_of_face face.now)) }
     {
         Entry {
             checks: put_anew(&mut self.checks, face.checks),
@@ -149,15 +149,15 @@ impl Pools {
     // Puts the face into the spans of another, or into others where these are of other classes.
     fn refill(&mut self, entry: &mut Entry, face: &FaceView)
         requires packed { IsPacked face.now }
-        requires few { (list : FaceList) → length_in list (room_of face.now) ≤ 2 ^ 62 }
-        requires spare { (list : FaceList) (class : ℕ) → IsClassOf (length_in list (room_of face.now)) class → 1 ≤ spare_of (pool_in list self.old) class }
+        requires few { (list : FaceList) → length_in list (room_of_face face.now) ≤ 2 ^ 62 }
+        requires spare { (list : FaceList) (class : ℕ) → IsClassOf (length_in list (room_of_face face.now)) class → 1 ≤ spare_of (pool_in list self.old) class }
         requires of_pools { (list : FaceList) → 1 ≤ out_of (pool_in list self.old) (class_in list entry.old) }
         ensures summary { summary_in entry.new ≡ summary_of face.now }
         ensures packed { IsPackedEntry entry.new }
-        ensures least { (list : FaceList) → IsClassOf (length_in list (room_of face.now)) (class_in list entry.new) }
+        ensures least { (list : FaceList) → IsClassOf (length_in list (room_of_face face.now)) (class_in list entry.new) }
         ensures back { (list : FaceList) → Exchanged (spare_of (pool_in list self.old)) (spare_of (pool_in list self.new)) (class_in list entry.old) (class_in list entry.new) }
         ensures out { (list : FaceList) → Exchanged (out_of (pool_in list self.old)) (out_of (pool_in list self.new)) (class_in list entry.new) (class_in list entry.old) }
-        ensures took { (list : FaceList) → TookSpan (spare_of (pool_in list self.old)) (spare_of (pool_in list self.new)) (length_in list (room_of face.now)) }
+        ensures took { (list : FaceList) → TookSpan (spare_of (pool_in list self.old)) (spare_of (pool_in list self.new)) (length_in list (room_of_face face.now)) }
     {
         refill(&mut self.checks, &mut entry.checks, face.checks);
         refill(&mut self.names, &mut entry.names, face.names);
@@ -209,13 +209,13 @@ pub(crate) struct Faces {
 }
 
 impl Model for Faces {
-    ghost use Rattle.summary_tree.specs.Faces.{FacesView, IsTable, table_view};
+    ghost use Rattle.summary_tree.specs.Faces.{FacesView, IsEntryTable, table_view};
 
     ghost Value = { FacesView };
 
     ghost view = { λ f. table_view f.entries.items f.pools };
 
-    ghost invariant = { λ f. IsTable f.entries.items f.pools };
+    ghost invariant = { λ f. IsEntryTable f.entries.items f.pools };
 }
 
 impl Faces {
@@ -280,10 +280,10 @@ impl Faces {
     pub fn put(&mut self, at: usize, face: &FaceView)
         requires place { at < length self.old.faces }
         requires packed { IsPacked face.now }
-        requires few { (list : FaceList) → length_in list (room_of face.now) ≤ 2 ^ 62 }
-        requires spare { (list : FaceList) (class : ℕ) → IsClassOf (length_in list (room_of face.now)) class → 1 ≤ spare_in self.old list class }
+        requires few { (list : FaceList) → length_in list (room_of_face face.now) ≤ 2 ^ 62 }
+        requires spare { (list : FaceList) (class : ℕ) → IsClassOf (length_in list (room_of_face face.now)) class → 1 ≤ spare_in self.old list class }
         ensures faces { self.new.faces ≡ slice_set self.old.faces at (Some (summary_of face.now)) }
-        ensures spares { TookSpans self.old self.new (room_of face.now) }
+        ensures spares { TookSpans self.old self.new (room_of_face face.now) }
     {
         match &mut self.entries[at] {
             Some(entry) => self.pools.refill(entry, face),

@@ -2,7 +2,7 @@
 ghost use Rattle.std.specs.Prelude.{◌≡◌, ◌≢◌, ℕ, ◌<◌, ◌≤◌, length, Some, OnOk};
 ghost use Rattle.std.specs.List.{slice_get};
 ghost use Rattle.face_data.specs.View.{IsPacked, summary_of};
-ghost use Rattle.summary_tree.specs.Store.{leaf_in, places_in};
+ghost use Rattle.summary_tree.specs.Store.{leaf_in, faces_place_count};
 
 use crate::faces::kept_room;
 use crate::rooms::Rooms;
@@ -20,11 +20,11 @@ fn put_leaf(
     face: &FaceView,
     loops: LoopTable,
 ) -> Result<(), NoMemory>
-    requires place { number < places_in store.old.faces store.old.tables.items }
+    requires place { number < faces_place_count store.old.faces store.old.tables.items }
     requires packed { IsPacked face.now }
     ensures leaf { OnOk result (leaf_in store.new.faces store.new.tables.items number ≡ Some (summary_of face.now, loops)) }
     ensures others { (n : ℕ) → n ≢ number → leaf_in store.new.faces store.new.tables.items n ≡ leaf_in store.old.faces store.old.tables.items n }
-    ensures places { places_in store.old.faces store.old.tables.items ≤ places_in store.new.faces store.new.tables.items }
+    ensures places { faces_place_count store.old.faces store.old.tables.items ≤ faces_place_count store.new.faces store.new.tables.items }
 {
     need.clear();
     need.push(kept_room(face));
@@ -40,7 +40,7 @@ pub(crate) fn put_leaves(
 ) -> Result<(), NoMemory>
     requires few { length leaves.items ≤ 65536 }
     ensures leaves { OnOk result ((n : ℕ) → n < length leaves.items → leaf_in store.new.faces store.new.tables.items n ≡ slice_get leaves.items n) }
-    ensures places { OnOk result (length leaves.items ≤ places_in store.new.faces store.new.tables.items) }
+    ensures places { OnOk result (length leaves.items ≤ faces_place_count store.new.faces store.new.tables.items) }
 {
     store.reserve_slots(leaves.len() as u32)?;
     let mut need = Rooms::new();

@@ -8,12 +8,12 @@ ghost use Rattle.loop_history.specs.declared.row.LoopRow.{LoopRow};
 ghost use Rattle.summary_compose.specs.Composing.{IsNoGreater};
 ghost use Rattle.summary_compose.specs.Rooms.{room_after};
 ghost use Rattle.tree_shape.specs.declared.node.Child.TheVariants.{Leaf, Inner};
-ghost use Rattle.summary_tree.specs.Faces.{face_in, spare_in, length_in, AreMet, KeepsSpares};
+ghost use Rattle.summary_tree.specs.Faces.{face_in, spare_in, length_in, AreSpansReserved, KeepsSpares};
 ghost use Rattle.summary_tree.specs.Laws.{stand_laws, room_laws, cost_law, lines_law, rooms_any_order};
 ghost use Rattle.summary_tree.specs.Leaves.{StandTogether, WholeLeaf, joined_leaf, LeavesFit, leaf_items, leaf_room, leaf_lines};
 ghost use Rattle.summary_tree.specs.Meeting.{IsMet, reaches};
 ghost use Rattle.summary_tree.specs.Rooms.{kept_room};
-ghost use Rattle.summary_tree.specs.Store.{place_of, leaf_in, node_in, places_in, HasRooms};
+ghost use Rattle.summary_tree.specs.Store.{child_slot, leaf_in, node_in, faces_place_count, HasRooms};
 
 use crate::faces::{FaceList, Faces};
 use crate::rooms::{Rooms, reaches};
@@ -35,7 +35,7 @@ pub(crate) struct FaceStore {
 }
 
 fn place_of(child: Child) -> usize
-    ensures { result ≡ place_of child }
+    ensures { result ≡ child_slot child }
 {
     match child {
         Child::Leaf(n) => n as usize * 2,
@@ -95,7 +95,7 @@ fn reserve_list(faces: &mut Faces, list: FaceList, need: &Rooms) -> Result<(), N
 
 // Makes spans for all lists of each room.
 fn reserve_lists(faces: &mut Faces, need: &Rooms) -> Result<(), NoMemory>
-    ensures ok { OnOk result (AreMet faces.new need.now) }
+    ensures ok { OnOk result (AreSpansReserved faces.new need.now) }
     ensures faces { faces.new.faces ≡ faces.old.faces }
     ensures spares { KeepsSpares faces.old faces.new }
 {
@@ -157,9 +157,9 @@ impl FaceStore {
 
     /// The face of a leaf or an inner node, if there is one.
     pub fn face(&self, child: Child) -> Option<FaceView<'_>>
-        ensures some { IfSome result (λ view. face_in self.now.faces (place_of child) ≡ Some (summary_of view)) }
+        ensures some { IfSome result (λ view. face_in self.now.faces (child_slot child) ≡ Some (summary_of view)) }
         ensures packed { IfSome result (λ view. IsPacked view) }
-        ensures none { IsNone result → face_in self.now.faces (place_of child) ≡ None }
+        ensures none { IsNone result → face_in self.now.faces (child_slot child) ≡ None }
     {
         self.faces.get(place_of(child))
     }
@@ -194,7 +194,7 @@ impl Values for FaceStore {
 
     ghost node_at = { λ s. node_in s.faces };
 
-    ghost slots = { λ s. places_in s.faces s.tables.items };
+    ghost slots = { λ s. faces_place_count s.faces s.tables.items };
 
     ghost join = { joined_leaf };
 

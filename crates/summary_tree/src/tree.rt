@@ -6,8 +6,8 @@ ghost use Rattle.face_data.specs.Summaries.Outcome.{went_on};
 ghost use Rattle.face_data.specs.Items.{most_items};
 ghost use Rattle.face_data.specs.View.{IsPacked, summary_of};
 ghost use Rattle.knit_base.specs.declared.needle.Needle.{Needle};
-ghost use Rattle.tree_shape.specs.Fewest.{inserted, removed};
-ghost use Rattle.summary_tree.specs.Leaves.{AreSound, AreGoodFor, IsRootOf, applied_each, lines_of, place_of_line};
+ghost use Rattle.tree_shape.specs.Fewest.{list_inserted, list_removed};
+ghost use Rattle.summary_tree.specs.Leaves.{AreSound, AreGoodFor, IsRootOf, applied_each, leaf_line_count, place_of_line};
 ghost use Rattle.summary_tree.specs.Trees.{NeedView, TreeView, IsSameTree, Meets, CanReplace, CanInsert, CanRemove, change_steps};
 
 use crate::entry::loops_behind;
@@ -242,9 +242,9 @@ impl Tree {
     )
         requires place { at ≤ length self.old.leaves }
         requires packed { IsPacked face.now }
-        requires sound { AreSound (inserted at (summary_of face.now, loops) self.old.leaves) }
+        requires sound { AreSound (list_inserted at (summary_of face.now, loops) self.old.leaves) }
         requires room { CanInsert self.old at (summary_of face.now) }
-        ensures leaves { self.new.leaves ≡ inserted at (summary_of face.now, loops) self.old.leaves }
+        ensures leaves { self.new.leaves ≡ list_inserted at (summary_of face.now, loops) self.old.leaves }
         ensures steps { (carriers limit : ℕ) (known : List Needle) → AreGoodFor carriers limit known self.new.leaves → steps.new ≤ steps.old + change_steps (length self.new.leaves) (most_items carriers limit (length known)) }
     {
         let _len = self.whole.len();
@@ -255,7 +255,7 @@ impl Tree {
     pub fn remove<L: Ledger>(&mut self, at: u32, steps: &mut Steps<L>)
         requires place { at < length self.old.leaves }
         requires room { CanRemove self.old at }
-        ensures leaves { self.new.leaves ≡ removed at self.old.leaves }
+        ensures leaves { self.new.leaves ≡ list_removed at self.old.leaves }
         ensures steps { (carriers limit : ℕ) (known : List Needle) → AreGoodFor carriers limit known self.new.leaves → steps.new ≤ steps.old + change_steps (length self.old.leaves) (most_items carriers limit (length known)) }
     {
         let _len = self.whole.len();
@@ -283,7 +283,7 @@ impl Tree {
         first: u32,
     ) -> Result<LoopLines, NoMemory>
         requires place { at < length self.now.leaves }
-        requires lines { first + lines_of self.now.leaves < 2 ^ 32 }
+        requires lines { first + leaf_line_count self.now.leaves < 2 ^ 32 }
         ensures { IfOk result (λ loops. (s : State) → applied_each (take at self.now.leaves) empty_state first ≡ went_on s → loops ≡ s.stacks needle) }
     {
         let _len = self.whole.len();
@@ -305,7 +305,7 @@ impl Tree {
     /// How many lines stand before the leaf of a position, or in all leaves. Takes no memory.
     pub fn lines_before(&self, at: u32) -> u32
         requires { at ≤ length self.now.leaves }
-        ensures { result ≡ lines_of (take at self.now.leaves) }
+        ensures { result ≡ leaf_line_count (take at self.now.leaves) }
     {
         let _len = self.whole.len();
         self.whole.count_before(at) as u32

@@ -4,29 +4,29 @@ use Rattle.std.proofs.Common.{Option, Some, None, IfSome, if◌then◌else◌, s
 use Rattle.std.specs.Option.{option_and_then, option_map, option_map_or}
 use Rattle.std.specs.Str.{bytes_eq}
 use Rattle.script_reader.specs.Groups.{is_edit, is_edit_line}
-use Rattle.script_reader.specs.Hearing.{Block, Header, Heard, Hearing, Nothing, Text}
-use Rattle.script_reader.specs.Hearing.{alone, asks, awaited, command_with, edit_grouped, grouped, has_place, in_group, refused}
+use Rattle.script_reader.specs.Hearing.{Block, Header, OrdersAndHearing, Hearing, Nothing, Text}
+use Rattle.script_reader.specs.Hearing.{asked_alone, asks, edit_awaited, command_with, edit_grouped, asked_in_group, has_place, in_group, refused_line}
 use Rattle.script_reader.specs.Script.{adds_in, names_known, takes_text}
 use Rattle.script_reader.specs.Statements.{command_line_of}
-use Rattle.script_reader.specs.TalkLines.{asked_by, asked_by_four, asked_by_one, asked_by_three, asked_by_two}
-use Rattle.script_reader.specs.TalkLines.{edit, edit_by, look_by, plain}
-use Rattle.script_reader.specs.Words.{name_in, number_in, place_in}
+use Rattle.script_reader.specs.TalkLines.{asked_by_words, asked_by_four, asked_by_one, asked_by_three, asked_by_two}
+use Rattle.script_reader.specs.TalkLines.{edit, edit_by, look_by, asked_without_text}
+use Rattle.script_reader.specs.Words.{name_in, number_in, anchor_in_word}
 use Rattle.script_reader.specs.declared.command.Command.{Command}
 use Rattle.script_reader.specs.declared.command.Command.TheVariants as command
 use Rattle.script_reader.specs.declared.fault.Cause.TheVariants.{BadLine, NoOwn}
 use Rattle.script_reader.specs.declared.step.Step.TheVariants as step
 use Rattle.script_reader.specs.declared.talk_line.Question.TheVariants as question
 use Rattle.script_reader.proofs.Bools.{first_true, second_true}
-use Rattle.talk_desk.specs.LawfulOrders.{HasRoom, IsFairGroup, IsSound, MayStand}
+use Rattle.talk_desk.specs.LawfulOrders.{HasEditRoom, IsFairGroup, IsSoundHearing, MayAwaitText}
 use Rattle.talk_desk.proofs.WellHeard.{CommandLine, IsWell, alone_well, awaited_well, closed_well}
 use Rattle.talk_desk.proofs.WellHeard.{question_well, refused_well, stepped_well, test_well}
 
 -- the type of what a session asks, which has no name here
-abbrev asked_in : {A : Type 0} → (Hearing → ℕ → ℕ → A → Heard) → Type 0
+abbrev asked_in : {A : Type 0} → (Hearing → ℕ → ℕ → A → OrdersAndHearing) → Type 0
 asked_in {A} f = A
 
 abbrev pub Asked : Type 0
-Asked = asked_in alone
+Asked = asked_in asked_alone
 
 -- what holds of both; of all that an option gives; and of what that gives in turn
 pub on_test : {K : Type 0} (M : K → Type 0) (t : Bool) (a b : K) → (t ≡ true → M a) → (t ≡ false → M b) → M (cond t a b)
@@ -72,7 +72,7 @@ module _ (word operand : List ℕ) where
       (λ look. on_test IsFairIn (named (codes "put")) _ _
       (λ put. on_map IsFairIn _ (name_in operand) (λ name. record { fair = record { edits = λ edits text. refl } }) (record { fair = tt }))
       (λ put. on_test IsFairIn (named (codes "add")) _ _
-      (λ add. on_map IsFairIn _ (place_in operand) (λ at. record { fair = record { edits = λ edits text. refl } }) (record { fair = tt }))
+      (λ add. on_map IsFairIn _ (anchor_in_word operand) (λ at. record { fair = record { edits = λ edits text. refl } }) (record { fair = tt }))
       (λ add. on_test IsFairIn (named (codes "cut")) _ _
       (λ cut. on_map IsFairIn _ (name_in operand) (λ name. record { fair = record { edits = λ edits text. refl } }) (record { fair = tt }))
       (λ cut. on_test IsFairIn (named (codes "loop")) _ _
@@ -84,54 +84,54 @@ pub record IsAsked (h : Hearing) (line session : ℕ) (a : Asked) : Type 0 where
   pub told : IsWell (asks h line session a)
 
 pub record IsAskedIn (o : Option Asked) : Type 0 where
-  pub told : IfSome o (λ a. (h : Hearing) (line session : ℕ) → IsSound h → session < 64 → IsAsked h line session a)
+  pub told : IfSome o (λ a. (h : Hearing) (line session : ℕ) → IsSoundHearing h → session < 64 → IsAsked h line session a)
 
-module _ (h : Hearing) (line session : ℕ) (sound : IsSound h) where
-  asks_well : (a : Asked) → (h.group ≡ None → IsWell (alone h line session a))
-      → ((commands : List Command) → h.group ≡ Some commands → IsWell (grouped h line session commands a)) → IsAsked h line session a
+module _ (h : Hearing) (line session : ℕ) (sound : IsSoundHearing h) where
+  asks_well : (a : Asked) → (h.group ≡ None → IsWell (asked_alone h line session a))
+      → ((commands : List Command) → h.group ≡ Some commands → IsWell (asked_in_group h line session commands a)) → IsAsked h line session a
   asks_well a outside inside = record { told = go h.group refl }
     where
       go : (group : Option (List Command)) → h.group ≡ group
-          → IsWell (option_map_or (λ commands. in_group h line session commands a) group (alone h line session a))
+          → IsWell (option_map_or (λ commands. in_group h line session commands a) group (asked_alone h line session a))
       go None is = outside is
       go (Some commands) is =
-          test_well h line BadLine (session == h.session) (grouped h line session commands a) sound (λ same. inside commands is)
+          test_well h line BadLine (session == h.session) (asked_in_group h line session commands a) sound (λ same. inside commands is)
 
 -- where no group is open, each command has room
-free : (group : Option (List Command)) (c : CommandLine) → group ≡ None → MayStand group (Block c)
+free : (group : Option (List Command)) (c : CommandLine) → group ≡ None → MayAwaitText group (Block c)
 free group c none text =
-    subst (λ (g : Option (List Command)). IfSome (command_with c text) (HasRoom g)) (sym none) (any (command_with c text))
+    subst (λ (g : Option (List Command)). IfSome (command_with c text) (HasEditRoom g)) (sym none) (any (command_with c text))
   where
-    any : (o : Option Command) → IfSome o (HasRoom None)
+    any : (o : Option Command) → IfSome o (HasEditRoom None)
     any None = tt
     any (Some d) = tt
 
 -- a command, alone and in an open group, with the count of its text
-module _ (h : Hearing) (line session : ℕ) (c : CommandLine) (count : ℕ) (sound : IsSound h) (low : session < 64) where
-  known_well : (adds : ℕ) → MayStand h.group (Block c)
-      → IsWell (if names_known adds c then awaited h session c count [] else refused h line NoOwn)
+module _ (h : Hearing) (line session : ℕ) (c : CommandLine) (count : ℕ) (sound : IsSoundHearing h) (low : session < 64) where
+  known_well : (adds : ℕ) → MayAwaitText h.group (Block c)
+      → IsWell (if names_known adds c then edit_awaited h session c count [] else refused_line h line NoOwn)
   known_well adds room =
-      test_well h line NoOwn (names_known adds c) (awaited h session c count []) sound
+      test_well h line NoOwn (names_known adds c) (edit_awaited h session c count []) sound
       (λ known. awaited_well h session c count [] sound low room)
 
-  alone_edit : h.group ≡ None → IsWell (if names_known (h.adds session) c then awaited h session c count [] else refused h line NoOwn)
+  alone_edit : h.group ≡ None → IsWell (if names_known (h.adds session) c then edit_awaited h session c count [] else refused_line h line NoOwn)
   alone_edit none = known_well (h.adds session) (free h.group c none)
 
   grouped_edit : IsFair c → (commands : List Command) → h.group ≡ Some commands → IsWell (edit_grouped h line session commands c count)
   grouped_edit fair commands is =
       test_well h line BadLine (has_place commands c count) _ sound
       (λ place. known_well (h.adds session + adds_in commands)
-      (subst (λ (g : Option (List Command)). MayStand g (Block c)) (sym is) (room place)))
+      (subst (λ (g : Option (List Command)). MayAwaitText g (Block c)) (sym is) (room place)))
     where
-      room : has_place commands c count ≡ true → MayStand (Some commands) (Block c)
+      room : has_place commands c count ≡ true → MayAwaitText (Some commands) (Block c)
       room place text =
           let front : (is_edit_line c && nat_le count 4096) ≡ true = first_true _ (nat_lt (length commands) 64) place in
           let few : nat_lt (length commands) 64 ≡ true = second_true (is_edit_line c && nat_le count 4096) _ place in
           let short : length commands < 64 = grind arith in
           let edits : is_edit_line c ≡ true = first_true _ (nat_le count 4096) front in
-          if_some (λ d. is_edit d ≡ true) (HasRoom (Some commands)) (command_with c text) (λ d is. (is, short)) (fair.edits edits text)
+          if_some (λ d. is_edit d ≡ true) (HasEditRoom (Some commands)) (command_with c text) (λ d is. (is, short)) (fair.edits edits text)
 
-plain_asked : (c : CommandLine) → IsFair c → IsAskedIn (plain c)
+plain_asked : (c : CommandLine) → IsFair c → IsAskedIn (asked_without_text c)
 plain_asked c fair =
     on_test IsAskedIn (takes_text c) _ _ (λ takes. record { told = tt })
     (λ takes. record {
@@ -155,8 +155,8 @@ line_asked f o each fair = on_then IsAskedIn f o (if_some IsFair (λ c. IsAskedI
 
 -- what is refused in an open group
 lone_asked : (a : Asked)
-    → ((h : Hearing) (line session : ℕ) → IsSound h → session < 64 → h.group ≡ None → IsWell (alone h line session a))
-    → ((h : Hearing) (line session : ℕ) (commands : List Command) → grouped h line session commands a ≡ refused h line BadLine)
+    → ((h : Hearing) (line session : ℕ) → IsSoundHearing h → session < 64 → h.group ≡ None → IsWell (asked_alone h line session a))
+    → ((h : Hearing) (line session : ℕ) (commands : List Command) → asked_in_group h line session commands a ≡ refused_line h line BadLine)
     → IsAskedIn (Some a)
 lone_asked a well refuses = record {
   told = λ h line session sound low. asks_well h line session sound a (well h line session sound low)
@@ -172,7 +172,7 @@ mark_asked f false true c x y z first second third = second
 mark_asked f false false true x y z first second third = third
 mark_asked f false false false x y z first second third = record { told = tt }
 
-module _ (h : Hearing) (line session : ℕ) (sound : IsSound h) (low : session < 64) (none : h.group ≡ None) where
+module _ (h : Hearing) (line session : ℕ) (sound : IsSoundHearing h) (low : session < 64) (none : h.group ≡ None) where
   group_well : IsWell ([], record { session = session; adds = h.adds; group = Some []; awaiting = Nothing })
   group_well = record { sound = record { low = low; fair = (omega arith, refl); may = tt }; lawful = tt }
 
@@ -201,7 +201,7 @@ two_asked word operand =
     on_test IsAskedIn (bytes_eq word (codes "since")) _ _
     (λ is. on_map IsAskedIn _ (number_in operand)
     (λ version. lone_asked _ (question_well (question.Since version)) (λ h line session commands. refl)) (record { told = tt }))
-    (λ isnt. line_asked plain (command_line_of word operand) plain_asked (line_fair word operand))
+    (λ isnt. line_asked asked_without_text (command_line_of word operand) plain_asked (line_fair word operand))
 
 three_asked : (word from to : List ℕ) → IsAskedIn (asked_by_three word from to)
 three_asked word from to =
@@ -240,7 +240,7 @@ module _ (word operand : List ℕ) where
       (λ is. on_each IsAskedIn (look_by word operand) (number_in value) look_or_none (record { told = tt }))
       (λ isnt. record { told = tt }))
 
-pub words_asked : (words : List (List ℕ)) → IsAskedIn (asked_by words)
+pub words_asked : (words : List (List ℕ)) → IsAskedIn (asked_by_words words)
 words_asked [] = record { told = tt }
 words_asked (word ∷ []) = one_asked word
 words_asked (word ∷ operand ∷ []) = two_asked word operand

@@ -2,7 +2,7 @@
 use Rattle.std.proofs.Common.{◌≡◌, ℕ, ◌<◌, true, List, length, subst, sym}
 use Rattle.script_reader.specs.Groups.{commands_of_step, is_lawful_step}
 use Rattle.script_reader.specs.Hearing.{Ask, Order, Refuse, Tell}
-use Rattle.script_reader.specs.Orders.{StandsFor, edit_with}
+use Rattle.script_reader.specs.Orders.{OrderStandsFor, edit_with}
 use Rattle.script_reader.specs.Script.{adds_in}
 use Rattle.script_reader.specs.declared.fault.Cause.{Cause}
 use Rattle.script_reader.specs.declared.order.Order as declared
@@ -14,9 +14,9 @@ use Rattle.script_reader.specs.declared.talk_line.Question.{Question}
 use Rattle.edit_book.specs.Memory.{text_limit}
 use Rattle.talk_desk.specs.LawfulOrders.{is_lawful_order}
 
-module _ (given : declared.Order) (asked : Order) (stands : StandsFor given asked) where
-  here : (o : declared.Order) → given ≡ o → StandsFor o asked
-  here o is = subst (λ (x : declared.Order). StandsFor x asked) is stands
+module _ (given : declared.Order) (asked : Order) (stands : OrderStandsFor given asked) where
+  here : (o : declared.Order) → given ≡ o → OrderStandsFor o asked
+  here o is = subst (λ (x : declared.Order). OrderStandsFor x asked) is stands
 
   -- it is lawful
   module _ (lawful : is_lawful_order asked) where

@@ -2,7 +2,7 @@
 use Rattle.std.proofs.Common.{◌≡◌, ℕ, ◌+◌, List, [], ◌∷◌, ◌++◌, length, map, ap, ◌∙◌, arith, append-nil}
 use Rattle.std.proofs.lemmas.List.{length-map, map-append}
 use Rattle.knit_base.specs.Lines.{without_return}
-use Rattle.script_reader.specs.Hearing.{Heard, Hearing, Order, heard, hearing_behind, orders_from}
+use Rattle.script_reader.specs.Hearing.{OrdersAndHearing, Hearing, Order, heard, hearing_behind, orders_from}
 use Rattle.script_reader.proofs.Hearings.{orders-more}
 
 pub orders_more : (h : Hearing) (number : ℕ) (lines : List (List ℕ)) (line : List ℕ)
@@ -29,7 +29,7 @@ pub returned_count : (lines : List (List ℕ)) → length (map without_return li
 returned_count lines = length-map lines without_return
 
 -- one more of them is heard behind the others
-abbrev last_heard : Hearing → ℕ → List (List ℕ) → List ℕ → ℕ → Heard
+abbrev last_heard : Hearing → ℕ → List (List ℕ) → List ℕ → ℕ → OrdersAndHearing
 last_heard h number lines line count = heard (hearing_behind h number (map without_return lines)) (number + count) (without_return line)
 
 pub orders_returned : (h : Hearing) (number : ℕ) (lines : List (List ℕ)) (line : List ℕ)

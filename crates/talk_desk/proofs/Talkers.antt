@@ -10,10 +10,10 @@ use Rattle.script_reader.specs.declared.talk_line.Question.{Question}
 use Rattle.edit_book.specs.Memory.{Memory}
 use Rattle.edit_groups.specs.Alone.{IsSessionAt}
 use Rattle.edit_groups.specs.Chunks.{chunk_of}
-use Rattle.edit_groups.specs.Sessions.{Heard, step_memory}
+use Rattle.edit_groups.specs.Sessions.{HeardReply, step_memory}
 use Rattle.edit_groups.proofs.OthersStand.{others_stand}
-use Rattle.turn_book.specs.Journal.{listed}
-use Rattle.talk_desk.specs.Conversation.{Answer, Given, Standing, behind}
+use Rattle.turn_book.specs.Journal.{entry_list}
+use Rattle.talk_desk.specs.Conversation.{Answer, Given, Standing, standing_after}
 use Rattle.talk_desk.specs.Hosts.{IsTalker}
 use Rattle.talk_desk.specs.declared.steps.Talker.{Talker}
 
@@ -33,36 +33,36 @@ talkers-set opening s t n us v all own other within i u is =
 
 module _ (json : Bool) (head : List (List ℕ)) (opening : Opening) where
   -- another session behind a step of session n
-  pub other-step : (s : Standing) (n : ℕ) (c : Step) (h : Heard) (i : ℕ) (u : Talker) → i ≢ n → IsTalker opening s i u → IsTalker opening (behind json head opening s (Ask n c) (Given h)) i u
+  pub other-step : (s : Standing) (n : ℕ) (c : Step) (h : HeardReply) (i : ℕ) (u : Talker) → i ≢ n → IsTalker opening s i u → IsTalker opening (standing_after json head opening s (Ask n c) (Given h)) i u
   other-step s n c h i u differ t =
       let memory : (if n == i then step_memory (s.point.memories i) c h else s.point.memories i) ≡ s.point.memories i =
       ap (λ (b : Bool). if b then step_memory (s.point.memories i) c h else s.point.memories i) (ne_eqb n i (λ e. differ (sym e))) in
       record {
         number = t.number;
-        session = subst (λ (m : Memory). IsSessionAt opening (s.point.entries ++ listed (chunk_of n h.edits)) m u.session) (sym memory)
+        session = subst (λ (m : Memory). IsSessionAt opening (s.point.entries ++ entry_list (chunk_of n h.edits)) m u.session) (sym memory)
             (others_stand opening n h.edits s.point.entries (s.point.memories i) u.session (λ same. differ (sym t.number ∙ same)) t.session);
         answered = t.answered ∙ sym (ap (λ (b : Bool). if b then s.answered i + 1 else s.answered i) (ne_eqb i n differ));
       }
 
   -- the session itself
-  pub own-step : (s : Standing) (n : ℕ) (c : Step) (h : Heard) (u v : Talker) → IsTalker opening s n u → v.session.session.number ≡ u.session.session.number
-      → IsSessionAt opening (s.point.entries ++ listed (chunk_of n h.edits)) (step_memory (s.point.memories n) c h) v.session → v.answered ≡ u.answered + 1 → IsTalker opening (behind json head opening s (Ask n c) (Given h)) n v
+  pub own-step : (s : Standing) (n : ℕ) (c : Step) (h : HeardReply) (u v : Talker) → IsTalker opening s n u → v.session.session.number ≡ u.session.session.number
+      → IsSessionAt opening (s.point.entries ++ entry_list (chunk_of n h.edits)) (step_memory (s.point.memories n) c h) v.session → v.answered ≡ u.answered + 1 → IsTalker opening (standing_after json head opening s (Ask n c) (Given h)) n v
   own-step s n c h u v t number at counted = record {
     number = number ∙ t.number;
-    session = subst (λ (m : Memory). IsSessionAt opening (s.point.entries ++ listed (chunk_of n h.edits)) m v.session)
+    session = subst (λ (m : Memory). IsSessionAt opening (s.point.entries ++ entry_list (chunk_of n h.edits)) m v.session)
         (sym (ap (λ (b : Bool). if b then step_memory (s.point.memories n) c h else s.point.memories n) (same-number n))) at;
     answered = counted ∙ ap (λ (k : ℕ). k + 1) t.answered ∙ sym (ap (λ (b : Bool). if b then s.answered n + 1 else s.answered n) (same-number n));
   }
 
   -- behind a question: all but its count stays
-  pub other-question : (s : Standing) (n : ℕ) (q : Question) (a : Answer) (i : ℕ) (u : Talker) → i ≢ n → IsTalker opening s i u → IsTalker opening (behind json head opening s (Tell n q) a) i u
+  pub other-question : (s : Standing) (n : ℕ) (q : Question) (a : Answer) (i : ℕ) (u : Talker) → i ≢ n → IsTalker opening s i u → IsTalker opening (standing_after json head opening s (Tell n q) a) i u
   other-question s n q a i u differ t = record {
     number = t.number;
     session = t.session;
     answered = t.answered ∙ sym (ap (λ (b : Bool). if b then s.answered i + 1 else s.answered i) (ne_eqb i n differ));
   }
 
-  pub own-question : (s : Standing) (n : ℕ) (q : Question) (a : Answer) (u v : Talker) → IsTalker opening s n u → v.session ≡ u.session → v.answered ≡ u.answered + 1 → IsTalker opening (behind json head opening s (Tell n q) a) n v
+  pub own-question : (s : Standing) (n : ℕ) (q : Question) (a : Answer) (u v : Talker) → IsTalker opening s n u → v.session ≡ u.session → v.answered ≡ u.answered + 1 → IsTalker opening (standing_after json head opening s (Tell n q) a) n v
   own-question s n q a u v t same counted = record {
     number = ap (λ x. x.session.number) same ∙ t.number;
     session = subst (IsSessionAt opening s.point.entries (s.point.memories n)) (sym same) t.session;

@@ -10,13 +10,13 @@ use Rattle.edit_book.specs.Memory.{Memory}
 use Rattle.edit_book.specs.declared.reply.Reply.TheVariants as reply
 use Rattle.edit_groups.specs.declared.reply.GroupReply.TheVariants as group
 use Rattle.tally_tree.specs.Docs.{DocView, HasBlocks, IsRange, setting_now}
-use Rattle.tally_tree.specs.Tallies.{Counted}
+use Rattle.tally_tree.specs.Tallies.{TallyCounts}
 use Rattle.reply_report.specs.TalkJson.{text_at_members}
 use Rattle.reply_report.specs.TalkText.{text_at_text}
 use Rattle.reply_report.specs.TallyJson.{tally_members}
 use Rattle.reply_report.specs.TallyText.{tally_text}
 use Rattle.reply_report.specs.declared.frame.Frame.{Frame}
-use Rattle.talk_desk.specs.Conversation.{IsTallyTold, IsTold, Short, Told, doc_at, tallied}
+use Rattle.talk_desk.specs.Conversation.{IsTallyTold, IsQuestionAnswered, Short, Told, doc_at, tallied}
 use Rattle.talk_desk.specs.Hosts.{IsQuestionSaid, Names}
 use Rattle.talk_desk.specs.Styles.{reply_in, step_in}
 use Rattle.talk_desk.specs.declared.document.Style.{Style}
@@ -24,7 +24,7 @@ use Rattle.talk_desk.specs.declared.document.Style.{Style}
 module _ (style : Style) (opening : Opening) (entries : List Entry) (m : Memory) (f : Frame) where
   -- so a question was answered, and this was said
   abbrev pub TellsIn : Question → List ℕ → List ℕ → Type 0
-  TellsIn q before after = (text : List ℕ) × (after ≡ before ++ text) × IsTold style.json style.head opening entries m f q text
+  TellsIn q before after = (text : List ℕ) × (after ≡ before ++ text) × IsQuestionAnswered style.json style.head opening entries m f q text
 
   pub told-as : (q asked : Question) (before after : List ℕ) → q ≡ asked → TellsIn asked before after → TellsIn q before after
   told-as q asked before after is t = subst (λ (x : Question). TellsIn x before after) (sym is) t
@@ -55,9 +55,9 @@ module _ (style : Style) (opening : Opening) (entries : List Entry) (m : Memory)
 
 -- the blocks of a document that is at this journal were tallied
 pub range-told : (json : Bool) (f : Frame) (doc : DocView) (opening : Opening) (entries : List Entry) (from to : ℕ) (before after : List ℕ) → doc.opening ≡ opening → doc.entries ≡ entries → HasBlocks (doc_at opening entries) from to
-    → (v : Counted) × IsRange doc from to v × (after ≡ before ++ reply_in json f (tally_text from to (setting_now doc).declared v) (tally_members f from to (setting_now doc).declared v))
+    → (v : TallyCounts) × IsRange doc from to v × (after ≡ before ++ reply_in json f (tally_text from to (setting_now doc).declared v) (tally_members f from to (setting_now doc).declared v))
     → (text : List ℕ) × (after ≡ before ++ text) × IsTallyTold json f opening entries from to text
 range-told json f doc opening entries from to before after o e has t =
-    let here = subst (λ (d : DocView). (v : Counted) × IsRange d from to v × (after ≡ before ++ reply_in json f (tally_text from to (setting_now d).declared v) (tally_members f from to (setting_now d).declared v)))
+    let here = subst (λ (d : DocView). (v : TallyCounts) × IsRange d from to v × (after ≡ before ++ reply_in json f (tally_text from to (setting_now d).declared v) (tally_members f from to (setting_now d).declared v)))
     (λ i. record { opening = o i; entries = e i }) t in
     (_, here.2, tallied here.0 has here.1)

@@ -22,22 +22,22 @@ IsFairGroup None = Unit {0}
 IsFairGroup (Some commands) = (length commands ≤ 64) × (list_all is_edit commands ≡ true)
 
 -- where a group is open, the command is an edit of a block, and none beyond the 64th
-abbrev pub HasRoom : Option (List Command) → Command → Type 0
-HasRoom None command = Unit {0}
-HasRoom (Some commands) command = (is_edit command ≡ true) × (length commands < 64)
+abbrev pub HasEditRoom : Option (List Command) → Command → Type 0
+HasEditRoom None command = Unit {0}
+HasEditRoom (Some commands) command = (is_edit command ≡ true) × (length commands < 64)
 
 -- an edit whose text is awaited has room, whatever the text; new names of the header are awaited only where no group is open
-abbrev pub MayStand : Option (List Command) → Edits → Type 0
-MayStand group (Block c) = (text : List (List ℕ)) → IfSome (command_with c text) (HasRoom group)
-MayStand group Header = group ≡ None
+abbrev pub MayAwaitText : Option (List Command) → Edits → Type 0
+MayAwaitText group (Block c) = (text : List (List ℕ)) → IfSome (command_with c text) (HasEditRoom group)
+MayAwaitText group Header = group ≡ None
 
 abbrev pub MayAwait : Option (List Command) → Awaiting → Type 0
 MayAwait group Nothing = Unit {0}
 MayAwait group Passing = Unit {0}
-MayAwait group (Text edits missing before) = MayStand group edits
+MayAwait group (Text edits missing before) = MayAwaitText group edits
 
 -- so it stands behind any lines
-pub record IsSound (h : Hearing) : Type 0 where
+pub record IsSoundHearing (h : Hearing) : Type 0 where
   pub low : h.session < 64
   pub fair : IsFairGroup h.group
   pub may : MayAwait h.group h.awaiting

@@ -3,13 +3,13 @@ use Rattle.std.specs.Prelude.{◌≡◌, ℕ, ◌-◌, Bool, List, [], ◌∷◌
 use Rattle.std.specs.Option.{option_map}
 use Rattle.edit_journal.specs.declared.opening.Opening.{Opening}
 use Rattle.edit_book.specs.Memory.{first_memory}
-use Rattle.edit_groups.specs.Sessions.{Heard, core}
+use Rattle.edit_groups.specs.Sessions.{HeardReply, group_core}
 use Rattle.edit_groups.specs.declared.chunk.Chunk.{Chunk}
 use Rattle.script_reader.specs.Hearing.{Order, Refuse, Ask, Tell}
 use Rattle.script_reader.specs.declared.step.Step.{Step}
-use Rattle.talk_loop.specs.InStep.{AreAnswers}
+use Rattle.talk_loop.specs.InStep.{AreDeskAnswers}
 use Rattle.turn_book.specs.Core.{Core}
-use Rattle.turn_book.specs.Legal.{IsLegal}
+use Rattle.turn_book.specs.Legal.{IsLegalHistory}
 use Rattle.turn_book.specs.OneOrder.{Exchange, all_replies_of, scripts_of}
 use Rattle.talk_desk.specs.Conversation.{Answer, Given, asking, standing_of}
 
@@ -26,7 +26,7 @@ behind_earlier earlier core = record {
 }
 
 -- the steps among these orders, with their answers
-abbrev pub exchanges : List Order → List Answer → List (Exchange Step Heard)
+abbrev pub exchanges : List Order → List Answer → List (Exchange Step HeardReply)
 exchanges [] as_ = []
 exchanges (o ∷ os) [] = []
 exchanges (Ask n c ∷ os) (Given h ∷ as_) = record { session = n; command = c; reply = h } ∷ exchanges os as_
@@ -36,10 +36,10 @@ exchanges (o ∷ os) (a ∷ as_) = exchanges os as_
 pub record IsLegalTalk (opening : Opening) (earlier : List Chunk) (orders : List Order) (answers : List Answer) (journal : List Chunk) : Type 0 where
   pub added : List Chunk
   pub journal_is : journal ≡ earlier ++ added
-  pub legal : IsLegal (behind_earlier earlier (core opening)) (first_memory opening) (scripts_of 0 64 (exchanges orders answers)) added (all_replies_of 0 64 (exchanges orders answers))
+  pub legal : IsLegalHistory (behind_earlier earlier (group_core opening)) (first_memory opening) (scripts_of 0 64 (exchanges orders answers)) added (all_replies_of 0 64 (exchanges orders answers))
 
 -- So is each conversation in which what its lines ask for has answers that may be given to it.
 abbrev pub EachTalkIsLegal : Type 0
 EachTalkIsLegal = (json : Bool) (head : List (List ℕ)) (opening : Opening) (earlier : List Chunk) (first : ℕ) (lines : List (List ℕ)) (answers : List Answer)
-    → AreAnswers (asking json head opening earlier first) [] ((asking json head opening earlier first).orders lines) answers
+    → AreDeskAnswers (asking json head opening earlier first) [] ((asking json head opening earlier first).orders lines) answers
     → IsLegalTalk opening earlier ((asking json head opening earlier first).orders lines) answers (standing_of json head opening earlier first lines answers).point.entries

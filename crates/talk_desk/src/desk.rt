@@ -4,12 +4,12 @@ ghost use Rattle.knit_base.specs.Lines.{HasNoLineEnd};
 ghost use Rattle.knit_ports.specs.Ears.{kept_front};
 ghost use Rattle.edit_groups.specs.declared.chunk.Chunk.{Chunk};
 ghost use Rattle.script_reader.specs.Hearing as asks;
-ghost use Rattle.script_reader.specs.Orders.{AreOrders, IsTold};
+ghost use Rattle.script_reader.specs.Orders.{AreOrders, IsOnlyOrder};
 ghost use Rattle.talk_desk.specs.Conversation as talks;
-ghost use Rattle.talk_desk.specs.Desks.{AreRefusals, AreTaken, IsAtItsEnd, IsBehind, beginning, standing_told};
+ghost use Rattle.talk_desk.specs.Desks.{AreRefusals, AreOrdersTaken, IsAtItsEnd, IsHostBehind, beginning, standing_told};
 ghost use Rattle.talk_desk.specs.Hosts.{IsAt, known_in, opening_in};
 ghost use Rattle.talk_desk.specs.LawfulOrders.{AllOrders};
-ghost use Rattle.talk_loop.specs.Conversed.{IsAnswered};
+ghost use Rattle.talk_loop.specs.Conversed.{IsLineAnswered};
 
 use crate::document::Style;
 use crate::host::Host;
@@ -75,7 +75,7 @@ impl TalkDesk {
     /// A desk of which the first line has this number.
     pub fn new<R: Wait>(rt: &R, alloc: Global, mut host: Host, first: u64) -> Self
         requires at { IsAt (opening_in host.document) host (talks.standing_at_start host.document.style.json host.document.style.head (opening_in host.document) (known_in host.document)) }
-        ensures begun { IsBehind result.host result.listener result.began.value.chunks result.first [] [] }
+        ensures begun { IsHostBehind result.host result.listener result.began.value.chunks result.first [] [] }
         ensures began { beginning result.host result.began.value.chunks result.first ≡ beginning host (known_in host.document) first }
     {
         let held = host.document.lend(rt);
@@ -105,7 +105,7 @@ impl Desk for TalkDesk {
 
     ghost ends = { λ b. talks.Ends b.style.json b.style.head b.opening b.earlier b.first };
 
-    ghost behind = { λ d. IsBehind d.host d.listener d.began.value.chunks d.first };
+    ghost behind = { λ d. IsHostBehind d.host d.listener d.began.value.chunks d.first };
 
     fn hear<R: Threads + Wait + Sync>(
         &mut self,
@@ -142,7 +142,7 @@ fn answer<R: Threads + Wait + Sync>(
     ensures opening { opening_in host.new.document ≡ opening_in host.old.document }
     ensures style { host.new.document.style ≡ host.old.document.style }
     ensures said { OnOk result ((earlier : List Chunk) (first : ℕ) (told : List (asks.Order × talks.Answer)) (asked : List asks.Order) → IsAt (opening_in host.old.document) host.old (standing_told host.old.document.style (opening_in host.old.document) earlier told)
-        → AreOrders number heard asked → AreTaken host.old.document.style (opening_in host.old.document) earlier first told asked host.new out.old.items out.new.items) }
+        → AreOrders number heard asked → AreOrdersTaken host.old.document.style (opening_in host.old.document) earlier first told asked host.new out.old.items out.new.items) }
 {
     let Heard { broken_off, order } = heard;
     if broken_off {
@@ -164,11 +164,11 @@ fn answer_order<R: Threads + Wait + Sync>(
     out: &mut Vec<u8>,
 ) -> Result<(), NoMemory>
     requires begun { (s : talks.Standing) × IsAt (opening_in host.old.document) host.old s }
-    requires lawful { (asked : List asks.Order) × IsTold order asked × AllOrders asked }
+    requires lawful { (asked : List asks.Order) × IsOnlyOrder order asked × AllOrders asked }
     ensures opening { opening_in host.new.document ≡ opening_in host.old.document }
     ensures style { host.new.document.style ≡ host.old.document.style }
     ensures said { OnOk result ((earlier : List Chunk) (first : ℕ) (told : List (asks.Order × talks.Answer)) (asked : List asks.Order) → IsAt (opening_in host.old.document) host.old (standing_told host.old.document.style (opening_in host.old.document) earlier told)
-        → IsTold order asked → AreTaken host.old.document.style (opening_in host.old.document) earlier first told asked host.new out.old.items out.new.items) }
+        → IsOnlyOrder order asked → AreOrdersTaken host.old.document.style (opening_in host.old.document) earlier first told asked host.new out.old.items out.new.items) }
 {
     match order {
         Some(order) => host.take(rt, order, out),
@@ -184,8 +184,8 @@ fn end_with<R: Threads + Wait + Sync>(
     out: &mut Vec<u8>,
 ) -> Result<(), NoMemory>
     requires begun { (s : talks.Standing) × IsAt (opening_in host.old.document) host.old s }
-    requires lawful { (asked : List asks.Order) × IsTold order asked × AreRefusals asked }
-    ensures said { OnOk result ((s : talks.Standing) (asked : List asks.Order) → IsAt (opening_in host.old.document) host.old s → IsTold order asked → AreRefusals asked
+    requires lawful { (asked : List asks.Order) × IsOnlyOrder order asked × AreRefusals asked }
+    ensures said { OnOk result ((s : talks.Standing) (asked : List asks.Order) → IsAt (opening_in host.old.document) host.old s → IsOnlyOrder order asked → AreRefusals asked
         → IsAtItsEnd host.old.document.style (opening_in host.old.document) s asked out.old.items out.new.items) }
 {
     match order {

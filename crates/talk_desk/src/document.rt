@@ -5,7 +5,7 @@ ghost use Rattle.script_reader.specs.Groups.{is_lawful_step};
 ghost use Rattle.edit_book.specs.Memory.{Memory};
 ghost use Rattle.edit_book.specs.Session.{HasNames};
 ghost use Rattle.edit_groups.specs.Alone.{IsAnsweredAt, IsSessionAt};
-ghost use Rattle.edit_groups.specs.Chunks.{earlier_steps, entries_of};
+ghost use Rattle.edit_groups.specs.Chunks.{earlier_steps, entries_of_chunks};
 ghost use Rattle.talk_desk.specs.Hosts.{IsDocument, IsLent, known_in, opening_in};
 
 use edit_book::Book;
@@ -75,7 +75,7 @@ impl Document {
         requires document { IsDocument self.old }
         requires number { session.old.session.number < 64 }
         requires lawful { is_lawful_step step.now ≡ true }
-        requires names { HasNames (opening_in self.old) (entries_of (known_in self.old)) session.old.session }
+        requires names { HasNames (opening_in self.old) (entries_of_chunks (known_in self.old)) session.old.session }
         ensures document { IsDocument self.new }
         ensures opening { opening_in self.new ≡ opening_in self.old }
         ensures style { self.new.style ≡ self.old.style }

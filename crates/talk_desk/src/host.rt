@@ -1,16 +1,16 @@
 //! The sessions of a conversation, and what their orders are answered.
 ghost use Rattle.std.specs.Prelude.{◌≡◌, ◌<◌, ◌++◌, ℕ, List, true, length, IfOk, OnOk};
-ghost use Rattle.edit_groups.specs.Chunks.{earlier_steps, entries_of};
+ghost use Rattle.edit_groups.specs.Chunks.{earlier_steps, entries_of_chunks};
 ghost use Rattle.edit_journal.specs.declared.edit.Entry.{Entry};
 ghost use Rattle.edit_book.specs.Memory.{text_limit};
 ghost use Rattle.script_reader.specs.Groups.{commands_of_step, is_lawful_step};
 ghost use Rattle.script_reader.specs.Hearing as asks;
-ghost use Rattle.script_reader.specs.Orders.{StandsFor, edit_with};
+ghost use Rattle.script_reader.specs.Orders.{OrderStandsFor, edit_with};
 ghost use Rattle.script_reader.specs.Script.{adds_in};
 ghost use Rattle.script_reader.specs.declared.step.Step as steps;
 ghost use Rattle.script_reader.specs.declared.step.Step.TheVariants as step;
 ghost use Rattle.talk_desk.specs.Conversation.{Standing, standing_at_start};
-ghost use Rattle.talk_desk.specs.Hosts.{AreFresh, IsAt, IsDocument, IsTaken, known_in, opening_in};
+ghost use Rattle.talk_desk.specs.Hosts.{AreFresh, IsAt, IsDocument, IsOrderTaken, known_in, opening_in};
 ghost use Rattle.talk_desk.specs.LawfulOrders.{is_lawful_order};
 ghost use Rattle.talk_desk.specs.Styles.{IsFinalIn};
 
@@ -61,11 +61,11 @@ impl Host {
         out: &mut Vec<u8>,
     ) -> Result<(), NoMemory>
         requires begun { (s : Standing) × IsAt (opening_in self.old.document) self.old s }
-        requires lawful { (asked : asks.Order) × StandsFor order asked × is_lawful_order asked }
+        requires lawful { (asked : asks.Order) × OrderStandsFor order asked × is_lawful_order asked }
         ensures opening { opening_in self.new.document ≡ opening_in self.old.document }
         ensures style { self.new.document.style ≡ self.old.document.style }
-        ensures said { OnOk result ((s : Standing) (asked : asks.Order) → IsAt (opening_in self.old.document) self.old s → StandsFor order asked
-            → IsTaken (opening_in self.old.document) s asked self.old.document.style self.new out.old.items out.new.items) }
+        ensures said { OnOk result ((s : Standing) (asked : asks.Order) → IsAt (opening_in self.old.document) self.old s → OrderStandsFor order asked
+            → IsOrderTaken (opening_in self.old.document) s asked self.old.document.style self.new out.old.items out.new.items) }
     {
         match order {
             Order::Refuse { line, cause } => self.refuse(line, cause, out),
@@ -85,7 +85,7 @@ impl Host {
         ensures opening { opening_in self.new.document ≡ opening_in self.old.document }
         ensures style { self.new.document.style ≡ self.old.document.style }
         ensures said { OnOk result ((s : Standing) → IsAt (opening_in self.old.document) self.old s
-            → IsTaken (opening_in self.old.document) s (asks.Refuse line cause) self.old.document.style self.new out.old.items out.new.items) }
+            → IsOrderTaken (opening_in self.old.document) s (asks.Refuse line cause) self.old.document.style self.new out.old.items out.new.items) }
     {
         let (alloc, json) = (self.document.alloc, self.document.style.json);
         say_bad_line_in(alloc, json, line, cause, out)
@@ -105,7 +105,7 @@ impl Host {
         ensures opening { opening_in self.new.document ≡ opening_in self.old.document }
         ensures style { self.new.document.style ≡ self.old.document.style }
         ensures said { OnOk result ((s : Standing) → IsAt (opening_in self.old.document) self.old s
-            → IsTaken (opening_in self.old.document) s (asks.Ask session step.now) self.old.document.style self.new out.old.items out.new.items) }
+            → IsOrderTaken (opening_in self.old.document) s (asks.Ask session step.now) self.old.document.style self.new out.old.items out.new.items) }
     {
         let Some(talker) = self.talkers.get_mut(session as usize) else {
             unreachable!()
@@ -131,7 +131,7 @@ impl Host {
         ensures opening { opening_in self.new.document ≡ opening_in self.old.document }
         ensures style { self.new.document.style ≡ self.old.document.style }
         ensures said { OnOk result ((s : Standing) (text : List (List ℕ)) → IsAt (opening_in self.old.document) self.old s → length text ≡ lines
-            → IsTaken (opening_in self.old.document) s (asks.Ask session (step.One (edit_with edit.now text))) self.old.document.style self.new out.old.items out.new.items) }
+            → IsOrderTaken (opening_in self.old.document) s (asks.Ask session (step.One (edit_with edit.now text))) self.old.document.style self.new out.old.items out.new.items) }
     {
         let Some(talker) = self.talkers.get_mut(session as usize) else {
             unreachable!()
@@ -155,7 +155,7 @@ impl Host {
         ensures opening { opening_in self.new.document ≡ opening_in self.old.document }
         ensures style { self.new.document.style ≡ self.old.document.style }
         ensures said { OnOk result ((s : Standing) (lost : steps.Step) → IsAt (opening_in self.old.document) self.old s → adds ≡ adds_in (commands_of_step lost)
-            → IsTaken (opening_in self.old.document) s (asks.Ask session lost) self.old.document.style self.new out.old.items out.new.items) }
+            → IsOrderTaken (opening_in self.old.document) s (asks.Ask session lost) self.old.document.style self.new out.old.items out.new.items) }
     {
         let Some(talker) = self.talkers.get_mut(session as usize) else {
             unreachable!()
@@ -179,7 +179,7 @@ impl Host {
         ensures opening { opening_in self.new.document ≡ opening_in self.old.document }
         ensures style { self.new.document.style ≡ self.old.document.style }
         ensures said { OnOk result ((s : Standing) → IsAt (opening_in self.old.document) self.old s
-            → IsTaken (opening_in self.old.document) s (asks.Tell session question) self.old.document.style self.new out.old.items out.new.items) }
+            → IsOrderTaken (opening_in self.old.document) s (asks.Tell session question) self.old.document.style self.new out.old.items out.new.items) }
     {
         let Some(talker) = self.talkers.get_mut(session as usize) else {
             unreachable!()
@@ -198,7 +198,7 @@ impl Host {
     ) -> Result<(), NoMemory>
         requires document { IsDocument self.old.document }
         ensures said { OnOk result ((text : List ℕ) × (out.new.items ≡ out.old.items ++ text)
-            × IsFinalIn self.old.document.style.json (opening_in self.old.document) (entries_of (known_in self.old.document)) text) }
+            × IsFinalIn self.old.document.style.json (opening_in self.old.document) (entries_of_chunks (known_in self.old.document)) text) }
     {
         let (alloc, json) = (self.document.alloc, self.document.style.json);
         let held = self.document.lend(rt);

@@ -1,19 +1,19 @@
 //! The questions of the sessions of a conversation, which change nothing.
 ghost use Rattle.std.specs.Prelude.{◌≡◌, ◌↔◌, ◌<◌, ◌+◌, ◌-◌, ◌^◌, ◌++◌, ℕ, List, true, length, IfOk, OnOk, OnErr};
-ghost use Rattle.journal_file.specs.Spelling.{spelling};
+ghost use Rattle.journal_file.specs.Spelling.{saved_spelling};
 ghost use Rattle.edit_book.specs.Memory.{Memory};
 ghost use Rattle.edit_book.specs.Session.{HasLearned};
 ghost use Rattle.edit_groups.specs.Alone.{IsSessionAt};
-ghost use Rattle.edit_groups.specs.Chunks.{entries_of};
+ghost use Rattle.edit_groups.specs.Chunks.{entries_of_chunks};
 ghost use Rattle.reply_report.specs.TalkJson.{blocks_members, saved_members, since_members, text_at_members};
 ghost use Rattle.reply_report.specs.TallyJson.{tally_members};
 ghost use Rattle.reply_report.specs.TallyText.{tally_text};
 ghost use Rattle.reply_report.specs.TalkText.{blocks_text, saved_said, since_text, text_at_text};
-ghost use Rattle.talk_desk.specs.Conversation.{IsTallyTold, IsTold, doc_at, saved_at};
+ghost use Rattle.talk_desk.specs.Conversation.{IsTallyTold, IsQuestionAnswered, doc_at, saved_at};
 ghost use Rattle.talk_desk.specs.Hosts.{IsDocument, IsQuestionSaid, Names, known_in, opening_in};
 ghost use Rattle.talk_desk.specs.Styles.{reply_in, step_in};
 ghost use Rattle.tally_tree.specs.Docs.{HasBlocks, IsRange, setting_now};
-ghost use Rattle.tally_tree.specs.Tallies.{Counted, counted};
+ghost use Rattle.tally_tree.specs.Tallies.{TallyCounts, counts_of_tally};
 
 use crate::document::{Document, Style};
 use crate::steps::Talker;
@@ -61,7 +61,7 @@ pub fn take_question<R: Threads + Wait + Sync>(
     ensures session { talker.new.session ≡ talker.old.session }
     ensures counted { talker.new.answered ≡ talker.old.answered + 1 }
     ensures said { OnOk result ((m : Memory) → IsSessionAt (opening_in document.old) (known_in document.old) m talker.old.session
-        → IsQuestionSaid document.old.style (opening_in document.old) (entries_of (known_in document.old)) m
+        → IsQuestionSaid document.old.style (opening_in document.old) (entries_of_chunks (known_in document.old)) m
         (record { session = talker.old.session.session.number; number = talker.old.answered + 1 }) question out.old.items out.new.items) }
 {
     let inquiry = Inquiry {
@@ -119,7 +119,7 @@ fn tell<L: Ledger, R: Threads>(
     requires parts { blank.parts ≡ L.parts }
     requires some { 0 < L.parts }
     ensures ok { OnOk result ((m : Memory) → Names m inquiry.question inquiry.block → (text : List ℕ) × (out.new.items ≡ out.old.items ++ text)
-        × IsTold style.now.json style.now.head book.now.opening book.now.entries m inquiry.frame inquiry.question text) }
+        × IsQuestionAnswered style.now.json style.now.head book.now.opening book.now.entries m inquiry.frame inquiry.question text) }
     ensures err { OnErr result (out.new.items ≡ out.old.items) }
 {
     let mut steps = Steps::<L>::start(rt, blank);
@@ -239,8 +239,8 @@ fn say_saved_in<L: Ledger>(
     steps: &mut Steps<L>,
 ) -> Result<(), NoMemory>
     ensures ok { OnOk result (out.new.items ≡ out.old.items ++ reply_in json inquiry.frame
-        (saved_said version (spelling saved.now.head saved.now.profile saved.now.blocks saved.now.journal.entries))
-        (saved_members inquiry.frame version (spelling saved.now.head saved.now.profile saved.now.blocks saved.now.journal.entries))) }
+        (saved_said version (saved_spelling saved.now.head saved.now.profile saved.now.blocks saved.now.journal.entries))
+        (saved_members inquiry.frame version (saved_spelling saved.now.head saved.now.profile saved.now.blocks saved.now.journal.entries))) }
     ensures err { OnErr result (out.new.items ≡ out.old.items) }
 {
     let Inquiry { alloc, frame, .. } = inquiry;
@@ -253,7 +253,7 @@ fn say_saved_in<L: Ledger>(
 
 // What is saved of the document: the lines of its head, the machine's limits, its first blocks and its journal.
 fn saved_of(alloc: Global, style: &Style, book: &Book) -> Result<Saved, NoMemory>
-    ensures { IfOk result (λ saved. spelling saved.head saved.profile saved.blocks saved.journal.entries ≡ saved_at style.now.head book.now.opening book.now.entries) }
+    ensures { IfOk result (λ saved. saved_spelling saved.head saved.profile saved.blocks saved.journal.entries ≡ saved_at style.now.head book.now.opening book.now.entries) }
 {
     Ok(Saved {
         head: style.head.try_clone()?,
@@ -313,7 +313,7 @@ fn tell_range<L: Ledger>(
     steps: &mut Steps<L>,
 ) -> Result<(), NoMemory>
     requires { HasBlocks doc.now range.from range.to }
-    ensures ok { OnOk result ((v : Counted) × IsRange doc.now range.from range.to v × (out.new.items ≡ out.old.items ++ reply_in json inquiry.frame
+    ensures ok { OnOk result ((v : TallyCounts) × IsRange doc.now range.from range.to v × (out.new.items ≡ out.old.items ++ reply_in json inquiry.frame
         (tally_text range.from range.to (setting_now doc.now).declared v) (tally_members inquiry.frame range.from range.to (setting_now doc.now).declared v))) }
     ensures err { OnErr result (out.new.items ≡ out.old.items) }
 {
@@ -333,7 +333,7 @@ fn say_tally_in(
 ) -> Result<(), NoMemory>
     requires { length tally.now.with.items ≡ length declared.now }
     ensures ok { OnOk result (out.new.items ≡ out.old.items ++ reply_in json inquiry.frame
-        (tally_text range.from range.to declared.now (counted tally.now)) (tally_members inquiry.frame range.from range.to declared.now (counted tally.now))) }
+        (tally_text range.from range.to declared.now (counts_of_tally tally.now)) (tally_members inquiry.frame range.from range.to declared.now (counts_of_tally tally.now))) }
     ensures err { OnErr result (out.new.items ≡ out.old.items) }
 {
     let Inquiry { alloc, frame, .. } = inquiry;

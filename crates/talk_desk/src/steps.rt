@@ -8,7 +8,7 @@ ghost use Rattle.script_reader.specs.declared.step.Step.TheVariants as step;
 ghost use Rattle.edit_book.specs.Memory.{Memory, text_limit};
 ghost use Rattle.edit_book.specs.Session.{HasNames};
 ghost use Rattle.edit_groups.specs.Alone.{IsSessionAt};
-ghost use Rattle.edit_groups.specs.Chunks.{entries_of};
+ghost use Rattle.edit_groups.specs.Chunks.{entries_of_chunks};
 ghost use Rattle.talk_desk.specs.Hosts.{IsDocument, IsStepSaid, known_in, opening_in};
 ghost use Rattle.talk_desk.specs.Styles.{step_in};
 
@@ -62,7 +62,7 @@ pub fn take_step<R: Threads + Wait + Sync>(
     requires document { IsDocument document.old }
     requires number { talker.old.session.session.number < 64 }
     requires lawful { is_lawful_step step.now ≡ true }
-    requires names { HasNames (opening_in document.old) (entries_of (known_in document.old)) talker.old.session.session }
+    requires names { HasNames (opening_in document.old) (entries_of_chunks (known_in document.old)) talker.old.session.session }
     requires few { talker.old.answered < 2 ^ 64 - 1 }
     ensures document { IsDocument document.new }
     ensures opening { opening_in document.new ≡ opening_in document.old }
@@ -132,7 +132,7 @@ fn say_reply<R: Wait>(
     ensures known { known_in document.new ≡ known_in document.old }
     ensures session { talker.new.session ≡ talker.old.session }
     ensures counted { talker.new.answered ≡ talker.old.answered + 1 }
-    ensures said { OnOk result (out.new.items ≡ out.old.items ++ step_in document.old.style.json (opening_in document.old) (entries_of (known_in document.old))
+    ensures said { OnOk result (out.new.items ≡ out.old.items ++ step_in document.old.style.json (opening_in document.old) (entries_of_chunks (known_in document.old))
         (record { session = talker.old.session.session.number; number = talker.old.answered + 1 }) reply.now) }
 {
     let frame = talker.next_frame();

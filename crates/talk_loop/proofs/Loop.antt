@@ -5,21 +5,21 @@ use Rattle.std.proofs.lemmas.List.Concat.{flat_map-append}
 use Rattle.std.proofs.lemmas.List.Elements.{All-nil, All-push}
 use Rattle.std.specs.declared.option.Option.{Option}
 use Rattle.knit_base.specs.Lines.{HasNoLineEnd}
-use Rattle.knit_ports.specs.Pieces.{Piece, Heard, AreSaid, GoesOn, Says, SaysFront, heard_in, said_in}
-use Rattle.knit_ports.specs.Ears.{AreWaitedFor, EarView, IsFrontHeard, IsHeard}
+use Rattle.knit_ports.specs.Pieces.{Piece, Heard, AreSaid, PiecesGoOn, Says, SaysFront, heard_in, said_in}
+use Rattle.knit_ports.specs.Ears.{AreWaitedFor, EarView, IsFrontHeard, IsLineHeard}
 use Rattle.knit_ports.specs.declared.ear.LineEnd.{LineEnd}
 use Rattle.knit_ports.specs.declared.ear.LineEnd.TheVariants.{LineFeed, InputEnd, Endless}
 use Rattle.knit_ports.specs.WholeLines.{with_feed}
 use Rattle.knit_ports.proofs.HeardLines.{heard_in-append}
 use Rattle.knit_ports.proofs.SaidPieces.{goes-trans, said_in-append}
-use Rattle.talk_loop.specs.InStep.{Asking, AreAnswers, due, text_of}
-use Rattle.talk_loop.specs.Conversed.{Conversed, ended, deaf, mute, short, IsAnswered, IsHeardTo, for_line, at_end, IsOver}
+use Rattle.talk_loop.specs.InStep.{Asking, AreDeskAnswers, due, text_of}
+use Rattle.talk_loop.specs.Conversed.{Conversed, ended, deaf, mute, short, IsLineAnswered, IsHeardTo, for_line, at_end, IsConversationOver}
 use Rattle.talk_loop.specs.Finished.{Finishes}
 use Rattle.talk_loop.specs.declared.conversation.TalkFault.{TalkFault}
 use Rattle.talk_loop.specs.declared.conversation.TalkFault.TheVariants as fault
 use Rattle.talk_loop.proofs.Steps.{answers-many, answers-more, said-deaf, said-steps, step-answers, step-append, text-more, waited-silent, waited-steps}
 
-goes-none : (a : Option (List Piece)) → GoesOn a a []
+goes-none : (a : Option (List Piece)) → PiecesGoOn a a []
 goes-none None = tt
 goes-none (Some ps) = sym (append-nil ps)
 
@@ -29,15 +29,15 @@ module _ {Order Answer State : Type 0} (asking : Asking Order Answer State) (end
     pub pieces : List Piece
     pub lines : List (List ℕ)
     pub answers : List Answer
-    pub goes : GoesOn old now pieces
+    pub goes : PiecesGoOn old now pieces
     pub stands : behind lines answers
     pub lines_heard : IsHeardTo asking lines pending answers (Heard began ∷ pieces)
     pub said : said_in pieces ≡ due asking lines answers
     pub counted : number ≡ asking.first + length lines
 
-  pub starts : (number : ℕ) (pending : List ℕ) → pending ≡ began → number ≡ asking.first → asking.orders [] ≡ [] → behind [] [] → SoFar old pending number
-  starts number pending same first none stands =
-      let given : AreAnswers asking asking.start (asking.orders []) [] = subst (λ (l : List Order). AreAnswers asking asking.start l []) (sym none) tt in
+  pub so_far_at_start : (number : ℕ) (pending : List ℕ) → pending ≡ began → number ≡ asking.first → asking.orders [] ≡ [] → behind [] [] → SoFar old pending number
+  so_far_at_start number pending same first none stands =
+      let given : AreDeskAnswers asking asking.start (asking.orders []) [] = subst (λ (l : List Order). AreDeskAnswers asking asking.start l []) (sym none) tt in
       let nothing : [] ≡ due asking [] [] = ap (λ (l : List Order). text_of asking asking.start l []) (sym none) in
       record {
         pieces = [];
@@ -83,24 +83,24 @@ module _ {Order Answer State : Type 0} (asking : Asking Order Answer State) (end
   }
 
   -- one more line is answered
-  pub line-more : (lines : List (List ℕ)) (line pending : List ℕ) (as_ more : List Answer) (text : List ℕ) (ps : List Piece) → IsHeardTo asking lines (line ++ 10 ∷ pending) as_ ps → HasNoLineEnd line → IsAnswered asking lines as_ line [] text more
+  pub line-more : (lines : List (List ℕ)) (line pending : List ℕ) (as_ more : List Answer) (text : List ℕ) (ps : List Piece) → IsHeardTo asking lines (line ++ 10 ∷ pending) as_ ps → HasNoLineEnd line → IsLineAnswered asking lines as_ line [] text more
       → IsHeardTo asking (lines ++ line ∷ []) pending (as_ ++ more) ps
   line-more lines line pending as_ more text ps h one a = record {
     heard = h.heard ∙ ap (λ (l : List ℕ). flat_map with_feed lines ++ l) (sym (append_assoc line (10 ∷ []) pending)) ∙ sym (append_assoc (flat_map with_feed lines) (with_feed line) pending)
         ∙ ap (λ (l : List ℕ). (flat_map with_feed lines ++ l) ++ pending) (sym (append-nil (with_feed line))) ∙ ap (λ (l : List ℕ). l ++ pending) (sym (flat_map-append with_feed lines (line ∷ [])));
     ones = All-push HasNoLineEnd lines line h.ones one;
-    answers = subst (λ (l : List Order). AreAnswers asking asking.start l (as_ ++ more)) (sym a.orders) (answers-more asking asking.start (asking.orders lines) as_ a.asked more h.answers a.given);
+    answers = subst (λ (l : List Order). AreDeskAnswers asking asking.start l (as_ ++ more)) (sym a.orders) (answers-more asking asking.start (asking.orders lines) as_ a.asked more h.answers a.given);
     in_step = step-answers asking as_ more [] [] ps h.in_step;
   }
 
   -- and what is due then
-  pub due-more : (lines : List (List ℕ)) (line : List ℕ) (as_ more : List Answer) (text : List ℕ) → AreAnswers asking asking.start (asking.orders lines) as_ → IsAnswered asking lines as_ line [] text more
+  pub due-more : (lines : List (List ℕ)) (line : List ℕ) (as_ more : List Answer) (text : List ℕ) → AreDeskAnswers asking asking.start (asking.orders lines) as_ → IsLineAnswered asking lines as_ line [] text more
       → due asking (lines ++ line ∷ []) (as_ ++ more) ≡ due asking lines as_ ++ text
   due-more lines line as_ more text h a =
       ap (λ (l : List Order). text_of asking asking.start l (as_ ++ more)) a.orders ∙ text-more asking asking.start (asking.orders lines) as_ a.asked more h ∙ ap (λ (l : List ℕ). due asking lines as_ ++ l) (sym a.text)
 
   abbrev pub Ended : Option (List Piece) → Result (Unit {0}) TalkFault → Type 0
-  Ended new r = (pieces : List Piece) × GoesOn old new pieces × Conversed asking ends (Heard began ∷ pieces) r
+  Ended new r = (pieces : List Piece) × PiecesGoOn old new pieces × Conversed asking ends (Heard began ∷ pieces) r
 
   -- hearing failed
   pub hearing-failed : (now new : Option (List Piece)) (before after : EarView) (number : ℕ) (s : SoFar now before.pending number) → IsFrontHeard now new before after → Ended new (Err fault.Hearing)
@@ -115,7 +115,7 @@ module _ {Order Answer State : Type 0} (asking : Asking Order Answer State) (end
   )
 
   -- memory ran out behind what was heard
-  pub memory-failed : (now heard : Option (List Piece)) (before after : EarView) (number : ℕ) (s : SoFar now before.pending number) (h : IsHeard now heard before after LineFeed) → Ended heard (Err fault.NoMemory)
+  pub memory-failed : (now heard : Option (List Piece)) (before after : EarView) (number : ℕ) (s : SoFar now before.pending number) (h : IsLineHeard now heard before after LineFeed) → Ended heard (Err fault.NoMemory)
   memory-failed now heard before after number s h =
       let ps : List Piece = h.pieces ++ [] in (
         s.pieces ++ ps,
@@ -124,8 +124,8 @@ module _ {Order Answer State : Type 0} (asking : Asking Order Answer State) (end
       )
 
   -- saying failed behind a line
-  pub saying-failed : (now heard new : Option (List Piece)) (before after : EarView) (number : ℕ) (s : SoFar now before.pending number) (h : IsHeard now heard before after LineFeed) (more : List Answer) (text : List ℕ)
-      → IsAnswered asking s.lines s.answers h.line [] text more → SaysFront heard new text → Ended new (Err fault.Saying)
+  pub saying-failed : (now heard new : Option (List Piece)) (before after : EarView) (number : ℕ) (s : SoFar now before.pending number) (h : IsLineHeard now heard before after LineFeed) (more : List Answer) (text : List ℕ)
+      → IsLineAnswered asking s.lines s.answers h.line [] text more → SaysFront heard new text → Ended new (Err fault.Saying)
   saying-failed now heard new before after number s h more text a says =
       let ps : List Piece = h.pieces ++ [] in
       let front = says.2 in (
@@ -138,8 +138,8 @@ module _ {Order Answer State : Type 0} (asking : Asking Order Answer State) (end
       )
 
   -- the end, behind pieces that were waited for
-  pub finished : (now heard new : Option (List Piece)) (pending : List ℕ) (number : ℕ) (s : SoFar now pending number) (ps : List Piece) (line unheard : List ℕ) (r : Result (Unit {0}) TalkFault) → GoesOn now heard ps → AreWaitedFor pending ps
-      → pending ++ heard_in ps ≡ line ++ unheard → ((qs : List Piece) → IsOver asking s.lines line unheard (Heard began ∷ ((s.pieces ++ ps) ++ qs)))
+  pub finished : (now heard new : Option (List Piece)) (pending : List ℕ) (number : ℕ) (s : SoFar now pending number) (ps : List Piece) (line unheard : List ℕ) (r : Result (Unit {0}) TalkFault) → PiecesGoOn now heard ps → AreWaitedFor pending ps
+      → pending ++ heard_in ps ≡ line ++ unheard → ((qs : List Piece) → IsConversationOver asking s.lines line unheard (Heard began ∷ ((s.pieces ++ ps) ++ qs)))
       → Finishes asking ends s.lines line s.answers heard new r → Ended new r
   finished now heard new pending number s ps line unheard (Ok done) goes w parted overs f =
       let says = f.said in
@@ -160,12 +160,12 @@ module _ {Order Answer State : Type 0} (asking : Asking Order Answer State) (end
       )
   finished now heard new pending number s ps line unheard (Err fault.NoMemory) goes w parted overs f = (
     s.pieces ++ ps,
-    subst (λ (t : Option (List Piece)). GoesOn old t (s.pieces ++ ps)) (sym f) (goes-trans old now heard s.pieces ps s.goes goes),
+    subst (λ (t : Option (List Piece)). PiecesGoOn old t (s.pieces ++ ps)) (sym f) (goes-trans old now heard s.pieces ps s.goes goes),
     short s.lines (pending ++ heard_in ps) s.answers (hears now heard pending number s ps w) (still-said now pending number s ps w),
   )
 
   -- the input came to its end, or no feed to the line
-  pub input-over : (now heard new : Option (List Piece)) (before after : EarView) (number : ℕ) (s : SoFar now before.pending number) (end : LineEnd) (h : IsHeard now heard before after end) (r : Result (Unit {0}) TalkFault) → (end ≡ LineFeed → ⊥)
+  pub input-over : (now heard new : Option (List Piece)) (before after : EarView) (number : ℕ) (s : SoFar now before.pending number) (end : LineEnd) (h : IsLineHeard now heard before after end) (r : Result (Unit {0}) TalkFault) → (end ≡ LineFeed → ⊥)
       → Finishes asking ends s.lines h.line s.answers heard new r → Ended new r
   input-over now heard new before after number s LineFeed h r not f = absurd (not refl)
   input-over now heard new before after number s InputEnd h r not f =
@@ -187,8 +187,8 @@ module _ {Order Answer State : Type 0} (asking : Asking Order Answer State) (end
 
 -- one more line is answered, by whom the next line will be, and its text is said
 module _ {Order Answer State : Type 0} (asking : Asking Order Answer State) (ends : List (List ℕ) → List Answer → List ℕ → Type 0) (behind next : List (List ℕ) → List Answer → Type 0) (old : Option (List Piece)) (began : List ℕ) where
-  pub goes-on : (now heard new : Option (List Piece)) (before after : EarView) (number : ℕ) (s : SoFar asking ends behind old began now before.pending number) (h : IsHeard now heard before after LineFeed) (more : List Answer) (text : List ℕ)
-      → next (s.lines ++ h.line ∷ []) (s.answers ++ more) → IsAnswered asking s.lines s.answers h.line [] text more → Says heard new text → SoFar asking ends next old began new after.pending (number + 1)
+  pub goes-on : (now heard new : Option (List Piece)) (before after : EarView) (number : ℕ) (s : SoFar asking ends behind old began now before.pending number) (h : IsLineHeard now heard before after LineFeed) (more : List Answer) (text : List ℕ)
+      → next (s.lines ++ h.line ∷ []) (s.answers ++ more) → IsLineAnswered asking s.lines s.answers h.line [] text more → Says heard new text → SoFar asking ends next old began new after.pending (number + 1)
   goes-on now heard new before after number s h more text stands a says =
       let ps : List Piece = h.pieces ++ [] in
       let heard_to = hears asking ends behind old began now heard before.pending number s ps h.waited in

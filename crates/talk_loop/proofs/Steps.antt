@@ -7,7 +7,7 @@ use Rattle.knit_ports.specs.Pieces.{Piece, Heard, Said, AreSaid, heard_in, said_
 use Rattle.knit_ports.specs.Ears.{AreWaitedFor}
 use Rattle.knit_ports.specs.WholeLines.{rest_behind, rest_of, whole_lines, with_feed}
 use Rattle.knit_ports.proofs.WholeLines.{rest-more, taken-ends, taken-lines, taken-more}
-use Rattle.talk_loop.specs.InStep.{Asking, AreAnswers, IsInStep, due, state_of, text_of}
+use Rattle.talk_loop.specs.InStep.{Asking, AreDeskAnswers, IsInStep, due, state_behind, text_of}
 
 -- lines with their feeds have these lines
 flat-lines : (lines : List (List ℕ)) → All HasNoLineEnd lines → whole_lines (flat_map with_feed lines) ≡ lines
@@ -38,24 +38,24 @@ said-deaf (Said bytes ∷ ps) h = said-deaf ps h
 said-deaf (Heard bytes ∷ ps) h = absurd h
 
 module _ {Order Answer State : Type 0} (asking : Asking Order Answer State) where
-  pub answers-many : (s : State) (os : List Order) (as_ : List Answer) → AreAnswers asking s os as_ → length os ≡ length as_
+  pub answers-many : (s : State) (os : List Order) (as_ : List Answer) → AreDeskAnswers asking s os as_ → length os ≡ length as_
   answers-many s [] [] h = refl
   answers-many s [] (a ∷ as_) h = absurd h
   answers-many s (o ∷ os) [] h = absurd h
   answers-many s (o ∷ os) (a ∷ as_) h = let rest : length os ≡ length as_ = answers-many (asking.behind s o a) os as_ h.1 in omega (arith, rest)
 
-  pub answers-more : (s : State) (os : List Order) (as_ : List Answer) (more : List Order) (bs : List Answer) → AreAnswers asking s os as_ → AreAnswers asking (state_of asking s os as_) more bs → AreAnswers asking s (os ++ more) (as_ ++ bs)
+  pub answers-more : (s : State) (os : List Order) (as_ : List Answer) (more : List Order) (bs : List Answer) → AreDeskAnswers asking s os as_ → AreDeskAnswers asking (state_behind asking s os as_) more bs → AreDeskAnswers asking s (os ++ more) (as_ ++ bs)
   answers-more s [] [] more bs h k = k
   answers-more s [] (a ∷ as_) more bs h k = absurd h
   answers-more s (o ∷ os) [] more bs h k = absurd h
   answers-more s (o ∷ os) (a ∷ as_) more bs h k = (h.0, answers-more (asking.behind s o a) os as_ more bs h.1 k)
 
-  pub text-more : (s : State) (os : List Order) (as_ : List Answer) (more : List Order) (bs : List Answer) → AreAnswers asking s os as_ → text_of asking s (os ++ more) (as_ ++ bs) ≡ text_of asking s os as_ ++ text_of asking (state_of asking s os as_) more bs
+  pub text-more : (s : State) (os : List Order) (as_ : List Answer) (more : List Order) (bs : List Answer) → AreDeskAnswers asking s os as_ → text_of asking s (os ++ more) (as_ ++ bs) ≡ text_of asking s os as_ ++ text_of asking (state_behind asking s os as_) more bs
   text-more s [] [] more bs h = refl
   text-more s [] (a ∷ as_) more bs h = absurd h
   text-more s (o ∷ os) [] more bs h = absurd h
   text-more s (o ∷ os) (a ∷ as_) more bs h =
-      ap (λ (l : List ℕ). asking.text s o a ++ l) (text-more (asking.behind s o a) os as_ more bs h.1) ∙ sym (append_assoc (asking.text s o a) (text_of asking (asking.behind s o a) os as_) (text_of asking (state_of asking (asking.behind s o a) os as_) more bs))
+      ap (λ (l : List ℕ). asking.text s o a ++ l) (text-more (asking.behind s o a) os as_ more bs h.1) ∙ sym (append_assoc (asking.text s o a) (text_of asking (asking.behind s o a) os as_) (text_of asking (state_behind asking (asking.behind s o a) os as_) more bs))
 
   -- answers to later orders don't change what is said for earlier ones
   text-same : (s : State) (os : List Order) (as_ bs : List Answer) → length os ≤ length as_ → text_of asking s os (as_ ++ bs) ≡ text_of asking s os as_

@@ -4,7 +4,7 @@ use Rattle.knit_base.specs.Lines.{HasNoLineEnd}
 use Rattle.knit_ports.specs.Faults.{Rose}
 use Rattle.knit_ports.specs.Pieces.{Piece, heard_in, said_in}
 use Rattle.knit_ports.specs.WholeLines.{with_feed}
-use Rattle.talk_loop.specs.InStep.{Asking, AreAnswers, IsInStep, due, state_of, text_of}
+use Rattle.talk_loop.specs.InStep.{Asking, AreDeskAnswers, IsInStep, due, state_behind, text_of}
 use Rattle.talk_loop.specs.declared.conversation.TalkFault.{TalkFault}
 use Rattle.talk_loop.specs.declared.conversation.TalkFault.TheVariants as fault
 
@@ -22,27 +22,27 @@ last_line (byte ∷ bytes) = (byte ∷ bytes) ∷ []
 
 module _ {Order Answer State : Type 0} (asking : Asking Order Answer State) where
   -- One more line was answered: what it asks for beside what the lines before it do, has these answers, and their text stands behind what was to be said before.
-  pub record IsAnswered (lines : List (List ℕ)) (as_ : List Answer) (line before after : List ℕ) (more : List Answer) : Type 0 where
+  pub record IsLineAnswered (lines : List (List ℕ)) (as_ : List Answer) (line before after : List ℕ) (more : List Answer) : Type 0 where
     pub asked : List Order
     pub orders : asking.orders (lines ++ line ∷ []) ≡ asking.orders lines ++ asked
-    pub given : AreAnswers asking (state_of asking asking.start (asking.orders lines) as_) asked more
-    pub text : after ≡ before ++ text_of asking (state_of asking asking.start (asking.orders lines) as_) asked more
+    pub given : AreDeskAnswers asking (state_behind asking asking.start (asking.orders lines) as_) asked more
+    pub text : after ≡ before ++ text_of asking (state_behind asking asking.start (asking.orders lines) as_) asked more
 
   -- These whole lines were heard, and bytes behind them; the lines were answered, and each before more was heard.
   pub record IsHeardTo (lines : List (List ℕ)) (rest : List ℕ) (as_ : List Answer) (pieces : List Piece) : Type 0 where
     pub heard : heard_in pieces ≡ flat_map with_feed lines ++ rest
     pub ones : All HasNoLineEnd lines
-    pub answers : AreAnswers asking asking.start (asking.orders lines) as_
+    pub answers : AreDeskAnswers asking asking.start (asking.orders lines) as_
     pub in_step : IsInStep asking as_ [] [] pieces
 
   -- All whole lines that were heard are answered, and it was said.
-  pub record Stands (lines : List (List ℕ)) (rest : List ℕ) (as_ : List Answer) (pieces : List Piece) : Type 0 where
+  pub record ConversationStands (lines : List (List ℕ)) (rest : List ℕ) (as_ : List Answer) (pieces : List Piece) : Type 0 where
     pub lines_heard : IsHeardTo lines rest as_ pieces
     pub one : HasNoLineEnd rest
     pub said : said_in pieces ≡ due asking lines as_
 
   -- The input came to its end, behind these lines and a last one that has no line feed, or 2 ^ 64 - 1 lines or pieces were heard and the others were not.
-  pub record IsOver (lines : List (List ℕ)) (rest unheard : List ℕ) (pieces : List Piece) : Type 0 where
+  pub record IsConversationOver (lines : List (List ℕ)) (rest unheard : List ℕ) (pieces : List Piece) : Type 0 where
     pub one : HasNoLineEnd rest
     pub over : (unheard ≡ []) ⊎ ((2 ^ 64 - 1 ≤ asking.first + length lines) ⊎ (2 ^ 64 - 1 ≤ length pieces))
 
@@ -51,21 +51,21 @@ module _ {Order Answer State : Type 0} (asking : Asking Order Answer State) (end
   -- What is said behind these lines: the answers to a last line that has no line feed, if there is one, and what ends the conversation.
   pub record IsLast (lines : List (List ℕ)) (as_ : List Answer) (line text : List ℕ) (more : List Answer) : Type 0 where
     pub final : List ℕ
-    pub answers : AreAnswers asking asking.start (asking.orders (lines ++ last_line line)) (as_ ++ more)
+    pub answers : AreDeskAnswers asking asking.start (asking.orders (lines ++ last_line line)) (as_ ++ more)
     pub all : due asking lines as_ ++ text ≡ due asking (lines ++ last_line line) (as_ ++ more) ++ final
     pub ends_so : ends (lines ++ last_line line) (as_ ++ more) final
 
   -- The text that is due next, behind these lines and their answers, where these bytes were heard behind the lines: that of one more line, or what ends the conversation.
   pub data IsNext (lines : List (List ℕ)) (as_ : List Answer) (rest text : List ℕ) : Type 0 where
-    for_line : (line pending : List ℕ) (more : List Answer) → rest ≡ line ++ 10 ∷ pending → IsAnswered asking lines as_ line [] text more → IsNext lines as_ rest text
+    for_line : (line pending : List ℕ) (more : List Answer) → rest ≡ line ++ 10 ∷ pending → IsLineAnswered asking lines as_ line [] text more → IsNext lines as_ rest text
     at_end : (line unheard : List ℕ) (more : List Answer) → rest ≡ line ++ unheard → IsLast lines as_ line text more → IsNext lines as_ rest text
 
   pub data Conversed (pieces : List Piece) : Result (Unit {0}) TalkFault → Type 0 where
     -- it is over: all lines are answered, and what ends the conversation was said behind that
-    ended : (lines : List (List ℕ)) (rest unheard : List ℕ) (as_ more : List Answer) (text : List ℕ) → IsHeardTo asking lines (rest ++ unheard) as_ pieces → IsOver asking lines rest unheard pieces
+    ended : (lines : List (List ℕ)) (rest unheard : List ℕ) (as_ more : List Answer) (text : List ℕ) → IsHeardTo asking lines (rest ++ unheard) as_ pieces → IsConversationOver asking lines rest unheard pieces
         → IsLast lines as_ rest text more → said_in pieces ≡ due asking lines as_ ++ text → Conversed pieces (Ok tt)
     -- hearing failed: all that was heard is answered, and it was said
-    deaf : (lines : List (List ℕ)) (rest : List ℕ) (as_ : List Answer) → Stands asking lines rest as_ pieces → Conversed pieces (Err fault.Hearing)
+    deaf : (lines : List (List ℕ)) (rest : List ℕ) (as_ : List Answer) → ConversationStands asking lines rest as_ pieces → Conversed pieces (Err fault.Hearing)
     -- saying failed: a front of what was due was said, and nothing was heard after it
     mute : (lines : List (List ℕ)) (rest : List ℕ) (as_ : List Answer) (text : List ℕ) (n : ℕ) → IsHeardTo asking lines rest as_ pieces → IsNext lines as_ rest text
         → said_in pieces ≡ due asking lines as_ ++ take n text → Conversed pieces (Err fault.Saying)

@@ -18,11 +18,11 @@ pub record Asking (Order Answer State : Type 0) : Type 1 where
 
 module _ {Order Answer State : Type 0} (asking : Asking Order Answer State) where
   -- these are answers to these orders, one each, from here on
-  abbrev pub AreAnswers : State → List Order → List Answer → Type 0
-  AreAnswers s [] [] = Unit {0}
-  AreAnswers s [] (a ∷ as_) = ⊥
-  AreAnswers s (o ∷ os) [] = ⊥
-  AreAnswers s (o ∷ os) (a ∷ as_) = asking.is_given s o a × AreAnswers (asking.behind s o a) os as_
+  abbrev pub AreDeskAnswers : State → List Order → List Answer → Type 0
+  AreDeskAnswers s [] [] = Unit {0}
+  AreDeskAnswers s [] (a ∷ as_) = ⊥
+  AreDeskAnswers s (o ∷ os) [] = ⊥
+  AreDeskAnswers s (o ∷ os) (a ∷ as_) = asking.is_given s o a × AreDeskAnswers (asking.behind s o a) os as_
 
   -- what is said for them
   abbrev pub text_of : State → List Order → List Answer → List ℕ
@@ -31,10 +31,10 @@ module _ {Order Answer State : Type 0} (asking : Asking Order Answer State) wher
   text_of s (o ∷ os) (a ∷ as_) = asking.text s o a ++ text_of (asking.behind s o a) os as_
 
   -- and where the conversation then stands
-  abbrev pub state_of : State → List Order → List Answer → State
-  state_of s [] as_ = s
-  state_of s (o ∷ os) [] = s
-  state_of s (o ∷ os) (a ∷ as_) = state_of (asking.behind s o a) os as_
+  abbrev pub state_behind : State → List Order → List Answer → State
+  state_behind s [] as_ = s
+  state_behind s (o ∷ os) [] = s
+  state_behind s (o ∷ os) (a ∷ as_) = state_behind (asking.behind s o a) os as_
 
   -- what is due for these lines
   abbrev pub due : List (List ℕ) → List Answer → List ℕ

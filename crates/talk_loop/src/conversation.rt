@@ -2,10 +2,10 @@
 ghost use Rattle.std.specs.Prelude.{◌≡◌, ◌<◌, ◌+◌, ◌-◌, ◌^◌, ℕ, List, [], ◌∷◌, length, OnOk};
 ghost use Rattle.knit_base.specs.Lines.{HasNoLineEnd};
 ghost use Rattle.knit_ports.specs.Ears.{kept_front};
-ghost use Rattle.knit_ports.specs.Pieces.{GoesOn, Heard, Piece};
+ghost use Rattle.knit_ports.specs.Pieces.{PiecesGoOn, Heard, Piece};
 ghost use Rattle.talk_loop.specs.Conversed.{Conversed, HasTalkCause, IsLast};
 ghost use Rattle.talk_loop.specs.Finished.{Finishes};
-ghost use Rattle.talk_loop.specs.InStep.{AreAnswers};
+ghost use Rattle.talk_loop.specs.InStep.{AreDeskAnswers};
 
 use crate::desk::Desk;
 use knit_base::NoMemory;
@@ -38,7 +38,7 @@ pub fn converse<R: Threads + Wait + Sync, T: Talk, D: Desk>(
     requires first { first ≡ (D.asking (D.opening desk.old)).first }
     requires nothing { (D.asking (D.opening desk.old)).orders [] ≡ [] }
     requires begun { D.behind desk.old [] [] }
-    ensures conversed { (pieces : List Piece) × GoesOn (T.told talk.old) (T.told talk.new) pieces × Conversed (D.asking (D.opening desk.old)) (D.ends (D.opening desk.old)) (Heard ear.old.pending ∷ pieces) result }
+    ensures conversed { (pieces : List Piece) × PiecesGoOn (T.told talk.old) (T.told talk.new) pieces × Conversed (D.asking (D.opening desk.old)) (D.ends (D.opening desk.old)) (Heard ear.old.pending ∷ pieces) result }
     ensures cause { HasTalkCause (T.faults talk.old) (T.faults talk.new) result }
 {
     'lines: for number in first..u64::MAX {
@@ -78,7 +78,7 @@ fn finish<R: Threads + Wait + Sync, T: Talk, D: Desk>(
     requires room { 0 < length line.now → number < 2 ^ 64 - 1 }
     requires empty { out.old.items ≡ [] }
     ensures finished { (lines : List (List ℕ)) (as_ : List D.Answer) (rest : List ℕ) → D.behind desk.old lines as_ → number ≡ (D.asking (D.opening desk.old)).first + length lines
-        → AreAnswers (D.asking (D.opening desk.old)) (D.asking (D.opening desk.old)).start ((D.asking (D.opening desk.old)).orders lines) as_ → line.now ≡ kept_front rest → Finishes (D.asking (D.opening desk.old)) (D.ends (D.opening desk.old)) lines rest as_ (T.told talk.old) (T.told talk.new) result }
+        → AreDeskAnswers (D.asking (D.opening desk.old)) (D.asking (D.opening desk.old)).start ((D.asking (D.opening desk.old)).orders lines) as_ → line.now ≡ kept_front rest → Finishes (D.asking (D.opening desk.old)) (D.ends (D.opening desk.old)) lines rest as_ (T.told talk.old) (T.told talk.new) result }
     ensures cause { HasTalkCause (T.faults talk.old) (T.faults talk.new) result }
 {
     let Ok(()) = append_last(rt, line, desk, number, out) else {
@@ -104,7 +104,7 @@ fn append_last<R: Threads + Wait + Sync, D: Desk>(
     requires room { 0 < length line.now → number < 2 ^ 64 - 1 }
     requires empty { out.old.items ≡ [] }
     ensures last { OnOk result ((lines : List (List ℕ)) (as_ : List D.Answer) (rest : List ℕ) → D.behind desk.old lines as_ → number ≡ (D.asking (D.opening desk.old)).first + length lines
-        → AreAnswers (D.asking (D.opening desk.old)) (D.asking (D.opening desk.old)).start ((D.asking (D.opening desk.old)).orders lines) as_ → line.now ≡ kept_front rest
+        → AreDeskAnswers (D.asking (D.opening desk.old)) (D.asking (D.opening desk.old)).start ((D.asking (D.opening desk.old)).orders lines) as_ → line.now ≡ kept_front rest
         → (more : List D.Answer) × IsLast (D.asking (D.opening desk.old)) (D.ends (D.opening desk.old)) lines as_ rest out.new.items more) }
 {
     if line.is_empty() {

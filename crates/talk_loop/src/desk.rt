@@ -3,7 +3,7 @@ ghost use Rattle.std.specs.Thread.{IsSync};
 ghost use Rattle.std.specs.Prelude.{◌≡◌, ◌+◌, ◌++◌, ◌∷◌, [], ℕ, List, length, OnOk};
 ghost use Rattle.knit_base.specs.Lines.{HasNoLineEnd};
 ghost use Rattle.knit_ports.specs.Ears.{kept_front};
-ghost use Rattle.talk_loop.specs.Conversed.{IsAnswered};
+ghost use Rattle.talk_loop.specs.Conversed.{IsLineAnswered};
 ghost use Rattle.talk_loop.specs.InStep.{Asking};
 
 use knit_base::NoMemory;
@@ -52,7 +52,7 @@ pub trait Desk {
         ensures same { opening self.new ≡ opening self.old }
         ensures answered { OnOk result ((lines : List (List ℕ)) (as_ : List Self.Answer) (whole : List ℕ) → behind self.old lines as_ → number ≡ (asking (opening self.old)).first + length lines
             → line.now ≡ kept_front whole
-            → (more : List Self.Answer) × behind self.new (lines ++ whole ∷ []) (as_ ++ more) × IsAnswered (asking (opening self.old)) lines as_ whole out.old.items out.new.items more) };
+            → (more : List Self.Answer) × behind self.new (lines ++ whole ∷ []) (as_ ++ more) × IsLineAnswered (asking (opening self.old)) lines as_ whole out.old.items out.new.items more) };
 
     /// Appends what is to be said at the end, where the line behind the last one would have this number.
     fn end<R: Threads + Wait + Sync>(

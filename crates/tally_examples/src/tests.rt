@@ -1,7 +1,7 @@
 //! The tests, the document that they begin with, and what is asked of its ranges.
 ghost use Rattle.std.specs.Prelude.{◌≡◌, ℕ, ◌-◌, ◌≤◌, All, List, IfOk, flat_map, length};
 ghost use Rattle.knit_base.specs.Limits.{IsLawfulProfile};
-ghost use Rattle.edit_book.specs.Outlines.{texts_of};
+ghost use Rattle.edit_book.specs.Outlines.{block_texts_of};
 ghost use Rattle.edit_book.specs.Replies.{block_limit, line_limit};
 
 mod edits;
@@ -57,8 +57,8 @@ fn setting(alloc: Global) -> Setting
 // The blocks 0 and 1, of three lines each.
 fn two_blocks(alloc: Global) -> Result<TextList, NoMemory>
     ensures few { IfOk result (λ blocks. length blocks ≤ block_limit) }
-    ensures lines { IfOk result (λ blocks. length (flat_map (λ (text : List (List ℕ)). text) (texts_of blocks)) ≤ line_limit) }
-    ensures short { IfOk result (λ blocks. All (λ (text : List (List ℕ)). length text ≤ 4096) (texts_of blocks)) }
+    ensures lines { IfOk result (λ blocks. length (flat_map (λ (text : List (List ℕ)). text) (block_texts_of blocks)) ≤ line_limit) }
+    ensures short { IfOk result (λ blocks. All (λ (text : List (List ℕ)). length text ≤ 4096) (block_texts_of blocks)) }
 {
     let mut blocks = TextList::new(alloc);
     blocks.push(BlockAt {

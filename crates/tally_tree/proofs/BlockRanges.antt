@@ -14,7 +14,7 @@ use Rattle.edit_journal.specs.Documents.{Block, lines_in}
 use Rattle.edit_book.specs.Replies.{line_limit}
 use Rattle.tally_tree.specs.Leaves.{AreLeaves, AreTallies, all_of}
 use Rattle.tally_tree.specs.Sums.{is_tally_joined}
-use Rattle.tally_tree.specs.Tallies.{Counted, IsTally, IsTallyOf, joined}
+use Rattle.tally_tree.specs.Tallies.{TallyCounts, IsLineTally, IsTallyOf, joined_counts}
 use Rattle.tally_tree.proofs.PartSums.{is_of_no_line, of_no_line}
 
 zip_taken : {A B : Type 0} (R : A → B → Type 0) (n : ℕ) (xs : List A) (ys : List B) → AllZip R xs ys → AllZip R (take n xs) (take n ys)
@@ -42,12 +42,12 @@ as_many R (x ∷ xs) [] h = absurd h
 as_many R (x ∷ xs) (y ∷ ys) h = omega (arith, as_many R xs ys h.1)
 
 -- readings of each block's lines, of which the tallies are
-pub record AreRead (profile : Profile) (names : List (List ℕ)) (vs : List Counted) (blocks : List Block) : Type 0 where
+pub record AreRead (profile : Profile) (names : List (List ℕ)) (vs : List TallyCounts) (blocks : List Block) : Type 0 where
   pub texts : List (List Read)
   pub tallies : AreTallies (length names) texts vs
   pub read : AllZip (λ (b : Block) (text : List Read). AreReadings profile names b.lines text) blocks texts
 
-pub blocks_read : (profile : Profile) (names : List (List ℕ)) (vs : List Counted) (blocks : List Block) → AllZip (λ (v : Counted) (b : Block). IsTally profile names b.lines v) vs blocks → AreRead profile names vs blocks
+pub blocks_read : (profile : Profile) (names : List (List ℕ)) (vs : List TallyCounts) (blocks : List Block) → AllZip (λ (v : TallyCounts) (b : Block). IsLineTally profile names b.lines v) vs blocks → AreRead profile names vs blocks
 blocks_read profile names [] [] h = record { texts = []; tallies = tt; read = tt }
 blocks_read profile names [] (b ∷ blocks) h = absurd h
 blocks_read profile names (v ∷ vs) [] h = absurd h
@@ -66,29 +66,29 @@ lines_read profile names (b ∷ blocks) (text ∷ texts) h =
     let readings : all_of (text ∷ texts) ≡ text ++ all_of texts = flat_map-cons (λ (t : List Read). t) text texts in
     subst (λ ls. AreReadings profile names ls (all_of (text ∷ texts))) (sym lines) (subst (AreReadings profile names (b.lines ++ lines_in blocks)) (sym readings) whole)
 
-abbrev all_lines : List Counted → ℕ
-all_lines vs = sum_by (λ (v : Counted). v.lines) vs
+abbrev all_lines : List TallyCounts → ℕ
+all_lines vs = sum_by (λ (v : TallyCounts). v.lines) vs
 
 -- there are as many readings as the tallies count lines
-lines_counted : (carriers : ℕ) (texts : List (List Read)) (vs : List Counted) → AreTallies carriers texts vs → length (all_of texts) ≡ all_lines vs
+lines_counted : (carriers : ℕ) (texts : List (List Read)) (vs : List TallyCounts) → AreTallies carriers texts vs → length (all_of texts) ≡ all_lines vs
 lines_counted carriers [] [] h = refl
 lines_counted carriers [] (v ∷ vs) h = absurd h
 lines_counted carriers (text ∷ texts) [] h = absurd h
 lines_counted carriers (text ∷ texts) (v ∷ vs) h =
     let readings : all_of (text ∷ texts) ≡ text ++ all_of texts = flat_map-cons (λ (t : List Read). t) text texts in
-    omega (arith, ap length readings, length-append text (all_of texts), sym h.0.lines, lines_counted carriers texts vs h.1, sum_by-cons (λ (w : Counted). w.lines) v vs)
+    omega (arith, ap length readings, length-append text (all_of texts), sym h.0.lines, lines_counted carriers texts vs h.1, sum_by-cons (λ (w : TallyCounts). w.lines) v vs)
 
-range_lines : (from to : ℕ) (vs : List Counted) → all_lines (slice_range vs from to) ≤ all_lines vs
-range_lines from to vs = omega (arith, sum_by-take-drop (λ (v : Counted). v.lines) vs from, sum_by-take-drop (λ (v : Counted). v.lines) (drop from vs) (to - from))
+range_lines : (from to : ℕ) (vs : List TallyCounts) → all_lines (slice_range vs from to) ≤ all_lines vs
+range_lines from to vs = omega (arith, sum_by-take-drop (λ (v : TallyCounts). v.lines) vs from, sum_by-take-drop (λ (v : TallyCounts). v.lines) (drop from vs) (to - from))
 
 -- readings of the blocks of a range, whose tallies can be added
-pub record IsRangeRead (profile : Profile) (names : List (List ℕ)) (vs : List Counted) (blocks : List Block) (from to : ℕ) : Type 0 where
+pub record IsRangeRead (profile : Profile) (names : List (List ℕ)) (vs : List TallyCounts) (blocks : List Block) (from to : ℕ) : Type 0 where
   pub texts : List (List Read)
   pub tallies : AreTallies (length names) texts (slice_range vs from to)
   pub read : AreReadings profile names (lines_in (slice_range blocks from to)) (all_of texts)
   pub few : length (all_of texts) ≤ line_limit
 
-pub range_read : (profile : Profile) (names : List (List ℕ)) (vs : List Counted) (blocks : List Block) (from to : ℕ) → AllZip (λ (v : Counted) (b : Block). IsTally profile names b.lines v) vs blocks → AreLeaves vs → IsRangeRead profile names vs blocks from to
+pub range_read : (profile : Profile) (names : List (List ℕ)) (vs : List TallyCounts) (blocks : List Block) (from to : ℕ) → AllZip (λ (v : TallyCounts) (b : Block). IsLineTally profile names b.lines v) vs blocks → AreLeaves vs → IsRangeRead profile names vs blocks from to
 range_read profile names vs blocks from to h leaves =
     let whole = blocks_read profile names vs blocks h in
     let tallies = zip_range (IsTallyOf (length names)) from to whole.texts vs whole.tallies in
@@ -100,11 +100,11 @@ range_read profile names vs blocks from to h leaves =
     }
 
 -- there is a tally of all texts that have one each
-pub some_tally : (carriers : ℕ) (texts : List (List Read)) (vs : List Counted) → AreTallies carriers texts vs → (v : Counted) × IsTallyOf carriers (all_of texts) v
+pub some_tally : (carriers : ℕ) (texts : List (List Read)) (vs : List TallyCounts) → AreTallies carriers texts vs → (v : TallyCounts) × IsTallyOf carriers (all_of texts) v
 some_tally carriers [] [] h = (of_no_line carriers, is_of_no_line carriers)
 some_tally carriers [] (v ∷ vs) h = absurd h
 some_tally carriers (text ∷ texts) [] h = absurd h
 some_tally carriers (text ∷ texts) (v ∷ vs) h =
     let rest = some_tally carriers texts vs h.1 in
     let readings : all_of (text ∷ texts) ≡ text ++ all_of texts = flat_map-cons (λ (t : List Read). t) text texts in
-    (joined v rest.0, subst (λ rs. IsTallyOf carriers rs (joined v rest.0)) (sym readings) (is_tally_joined text (all_of texts) v rest.0 carriers h.0 rest.1))
+    (joined_counts v rest.0, subst (λ rs. IsTallyOf carriers rs (joined_counts v rest.0)) (sym readings) (is_tally_joined text (all_of texts) v rest.0 carriers h.0 rest.1))

@@ -15,10 +15,10 @@ use Rattle.knit_base.specs.Limits.{IsLawfulProfile}
 use Rattle.knitout_reader.specs.Reading.{ReadsAs}
 use Rattle.pass_grouping.specs.declared.operation.Class.{Class}
 use Rattle.pass_grouping.specs.declared.operation.Class.TheVariants as class
-use Rattle.tally_tree.specs.Counting.{AreCounted, Counts, CountsLine, HasRoom, IsCountOf, IsMoreWhere, one_if}
+use Rattle.tally_tree.specs.Counting.{AreLinesCounted, Counts, CountsLine, HasCountRoom, IsCountOf, IsMoreWhere, one_if}
 use Rattle.tally_tree.specs.Leaves.{IsOnBeds}
-use Rattle.tally_tree.specs.Needles.{AreRising}
-use Rattle.tally_tree.specs.Tallies.{Counted, IsTally, class_place, forms_with, is_of, operated_on}
+use Rattle.tally_tree.specs.Needles.{AreNeedlesRising}
+use Rattle.tally_tree.specs.Tallies.{TallyCounts, IsLineTally, class_place, forms_with, is_of, operated_on}
 use Rattle.tally_tree.proofs.OnBeds.{none_in, on_beds_more}
 
 -- a count of one reading more
@@ -42,12 +42,12 @@ carriers_more carriers readings r old new is more =
     ∙ ap (λ n. n + one_if (forms_with k r)) (ap (λ xs. get_or xs k 0) is ∙ get_or-map-range_with_len (λ c. count_by (forms_with c) readings) 0 carriers k k 0 below (omega arith))
     ∙ sym (count_more (forms_with k) readings r))
 
-class_more : (readings : List Read) (r : Read) (old new : Counted) (own : Class) → get_or old.ops (class_place own) 0 ≡ count_by (is_of own) readings → Counts r old new
+class_more : (readings : List Read) (r : Read) (old new : TallyCounts) (own : Class) → get_or old.ops (class_place own) 0 ≡ count_by (is_of own) readings → Counts r old new
     → get_or new.ops (class_place own) 0 ≡ count_by (is_of own) (readings ++ r ∷ [])
 class_more readings r old new own is counts = counts.ops own ∙ ap (λ n. n + one_if (is_of own r)) is ∙ sym (count_more (is_of own) readings r)
 
 -- one line more was counted
-pub count_of_more : (carriers : ℕ) (readings : List Read) (r : Read) (old new : Counted) → IsCountOf carriers readings old → new.lines ≡ old.lines + 1 → Counts r old new
+pub count_of_more : (carriers : ℕ) (readings : List Read) (r : Read) (old new : TallyCounts) → IsCountOf carriers readings old → new.lines ≡ old.lines + 1 → Counts r old new
     → IsCountOf carriers (readings ++ r ∷ []) new
 count_of_more carriers readings r old new count one counts = record {
   lines = one ∙ ap (λ n. n + 1) count.lines ∙ sym (length-append readings (r ∷ []));
@@ -65,12 +65,12 @@ zeros_from zero from = refl
 zeros_from (suc n) from = ap (λ ns. 0 ∷ ns) (zeros_from n (from + 1))
 
 -- no line was counted
-pub count_of_none : (carriers : ℕ) (v : Counted) → v ≡ record { lines = 0; with_each = replicate {A = ℕ} carriers 0; ops = 0 ∷ 0 ∷ 0 ∷ 0 ∷ []; needles = [] } → IsCountOf carriers [] v
+pub count_of_none : (carriers : ℕ) (v : TallyCounts) → v ≡ record { lines = 0; with_each = replicate {A = ℕ} carriers 0; ops = 0 ∷ 0 ∷ 0 ∷ 0 ∷ []; needles = [] } → IsCountOf carriers [] v
 count_of_none carriers v is = record {
-  lines = ap (λ (w : Counted). w.lines) is;
-  with_each = ap (λ (w : Counted). w.with_each) is ∙ zeros_from carriers 0;
-  ops = ap (λ (w : Counted). w.ops) is;
-  needles = ap (λ (w : Counted). w.needles) is;
+  lines = ap (λ (w : TallyCounts). w.lines) is;
+  with_each = ap (λ (w : TallyCounts). w.with_each) is ∙ zeros_from carriers 0;
+  ops = ap (λ (w : TallyCounts). w.ops) is;
+  needles = ap (λ (w : TallyCounts). w.needles) is;
 }
 
 all_of_four : (P : ℕ → Type 0) (a b c d : ℕ) → P a → P b → P c → P d → All P (a ∷ b ∷ c ∷ d ∷ [])
@@ -81,7 +81,7 @@ few : (p : Read → Bool) (readings : List Read) → length readings < 2 ^ 32 - 
 few p readings short = omega (arith, count_by-le-length p readings)
 
 -- each number is at most that of the lines
-pub room_left : (carriers : ℕ) (readings : List Read) (v : Counted) → carriers ≤ 64 → length readings < 2 ^ 32 - 1 → IsCountOf carriers readings v → HasRoom v
+pub room_left : (carriers : ℕ) (readings : List Read) (v : TallyCounts) → carriers ≤ 64 → length readings < 2 ^ 32 - 1 → IsCountOf carriers readings v → HasCountRoom v
 room_left carriers readings v some short count = record {
   carriers = omega (arith, ap length count.with_each, length-map-range_with_len (λ c. count_by (forms_with c) readings) 0 carriers);
   with_each = All-same (λ n. n < 2 ^ 32 - 1) v.with_each _ count.with_each (All-map (λ n. n < 2 ^ 32 - 1) (λ c. count_by (forms_with c) readings) (range_with_len 0 carriers) (λ k d below. few (forms_with _) readings short));
@@ -90,8 +90,8 @@ room_left carriers readings v some short count = record {
 }
 
 -- one line more of a text was read and counted
-pub counted_more : (profile : Profile) (names text : List (List ℕ)) (i : ℕ) (line : List ℕ) (old new : Counted) → IsLawfulProfile profile → slice_get text i ≡ Some line
-    → AreCounted profile names (take i text) old → CountsLine profile names line old new → AreCounted profile names (take (i + 1) text) new
+pub counted_more : (profile : Profile) (names text : List (List ℕ)) (i : ℕ) (line : List ℕ) (old new : TallyCounts) → IsLawfulProfile profile → slice_get text i ≡ Some line
+    → AreLinesCounted profile names (take i text) old → CountsLine profile names line old new → AreLinesCounted profile names (take (i + 1) text) new
 counted_more profile names text i line old new lawful is counted one =
     let here : take (i + 1) text ≡ take i text ++ line ∷ [] =
     take_more text i [] (slice_get_within text i line is) ∙ ap (λ l. take i text ++ l ∷ []) (get_or_from_slice_get text i line [] is) in
@@ -103,24 +103,24 @@ counted_more profile names text i line old new lawful is counted one =
     }
 
 -- there is room for one line more
-pub room_for_more : (profile : Profile) (names text : List (List ℕ)) (i : ℕ) (v : Counted) → length names ≤ 64 → i < length text → length text ≤ 4096
-    → AreCounted profile names (take i text) v → (v.lines < 2 ^ 32 - 1) × HasRoom v
+pub room_for_more : (profile : Profile) (names text : List (List ℕ)) (i : ℕ) (v : TallyCounts) → length names ≤ 64 → i < length text → length text ≤ 4096
+    → AreLinesCounted profile names (take i text) v → (v.lines < 2 ^ 32 - 1) × HasCountRoom v
 room_for_more profile names text i v some within short counted =
     let long : length counted.readings ≡ i = AllZip-long (ReadsAs profile names) (take i text) counted.readings counted.read_as ∙ length-take-le i text (omega arith) in
     (omega (arith, counted.count.lines), room_left (length names) counted.readings v some (omega arith) counted.count)
 
 -- no line of a text was counted
-pub counted_none : (profile : Profile) (names : List (List ℕ)) (carriers : ℕ) (v : Counted) → carriers ≡ length names → v ≡ record { lines = 0; with_each = replicate {A = ℕ} carriers 0; ops = 0 ∷ 0 ∷ 0 ∷ 0 ∷ []; needles = [] } → AreCounted profile names [] v
+pub counted_none : (profile : Profile) (names : List (List ℕ)) (carriers : ℕ) (v : TallyCounts) → carriers ≡ length names → v ≡ record { lines = 0; with_each = replicate {A = ℕ} carriers 0; ops = 0 ∷ 0 ∷ 0 ∷ 0 ∷ []; needles = [] } → AreLinesCounted profile names [] v
 counted_none profile names carriers v some is =
-    record { readings = []; read_as = tt; count = subst (λ n. IsCountOf n [] v) some (count_of_none carriers v is); on_beds = λ n h. absurd (none_in n (subst (λ (w : Counted). Contains w.needles n) is h)) }
+    record { readings = []; read_as = tt; count = subst (λ n. IsCountOf n [] v) some (count_of_none carriers v is); on_beds = λ n h. absurd (none_in n (subst (λ (w : TallyCounts). Contains w.needles n) is h)) }
 
 -- the same numbers, with the needles sorted
-abbrev with_needles : List Needle → Counted → Counted
+abbrev with_needles : List Needle → TallyCounts → TallyCounts
 with_needles ns v = record { lines = v.lines; with_each = v.with_each; ops = v.ops; needles = ns }
 
 -- what was counted is a tally where its needles are sorted
-pub tally_sorted : (profile : Profile) (names text : List (List ℕ)) (v : Counted) (ns : List Needle) → AreCounted profile names text v → AreRising ns
-    → ((n : Needle) → Contains ns n ↔ Contains v.needles n) → IsTally profile names text (with_needles ns v)
+pub tally_sorted : (profile : Profile) (names text : List (List ℕ)) (v : TallyCounts) (ns : List Needle) → AreLinesCounted profile names text v → AreNeedlesRising ns
+    → ((n : Needle) → Contains ns n ↔ Contains v.needles n) → IsLineTally profile names text (with_needles ns v)
 tally_sorted profile names text v ns counted rising same = (
   counted.readings,
   counted.read_as,
@@ -133,6 +133,6 @@ tally_sorted profile names text v ns counted rising same = (
   },
 )
 
-pub sorted_on_beds : (profile : Profile) (names text : List (List ℕ)) (v : Counted) (ns : List Needle) → AreCounted profile names text v
+pub sorted_on_beds : (profile : Profile) (names text : List (List ℕ)) (v : TallyCounts) (ns : List Needle) → AreLinesCounted profile names text v
     → ((n : Needle) → Contains ns n ↔ Contains v.needles n) → IsOnBeds (with_needles ns v)
 sorted_on_beds profile names text v ns counted same n h = counted.on_beds n ((same n).0 h)

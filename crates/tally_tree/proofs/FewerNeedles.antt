@@ -10,19 +10,19 @@ use Rattle.knit_base.specs.declared.needle.Needle.{Needle}
 use Rattle.knit_base.proofs.Needles.{needle_cmp-equal, needle_cmp-refl}
 use Rattle.tally_tree.specs.Laws.{with_each_long}
 use Rattle.tally_tree.specs.Merging.{Contains-cons_cases, Contains-head, Contains-tail, no_member, order_cases}
-use Rattle.tally_tree.specs.Needles.{AreRising, IsAbove}
-use Rattle.tally_tree.specs.Tallies.{Counted, IsTallyOf, cost, operated_on}
+use Rattle.tally_tree.specs.Needles.{AreNeedlesRising, IsBelowNeedles}
+use Rattle.tally_tree.specs.Tallies.{TallyCounts, IsTallyOf, cost, operated_on}
 
 -- no needle is less than itself
 not_less : (n m : Needle) → n ≡ m → needle_cmp n m ≡ Less → ⊥
 not_less n m same less = let equal : needle_cmp n m ≡ Equal = ap (needle_cmp n) (sym same) ∙ needle_cmp-refl n in cc
 
-below_next : (k m : Needle) (ms : List Needle) → needle_cmp k m ≡ Less → IsAbove m ms → IsAbove k ms
+below_next : (k m : Needle) (ms : List Needle) → needle_cmp k m ≡ Less → IsBelowNeedles m ms → IsBelowNeedles k ms
 below_next k m [] less above = tt
 below_next k m (p ∷ ps) less above = needle_cmp_total.trans k m p less above
 
 -- a needle below the first of a rising list is below each
-below_each : (k : Needle) (ns : List Needle) → IsAbove k ns → AreRising ns → (n : Needle) → Contains ns n → needle_cmp k n ≡ Less
+below_each : (k : Needle) (ns : List Needle) → IsBelowNeedles k ns → AreNeedlesRising ns → (n : Needle) → Contains ns n → needle_cmp k n ≡ Less
 below_each k [] above r n within = absurd (no_member n within)
 below_each k (m ∷ ms) above r n within = elim (Contains-cons_cases m ms n within) [
   | inl same ↦ subst (λ w. needle_cmp k w ≡ Less) same above
@@ -36,7 +36,7 @@ among_others m n ms less within = elim (Contains-cons_cases m ms n within) [
   | inr later ↦ later
 ]
 
-pub no_more_needles : (ns ms : List Needle) → AreRising ns → AreRising ms → ((n : Needle) → Contains ns n → Contains ms n) → length ns ≤ length ms
+pub no_more_needles : (ns ms : List Needle) → AreNeedlesRising ns → AreNeedlesRising ms → ((n : Needle) → Contains ns n → Contains ms n) → length ns ≤ length ms
 no_more_needles [] ms r s within = omega arith
 no_more_needles (n ∷ ns) [] r s within = absurd (no_member n (within n (Contains-head n ns)))
 no_more_needles (n ∷ ns) (m ∷ ms) r s within = elim (order_cases (needle_cmp n m)) [
@@ -54,7 +54,7 @@ no_more_needles (n ∷ ns) (m ∷ ms) r s within = elim (order_cases (needle_cmp
 ]
 
 -- fewer lines cost no more
-pub costs_no_more : (carriers : ℕ) (some all : List Read) (v w : Counted) → IsTallyOf carriers some v → IsTallyOf carriers all w → ((n : Needle) → Contains (flat_map operated_on some) n → Contains (flat_map operated_on all) n) → cost v ≤ cost w
+pub costs_no_more : (carriers : ℕ) (some all : List Read) (v w : TallyCounts) → IsTallyOf carriers some v → IsTallyOf carriers all w → ((n : Needle) → Contains (flat_map operated_on some) n → Contains (flat_map operated_on all) n) → cost v ≤ cost w
 costs_no_more carriers some all v w t u within =
     let few = no_more_needles v.needles w.needles t.rising u.rising (λ n h. (u.needles n).1 (within n ((t.needles n).0 h))) in
     omega (arith, few, with_each_long carriers some v t, with_each_long carriers all w u)

@@ -13,7 +13,7 @@ use Rattle.knit_base.specs.Lawful.{AreOnBed, IsLawfulRead, IsOnBed}
 use Rattle.knit_base.specs.Limits.{IsLawfulProfile}
 use Rattle.pass_grouping.specs.declared.operation.Class.{Class}
 use Rattle.tally_tree.specs.Leaves.{IsOnBeds, IsOnSomeBed}
-use Rattle.tally_tree.specs.Tallies.{Counted, class_of, operated_on, where_some}
+use Rattle.tally_tree.specs.Tallies.{TallyCounts, class_of, operated_on, where_some}
 
 -- no needle is in an empty list
 pub none_in : (n : Needle) → Contains [] n → ⊥
@@ -43,7 +43,7 @@ line_on_beds profile carriers (read.Broken reason) n lawful is h = absurd (none_
 line_on_beds profile carriers (read.Instr i) n lawful is h = where_some_on (class_of (read.Instr i)) profile (needles_of i) n lawful is.needles h
 
 -- with those of one lawful line more
-pub on_beds_more : (profile : Profile) (carriers : ℕ) (r : Read) (old new : Counted) → IsLawfulProfile profile → IsLawfulRead profile carriers r → IsOnBeds old
+pub on_beds_more : (profile : Profile) (carriers : ℕ) (r : Read) (old new : TallyCounts) → IsLawfulProfile profile → IsLawfulRead profile carriers r → IsOnBeds old
     → new.needles ≡ old.needles ++ operated_on r → IsOnBeds new
 on_beds_more profile carriers r old new lawful is on needles n h = elim (Contains-append_cases old.needles (operated_on r) n (subst (λ ns. Contains ns n) needles h)) [
   | inl earlier ↦ on n earlier

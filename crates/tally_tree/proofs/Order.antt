@@ -15,7 +15,7 @@ use Rattle.knit_base.specs.declared.needle.Needle.{Needle}
 use Rattle.knit_base.specs.contracts.needle.NeedleOrd.TheImpl as ord
 use Rattle.knit_base.specs.contracts.needle.NeedlePartialEq.TheImpl as partial_eq
 use Rattle.knit_base.proofs.Needles.{Decides-same_needle}
-use Rattle.tally_tree.specs.Needles.{AreRising}
+use Rattle.tally_tree.specs.Needles.{AreNeedlesRising}
 
 same_parts : (x y : Bed) (i j : ℤ) → ord.ghosts.cmp (record { bed = x; at = i }) (record { bed = y; at = j }) ≡ needle_cmp (record { bed = x; at = i }) (record { bed = y; at = j })
 same_parts Front Front i j = refl
@@ -65,14 +65,14 @@ tied_parts BackSlider BackSlider i j = int_ties i j
 ties : (a b : Needle) → partial_eq.ghosts.eq a b ≡ eq_by_cmp needle_cmp a b
 ties a b = tied_parts a.bed b.bed a.at b.at
 
-rising : (ns : List Needle) → IsStrictlySortedBy needle_cmp ns → AreRising ns
+rising : (ns : List Needle) → IsStrictlySortedBy needle_cmp ns → AreNeedlesRising ns
 unfolding IsStrictlySortedBy
 rising [] s = tt
 rising (n ∷ []) s = (tt, tt)
 rising (n ∷ m ∷ ms) s = (s.0.0, rising (m ∷ ms) s.1)
 
 -- sorted needles rise where each is kept once
-pub rising_kept : (ns : List Needle) → IsSorted ord.ghosts.cmp ns → AreRising (dedup partial_eq.ghosts.eq ns)
+pub rising_kept : (ns : List Needle) → IsSorted ord.ghosts.cmp ns → AreNeedlesRising (dedup partial_eq.ghosts.eq ns)
 rising_kept ns sorted =
     rising _ (IsStrictlySortedBy-dedup needle_cmp_total ties ns (λ k d low high. ap is_lt (sym (same_order (get_or ns (k + 1) d) (get_or ns k d))) ∙ sorted k d low high))
 

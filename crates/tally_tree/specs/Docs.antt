@@ -7,7 +7,7 @@ use Rattle.edit_book.specs.Outlines.{OutlineView}
 use Rattle.edit_book.specs.Verdicts.{setting_of}
 use Rattle.knit_base.specs.declared.setting.Setting.{Setting}
 use Rattle.tree_shape.specs.Fewest.{highest}
-use Rattle.tally_tree.specs.Tallies.{Counted, IsTally, cost}
+use Rattle.tally_tree.specs.Tallies.{TallyCounts, IsLineTally, cost}
 
 -- what the document began with, and the entries since
 pub record DocView : Type 0 where
@@ -32,9 +32,9 @@ pub record HasBlocks (doc : DocView) (from to : ℕ) : Type 0 where
   pub there : to ≤ length (document doc).blocks
 
 -- what the lines of its blocks from one place to another come to, the other not counted
-abbrev pub IsRange : DocView → ℕ → ℕ → Counted → Type 0
-IsRange doc from to v = IsTally (setting_now doc).profile (setting_now doc).declared (lines_in (slice_range (document doc).blocks from to)) v
+abbrev pub IsRange : DocView → ℕ → ℕ → TallyCounts → Type 0
+IsRange doc from to v = IsLineTally (setting_now doc).profile (setting_now doc).declared (lines_in (slice_range (document doc).blocks from to)) v
 
 -- a bound on the steps of a range with this tally: four times what the tally's numbers and needles cost for each level of the tree, and for two more
-abbrev pub range_limit : DocView → Counted → ℕ
+abbrev pub range_limit : DocView → TallyCounts → ℕ
 range_limit doc v = 4 * (highest (length (document doc).blocks) + 2) * cost v

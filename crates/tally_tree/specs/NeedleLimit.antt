@@ -11,7 +11,7 @@ use Rattle.knit_base.specs.declared.needle.Bed.{Bed}
 use Rattle.knit_base.specs.declared.needle.Bed.TheVariants.{Front, FrontSlider, Back, BackSlider}
 use Rattle.knit_base.specs.declared.needle.Needle.{Needle}
 use Rattle.tally_tree.specs.Leaves.{IsOnSomeBed, needle_limit}
-use Rattle.tally_tree.specs.Needles.{AreRising}
+use Rattle.tally_tree.specs.Needles.{AreNeedlesRising}
 use Rattle.tally_tree.specs.Merging.{Contains-head, Contains-tail}
 
 -- where a bed begins in a row of all needles
@@ -70,7 +70,7 @@ unfolding place_in_row
 place_within n a = part_within n.bed n.at a.above a.below
 
 -- so many needles have a place from that of the first
-few_from : (n : Needle) (ns : List Needle) → AreRising (n ∷ ns) → ((k : Needle) → Contains (n ∷ ns) k → IsOnSomeBed k) → (place_in_row n +ℤ pos (length (n ∷ ns))) ≤ℤ pos 32772
+few_from : (n : Needle) (ns : List Needle) → AreNeedlesRising (n ∷ ns) → ((k : Needle) → Contains (n ∷ ns) k → IsOnSomeBed k) → (place_in_row n +ℤ pos (length (n ∷ ns))) ≤ℤ pos 32772
 few_from n [] r on = let within = place_within n (on n (Contains-head n [])) in omega (arith, ints, within.1)
 few_from n (m ∷ ms) r on =
     let here = on n (Contains-head n (m ∷ ms)) in
@@ -80,7 +80,7 @@ few_from n (m ∷ ms) r on =
     omega (arith, ints, rest, later)
 
 -- rising needles on the beds of some machine are no more than there are
-pub few_rising : (ns : List Needle) → AreRising ns → ((k : Needle) → Contains ns k → IsOnSomeBed k) → length ns ≤ needle_limit
+pub few_rising : (ns : List Needle) → AreNeedlesRising ns → ((k : Needle) → Contains ns k → IsOnSomeBed k) → length ns ≤ needle_limit
 few_rising [] r on = omega arith
 few_rising (n ∷ ns) r on =
     let most = few_from n ns r on in

@@ -20,6 +20,6 @@ pub record SparesView : Type 0 where
   pub room : ℕ
 
 -- there is an empty tally for each of these rooms
-pub record AreMet (spares : SparesView) (rooms : List ℕ) : Type 0 where
+pub record AreTalliesReserved (spares : SparesView) (rooms : List ℕ) : Type 0 where
   pub enough : length rooms ≤ spares.many
   pub large : All (λ room. room ≤ spares.room) rooms

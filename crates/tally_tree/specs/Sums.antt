@@ -12,8 +12,8 @@ use Rattle.knit_base.specs.declared.instr.Read.{Read}
 use Rattle.knit_base.specs.declared.needle.Needle.{Needle}
 use Rattle.pass_grouping.specs.declared.operation.Class.TheVariants as class
 use Rattle.edit_book.specs.Replies.{line_limit}
-use Rattle.tally_tree.specs.Needles.{merged}
-use Rattle.tally_tree.specs.Tallies.{AddUp, Counted, Fit, IsTallyOf, added, forms_with, is_of, joined, operated_on}
+use Rattle.tally_tree.specs.Needles.{merged_needles}
+use Rattle.tally_tree.specs.Tallies.{AddUp, TallyCounts, CountsFit, IsTallyOf, numbers_added, forms_with, is_of, joined_counts, operated_on}
 use Rattle.tally_tree.specs.Merging.{rising_merged, in_merged, first_in_merged, second_in_merged}
 
 -- a count of two lists is that of both
@@ -21,7 +21,7 @@ count-append : {X : Type 0} (p : X → Bool) (xs ys : List X) → count_by p xs 
 count-append p xs ys = sym (sum_by-append _ xs ys)
 
 -- numbers of one list of places, added
-added_maps : (f g h : ℕ → ℕ) → ((c : ℕ) → f c + g c ≡ h c) → (cs : List ℕ) → added (map f cs) (map g cs) ≡ map h cs
+added_maps : (f g h : ℕ → ℕ) → ((c : ℕ) → f c + g c ≡ h c) → (cs : List ℕ) → numbers_added (map f cs) (map g cs) ≡ map h cs
 added_maps f g h both [] = refl
 added_maps f g h both (c ∷ cs) = ap₂ (λ x xs. x ∷ xs) (both c) (added_maps f g h both cs)
 
@@ -39,25 +39,25 @@ abbrev ops_in : List Read → List ℕ
 ops_in rs = count_by (is_of class.Form) rs ∷ count_by (is_of class.Split) rs ∷ count_by (is_of class.Move) rs ∷ count_by (is_of class.Drop) rs ∷ []
 
 -- those of two lists, added
-added_ops : (rs ss : List Read) → added (ops_in rs) (ops_in ss) ≡ ops_in (rs ++ ss)
+added_ops : (rs ss : List Read) → numbers_added (ops_in rs) (ops_in ss) ≡ ops_in (rs ++ ss)
 added_ops rs ss i = count-append (is_of class.Form) rs ss i ∷ count-append (is_of class.Split) rs ss i ∷ count-append (is_of class.Move) rs ss i ∷ count-append (is_of class.Drop) rs ss i ∷ []
 
 -- merged needles are those of both lists
-same_needles : (ns ms ks ls : List Needle) → HaveSame ns ks → HaveSame ms ls → HaveSame (merged ns ms) (ks ++ ls)
+same_needles : (ns ms ks ls : List Needle) → HaveSame ns ks → HaveSame ms ls → HaveSame (merged_needles ns ms) (ks ++ ls)
 same_needles ns ms ks ls a b n = (
   λ h. elim (in_merged ns ms n h) [ inl k ↦ Contains-append_left ks ls n ((a n).0 k) | inr k ↦ Contains-append_right ks ls n ((b n).0 k) ],
   λ h. elim (Contains-append_cases ks ls n h) [ inl k ↦ first_in_merged ns ms n ((a n).1 k) | inr k ↦ second_in_merged ns ms n ((b n).1 k) ],
 )
 
-module _ (rs ss : List Read) (v w : Counted) where
+module _ (rs ss : List Read) (v w : TallyCounts) where
   -- the sum of two tallies is that of both lists of readings
-  pub is_tally_joined : (carriers : ℕ) → IsTallyOf carriers rs v → IsTallyOf carriers ss w → IsTallyOf carriers (rs ++ ss) (joined v w)
+  pub is_tally_joined : (carriers : ℕ) → IsTallyOf carriers rs v → IsTallyOf carriers ss w → IsTallyOf carriers (rs ++ ss) (joined_counts v w)
   is_tally_joined carriers a b = record {
     lines = omega (arith, a.lines, b.lines, length-append rs ss);
-    with_each = ap₂ added a.with_each b.with_each ∙ added_maps _ _ _ (λ c. count-append (forms_with c) rs ss) (range_with_len 0 carriers);
-    ops = ap₂ added a.ops b.ops ∙ added_ops rs ss;
+    with_each = ap₂ numbers_added a.with_each b.with_each ∙ added_maps _ _ _ (λ c. count-append (forms_with c) rs ss) (range_with_len 0 carriers);
+    ops = ap₂ numbers_added a.ops b.ops ∙ added_ops rs ss;
     rising = rising_merged v.needles w.needles a.rising b.rising;
-    needles = subst (HaveSame (merged v.needles w.needles)) (sym (flat_map-append operated_on rs ss)) (same_needles v.needles w.needles (flat_map operated_on rs) (flat_map operated_on ss) a.needles b.needles);
+    needles = subst (HaveSame (merged_needles v.needles w.needles)) (sym (flat_map-append operated_on rs ss)) (same_needles v.needles w.needles (flat_map operated_on rs) (flat_map operated_on ss) a.needles b.needles);
   }
 
   -- counts of few readings add up
@@ -65,7 +65,7 @@ module _ (rs ss : List Read) (v w : Counted) where
   few_counted few p = omega (arith, count_by-le-length p rs, count_by-le-length p ss)
 
   -- two tallies of few readings add up
-  pub tallies_fit : (carriers : ℕ) → IsTallyOf carriers rs v → IsTallyOf carriers ss w → length rs + length ss ≤ line_limit → Fit v w
+  pub tallies_fit : (carriers : ℕ) → IsTallyOf carriers rs v → IsTallyOf carriers ss w → length rs + length ss ≤ line_limit → CountsFit v w
   tallies_fit carriers a b few =
       let each = few_counted few in
       record {

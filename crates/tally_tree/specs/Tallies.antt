@@ -14,17 +14,17 @@ use Rattle.pass_grouping.specs.declared.operation.Class.{Class}
 use Rattle.pass_grouping.specs.declared.operation.Class.TheVariants as class
 use Rattle.pass_grouping.specs.Operations.{operation_of}
 use Rattle.tally_tree.specs.declared.tally.Tally.{Tally}
-use Rattle.tally_tree.specs.Needles.{AreRising, merged}
+use Rattle.tally_tree.specs.Needles.{AreNeedlesRising, merged_needles}
 
 -- what contracts see of a tally: how many lines, the numbers of carriers and of operations, and the needles
-pub record Counted : Type 0 where
+pub record TallyCounts : Type 0 where
   pub lines : ℕ
   pub with_each : List ℕ
   pub ops : List ℕ
   pub needles : List Needle
 
-abbrev pub counted : Tally → Counted
-counted tally = record { lines = tally.lines; with_each = tally.with.items; ops = tally.ops; needles = tally.needles.items }
+abbrev pub counts_of_tally : Tally → TallyCounts
+counts_of_tally tally = record { lines = tally.lines; with_each = tally.with.items; ops = tally.ops; needles = tally.needles.items }
 
 -- the carriers of the loops that a line forms: those of a knit, a tuck or a split
 abbrev pub formed_with : Read → List CarrierNo
@@ -63,22 +63,22 @@ operated_on r = []
 
 -- what these readings come to, for so many carriers: how many there are; for each carrier, how many form loops with it; how many
 -- operations of each class there are; and the needles of these operations, rising, so that each stands once
-pub record IsTallyOf (carriers : ℕ) (readings : List Read) (v : Counted) : Type 0 where
+pub record IsTallyOf (carriers : ℕ) (readings : List Read) (v : TallyCounts) : Type 0 where
   pub lines : v.lines ≡ length readings
   pub with_each : v.with_each ≡ map (λ c. count_by (forms_with c) readings) (range_with_len 0 carriers)
   pub ops : v.ops ≡ count_by (is_of class.Form) readings ∷ count_by (is_of class.Split) readings ∷ count_by (is_of class.Move) readings ∷ count_by (is_of class.Drop) readings ∷ []
-  pub rising : AreRising v.needles
+  pub rising : AreNeedlesRising v.needles
   pub needles : (n : Needle) → Contains v.needles n ↔ Contains (flat_map operated_on readings) n
 
 -- what these lines come to, read by a profile and names
-abbrev pub IsTally : Profile → List (List ℕ) → List (List ℕ) → Counted → Type 0
-IsTally profile names lines v = (readings : List Read) × AreReadings profile names lines readings × IsTallyOf (length names) readings v
+abbrev pub IsLineTally : Profile → List (List ℕ) → List (List ℕ) → TallyCounts → Type 0
+IsLineTally profile names lines v = (readings : List Read) × AreReadings profile names lines readings × IsTallyOf (length names) readings v
 
 -- numbers, added one by one
-abbrev pub added : List ℕ → List ℕ → List ℕ
-added [] ys = []
-added (x ∷ xs) [] = []
-added (x ∷ xs) (y ∷ ys) = (x + y) ∷ added xs ys
+abbrev pub numbers_added : List ℕ → List ℕ → List ℕ
+numbers_added [] ys = []
+numbers_added (x ∷ xs) [] = []
+numbers_added (x ∷ xs) (y ∷ ys) = (x + y) ∷ numbers_added xs ys
 
 -- they add up within 32 bits
 abbrev pub AddUp : List ℕ → List ℕ → Type 0
@@ -87,16 +87,16 @@ AddUp (x ∷ xs) [] = Unit {0}
 AddUp (x ∷ xs) (y ∷ ys) = (x + y < 2 ^ 32) × AddUp xs ys
 
 -- the tally of the lines of one and then of the other
-abbrev pub joined : Counted → Counted → Counted
-joined a b = record { lines = a.lines + b.lines; with_each = added a.with_each b.with_each; ops = added a.ops b.ops; needles = merged a.needles b.needles }
+abbrev pub joined_counts : TallyCounts → TallyCounts → TallyCounts
+joined_counts a b = record { lines = a.lines + b.lines; with_each = numbers_added a.with_each b.with_each; ops = numbers_added a.ops b.ops; needles = merged_needles a.needles b.needles }
 
 -- both are for as many carriers, and their numbers add up
-pub record Fit (a b : Counted) : Type 0 where
+pub record CountsFit (a b : TallyCounts) : Type 0 where
   pub carriers : length a.with_each ≡ length b.with_each
   pub lines : a.lines + b.lines < 2 ^ 32
   pub with_fit : AddUp a.with_each b.with_each
   pub ops_fit : AddUp a.ops b.ops
 
 -- a step for each number and needle
-abbrev pub cost : Counted → ℕ
+abbrev pub cost : TallyCounts → ℕ
 cost a = length a.with_each + length a.needles + 5

@@ -1,7 +1,7 @@
 //! The blocks of a document, with the tallies of all and of runs of them.
 ghost use Rattle.std.specs.Prelude.{◌≡◌, ℕ, List, ◌+◌, ◌<◌, ◌≤◌, ◌^◌, ◌++◌, ◌∷◌, [], All, IfOk, OnErr, OnOk, flat_map, length};
 ghost use Rattle.knit_base.specs.Limits.{IsLawfulProfile};
-ghost use Rattle.edit_book.specs.Outlines.{HasShortText, MayCome, texts_of};
+ghost use Rattle.edit_book.specs.Outlines.{HasShortText, MayCome, block_texts_of};
 ghost use Rattle.edit_book.specs.Replies.{block_limit, line_limit};
 ghost use Rattle.tally_tree.specs.Docs.{document, setting_now};
 
@@ -46,10 +46,10 @@ impl TallyDoc {
         requires profile { IsLawfulProfile setting.profile }
         requires first { setting.first + line_limit < 2 ^ 32 }
         requires few { length blocks ≤ block_limit }
-        requires lines { length (flat_map (λ (text : List (List ℕ)). text) (texts_of blocks)) ≤ line_limit }
-        requires short { All (λ (text : List (List ℕ)). length text ≤ 4096) (texts_of blocks) }
+        requires lines { length (flat_map (λ (text : List (List ℕ)). text) (block_texts_of blocks)) ≤ line_limit }
+        requires short { All (λ (text : List (List ℕ)). length text ≤ 4096) (block_texts_of blocks) }
         ensures setting { IfOk result (λ doc. doc.opening.setting ≡ setting) }
-        ensures texts { IfOk result (λ doc. doc.opening.texts ≡ texts_of blocks) }
+        ensures texts { IfOk result (λ doc. doc.opening.texts ≡ block_texts_of blocks) }
         ensures entries { IfOk result (λ doc. doc.entries ≡ []) }
     {
         let texts = block_texts(alloc, &blocks)?;

@@ -7,10 +7,10 @@ ghost use Rattle.knit_base.specs.declared.yarns.CarrierNo.{CarrierNo};
 ghost use Rattle.knit_base.specs.Instr.{needles_of};
 ghost use Rattle.knit_base.specs.Limits.{IsLawfulProfile};
 ghost use Rattle.pass_grouping.specs.declared.operation.Class.{Class};
-ghost use Rattle.tally_tree.specs.Counting.{AreCounted, Counts, CountsLine, HasRoom, IsMoreWhere, one_if};
+ghost use Rattle.tally_tree.specs.Counting.{AreLinesCounted, Counts, CountsLine, HasCountRoom, IsMoreWhere, one_if};
 ghost use Rattle.tally_tree.specs.Leaves.{IsOnBeds};
-ghost use Rattle.tally_tree.specs.Needles.{AreRising};
-ghost use Rattle.tally_tree.specs.Tallies.{IsTally, class_of, class_place, counted, forms_with};
+ghost use Rattle.tally_tree.specs.Needles.{AreNeedlesRising};
+ghost use Rattle.tally_tree.specs.Tallies.{IsLineTally, class_of, class_place, counts_of_tally, forms_with};
 
 use crate::tally::Tally;
 use knit_base::{
@@ -30,8 +30,8 @@ pub(crate) fn tally_of<L: Ledger>(
 ) -> Result<Tally, NoMemory>
     requires profile { IsLawfulProfile setting.now.profile }
     requires few { length text.now ≤ 4096 }
-    ensures tally { IfOk result (λ tally. IsTally setting.now.profile setting.now.declared text.now (counted tally)) }
-    ensures on_beds { IfOk result (λ tally. IsOnBeds (counted tally)) }
+    ensures tally { IfOk result (λ tally. IsLineTally setting.now.profile setting.now.declared text.now (counts_of_tally tally)) }
+    ensures on_beds { IfOk result (λ tally. IsOnBeds (counts_of_tally tally)) }
     ensures steps { steps.new ≤ steps.old + length text.now }
 {
     let mut tally = count_lines(alloc, text, setting, steps)?;
@@ -48,7 +48,7 @@ fn count_lines<L: Ledger>(
 ) -> Result<Tally, NoMemory>
     requires profile { IsLawfulProfile setting.now.profile }
     requires few { length text.now ≤ 4096 }
-    ensures lines { IfOk result (λ tally. AreCounted setting.now.profile setting.now.declared text.now (counted tally)) }
+    ensures lines { IfOk result (λ tally. AreLinesCounted setting.now.profile setting.now.declared text.now (counts_of_tally tally)) }
     ensures steps { steps.new ≤ steps.old + length text.now }
 {
     let mut tally = Tally::of_no_line(alloc, usize::from(setting.declared.len()))?;
@@ -68,8 +68,8 @@ fn count_line(
 ) -> Result<(), NoMemory>
     requires short { length line.now < 2 ^ 16 }
     requires few { tally.old.lines < 2 ^ 32 - 1 }
-    requires room { HasRoom (counted tally.old) }
-    ensures { OnOk result (CountsLine setting.now.profile setting.now.declared line.now (counted tally.old) (counted tally.new)) }
+    requires room { HasCountRoom (counts_of_tally tally.old) }
+    ensures { OnOk result (CountsLine setting.now.profile setting.now.declared line.now (counts_of_tally tally.old) (counts_of_tally tally.new)) }
 {
     let read = read_line(alloc, line, &setting.profile, &setting.declared)?;
     tally.lines += 1;
@@ -78,9 +78,9 @@ fn count_line(
 
 // Counts what a line is to the carriage and its carriers.
 fn count(tally: &mut Tally, read: &Read) -> Result<(), NoMemory>
-    requires { HasRoom (counted tally.old) }
+    requires { HasCountRoom (counts_of_tally tally.old) }
     ensures lines { OnOk result (tally.new.lines ≡ tally.old.lines) }
-    ensures counts { OnOk result (Counts read.now (counted tally.old) (counted tally.new)) }
+    ensures counts { OnOk result (Counts read.now (counts_of_tally tally.old) (counts_of_tally tally.new)) }
 {
     match read {
         Read::Instr(instr) => count_instr(tally, instr),
@@ -89,9 +89,9 @@ fn count(tally: &mut Tally, read: &Read) -> Result<(), NoMemory>
 }
 
 fn count_instr(tally: &mut Tally, instr: &Instr) -> Result<(), NoMemory>
-    requires { HasRoom (counted tally.old) }
+    requires { HasCountRoom (counts_of_tally tally.old) }
     ensures lines { OnOk result (tally.new.lines ≡ tally.old.lines) }
-    ensures counts { OnOk result (Counts (read.Instr instr.now) (counted tally.old) (counted tally.new)) }
+    ensures counts { OnOk result (Counts (read.Instr instr.now) (counts_of_tally tally.old) (counts_of_tally tally.new)) }
 {
     count_loops(&mut tally.with, instr);
     let Some(class) = class_of(instr) else {
@@ -190,7 +190,7 @@ fn append_needles(needles: &mut Vec<Needle>, instr: &Instr) -> Result<(), NoMemo
 
 // The needles in their order, each once.
 fn sort_needles(needles: &mut Vec<Needle>)
-    ensures rising { AreRising needles.new.items }
+    ensures rising { AreNeedlesRising needles.new.items }
     ensures same { (n : Needle) → Contains needles.new.items n ↔ Contains needles.old.items n }
 {
     needles.sort_unstable();

@@ -1,14 +1,14 @@
 //! Two rising lists of needles, merged.
 ghost use Rattle.std.specs.Prelude.{◌≡◌, ◌+◌, ◌++◌, ◌≤◌, length, vec_capacity};
-ghost use Rattle.tally_tree.specs.Needles.{merged};
+ghost use Rattle.tally_tree.specs.Needles.{merged_needles};
 
 use knit_base::{Needle, needle_order};
 use std::cmp::Ordering;
 
 /// Appends the needles of two rising lists, rising, each once. Takes no memory.
 pub(crate) fn merge_needles(a: &[Needle], b: &[Needle], out: &mut Vec<Needle>)
-    requires { length out.old.items + length (merged a.now b.now) ≤ vec_capacity out.old }
-    ensures { out.new.items ≡ out.old.items ++ merged a.now b.now }
+    requires { length out.old.items + length (merged_needles a.now b.now) ≤ vec_capacity out.old }
+    ensures { out.new.items ≡ out.old.items ++ merged_needles a.now b.now }
 {
     let mut a = a;
     let mut b = b;

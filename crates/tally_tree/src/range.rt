@@ -5,8 +5,8 @@ ghost use Rattle.edit_book.specs.Replies.{line_limit};
 ghost use Rattle.tree_shape.specs.Values.{part};
 ghost use Rattle.value_tree.specs.Parts.{StandFor};
 ghost use Rattle.tally_tree.specs.Docs.{HasBlocks, IsRange, range_limit};
-ghost use Rattle.tally_tree.specs.Leaves.{AreTallies, StandsFor, all_of, tally_at};
-ghost use Rattle.tally_tree.specs.Tallies.{Counted, IsTallyOf, cost, counted};
+ghost use Rattle.tally_tree.specs.Leaves.{AreTallies, TallyStandsFor, all_of, tally_at};
+ghost use Rattle.tally_tree.specs.Tallies.{TallyCounts, IsTallyOf, cost, counts_of_tally};
 
 use crate::store::TallyStore;
 use crate::{Tally, TallyDoc};
@@ -25,8 +25,8 @@ impl TallyDoc {
         steps: &mut Steps<L>,
     ) -> Result<Tally, NoMemory>
         requires { HasBlocks self.now from to }
-        ensures tally { IfOk result (λ tally. IsRange self.now from to (counted tally)) }
-        ensures steps { (v : Counted) × IsRange self.now from to v × (steps.new ≤ steps.old + range_limit self.now v) }
+        ensures tally { IfOk result (λ tally. IsRange self.now from to (counts_of_tally tally)) }
+        ensures steps { (v : TallyCounts) × IsRange self.now from to v × (steps.new ≤ steps.old + range_limit self.now v) }
     {
         let alloc = self.outline.alloc();
         let carriers = usize::from(self.setting().declared.len());
@@ -44,9 +44,9 @@ fn sum_of<L: Ledger>(
     steps: &mut Steps<L>,
 ) -> Result<Tally, NoMemory>
     requires few { carriers ≤ 64 }
-    requires stand { (leaves : List Counted) × (texts : List (List Read)) × StandFor StandsFor (part (tally_at store.now.leaves.items) (tally_at store.now.nodes.items)) parts.now leaves × AreTallies carriers texts leaves × (length (all_of texts) ≤ line_limit) }
-    ensures tally { IfOk result (λ tally. (leaves : List Counted) (texts : List (List Read)) → StandFor StandsFor (part (tally_at store.now.leaves.items) (tally_at store.now.nodes.items)) parts.now leaves → AreTallies carriers texts leaves → IsTallyOf carriers (all_of texts) (counted tally)) }
-    ensures steps { (leaves : List Counted) (texts : List (List Read)) (v : Counted) → StandFor StandsFor (part (tally_at store.now.leaves.items) (tally_at store.now.nodes.items)) parts.now leaves → AreTallies carriers texts leaves → IsTallyOf carriers (all_of texts) v → steps.new ≤ steps.old + length parts.now * (2 * cost v) }
+    requires stand { (leaves : List TallyCounts) × (texts : List (List Read)) × StandFor TallyStandsFor (part (tally_at store.now.leaves.items) (tally_at store.now.nodes.items)) parts.now leaves × AreTallies carriers texts leaves × (length (all_of texts) ≤ line_limit) }
+    ensures tally { IfOk result (λ tally. (leaves : List TallyCounts) (texts : List (List Read)) → StandFor TallyStandsFor (part (tally_at store.now.leaves.items) (tally_at store.now.nodes.items)) parts.now leaves → AreTallies carriers texts leaves → IsTallyOf carriers (all_of texts) (counts_of_tally tally)) }
+    ensures steps { (leaves : List TallyCounts) (texts : List (List Read)) (v : TallyCounts) → StandFor TallyStandsFor (part (tally_at store.now.leaves.items) (tally_at store.now.nodes.items)) parts.now leaves → AreTallies carriers texts leaves → IsTallyOf carriers (all_of texts) v → steps.new ≤ steps.old + length parts.now * (2 * cost v) }
 {
     let mut sum = Tally::of_no_line(alloc, carriers)?;
     for part in parts {

@@ -1,6 +1,6 @@
 //! Empty tallies, in which those to come are joined.
 ghost use Rattle.std.specs.Prelude.{◌≡◌, ℕ, ◌≤◌, ◌<◌, ◌+◌, ◌↔◌, All, List, true, length, IfOk, OnOk};
-ghost use Rattle.tally_tree.specs.Rooms.{AreMet, IsSpare};
+ghost use Rattle.tally_tree.specs.Rooms.{AreTalliesReserved, IsSpare};
 
 use crate::rooms::Rooms;
 use crate::tally::Tally;
@@ -40,8 +40,8 @@ impl Spares {
 
     /// Makes an empty tally for each room, where there are fewer or smaller ones. Fails where memory runs out, with those that there were.
     pub fn reserve(&mut self, need: &Rooms) -> Result<(), NoMemory>
-        ensures ok { OnOk result (AreMet self.new need.now) }
-        ensures keeps { (needed : List ℕ) → AreMet self.old needed → AreMet self.new needed }
+        ensures ok { OnOk result (AreTalliesReserved self.new need.now) }
+        ensures keeps { (needed : List ℕ) → AreTalliesReserved self.old needed → AreTalliesReserved self.new needed }
     {
         if self.meets(need) {
             return Ok(());
@@ -55,7 +55,7 @@ impl Spares {
 
     /// Whether there is an empty tally for each room.
     pub fn meets(&self, need: &Rooms) -> bool
-        ensures { (result ≡ true) ↔ AreMet self.now need.now }
+        ensures { (result ≡ true) ↔ AreTalliesReserved self.now need.now }
     {
         need.len() <= self.tallies.len() && need.most() <= self.room
     }

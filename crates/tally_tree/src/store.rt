@@ -1,10 +1,10 @@
 //! Tallies at the leaves and inner nodes of a tree.
 ghost use Rattle.std.specs.Prelude.{◌≡◌, ◌≢◌, ℕ, ◌+◌, ◌<◌, ◌≤◌, ◌++◌, ◌∷◌, [], length, option_map, ⊤, Option, Some, None, OnOk};
 ghost use Rattle.tree_shape.specs.Values.{part};
-ghost use Rattle.tally_tree.specs.Leaves.{AreLeaves, MayJoin, StandsFor, places_in, room_of, room_of_both, tally_at};
-ghost use Rattle.tally_tree.specs.Rooms.{AreMet};
+ghost use Rattle.tally_tree.specs.Leaves.{AreLeaves, MayJoin, TallyStandsFor, tallies_place_count, room_of_tally, room_of_both_tallies, tally_at};
+ghost use Rattle.tally_tree.specs.Rooms.{AreTalliesReserved};
 ghost use Rattle.tally_tree.specs.Laws.{stand_laws, room_laws, meets_law, cost_law};
-ghost use Rattle.tally_tree.specs.Tallies.{cost, counted, joined};
+ghost use Rattle.tally_tree.specs.Tallies.{cost, counts_of_tally, joined_counts};
 
 use crate::rooms::Rooms;
 use crate::spares::Spares;
@@ -34,11 +34,11 @@ pub(crate) struct CountedTally {
 }
 
 impl Model for CountedTally {
-    ghost use Rattle.tally_tree.specs.Tallies.{Counted, counted};
+    ghost use Rattle.tally_tree.specs.Tallies.{TallyCounts, counts_of_tally};
 
-    ghost Value = { Counted };
+    ghost Value = { TallyCounts };
 
-    ghost view = { λ c. counted c.tally };
+    ghost view = { λ c. counts_of_tally c.tally };
 }
 
 impl TallyStore {
@@ -55,7 +55,7 @@ impl TallyStore {
 
     /// The tally of a child, if there is one.
     pub fn tally(&self, child: Child) -> Option<&Tally>
-        ensures { option_map (λ tally. counted tally.now) result ≡ part (tally_at self.now.leaves.items) (tally_at self.now.nodes.items) child }
+        ensures { option_map (λ tally. counts_of_tally tally.now) result ≡ part (tally_at self.now.leaves.items) (tally_at self.now.nodes.items) child }
     {
         match child {
             Child::Leaf(number) => found(&self.leaves, number),
@@ -75,7 +75,7 @@ impl TallyStore {
 }
 
 fn found(tallies: &[Option<Tally>], number: u32) -> Option<&Tally>
-    ensures { option_map (λ tally. counted tally.now) result ≡ tally_at tallies.now number }
+    ensures { option_map (λ tally. counts_of_tally tally.now) result ≡ tally_at tallies.now number }
 {
     match tallies.get(number as usize) {
         Some(slot) => slot.as_ref(),
@@ -85,7 +85,7 @@ fn found(tallies: &[Option<Tally>], number: u32) -> Option<&Tally>
 
 fn set(tallies: &mut Vec<Option<Tally>>, at: u32, tally: Tally)
     requires { at < length tallies.old.items }
-    ensures here { tally_at tallies.new.items at ≡ Some (counted tally) }
+    ensures here { tally_at tallies.new.items at ≡ Some (counts_of_tally tally) }
     ensures others { (k : ℕ) → k ≢ at → tally_at tallies.new.items k ≡ tally_at tallies.old.items k }
     ensures len { length tallies.new.items ≡ length tallies.old.items }
 {
@@ -123,25 +123,25 @@ impl Values for TallyStore {
 
     ghost node_at = { λ s. tally_at s.nodes.items };
 
-    ghost slots = { λ s. places_in s.leaves.items s.nodes.items };
+    ghost slots = { λ s. tallies_place_count s.leaves.items s.nodes.items };
 
-    ghost join = { joined };
+    ghost join = { joined_counts };
 
     ghost fits = { MayJoin };
 
     ghost sound = { AreLeaves };
 
-    ghost stands = { StandsFor };
+    ghost stands = { TallyStandsFor };
 
     ghost cost = { cost };
 
-    ghost room = { room_of };
+    ghost room = { room_of_tally };
 
-    ghost after = { room_of_both };
+    ghost after = { room_of_both_tallies };
 
     ghost within = { ◌≤◌ };
 
-    ghost meets = { λ s rooms. AreMet s.spares rooms };
+    ghost meets = { λ s rooms. AreTalliesReserved s.spares rooms };
 
     ghost rooms = { λ need. need };
 
@@ -219,7 +219,7 @@ impl Values for TallyStore {
 }
 
 impl Takes<Tally> for TallyStore {
-    ghost value_of = { counted };
+    ghost value_of = { counts_of_tally };
 
     ghost may_stand = { λ tally. ⊤ };
 

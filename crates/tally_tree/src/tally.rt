@@ -1,8 +1,8 @@
 //! A tally: what some lines come to.
 ghost use Rattle.std.specs.Prelude.{◌≡◌, ℕ, ◌+◌, ◌≤◌, ◌++◌, ◌∷◌, [], length, replicate, vec_capacity, IfOk};
-ghost use Rattle.tally_tree.specs.Needles.{merged};
+ghost use Rattle.tally_tree.specs.Needles.{merged_needles};
 ghost use Rattle.tally_tree.specs.Rooms.{IsSpare};
-ghost use Rattle.tally_tree.specs.Tallies.{AddUp, Fit, added, cost, counted, joined};
+ghost use Rattle.tally_tree.specs.Tallies.{AddUp, CountsFit, numbers_added, cost, counts_of_tally, joined_counts};
 
 use crate::merge::merge_needles;
 use knit_base::{Needle, NoMemory, Steps};
@@ -29,7 +29,7 @@ impl Tally {
     /// The tally of no line, for so many carriers.
     pub(crate) fn of_no_line(alloc: Global, carriers: usize) -> Result<Tally, NoMemory>
         requires { carriers ≤ 64 }
-        ensures { IfOk result (λ tally. counted tally ≡ record { lines = 0; with_each = replicate carriers 0; ops = 0 ∷ 0 ∷ 0 ∷ 0 ∷ []; needles = [] }) }
+        ensures { IfOk result (λ tally. counts_of_tally tally ≡ record { lines = 0; with_each = replicate carriers 0; ops = 0 ∷ 0 ∷ 0 ∷ 0 ∷ []; needles = [] }) }
     {
         let mut tally = Tally::with_room(alloc, 0)?;
         for _c in 0..carriers {
@@ -60,10 +60,10 @@ impl Tally {
         other: &Tally,
         steps: &mut Steps<L>,
     ) -> Result<Tally, NoMemory>
-        requires fit { Fit (counted self.now) (counted other.now) }
+        requires fit { CountsFit (counts_of_tally self.now) (counts_of_tally other.now) }
         requires few { length self.now.with.items ≤ 64 }
-        ensures sum { IfOk result (λ sum. counted sum ≡ joined (counted self.now) (counted other.now)) }
-        ensures steps { steps.new ≤ steps.old + (cost (counted self.now) + cost (counted other.now)) }
+        ensures sum { IfOk result (λ sum. counts_of_tally sum ≡ joined_counts (counts_of_tally self.now) (counts_of_tally other.now)) }
+        ensures steps { steps.new ≤ steps.old + (cost (counts_of_tally self.now) + cost (counts_of_tally other.now)) }
     {
         let needles = self.needles.len() + other.needles.len();
         let mut sum = Tally::with_room(alloc, needles)?;
@@ -73,11 +73,11 @@ impl Tally {
 
     /// Becomes the sum of two tallies. It is empty before, with room for their numbers and needles. Takes no memory.
     pub(crate) fn join<L: Ledger>(&mut self, a: &Tally, b: &Tally, steps: &mut Steps<L>)
-        requires fit { Fit (counted a.now) (counted b.now) }
+        requires fit { CountsFit (counts_of_tally a.now) (counts_of_tally b.now) }
         requires few { length a.now.with.items ≤ 64 }
-        requires spare { (room : ℕ) × IsSpare room self.old × (length (merged a.now.needles.items b.now.needles.items) ≤ room) }
-        ensures sum { counted self.new ≡ joined (counted a.now) (counted b.now) }
-        ensures steps { steps.new ≡ steps.old + (cost (counted a.now) + cost (counted b.now)) }
+        requires spare { (room : ℕ) × IsSpare room self.old × (length (merged_needles a.now.needles.items b.now.needles.items) ≤ room) }
+        ensures sum { counts_of_tally self.new ≡ joined_counts (counts_of_tally a.now) (counts_of_tally b.now) }
+        ensures steps { steps.new ≡ steps.old + (cost (counts_of_tally a.now) + cost (counts_of_tally b.now)) }
     {
         charge(a, steps);
         charge(b, steps);
@@ -91,7 +91,7 @@ impl Tally {
 // The numbers of operations, added.
 fn added_ops(a: &[u32; 4], b: &[u32; 4]) -> [u32; 4]
     requires { AddUp a.now b.now }
-    ensures { result ≡ added a.now b.now }
+    ensures { result ≡ numbers_added a.now b.now }
 {
     let [a0, a1, a2, a3] = *a;
     let [b0, b1, b2, b3] = *b;
@@ -103,7 +103,7 @@ fn add_each(a: &[u32], b: &[u32], out: &mut Vec<u32>)
     requires same { length a.now ≡ length b.now }
     requires few { AddUp a.now b.now }
     requires room { length out.old.items + length a.now ≤ vec_capacity out.old }
-    ensures { out.new.items ≡ out.old.items ++ added a.now b.now }
+    ensures { out.new.items ≡ out.old.items ++ numbers_added a.now b.now }
 {
     let mut a = a;
     let mut b = b;
@@ -116,7 +116,7 @@ fn add_each(a: &[u32], b: &[u32], out: &mut Vec<u32>)
 
 /// A step for each number and needle.
 pub(crate) fn charge<L: Ledger>(tally: &Tally, steps: &mut Steps<L>)
-    ensures { steps.new ≡ steps.old + cost (counted tally.now) }
+    ensures { steps.new ≡ steps.old + cost (counts_of_tally tally.now) }
 {
     for _i in 0..tally.with.len() {
         steps.tick();

@@ -2,9 +2,9 @@
 ghost use Rattle.std.specs.Prelude.{◌≡◌, ◌≤◌, ℕ, List, All, IfOk, length};
 ghost use Rattle.std.specs.List.{AllZip};
 ghost use Rattle.edit_journal.specs.Documents.{Block};
-ghost use Rattle.edit_book.specs.Outlines.{outlined};
+ghost use Rattle.edit_book.specs.Outlines.{outline_document};
 ghost use Rattle.knit_base.specs.Limits.{IsLawfulProfile};
-ghost use Rattle.tally_tree.specs.Tallies.{Counted};
+ghost use Rattle.tally_tree.specs.Tallies.{TallyCounts};
 ghost use Rattle.tally_tree.specs.Trees.{HasLeaf, IsTallyIn, IsTallyTree, leaf_tallies};
 
 use crate::lines::tally_of;
@@ -24,7 +24,7 @@ pub(crate) fn tree_of<L: Ledger>(
 ) -> Result<ValueTree<TallyStore>, NoMemory>
     requires { IsLawfulProfile setting.now.profile }
     ensures kept { IfOk result (λ tree. IsTallyTree tree.shape tree.store.leaves.items tree.store.nodes.items) }
-    ensures tallies { IfOk result (λ tree. AllZip (λ (v : Counted) (b : Block). IsTallyIn setting.now v b.lines) (leaf_tallies tree.shape tree.store.leaves.items) (outlined outline.now).blocks) }
+    ensures tallies { IfOk result (λ tree. AllZip (λ (v : TallyCounts) (b : Block). IsTallyIn setting.now v b.lines) (leaf_tallies tree.shape tree.store.leaves.items) (outline_document outline.now).blocks) }
 {
     let _carriers = setting.declared.len();
     let texts = outline.texts()?;

@@ -8,11 +8,11 @@ use Rattle.face_data.proofs.Members.{Contains-none}
 use Rattle.face_data.specs.Goodness.{IsGood}
 use Rattle.face_data.specs.Summaries.{Summary}
 use Rattle.loop_history.specs.declared.row.LoopRow.{LoopRow}
-use Rattle.tree_shape.specs.Fewest.{inserted}
+use Rattle.tree_shape.specs.Fewest.{list_inserted}
 use Rattle.summary_tree.proofs.Layouts.{length_inserted}
-use Rattle.summary_tree.proofs.SoundLeaves.{good_both, good_dropped, good_taken, sound_of, together}
+use Rattle.summary_tree.proofs.SoundLeaves.{good_both, good_dropped, good_taken, sound_of, sound_leaves_stand_together}
 use Rattle.summary_tree.specs.Laws.{lines_append}
-use Rattle.summary_tree.specs.Leaves.{Leaf, AreGoodFor, AreSound, lines_of}
+use Rattle.summary_tree.specs.Leaves.{Leaf, AreGoodFor, AreSound, leaf_line_count}
 use Rattle.tree_examples.specs.Plain.{plain}
 
 pub plain_good : (carriers limit : ℕ) (known : List Needle) (lines : ℕ) (rack : ℤ) → IsGood carriers limit known (plain lines rack)
@@ -49,21 +49,21 @@ good_set carriers limit known at leaf [] good g = tt
 good_set carriers limit known zero leaf (x ∷ xs) good g = (good, g.1)
 good_set carriers limit known (suc at) leaf (x ∷ xs) good g = (g.0, good_set carriers limit known at leaf xs good g.1)
 
-pub lines_set : (at : ℕ) (leaf : Leaf) (xs : List Leaf) → lines_of (slice_set xs at leaf) ≤ lines_of xs + leaf.0.lines
+pub lines_set : (at : ℕ) (leaf : Leaf) (xs : List Leaf) → leaf_line_count (slice_set xs at leaf) ≤ leaf_line_count xs + leaf.0.lines
 lines_set at leaf [] = omega arith
 lines_set zero leaf (x ∷ xs) = omega arith
 lines_set (suc at) leaf (x ∷ xs) = omega (arith, lines_set at leaf xs)
 
-pub lines_inserted : (at : ℕ) (leaf : Leaf) (xs : List Leaf) → lines_of (inserted at leaf xs) ≡ lines_of xs + leaf.0.lines
+pub lines_inserted : (at : ℕ) (leaf : Leaf) (xs : List Leaf) → leaf_line_count (list_inserted at leaf xs) ≡ leaf_line_count xs + leaf.0.lines
 lines_inserted at leaf xs =
-    omega (arith, lines_append (take at xs) (leaf ∷ drop at xs), lines_append (take at xs) (drop at xs), ap lines_of (take-append-drop at xs))
+    omega (arith, lines_append (take at xs) (leaf ∷ drop at xs), lines_append (take at xs) (drop at xs), ap leaf_line_count (take-append-drop at xs))
 
 -- one more, or another one, among leaves that may stand in one tree
-pub sound_with : (at lines : ℕ) (rack : ℤ) (xs : List Leaf) → AreSound xs → length xs < 65536 → lines_of xs + lines ≤ 1048576 → AreSound (inserted at (plain lines rack, []) xs)
+pub sound_with : (at lines : ℕ) (rack : ℤ) (xs : List Leaf) → AreSound xs → length xs < 65536 → leaf_line_count xs + lines ≤ 1048576 → AreSound (list_inserted at (plain lines rack, []) xs)
 sound_with at lines rack xs s few room =
-    let t = together xs s in
+    let t = sound_leaves_stand_together xs s in
     let leaf : Leaf = (plain lines rack, []) in
-    sound_of (inserted at leaf xs) (record {
+    sound_of (list_inserted at leaf xs) (record {
       carriers = t.carriers;
       limit = t.limit;
       known = t.known;
@@ -74,9 +74,9 @@ sound_with at lines rack xs s few room =
       few_lines = omega (arith, room, lines_inserted at leaf xs);
     }) (omega (arith, few, length_inserted at leaf xs))
 
-pub sound_instead : (at lines : ℕ) (rack : ℤ) (xs : List Leaf) → AreSound xs → lines_of xs + lines ≤ 1048576 → AreSound (slice_set xs at (plain lines rack, []))
+pub sound_instead : (at lines : ℕ) (rack : ℤ) (xs : List Leaf) → AreSound xs → leaf_line_count xs + lines ≤ 1048576 → AreSound (slice_set xs at (plain lines rack, []))
 sound_instead at lines rack xs s room =
-    let t = together xs s in
+    let t = sound_leaves_stand_together xs s in
     let leaf : Leaf = (plain lines rack, []) in
     sound_of (slice_set xs at leaf) (record {
       carriers = t.carriers;
@@ -90,10 +90,10 @@ sound_instead at lines rack xs s room =
     }) (omega (arith, s.few_leaves, length-set xs at leaf))
 
 -- the same of a face and a table that are these
-pub sound_with_face : (at lines : ℕ) (rack : ℤ) (face : Summary) (table : List LoopRow) (xs : List Leaf) → face ≡ plain lines rack → table ≡ [] → AreSound xs → length xs < 65536 → lines_of xs + lines ≤ 1048576 → AreSound (inserted at (face, table) xs)
+pub sound_with_face : (at lines : ℕ) (rack : ℤ) (face : Summary) (table : List LoopRow) (xs : List Leaf) → face ≡ plain lines rack → table ≡ [] → AreSound xs → length xs < 65536 → leaf_line_count xs + lines ≤ 1048576 → AreSound (list_inserted at (face, table) xs)
 sound_with_face at lines rack face table xs is none s few room =
-    subst (λ (f : Summary). AreSound (inserted at (f, table) xs)) (sym is) (subst (λ (t : List LoopRow). AreSound (inserted at (plain lines rack, t) xs)) (sym none) (sound_with at lines rack xs s few room))
+    subst (λ (f : Summary). AreSound (list_inserted at (f, table) xs)) (sym is) (subst (λ (t : List LoopRow). AreSound (list_inserted at (plain lines rack, t) xs)) (sym none) (sound_with at lines rack xs s few room))
 
-pub sound_instead_face : (at lines : ℕ) (rack : ℤ) (face : Summary) (table : List LoopRow) (xs : List Leaf) → face ≡ plain lines rack → table ≡ [] → AreSound xs → lines_of xs + lines ≤ 1048576 → AreSound (slice_set xs at (face, table))
+pub sound_instead_face : (at lines : ℕ) (rack : ℤ) (face : Summary) (table : List LoopRow) (xs : List Leaf) → face ≡ plain lines rack → table ≡ [] → AreSound xs → leaf_line_count xs + lines ≤ 1048576 → AreSound (slice_set xs at (face, table))
 sound_instead_face at lines rack face table xs is none s room =
     subst (λ (f : Summary). AreSound (slice_set xs at (f, table))) (sym is) (subst (λ (t : List LoopRow). AreSound (slice_set xs at (plain lines rack, t))) (sym none) (sound_instead at lines rack xs s room))

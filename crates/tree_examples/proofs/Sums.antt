@@ -2,7 +2,7 @@
 use Rattle.std.proofs.Common.{◌≡◌, ℕ, zero, suc, ◌+◌, ◌≤◌, List, [], ◌∷◌, ◌++◌, take, drop, Option, refl, ap, ◌∙◌, arith}
 use Rattle.std.specs.Prelude.{slice_set}
 use Rattle.std.proofs.lemmas.List.{drop_all}
-use Rattle.tree_shape.specs.Fewest.{inserted, removed}
+use Rattle.tree_shape.specs.Fewest.{list_inserted, list_removed}
 use Rattle.tree_shape.specs.Values.{leaf_values}
 use Rattle.tree_shape.specs.View.{ShapeView}
 use Rattle.value_tree.proofs.Changes.{values_same}
@@ -14,11 +14,11 @@ sum-parts (suc at) [] = refl
 sum-parts (suc at) (x ∷ xs) = omega (arith, sum-parts at xs)
 
 -- a count comes in
-pub sum-inserted : (at count : ℕ) (xs : List ℕ) → sum_of (inserted at count xs) ≡ sum_of xs + count
+pub sum-inserted : (at count : ℕ) (xs : List ℕ) → sum_of (list_inserted at count xs) ≡ sum_of xs + count
 sum-inserted at count xs = omega (arith, sum-append (take at xs) (count ∷ drop at xs), sum-parts at xs)
 
 -- one count is gone
-pub sum-removed : (at : ℕ) (xs : List ℕ) → sum_of (removed at xs) ≤ sum_of xs
+pub sum-removed : (at : ℕ) (xs : List ℕ) → sum_of (list_removed at xs) ≤ sum_of xs
 sum-removed zero [] = omega arith
 sum-removed zero (x ∷ xs) = omega arith
 sum-removed (suc at) [] = omega (arith, ap sum_of (drop_all (suc at + 1) [] (omega arith)))

@@ -4,7 +4,7 @@ use Rattle.std.specs.Prelude.{min, slice_index_or}
 use Rattle.tree_shape.specs.Composing.{StandLaws, RoomLaws, Costs}
 use Rattle.tree_shape.specs.Values.{leaf_values}
 use Rattle.tree_shape.specs.View.{ShapeView}
-use Rattle.value_tree.specs.Kept.{IsKept}
+use Rattle.value_tree.specs.Kept.{KeepsLeafValues}
 
 -- the sum with a number, if there is one
 abbrev pub sum_at : List (Option ℕ) → ℕ → Option ℕ
@@ -41,7 +41,7 @@ one_step value = 1
 
 -- a tree of sums, by the values of its store and its shape
 abbrev pub IsKeptSums : List (Option ℕ) → List (Option ℕ) → ShapeView → Type 0
-IsKeptSums leaves nodes shape = IsKept ◌+◌ AreFew (sum_at leaves) (sum_at nodes) (places leaves nodes) shape
+IsKeptSums leaves nodes shape = KeepsLeafValues ◌+◌ AreFew (sum_at leaves) (sum_at nodes) (places leaves nodes) shape
 
 -- the sum of all counts in it
 abbrev pub sum_in : List (Option ℕ) → ShapeView → ℕ

@@ -1,7 +1,7 @@
 //! Small faces that only set the rack: a walk of changes against the leaves one after the other.
 ghost use Rattle.std.specs.Prelude.{◌≡◌, ◌+◌, ◌<◌, ◌≤◌, OnOk, IfOk};
 ghost use Rattle.face_data.specs.View.{IsPacked, summary_of};
-ghost use Rattle.summary_tree.specs.Leaves.{lines_of};
+ghost use Rattle.summary_tree.specs.Leaves.{leaf_line_count};
 ghost use Rattle.tree_examples.specs.Plain.{plain};
 
 use face_data::{Effect, Ending, FaceView};
@@ -45,8 +45,8 @@ fn add<L: Ledger>(
     rack: i32,
     steps: &mut Steps<L>,
 ) -> Result<(), NoMemory>
-    requires { lines_of tree.old.leaves + lines ≤ 1048576 }
-    ensures { lines_of tree.new.leaves ≤ lines_of tree.old.leaves + lines }
+    requires { leaf_line_count tree.old.leaves + lines ≤ 1048576 }
+    ensures { leaf_line_count tree.new.leaves ≤ leaf_line_count tree.old.leaves + lines }
 {
     let len = tree.len();
     if at > len || len >= 65536 {
@@ -68,8 +68,8 @@ fn put<L: Ledger>(
     rack: i32,
     steps: &mut Steps<L>,
 ) -> Result<(), NoMemory>
-    requires { lines_of tree.old.leaves + lines ≤ 1048576 }
-    ensures { lines_of tree.new.leaves ≤ lines_of tree.old.leaves + lines }
+    requires { leaf_line_count tree.old.leaves + lines ≤ 1048576 }
+    ensures { leaf_line_count tree.new.leaves ≤ leaf_line_count tree.old.leaves + lines }
 {
     if at >= tree.len() {
         return Ok(());
@@ -83,7 +83,7 @@ fn put<L: Ledger>(
 
 // No leaf at a position, if its need is met.
 fn cut<L: Ledger>(tree: &mut Tree, at: u32, steps: &mut Steps<L>) -> Result<(), NoMemory>
-    ensures { lines_of tree.new.leaves ≤ lines_of tree.old.leaves }
+    ensures { leaf_line_count tree.new.leaves ≤ leaf_line_count tree.old.leaves }
 {
     if at >= tree.len() {
         return Ok(());
@@ -127,8 +127,8 @@ fn step<L: Ledger>(
     draw: u32,
     steps: &mut Steps<L>,
 ) -> Result<(), NoMemory>
-    requires { lines_of tree.old.leaves + 5 ≤ 1048576 }
-    ensures { lines_of tree.new.leaves ≤ lines_of tree.old.leaves + 5 }
+    requires { leaf_line_count tree.old.leaves + 5 ≤ 1048576 }
+    ensures { leaf_line_count tree.new.leaves ≤ leaf_line_count tree.old.leaves + 5 }
 {
     let at = draw % 16;
     let lines = draw % 5;

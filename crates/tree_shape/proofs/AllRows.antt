@@ -10,14 +10,14 @@ use Rattle.tree_shape.specs.declared.node.Side.TheVariants.{Left}
 use Rattle.tree_shape.specs.Apply.{KeptBy}
 use Rattle.tree_shape.specs.Building.{all_made, all_rows, inners_up, inners_upward, numbers_from}
 use Rattle.tree_shape.specs.Changes.{HasBelow, HasChildren, numbers_below}
-use Rattle.tree_shape.specs.Plan.{dirty_row, erase, rows}
+use Rattle.tree_shape.specs.Plan.{dirty_row, tree_of_plan, rows}
 use Rattle.tree_shape.specs.Tree.{Tree, leaf, inner, name}
 use Rattle.tree_shape.proofs.Halves.{below_from, length_from}
 use Rattle.tree_shape.proofs.Listings.{children_listed}
 use Rattle.tree_shape.proofs.RowWalks.{all_get}
 use Rattle.tree_shape.proofs.Rows.{some_row}
 
-pub erase_all : (t : Tree) → erase (all_made t) ≡ t
+pub erase_all : (t : Tree) → tree_of_plan (all_made t) ≡ t
 erase_all (leaf n) = refl
 erase_all (inner n l r) = λ i. inner n (erase_all l i) (erase_all r i)
 
@@ -29,7 +29,7 @@ nodes_all (leaf n) = refl
 nodes_all (inner n l r) =
     let near = rows (all_made l) in
     let far = rows (all_made r) in
-    let own = dirty_row Left n (name (erase (all_made l))) (name (erase (all_made r))) in
+    let own = dirty_row Left n (name (tree_of_plan (all_made l))) (name (tree_of_plan (all_made r))) in
     map-append node_of (near ++ far) (own ∷ [])
     ∙ (ap (λ ns. ns ++ n ∷ []) (map-append node_of near far ∙ (λ i. nodes_all l i ++ nodes_all r i))
     ∙ append_assoc (inners_up l) (inners_up r) (n ∷ []))

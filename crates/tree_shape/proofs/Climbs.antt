@@ -6,12 +6,12 @@ use Rattle.tree_shape.specs.declared.climbing.Climb.{Climb}
 use Rattle.tree_shape.specs.declared.node.Child.{Child}
 use Rattle.tree_shape.specs.declared.node.Child.TheVariants.{Leaf, Inner}
 use Rattle.tree_shape.specs.declared.node.Node.{Node}
-use Rattle.tree_shape.specs.Tree.{Tree, leaf, inner, name, height, count, leaves, Stands}
+use Rattle.tree_shape.specs.Tree.{Tree, leaf, inner, name, height, count, leaves, NodesStand}
 use Rattle.tree_shape.specs.Apply.{times}
-use Rattle.tree_shape.specs.Changes.{IsPart}
+use Rattle.tree_shape.specs.Changes.{IsSubtree}
 use Rattle.tree_shape.specs.Numbers.{NumbersView, times_in}
-use Rattle.tree_shape.specs.Parents.{ParentsView, parent_in, IsPlaced, AreLinked, IsWhole, IsClimbAt, IsClimb}
-use Rattle.tree_shape.specs.View.{IsSound, IsShape}
+use Rattle.tree_shape.specs.Parents.{ParentsView, parent_in, IsPlaced, PartsHaveParents, IsWholeTree, IsClimbAt, IsClimb}
+use Rattle.tree_shape.specs.View.{IsSoundTree, IsShape}
 use Rattle.tree_shape.proofs.ArenaTrees.{length_leaves}
 use Rattle.tree_shape.proofs.ParentLinks.{IsEither, same, parts_named, named_there, times_there, part_named, parts_once}
 use Rattle.tree_shape.proofs.ArenaChanges.{one_same}
@@ -23,11 +23,11 @@ pub record IsBelow (part whole : Tree) : Type 0 where
   pub n : ℕ
   pub left : Tree
   pub right : Tree
-  pub is_part : IsPart (inner n left right) whole
+  pub is_part : IsSubtree (inner n left right) whole
   pub which : (part ≡ left) ⊎ (part ≡ right)
 
 -- a part is the whole tree, or right below an inner node
-pub strict_part : (part whole : Tree) → IsPart part whole → (part ≡ whole) ⊎ IsBelow part whole
+pub strict_part : (part whole : Tree) → IsSubtree part whole → (part ≡ whole) ⊎ IsBelow part whole
 strict_part part (leaf n) p = inl p
 strict_part part (inner n a b) (inl p) = inl p
 strict_part part (inner n a b) (inr (inl p)) = elim (strict_part part a p) [
@@ -42,14 +42,14 @@ strict_part part (inner n a b) (inr (inr p)) = elim (strict_part part b p) [
 named_of : (part l r : Tree) → (part ≡ l) ⊎ (part ≡ r) → IsEither (name part) (name l) (name r)
 named_of part l r e = elim e [ inl x ↦ inl (ap name x) | inr x ↦ inr (ap name x) ]
 
-part_low : (part whole : Tree) → IsPart part whole → (height part ≤ height whole) × (count part ≤ count whole)
+part_low : (part whole : Tree) → IsSubtree part whole → (height part ≤ height whole) × (count part ≤ count whole)
 part_low part (leaf n) p = (omega (arith, ap height p), omega (arith, ap count p))
 part_low part (inner n a b) (inl p) = (omega (arith, ap height p), omega (arith, ap count p))
 part_low part (inner n a b) (inr (inl p)) = let w = part_low part a p in (omega (arith, w.0), omega (arith, w.1))
 part_low part (inner n a b) (inr (inr p)) = let w = part_low part b p in (omega (arith, w.0), omega (arith, w.1))
 
 -- a part that has the root's name is the whole tree
-pub root_part : (part whole : Tree) → times_there (name whole) whole ≤ 1 → IsPart part whole → name part ≡ name whole → part ≡ whole
+pub root_part : (part whole : Tree) → times_there (name whole) whole ≤ 1 → IsSubtree part whole → name part ≡ name whole → part ≡ whole
 root_part part whole once p e = elim (strict_part part whole p) [
   | inl is ↦ is
   | inr w ↦
@@ -81,13 +81,13 @@ pub record IsUnder (nodes : List Node) (v : ParentsView) (whole : Tree) (number 
   pub below : IsBelow t whole
   pub placed : IsPlaced (length v.leaves) (length v.inners) climb.child
   pub above : parent_in v climb.child ≡ Some below.n
-  pub stands : Stands nodes (inner below.n below.left below.right)
+  pub stands : NodesStand nodes (inner below.n below.left below.right)
   pub few : count (inner below.n below.left below.right) ≤ 65536
   pub two : name below.left ≡ name below.right → ⊥
   pub low : done ≤ height t
 
-pub under : (nodes : List Node) (v : ParentsView) (root : Child) (whole : Tree) (number done : ℕ) (climb : Climb) → IsWhole nodes v root whole → IsClimb whole number done climb → climb.child ≢ root → IsUnder nodes v whole number done climb
-under nodes v root whole number done climb w c apart =
+pub climb_below_root : (nodes : List Node) (v : ParentsView) (root : Child) (whole : Tree) (number done : ℕ) (climb : Climb) → IsWholeTree nodes v root whole → IsClimb whole number done climb → climb.child ≢ root → IsUnder nodes v whole number done climb
+climb_below_root nodes v root whole number done climb w c apart =
     let t = c.0 in
     let at = c.1 in
     elim (strict_part t whole at.part) [
@@ -116,7 +116,7 @@ under nodes v root whole number done climb w c apart =
         itself (Leaf n) = one_same n
         itself (Inner n) = one_same n
 
-    twice : (n : ℕ) (l r t : Tree) → IsPart (inner n l r) t → name l ≡ name r → parts_named (name l) t ≤ 1 → ⊥
+    twice : (n : ℕ) (l r t : Tree) → IsSubtree (inner n l r) t → name l ≡ name r → parts_named (name l) t ≤ 1 → ⊥
     twice n l r (leaf m) p e once = cc
     twice n l r (inner m a b) (inl p) e once =
         let left : a ≡ l = cc in
@@ -173,13 +173,13 @@ up_few nodes v whole number done climb u same =
     omega (arith, u.few, ap count right, length_leaves u.t, slice_get_within (leaves u.t) climb.at number u.at.found)
 
 -- at the root a climb stays
-pub stays : (nodes : List Node) (v : ParentsView) (root : Child) (whole : Tree) (number done : ℕ) (climb : Climb) → IsWhole nodes v root whole → IsClimb whole number done climb → climb.child ≡ root → IsClimb whole number (done + 1) climb
-stays nodes v root whole number done climb w c is =
+pub climb_stays_at_root : (nodes : List Node) (v : ParentsView) (root : Child) (whole : Tree) (number done : ℕ) (climb : Climb) → IsWholeTree nodes v root whole → IsClimb whole number done climb → climb.child ≡ root → IsClimb whole number (done + 1) climb
+climb_stays_at_root nodes v root whole number done climb w c is =
     let at = c.1 in
     let all : c.0 ≡ whole = root_part c.0 whole (there_once (name whole) whole w.leaves_once w.sound.once) at.part (sym at.named ∙ (is ∙ w.sound.named)) in
     (c.0, record { named = at.named; part = at.part; found = at.found; high = inr all })
 
-leaf_part : (t : Tree) (at number : ℕ) → slice_get (leaves t) at ≡ Some number → IsPart (leaf number) t
+leaf_part : (t : Tree) (at number : ℕ) → slice_get (leaves t) at ≡ Some number → IsSubtree (leaf number) t
 leaf_part (leaf n) zero number e = cc
 leaf_part (leaf n) (suc at) number e = cc
 leaf_part (inner n l r) at number e = elim (either_side (leaves l) (leaves r) at number e) [ inl w ↦ inr (inl (leaf_part l w.0 number w.1)) | inr w ↦ inr (inr (leaf_part r w.0 number w.1)) ]
@@ -194,7 +194,7 @@ pub begun : (whole : Tree) (at number : ℕ) → slice_get (leaves whole) at ≡
 begun whole at number e = (leaf number, record { named = refl; part = leaf_part whole at number e; found = refl; high = inl (omega arith) })
 
 -- after as many steps as the tree is high it has come to the root
-pub arrived : (nodes : List Node) (v : ParentsView) (root : Child) (whole : Tree) (number : ℕ) (climb : Climb) → IsWhole nodes v root whole → IsClimb whole number (height whole) climb → slice_get (leaves whole) climb.at ≡ Some number
+pub arrived : (nodes : List Node) (v : ParentsView) (root : Child) (whole : Tree) (number : ℕ) (climb : Climb) → IsWholeTree nodes v root whole → IsClimb whole number (height whole) climb → slice_get (leaves whole) climb.at ≡ Some number
 arrived nodes v root whole number climb w c =
     let at = c.1 in
     let all : c.0 ≡ whole = elim at.high [
@@ -210,5 +210,5 @@ arrived nodes v root whole number climb w c =
     higher t n l r e = elim e [ inl x ↦ omega (arith, ap height x) | inr x ↦ omega (arith, ap height x) ]
 
 -- the tree of a shape is one to climb
-pub whole_of : (nodes : List Node) (v : ParentsView) (root : Child) (t : Tree) (l i : NumbersView) → IsSound nodes root t → IsShape nodes (Some root) l i → AreLinked v (Some t) → IsWhole nodes v root t
+pub whole_of : (nodes : List Node) (v : ParentsView) (root : Child) (t : Tree) (l i : NumbersView) → IsSoundTree nodes root t → IsShape nodes (Some root) l i → PartsHaveParents v (Some t) → IsWholeTree nodes v root t
 whole_of nodes v root t l i sound shape linked = record { sound = sound; leaves_once = λ k. omega (arith, counted_times l (leaves t) k (counted_leaves nodes root t l i shape sound)); linked = linked }

@@ -10,14 +10,14 @@ use Rattle.std.proofs.lemmas.List.Elements.{All-cons, All-head, All-tail}
 use Rattle.tree_shape.specs.declared.node.Child.{Child}
 use Rattle.tree_shape.specs.declared.node.Child.TheVariants.{Leaf, Inner}
 use Rattle.tree_shape.specs.declared.node.Node.{Node}
-use Rattle.tree_shape.specs.Tree.{Tree, leaf, inner, name, height, leaves, inners, row_of, Stands}
+use Rattle.tree_shape.specs.Tree.{Tree, leaf, inner, name, height, leaves, inner_node_numbers, node_of_parts, NodesStand}
 use Rattle.tree_shape.specs.Apply.{mark, times}
 use Rattle.tree_shape.specs.Building.{inners_up, numbers_from, IsLeastHeight, IsBuiltFrom}
-use Rattle.tree_shape.specs.Changes.{IsPart, HasChildren, numbers_below}
-use Rattle.tree_shape.specs.Numbers.{times_in, IsCounted}
-use Rattle.tree_shape.specs.Parents.{ParentsView, rows_in, RowIsPlaced, AreLinked, with_parents}
-use Rattle.tree_shape.specs.View.{tree_at, IsSound, IsShape}
-use Rattle.tree_shape.proofs.ArenaChanges.{one}
+use Rattle.tree_shape.specs.Changes.{IsSubtree, HasChildren, numbers_below}
+use Rattle.tree_shape.specs.Numbers.{times_in, AreNumbersAccounted}
+use Rattle.tree_shape.specs.Parents.{ParentsView, rows_in, RowIsPlaced, PartsHaveParents, with_parents}
+use Rattle.tree_shape.specs.View.{tree_at, IsSoundTree, IsShape}
+use Rattle.tree_shape.proofs.ArenaChanges.{mark_is_one_or_none}
 use Rattle.tree_shape.proofs.ArenaTrees.{length_leaves}
 use Rattle.tree_shape.proofs.NumberCounts.{times_in-append}
 use Rattle.tree_shape.proofs.ParentLinks.{IsEither, Has, part_times, linked_by, rows_placed}
@@ -51,7 +51,7 @@ below_from (suc many) =
 times_from : (k first many : ℕ) → ((k < first) × (times_in k (numbers_from first many) ≡ 0)) ⊎ (((first ≤ k) × (k < first + many) × (times_in k (numbers_from first many) ≡ 1)) ⊎ ((first + many ≤ k) × (times_in k (numbers_from first many) ≡ 0)))
 times_from k first zero = elim (cases_lt k first) [ inl w ↦ inl (w, refl) | inr w ↦ inr (inr (omega arith, refl)) ]
 times_from k first (suc many) = elim (times_from k (suc first) many) [
-  | inl w ↦ elim (one k first) [
+  | inl w ↦ elim (mark_is_one_or_none k first) [
     | inl u ↦ inr (inl (omega (arith, u.0), omega (arith, u.0), omega (arith, u.1, w.1)))
     | inr u ↦ inl (different k first u.0 w.0, omega (arith, u.1, w.1))
   ]
@@ -65,13 +65,13 @@ times_from k first (suc many) = elim (times_from k (suc first) many) [
     different k first apart h = elim (cases_lt k first) [ inl w ↦ w | inr w ↦ absurd (apart (omega arith)) ]
 
     not_first : (k first : ℕ) → suc first ≤ k → mark k first ≡ 0
-    not_first k first h = elim (one k first) [ inl u ↦ absurd (omega (arith, u.0)) | inr u ↦ u.1 ]
+    not_first k first h = elim (mark_is_one_or_none k first) [ inl u ↦ absurd (omega (arith, u.0)) | inr u ↦ u.1 ]
 
     later : (k first many : ℕ) → suc first + many ≤ k → mark k first ≡ 0
-    later k first many h = elim (one k first) [ inl u ↦ absurd (omega (arith, u.0)) | inr u ↦ u.1 ]
+    later k first many h = elim (mark_is_one_or_none k first) [ inl u ↦ absurd (omega (arith, u.0)) | inr u ↦ u.1 ]
 
 -- all of the numbers below a count are in use, and none is free
-pub counted_all : (many : ℕ) (used : List ℕ) → many ≤ 65536 → length used ≡ many → ((k : ℕ) → times_in k used ≡ times_in k (numbers_from 0 many)) → IsCounted (record { free = []; drawn = many }) used
+pub counted_all : (many : ℕ) (used : List ℕ) → many ≤ 65536 → length used ≡ many → ((k : ℕ) → times_in k used ≡ times_in k (numbers_from 0 many)) → AreNumbersAccounted (record { free = []; drawn = many }) used
 counted_all many used few long same = record {
   drawn_once = λ k h. elim (times_from k 0 many) [
     | inl w ↦ absurd (omega (arith, w.0))
@@ -130,9 +130,9 @@ whole_height few many low high some le near a b =
 
 -- The tree.
 
-pub stands_before : (nodes more : List Node) (t : Tree) → Stands nodes t → Stands (nodes ++ more) t
+pub stands_before : (nodes more : List Node) (t : Tree) → NodesStand nodes t → NodesStand (nodes ++ more) t
 stands_before nodes more (leaf n) s = tt
-stands_before nodes more (inner n l r) s = (before nodes more n (row_of l r) s.0, stands_before nodes more l s.1, stands_before nodes more r s.2)
+stands_before nodes more (inner n l r) s = (before nodes more n (node_of_parts l r) s.0, stands_before nodes more l s.1, stands_before nodes more r s.2)
   where
     before : (xs ys : List Node) (k : ℕ) (x : Node) → slice_get xs k ≡ Some x → slice_get (xs ++ ys) k ≡ Some x
     before xs ys k x e = go xs k e
@@ -164,14 +164,14 @@ one_leaf nodes first = record {
 
 -- two halves, and the node above both behind them
 pub built_both : (old middle new : List Node) (first few many : ℕ) (left right : Child) (l r : Tree) (node : Node) → 1 ≤ few → few ≤ many → many ≤ few + 1
-    → IsBuiltFrom old middle first few left l → IsBuiltFrom middle new (first + few) many right r → length new + 1 ≡ length middle + many → length middle + 1 ≡ length old + few → node ≡ row_of l r
+    → IsBuiltFrom old middle first few left l → IsBuiltFrom middle new (first + few) many right r → length new + 1 ≡ length middle + many → length middle + 1 ≡ length old + few → node ≡ node_of_parts l r
     → IsBuiltFrom old (new ++ node ∷ []) first (few + many) (Inner (length new)) (inner (length new) l r)
 built_both old middle new first few many left right l r node some le near a b longer long is = record {
   named = refl;
   behind = (a.behind.0 ++ (b.behind.0 ++ node ∷ []), ap (λ v. v ++ node ∷ []) b.behind.1 ∙ (ap (λ v. (v ++ b.behind.0) ++ node ∷ []) a.behind.1 ∙ (append_assoc (old ++ a.behind.0) b.behind.0 (node ∷ []) ∙ append_assoc old a.behind.0 (b.behind.0 ++ node ∷ []))));
   stands = (
     last_there new node ∙ ap (λ x. Some x) is,
-    stands_before new (node ∷ []) l (subst (λ v. Stands v l) (sym b.behind.1) (stands_before middle b.behind.0 l a.stands)),
+    stands_before new (node ∷ []) l (subst (λ v. NodesStand v l) (sym b.behind.1) (stands_before middle b.behind.0 l a.stands)),
     stands_before new (node ∷ []) r b.stands,
   );
   leaves_are = ap (λ v. v ++ leaves r) a.leaves_are ∙ (ap (λ v. numbers_from first few ++ v) b.leaves_are ∙ from_append first few many);
@@ -206,9 +206,9 @@ built_both old middle new first few many left right l r node some le near a b lo
 -- The rows of an arena that is one tree.
 
 -- each number that is there is an inner node's
-there_inner : (t : Tree) (k : ℕ) → 1 ≤ times k t → (l : Tree) × (r : Tree) × IsPart (inner k l r) t
+there_inner : (t : Tree) (k : ℕ) → 1 ≤ times k t → (l : Tree) × (r : Tree) × IsSubtree (inner k l r) t
 there_inner (leaf n) k h = absurd (omega arith)
-there_inner (inner n a b) k h = elim (one k n) [
+there_inner (inner n a b) k h = elim (mark_is_one_or_none k n) [
   | inl w ↦ (a, b, inl (ap (λ m. inner m a b) w.0))
   | inr w ↦ elim (either_part (times k a) (times k b) (omega (arith, w.1))) [
     | inl u ↦ let p = there_inner a k u in (p.0, p.1, inr (inl p.2))
@@ -225,25 +225,25 @@ abbrev Follow : List Node → ℕ → List Node → Type 0
 Follow nodes number [] = Unit {0}
 Follow nodes number (node ∷ rest) = (slice_get nodes number ≡ Some node) × Follow nodes (suc number) rest
 
-rows_children : (nodes : List Node) (t : Tree) (number : ℕ) (rest : List Node) → Stands nodes t → ((k : ℕ) → number ≤ k → k < number + length rest → 1 ≤ times k t) → Follow nodes number rest → All (HasChildren (Some t)) (rows_in number rest)
+rows_children : (nodes : List Node) (t : Tree) (number : ℕ) (rest : List Node) → NodesStand nodes t → ((k : ℕ) → number ≤ k → k < number + length rest → 1 ≤ times k t) → Follow nodes number rest → All (HasChildren (Some t)) (rows_in number rest)
 rows_children nodes t number [] s there f = λ k d h. absurd (omega arith)
 rows_children nodes t number (node ∷ rest) s there f =
     let p = there_inner t number (there number (omega arith) (omega arith)) in
     let stands = part_stands_in nodes (inner number p.0 p.1) t s p.2 in
-    let same : Some node ≡ Some (row_of p.0 p.1) = sym f.0 ∙ stands.0 in
-    let is : node ≡ row_of p.0 p.1 = cc in
+    let same : Some node ≡ Some (node_of_parts p.0 p.1) = sym f.0 ∙ stands.0 in
+    let is : node ≡ node_of_parts p.0 p.1 = cc in
     All-cons (HasChildren (Some t)) (record { node = number; left = node.left; right = node.right }) (rows_in (suc number) rest)
     (p.0, p.1, p.2, ap (λ (n : Node). n.left) is, ap (λ (n : Node). n.right) is)
     (rows_children nodes t (suc number) rest s (λ k a b. there k (omega (arith, a)) (omega (arith, b))) f.1)
 
-rows_has : (nodes : List Node) (t : Tree) (number : ℕ) (rest : List Node) (n : ℕ) (l r : Tree) (c : Child) → Stands nodes t → Follow nodes number rest → IsPart (inner n l r) t → IsEither c (name l) (name r)
+rows_has : (nodes : List Node) (t : Tree) (number : ℕ) (rest : List Node) (n : ℕ) (l r : Tree) (c : Child) → NodesStand nodes t → Follow nodes number rest → IsSubtree (inner n l r) t → IsEither c (name l) (name r)
     → number ≤ n → n < number + length rest → Has c n (rows_in number rest)
 rows_has nodes t number [] n l r c s f p e low high = absurd (omega (arith, low, high))
-rows_has nodes t number (node ∷ rest) n l r c s f p e low high = elim (one n number) [
+rows_has nodes t number (node ∷ rest) n l r c s f p e low high = elim (mark_is_one_or_none n number) [
   | inl w ↦
       let stands = part_stands_in nodes (inner n l r) t s p in
-      let same : Some node ≡ Some (row_of l r) = sym f.0 ∙ (ap (slice_get nodes) (sym w.0) ∙ stands.0) in
-      let is : node ≡ row_of l r = cc in
+      let same : Some node ≡ Some (node_of_parts l r) = sym f.0 ∙ (ap (slice_get nodes) (sym w.0) ∙ stands.0) in
+      let is : node ≡ node_of_parts l r = cc in
       inl (sym w.0, elim e [ inl x ↦ inl (x ∙ sym (ap (λ (m : Node). m.left) is)) | inr x ↦ inr (x ∙ sym (ap (λ (m : Node). m.right) is)) ])
   | inr w ↦ inr (rows_has nodes t (suc number) rest n l r c s f.1 p e (after n number w.0 low) (omega (arith, high)))
 ]
@@ -268,9 +268,9 @@ follow_all nodes before (node ∷ rest) e =
 -- an arena whose numbers are all in one tree: each row has its children, and each part of an inner node stands in that node's row
 pub record IsAllOf (nodes : List Node) (t : Tree) : Type 0 where
   pub children : All (HasChildren (Some t)) (rows_in 0 nodes)
-  pub has : (n : ℕ) (l r : Tree) → IsPart (inner n l r) t → (c : Child) → IsEither c (name l) (name r) → Has c n (rows_in 0 nodes)
+  pub has : (n : ℕ) (l r : Tree) → IsSubtree (inner n l r) t → (c : Child) → IsEither c (name l) (name r) → Has c n (rows_in 0 nodes)
 
-pub all_of : (nodes : List Node) (t : Tree) → Stands nodes t → ((k : ℕ) → k < length nodes → 1 ≤ times k t) → ((k : ℕ) → 1 ≤ times k t → k < length nodes) → IsAllOf nodes t
+pub all_of : (nodes : List Node) (t : Tree) → NodesStand nodes t → ((k : ℕ) → k < length nodes → 1 ≤ times k t) → ((k : ℕ) → 1 ≤ times k t → k < length nodes) → IsAllOf nodes t
 all_of nodes t s there within =
     let follow : Follow nodes 0 nodes = follow_all nodes [] nodes refl in
     record {
@@ -290,7 +290,7 @@ placed_at leaf_places inner_places start (node ∷ rest) (suc k) d h all =
 
 -- A whole shape that was built.
 pub record IsBuiltShape (nodes : List Node) (many : ℕ) (child : Child) (t : Tree) : Type 0 where
-  pub sound : IsSound nodes child t
+  pub sound : IsSoundTree nodes child t
   pub shape : IsShape nodes (Some child) (record { free = []; drawn = many }) (record { free = []; drawn = many - 1 })
   pub leaves_are : leaves (tree_at nodes child) ≡ numbers_below many
   pub inners_are : inners_up (tree_at nodes child) ≡ numbers_below (many - 1)
@@ -313,13 +313,13 @@ built_shape old nodes many child t empty some few long b =
     let inner_numbers : inners_up t ≡ numbers_from 0 (many - 1) = b.inners_are ∙ ap (λ (v : List Node). numbers_from (length v) (many - 1)) empty in
     let times_are : (k : ℕ) → times k t ≡ times_in k (numbers_from 0 (many - 1)) = λ k. sym (times_up k t) ∙ ap (times_in k) inner_numbers in
     let leaf_times : (k : ℕ) → times_in k (leaves t) ≡ times_in k (numbers_from 0 many) = λ k. ap (times_in k) b.leaves_are in
-    let sound : IsSound nodes child t = record { named = b.named; stands = b.stands; balanced = b.balanced; once = λ k. omega (arith, times_are k, (in_from k (many - 1)).0); few = omega (arith, b.counted) } in
+    let sound : IsSoundTree nodes child t = record { named = b.named; stands = b.stands; balanced = b.balanced; once = λ k. omega (arith, times_are k, (in_from k (many - 1)).0); few = omega (arith, b.counted) } in
     let inner_used : (k : ℕ) → 1 ≤ times k t → k < many - 1 = λ k h. (in_from k (many - 1)).1 (omega (arith, times_are k)) in
     record {
       sound = sound;
       shape = shape_of nodes child t (record { free = []; drawn = many }) (record { free = []; drawn = many - 1 }) sound
           (counted_all many (leaves t) few (omega (arith, length_leaves t, b.counted)) leaf_times)
-          (counted_all (many - 1) (inners t) (omega arith) (omega (arith, length_inners t, b.counted)) (λ k. times_inners k t ∙ times_are k));
+          (counted_all (many - 1) (inner_node_numbers t) (omega arith) (omega (arith, length_inners t, b.counted)) (λ k. times_inners k t ∙ times_are k));
       leaves_are = ap leaves (sound_read nodes child t sound) ∙ (b.leaves_are ∙ below_from many);
       inners_are = ap inners_up (sound_read nodes child t sound) ∙ (inner_numbers ∙ below_from (many - 1));
       rows = all_of nodes t b.stands (λ k h. let below : k < many - 1 = omega arith in omega (arith, times_are k, (in_from k (many - 1)).2 below)) (λ k h. omega (arith, inner_used k h));
@@ -330,10 +330,10 @@ built_shape old nodes many child t empty some few long b =
 
 -- what is noted of it
 pub built_linked : (v : ParentsView) (nodes : List Node) (many : ℕ) (child : Child) (t : Tree) → IsBuiltShape nodes many child t → many ≤ length v.leaves → many - 1 ≤ length v.inners
-    → AreLinked (with_parents v (rows_in 0 nodes)) (Some (tree_at nodes child)) × All (RowIsPlaced (length v.leaves) (length v.inners)) (rows_in 0 nodes)
+    → PartsHaveParents (with_parents v (rows_in 0 nodes)) (Some (tree_at nodes child)) × All (RowIsPlaced (length v.leaves) (length v.inners)) (rows_in 0 nodes)
 built_linked v nodes many child t b leaf_places inner_places =
     let of_leaf : (k : ℕ) → 1 ≤ times_in k (leaves t) → k < length v.leaves = λ k h. omega (arith, b.leaf_used k h) in
     let of_inner : (k : ℕ) → 1 ≤ times k t → k < length v.inners = λ k h. omega (arith, b.inner_used k h) in (
-      subst (λ u. AreLinked (with_parents v (rows_in 0 nodes)) (Some u)) (sym (sound_read nodes child t b.sound)) (linked_by v t (rows_in 0 nodes) b.leaf_once b.sound.once of_leaf of_inner b.rows.children (λ n l r p c e. inr (b.rows.has n l r p c e))),
+      subst (λ u. PartsHaveParents (with_parents v (rows_in 0 nodes)) (Some u)) (sym (sound_read nodes child t b.sound)) (linked_by v t (rows_in 0 nodes) b.leaf_once b.sound.once of_leaf of_inner b.rows.children (λ n l r p c e. inr (b.rows.has n l r p c e))),
       rows_placed t (rows_in 0 nodes) (length v.leaves) (length v.inners) of_leaf of_inner b.rows.children,
     )

@@ -4,7 +4,7 @@ use Rattle.std.proofs.lemmas.Bool.{leb-false}
 use Rattle.tree_shape.specs.declared.node.Side.{Side}
 use Rattle.tree_shape.specs.declared.node.Side.TheVariants.{Left, Right}
 use Rattle.tree_shape.specs.Tree.{Tree, leaf, inner, name, height, count}
-use Rattle.tree_shape.specs.Plan.{Plan, kept, made, erase, dirty_row, rows, below, same_side, other, turned_plan, leaned, over, grown}
+use Rattle.tree_shape.specs.Plan.{Plan, kept, made, tree_of_plan, dirty_row, rows, rows_below_root, same_side, other, turned_plan, plan_leaned, over, plan_grown}
 use Rattle.tree_shape.proofs.Turns.{height_inner_on}
 
 -- what holds of both choices
@@ -17,10 +17,10 @@ both_ways_by P true x y p q = p refl
 both_ways_by P false x y p q = q refl
 
 abbrev pub plan_height : Plan → ℕ
-plan_height p = height (erase p)
+plan_height p = height (tree_of_plan p)
 
 high_made : (side : Side) (n : ℕ) (a b : Plan) → plan_height (made side n a b) ≡ 1 + max (plan_height a) (plan_height b)
-high_made side n a b = height_inner_on side n (erase a) (erase b)
+high_made side n a b = height_inner_on side n (tree_of_plan a) (tree_of_plan b)
 
 pub turned_high : (side : Side) (m : ℕ) (p : Plan) (far : Tree) → height far + 1 < plan_height p → plan_height (turned_plan side m p far) ≤ max (plan_height p) (height far) + 1
 turned_high side m (kept t) far tall = omega (arith, high_made side m (kept t) (kept far))
@@ -42,18 +42,18 @@ turned_high side m (made s n (made s1 q a (kept b)) (kept f)) far tall =
     (omega (arith, high_made side q (made (other side) n a (kept f)) (made side m (kept b) (kept far))))
     (omega (arith, high_made (other side) q (made side m a (kept far)) (made (other side) n (kept b) (kept f)))))
 
-pub leaned_high : (side : Side) (m : ℕ) (p : Plan) (far : Tree) → plan_height (leaned side m p far) ≤ max (plan_height p) (height far) + 1
+pub leaned_high : (side : Side) (m : ℕ) (p : Plan) (far : Tree) → plan_height (plan_leaned side m p far) ≤ max (plan_height p) (height far) + 1
 leaned_high side m p far =
-    both_ways_by (λ v. plan_height v ≤ max (plan_height p) (height far) + 1) (nat_le (height (erase p)) (height far + 1)) _ _
+    both_ways_by (λ v. plan_height v ≤ max (plan_height p) (height far) + 1) (nat_le (height (tree_of_plan p)) (height far + 1)) _ _
     (λ _. omega (arith, high_made side m p (kept far))) (λ e. turned_high side m p far (leb-false _ _ e))
 
 -- the number of rows but for the root's
 abbrev pub listed : Plan → ℕ
-listed p = length (below p)
+listed p = length (rows_below_root p)
 
 pub rows_most : (p : Plan) → length (rows p) ≤ listed p + 1
 rows_most (kept t) = omega arith
-rows_most (made side n near far) = omega (arith, length-append (rows near ++ rows far) (dirty_row side n (name (erase near)) (name (erase far)) ∷ []))
+rows_most (made side n near far) = omega (arith, length-append (rows near ++ rows far) (dirty_row side n (name (tree_of_plan near)) (name (tree_of_plan far)) ∷ []))
 
 over_listed : (side : Side) (m : ℕ) (p : Plan) (far : Tree) → listed (over side m p far) ≤ listed p + 1
 over_listed side m p far = omega (arith, rows_most p, length-append (rows p) [])
@@ -71,20 +71,20 @@ turned_listed side m (made s n (made s1 q a (kept b)) (kept f)) far =
     (simp (append-nil, length-append) (omega arith))
     (simp (append-nil, length-append) (omega arith)))
 
-pub leaned_listed : (side : Side) (m : ℕ) (p : Plan) (far : Tree) → listed (leaned side m p far) ≤ listed p + 1
+pub leaned_listed : (side : Side) (m : ℕ) (p : Plan) (far : Tree) → listed (plan_leaned side m p far) ≤ listed p + 1
 leaned_listed side m p far =
-    both_ways (λ v. listed v ≤ listed p + 1) (nat_le (height (erase p)) (height far + 1)) _ _ (over_listed side m p far) (turned_listed side m p far)
+    both_ways (λ v. listed v ≤ listed p + 1) (nat_le (height (tree_of_plan p)) (height far + 1)) _ _ (over_listed side m p far) (turned_listed side m p far)
 
-pub grown_high : (at new number : ℕ) (t : Tree) → plan_height (grown at new number t) ≤ height t + 1
+pub grown_high : (at new number : ℕ) (t : Tree) → plan_height (plan_grown at new number t) ≤ height t + 1
 grown_high at new number (leaf n) = omega (arith, high_made (cond (nat_le at 0) Left Right) number (kept (leaf new)) (kept (leaf n)))
 grown_high at new number (inner n l r) =
     both_ways (λ v. plan_height v ≤ height (inner n l r) + 1) (nat_le at (count l)) _ _
-    (omega (arith, leaned_high Left n (grown at new number l) r, grown_high at new number l))
-    (omega (arith, leaned_high Right n (grown (at - count l) new number r) l, grown_high (at - count l) new number r))
+    (omega (arith, leaned_high Left n (plan_grown at new number l) r, grown_high at new number l))
+    (omega (arith, leaned_high Right n (plan_grown (at - count l) new number r) l, grown_high (at - count l) new number r))
 
-pub grown_listed : (at new number : ℕ) (t : Tree) → listed (grown at new number t) ≤ height t
+pub grown_listed : (at new number : ℕ) (t : Tree) → listed (plan_grown at new number t) ≤ height t
 grown_listed at new number (leaf n) = omega arith
 grown_listed at new number (inner n l r) =
     both_ways (λ v. listed v ≤ height (inner n l r)) (nat_le at (count l)) _ _
-    (omega (arith, leaned_listed Left n (grown at new number l) r, grown_listed at new number l))
-    (omega (arith, leaned_listed Right n (grown (at - count l) new number r) l, grown_listed (at - count l) new number r))
+    (omega (arith, leaned_listed Left n (plan_grown at new number l) r, grown_listed at new number l))
+    (omega (arith, leaned_listed Right n (plan_grown (at - count l) new number r) l, grown_listed (at - count l) new number r))

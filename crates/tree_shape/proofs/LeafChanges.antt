@@ -4,8 +4,8 @@ use Rattle.std.specs.Prelude.{slice_index}
 use Rattle.std.proofs.lemmas.Grind.{common_steps}
 use Rattle.std.proofs.lemmas.Bool.{ltb-true, ltb-false}
 use Rattle.tree_shape.specs.Tree.{Tree, leaf, inner, count, leaves}
-use Rattle.tree_shape.specs.Plan.{grown}
-use Rattle.tree_shape.specs.Removal.{touched, shrunk}
+use Rattle.tree_shape.specs.Plan.{plan_grown}
+use Rattle.tree_shape.specs.Removal.{plan_touched, plan_shrunk}
 use Rattle.tree_shape.specs.Apply.{KeptBy}
 use Rattle.tree_shape.specs.Numbers.{times_in}
 use Rattle.tree_shape.proofs.InsertionBounds.{both_ways_by}
@@ -13,7 +13,7 @@ use Rattle.tree_shape.proofs.ArenaTrees.{length_leaves}
 use Rattle.tree_shape.proofs.NumberCounts.{times_in-append}
 use Rattle.tree_shape.proofs.Insertions.{GoesDown, kept_by_grown}
 use Rattle.tree_shape.proofs.Removals.{kept_by_shrunk}
-use Rattle.tree_shape.specs.Values.{Keeps}
+use Rattle.tree_shape.specs.Values.{KeepsNodeValues}
 use Rattle.tree_shape.proofs.NodeValues.{keeps_leaves}
 use Rattle.tree_shape.proofs.PlanSteps.{index_times}
 
@@ -24,14 +24,14 @@ pub index_right : (xs ys : List ℕ) (at : ℕ) → length xs ≤ at → slice_i
 index_right xs ys at h = grind (arith, common_steps)
 
 module _ {V : Type 0} (join : V → V → V) where
-  keeps_goes_down : (leaf_at nodes : ℕ → Option V) → GoesDown (Keeps join leaf_at nodes)
+  keeps_goes_down : (leaf_at nodes : ℕ → Option V) → GoesDown (KeepsNodeValues join leaf_at nodes)
   keeps_goes_down leaf_at nodes = record { leaf_has = λ n. tt; parts_have = λ n l r k. (k.1, k.2) }
 
   -- the parts beside the way to a leaf keep their values where that leaf gets another
-  pub kept_touched : (before then nodes : ℕ → Option V) (number : ℕ) → ((k : ℕ) → k ≢ number → then k ≡ before k) → (at : ℕ) (t : Tree) → at < count t → slice_index (leaves t) at ≡ number → times_in number (leaves t) ≤ 1 → Keeps join before nodes t → KeptBy (Keeps join then nodes) (touched at t)
+  pub kept_touched : (before then nodes : ℕ → Option V) (number : ℕ) → ((k : ℕ) → k ≢ number → then k ≡ before k) → (at : ℕ) (t : Tree) → at < count t → slice_index (leaves t) at ≡ number → times_in number (leaves t) ≤ 1 → KeepsNodeValues join before nodes t → KeptBy (KeepsNodeValues join then nodes) (plan_touched at t)
   kept_touched before then nodes number others at (leaf n) h e once k = tt
   kept_touched before then nodes number others at (inner n l r) h e once k =
-      both_ways_by (KeptBy (Keeps join then nodes)) (nat_lt at (count l)) _ _
+      both_ways_by (KeptBy (KeepsNodeValues join then nodes)) (nat_lt at (count l)) _ _
       (λ q.
       let low : at < count l = ltb-true _ _ q in
       let here : slice_index (leaves l) at ≡ number = sym (index_left (leaves l) (leaves r) at (omega (arith, length_leaves l))) ∙ e in
@@ -50,10 +50,10 @@ module _ {V : Type 0} (join : V → V → V) where
       ))
 
   -- all parts that an insertion keeps have their values, also where the new leaf's value is there
-  pub kept_inserted : (before then nodes : ℕ → Option V) (new : ℕ) → ((k : ℕ) → k ≢ new → then k ≡ before k) → (at number : ℕ) (t : Tree) → times_in new (leaves t) ≡ 0 → Keeps join before nodes t → KeptBy (Keeps join then nodes) (grown at new number t)
+  pub kept_inserted : (before then nodes : ℕ → Option V) (new : ℕ) → ((k : ℕ) → k ≢ new → then k ≡ before k) → (at number : ℕ) (t : Tree) → times_in new (leaves t) ≡ 0 → KeepsNodeValues join before nodes t → KeptBy (KeepsNodeValues join then nodes) (plan_grown at new number t)
   kept_inserted before then nodes new others at number t fresh k =
-      kept_by_grown (Keeps join then nodes) (keeps_goes_down then nodes) at new number t
+      kept_by_grown (KeepsNodeValues join then nodes) (keeps_goes_down then nodes) at new number t
       (keeps_leaves join before then nodes t (λ m w. sym (others m (λ s. omega (arith, ap (λ v. times_in v (leaves t)) s)))) k)
 
-  pub kept_removed : (leaf_at nodes : ℕ → Option V) (at : ℕ) (t : Tree) → Keeps join leaf_at nodes t → KeptBy (Keeps join leaf_at nodes) (shrunk at t)
-  kept_removed leaf_at nodes at t k = kept_by_shrunk (Keeps join leaf_at nodes) (keeps_goes_down leaf_at nodes) at t k
+  pub kept_removed : (leaf_at nodes : ℕ → Option V) (at : ℕ) (t : Tree) → KeepsNodeValues join leaf_at nodes t → KeptBy (KeepsNodeValues join leaf_at nodes) (plan_shrunk at t)
+  kept_removed leaf_at nodes at t k = kept_by_shrunk (KeepsNodeValues join leaf_at nodes) (keeps_goes_down leaf_at nodes) at t k

@@ -9,16 +9,16 @@ use Rattle.tree_shape.specs.declared.dirty.DirtyRow.{DirtyRow}
 use Rattle.tree_shape.specs.declared.node.Child.{Child}
 use Rattle.tree_shape.specs.declared.node.Child.TheVariants.{Leaf, Inner}
 use Rattle.tree_shape.specs.declared.node.Node.{Node}
-use Rattle.tree_shape.specs.Tree.{Tree, leaf, inner, name, leaves, inners}
+use Rattle.tree_shape.specs.Tree.{Tree, leaf, inner, name, leaves, inner_node_numbers}
 use Rattle.tree_shape.specs.Apply.{mark, times}
-use Rattle.tree_shape.specs.Changes.{IsPart, HasChildren, times_listed, IsListing}
-use Rattle.tree_shape.specs.Numbers.{NumbersView, times_in, IsCounted}
-use Rattle.tree_shape.specs.Parents.{ParentsView, parent_in, with_parent, with_parents, IsPlaced, RowIsPlaced, AreLinked}
-use Rattle.tree_shape.proofs.ArenaChanges.{set_here, set_away, one, one_same}
+use Rattle.tree_shape.specs.Changes.{IsSubtree, HasChildren, times_listed, ListsChanges}
+use Rattle.tree_shape.specs.Numbers.{NumbersView, times_in, AreNumbersAccounted}
+use Rattle.tree_shape.specs.Parents.{ParentsView, parent_in, with_parent, with_parents, IsPlaced, RowIsPlaced, PartsHaveParents}
+use Rattle.tree_shape.proofs.ArenaChanges.{set_here, set_away, mark_is_one_or_none, one_same}
 use Rattle.tree_shape.proofs.NumberCounts.{times_in-append, counted_times}
 use Rattle.tree_shape.proofs.Roots.{sound_read}
 use Rattle.tree_shape.proofs.Shapes.{times_inners, counted_leaves, counted_inners}
-use Rattle.tree_shape.specs.View.{tree_at, IsSound, IsShape}
+use Rattle.tree_shape.specs.View.{tree_at, IsSoundTree, IsShape}
 use Rattle.std.specs.Option.{option_map}
 use Rattle.std.proofs.lemmas.Bool.Decides.{leb_tells}
 
@@ -60,7 +60,7 @@ named_there (Leaf k) (leaf n) = omega arith
 named_there (Inner k) (leaf n) = omega arith
 named_there c (inner n l r) = omega (arith, there_split c n l r, named_there c l, named_there c r)
 
-pub part_named : (t l r : Tree) (n : ℕ) (c : Child) → IsPart (inner n l r) t → IsEither c (name l) (name r) → 1 ≤ parts_named c t
+pub part_named : (t l r : Tree) (n : ℕ) (c : Child) → IsSubtree (inner n l r) t → IsEither c (name l) (name r) → 1 ≤ parts_named c t
 part_named (leaf m) l r n c p e = cc
 part_named (inner m a b) l r n c (inl p) e =
     let left : l ≡ a = cc in
@@ -82,7 +82,7 @@ root_named m a b l r n c p e =
     ]
 
 -- a child has one node above it
-pub one_above : (t l r k o : Tree) (n m : ℕ) (c : Child) → parts_named c t ≤ 1 → IsPart (inner n l r) t → IsEither c (name l) (name r) → IsPart (inner m k o) t → IsEither c (name k) (name o) → n ≡ m
+pub one_above : (t l r k o : Tree) (n m : ℕ) (c : Child) → parts_named c t ≤ 1 → IsSubtree (inner n l r) t → IsEither c (name l) (name r) → IsSubtree (inner m k o) t → IsEither c (name k) (name o) → n ≡ m
 one_above (leaf x) l r k o n m c once p e q f = cc
 one_above (inner x a b) l r k o n m c once (inl p) e (inl q) f = cc
 one_above (inner x a b) l r k o n m c once (inl p) e (inr (inl q)) f = absurd (omega (arith, root_named x a b l r n c p e, part_named a k o m c q f))
@@ -95,14 +95,14 @@ one_above (inner x a b) l r k o n m c once (inr (inl p)) e (inr (inr q)) f = abs
 one_above (inner x a b) l r k o n m c once (inr (inr p)) e (inr (inl q)) f = absurd (omega (arith, part_named b l r n c p e, part_named a k o m c q f))
 
 -- an inner node that is a part is there
-pub part_times : (k : ℕ) (l r t : Tree) → IsPart (inner k l r) t → 1 ≤ times k t
+pub part_times : (k : ℕ) (l r t : Tree) → IsSubtree (inner k l r) t → 1 ≤ times k t
 part_times k l r (leaf n) e = cc
 part_times k l r (inner n a b) (inl e) = let is : k ≡ n = cc in omega (arith, one_same n, ap (λ v. mark v n) is)
 part_times k l r (inner n a b) (inr (inl p)) = omega (arith, part_times k l r a p)
 part_times k l r (inner n a b) (inr (inr p)) = omega (arith, part_times k l r b p)
 
 -- an inner node has one pair of parts
-pub one_below : (t l r k o : Tree) (n : ℕ) → times n t ≤ 1 → IsPart (inner n l r) t → IsPart (inner n k o) t → (l ≡ k) × (r ≡ o)
+pub one_below : (t l r k o : Tree) (n : ℕ) → times n t ≤ 1 → IsSubtree (inner n l r) t → IsSubtree (inner n k o) t → (l ≡ k) × (r ≡ o)
 one_below (leaf x) l r k o n once p q = cc
 one_below (inner x a b) l r k o n once (inl p) (inl q) = (cc, cc)
 one_below (inner x a b) l r k o n once (inl p) (inr (inl q)) = let is : n ≡ x = cc in absurd (omega (arith, one_same x, ap (λ v. mark v x) is, part_times n k o a q))
@@ -176,7 +176,7 @@ noted v c n (row ∷ rest) inside only start =
       ]
     ]
 
-only_of : (t l r : Tree) (n : ℕ) (c : Child) (rows : List DirtyRow) → parts_named c t ≤ 1 → IsPart (inner n l r) t → IsEither c (name l) (name r) → All (HasChildren (Some t)) rows → Only c n rows
+only_of : (t l r : Tree) (n : ℕ) (c : Child) (rows : List DirtyRow) → parts_named c t ≤ 1 → IsSubtree (inner n l r) t → IsEither c (name l) (name r) → All (HasChildren (Some t)) rows → Only c n rows
 only_of t l r n c [] once p e all = tt
 only_of t l r n c (row ∷ rest) once p e all =
     let h : HasChildren (Some t) row = All-head (HasChildren (Some t)) row rest all in (
@@ -185,7 +185,7 @@ only_of t l r n c (row ∷ rest) once p e all =
     )
 
 -- where a number is below a count, and where it is there
-pub used_below : (v : NumbersView) (used : List ℕ) (k : ℕ) → IsCounted v used → 1 ≤ times_in k used → k < v.drawn
+pub used_below : (v : NumbersView) (used : List ℕ) (k : ℕ) → AreNumbersAccounted v used → 1 ≤ times_in k used → k < v.drawn
 used_below v used k c h = elim (leb_tells v.drawn k) [ inl w ↦ absurd (omega (arith, c.not_drawn k w.1)) | inr w ↦ w.1 ]
 
 -- every part of a tree is there
@@ -193,14 +193,14 @@ pub root_there : (t : Tree) → 1 ≤ times_there (name t) t
 root_there (leaf n) = omega (arith, one_same n)
 root_there (inner n l r) = omega (arith, one_same n)
 
-pub part_there : (c : Child) (part t : Tree) → IsPart part t → 1 ≤ times_there c part → 1 ≤ times_there c t
+pub part_there : (c : Child) (part t : Tree) → IsSubtree part t → 1 ≤ times_there c part → 1 ≤ times_there c t
 part_there c part (leaf n) p h = omega (arith, ap (times_there c) p)
 part_there c part (inner n l r) (inl p) h = omega (arith, ap (times_there c) p)
 part_there c part (inner n l r) (inr (inl p)) h = omega (arith, there_split c n l r, part_there c part l p h)
 part_there c part (inner n l r) (inr (inr p)) h = omega (arith, there_split c n l r, part_there c part r p h)
 
 -- both parts of an inner node are there
-pub below_there : (n : ℕ) (l r t : Tree) → IsPart (inner n l r) t → (1 ≤ times_there (name l) t) × (1 ≤ times_there (name r) t)
+pub below_there : (n : ℕ) (l r t : Tree) → IsSubtree (inner n l r) t → (1 ≤ times_there (name l) t) × (1 ≤ times_there (name r) t)
 below_there n l r t p = (
   part_there (name l) (inner n l r) t p (omega (arith, there_split (name l) n l r, root_there l)),
   part_there (name r) (inner n l r) t p (omega (arith, there_split (name r) n l r, root_there r)),
@@ -235,8 +235,8 @@ parts_once c t of_leaf of_inner = omega (arith, named_there c t, named_once c t 
 -- where each part is linked before or stands in a row, it is linked after the rows are noted
 pub linked_by : (v : ParentsView) (t : Tree) (rows : List DirtyRow) → ((k : ℕ) → times_in k (leaves t) ≤ 1) → ((k : ℕ) → times k t ≤ 1)
     → ((k : ℕ) → 1 ≤ times_in k (leaves t) → k < length v.leaves) → ((k : ℕ) → 1 ≤ times k t → k < length v.inners) → All (HasChildren (Some t)) rows
-    → ((n : ℕ) (l r : Tree) → IsPart (inner n l r) t → (c : Child) → IsEither c (name l) (name r) → (parent_in v c ≡ Some n) ⊎ Has c n rows)
-    → AreLinked (with_parents v rows) (Some t)
+    → ((n : ℕ) (l r : Tree) → IsSubtree (inner n l r) t → (c : Child) → IsEither c (name l) (name r) → (parent_in v c ≡ Some n) ⊎ Has c n rows)
+    → PartsHaveParents (with_parents v rows) (Some t)
 linked_by v t rows leaf_once inner_once of_leaf of_inner children start = λ n l r p.
     let there = below_there n l r t p in (
       noted v (name l) n rows (placed_there (name l) t (length v.leaves) (length v.inners) of_leaf of_inner there.0)
@@ -246,13 +246,13 @@ linked_by v t rows leaf_once inner_once of_leaf of_inner children start = λ n l
     )
 
 -- a listed node's row has its parts
-listed_has : (t l r : Tree) (n : ℕ) (c : Child) (rows : List DirtyRow) → times n t ≤ 1 → IsPart (inner n l r) t → IsEither c (name l) (name r) → All (HasChildren (Some t)) rows → 1 ≤ times_listed n rows → Has c n rows
+listed_has : (t l r : Tree) (n : ℕ) (c : Child) (rows : List DirtyRow) → times n t ≤ 1 → IsSubtree (inner n l r) t → IsEither c (name l) (name r) → All (HasChildren (Some t)) rows → 1 ≤ times_listed n rows → Has c n rows
 listed_has t l r n c [] once p e all h = absurd (omega arith)
 listed_has t l r n c (row ∷ rest) once p e all h =
     let w : HasChildren (Some t) row = All-head (HasChildren (Some t)) row rest all in
-    elim (one n row.node) [
+    elim (mark_is_one_or_none n row.node) [
       | inl x ↦
-          let here : IsPart (inner n w.0 w.1) t = subst (λ k. IsPart (inner k w.0 w.1) t) (sym x.0) w.2 in
+          let here : IsSubtree (inner n w.0 w.1) t = subst (λ k. IsSubtree (inner k w.0 w.1) t) (sym x.0) w.2 in
           let same_parts = one_below t l r w.0 w.1 n once p here in
           inl (sym x.0, elim e [ inl y ↦ inl (y ∙ (ap name same_parts.0 ∙ sym w.3)) | inr y ↦ inr (y ∙ (ap name same_parts.1 ∙ sym w.4)) ])
       | inr x ↦ inr (listed_has t l r n c rest once p e (All-tail (HasChildren (Some t)) row rest all) (omega (arith, x.1)))
@@ -262,13 +262,13 @@ either_linked : (v : ParentsView) (n : ℕ) (l r : Tree) (c : Child) → (parent
 either_linked v n l r c h e = elim e [ inl x ↦ ap (parent_in v) x ∙ h.0 | inr x ↦ ap (parent_in v) x ∙ h.1 ]
 
 -- a change leaves each part linked, once its rows are noted
-pub linked_after : (v : ParentsView) (old : Option Tree) (t : Tree) (rows : List DirtyRow) (leaf_numbers inner_numbers : NumbersView) → AreLinked v old → IsListing old (Some t) rows
-    → IsCounted leaf_numbers (leaves t) → IsCounted inner_numbers (inners t) → leaf_numbers.drawn ≤ length v.leaves → inner_numbers.drawn ≤ length v.inners
-    → AreLinked (with_parents v rows) (Some t) × All (RowIsPlaced (length v.leaves) (length v.inners)) rows
+pub linked_after : (v : ParentsView) (old : Option Tree) (t : Tree) (rows : List DirtyRow) (leaf_numbers inner_numbers : NumbersView) → PartsHaveParents v old → ListsChanges old (Some t) rows
+    → AreNumbersAccounted leaf_numbers (leaves t) → AreNumbersAccounted inner_numbers (inner_node_numbers t) → leaf_numbers.drawn ≤ length v.leaves → inner_numbers.drawn ≤ length v.inners
+    → PartsHaveParents (with_parents v rows) (Some t) × All (RowIsPlaced (length v.leaves) (length v.inners)) rows
 linked_after v old t rows leaf_numbers inner_numbers linked listing counted inner_counted leaf_places inner_places =
     let of_leaf : (k : ℕ) → 1 ≤ times_in k (leaves t) → k < length v.leaves = λ k h. omega (arith, used_below leaf_numbers (leaves t) k counted h) in
-    let of_inner : (k : ℕ) → 1 ≤ times k t → k < length v.inners = λ k h. omega (arith, used_below inner_numbers (inners t) k inner_counted (omega (arith, times_inners k t))) in
-    let inner_once : (k : ℕ) → times k t ≤ 1 = λ k. omega (arith, counted_times inner_numbers (inners t) k inner_counted, times_inners k t) in
+    let of_inner : (k : ℕ) → 1 ≤ times k t → k < length v.inners = λ k h. omega (arith, used_below inner_numbers (inner_node_numbers t) k inner_counted (omega (arith, times_inners k t))) in
+    let inner_once : (k : ℕ) → times k t ≤ 1 = λ k. omega (arith, counted_times inner_numbers (inner_node_numbers t) k inner_counted, times_inners k t) in
     let leaf_once : (k : ℕ) → times_in k (leaves t) ≤ 1 = λ k. omega (arith, counted_times leaf_numbers (leaves t) k counted) in (
       linked_by v t rows leaf_once inner_once of_leaf of_inner listing.children
           (λ n l r p c e. elim (none_or_some (times_listed n rows)) [
@@ -283,15 +283,15 @@ linked_after v old t rows leaf_numbers inner_numbers linked listing counted inne
     none_or_some (suc a) = inr (omega arith)
 
 -- a single leaf has no parts, nor has no leaf
-pub linked_none : (v : ParentsView) → AreLinked v None
+pub linked_none : (v : ParentsView) → PartsHaveParents v None
 linked_none v = λ n l r p. absurd p
 
-pub linked_leaf : (v : ParentsView) (n : ℕ) → AreLinked v (Some (leaf n))
+pub linked_leaf : (v : ParentsView) (n : ℕ) → PartsHaveParents v (Some (leaf n))
 linked_leaf v n = λ m l r p. cc
 
 -- what was linked is still linked where what was kept is still kept
 pub linked_longer : (v w : ParentsView) (tree : Option Tree) → ((k n : ℕ) → slice_get v.leaves k ≡ Some n → slice_get w.leaves k ≡ Some n) → ((k n : ℕ) → slice_get v.inners k ≡ Some n → slice_get w.inners k ≡ Some n)
-    → AreLinked v tree → AreLinked w tree
+    → PartsHaveParents v tree → PartsHaveParents w tree
 linked_longer v w tree of_leaf of_inner linked = λ n l r p. let h = linked n l r p in (kept (name l) n h.0, kept (name r) n h.1)
   where
     kept : (c : Child) (n : ℕ) → parent_in v c ≡ Some n → parent_in w c ≡ Some n
@@ -300,12 +300,12 @@ linked_longer v w tree of_leaf of_inner linked = λ n l r p. let h = linked n l 
 
 -- The parents of a shape after a change.
 
-module _ (v : ParentsView) (old : Option Tree) (nodes : List Node) (child : Child) (t : Tree) (rows : List DirtyRow) (l i : NumbersView) (linked : AreLinked v old) (listing : IsListing old (Some t) rows)
-    (sound : IsSound nodes child t) (shape : IsShape nodes (Some child) l i) (leaf_places : l.drawn ≤ length v.leaves) (inner_places : i.drawn ≤ length v.inners) where
+module _ (v : ParentsView) (old : Option Tree) (nodes : List Node) (child : Child) (t : Tree) (rows : List DirtyRow) (l i : NumbersView) (linked : PartsHaveParents v old) (listing : ListsChanges old (Some t) rows)
+    (sound : IsSoundTree nodes child t) (shape : IsShape nodes (Some child) l i) (leaf_places : l.drawn ≤ length v.leaves) (inner_places : i.drawn ≤ length v.inners) where
   pub rows_are_placed : All (RowIsPlaced (length v.leaves) (length v.inners)) rows
   rows_are_placed = (linked_after v old t rows l i linked listing (counted_leaves nodes child t l i shape sound) (counted_inners nodes child t l i shape sound) leaf_places inner_places).1
 
-  pub shape_linked : (w : ParentsView) → w ≡ with_parents v rows → AreLinked w (option_map (tree_at nodes) (Some child))
+  pub shape_linked : (w : ParentsView) → w ≡ with_parents v rows → PartsHaveParents w (option_map (tree_at nodes) (Some child))
   shape_linked w e =
-      let here : AreLinked (with_parents v rows) (Some t) = (linked_after v old t rows l i linked listing (counted_leaves nodes child t l i shape sound) (counted_inners nodes child t l i shape sound) leaf_places inner_places).0 in
-      subst (λ u. AreLinked u (option_map (tree_at nodes) (Some child))) (sym e) (subst (AreLinked (with_parents v rows)) (ap (λ u. Some u) (sym (sound_read nodes child t sound))) here)
+      let here : PartsHaveParents (with_parents v rows) (Some t) = (linked_after v old t rows l i linked listing (counted_leaves nodes child t l i shape sound) (counted_inners nodes child t l i shape sound) leaf_places inner_places).0 in
+      subst (λ u. PartsHaveParents u (option_map (tree_at nodes) (Some child))) (sym e) (subst (PartsHaveParents (with_parents v rows)) (ap (λ u. Some u) (sym (sound_read nodes child t sound))) here)

@@ -7,15 +7,15 @@ use Rattle.tree_shape.specs.declared.node.Child.{Child}
 use Rattle.tree_shape.specs.declared.node.Child.TheVariants.{Leaf, Inner}
 use Rattle.tree_shape.specs.declared.dirty.DirtyRow.{DirtyRow}
 use Rattle.tree_shape.proofs.Rows.{next_row}
-use Rattle.tree_shape.specs.Values.{part, with_node, composed, refreshed}
-use Rattle.tree_shape.specs.Composing.{FitSteps, spent, IsUnderway}
+use Rattle.tree_shape.specs.Values.{part, with_node, row_value, values_refreshed}
+use Rattle.tree_shape.specs.Composing.{FitSteps, steps_of_rows, IsUnderway}
 
 -- two ways to keep the same values have the same parts
 pub same_part : {V : Type 0} (leaves other_leaves nodes other_nodes : ℕ → Option V) (child : Child) → ((k : ℕ) → leaves k ≡ other_leaves k) → ((k : ℕ) → nodes k ≡ other_nodes k) → part leaves nodes child ≡ part other_leaves other_nodes child
 same_part leaves other_leaves nodes other_nodes (Leaf n) a b = a n
 same_part leaves other_leaves nodes other_nodes (Inner n) a b = b n
 
-pub same_composed : {V : Type 0} (join : V → V → V) (leaves other_leaves nodes other_nodes : ℕ → Option V) (row : DirtyRow) → ((k : ℕ) → leaves k ≡ other_leaves k) → ((k : ℕ) → nodes k ≡ other_nodes k) → composed join leaves nodes row ≡ composed join other_leaves other_nodes row
+pub same_composed : {V : Type 0} (join : V → V → V) (leaves other_leaves nodes other_nodes : ℕ → Option V) (row : DirtyRow) → ((k : ℕ) → leaves k ≡ other_leaves k) → ((k : ℕ) → nodes k ≡ other_nodes k) → row_value join leaves nodes row ≡ row_value join other_leaves other_nodes row
 same_composed join leaves other_leaves nodes other_nodes row a b =
     let l = same_part leaves other_leaves nodes other_nodes row.left a b in
     let r = same_part leaves other_leaves nodes other_nodes row.right a b in
@@ -40,20 +40,20 @@ module _ {V R : Type 0} (join : V → V → V) (fits : V → V → Type 0) (cost
     pub left_then : ℕ
     pub steps : steps_left ≡ (cost a + (cost b + cost (join a b))) + left_then
     pub goes_on : (later : List R → Type 0) (leaves_then nodes_then : ℕ → Option V)
-        → nodes_then row.node ≡ composed join leaves_now nodes_now row → ((k : ℕ) → k ≢ row.node → nodes_then k ≡ nodes_now k) → ((k : ℕ) → leaves_then k ≡ leaves_now k)
+        → nodes_then row.node ≡ row_value join leaves_now nodes_now row → ((k : ℕ) → k ≢ row.node → nodes_then k ≡ nodes_now k) → ((k : ℕ) → leaves_then k ≡ leaves_now k)
         → later rooms → IsUnderway join fits cost room after within leaf_at later nodes_before left_then rows (at + 1) leaves_then nodes_then
 
   next_room : (meets : List R → Type 0) (nodes_before : ℕ → Option V) (steps_left : ℕ) (rows : List DirtyRow) (at : ℕ) (leaves_now nodes_now now : ℕ → Option V) (row : DirtyRow)
       → slice_get rows at ≡ Some row → (rooms : List R) → ((k : ℕ) → nodes_now k ≡ now k) → ((k : ℕ) → leaves_now k ≡ leaf_at k)
       → FitSteps join fits room after within leaf_at now (row ∷ drop (suc at) rows) rooms
-      → refreshed join leaf_at now (row ∷ drop (suc at) rows) ≡ refreshed join leaf_at nodes_before rows
-      → spent join cost leaf_at now (row ∷ drop (suc at) rows) ≡ steps_left → meets rooms
+      → values_refreshed join leaf_at now (row ∷ drop (suc at) rows) ≡ values_refreshed join leaf_at nodes_before rows
+      → steps_of_rows join cost leaf_at now (row ∷ drop (suc at) rows) ≡ steps_left → meets rooms
       → IsNext meets nodes_before steps_left rows at leaves_now nodes_now row
   next_room meets nodes_before steps_left rows at leaves_now nodes_now now row e [] nodes leaves f rest steps m = absurd f
   next_room meets nodes_before steps_left rows at leaves_now nodes_now now row e (r ∷ rooms) nodes leaves f rest steps m =
       let here = f.0 in
-      let new = composed join leaf_at now row in
-      let same : composed join leaves_now nodes_now row ≡ new = same_composed join leaves_now leaf_at nodes_now now row leaves nodes in
+      let new = row_value join leaf_at now row in
+      let same : row_value join leaves_now nodes_now row ≡ new = same_composed join leaves_now leaf_at nodes_now now row leaves nodes in
       record {
         a = here.0;
         b = here.1;
@@ -64,8 +64,8 @@ module _ {V R : Type 0} (join : V → V → V) (fits : V → V → Type 0) (cost
         fit = here.4;
         enough = here.5;
         meets_rest = m;
-        left_then = spent join cost leaf_at (with_node now row.node new) (drop (suc at) rows);
-        steps = sym steps ∙ ap (λ p. p + spent join cost leaf_at (with_node now row.node new) (drop (suc at) rows)) (cc (here.2, here.3));
+        left_then = steps_of_rows join cost leaf_at (with_node now row.node new) (drop (suc at) rows);
+        steps = sym steps ∙ ap (λ p. p + steps_of_rows join cost leaf_at (with_node now row.node new) (drop (suc at) rows)) (cc (here.2, here.3));
         goes_on = λ later leaves_then nodes_then own others leaves_same more. record {
           now = with_node now row.node new;
           rooms = rooms;
@@ -75,8 +75,8 @@ module _ {V R : Type 0} (join : V → V → V) (fits : V → V → Type 0) (cost
           ];
           leaves = λ k. leaves_same k ∙ leaves k;
           fit = subst (λ v. FitSteps join fits room after within leaf_at (with_node now row.node new) (drop v rows) rooms) (sym (add-one at)) f.1;
-          rest = ap (λ v. refreshed join leaf_at (with_node now row.node new) (drop v rows)) (add-one at) ∙ rest;
-          steps = ap (λ v. spent join cost leaf_at (with_node now row.node new) (drop v rows)) (add-one at);
+          rest = ap (λ v. values_refreshed join leaf_at (with_node now row.node new) (drop v rows)) (add-one at) ∙ rest;
+          steps = ap (λ v. steps_of_rows join cost leaf_at (with_node now row.node new) (drop v rows)) (add-one at);
           meets_rest = more;
         };
       }
@@ -87,8 +87,8 @@ module _ {V R : Type 0} (join : V → V → V) (fits : V → V → Type 0) (cost
       let list = next_row rows at row e in
       next_room meets nodes_before steps_left rows at leaves_now nodes_now u.now row e u.rooms u.nodes u.leaves
       (subst (λ v. FitSteps join fits room after within leaf_at u.now v u.rooms) list u.fit)
-      (ap (refreshed join leaf_at u.now) (sym list) ∙ u.rest)
-      (ap (spent join cost leaf_at u.now) (sym list) ∙ u.steps)
+      (ap (values_refreshed join leaf_at u.now) (sym list) ∙ u.rest)
+      (ap (steps_of_rows join cost leaf_at u.now) (sym list) ∙ u.steps)
       u.meets_rest
 
 pub all_get : {X : Type 0} (P : X → Type 0) (xs : List X) (i : ℕ) (x : X) → All P xs → slice_get xs i ≡ Some x → P x

@@ -5,7 +5,7 @@ use Rattle.tree_shape.specs.declared.node.Child.{Child}
 use Rattle.tree_shape.specs.declared.node.Child.TheVariants.{Leaf, Inner}
 use Rattle.tree_shape.specs.declared.dirty.DirtyRow.{DirtyRow}
 use Rattle.tree_shape.specs.declared.node.Node.{Node}
-use Rattle.tree_shape.specs.Tree.{Tree, leaf, inner, Stands, stored_height}
+use Rattle.tree_shape.specs.Tree.{Tree, leaf, inner, NodesStand, stored_height}
 use Rattle.tree_shape.specs.Plan.{Plan, kept, made}
 
 -- the leaves that the arena counts below a node
@@ -23,13 +23,13 @@ abbrev pub node_from : List Node → Child → Child → Node
 node_from rows left right = record { left = left; right = right; height = 1 + max (stored_height rows left) (stored_height rows right); leaves = stored_leaves rows left + stored_leaves rows right }
 
 -- the arena with the row written at its number
-abbrev pub written : List Node → DirtyRow → List Node
-written rows row = slice_set rows row.node (node_from rows row.left row.right)
+abbrev pub nodes_with_row : List Node → DirtyRow → List Node
+nodes_with_row rows row = slice_set rows row.node (node_from rows row.left row.right)
 
 -- one row after the other
-abbrev pub applied : List Node → List DirtyRow → List Node
-applied rows [] = rows
-applied rows (row ∷ rest) = applied (written rows row) rest
+abbrev pub nodes_with_rows : List Node → List DirtyRow → List Node
+nodes_with_rows rows [] = rows
+nodes_with_rows rows (row ∷ rest) = nodes_with_rows (nodes_with_row rows row) rest
 
 -- the child has a row, if it is no leaf
 abbrev pub IsIn : List Node → Child → Type 0
@@ -47,7 +47,7 @@ pub record FitsRow (rows : List Node) (row : DirtyRow) : Type 0 where
 -- each row fits the arena as it then is
 abbrev pub FitRows : List Node → List DirtyRow → Type 0
 FitRows rows [] = Unit {0}
-FitRows rows (row ∷ rest) = FitsRow rows row × FitRows (written rows row) rest
+FitRows rows (row ∷ rest) = FitsRow rows row × FitRows (nodes_with_row rows row) rest
 
 -- one where two numbers are the same
 abbrev pub mark : ℕ → ℕ → ℕ
@@ -70,4 +70,4 @@ KeptBy P (made side n near far) = KeptBy P near × KeptBy P far
 
 -- the parts that stay stand in the arena
 abbrev pub KeptStands : List Node → Plan → Type 0
-KeptStands rows p = KeptBy (Stands rows) p
+KeptStands rows p = KeptBy (NodesStand rows) p

@@ -5,7 +5,7 @@ use Rattle.tree_shape.specs.declared.node.Node.{Node}
 use Rattle.tree_shape.specs.declared.node.Side.TheVariants.{Left}
 use Rattle.tree_shape.specs.declared.dirty.DirtyRow.{DirtyRow}
 use Rattle.tree_shape.specs.Plan.{Plan, kept, made, rows}
-use Rattle.tree_shape.specs.Tree.{Tree, leaf, inner, name, height, count, leaves, IsBalanced, Stands}
+use Rattle.tree_shape.specs.Tree.{Tree, leaf, inner, name, height, count, leaves, IsBalanced, NodesStand}
 
 -- the inner nodes' numbers, each after those below it
 abbrev pub inners_up : Tree → List ℕ
@@ -31,7 +31,7 @@ pub record IsLeastHeight (many high : ℕ) : Type 0 where
 pub record IsBuiltFrom (old new : List Node) (first many : ℕ) (child : Child) (t : Tree) : Type 0 where
   pub named : child ≡ name t
   pub behind : (more : List Node) × (new ≡ old ++ more)
-  pub stands : Stands new t
+  pub stands : NodesStand new t
   pub leaves_are : leaves t ≡ numbers_from first many
   pub inners_are : inners_up t ≡ numbers_from (length old) (many - 1)
   pub counted : count t ≡ many

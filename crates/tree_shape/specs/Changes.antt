@@ -8,18 +8,18 @@ use Rattle.tree_shape.specs.Tree.{Tree, leaf, inner, name, height, count, IsBala
 use Rattle.tree_shape.specs.Apply.{mark}
 
 -- a leaf or an inner node of a tree, with all that is below it
-abbrev pub IsPart : Tree → Tree → Type 0
-IsPart part (leaf n) = part ≡ leaf n
-IsPart part (inner n l r) = (part ≡ inner n l r) ⊎ (IsPart part l ⊎ IsPart part r)
+abbrev pub IsSubtree : Tree → Tree → Type 0
+IsSubtree part (leaf n) = part ≡ leaf n
+IsSubtree part (inner n l r) = (part ≡ inner n l r) ⊎ (IsSubtree part l ⊎ IsSubtree part r)
 
 -- the same, of a tree that may have no leaf
-abbrev pub IsPartOf : Tree → Option Tree → Type 0
-IsPartOf part None = ⊥
-IsPartOf part (Some t) = IsPart part t
+abbrev pub IsSubtreeOf : Tree → Option Tree → Type 0
+IsSubtreeOf part None = ⊥
+IsSubtreeOf part (Some t) = IsSubtree part t
 
 -- the number is an inner node's, with these trees below it
 abbrev pub HasBelow : Option Tree → ℕ → Tree → Tree → Type 0
-HasBelow tree n l r = IsPartOf (inner n l r) tree
+HasBelow tree n l r = IsSubtreeOf (inner n l r) tree
 
 -- the number is an inner node's
 abbrev pub HasInner : Option Tree → ℕ → Type 0
@@ -32,11 +32,11 @@ times_listed k (row ∷ rest) = mark k row.node + times_listed k rest
 
 -- the row's node is in the tree, with these two children
 abbrev pub HasChildren : Option Tree → DirtyRow → Type 0
-HasChildren tree row = (l : Tree) × (r : Tree) × IsPartOf (inner row.node l r) tree × (row.left ≡ name l) × (row.right ≡ name r)
+HasChildren tree row = (l : Tree) × (r : Tree) × IsSubtreeOf (inner row.node l r) tree × (row.left ≡ name l) × (row.right ≡ name r)
 
 -- every inner node that is not listed was there before with the same children, and the same tree below each
 abbrev pub LeavesOthers : Option Tree → Option Tree → List DirtyRow → Type 0
-LeavesOthers old new rows = (k : ℕ) (l r : Tree) → IsPartOf (inner k l r) new → times_listed k rows ≡ 0 → IsPartOf (inner k l r) old
+LeavesOthers old new rows = (k : ℕ) (l r : Tree) → IsSubtreeOf (inner k l r) new → times_listed k rows ≡ 0 → IsSubtreeOf (inner k l r) old
 
 -- the child is no inner node among the rows
 abbrev pub IsNotListed : Child → List DirtyRow → Type 0
@@ -50,25 +50,25 @@ IsOrdered (row ∷ rest) = IsNotListed row.left (row ∷ rest) × IsNotListed ro
 
 -- What rows say of a tree before and after a change: each has the children that its node has then, every other inner node is as
 -- it was, children stand before parents, and none stands twice.
-pub record IsListing (old new : Option Tree) (rows : List DirtyRow) : Type 0 where
+pub record ListsChanges (old new : Option Tree) (rows : List DirtyRow) : Type 0 where
   pub children : All (HasChildren new) rows
   pub others : LeavesOthers old new rows
   pub ordered : IsOrdered rows
   pub once : (k : ℕ) → times_listed k rows ≤ 1
 
 -- a part of a tree, with so many of the tree's leaves before it
-abbrev pub IsPartAt : Tree → ℕ → Tree → Type 0
-IsPartAt part before (leaf n) = (part ≡ leaf n) × (before ≡ 0)
-IsPartAt part before (inner n l r) = ((part ≡ inner n l r) × (before ≡ 0)) ⊎ (IsPartAt part before l ⊎ ((rest : ℕ) × (before ≡ count l + rest) × IsPartAt part rest r))
+abbrev pub IsSubtreeAt : Tree → ℕ → Tree → Type 0
+IsSubtreeAt part before (leaf n) = (part ≡ leaf n) × (before ≡ 0)
+IsSubtreeAt part before (inner n l r) = ((part ≡ inner n l r) × (before ≡ 0)) ⊎ (IsSubtreeAt part before l ⊎ ((rest : ℕ) × (before ≡ count l + rest) × IsSubtreeAt part rest r))
 
 -- the same, of a tree that may have no leaf
 abbrev pub IsPartOfAt : Tree → ℕ → Option Tree → Type 0
 IsPartOfAt part before None = ⊥
-IsPartOfAt part before (Some t) = IsPartAt part before t
+IsPartOfAt part before (Some t) = IsSubtreeAt part before t
 
 -- the number is an inner node's, and the leaf at that position is below it
-abbrev pub IsOver : Option Tree → ℕ → ℕ → Type 0
-IsOver tree at n = (l : Tree) × (r : Tree) × (before : ℕ) × IsPartOfAt (inner n l r) before tree × (before ≤ at) × (at < before + count (inner n l r))
+abbrev pub IsNodeOverPosition : Option Tree → ℕ → ℕ → Type 0
+IsNodeOverPosition tree at n = (l : Tree) × (r : Tree) × (before : ℕ) × IsPartOfAt (inner n l r) before tree × (before ≤ at) × (at < before + count (inner n l r))
 
 -- no balanced tree of so many leaves is higher
 abbrev pub BoundsHeight : ℕ → ℕ → Type 0

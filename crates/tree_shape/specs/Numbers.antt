@@ -9,8 +9,8 @@ pub record NumbersView : Type 0 where
   pub drawn : ℕ
 
 -- what the code keeps, as a value
-abbrev pub numbers_of : Numbers → NumbersView
-numbers_of n = record { free = n.free.items; drawn = n.drawn }
+abbrev pub numbers_view : Numbers → NumbersView
+numbers_view n = record { free = n.free.items; drawn = n.drawn }
 
 -- how often a number is in a list
 abbrev pub times_in : ℕ → List ℕ → ℕ
@@ -32,15 +32,15 @@ taken_from [] drawn = record { free = []; drawn = drawn + 1 }
 taken_from (n ∷ ns) drawn = record { free = take (length ns) (n ∷ ns); drawn = drawn }
 
 -- the numbers without the next one
-abbrev pub taken : NumbersView → NumbersView
-taken v = taken_from v.free v.drawn
+abbrev pub numbers_without_next : NumbersView → NumbersView
+numbers_without_next v = taken_from v.free v.drawn
 
 -- the numbers with one more that is free
 abbrev pub given_back : ℕ → NumbersView → NumbersView
 given_back n v = record { free = v.free ++ n ∷ []; drawn = v.drawn }
 
 -- every number drawn is either in use or free, once, and no other number is
-pub record IsCounted (v : NumbersView) (used : List ℕ) : Type 0 where
+pub record AreNumbersAccounted (v : NumbersView) (used : List ℕ) : Type 0 where
   pub drawn_once : (k : ℕ) → k < v.drawn → times_in k used + times_in k v.free ≡ 1
   pub not_drawn : (k : ℕ) → v.drawn ≤ k → times_in k used + times_in k v.free ≡ 0
   pub all : length v.free + length used ≡ v.drawn

@@ -8,9 +8,9 @@ use Rattle.tree_shape.specs.declared.node.Child.TheVariants.{Leaf, Inner}
 use Rattle.tree_shape.specs.declared.node.Node.{Node}
 use Rattle.tree_shape.specs.declared.parents.Parents.{Parents}
 use Rattle.tree_shape.specs.Tree.{Tree, name, height, leaves}
-use Rattle.tree_shape.specs.Changes.{HasBelow, IsPart}
+use Rattle.tree_shape.specs.Changes.{HasBelow, IsSubtree}
 use Rattle.tree_shape.specs.Numbers.{times_in}
-use Rattle.tree_shape.specs.View.{IsSound}
+use Rattle.tree_shape.specs.View.{IsSoundTree}
 
 -- the number kept at each leaf's number, and at each inner node's
 pub record ParentsView : Type 0 where
@@ -51,8 +51,8 @@ rows_in number [] = []
 rows_in number (node ∷ rest) = record { node = number; left = node.left; right = node.right } ∷ rows_in (suc number) rest
 
 -- each part of an inner node of the tree has that node above it
-abbrev pub AreLinked : ParentsView → Option Tree → Type 0
-AreLinked v tree = (n : ℕ) (l r : Tree) → HasBelow tree n l r → (parent_in v (name l) ≡ Some n) × (parent_in v (name r) ≡ Some n)
+abbrev pub PartsHaveParents : ParentsView → Option Tree → Type 0
+PartsHaveParents v tree = (n : ℕ) (l r : Tree) → HasBelow tree n l r → (parent_in v (name l) ≡ Some n) × (parent_in v (name r) ≡ Some n)
 
 -- there is a place for each number drawn
 pub record HavePlaces (v : ParentsView) (leaf_numbers inner_numbers : ℕ) : Type 0 where
@@ -60,15 +60,15 @@ pub record HavePlaces (v : ParentsView) (leaf_numbers inner_numbers : ℕ) : Typ
   pub inners : inner_numbers ≤ length v.inners
 
 -- a root's tree in which each leaf's number is there once, and each part has its node above it
-pub record IsWhole (nodes : List Node) (v : ParentsView) (root : Child) (whole : Tree) : Type 0 where
-  pub sound : IsSound nodes root whole
+pub record IsWholeTree (nodes : List Node) (v : ParentsView) (root : Child) (whole : Tree) : Type 0 where
+  pub sound : IsSoundTree nodes root whole
   pub leaves_once : (k : ℕ) → times_in k (leaves whole) ≤ 1
-  pub linked : AreLinked v (Some whole)
+  pub linked : PartsHaveParents v (Some whole)
 
 -- after so many steps up from the leaf with a number, the climb has come to this part of the tree
 pub record IsClimbAt (whole : Tree) (number done : ℕ) (climb : Climb) (t : Tree) : Type 0 where
   pub named : climb.child ≡ name t
-  pub part : IsPart t whole
+  pub part : IsSubtree t whole
   pub found : slice_get (leaves t) climb.at ≡ Some number
   pub high : (done ≤ height t) ⊎ (t ≡ whole)
 

@@ -7,7 +7,7 @@ use Rattle.tree_shape.specs.declared.insertion.Way.{Way}
 use Rattle.tree_shape.specs.declared.insertion.Way.TheVariants.{Turned, Once, Twice}
 use Rattle.tree_shape.specs.declared.dirty.DirtyRow.{DirtyRow}
 use Rattle.tree_shape.specs.declared.insertion.Grown.{Grown}
-use Rattle.tree_shape.specs.Tree.{Tree, leaf, inner, name, height, count, Stands}
+use Rattle.tree_shape.specs.Tree.{Tree, leaf, inner, name, height, count, NodesStand}
 use Rattle.tree_shape.specs.declared.node.Node.{Node}
 
 -- a part that stayed, or an inner node that was written: the side of its near part, its number, its near part and its far part
@@ -21,9 +21,9 @@ inner_on Left n near far = inner n near far
 inner_on Right n near far = inner n far near
 
 -- the tree after the change
-abbrev pub erase : Plan → Tree
-erase (kept t) = t
-erase (made side n near far) = inner_on side n (erase near) (erase far)
+abbrev pub tree_of_plan : Plan → Tree
+tree_of_plan (kept t) = t
+tree_of_plan (made side n near far) = inner_on side n (tree_of_plan near) (tree_of_plan far)
 
 -- the row of an inner node by its near and its far child
 abbrev pub dirty_row : Side → ℕ → Child → Child → DirtyRow
@@ -38,12 +38,12 @@ child_on Right row = row.right
 -- the rows written, each node after its parts
 abbrev pub rows : Plan → List DirtyRow
 rows (kept t) = []
-rows (made side n near far) = (rows near ++ rows far) ++ dirty_row side n (name (erase near)) (name (erase far)) ∷ []
+rows (made side n near far) = (rows near ++ rows far) ++ dirty_row side n (name (tree_of_plan near)) (name (tree_of_plan far)) ∷ []
 
 -- the same without the root's
-abbrev pub below : Plan → List DirtyRow
-below (kept t) = []
-below (made side n near far) = rows near ++ rows far
+abbrev pub rows_below_root : Plan → List DirtyRow
+rows_below_root (kept t) = []
+rows_below_root (made side n near far) = rows near ++ rows far
 
 -- whether two sides are the same
 abbrev pub same_side : Side → Side → Bool
@@ -76,15 +76,15 @@ turned_twice side upper middle lower lower_side near lower_far middle_far beside
     (made (other side) lower (made side upper near (kept beside)) (made (other side) middle (kept lower_far) (kept middle_far)))
 
 -- once where the change went the same way at the upper and the middle node, else twice
-abbrev pub turned : Side → ℕ → Side → ℕ → Side → ℕ → Plan → Tree → Tree → Tree → Plan
-turned side upper middle_side middle lower_side lower near lower_far middle_far beside =
+abbrev pub plan_turned : Side → ℕ → Side → ℕ → Side → ℕ → Plan → Tree → Tree → Tree → Plan
+plan_turned side upper middle_side middle lower_side lower near lower_far middle_far beside =
     cond (same_side middle_side side)
     (turned_once side upper middle (made lower_side lower near (kept lower_far)) middle_far beside)
     (turned_twice side upper middle lower lower_side near lower_far middle_far beside)
 
 -- turned, where the part has two nodes to turn by
 abbrev pub turned_through : Side → ℕ → Side → ℕ → Plan → Tree → Tree → Plan
-turned_through side upper middle_side middle (made lower_side lower near (kept lower_far)) middle_far beside = turned side upper middle_side middle lower_side lower near lower_far middle_far beside
+turned_through side upper middle_side middle (made lower_side lower near (kept lower_far)) middle_far beside = plan_turned side upper middle_side middle lower_side lower near lower_far middle_far beside
 turned_through side upper middle_side middle near middle_far beside = over side upper (made middle_side middle near (kept middle_far)) beside
 
 -- turned, where the part's far part stayed
@@ -93,24 +93,24 @@ turned_plan side upper (made middle_side middle near (kept middle_far)) beside =
 turned_plan side upper part beside = over side upper part beside
 
 -- a node above a part that was changed by an insertion, turned where the part is too high
-abbrev pub leaned : Side → ℕ → Plan → Tree → Plan
-leaned side upper part beside = cond (nat_le (height (erase part)) (height beside + 1)) (over side upper part beside) (turned_plan side upper part beside)
+abbrev pub plan_leaned : Side → ℕ → Plan → Tree → Plan
+plan_leaned side upper part beside = cond (nat_le (height (tree_of_plan part)) (height beside + 1)) (over side upper part beside) (turned_plan side upper part beside)
 
 -- the tree with a new leaf at a position, below a new inner node
-abbrev pub grown : ℕ → ℕ → ℕ → Tree → Plan
-grown at new number (leaf old) = made (cond (nat_le at 0) Left Right) number (kept (leaf new)) (kept (leaf old))
-grown at new number (inner n l r) =
-    cond (nat_le at (count l)) (leaned Left n (grown at new number l) r) (leaned Right n (grown (at - count l) new number r) l)
+abbrev pub plan_grown : ℕ → ℕ → ℕ → Tree → Plan
+plan_grown at new number (leaf old) = made (cond (nat_le at 0) Left Right) number (kept (leaf new)) (kept (leaf old))
+plan_grown at new number (inner n l r) =
+    cond (nat_le at (count l)) (plan_leaned Left n (plan_grown at new number l) r) (plan_leaned Right n (plan_grown (at - count l) new number r) l)
 
 -- whether the change went through the near part's root as well
 abbrev pub way_through : Plan → Way
-way_through (made side n near (kept beside)) = Twice side (height (erase near)) (height beside)
+way_through (made side n near (kept beside)) = Twice side (height (tree_of_plan near)) (height beside)
 way_through part = Once
 
 -- what the change did at a plan's root
-abbrev pub way_of : Plan → Way
-way_of (made side n near (kept beside)) = way_through near
-way_of part = Turned
+abbrev pub plan_way : Plan → Way
+plan_way (made side n near (kept beside)) = way_through near
+plan_way part = Turned
 
 -- the root of a plan, as the code knows it
 abbrev pub IsPending : Grown → Plan → Type 0
@@ -118,17 +118,17 @@ IsPending g (kept t) = ⊥
 IsPending g (made side n near far) = g ≡ record {
   node = n;
   side = side;
-  near = name (erase near);
-  far = name (erase far);
-  near_height = height (erase near);
-  far_height = height (erase far);
-  way = way_of (made side n near far);
+  near = name (tree_of_plan near);
+  far = name (tree_of_plan far);
+  near_height = height (tree_of_plan near);
+  far_height = height (tree_of_plan far);
+  way = plan_way (made side n near far);
 }
 
 -- a part that an insertion changed and the part that stayed beside it
 pub record IsLeaning (g : Grown) (dirty : List DirtyRow) (far : Child) (far_height : ℕ) (part : Plan) (before : List DirtyRow) (f : Tree) : Type 0 where
   pub pending : IsPending g part
-  pub listed : dirty ≡ before ++ below part
+  pub listed : dirty ≡ before ++ rows_below_root part
   pub named : far ≡ name f
   pub high : far_height ≡ height f
 
@@ -145,4 +145,4 @@ IsTwice way third near far = way ≡ Twice third near far
 
 -- the arena's node has a tree with a place for a leaf at that position, and the list has room for the rows
 abbrev pub HasPlaceAt : List Node → Child → ℕ → ℕ → Type 0
-HasPlaceAt nodes child at used = (t : Tree) × (child ≡ name t) × Stands nodes t × (at ≤ count t) × (used + height t < 71)
+HasPlaceAt nodes child at used = (t : Tree) × (child ≡ name t) × NodesStand nodes t × (at ≤ count t) × (used + height t < 71)

@@ -31,9 +31,9 @@ leaves (leaf n) = n ∷ []
 leaves (inner n l r) = leaves l ++ leaves r
 
 -- the inner nodes' numbers
-abbrev pub inners : Tree → List ℕ
-inners (leaf n) = []
-inners (inner n l r) = n ∷ (inners l ++ inners r)
+abbrev pub inner_node_numbers : Tree → List ℕ
+inner_node_numbers (leaf n) = []
+inner_node_numbers (inner n l r) = n ∷ (inner_node_numbers l ++ inner_node_numbers r)
 
 -- the heights of the two parts of each inner node differ by at most one
 abbrev pub IsBalanced : Tree → Type 0
@@ -41,17 +41,17 @@ IsBalanced (leaf n) = Unit {0}
 IsBalanced (inner n l r) = (height l ≤ height r + 1) × (height r ≤ height l + 1) × IsBalanced l × IsBalanced r
 
 -- the row that the arena keeps for an inner node with these parts
-abbrev pub row_of : Tree → Tree → Node
-row_of l r = record { left = name l; right = name r; height = 1 + max (height l) (height r); leaves = count l + count r }
+abbrev pub node_of_parts : Tree → Tree → Node
+node_of_parts l r = record { left = name l; right = name r; height = 1 + max (height l) (height r); leaves = count l + count r }
 
 -- each inner node's row is in the arena at its number
-abbrev pub Stands : List Node → Tree → Type 0
-Stands rows (leaf n) = Unit {0}
-Stands rows (inner n l r) = (slice_get rows n ≡ Some (row_of l r)) × Stands rows l × Stands rows r
+abbrev pub NodesStand : List Node → Tree → Type 0
+NodesStand rows (leaf n) = Unit {0}
+NodesStand rows (inner n l r) = (slice_get rows n ≡ Some (node_of_parts l r)) × NodesStand rows l × NodesStand rows r
 
 -- the arena's node has a tree
 abbrev pub IsTreeAt : List Node → Child → Type 0
-IsTreeAt rows child = (t : Tree) × (child ≡ name t) × Stands rows t
+IsTreeAt rows child = (t : Tree) × (child ≡ name t) × NodesStand rows t
 
 -- the height that the arena keeps for a node
 abbrev pub height_in : Option Node → ℕ
@@ -65,4 +65,4 @@ stored_height rows (Inner n) = height_in (slice_get rows n)
 
 -- the arena's node has a tree with a leaf at that position
 abbrev pub HasLeafAt : List Node → Child → ℕ → Type 0
-HasLeafAt rows child at = (t : Tree) × (child ≡ name t) × Stands rows t × (at < count t)
+HasLeafAt rows child at = (t : Tree) × (child ≡ name t) × NodesStand rows t × (at < count t)

@@ -1,7 +1,7 @@
 //! Writing the rows of a change into the arena.
 ghost use Rattle.std.specs.Prelude.{◌≡◌, ◌+◌, ◌<◌};
 ghost use Rattle.tree_shape.specs.Tree.{stored_height};
-ghost use Rattle.tree_shape.specs.Apply.{IsIn, stored_leaves, node_from, FitsRow, FitRows, applied};
+ghost use Rattle.tree_shape.specs.Apply.{IsIn, stored_leaves, node_from, FitsRow, FitRows, nodes_with_rows};
 
 use crate::dirty::{Dirty, DirtyRow};
 use crate::node::{Child, Node};
@@ -43,7 +43,7 @@ fn node_of(nodes: &[Node], row: DirtyRow) -> Node
 /// Writes each row, children before parents.
 pub fn apply(nodes: &mut [Node], dirty: &Dirty)
     requires { FitRows nodes.old dirty.now }
-    ensures { nodes.new ≡ applied nodes.old dirty.now }
+    ensures { nodes.new ≡ nodes_with_rows nodes.old dirty.now }
 {
     for i in 0..dirty.len() {
         if let Some(row) = dirty.get(i) {

@@ -2,7 +2,7 @@
 ghost use Rattle.std.specs.Prelude.{◌≡◌, ◌≢◌, ℕ, ◌+◌, ◌<◌, true, false, Some};
 ghost use Rattle.std.specs.List.{slice_get};
 ghost use Rattle.tree_shape.specs.Tree.{Tree, height, leaves};
-ghost use Rattle.tree_shape.specs.Parents.{parents_of, IsWhole, IsClimb};
+ghost use Rattle.tree_shape.specs.Parents.{parents_of, IsWholeTree, IsClimb};
 
 use crate::node::{Child, Node, height_of, leaves_of, row};
 use crate::parents::Parents;
@@ -32,8 +32,8 @@ fn is_same(a: Child, b: Child) -> bool
 
 /// One step up, unless the climb has come to the root.
 fn step_up(nodes: &[Node], parents: &Parents, root: Child, climb: Climb) -> Climb
-    requires { (whole : Tree) × (number : ℕ) × (done : ℕ) × IsWhole nodes.now (parents_of parents.now) root whole × IsClimb whole number done climb }
-    ensures { (whole : Tree) (number done : ℕ) → IsWhole nodes.now (parents_of parents.now) root whole → IsClimb whole number done climb → IsClimb whole number (done + 1) result }
+    requires { (whole : Tree) × (number : ℕ) × (done : ℕ) × IsWholeTree nodes.now (parents_of parents.now) root whole × IsClimb whole number done climb }
+    ensures { (whole : Tree) (number done : ℕ) → IsWholeTree nodes.now (parents_of parents.now) root whole → IsClimb whole number done climb → IsClimb whole number (done + 1) result }
 {
     if is_same(climb.child, root) {
         return climb;
@@ -54,8 +54,8 @@ fn step_up(nodes: &[Node], parents: &Parents, root: Child, climb: Climb) -> Clim
 
 /// The position of the leaf with a number below the root.
 pub(crate) fn climbed(nodes: &[Node], parents: &Parents, root: Child, number: u32) -> u32
-    requires { (whole : Tree) × (at : ℕ) × IsWhole nodes.now (parents_of parents.now) root whole × (slice_get (leaves whole) at ≡ Some number) }
-    ensures { (whole : Tree) (at : ℕ) → IsWhole nodes.now (parents_of parents.now) root whole → slice_get (leaves whole) at ≡ Some number → slice_get (leaves whole) result ≡ Some number }
+    requires { (whole : Tree) × (at : ℕ) × IsWholeTree nodes.now (parents_of parents.now) root whole × (slice_get (leaves whole) at ≡ Some number) }
+    ensures { (whole : Tree) (at : ℕ) → IsWholeTree nodes.now (parents_of parents.now) root whole → slice_get (leaves whole) at ≡ Some number → slice_get (leaves whole) result ≡ Some number }
 {
     let mut climb = Climb {
         child: Child::Leaf(number),

@@ -4,8 +4,8 @@ ghost use Rattle.tree_shape.specs.declared.dirty.DirtyRow.{DirtyRow};
 ghost use Rattle.tree_shape.specs.declared.node.Side.TheVariants.{Left, Right};
 ghost use Rattle.tree_shape.specs.declared.node.Child.TheVariants.{Inner};
 ghost use Rattle.tree_shape.specs.declared.insertion.Way.TheVariants.{Turned};
-ghost use Rattle.tree_shape.specs.Tree.{Tree, name, height, Stands, IsTreeAt};
-ghost use Rattle.tree_shape.specs.Plan.{Plan, same_side, other, dirty_row, leaned, grown, turned_plan, below, child_on, IsPending, IsLeaning, IsTwice, FitsLean, HasPlaceAt};
+ghost use Rattle.tree_shape.specs.Tree.{Tree, name, height, NodesStand, IsTreeAt};
+ghost use Rattle.tree_shape.specs.Plan.{Plan, same_side, other, dirty_row, plan_leaned, plan_grown, turned_plan, rows_below_root, child_on, IsPending, IsLeaning, IsTwice, FitsLean, HasPlaceAt};
 
 use crate::dirty::{Dirty, DirtyRow, row_on};
 use crate::node::{Child, Node, Side, above, height_of, leaves_of, row};
@@ -111,7 +111,7 @@ fn turn_twice(
     requires two { IsTwice part.way lower_side lower_near lower_far }
     requires across { same_side part.side upper.side ≡ false }
     requires part { (plan : Plan) × (before : List DirtyRow) × (beside : Tree) × IsLeaning part dirty.old upper.part upper.height plan before beside }
-    ensures { (plan : Plan) (before : List DirtyRow) (beside : Tree) → IsLeaning part dirty.old upper.part upper.height plan before beside → IsPending result (turned_plan upper.side upper.node plan beside) × (dirty.new ≡ before ++ below (turned_plan upper.side upper.node plan beside)) }
+    ensures { (plan : Plan) (before : List DirtyRow) (beside : Tree) → IsLeaning part dirty.old upper.part upper.height plan before beside → IsPending result (turned_plan upper.side upper.node plan beside) × (dirty.new ≡ before ++ rows_below_root (turned_plan upper.side upper.node plan beside)) }
 {
     let lower = dirty.pop();
     let middle = Half {
@@ -144,7 +144,7 @@ fn turn(
     requires heights { (lower_near < 254) × (lower_far < 254) }
     requires two { IsTwice part.way lower_side lower_near lower_far }
     requires part { (plan : Plan) × (before : List DirtyRow) × (beside : Tree) × IsLeaning part dirty.old upper.part upper.height plan before beside }
-    ensures { (plan : Plan) (before : List DirtyRow) (beside : Tree) → IsLeaning part dirty.old upper.part upper.height plan before beside → IsPending result (turned_plan upper.side upper.node plan beside) × (dirty.new ≡ before ++ below (turned_plan upper.side upper.node plan beside)) }
+    ensures { (plan : Plan) (before : List DirtyRow) (beside : Tree) → IsLeaning part dirty.old upper.part upper.height plan before beside → IsPending result (turned_plan upper.side upper.node plan beside) × (dirty.new ≡ before ++ rows_below_root (turned_plan upper.side upper.node plan beside)) }
 {
     if same(part.side, upper.side) {
         dirty.push(row_on(upper.side, upper.node, part.far, upper.part));
@@ -165,7 +165,7 @@ fn turn(
 fn lean(upper: Half, part: Grown, dirty: &mut Dirty) -> Grown
     requires fits { FitsLean part upper.height dirty.old }
     requires part { (plan : Plan) × (before : List DirtyRow) × (beside : Tree) × IsLeaning part dirty.old upper.part upper.height plan before beside }
-    ensures { (plan : Plan) (before : List DirtyRow) (beside : Tree) → IsLeaning part dirty.old upper.part upper.height plan before beside → IsPending result (leaned upper.side upper.node plan beside) × (dirty.new ≡ before ++ below (leaned upper.side upper.node plan beside)) }
+    ensures { (plan : Plan) (before : List DirtyRow) (beside : Tree) → IsLeaning part dirty.old upper.part upper.height plan before beside → IsPending result (plan_leaned upper.side upper.node plan beside) × (dirty.new ≡ before ++ rows_below_root (plan_leaned upper.side upper.node plan beside)) }
 {
     if let Way::Twice(lower_side, lower_near, lower_far) = part.way {
         if above(part.near_height, part.far_height) > upper.height + 1 {
@@ -193,7 +193,7 @@ fn half_of(nodes: &[Node], side: Side, node: u32, part: Child) -> Half
     ensures side { result.side ≡ side }
     ensures node { result.node ≡ node }
     ensures part { result.part ≡ part }
-    ensures high { (t : Tree) → part ≡ name t → Stands nodes.now t → result.height ≡ height t }
+    ensures high { (t : Tree) → part ≡ name t → NodesStand nodes.now t → result.height ≡ height t }
 {
     Half {
         side,
@@ -219,7 +219,7 @@ pub(crate) fn grow(
     dirty: &mut Dirty,
 ) -> Grown
     requires { HasPlaceAt nodes.now child at (length dirty.old) }
-    ensures { (t : Tree) → child ≡ name t → Stands nodes.now t → IsPending result (grown at new number t) × (dirty.new ≡ dirty.old ++ below (grown at new number t)) }
+    ensures { (t : Tree) → child ≡ name t → NodesStand nodes.now t → IsPending result (plan_grown at new number t) × (dirty.new ≡ dirty.old ++ rows_below_root (plan_grown at new number t)) }
 {
     match child {
         Child::Leaf(_) => Grown {

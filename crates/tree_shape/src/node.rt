@@ -1,7 +1,7 @@
 //! Inner nodes and their parts, and reading a tree off them.
 ghost use Rattle.std.specs.Prelude.{◌≡◌, ◌+◌, ◌<◌, max, Some, slice_index, slice_get};
 ghost use Rattle.tree_shape.specs.declared.node.Child.TheVariants.{Inner};
-ghost use Rattle.tree_shape.specs.Tree.{Tree, name, height, count, leaves, Stands, IsTreeAt, HasLeafAt};
+ghost use Rattle.tree_shape.specs.Tree.{Tree, name, height, count, leaves, NodesStand, IsTreeAt, HasLeafAt};
 
 /// A part of an inner node, by its number.
 #[derive(Clone, Copy)]
@@ -44,7 +44,7 @@ pub(crate) fn row(nodes: &[Node], inner: u32) -> Node
 
 pub(crate) fn height_of(nodes: &[Node], child: Child) -> u8
     requires { IsTreeAt nodes.now child }
-    ensures { (t : Tree) → child ≡ name t → Stands nodes.now t → result ≡ height t }
+    ensures { (t : Tree) → child ≡ name t → NodesStand nodes.now t → result ≡ height t }
 {
     match child {
         Child::Leaf(_) => 0,
@@ -54,7 +54,7 @@ pub(crate) fn height_of(nodes: &[Node], child: Child) -> u8
 
 pub(crate) fn leaves_of(nodes: &[Node], child: Child) -> u32
     requires { IsTreeAt nodes.now child }
-    ensures { (t : Tree) → child ≡ name t → Stands nodes.now t → result ≡ count t }
+    ensures { (t : Tree) → child ≡ name t → NodesStand nodes.now t → result ≡ count t }
 {
     match child {
         Child::Leaf(_) => 1,
@@ -65,7 +65,7 @@ pub(crate) fn leaves_of(nodes: &[Node], child: Child) -> u32
 /// The number of the leaf at a position below the node.
 pub(crate) fn leaf_at(nodes: &[Node], child: Child, at: u32) -> u32
     requires { HasLeafAt nodes.now child at }
-    ensures { (t : Tree) → child ≡ name t → Stands nodes.now t → result ≡ slice_index (leaves t) at }
+    ensures { (t : Tree) → child ≡ name t → NodesStand nodes.now t → result ≡ slice_index (leaves t) at }
 {
     match child {
         Child::Leaf(n) => n,

@@ -1,6 +1,6 @@
 //! The numbers of leaves or of inner nodes.
 ghost use Rattle.std.specs.Prelude.{◌≡◌, ◌+◌, ◌<◌, ◌≤◌, [], length, IfOk, OnOk, nat_lt, vec_capacity};
-ghost use Rattle.tree_shape.specs.Numbers.{numbers_of, next_number, taken, given_back};
+ghost use Rattle.tree_shape.specs.Numbers.{numbers_view, next_number, numbers_without_next, given_back};
 
 use knit_base::NoMemory;
 use std::alloc::Global;
@@ -14,7 +14,7 @@ pub(crate) struct Numbers {
 
 impl Numbers {
     pub(crate) fn new(alloc: Global) -> Numbers
-        ensures { numbers_of result ≡ record { free = []; drawn = 0 } }
+        ensures { numbers_view result ≡ record { free = []; drawn = 0 } }
     {
         Numbers {
             free: Vec::new(alloc),
@@ -24,7 +24,7 @@ impl Numbers {
 
     /// The number that `draw` answers.
     pub(crate) fn next(&self) -> u32
-        ensures { result ≡ next_number (numbers_of self.now) }
+        ensures { result ≡ next_number (numbers_view self.now) }
     {
         match self.free.as_slice().last() {
             Some(number) => *number,
@@ -43,7 +43,7 @@ impl Numbers {
         requires few { self.old.drawn ≤ 65536 }
         requires free { length self.old.free.items ≤ self.old.drawn }
         ensures ok { OnOk result (self.new.drawn < vec_capacity self.new.free) }
-        ensures same { numbers_of self.new ≡ numbers_of self.old }
+        ensures same { numbers_view self.new ≡ numbers_view self.old }
         ensures capacity { vec_capacity self.old.free ≤ vec_capacity self.new.free }
     {
         let missing = self.drawn as usize + 1 - self.free.as_slice().len();
@@ -53,8 +53,8 @@ impl Numbers {
 
     pub(crate) fn draw(&mut self) -> u32
         requires { self.old.drawn ≤ 65536 }
-        ensures number { result ≡ next_number (numbers_of self.old) }
-        ensures numbers { numbers_of self.new ≡ taken (numbers_of self.old) }
+        ensures number { result ≡ next_number (numbers_view self.old) }
+        ensures numbers { numbers_view self.new ≡ numbers_without_next (numbers_view self.old) }
         ensures capacity { vec_capacity self.new.free ≡ vec_capacity self.old.free }
     {
         match self.free.pop() {
@@ -69,7 +69,7 @@ impl Numbers {
 
     pub(crate) fn give_back(&mut self, number: u32)
         requires { length self.old.free.items < vec_capacity self.old.free }
-        ensures numbers { numbers_of self.new ≡ given_back number (numbers_of self.old) }
+        ensures numbers { numbers_view self.new ≡ given_back number (numbers_view self.old) }
         ensures capacity { vec_capacity self.new.free ≡ vec_capacity self.old.free }
     {
         let _free = self.free.as_slice();
@@ -78,7 +78,7 @@ impl Numbers {
 
     /// So many numbers drawn and none free, with room for all of them to be given back.
     pub(crate) fn of(alloc: Global, drawn: u32) -> Result<Numbers, NoMemory>
-        ensures numbers { IfOk result (λ numbers. numbers_of numbers ≡ record { free = []; drawn = drawn }) }
+        ensures numbers { IfOk result (λ numbers. numbers_view numbers ≡ record { free = []; drawn = drawn }) }
         ensures room { IfOk result (λ numbers. drawn ≤ vec_capacity numbers.free) }
     {
         let free = Vec::with_capacity(alloc, drawn as usize)?;

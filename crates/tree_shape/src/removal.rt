@@ -1,8 +1,8 @@
 //! Taking a leaf out, and the nodes above a leaf.
 ghost use Rattle.std.specs.Prelude.{◌≡◌, ◌+◌, ◌-◌, ◌<◌, ◌≤◌, List, ◌++◌, length};
-ghost use Rattle.tree_shape.specs.Tree.{Tree, name, height, Stands, IsTreeAt};
+ghost use Rattle.tree_shape.specs.Tree.{Tree, name, height, NodesStand, IsTreeAt};
 ghost use Rattle.tree_shape.specs.Plan.{Plan, rows, over};
-ghost use Rattle.tree_shape.specs.Removal.{HasRows, HasRemoval, IsAbove, gone, touched, IsSinking, HasSinking, IsPartAfter, raised, raised_once, raised_twice, IsRaising, HasRaising, sunk, shrunk, beside_child, outer_child};
+ghost use Rattle.tree_shape.specs.Removal.{HasRows, HasRemoval, IsNodeAboveLeaf, node_removed, plan_touched, IsSinking, HasSinking, IsPartAfter, plan_raised, raised_once, raised_twice, IsRaising, HasRaising, plan_sunk, plan_shrunk, beside_child, outer_child};
 ghost use Rattle.tree_shape.specs.declared.dirty.DirtyRow.{DirtyRow};
 ghost use Rattle.tree_shape.specs.declared.node.Node.{Node};
 ghost use Rattle.tree_shape.specs.declared.node.Child.TheVariants.{Leaf, Inner};
@@ -13,7 +13,7 @@ use crate::node::{Child, Node, Side, above, height_of, leaves_of, row};
 /// Lists the inner nodes above a leaf.
 pub(crate) fn touch_below(nodes: &[Node], child: Child, at: u32, dirty: &mut Dirty)
     requires { HasRows 1 nodes.now child at (length dirty.old) }
-    ensures { (t : Tree) → child ≡ name t → Stands nodes.now t → dirty.new ≡ dirty.old ++ rows (touched at t) }
+    ensures { (t : Tree) → child ≡ name t → NodesStand nodes.now t → dirty.new ≡ dirty.old ++ rows (plan_touched at t) }
 {
     match child {
         Child::Leaf(_) => {}
@@ -33,18 +33,18 @@ pub(crate) fn touch_below(nodes: &[Node], child: Child, at: u32, dirty: &mut Dir
 
 /// A part after a removal, listed.
 #[derive(Clone, Copy)]
-pub(crate) struct Part {
+pub(crate) struct RemovedPart {
     pub child: Child,
     pub height: u8,
 }
 
 /// A part that stayed.
-fn part_of(nodes: &[Node], child: Child) -> Part
+fn part_of(nodes: &[Node], child: Child) -> RemovedPart
     requires { IsTreeAt nodes.now child }
     ensures child { result.child ≡ child }
-    ensures high { (t : Tree) → child ≡ name t → Stands nodes.now t → result.height ≡ height t }
+    ensures high { (t : Tree) → child ≡ name t → NodesStand nodes.now t → result.height ≡ height t }
 {
-    Part {
+    RemovedPart {
         child,
         height: height_of(nodes, child),
     }
@@ -72,19 +72,19 @@ fn outer_of(side: Side, node: Node) -> Child
 fn raise_once(
     side: Side,
     node: u32,
-    part: Part,
+    part: RemovedPart,
     far: u32,
-    beside: Part,
-    outer: Part,
+    beside: RemovedPart,
+    outer: RemovedPart,
     dirty: &mut Dirty,
-) -> Part
+) -> RemovedPart
     requires room { length dirty.old + 3 ≤ 72 }
     requires low { (part.height < 250) × (beside.height < 250) × (outer.height < 250) }
     ensures { (nodes : List Node) (plan : Plan) (before : List DirtyRow) (near_tree far_tree : Tree) → IsRaising nodes part dirty.old beside.child outer.child outer.height plan before near_tree far_tree → beside.height ≡ height near_tree → IsPartAfter result (raised_once side node plan far near_tree far_tree) × (dirty.new ≡ before ++ rows (raised_once side node plan far near_tree far_tree)) }
 {
     dirty.push(row_on(side, node, part.child, beside.child));
     dirty.push(row_on(side, far, Child::Inner(node), outer.child));
-    Part {
+    RemovedPart {
         child: Child::Inner(far),
         height: above(above(part.height, beside.height), outer.height),
     }
@@ -95,12 +95,12 @@ fn raise_twice(
     nodes: &[Node],
     side: Side,
     node: u32,
-    part: Part,
+    part: RemovedPart,
     far: u32,
     lower: u32,
-    outer: Part,
+    outer: RemovedPart,
     dirty: &mut Dirty,
-) -> Part
+) -> RemovedPart
     requires { HasRaising nodes.now part dirty.old (Inner lower) outer.child outer.height }
     ensures { (plan : Plan) (before : List DirtyRow) (near_tree far_tree : Tree) → IsRaising nodes.now part dirty.old (Inner lower) outer.child outer.height plan before near_tree far_tree → IsPartAfter result (raised_twice side node plan far near_tree far_tree) × (dirty.new ≡ before ++ rows (raised_twice side node plan far near_tree far_tree)) }
 {
@@ -110,7 +110,7 @@ fn raise_twice(
     dirty.push(row_on(side, node, part.child, first.child));
     dirty.push(row_on(side, far, second.child, outer.child));
     dirty.push(row_on(side, lower, Child::Inner(node), Child::Inner(far)));
-    Part {
+    RemovedPart {
         child: Child::Inner(lower),
         height: above(
             above(part.height, first.height),
@@ -120,9 +120,16 @@ fn raise_twice(
 }
 
 /// The two ways to turn a node whose other part is too high.
-fn raise(nodes: &[Node], side: Side, node: u32, part: Part, far: u32, dirty: &mut Dirty) -> Part
+fn raise(
+    nodes: &[Node],
+    side: Side,
+    node: u32,
+    part: RemovedPart,
+    far: u32,
+    dirty: &mut Dirty,
+) -> RemovedPart
     requires { HasSinking nodes.now part dirty.old (Inner far) }
-    ensures { (plan : Plan) (before : List DirtyRow) (far_tree : Tree) → IsSinking nodes.now part dirty.old (Inner far) plan before far_tree → IsPartAfter result (raised side node plan far_tree) × (dirty.new ≡ before ++ rows (raised side node plan far_tree)) }
+    ensures { (plan : Plan) (before : List DirtyRow) (far_tree : Tree) → IsSinking nodes.now part dirty.old (Inner far) plan before far_tree → IsPartAfter result (plan_raised side node plan far_tree) × (dirty.new ≡ before ++ rows (plan_raised side node plan far_tree)) }
 {
     let high = row(nodes, far);
     let beside = part_of(nodes, beside_of(side, high));
@@ -137,9 +144,16 @@ fn raise(nodes: &[Node], side: Side, node: u32, part: Part, far: u32, dirty: &mu
 }
 
 /// A node above a part that a removal changed, turned where the other part is too high.
-fn sink(nodes: &[Node], side: Side, node: u32, part: Part, far: Child, dirty: &mut Dirty) -> Part
+fn sink(
+    nodes: &[Node],
+    side: Side,
+    node: u32,
+    part: RemovedPart,
+    far: Child,
+    dirty: &mut Dirty,
+) -> RemovedPart
     requires { HasSinking nodes.now part dirty.old far }
-    ensures { (plan : Plan) (before : List DirtyRow) (far_tree : Tree) → IsSinking nodes.now part dirty.old far plan before far_tree → IsPartAfter result (sunk side node plan far_tree) × (dirty.new ≡ before ++ rows (sunk side node plan far_tree)) }
+    ensures { (plan : Plan) (before : List DirtyRow) (far_tree : Tree) → IsSinking nodes.now part dirty.old far plan before far_tree → IsPartAfter result (plan_sunk side node plan far_tree) × (dirty.new ≡ before ++ rows (plan_sunk side node plan far_tree)) }
 {
     let far_height = height_of(nodes, far);
     if let Child::Inner(inner) = far {
@@ -153,35 +167,35 @@ fn sink(nodes: &[Node], side: Side, node: u32, part: Part, far: Child, dirty: &m
 fn set_above(
     side: Side,
     node: u32,
-    part: Part,
+    part: RemovedPart,
     far: Child,
     far_height: u8,
     dirty: &mut Dirty,
-) -> Part
+) -> RemovedPart
     requires room { length dirty.old < 72 }
     requires low { (part.height < 250) × (far_height < 250) }
     ensures { (nodes : List Node) (plan : Plan) (before : List DirtyRow) (far_tree : Tree) → IsSinking nodes part dirty.old far plan before far_tree → far_height ≡ height far_tree → IsPartAfter result (over side node plan far_tree) × (dirty.new ≡ before ++ rows (over side node plan far_tree)) }
 {
     dirty.push(row_on(side, node, part.child, far));
-    Part {
+    RemovedPart {
         child: Child::Inner(node),
         height: above(part.height, far_height),
     }
 }
 
 /// The tree below an inner node without the leaf at a position: lists all inner nodes written.
-pub(crate) fn shrink(nodes: &[Node], child: Child, at: u32, dirty: &mut Dirty) -> Part
+pub(crate) fn shrink(nodes: &[Node], child: Child, at: u32, dirty: &mut Dirty) -> RemovedPart
     requires { HasRemoval nodes.now child at (length dirty.old) }
-    ensures { (t : Tree) → child ≡ name t → Stands nodes.now t → IsPartAfter result (shrunk at t) × (dirty.new ≡ dirty.old ++ rows (shrunk at t)) }
+    ensures { (t : Tree) → child ≡ name t → NodesStand nodes.now t → IsPartAfter result (plan_shrunk at t) × (dirty.new ≡ dirty.old ++ rows (plan_shrunk at t)) }
 {
     match child {
-        Child::Leaf(_) => Part { child, height: 0 },
+        Child::Leaf(_) => RemovedPart { child, height: 0 },
         Child::Inner(inner) => {
             let node = row(nodes, inner);
             let before = leaves_of(nodes, node.left);
             if at < before {
                 match node.left {
-                    Child::Leaf(_) => Part {
+                    Child::Leaf(_) => RemovedPart {
                         child: node.right,
                         height: height_of(nodes, node.right),
                     },
@@ -192,7 +206,7 @@ pub(crate) fn shrink(nodes: &[Node], child: Child, at: u32, dirty: &mut Dirty) -
                 }
             } else {
                 match node.right {
-                    Child::Leaf(_) => Part {
+                    Child::Leaf(_) => RemovedPart {
                         child: node.left,
                         height: height_of(nodes, node.left),
                     },
@@ -208,8 +222,8 @@ pub(crate) fn shrink(nodes: &[Node], child: Child, at: u32, dirty: &mut Dirty) -
 
 /// The inner node right above the leaf at a position.
 pub(crate) fn parent_of(nodes: &[Node], inner: u32, at: u32) -> u32
-    requires { IsAbove nodes.now inner at }
-    ensures { (t : Tree) → Inner inner ≡ name t → Stands nodes.now t → result ≡ gone at t }
+    requires { IsNodeAboveLeaf nodes.now inner at }
+    ensures { (t : Tree) → Inner inner ≡ name t → NodesStand nodes.now t → result ≡ node_removed at t }
 {
     let node = row(nodes, inner);
     let before = leaves_of(nodes, node.left);

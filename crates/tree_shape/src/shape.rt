@@ -3,14 +3,14 @@ ghost use Rattle.std.specs.Prelude.{◌≡◌, ℕ, ◌+◌, ◌-◌, ◌*◌, �
 ghost use Rattle.std.specs.List.{slice_get};
 ghost use Rattle.std.specs.Option.{option_map};
 ghost use Rattle.tree_shape.specs.declared.node.Child.TheVariants.{Inner};
-ghost use Rattle.tree_shape.specs.Tree.{Tree, name, height, count, Stands};
-ghost use Rattle.tree_shape.specs.Plan.{grown, erase, rows};
+ghost use Rattle.tree_shape.specs.Tree.{Tree, name, height, count, NodesStand};
+ghost use Rattle.tree_shape.specs.Plan.{plan_grown, tree_of_plan, rows};
 ghost use Rattle.tree_shape.specs.Apply.{times};
-ghost use Rattle.tree_shape.specs.Removal.{shrunk};
-ghost use Rattle.tree_shape.specs.Numbers.{next_number, taken, given_back};
-ghost use Rattle.tree_shape.specs.View.{ShapeView, count_of, leaves_of_tree, height_of_tree, IsSound, HasPlace, HasSoundLeaf, IsLawful, IsSameShape, tree_with, rows_with, inners_with, tree_without, rows_without, inners_without, rows_above};
-ghost use Rattle.tree_shape.specs.Changes.{IsPartOf, HasBelow, HasInner, times_listed, IsListing, BoundsHeight, IsOver, numbers_below};
-ghost use Rattle.tree_shape.specs.Fewest.{inserted, removed};
+ghost use Rattle.tree_shape.specs.Removal.{plan_shrunk};
+ghost use Rattle.tree_shape.specs.Numbers.{next_number, numbers_without_next, given_back};
+ghost use Rattle.tree_shape.specs.View.{ShapeView, leaf_count_of, leaves_of_tree, height_of_tree, IsSoundTree, HasPlace, HasSoundLeaf, IsLawfulShape, IsSameShape, tree_with, rows_with, inners_with, tree_without, rows_without, inners_without, rows_above};
+ghost use Rattle.tree_shape.specs.Changes.{IsSubtreeOf, HasBelow, HasInner, times_listed, ListsChanges, BoundsHeight, IsNodeOverPosition, numbers_below};
+ghost use Rattle.tree_shape.specs.Fewest.{list_inserted, list_removed};
 ghost use Rattle.tree_shape.specs.Building.{inners_upward};
 
 use crate::arena::apply;
@@ -40,17 +40,17 @@ pub struct Shape {
 impl Model for Shape {
     ghost use Rattle.std.specs.Prelude.{◌≡◌, ◌≤◌, ◌&&◌, length, vec_len, vec_capacity, nat_lt};
     ghost use Rattle.std.specs.Option.{option_map};
-    ghost use Rattle.tree_shape.specs.Numbers.{numbers_of};
+    ghost use Rattle.tree_shape.specs.Numbers.{numbers_view};
     ghost use Rattle.tree_shape.specs.View.{ShapeView, shape_code, tree_at, IsShape};
-    ghost use Rattle.tree_shape.specs.Parents.{parents_of, AreLinked, HavePlaces};
+    ghost use Rattle.tree_shape.specs.Parents.{parents_of, PartsHaveParents, HavePlaces};
 
     ghost Value = { ShapeView };
 
     ghost coded = { shape_code };
 
-    ghost view = { λ s. record { tree = option_map (tree_at s.nodes.items) s.root; leaf_numbers = numbers_of s.leaves; inner_numbers = numbers_of s.inners; room = ((nat_lt s.leaves.drawn (vec_capacity s.leaves.free) && nat_lt s.inners.drawn (vec_capacity s.inners.free)) && nat_lt (vec_len s.nodes) (vec_capacity s.nodes)) && (nat_lt s.leaves.drawn (length s.parents.leaves.items) && nat_lt s.inners.drawn (length s.parents.inners.items)) } };
+    ghost view = { λ s. record { tree = option_map (tree_at s.nodes.items) s.root; leaf_numbers = numbers_view s.leaves; inner_numbers = numbers_view s.inners; room = ((nat_lt s.leaves.drawn (vec_capacity s.leaves.free) && nat_lt s.inners.drawn (vec_capacity s.inners.free)) && nat_lt (vec_len s.nodes) (vec_capacity s.nodes)) && (nat_lt s.leaves.drawn (length s.parents.leaves.items) && nat_lt s.inners.drawn (length s.parents.inners.items)) } };
 
-    ghost invariant = { λ s. IsShape s.nodes.items s.root (numbers_of s.leaves) (numbers_of s.inners) × (vec_len s.nodes ≡ s.inners.drawn) × (s.leaves.drawn ≤ vec_capacity s.leaves.free) × (s.inners.drawn ≤ vec_capacity s.inners.free) × AreLinked (parents_of s.parents) (option_map (tree_at s.nodes.items) s.root) × HavePlaces (parents_of s.parents) s.leaves.drawn s.inners.drawn };
+    ghost invariant = { λ s. IsShape s.nodes.items s.root (numbers_view s.leaves) (numbers_view s.inners) × (vec_len s.nodes ≡ s.inners.drawn) × (s.leaves.drawn ≤ vec_capacity s.leaves.free) × (s.inners.drawn ≤ vec_capacity s.inners.free) × PartsHaveParents (parents_of s.parents) (option_map (tree_at s.nodes.items) s.root) × HavePlaces (parents_of s.parents) s.leaves.drawn s.inners.drawn };
 }
 
 impl Shape {
@@ -99,8 +99,8 @@ impl Shape {
 
     /// The number of leaves.
     pub fn len(&self) -> u32
-        ensures leaves { result ≡ count_of self.now.tree }
-        ensures lawful { IsLawful self.now }
+        ensures leaves { result ≡ leaf_count_of self.now.tree }
+        ensures lawful { IsLawfulShape self.now }
     {
         match self.root {
             None => 0,
@@ -159,15 +159,15 @@ impl Shape {
 
     /// The number of leaves below a leaf or an inner node of the tree.
     pub fn leaves_below(&self, child: Child) -> u32
-        requires { (t : Tree) × (child ≡ name t) × IsPartOf t self.now.tree }
-        ensures { (t : Tree) → child ≡ name t → IsPartOf t self.now.tree → result ≡ count t }
+        requires { (t : Tree) × (child ≡ name t) × IsSubtreeOf t self.now.tree }
+        ensures { (t : Tree) → child ≡ name t → IsSubtreeOf t self.now.tree → result ≡ count t }
     {
         leaves_of(self.nodes.as_slice(), child)
     }
 
     /// The number of the leaf at a position.
     pub fn leaf(&self, at: u32) -> u32
-        requires { at < count_of self.now.tree }
+        requires { at < leaf_count_of self.now.tree }
         ensures { result ≡ slice_index (leaves_of_tree self.now.tree) at }
     {
         match self.root {
@@ -217,8 +217,8 @@ impl Shape {
 
     /// What `insert` at this position lists and answers.
     pub fn plan_insert(&self, at: u32, dirty: &mut Dirty) -> u32
-        requires place { at ≤ count_of self.now.tree }
-        requires few { count_of self.now.tree < 65536 }
+        requires place { at ≤ leaf_count_of self.now.tree }
+        requires few { leaf_count_of self.now.tree < 65536 }
         ensures number { result ≡ next_number self.now.leaf_numbers }
         ensures listed { dirty.new ≡ rows_with at (next_number self.now.leaf_numbers) (next_number self.now.inner_numbers) self.now.tree }
     {
@@ -238,16 +238,16 @@ impl Shape {
     /// leaves or children changed, children before parents.
     pub fn insert(&mut self, at: u32, dirty: &mut Dirty) -> u32
         requires room { self.old.room ≡ true }
-        requires place { at ≤ count_of self.old.tree }
-        requires few { count_of self.old.tree < 65536 }
+        requires place { at ≤ leaf_count_of self.old.tree }
+        requires few { leaf_count_of self.old.tree < 65536 }
         ensures number { result ≡ next_number self.old.leaf_numbers }
-        ensures leaves { leaves_of_tree self.new.tree ≡ inserted at result (leaves_of_tree self.old.tree) }
+        ensures leaves { leaves_of_tree self.new.tree ≡ list_inserted at result (leaves_of_tree self.old.tree) }
         ensures tree { self.new.tree ≡ Some (tree_with at (next_number self.old.leaf_numbers) (next_number self.old.inner_numbers) self.old.tree) }
-        ensures leaf_numbers { self.new.leaf_numbers ≡ taken self.old.leaf_numbers }
+        ensures leaf_numbers { self.new.leaf_numbers ≡ numbers_without_next self.old.leaf_numbers }
         ensures inner_numbers { self.new.inner_numbers ≡ inners_with self.old.tree self.old.inner_numbers }
         ensures listed { dirty.new ≡ rows_with at (next_number self.old.leaf_numbers) (next_number self.old.inner_numbers) self.old.tree }
-        ensures listing { IsListing self.old.tree self.new.tree dirty.new }
-        ensures few { (high : ℕ) → BoundsHeight (count_of self.new.tree) high → length dirty.new ≤ 3 * (high + 2) }
+        ensures listing { ListsChanges self.old.tree self.new.tree dirty.new }
+        ensures few { (high : ℕ) → BoundsHeight (leaf_count_of self.new.tree) high → length dirty.new ≤ 3 * (high + 2) }
     {
         dirty.clear();
         let new = self.leaves.draw();
@@ -267,7 +267,7 @@ impl Shape {
 
     /// What `remove` at this position lists and answers.
     pub fn plan_remove(&self, at: u32, dirty: &mut Dirty) -> u32
-        requires { at < count_of self.now.tree }
+        requires { at < leaf_count_of self.now.tree }
         ensures number { result ≡ slice_index (leaves_of_tree self.now.tree) at }
         ensures listed { dirty.new ≡ rows_without at self.now.tree }
     {
@@ -284,15 +284,15 @@ impl Shape {
     /// Takes the leaf at a position out and answers its number, which is free again. Lists the inner nodes whose leaves or
     /// children changed, children before parents.
     pub fn remove(&mut self, at: u32, dirty: &mut Dirty) -> u32
-        requires { at < count_of self.old.tree }
+        requires { at < leaf_count_of self.old.tree }
         ensures number { result ≡ slice_index (leaves_of_tree self.old.tree) at }
-        ensures leaves { leaves_of_tree self.new.tree ≡ removed at (leaves_of_tree self.old.tree) }
+        ensures leaves { leaves_of_tree self.new.tree ≡ list_removed at (leaves_of_tree self.old.tree) }
         ensures tree { self.new.tree ≡ tree_without at self.old.tree }
         ensures leaf_numbers { self.new.leaf_numbers ≡ given_back (slice_index (leaves_of_tree self.old.tree) at) self.old.leaf_numbers }
         ensures inner_numbers { self.new.inner_numbers ≡ inners_without at self.old.tree self.old.inner_numbers }
         ensures listed { dirty.new ≡ rows_without at self.old.tree }
-        ensures listing { IsListing self.old.tree self.new.tree dirty.new }
-        ensures few { (high : ℕ) → BoundsHeight (count_of self.old.tree) high → length dirty.new ≤ 3 * (high + 2) }
+        ensures listing { ListsChanges self.old.tree self.new.tree dirty.new }
+        ensures few { (high : ℕ) → BoundsHeight (leaf_count_of self.old.tree) high → length dirty.new ≤ 3 * (high + 2) }
     {
         dirty.clear();
         match self.root {
@@ -318,12 +318,12 @@ impl Shape {
 
     /// Lists the inner nodes above the leaf at a position, children before parents.
     pub fn touch(&self, at: u32, dirty: &mut Dirty)
-        requires { at < count_of self.now.tree }
+        requires { at < leaf_count_of self.now.tree }
         ensures listed { dirty.new ≡ rows_above at self.now.tree }
-        ensures above { (n : ℕ) → IsOver self.now.tree at n → times_listed n dirty.new ≡ 1 }
-        ensures no_other { (n : ℕ) → 1 ≤ times_listed n dirty.new → IsOver self.now.tree at n }
-        ensures listing { IsListing self.now.tree self.now.tree dirty.new }
-        ensures few { (high : ℕ) → BoundsHeight (count_of self.now.tree) high → length dirty.new ≤ high }
+        ensures above { (n : ℕ) → IsNodeOverPosition self.now.tree at n → times_listed n dirty.new ≡ 1 }
+        ensures no_other { (n : ℕ) → 1 ≤ times_listed n dirty.new → IsNodeOverPosition self.now.tree at n }
+        ensures listing { ListsChanges self.now.tree self.now.tree dirty.new }
+        ensures few { (high : ℕ) → BoundsHeight (leaf_count_of self.now.tree) high → length dirty.new ≤ high }
     {
         dirty.clear();
         match self.root {
@@ -344,8 +344,8 @@ fn plan_put(
 ) -> Child
     requires place { HasPlace nodes.now child at number }
     requires empty { dirty.old ≡ [] }
-    ensures root { (t : Tree) → IsSound nodes.now child t → result ≡ name (erase (grown at new number t)) }
-    ensures listed { (t : Tree) → IsSound nodes.now child t → dirty.new ≡ rows (grown at new number t) }
+    ensures root { (t : Tree) → IsSoundTree nodes.now child t → result ≡ name (tree_of_plan (plan_grown at new number t)) }
+    ensures listed { (t : Tree) → IsSoundTree nodes.now child t → dirty.new ≡ rows (plan_grown at new number t) }
 {
     let grown = grow(nodes, child, at, new, number, dirty);
     dirty.push(row_on(grown.side, grown.node, grown.near, grown.far));
@@ -358,7 +358,7 @@ fn add_row(nodes: &mut Vec<Node>, child: Child, number: u32)
     requires near { number ≤ vec_len nodes.old }
     ensures len { vec_len nodes.new ≡ max (vec_len nodes.old) (number + 1) }
     ensures place { number < length nodes.new.items }
-    ensures stands { (t : Tree) → Stands nodes.old.items t → Stands nodes.new.items t }
+    ensures stands { (t : Tree) → NodesStand nodes.old.items t → NodesStand nodes.new.items t }
 {
     if number as usize == nodes.as_slice().len() {
         nodes.push_reserved(Node {
@@ -384,8 +384,8 @@ fn put(
     requires place { HasPlace nodes.old.items child at number }
     requires empty { dirty.old ≡ [] }
     ensures len { vec_len nodes.new ≡ max (vec_len nodes.old) (number + 1) }
-    ensures sound { (t : Tree) → IsSound nodes.old.items child t → at ≤ count t → count t < 65536 → times number t ≡ 0 → IsSound nodes.new.items result (erase (grown at new number t)) }
-    ensures listed { (t : Tree) → IsSound nodes.old.items child t → dirty.new ≡ rows (grown at new number t) }
+    ensures sound { (t : Tree) → IsSoundTree nodes.old.items child t → at ≤ count t → count t < 65536 → times number t ≡ 0 → IsSoundTree nodes.new.items result (tree_of_plan (plan_grown at new number t)) }
+    ensures listed { (t : Tree) → IsSoundTree nodes.old.items child t → dirty.new ≡ rows (plan_grown at new number t) }
 {
     add_row(nodes, child, number);
     let root = plan_put(nodes.as_slice(), child, at, new, number, dirty);
@@ -397,8 +397,8 @@ fn put(
 fn plan_take(nodes: &[Node], child: Child, at: u32, dirty: &mut Dirty) -> Child
     requires place { HasSoundLeaf nodes.now child at }
     requires empty { dirty.old ≡ [] }
-    ensures root { (t : Tree) → IsSound nodes.now child t → result ≡ name (erase (shrunk at t)) }
-    ensures listed { (t : Tree) → IsSound nodes.now child t → dirty.new ≡ rows (shrunk at t) }
+    ensures root { (t : Tree) → IsSoundTree nodes.now child t → result ≡ name (tree_of_plan (plan_shrunk at t)) }
+    ensures listed { (t : Tree) → IsSoundTree nodes.now child t → dirty.new ≡ rows (plan_shrunk at t) }
 {
     shrink(nodes, child, at, dirty).child
 }
@@ -408,8 +408,8 @@ fn take(nodes: &mut Vec<Node>, top: u32, at: u32, dirty: &mut Dirty) -> Child
     requires place { HasSoundLeaf nodes.old.items (Inner top) at }
     requires empty { dirty.old ≡ [] }
     ensures len { vec_len nodes.new ≡ vec_len nodes.old }
-    ensures sound { (t : Tree) → IsSound nodes.old.items (Inner top) t → at < count t → IsSound nodes.new.items result (erase (shrunk at t)) }
-    ensures listed { (t : Tree) → IsSound nodes.old.items (Inner top) t → dirty.new ≡ rows (shrunk at t) }
+    ensures sound { (t : Tree) → IsSoundTree nodes.old.items (Inner top) t → at < count t → IsSoundTree nodes.new.items result (tree_of_plan (plan_shrunk at t)) }
+    ensures listed { (t : Tree) → IsSoundTree nodes.old.items (Inner top) t → dirty.new ≡ rows (plan_shrunk at t) }
 {
     let root = plan_take(nodes.as_slice(), Child::Inner(top), at, dirty);
     apply(nodes.as_mut_slice(), dirty);

@@ -2,9 +2,9 @@
 use Rattle.std.proofs.Common.{◌≡◌, ◌≢◌, ◌⊎◌, inl, inr, ⊎_elim, ℕ, suc, ◌+◌, ◌<◌, ◌≤◌, Bool, true, false, List, [], ◌∷◌, ◌++◌, length, Option, Some, None, sym, ap, ◌∙◌, refl, subst, append_assoc, append-nil, length-append, arith}
 use Rattle.turn_book.specs.Core.{Core, IsCore}
 use Rattle.turn_book.specs.Legal.{seen_after}
-use Rattle.turn_book.specs.Journal.{Each, listed}
-use Rattle.turn_book.specs.Interleavings.{Event, Waiting, Takes, sessions_after, journal_after, IsDone, Plays}
-use Rattle.turn_book.specs.Walk.{IsGiven, Walks, ends, passes, hears, enters, AllWalk}
+use Rattle.turn_book.specs.Journal.{Each, entry_list}
+use Rattle.turn_book.specs.Interleavings.{Event, Waiting, TakesNextCommand, sessions_after, journal_after, IsSessionDone, Plays}
+use Rattle.turn_book.specs.Walk.{IsReplyGiven, Walks, ends, passes, hears, enters, AllWalk}
 
 module _ {Entry Command Reply Memory : Type 0} (core : Core Entry Command Reply Memory) (laws : IsCore core) (rule : ℕ → ℕ → Reply → Type 0) where
   abbrev W : Type 0
@@ -19,7 +19,7 @@ module _ {Entry Command Reply Memory : Type 0} (core : Core Entry Command Reply 
 
   -- session n has taken all replies that it takes at this journal
   abbrev Stopped : ℕ → List Entry → List Entry → W → Type 0
-  Stopped n before [] w = IsDone core rule w
+  Stopped n before [] w = IsSessionDone core rule w
   Stopped n before (e ∷ rest) w = ((core.number_of e ≢ n) × Walks core rule n (before ++ e ∷ []) rest w.seen w.memory w.commands w.replies)
       ⊎ ((c : Command) × (cs : List Command) × (r : Reply) × (rs : List Reply) × (w ≡ waits w.seen w.memory (c ∷ cs) (r ∷ rs)) × (core.entry_of n w.memory c r ≡ Some e) × core.answers n before w.memory c r × rule (length before) w.seen r
       × Walks core rule n (before ++ e ∷ []) rest (seen_after core w.seen r) (core.memory_after w.memory c r) cs rs)
@@ -28,25 +28,25 @@ module _ {Entry Command Reply Memory : Type 0} (core : Core Entry Command Reply 
   AllStopped n before rest [] = Unit {0}
   AllStopped n before rest (w ∷ ws) = Stopped n before rest w × AllStopped (n + 1) before rest ws
 
-  event_of : (n : ℕ) (before : List Entry) (memory : Memory) (c : Command) (r : Reply) → IsGiven core n before memory c r → (b : Bool) × (b ≡ true → r ≡ core.short) × (b ≡ false → core.answers n before memory c r)
+  event_of : (n : ℕ) (before : List Entry) (memory : Memory) (c : Command) (r : Reply) → IsReplyGiven core n before memory c r → (b : Bool) × (b ≡ true → r ≡ core.short) × (b ≡ false → core.answers n before memory c r)
   event_of n before memory c r g = ⊎_elim (λ h. (true, (λ e. h), (λ e. absurd (cc)))) (λ h. (false, (λ e. absurd (cc)), (λ e. h))) g
 
   -- a reply that enters nothing
-  heard : (front back : List W) (before : List Entry) (seen : ℕ) (memory : Memory) (c : Command) (cs : List Command) (r : Reply) (rs : List Reply) (after : List Entry) → core.entry_of (length front) memory c r ≡ None → IsGiven core (length front) before memory c r → rule (length before) seen r
+  heard : (front back : List W) (before : List Entry) (seen : ℕ) (memory : Memory) (c : Command) (cs : List Command) (r : Reply) (rs : List Reply) (after : List Entry) → core.entry_of (length front) memory c r ≡ None → IsReplyGiven core (length front) before memory c r → rule (length before) seen r
       → Played before (front ++ waits (seen_after core seen r) (core.memory_after memory c r) cs rs ∷ back) after → Played before (front ++ waits seen memory (c ∷ cs) (r ∷ rs) ∷ back) after
   heard front back before seen memory c cs r rs after none g place p =
       let b = event_of (length front) before memory c r g in
       let event : Event = record { session = length front; is_short = b.0 } in
-      let t : Takes core rule event before (front ++ waits seen memory (c ∷ cs) (r ∷ rs) ∷ back) = record { front = front; seen = seen; placed = place; memory = memory; command = c; commands = cs; reply = r; replies = rs; back = back; number = refl; found = refl; is_short = b.1; is_answer = b.2 } in
-      let same : journal_after core rule t ≡ before = ap (λ (o : Option Entry). before ++ listed o) none ∙ append-nil before in
+      let t : TakesNextCommand core rule event before (front ++ waits seen memory (c ∷ cs) (r ∷ rs) ∷ back) = record { front = front; seen = seen; placed = place; memory = memory; command = c; commands = cs; reply = r; replies = rs; back = back; number = refl; found = refl; is_short = b.1; is_answer = b.2 } in
+      let same : journal_after core rule t ≡ before = ap (λ (o : Option Entry). before ++ entry_list o) none ∙ append-nil before in
       (event ∷ p.0, inl (t, subst (λ (j : List Entry). Plays core rule p.0 j (sessions_after core rule t) after) (sym same) p.1))
 
   entered : (front back : List W) (before : List Entry) (e : Entry) (seen : ℕ) (memory : Memory) (c : Command) (cs : List Command) (r : Reply) (rs : List Reply) (after : List Entry) → core.entry_of (length front) memory c r ≡ Some e → core.answers (length front) before memory c r → rule (length before) seen r
       → Played (before ++ e ∷ []) (front ++ waits (seen_after core seen r) (core.memory_after memory c r) cs rs ∷ back) after → Played before (front ++ waits seen memory (c ∷ cs) (r ∷ rs) ∷ back) after
   entered front back before e seen memory c cs r rs after some g place p =
       let event : Event = record { session = length front; is_short = false } in
-      let t : Takes core rule event before (front ++ waits seen memory (c ∷ cs) (r ∷ rs) ∷ back) = record { front = front; seen = seen; placed = place; memory = memory; command = c; commands = cs; reply = r; replies = rs; back = back; number = refl; found = refl; is_short = (λ e. absurd (cc)); is_answer = (λ e. g) } in
-      let same : journal_after core rule t ≡ before ++ e ∷ [] = ap (λ (o : Option Entry). before ++ listed o) some in
+      let t : TakesNextCommand core rule event before (front ++ waits seen memory (c ∷ cs) (r ∷ rs) ∷ back) = record { front = front; seen = seen; placed = place; memory = memory; command = c; commands = cs; reply = r; replies = rs; back = back; number = refl; found = refl; is_short = (λ e. absurd (cc)); is_answer = (λ e. g) } in
+      let same : journal_after core rule t ≡ before ++ e ∷ [] = ap (λ (o : Option Entry). before ++ entry_list o) some in
       (event ∷ p.0, inl (t, subst (λ (j : List Entry). Plays core rule p.0 j (sessions_after core rule t) after) (sym same) p.1))
 
   -- one session takes all that it takes at this journal
@@ -57,7 +57,7 @@ module _ {Entry Command Reply Memory : Type 0} (core : Core Entry Command Reply 
   drained front back n before rest seen memory cs rs len (enters _ e rest' _ _ c cs' r rs' some right place walk) = (waits seen memory cs rs, inr (c, cs', r, rs', refl, some, right, place, walk), (λ after p. p))
   drained front back n before rest seen memory cs rs len (hears _ _ _ _ c cs' r rs' none given place walk) =
       let d = drained front back n before rest (seen_after core seen r) (core.memory_after memory c r) cs' rs' len walk in
-      (d.0, d.1, (λ after p. heard front back before seen memory c cs' r rs' after (subst (λ (k : ℕ). core.entry_of k memory c r ≡ None) (sym len) none) (subst (λ (k : ℕ). IsGiven core k before memory c r) (sym len) given) place (d.2 after p)))
+      (d.0, d.1, (λ after p. heard front back before seen memory c cs' r rs' after (subst (λ (k : ℕ). core.entry_of k memory c r ≡ None) (sym len) none) (subst (λ (k : ℕ). IsReplyGiven core k before memory c r) (sym len) given) place (d.2 after p)))
 
   all_drained : (front : List W) (n : ℕ) (before rest : List Entry) (ws : List W) → length front ≡ n → AllWalk core rule n before rest ws
       → (vs : List W) × (length vs ≡ length ws) × AllStopped n before rest vs × ((after : List Entry) → Played before (front ++ vs) after → Played before (front ++ ws) after)
@@ -68,7 +68,7 @@ module _ {Entry Command Reply Memory : Type 0} (core : Core Entry Command Reply 
       let h = all_drained (front ++ d.0 ∷ []) (n + 1) before rest ws m a.1 in
       (d.0 ∷ h.0, ap suc h.1, (d.1, h.2), (λ after p. d.2 after (subst (λ (l : List W). Played before l after) (append_assoc front (d.0 ∷ []) ws) (h.3 after (subst (λ (l : List W). Played before l after) (sym (append_assoc front (d.0 ∷ []) h.0)) p)))))
 
-  all_done : (n : ℕ) (before : List Entry) (ws : List W) → AllStopped n before [] ws → Each (IsDone core rule) ws
+  all_done : (n : ℕ) (before : List Entry) (ws : List W) → AllStopped n before [] ws → Each (IsSessionDone core rule) ws
   all_done n before [] a = tt
   all_done n before (w ∷ ws) a = (a.0, all_done (n + 1) before ws a.1)
 

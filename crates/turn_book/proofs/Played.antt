@@ -2,9 +2,9 @@
 use Rattle.std.proofs.Common.{◌≡◌, inl, inr, ⊎_elim, ℕ, ◌+◌, ◌<◌, Bool, true, false, List, [], ◌∷◌, ◌++◌, length, Option, Some, None, sym, ap, ◌∙◌, refl, subst, append_assoc, append-nil, length-append, arith}
 use Rattle.turn_book.specs.Core.{Core, IsCore}
 use Rattle.turn_book.specs.Legal.{seen_after}
-use Rattle.turn_book.specs.Journal.{Each, listed}
-use Rattle.turn_book.specs.Interleavings.{Event, Waiting, Takes, sessions_after, journal_after, IsDone, Plays}
-use Rattle.turn_book.specs.Walk.{IsGiven, Walks, ends, passes, hears, enters, AllWalk}
+use Rattle.turn_book.specs.Journal.{Each, entry_list}
+use Rattle.turn_book.specs.Interleavings.{Event, Waiting, TakesNextCommand, sessions_after, journal_after, IsSessionDone, Plays}
+use Rattle.turn_book.specs.Walk.{IsReplyGiven, Walks, ends, passes, hears, enters, AllWalk}
 
 module _ {Entry Command Reply Memory : Type 0} (core : Core Entry Command Reply Memory) (laws : IsCore core) (rule : ℕ → ℕ → Reply → Type 0) where
   abbrev W : Type 0
@@ -13,14 +13,14 @@ module _ {Entry Command Reply Memory : Type 0} (core : Core Entry Command Reply 
   abbrev Way : ℕ → List Entry → List Entry → W → Type 0
   Way n before rest w = Walks core rule n before rest w.seen w.memory w.commands w.replies
 
-  done_walk : (n : ℕ) (before : List Entry) (w : W) → IsDone core rule w → Way n before [] w
+  done_walk : (n : ℕ) (before : List Entry) (w : W) → IsSessionDone core rule w → Way n before [] w
   done_walk n before w d = subst (λ (p : List Command × List Reply). Walks core rule n before [] w.seen w.memory p.0 p.1) (sym (λ i. (d.0 i, d.1 i))) (ends before w.seen w.memory)
 
-  all_done : (n : ℕ) (before : List Entry) (ws : List W) → Each (IsDone core rule) ws → AllWalk core rule n before [] ws
+  all_done : (n : ℕ) (before : List Entry) (ws : List W) → Each (IsSessionDone core rule) ws → AllWalk core rule n before [] ws
   all_done n before [] a = tt
   all_done n before (w ∷ ws) a = (done_walk n before w a.0, all_done (n + 1) before ws a.1)
 
-  given : (b : Bool) (n : ℕ) (before : List Entry) (memory : Memory) (c : Command) (r : Reply) → (b ≡ true → r ≡ core.short) → (b ≡ false → core.answers n before memory c r) → IsGiven core n before memory c r
+  given : (b : Bool) (n : ℕ) (before : List Entry) (memory : Memory) (c : Command) (r : Reply) → (b ≡ true → r ≡ core.short) → (b ≡ false → core.answers n before memory c r) → IsReplyGiven core n before memory c r
   given true n before memory c r f g = inl (f refl)
   given false n before memory c r f g = inr (g refl)
 
@@ -50,7 +50,7 @@ module _ {Entry Command Reply Memory : Type 0} (core : Core Entry Command Reply 
   same_length front back v w = length-append front (v ∷ back) ∙ sym (length-append front (w ∷ back))
 
   -- a turn that enters nothing
-  heard : (n : ℕ) (before : List Entry) (front back : List W) (seen : ℕ) (memory : Memory) (c : Command) (cs : List Command) (r : Reply) (rs : List Reply) (after : List Entry) → length front ≡ n → core.entry_of n memory c r ≡ None → IsGiven core n before memory c r → rule (length before) seen r
+  heard : (n : ℕ) (before : List Entry) (front back : List W) (seen : ℕ) (memory : Memory) (c : Command) (cs : List Command) (r : Reply) (rs : List Reply) (after : List Entry) → length front ≡ n → core.entry_of n memory c r ≡ None → IsReplyGiven core n before memory c r → rule (length before) seen r
       → Shows before (front ++ record { seen = seen_after core seen r; memory = core.memory_after memory c r; commands = cs; replies = rs } ∷ back) after → Shows before (front ++ record { seen = seen; memory = memory; commands = c ∷ cs; replies = r ∷ rs } ∷ back) after
   heard n before front back seen memory c cs r rs after is none g place s =
       let v : W = record { seen = seen_after core seen r; memory = core.memory_after memory c r; commands = cs; replies = rs } in
@@ -81,8 +81,8 @@ module _ {Entry Command Reply Memory : Type 0} (core : Core Entry Command Reply 
   right false n before memory c r e some f g = g refl
   right true n before memory c r e some f g = let none : core.entry_of n memory c r ≡ None = ap (core.entry_of n memory c) (f refl) ∙ laws.short_entry n memory c in absurd (cc)
 
-  turn : (event : Event) (before : List Entry) (ws : List W) (t : Takes core rule event before ws) (after : List Entry) (o : Option Entry) → core.entry_of event.session t.memory t.command t.reply ≡ o
-      → Shows (before ++ listed o) (sessions_after core rule t) after → Shows before ws after
+  turn : (event : Event) (before : List Entry) (ws : List W) (t : TakesNextCommand core rule event before ws) (after : List Entry) (o : Option Entry) → core.entry_of event.session t.memory t.command t.reply ≡ o
+      → Shows (before ++ entry_list o) (sessions_after core rule t) after → Shows before ws after
   turn event before ws t after None none s = subst (λ (l : List W). Shows before l after) (sym t.found)
       (heard event.session before t.front t.back t.seen t.memory t.command t.commands t.reply t.replies after t.number none (given event.is_short event.session before t.memory t.command t.reply t.is_short t.is_answer) t.placed
       (subst (λ (j : List Entry). Shows j (sessions_after core rule t) after) (append-nil before) s))

@@ -5,12 +5,12 @@ use Rattle.turn_book.specs.declared.view.View.{View}
 use Rattle.turn_book.specs.declared.view.Joined.{Joined}
 use Rattle.turn_book.specs.Core.{Core, IsCore}
 use Rattle.turn_book.specs.Histories.{IsHistory, AreHistories}
-use Rattle.turn_book.specs.Journal.{Each, Foreign, GoesOn}
-use Rattle.turn_book.specs.Legal.{IsLegal}
+use Rattle.turn_book.specs.Journal.{Each, Foreign, JournalGoesOn}
+use Rattle.turn_book.specs.Legal.{IsLegalHistory}
 use Rattle.turn_book.specs.Ready.{AreReady}
-use Rattle.turn_book.specs.Taken.{IsTaken}
+use Rattle.turn_book.specs.Taken.{IsCommandTaken}
 use Rattle.turn_book.specs.Turn.{Catches}
-use Rattle.turn_book.specs.Views.{lower, upper, united, own_journal}
+use Rattle.turn_book.specs.Views.{lower, upper, view_united, own_journal}
 use Rattle.turn_book.specs.Walk.{memory_of}
 use Rattle.turn_book.proofs.Entries.{each_right, each_weaker}
 use Rattle.turn_book.proofs.Histories.{history_starts, history_turns, histories_longer, histories_append, histories_legal}
@@ -37,7 +37,7 @@ module _ {Opening Entry Command Reply Memory : Type 0} (core : Core Entry Comman
 
   -- one more command
   pub talk_goes_on : (script : List Command) (i : ℕ) (began v w : View Opening Entry) (replies all : List Reply) (c : Command) (r : Reply) → began.first < began.past → TalkSoFar core start script i began v replies
-      → take (i + 1) script ≡ take i script ++ c ∷ [] → all ≡ replies ++ r ∷ [] → IsTaken core began.first (memory_of core start (take i script) replies) c r v w → TalkSoFar core start script (i + 1) began w all
+      → take (i + 1) script ≡ take i script ++ c ∷ [] → all ≡ replies ++ r ∷ [] → IsCommandTaken core began.first (memory_of core start (take i script) replies) c r v w → TalkSoFar core start script (i + 1) began w all
   talk_goes_on script i began v w replies all c r some so_far one all_is had = record {
     first = had.first ∙ so_far.first;
     past = had.past ∙ so_far.past;
@@ -80,15 +80,15 @@ parts_fresh {Opening} {Entry} number_of at v l r above below l_is r_is fresh = (
 
 module _ {Entry Command Reply Memory : Type 0} (core : Core Entry Command Reply Memory) (laws : IsCore core) (start : Memory) where
   -- what is seen later has the same histories
-  pub histories_seen : (low high : ℕ) (seen all : List Entry) (cs : List (List Command)) (rs : List (List Reply)) → low + length cs ≡ high → GoesOn core.number_of low high seen all
+  pub histories_seen : (low high : ℕ) (seen all : List Entry) (cs : List (List Command)) (rs : List (List Reply)) → low + length cs ≡ high → JournalGoesOn core.number_of low high seen all
       → AreHistories core low seen start cs rs → AreHistories core low all start cs rs
   histories_seen low high seen all cs rs range g h =
       subst (λ (j : List Entry). AreHistories core low j start cs rs) (sym g.1) (histories_longer core laws low low high seen start cs rs g.0 (omega arith) (omega arith) g.2 h)
 
 module _ {Entry Command Reply Memory : Type 0} (core : Core Entry Command Reply Memory) (start : Memory) where
   -- no sessions
-  pub none_legal : (seen : List Entry) (cs : List (List Command)) (rs : List (List Reply)) → length cs ≡ 0 → seen ≡ [] → rs ≡ [] → IsLegal core start cs seen rs
-  none_legal seen [] rs few unseen unheard = subst (λ (p : List Entry × List (List Reply)). IsLegal core start [] p.0 p.1) (λ i. (sym unseen i, sym unheard i)) (record { sessions = tt; numbers = tt })
+  pub none_legal : (seen : List Entry) (cs : List (List Command)) (rs : List (List Reply)) → length cs ≡ 0 → seen ≡ [] → rs ≡ [] → IsLegalHistory core start cs seen rs
+  none_legal seen [] rs few unseen unheard = subst (λ (p : List Entry × List (List Reply)). IsLegalHistory core start [] p.0 p.1) (λ i. (sym unseen i, sym unheard i)) (record { sessions = tt; numbers = tt })
   none_legal seen (c ∷ cs) rs few unseen unheard = absurd (cc)
 
 module _ {Opening Entry Command Reply Memory : Type 0} (core : Core Entry Command Reply Memory) (laws : IsCore core) (start : Memory) where
@@ -96,17 +96,17 @@ module _ {Opening Entry Command Reply Memory : Type 0} (core : Core Entry Comman
   pub parts_join : (at : ℕ) (v l r l' r' u : View Opening Entry) (all : List Entry) (cs ds : List (List Command)) (ps qs : List (List Reply)) → l ≡ lower at v → r ≡ upper at v → v.first + length cs ≡ at → at + length ds ≡ v.past
       → l'.first ≡ l.first → l'.past ≡ l.past → r'.first ≡ r.first → r'.past ≡ r.past
       → AreHistories core l.first l'.seen start cs ps → AreHistories core r.first r'.seen start ds qs
-      → u ≡ united l' r' → Catches core.number_of u all → AreHistories core v.first all start (cs ++ ds) (ps ++ qs)
+      → u ≡ view_united l' r' → Catches core.number_of u all → AreHistories core v.first all start (cs ++ ds) (ps ++ qs)
   parts_join at v l r l' r' u all cs ds ps qs l_is r_is len fits lf lp rf rp left right u_is c =
-      let K : Joined Entry → Type 0 = λ k. GoesOn core.number_of k.first k.past k.seen all in
+      let K : Joined Entry → Type 0 = λ k. JournalGoesOn core.number_of k.first k.past k.seen all in
       let j : u.joined ≡ (l'.joined ++ r'.joined) ++ own_journal l' ∷ own_journal r' ∷ [] = ap (λ (z : View Opening Entry). z.joined) u_is in
       let g = each_right K (l'.joined ++ r'.joined) (own_journal l' ∷ own_journal r' ∷ []) (subst (Each K) j c.joined) in
       let lf' : l'.first ≡ v.first = lf ∙ ap (λ (z : View Opening Entry). z.first) l_is in
       let lp' : l'.past ≡ at = lp ∙ ap (λ (z : View Opening Entry). z.past) l_is in
       let rf' : r'.first ≡ at = rf ∙ ap (λ (z : View Opening Entry). z.first) r_is in
       let rp' : r'.past ≡ v.past = rp ∙ ap (λ (z : View Opening Entry). z.past) r_is in
-      let gl = subst (λ (z : ℕ × ℕ). GoesOn core.number_of z.0 z.1 l'.seen all) (λ i. (lf' i, lp' i)) g.0 in
-      let gr = subst (λ (z : ℕ × ℕ). GoesOn core.number_of z.0 z.1 r'.seen all) (λ i. (rf' i, rp' i)) g.1.0 in
+      let gl = subst (λ (z : ℕ × ℕ). JournalGoesOn core.number_of z.0 z.1 l'.seen all) (λ i. (lf' i, lp' i)) g.0 in
+      let gr = subst (λ (z : ℕ × ℕ). JournalGoesOn core.number_of z.0 z.1 r'.seen all) (λ i. (rf' i, rp' i)) g.1.0 in
       let hl = subst (λ (z : View Opening Entry). AreHistories core z.first l'.seen start cs ps) l_is left in
       let hr = subst (λ (z : View Opening Entry). AreHistories core z.first r'.seen start ds qs) r_is right in
       histories_append core laws v.first all start cs ps ds qs
@@ -118,11 +118,11 @@ module _ {Opening Entry Command Reply Memory : Type 0} (core : Core Entry Comman
       → AreHistories core v.first w.seen start cs rs → AreHistories core v.first all start cs told
   seen_last v w all cs rs told first past range c told_is h =
       subst (λ (q : List (List Reply)). AreHistories core v.first all start cs q) (sym told_is)
-      (histories_seen core laws start v.first v.past w.seen all cs rs range (subst (λ (z : ℕ × ℕ). GoesOn core.number_of z.0 z.1 w.seen all) (λ i. (first i, past i)) c.seen) h)
+      (histories_seen core laws start v.first v.past w.seen all cs rs range (subst (λ (z : ℕ × ℕ). JournalGoesOn core.number_of z.0 z.1 w.seen all) (λ i. (first i, past i)) c.seen) h)
 
   -- and these are legal, where they are of all numbers
   pub legal_last : (v w : View Opening Entry) (all : List Entry) (cs : List (List Command)) (rs told : List (List Reply)) → w.first ≡ v.first → w.past ≡ v.past → w.count ≡ v.count → v.first + length cs ≡ v.past → Catches core.number_of w all → told ≡ rs
-      → AreHistories core v.first w.seen start cs rs → v.first ≡ 0 → v.past ≡ v.count → IsLegal core start cs all told
+      → AreHistories core v.first w.seen start cs rs → v.first ≡ 0 → v.past ≡ v.count → IsLegalHistory core start cs all told
   legal_last v w all cs rs told first past count range c told_is h zero_first whole =
       histories_legal core laws all start cs told
       (subst (λ (n : ℕ). AreHistories core n all start cs told) zero_first (seen_last v w all cs rs told first past range c told_is h))

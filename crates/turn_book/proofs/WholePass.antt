@@ -2,9 +2,9 @@
 use Rattle.std.proofs.Common.{◌≡◌, ℕ, ◌<◌, List, [], ◌∷◌, ◌++◌, Option, refl, sym, ap, ◌∙◌, subst, append-nil, arith}
 use Rattle.turn_book.specs.declared.view.View.{View}
 use Rattle.turn_book.specs.Core.{Core}
-use Rattle.turn_book.specs.Journal.{Each, Foreign, listed}
-use Rattle.turn_book.specs.Taken.{IsTaken}
-use Rattle.turn_book.specs.Walk.{IsGiven}
+use Rattle.turn_book.specs.Journal.{Each, Foreign, entry_list}
+use Rattle.turn_book.specs.Taken.{IsCommandTaken}
+use Rattle.turn_book.specs.Walk.{IsReplyGiven}
 
 each_left : {A : Type 0} (P : A → Type 0) (xs ys : List A) → Each P (xs ++ ys) → Each P xs
 each_left P [] ys a = tt
@@ -22,11 +22,11 @@ none_foreign number_of first past count (e ∷ more) low high foreign few = absu
 module _ {Opening Entry Command Reply Memory : Type 0} (core : Core Entry Command Reply Memory) where
   -- so a command is answered at the journal that was seen, and its entry alone comes behind that
   pub taken_whole : (n : ℕ) (m : Memory) (c : Command) (r : Reply) (v w : View Opening Entry) (count : ℕ) → v.first ≡ 0 → v.past ≡ count → Each (λ e. core.number_of e < count) w.seen
-      → IsTaken core n m c r v w → IsGiven core n v.seen m c r × (w.seen ≡ v.seen ++ listed (core.entry_of n m c r))
+      → IsCommandTaken core n m c r v w → IsReplyGiven core n v.seen m c r × (w.seen ≡ v.seen ++ entry_list (core.entry_of n m c r))
   taken_whole n m c r v w count low high few t =
-      let known : Each (λ e. core.number_of e < count) ((v.seen ++ t.more) ++ listed t.added) = subst (Each (λ e. core.number_of e < count)) t.seen few in
-      let none = none_foreign core.number_of v.first v.past count t.more low high t.foreign (each_end (λ e. core.number_of e < count) v.seen t.more (each_left (λ e. core.number_of e < count) (v.seen ++ t.more) (listed t.added) known)) in
+      let known : Each (λ e. core.number_of e < count) ((v.seen ++ t.more) ++ entry_list t.added) = subst (Each (λ e. core.number_of e < count)) t.seen few in
+      let none = none_foreign core.number_of v.first v.past count t.more low high t.foreign (each_end (λ e. core.number_of e < count) v.seen t.more (each_left (λ e. core.number_of e < count) (v.seen ++ t.more) (entry_list t.added) known)) in
       let found : v.seen ++ t.more ≡ v.seen = ap (λ (l : List Entry). v.seen ++ l) none ∙ append-nil v.seen in (
-        subst (λ (l : List Entry). IsGiven core n l m c r) found t.given,
-        t.seen ∙ (ap (λ (l : List Entry). l ++ listed t.added) found ∙ ap (λ (o : Option Entry). v.seen ++ listed o) (sym t.entry)),
+        subst (λ (l : List Entry). IsReplyGiven core n l m c r) found t.given,
+        t.seen ∙ (ap (λ (l : List Entry). l ++ entry_list t.added) found ∙ ap (λ (o : Option Entry). v.seen ++ entry_list o) (sym t.entry)),
       )

@@ -2,7 +2,7 @@
 use Rattle.std.specs.Prelude.{◌≡◌, ◌⊎◌, ℕ, Bool, true, false, List, [], ◌∷◌, ◌++◌, length, slice_get, Some, unwrap_or, ⊤}
 use Rattle.turn_book.specs.Core.{Core}
 use Rattle.turn_book.specs.Legal.{seen_after}
-use Rattle.turn_book.specs.Journal.{Each, listed}
+use Rattle.turn_book.specs.Journal.{Each, entry_list}
 
 -- a session's next command is answered, with want of memory where it is short
 pub record Event : Type 0 where
@@ -19,7 +19,7 @@ pub record Waiting (Command Reply Memory : Type 0) : Type 0 where
 -- A rule says at which version a reply may be given to a session that has seen another.
 module _ {Entry Command Reply Memory : Type 0} (core : Core Entry Command Reply Memory) (rule : ℕ → ℕ → Reply → Type 0) where
   -- at this journal session n takes its next command and its next reply, and the others wait
-  pub record Takes (event : Event) (before : List Entry) (sessions : List (Waiting Command Reply Memory)) : Type 0 where
+  pub record TakesNextCommand (event : Event) (before : List Entry) (sessions : List (Waiting Command Reply Memory)) : Type 0 where
     pub front : List (Waiting Command Reply Memory)
     pub seen : ℕ
     pub memory : Memory
@@ -35,14 +35,14 @@ module _ {Entry Command Reply Memory : Type 0} (core : Core Entry Command Reply 
     pub is_answer : event.is_short ≡ false → core.answers event.session before memory command reply
 
   -- the sessions and the journal after it
-  abbrev pub sessions_after : {event : Event} {before : List Entry} {sessions : List (Waiting Command Reply Memory)} → Takes event before sessions → List (Waiting Command Reply Memory)
+  abbrev pub sessions_after : {event : Event} {before : List Entry} {sessions : List (Waiting Command Reply Memory)} → TakesNextCommand event before sessions → List (Waiting Command Reply Memory)
   sessions_after t = t.front ++ record { seen = seen_after core t.seen t.reply; memory = core.memory_after t.memory t.command t.reply; commands = t.commands; replies = t.replies } ∷ t.back
 
-  abbrev pub journal_after : {event : Event} {before : List Entry} {sessions : List (Waiting Command Reply Memory)} → Takes event before sessions → List Entry
-  journal_after {event} {before} t = before ++ listed (core.entry_of event.session t.memory t.command t.reply)
+  abbrev pub journal_after : {event : Event} {before : List Entry} {sessions : List (Waiting Command Reply Memory)} → TakesNextCommand event before sessions → List Entry
+  journal_after {event} {before} t = before ++ entry_list (core.entry_of event.session t.memory t.command t.reply)
 
-  abbrev pub IsDone : Waiting Command Reply Memory → Type 0
-  IsDone w = (w.commands ≡ []) × (w.replies ≡ [])
+  abbrev pub IsSessionDone : Waiting Command Reply Memory → Type 0
+  IsSessionDone w = (w.commands ≡ []) × (w.replies ≡ [])
 
   -- session n has no command left
   abbrev pub IsIdle : ℕ → List (Waiting Command Reply Memory) → Type 0
@@ -50,28 +50,28 @@ module _ {Entry Command Reply Memory : Type 0} (core : Core Entry Command Reply 
 
   -- played from this journal, the events answer all commands with these replies, and leave that journal
   abbrev pub Plays : List Event → List Entry → List (Waiting Command Reply Memory) → List Entry → Type 0
-  Plays [] before sessions after = (after ≡ before) × Each IsDone sessions
-  Plays (event ∷ events) before sessions after = ((t : Takes event before sessions) × Plays events (journal_after t) (sessions_after t) after)
+  Plays [] before sessions after = (after ≡ before) × Each IsSessionDone sessions
+  Plays (event ∷ events) before sessions after = ((t : TakesNextCommand event before sessions) × Plays events (journal_after t) (sessions_after t) after)
       ⊎ (IsIdle event.session sessions × Plays events before sessions after)
 
   -- each session at its start, with its script and the replies that it will get
-  abbrev pub starting : Memory → List (List Command) → List (List Reply) → List (Waiting Command Reply Memory)
-  starting start [] rs = []
-  starting start (c ∷ cs) [] = []
-  starting start (c ∷ cs) (r ∷ rs) = record { seen = 0; memory = start; commands = c; replies = r } ∷ starting start cs rs
+  abbrev pub sessions_at_start : Memory → List (List Command) → List (List Reply) → List (Waiting Command Reply Memory)
+  sessions_at_start start [] rs = []
+  sessions_at_start start (c ∷ cs) [] = []
+  sessions_at_start start (c ∷ cs) (r ∷ rs) = record { seen = 0; memory = start; commands = c; replies = r } ∷ sessions_at_start start cs rs
 
   abbrev pub PlaysBy : Memory → List (List Command) → List Event → List Entry → List (List Reply) → Type 0
-  PlaysBy start scripts events journal replies = (length replies ≡ length scripts) × Plays events [] (starting start scripts replies) journal
+  PlaysBy start scripts events journal replies = (length replies ≡ length scripts) × Plays events [] (sessions_at_start start scripts replies) journal
 
 module _ {Entry Command Reply Memory : Type 0} (core : Core Entry Command Reply Memory) where
   -- the events answer all commands of the scripts, with this journal and these replies
-  abbrev pub IsPlay : Memory → List (List Command) → List Event → List Entry → List (List Reply) → Type 0
-  IsPlay start scripts events journal replies = PlaysBy core (λ version seen r. ⊤) start scripts events journal replies
+  abbrev pub IsPlayOfEvents : Memory → List (List Command) → List Event → List Entry → List (List Reply) → Type 0
+  IsPlayOfEvents start scripts events journal replies = PlaysBy core (λ version seen r. ⊤) start scripts events journal replies
 
   -- each reply at its base or, where it has none, at the version that its session has seen
   abbrev pub IsInPlace : ℕ → ℕ → Reply → Type 0
   IsInPlace version seen r = version ≡ unwrap_or (core.base_of r) seen
 
   -- the same, in the order of the versions at which the replies were given
-  abbrev pub IsOrder : Memory → List (List Command) → List Event → List Entry → List (List Reply) → Type 0
-  IsOrder start scripts events journal replies = PlaysBy core IsInPlace start scripts events journal replies
+  abbrev pub IsOrderOfEvents : Memory → List (List Command) → List Event → List Entry → List (List Reply) → Type 0
+  IsOrderOfEvents start scripts events journal replies = PlaysBy core IsInPlace start scripts events journal replies

@@ -22,7 +22,7 @@ use lib.ListN.{get_elem?}
 use Rattle.atomic_table.specs.Table.{State}
 use Rattle.turn_book.specs.declared.view.View.{View}
 use Rattle.turn_book.specs.declared.view.Joined.{Joined}
-use Rattle.turn_book.specs.Journal.{Each, GoesOn}
+use Rattle.turn_book.specs.Journal.{Each, JournalGoesOn}
 
 module _ {O E : Type 0} where
   -- the view isn't spent, and has the number
@@ -31,7 +31,7 @@ module _ {O E : Type 0} where
 
   -- the joined journal is a beginning of all, its numbers are the view's, and all goes on from it with no entry of these
   abbrev pub KeepsJoined : (E → ℕ) → List E → View O E → Joined E → Type 0
-  KeepsJoined number_of all v j = GoesOn number_of j.first j.past j.seen all × ((n : ℕ) → j.first ≤ n → n < j.past → (v.first ≤ n) × (n < v.past))
+  KeepsJoined number_of all v j = JournalGoesOn number_of j.first j.past j.seen all × ((n : ℕ) → j.first ≤ n → n < j.past → (v.first ≤ n) × (n < v.past))
 
   -- what a view knows that isn't spent, where H is all
   pub record Sees (number_of : E → ℕ) (opening : O) (count : ℕ) (all : List E) (v : View O E) : Type 0 where
@@ -39,7 +39,7 @@ module _ {O E : Type 0} where
     pub counted : v.count ≡ count
     pub ranged : v.first < v.past
     pub below : v.past ≤ count
-    pub seen : GoesOn number_of v.first v.past v.seen all
+    pub seen : JournalGoesOn number_of v.first v.past v.seen all
     pub joined : Each (KeepsJoined number_of all v) v.joined
     pub found : v.holds ≡ true → v.took ≡ all
     pub knows_holds : v.knows ≡ true → v.holds ≡ true

@@ -13,20 +13,20 @@ module _ {O E : Type 0} where
   view o n a b seen joined holds knows took = record { opening = o; count = n; first = a; past = b; seen = seen; joined = joined; holds = holds; knows = knows; took = took }
 
   -- at the start: all numbers below n, and the journal that the book has
-  abbrev pub starting : O → ℕ → List E → View O E
-  starting o n journal = view (Some o) n 0 n journal [] false false []
+  abbrev pub view_at_start : O → ℕ → List E → View O E
+  view_at_start o n journal = view (Some o) n 0 n journal [] false false []
 
   -- after a look at the whole journal, which forgets the joined journals
-  abbrev pub caught : View O E → List E → Bool → List E → View O E
-  caught v all holds took = view v.opening v.count v.first v.past all [] holds holds took
+  abbrev pub view_after_look : View O E → List E → Bool → List E → View O E
+  view_after_look v all holds took = view v.opening v.count v.first v.past all [] holds holds took
 
   -- with the turn, which was taken with a book of this journal
-  abbrev pub holding : View O E → List E → View O E
-  holding v took = view v.opening v.count v.first v.past v.seen v.joined true false took
+  abbrev pub view_with_turn : View O E → List E → View O E
+  view_with_turn v took = view v.opening v.count v.first v.past v.seen v.joined true false took
 
   -- without the turn
-  abbrev pub freed : View O E → View O E
-  freed v = view v.opening v.count v.first v.past v.seen v.joined false false []
+  abbrev pub view_without_turn : View O E → View O E
+  view_without_turn v = view v.opening v.count v.first v.past v.seen v.joined false false []
 
 module _ {E : Type 0} where
   -- of a joined journal, with those of its numbers that are below at
@@ -38,8 +38,8 @@ module _ {E : Type 0} where
   clipped_from at j = record { first = max j.first at; past = j.past; seen = j.seen }
 
   -- the longer of two journals, and the first where they are of one length
-  abbrev pub longer : List E → List E → List E
-  longer xs ys = cond (ltb (length xs) (length ys)) ys xs
+  abbrev pub longer_journal : List E → List E → List E
+  longer_journal xs ys = cond (ltb (length xs) (length ys)) ys xs
 
 module _ {O E : Type 0} where
   -- a split leaves the numbers below at
@@ -55,8 +55,8 @@ module _ {O E : Type 0} where
   own_journal v = record { first = v.first; past = v.past; seen = v.seen }
 
   -- a join gives the numbers of both and the longer journal, and keeps both journals beside those that either kept
-  abbrev pub united : View O E → View O E → View O E
-  united v w = view v.opening v.count v.first w.past (longer v.seen w.seen) ((v.joined ++ w.joined) ++ own_journal v ∷ own_journal w ∷ []) v.holds v.knows v.took
+  abbrev pub view_united : View O E → View O E → View O E
+  view_united v w = view v.opening v.count v.first w.past (longer_journal v.seen w.seen) ((v.joined ++ w.joined) ++ own_journal v ∷ own_journal w ∷ []) v.holds v.knows v.took
 
   -- and the other view is spent: it has no opening, no numbers and no journal
   abbrev pub spent : View O E

@@ -6,8 +6,8 @@ use Rattle.turn_book.specs.Interleavings.{Waiting}
 
 module _ {Entry Command Reply Memory : Type 0} (core : Core Entry Command Reply Memory) where
   -- what the reply is at this journal: want of memory, or the answer
-  abbrev pub IsGiven : ℕ → List Entry → Memory → Command → Reply → Type 0
-  IsGiven n before memory c r = (r ≡ core.short) ⊎ core.answers n before memory c r
+  abbrev pub IsReplyGiven : ℕ → List Entry → Memory → Command → Reply → Type 0
+  IsReplyGiven n before memory c r = (r ≡ core.short) ⊎ core.answers n before memory c r
 
   -- what the session remembers after these replies
   abbrev pub memory_of : Memory → List Command → List Reply → Memory
@@ -21,7 +21,7 @@ module _ {Entry Command Reply Memory : Type 0} (core : Core Entry Command Reply 
     ends : (before : List Entry) (seen : ℕ) (memory : Memory) → Walks n before [] seen memory [] []
     passes : (before : List Entry) (e : Entry) (rest : List Entry) (seen : ℕ) (memory : Memory) (cs : List Command) (rs : List Reply) → core.number_of e ≢ n
         → Walks n (before ++ e ∷ []) rest seen memory cs rs → Walks n before (e ∷ rest) seen memory cs rs
-    hears : (before rest : List Entry) (seen : ℕ) (memory : Memory) (c : Command) (cs : List Command) (r : Reply) (rs : List Reply) → core.entry_of n memory c r ≡ None → IsGiven core n before memory c r → rule (length before) seen r
+    hears : (before rest : List Entry) (seen : ℕ) (memory : Memory) (c : Command) (cs : List Command) (r : Reply) (rs : List Reply) → core.entry_of n memory c r ≡ None → IsReplyGiven core n before memory c r → rule (length before) seen r
         → Walks n before rest (seen_after core seen r) (core.memory_after memory c r) cs rs → Walks n before rest seen memory (c ∷ cs) (r ∷ rs)
     enters : (before : List Entry) (e : Entry) (rest : List Entry) (seen : ℕ) (memory : Memory) (c : Command) (cs : List Command) (r : Reply) (rs : List Reply) → core.entry_of n memory c r ≡ Some e → core.answers n before memory c r → rule (length before) seen r
         → Walks n (before ++ e ∷ []) rest (seen_after core seen r) (core.memory_after memory c r) cs rs → Walks n before (e ∷ rest) seen memory (c ∷ cs) (r ∷ rs)

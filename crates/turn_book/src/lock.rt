@@ -3,7 +3,7 @@ ghost use Rattle.std.specs.Prelude.{◌≡◌, ◌<◌, ◌≤◌, [], ◌∷◌
 ghost use Rattle.turn_book.specs.Journal.{Appends};
 ghost use Rattle.turn_book.specs.Passes.{first_book};
 ghost use Rattle.turn_book.specs.Turn.{Catches};
-ghost use Rattle.turn_book.specs.Views.{caught, holding, freed};
+ghost use Rattle.turn_book.specs.Views.{view_after_look, view_with_turn, view_without_turn};
 
 use crate::booked::Booked;
 use crate::pass::Shared;
@@ -28,7 +28,7 @@ impl<B: Booked> Shared<B> {
         requires of_this { (seat.old.table_id ≡ self.now.table.shared.table_id) × (seat.old.me.0.opening ≡ Some (B.opening (first_book self.now))) × (length seat.old.me.1 ≡ 0) }
         ensures same { (seat.new.table_id ≡ seat.old.table_id) × (seat.new.id ≡ seat.old.id) × (seat.new.me.1 ≡ (0, None) ∷ []) }
         ensures opening { B.opening result ≡ B.opening (first_book self.now) }
-        ensures holding { seat.new.me.0 ≡ holding seat.old.me.0 (B.journal result) }
+        ensures holding { seat.new.me.0 ≡ view_with_turn seat.old.me.0 (B.journal result) }
     {
         for _ in rt.forever() {
             if self.table.shared.compare_exchange::<Take<B>>(seat, 0, 0, 1) == 0 {
@@ -58,7 +58,7 @@ impl<B: Booked> Shared<B> {
     pub(crate) fn look(&self, seat: &mut Place<B>) -> u64
         requires of_this { (seat.old.table_id ≡ self.now.table.shared.table_id) × (seat.old.me.0.opening ≡ Some (B.opening (first_book self.now))) }
         requires holds { seat.old.me.0.holds ≡ true }
-        ensures same { (seat.new.table_id ≡ seat.old.table_id) × (seat.new.id ≡ seat.old.id) × (seat.new.me ≡ (caught seat.old.me.0 seat.old.me.0.took true seat.old.me.0.took, seat.old.me.1)) }
+        ensures same { (seat.new.table_id ≡ seat.old.table_id) × (seat.new.id ≡ seat.old.id) × (seat.new.me ≡ (view_after_look seat.old.me.0 seat.old.me.0.took true seat.old.me.0.took, seat.old.me.1)) }
         ensures catches { Catches B.number_of seat.old.me.0 seat.old.me.0.took }
         ensures count { result ≡ length seat.old.me.0.took }
     {
@@ -68,13 +68,13 @@ impl<B: Booked> Shared<B> {
     // Counts the entry that was appended, if there is one. The book is handed back as it was.
     pub(crate) fn note(&self, seat: &mut Place<B>, found: u64, number: u32, book: B) -> B
         requires of_this { (seat.old.table_id ≡ self.now.table.shared.table_id) × (seat.old.me.0.opening ≡ Some (B.opening (first_book self.now))) }
-        requires fresh { seat.old.me.0 ≡ caught seat.old.me.0 seat.old.me.0.seen true seat.old.me.0.seen }
+        requires fresh { seat.old.me.0 ≡ view_after_look seat.old.me.0 seat.old.me.0.seen true seat.old.me.0.seen }
         requires number { (seat.old.me.0.first ≤ number) × (number < seat.old.me.0.past) }
         requires found { found ≡ length seat.old.me.0.seen }
         requires appends { Appends B.number_of number (λ _. Unit {0}) seat.old.me.0.seen (B.journal book) }
         ensures book { result ≡ book }
         ensures same { (seat.new.table_id ≡ seat.old.table_id) × (seat.new.id ≡ seat.old.id) }
-        ensures caught { seat.new.me ≡ (caught seat.old.me.0 (B.journal book) true (B.journal book), seat.old.me.1) }
+        ensures caught { seat.new.me ≡ (view_after_look seat.old.me.0 (B.journal book) true (B.journal book), seat.old.me.1) }
     {
         let now = u64::from(book.count());
         let held = Some(book);
@@ -101,7 +101,7 @@ impl<B: Booked> Shared<B> {
         requires of_this { (seat.old.table_id ≡ self.now.table.shared.table_id) × (seat.old.me.0.opening ≡ Some (B.opening (first_book self.now))) × (seat.old.me.1 ≡ (0, None) ∷ []) × (seat.old.me.0.knows ≡ true) }
         requires opening { B.opening book ≡ B.opening (first_book self.now) }
         requires journal { B.journal book ≡ seat.old.me.0.seen }
-        ensures same { (seat.new.table_id ≡ seat.old.table_id) × (seat.new.id ≡ seat.old.id) × (seat.new.me ≡ (freed seat.old.me.0, [])) }
+        ensures same { (seat.new.table_id ≡ seat.old.table_id) × (seat.new.id ≡ seat.old.id) × (seat.new.me ≡ (view_without_turn seat.old.me.0, [])) }
     {
         let None = self.table.shared.exchange(seat, 0, Some(book)) else {
             unreachable!()

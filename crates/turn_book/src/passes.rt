@@ -1,7 +1,7 @@
 //! The numbers of a pass, and how passes divide and unite them.
 ghost use Rattle.std.specs.Prelude.{◌≡◌, ◌<◌};
 ghost use Rattle.turn_book.specs.Passes.{IsPassOf, view_of};
-ghost use Rattle.turn_book.specs.Views.{lower, upper, united};
+ghost use Rattle.turn_book.specs.Views.{lower, upper, view_united};
 
 use crate::booked::Booked;
 use crate::parts::{At, Cut, Unite};
@@ -48,7 +48,7 @@ impl<B: Booked> Shared<B> {
         requires other { IsPassOf self.now other }
         requires range { (view_of pass.old).past ≡ (view_of other).first }
         ensures of_this { IsPassOf self.now pass.new }
-        ensures united { view_of pass.new ≡ united (view_of pass.old) (view_of other) }
+        ensures united { view_of pass.new ≡ view_united (view_of pass.old) (view_of other) }
     {
         let Pass {
             seat,

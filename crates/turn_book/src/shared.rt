@@ -3,7 +3,7 @@ ghost use Rattle.std.specs.Prelude.{◌+◌, ◌≡◌, ◌<◌, ◌≤◌, leng
 ghost use Rattle.turn_book.specs.Journal.{Each};
 ghost use Rattle.turn_book.specs.Passes.{IsHeldOf, IsPassOf, first_book, held_view, view_of};
 ghost use Rattle.turn_book.specs.Turn.{Catches, Turned};
-ghost use Rattle.turn_book.specs.Views.{caught, freed, starting};
+ghost use Rattle.turn_book.specs.Views.{view_after_look, view_without_turn, view_at_start};
 
 use crate::booked::Booked;
 use crate::pass::{Held, Pass, Shared};
@@ -31,7 +31,7 @@ impl<B: Booked> Shared<B> {
         requires numbers { (0 < numbers) × (numbers ≤ 64) }
         requires entries { Each (λ e. B.number_of e < numbers) (B.journal book) }
         ensures of_this { IfOk result (λ r. IsPassOf r.0 r.1 × (B.opening (first_book r.0) ≡ B.opening book)) }
-        ensures view { IfOk result (λ r. view_of r.1 ≡ starting (B.opening book) numbers (B.journal book)) }
+        ensures view { IfOk result (λ r. view_of r.1 ≡ view_at_start (B.opening book) numbers (B.journal book)) }
     {
         let told = Told {
             book: Snapshot::of(&book),
@@ -88,7 +88,7 @@ impl<B: Booked> Shared<B> {
     pub fn newest(&self, pass: &mut Pass<B>) -> u32
         requires of_this { IsPassOf self.now pass.old }
         ensures of_this { IsPassOf self.now pass.new }
-        ensures seen { view_of pass.new ≡ caught (view_of pass.old) (view_of pass.new).seen false (view_of pass.old).took }
+        ensures seen { view_of pass.new ≡ view_after_look (view_of pass.old) (view_of pass.new).seen false (view_of pass.old).took }
         ensures catches { Catches B.number_of (view_of pass.old) (view_of pass.new).seen }
         ensures count { result ≡ length (view_of pass.new).seen }
     {
@@ -102,7 +102,7 @@ impl<B: Booked> Shared<B> {
     pub fn hold<R: Wait>(&self, rt: &R, pass: Pass<B>) -> Held<B>
         requires of_this { IsPassOf self.now pass }
         ensures of_this { IsHeldOf self.now result }
-        ensures view { held_view result ≡ caught (view_of pass) (held_view result).seen true (held_view result).seen }
+        ensures view { held_view result ≡ view_after_look (view_of pass) (held_view result).seen true (held_view result).seen }
         ensures catches { Catches B.number_of (view_of pass) (held_view result).seen }
         ensures whole { (view_of pass).first ≡ 0 → (view_of pass).past ≡ (view_of pass).count → (held_view result).seen ≡ (view_of pass).seen }
     {
@@ -125,7 +125,7 @@ impl<B: Booked> Shared<B> {
     pub fn give_back(&self, held: Held<B>) -> Pass<B>
         requires of_this { IsHeldOf self.now held }
         ensures of_this { IsPassOf self.now result }
-        ensures view { view_of result ≡ freed (held_view held) }
+        ensures view { view_of result ≡ view_without_turn (held_view held) }
     {
         let Held {
             mut seat,

@@ -5,14 +5,14 @@ use Rattle.std.proofs.lemmas.List.{take-append-le}
 use Rattle.tree_shape.specs.declared.node.Child.{Child}
 use Rattle.tree_shape.specs.declared.node.Child.TheVariants.{Inner}
 use Rattle.tree_shape.specs.Tree.{Tree, leaf, inner, name, leaves, count}
-use Rattle.tree_shape.specs.Changes.{IsPartOf}
-use Rattle.tree_shape.specs.Values.{part, gathered, AreThere, KeepsAll, leaf_values}
+use Rattle.tree_shape.specs.Changes.{IsSubtreeOf}
+use Rattle.tree_shape.specs.Values.{part, values_of_numbers, AreThere, KeepsAll, leaf_values}
 use Rattle.tree_shape.specs.Composing.{StandLaws, Costs}
-use Rattle.tree_shape.specs.View.{count_of, leaves_of_tree, height_of_tree}
+use Rattle.tree_shape.specs.View.{leaf_count_of, leaves_of_tree, height_of_tree}
 use Rattle.tree_shape.proofs.NodeValues.{value_of_child}
 use Rattle.tree_shape.proofs.PlanSteps.{standing, gathered-append, there_front, there_back}
 use Rattle.tree_shape.proofs.ArenaTrees.{length_leaves}
-use Rattle.value_tree.specs.Found.{total}
+use Rattle.value_tree.specs.Found.{total_count}
 use Rattle.value_tree.specs.Walk.{IsDescentAt, IsDescent}
 use Rattle.value_tree.specs.declared.before.Descent.{Descent}
 use Rattle.value_tree.proofs.LeafLists.{length_gathered}
@@ -21,15 +21,15 @@ use Rattle.value_tree.proofs.TreeParts.{part_self, left_of, right_of, opened}
 
 module _ {V : Type 0} (counts : V → ℕ) where
   -- the first values, past some of them
-  total_taken : (xs ys : List V) (n : ℕ) → length xs ≤ n → total counts (take n (xs ++ ys)) ≡ total counts xs + total counts (take (n - length xs) ys)
-  total_taken [] ys n h = let same : n ≡ n - 0 = omega arith in omega (arith, ap (λ k. total counts (take k ys)) same)
+  total_taken : (xs ys : List V) (n : ℕ) → length xs ≤ n → total_count counts (take n (xs ++ ys)) ≡ total_count counts xs + total_count counts (take (n - length xs) ys)
+  total_taken [] ys n h = let same : n ≡ n - 0 = omega arith in omega (arith, ap (λ k. total_count counts (take k ys)) same)
   total_taken (x ∷ xs) ys zero h = absurd (omega arith)
   total_taken (x ∷ xs) ys (suc n) h =
       let same : n - length xs ≡ suc n - length (x ∷ xs) = omega arith in
-      omega (arith, total_taken xs ys n (omega arith), ap (λ k. total counts (take k ys)) same)
+      omega (arith, total_taken xs ys n (omega arith), ap (λ k. total_count counts (take k ys)) same)
 
   -- some of the values count no more than all
-  pub total_some : (xs : List V) (n : ℕ) → total counts (take n xs) ≤ total counts xs
+  pub total_some : (xs : List V) (n : ℕ) → total_count counts (take n xs) ≤ total_count counts xs
   total_some [] zero = omega arith
   total_some [] (suc n) = omega arith
   total_some (x ∷ xs) zero = omega arith
@@ -47,24 +47,24 @@ module _ {V : Type 0} (join : V → V → V) (fits : V → V → Type 0) (cost :
     pub near_value : part leaf_at node_at (name l) ≡ Some w.fit.0
     near_value = value_of_child join leaf_at node_at l w.keeps.1 ∙ w.fit.2
 
-    near_counts : counts w.fit.0 ≡ total counts (gathered leaf_at (leaves l))
+    near_counts : counts w.fit.0 ≡ total_count counts (values_of_numbers leaf_at (leaves l))
     near_counts = total_is join fits cost counts leaf_at node_at law each l w.fit.0 w.fit.6 w.fit.2
 
-    pub near_is_part : IsPartOf l tree
+    pub near_is_part : IsSubtreeOf l tree
     near_is_part = left_of n l r tree w.part
 
-    many : length (gathered leaf_at (leaves l)) ≡ count l
+    many : length (values_of_numbers leaf_at (leaves l)) ≡ count l
     many = length_gathered leaf_at (leaves l) (there_front leaf_at (leaves l) (leaves r) w.there) ∙ length_leaves l
 
-    split : gathered leaf_at (leaves (inner n l r)) ≡ gathered leaf_at (leaves l) ++ gathered leaf_at (leaves r)
+    split : values_of_numbers leaf_at (leaves (inner n l r)) ≡ values_of_numbers leaf_at (leaves l) ++ values_of_numbers leaf_at (leaves r)
     split = gathered-append leaf_at (leaves l) (leaves r)
 
     pub go_near : (child : Child) → child ≡ name l → descent.at < count l → done < high
         → IsDescentAt join fits cost counts leaf_at node_at tree whole (done + 1) high (record { child = child; at = descent.at; before = descent.before }) each l
     go_near child e h more =
-        let xs = gathered leaf_at (leaves l) in
-        let ys = gathered leaf_at (leaves r) in
-        let front : take descent.at (gathered leaf_at (leaves (inner n l r))) ≡ take descent.at xs = ap (take descent.at) split ∙ take-append-le descent.at xs ys (omega (arith, h, many)) in
+        let xs = values_of_numbers leaf_at (leaves l) in
+        let ys = values_of_numbers leaf_at (leaves r) in
+        let front : take descent.at (values_of_numbers leaf_at (leaves (inner n l r))) ≡ take descent.at xs = ap (take descent.at) split ∙ take-append-le descent.at xs ys (omega (arith, h, many)) in
         record {
           named = e;
           part = near_is_part;
@@ -72,22 +72,22 @@ module _ {V : Type 0} (join : V → V → V) (fits : V → V → Type 0) (cost :
           keeps = w.keeps.1;
           fit = w.fit.6;
           inside = h;
-          counted = w.counted ∙ ap (λ vs. descent.before + total counts vs) front;
+          counted = w.counted ∙ ap (λ vs. descent.before + total_count counts vs) front;
           low = omega (arith, w.low);
         }
 
-    far_counted : count l ≤ descent.at → total counts (take descent.at (gathered leaf_at (leaves (inner n l r)))) ≡ counts w.fit.0 + total counts (take (descent.at - count l) (gathered leaf_at (leaves r)))
+    far_counted : count l ≤ descent.at → total_count counts (take descent.at (values_of_numbers leaf_at (leaves (inner n l r)))) ≡ counts w.fit.0 + total_count counts (take (descent.at - count l) (values_of_numbers leaf_at (leaves r)))
     far_counted h =
-        let xs = gathered leaf_at (leaves l) in
-        let ys = gathered leaf_at (leaves r) in
-        ap (λ vs. total counts (take descent.at vs)) split
+        let xs = values_of_numbers leaf_at (leaves l) in
+        let ys = values_of_numbers leaf_at (leaves r) in
+        ap (λ vs. total_count counts (take descent.at vs)) split
         ∙ (total_taken counts xs ys descent.at (omega (arith, h, many))
-        ∙ omega (arith, near_counts, ap (λ k. total counts (take (descent.at - k) ys)) many))
+        ∙ omega (arith, near_counts, ap (λ k. total_count counts (take (descent.at - k) ys)) many))
 
     pub go_far : (child : Child) (below here : ℕ) → child ≡ name r → below ≡ count l → here ≡ counts w.fit.0 → below ≤ descent.at → done < high
         → IsDescentAt join fits cost counts leaf_at node_at tree whole (done + 1) high (record { child = child; at = descent.at - below; before = descent.before + here }) each r
     go_far child below here e below_is here_is h more =
-        let ys = gathered leaf_at (leaves r) in
+        let ys = values_of_numbers leaf_at (leaves r) in
         record {
           named = e;
           part = right_of n l r tree w.part;
@@ -95,7 +95,7 @@ module _ {V : Type 0} (join : V → V → V) (fits : V → V → Type 0) (cost :
           keeps = w.keeps.2;
           fit = w.fit.7;
           inside = omega (arith, w.inside, below_is, h);
-          counted = w.counted ∙ omega (arith, far_counted (omega (arith, below_is, h)), here_is, ap (λ k. total counts (take (descent.at - k) ys)) below_is);
+          counted = w.counted ∙ omega (arith, far_counted (omega (arith, below_is, h)), here_is, ap (λ k. total_count counts (take (descent.at - k) ys)) below_is);
           low = omega (arith, w.low);
         }
 
@@ -107,16 +107,16 @@ module _ {V : Type 0} (join : V → V → V) (fits : V → V → Type 0) (cost :
   pub at_end : (tree : Option Tree) (whole done high : ℕ) (descent : Descent) (each : ℕ) (t : Tree) → IsDescentAt join fits cost counts leaf_at node_at tree whole done high descent each t → high ≤ done → descent.before ≡ whole
   at_end tree whole done high descent each (leaf n) w h =
       let first : descent.at ≡ 0 = omega (arith, w.inside) in
-      omega (arith, w.counted, ap (λ k. total counts (take k (gathered leaf_at (n ∷ [])))) first)
+      omega (arith, w.counted, ap (λ k. total_count counts (take k (values_of_numbers leaf_at (n ∷ [])))) first)
   at_end tree whole done high descent each (inner n l r) w h = absurd (omega (arith, w.low))
 
   -- the walk's beginning
   pub begins : (sound : List V → Type 0) (stands : List V → V → Type 0) → StandLaws sound stands join fits → ((xs : List V) → sound xs → (each : ℕ) × Costs stands cost each xs)
-      → (o : Option Tree) (root : Child) (at : ℕ) → Some root ≡ option_map name o → AreThere leaf_at (leaves_of_tree o) → sound (leaf_values leaf_at o) → KeepsAll join leaf_at node_at o → at < count_of o
-      → IsDescent join fits cost counts leaf_at node_at o (total counts (take at (leaf_values leaf_at o))) 0 (height_of_tree o) (record { child = root; at = at; before = 0 })
+      → (o : Option Tree) (root : Child) (at : ℕ) → Some root ≡ option_map name o → AreThere leaf_at (leaves_of_tree o) → sound (leaf_values leaf_at o) → KeepsAll join leaf_at node_at o → at < leaf_count_of o
+      → IsDescent join fits cost counts leaf_at node_at o (total_count counts (take at (leaf_values leaf_at o))) 0 (height_of_tree o) (record { child = root; at = at; before = 0 })
   begins sound stands stand_laws cost_law None root at e there s keeps place = cc (e)
   begins sound stands stand_laws cost_law (Some t) root at e there s keeps place =
-      let xs = gathered leaf_at (leaves t) in
+      let xs = values_of_numbers leaf_at (leaves t) in
       let some_cost = cost_law xs s in
       let st = standing sound stands join fits cost leaf_at stand_laws some_cost.0 t there s some_cost.1 in
       let is : root ≡ name t = cc (e) in

@@ -2,7 +2,7 @@
 use Rattle.std.proofs.Common.{◌≡◌, ℕ, zero, suc, cond, eqb, List, [], ◌∷◌, ◌++◌, map, take, Option, Some, refl, sym, ◌∙◌, ap}
 use Rattle.std.specs.List.{slice_get}
 use Rattle.tree_shape.specs.declared.dirty.DirtyRow.{DirtyRow}
-use Rattle.tree_shape.specs.Composing.{latest}
+use Rattle.tree_shape.specs.Composing.{latest_room}
 use Rattle.tree_shape.proofs.Rooms.{latest-none}
 use Rattle.value_tree.specs.Kept.{IsNeed}
 
@@ -21,7 +21,7 @@ one_need after leaf_room node_room rows more needed other n o = n.1 ∙ (ap (λ 
 
 -- the last of some rows has the room that is found, or else it is found among the rows before
 pub latest_last : {R : Type 0} (n at : ℕ) (rows : List DirtyRow) (rs : List R) (row : DirtyRow) (r : R) (other : Option R) → slice_get rows at ≡ Some row → slice_get rs at ≡ Some r
-    → latest n rows (take (suc at) rs) other ≡ cond (eqb n row.node) (Some r) (latest n rows (take at rs) other)
+    → latest_room n rows (take (suc at) rs) other ≡ cond (eqb n row.node) (Some r) (latest_room n rows (take at rs) other)
 latest_last n at [] rs row r other e f = cc
 latest_last n zero (x ∷ rows) [] row r other e f = cc
 latest_last n zero (x ∷ rows) (q ∷ rs) row r other e f =

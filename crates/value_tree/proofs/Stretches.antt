@@ -8,16 +8,16 @@ use Rattle.std.proofs.lemmas.List.{append_assoc, append-nil, take_all, length-dr
 use Rattle.tree_shape.specs.declared.node.Child.{Child}
 use Rattle.tree_shape.specs.declared.node.Child.TheVariants.{Leaf, Inner}
 use Rattle.tree_shape.specs.Tree.{Tree, leaf, inner, name, leaves, count, height}
-use Rattle.tree_shape.specs.Changes.{IsPartOf}
+use Rattle.tree_shape.specs.Changes.{IsSubtreeOf}
 use Rattle.tree_shape.specs.Composing.{StandLaws, Costs}
 use Rattle.tree_shape.specs.Fewest.{highest}
-use Rattle.tree_shape.specs.Values.{part, gathered, AreThere, KeepsAll, leaf_values}
-use Rattle.tree_shape.specs.View.{count_of, leaves_of_tree, IsBalancedTree}
+use Rattle.tree_shape.specs.Values.{part, values_of_numbers, AreThere, KeepsAll, leaf_values}
+use Rattle.tree_shape.specs.View.{leaf_count_of, leaves_of_tree, IsBalancedTree}
 use Rattle.tree_shape.proofs.ArenaTrees.{length_leaves}
 use Rattle.tree_shape.proofs.HeightBounds.{highest_bounds}
 use Rattle.tree_shape.proofs.PlanSteps.{gathered-append, gathered_take, gathered_drop, there_back}
 use Rattle.value_tree.specs.Parts.{AreParts, StandFor}
-use Rattle.value_tree.specs.Between.{between, IsStretch}
+use Rattle.value_tree.specs.Between.{tree_parts_between, IsStretch}
 use Rattle.value_tree.specs.declared.between.Counted.{Counted}
 use Rattle.value_tree.proofs.TreeParts.{opened, part_self, left_of, right_of, parts_stand}
 
@@ -71,27 +71,27 @@ count_some : (t : Tree) → 1 ≤ count t
 count_some (leaf n) = omega arith
 count_some (inner n l r) = omega (arith, count_some l)
 
-pub between_none : (t : Tree) (from to : ℕ) → to ≤ from → between from to t ≡ []
+pub between_none : (t : Tree) (from to : ℕ) → to ≤ from → tree_parts_between from to t ≡ []
 between_none (leaf n) from to h = ap (λ b. cond b (Leaf n ∷ []) []) (lt-leb 1 (to - from) (omega (arith, h)))
 between_none (inner n l r) from to h =
     let c = count l in
-    let both = between from (min to c) l ++ between (from - c) (to - c) r in
+    let both = tree_parts_between from (min to c) l ++ tree_parts_between (from - c) (to - c) r in
     let no = lt-leb (c + count r) (to - from) (omega (arith, h, count_some l)) in
     let first = between_none l from (min to c) (omega (arith, h)) in
     let second = between_none r (from - c) (to - c) (omega (arith, h)) in
-    ap (λ b. cond b (Inner n ∷ []) both) no ∙ (ap (λ v. v ++ between (from - c) (to - c) r) first ∙ second)
+    ap (λ b. cond b (Inner n ∷ []) both) no ∙ (ap (λ v. v ++ tree_parts_between (from - c) (to - c) r) first ∙ second)
 
-pub between_whole : (t : Tree) (from to : ℕ) → count t ≤ to - from → between from to t ≡ name t ∷ []
+pub between_whole : (t : Tree) (from to : ℕ) → count t ≤ to - from → tree_parts_between from to t ≡ name t ∷ []
 between_whole (leaf n) from to h = ap (λ b. cond b (Leaf n ∷ []) []) (le-leb 1 (to - from) (omega (arith, h)))
 between_whole (inner n l r) from to h =
     let c = count l in
-    let both = between from (min to c) l ++ between (from - c) (to - c) r in
+    let both = tree_parts_between from (min to c) l ++ tree_parts_between (from - c) (to - c) r in
     ap (λ b. cond b (Inner n ∷ []) both) (le-leb (c + count r) (to - from) (omega (arith, h)))
 
-pub between_halves : (n : ℕ) (l r : Tree) (from to : ℕ) → to - from < count l + count r → between from to (inner n l r) ≡ between from (min to (count l)) l ++ between (from - count l) (to - count l) r
+pub between_halves : (n : ℕ) (l r : Tree) (from to : ℕ) → to - from < count l + count r → tree_parts_between from to (inner n l r) ≡ tree_parts_between from (min to (count l)) l ++ tree_parts_between (from - count l) (to - count l) r
 between_halves n l r from to h =
     let c = count l in
-    let both = between from (min to c) l ++ between (from - c) (to - c) r in
+    let both = tree_parts_between from (min to c) l ++ tree_parts_between (from - c) (to - c) r in
     ap (λ b. cond b (Inner n ∷ []) both) (lt-leb (c + count r) (to - from) h)
 
 -- Their leaves.
@@ -100,13 +100,13 @@ parts_both : (tree : Option Tree) (xs ys : List Child) (ns ms : List ℕ) → Ar
 parts_both tree [] ys ns ms h k = subst (λ v. AreParts tree ys (v ++ ms)) (sym h) k
 parts_both tree (x ∷ xs) ys ns ms h k = (h.0, h.1 ++ ms, h.2, h.3, ap (λ v. v ++ ms) h.4 ∙ append_assoc (leaves h.0) h.1 ms, parts_both tree xs ys h.1 ms h.5 k)
 
-whole_parts : (tree : Option Tree) (t : Tree) (from to : ℕ) → IsPartOf t tree → to ≤ count t → count t ≤ to - from → AreParts tree (between from to t) (slice_range (leaves t) from to)
+whole_parts : (tree : Option Tree) (t : Tree) (from to : ℕ) → IsSubtreeOf t tree → to ≤ count t → count t ≤ to - from → AreParts tree (tree_parts_between from to t) (slice_range (leaves t) from to)
 whole_parts tree t from to p inside h =
     let first : from ≡ 0 = omega (arith, inside, h, count_some t) in
     let all : slice_range (leaves t) from to ≡ leaves t = ap (λ k. slice_range (leaves t) k to) first ∙ take_all (to - 0) (leaves t) (omega (arith, h, length_leaves t)) in
     subst (λ v. AreParts tree v (slice_range (leaves t) from to)) (sym (between_whole t from to h)) (t, [], refl, p, all ∙ sym (append-nil (leaves t)), refl)
 
-pub between_parts : (tree : Option Tree) (t : Tree) (from to : ℕ) → IsPartOf t tree → to ≤ count t → AreParts tree (between from to t) (slice_range (leaves t) from to)
+pub between_parts : (tree : Option Tree) (t : Tree) (from to : ℕ) → IsSubtreeOf t tree → to ≤ count t → AreParts tree (tree_parts_between from to t) (slice_range (leaves t) from to)
 between_parts tree (leaf n) from to p inside =
     elim (leb_tells 1 (to - from)) [
       | inl w ↦ whole_parts tree (leaf n) from to p inside w.1
@@ -124,14 +124,14 @@ between_parts tree (inner n l r) from to p inside =
           let second = between_parts tree r (from - c) (to - c) (right_of n l r tree p) (omega (arith, inside)) in
           let numbers = stretch_both (leaves l) (leaves r) from to ∙ ap (λ k. slice_range (leaves l) from (min to k) ++ slice_range (leaves r) (from - k) (to - k)) (length_leaves l) in
           subst (λ v. AreParts tree v (slice_range (leaves l ++ leaves r) from to)) (sym (between_halves n l r from to w.1))
-          (subst (AreParts tree (between from (min to c) l ++ between (from - c) (to - c) r)) (sym numbers)
-          (parts_both tree (between from (min to c) l) (between (from - c) (to - c) r) (slice_range (leaves l) from (min to c)) (slice_range (leaves r) (from - c) (to - c)) first second))
+          (subst (AreParts tree (tree_parts_between from (min to c) l ++ tree_parts_between (from - c) (to - c) r)) (sym numbers)
+          (parts_both tree (tree_parts_between from (min to c) l) (tree_parts_between (from - c) (to - c) r) (slice_range (leaves l) from (min to c)) (slice_range (leaves r) (from - c) (to - c)) first second))
     ]
 
 -- How many they are.
 
 -- from the first leaf on, or to the last one, no more than one a level
-edge_few : (t : Tree) (from to : ℕ) → (from ≡ 0) ⊎ (count t ≤ to) → length (between from to t) ≤ height t + 1
+edge_few : (t : Tree) (from to : ℕ) → (from ≡ 0) ⊎ (count t ≤ to) → length (tree_parts_between from to t) ≤ height t + 1
 edge_few (leaf n) from to h =
     elim (leb_tells 1 (to - from)) [
       | inl w ↦ omega (arith, ap length (between_whole (leaf n) from to w.1))
@@ -142,7 +142,7 @@ edge_few (inner n l r) from to h =
       | inl w ↦ omega (arith, ap length (between_whole (inner n l r) from to w.1))
       | inr w ↦
           let c = count l in
-          let long = ap length (between_halves n l r from to w.1) ∙ length-append (between from (min to c) l) (between (from - c) (to - c) r) in
+          let long = ap length (between_halves n l r from to w.1) ∙ length-append (tree_parts_between from (min to c) l) (tree_parts_between (from - c) (to - c) r) in
           elim h [
             | inl first ↦
                 let rest = edge_few r (from - c) (to - c) (inl (omega (arith, first))) in
@@ -160,7 +160,7 @@ edge_few (inner n l r) from to h =
     ]
 
 -- no more than two a level
-pub between_few : (t : Tree) (from to : ℕ) → length (between from to t) ≤ 2 * height t + 1
+pub between_few : (t : Tree) (from to : ℕ) → length (tree_parts_between from to t) ≤ 2 * height t + 1
 between_few (leaf n) from to =
     elim (leb_tells 1 (to - from)) [
       | inl w ↦ omega (arith, ap length (between_whole (leaf n) from to w.1))
@@ -171,7 +171,7 @@ between_few (inner n l r) from to =
       | inl w ↦ omega (arith, ap length (between_whole (inner n l r) from to w.1))
       | inr w ↦
           let c = count l in
-          let long = ap length (between_halves n l r from to w.1) ∙ length-append (between from (min to c) l) (between (from - c) (to - c) r) in
+          let long = ap length (between_halves n l r from to w.1) ∙ length-append (tree_parts_between from (min to c) l) (tree_parts_between (from - c) (to - c) r) in
           elim (leb_tells to c) [
             | inl v ↦ omega (arith, long, between_few l from (min to c), ap length (between_none r (from - c) (to - c) (omega (arith, v.1))))
             | inr v ↦
@@ -205,40 +205,40 @@ module _ (tree : Option Tree) (counted : Counted) (to n : ℕ) (l r : Tree) (s :
 
   -- what both parts add
   pub both_added : (from left_end right_start right_end : ℕ) (old mid new : List Child) → to - from < counted.leaves → left_end ≡ min to middle → right_start ≡ from - middle → right_end ≡ to - middle
-      → mid ≡ old ++ between from left_end l → new ≡ mid ++ between right_start right_end r → new ≡ old ++ between from to (inner n l r)
+      → mid ≡ old ++ tree_parts_between from left_end l → new ≡ mid ++ tree_parts_between right_start right_end r → new ≡ old ++ tree_parts_between from to (inner n l r)
   both_added from left_end right_start right_end old mid new few left_is start_is end_is first second =
       let c = count l in
-      let left : between from left_end l ≡ between from (min to c) l = ap (λ k. between from k l) (left_is ∙ ap (λ k. min to k) middle_is) in
+      let left : tree_parts_between from left_end l ≡ tree_parts_between from (min to c) l = ap (λ k. tree_parts_between from k l) (left_is ∙ ap (λ k. min to k) middle_is) in
       let start : right_start ≡ from - c = start_is ∙ ap (λ k. from - k) middle_is in
       let end : right_end ≡ to - c = end_is ∙ ap (λ k. to - k) middle_is in
-      let right : between right_start right_end r ≡ between (from - c) (to - c) r = ap (λ k. between k right_end r) start ∙ ap (λ k. between (from - c) k r) end in
+      let right : tree_parts_between right_start right_end r ≡ tree_parts_between (from - c) (to - c) r = ap (λ k. tree_parts_between k right_end r) start ∙ ap (λ k. tree_parts_between (from - c) k r) end in
       second
-      ∙ (ap (λ v. v ++ between right_start right_end r) first
-      ∙ (append_assoc old (between from left_end l) (between right_start right_end r)
-      ∙ (ap (λ v. old ++ (v ++ between right_start right_end r)) left
-      ∙ (ap (λ v. old ++ (between from (min to c) l ++ v)) right
+      ∙ (ap (λ v. v ++ tree_parts_between right_start right_end r) first
+      ∙ (append_assoc old (tree_parts_between from left_end l) (tree_parts_between right_start right_end r)
+      ∙ (ap (λ v. old ++ (v ++ tree_parts_between right_start right_end r)) left
+      ∙ (ap (λ v. old ++ (tree_parts_between from (min to c) l ++ v)) right
       ∙ ap (λ v. old ++ v) (sym (between_halves n l r from to (omega (arith, few, s.leaves))))))))
 
 -- The whole tree.
 
 -- the walk's beginning
-pub at_root : (o : Option Tree) (root : Child) (many to : ℕ) → Some root ≡ option_map name o → many ≡ count_of o → to ≤ count_of o → (t : Tree) × (o ≡ Some t) × IsStretch o (record { child = root; leaves = many }) to t
+pub at_root : (o : Option Tree) (root : Child) (many to : ℕ) → Some root ≡ option_map name o → many ≡ leaf_count_of o → to ≤ leaf_count_of o → (t : Tree) × (o ≡ Some t) × IsStretch o (record { child = root; leaves = many }) to t
 at_root None root many to e is inside = cc (e)
 at_root (Some t) root many to e is inside = let named : root ≡ name t = cc (e) in (t, refl, record { part = part_self t; named = named; leaves = is; inside = inside })
 
 -- what it has gathered at its end
-pub tree_between : (o : Option Tree) (t : Tree) (from to : ℕ) (children : List Child) → o ≡ Some t → to ≤ count_of o → children ≡ between from to t → AreParts o children (slice_range (leaves_of_tree o) from to)
+pub tree_between : (o : Option Tree) (t : Tree) (from to : ℕ) (children : List Child) → o ≡ Some t → to ≤ leaf_count_of o → children ≡ tree_parts_between from to t → AreParts o children (slice_range (leaves_of_tree o) from to)
 tree_between None t from to children e inside is = cc (e)
 tree_between (Some u) t from to children e inside is =
     let same : t ≡ u = cc (e) in
-    subst (λ v. AreParts (Some u) v (slice_range (leaves u) from to)) (sym (is ∙ ap (between from to) same)) (between_parts (Some u) u from to (part_self u) inside)
+    subst (λ v. AreParts (Some u) v (slice_range (leaves u) from to)) (sym (is ∙ ap (tree_parts_between from to) same)) (between_parts (Some u) u from to (part_self u) inside)
 
-pub tree_few : (o : Option Tree) (t : Tree) (from to : ℕ) (children : List Child) → o ≡ Some t → IsBalancedTree o → children ≡ between from to t → length children ≤ 2 * highest (count_of o) + 1
+pub tree_few : (o : Option Tree) (t : Tree) (from to : ℕ) (children : List Child) → o ≡ Some t → IsBalancedTree o → children ≡ tree_parts_between from to t → length children ≤ 2 * highest (leaf_count_of o) + 1
 tree_few None t from to children e balanced is = cc (e)
 tree_few (Some u) t from to children e balanced is =
     let same : t ≡ u = cc (e) in
     let low = highest_bounds (count u) u balanced refl in
-    omega (arith, ap length (is ∙ ap (between from to) same), between_few u from to, low)
+    omega (arith, ap length (is ∙ ap (tree_parts_between from to) same), between_few u from to, low)
 
 -- the values of the parts stand for those of the stretch
 module _ {V : Type 0} (join : V → V → V) (fits : V → V → Type 0) (cost : V → ℕ) (sound : List V → Type 0) (stands : List V → V → Type 0) (stand_laws : StandLaws sound stands join fits) (cost_law : (xs : List V) → sound xs → (each : ℕ) × Costs stands cost each xs) (leaf_at node_at : ℕ → Option V) where
@@ -252,12 +252,12 @@ module _ {V : Type 0} (join : V → V → V) (fits : V → V → Type 0) (cost :
       let split : all ≡ front ++ back = sym (take-append-drop from all) in
       let halves : back ≡ take many back ++ drop many back = sym (take-append-drop many back) in
       let there_behind : AreThere leaf_at back = there_back leaf_at front back (subst (AreThere leaf_at) split there) in
-      let sound_all : sound (gathered leaf_at front ++ gathered leaf_at back) = subst sound (sym (values o) ∙ (ap (gathered leaf_at) split ∙ gathered-append leaf_at front back)) s in
-      let sound_behind : sound (gathered leaf_at back) = stand_laws.back (gathered leaf_at front) (gathered leaf_at back) sound_all in
-      let told : gathered leaf_at (take many back) ≡ slice_range (leaf_values leaf_at o) from to = gathered_take leaf_at many back there_behind ∙ ap (take many) (gathered_drop leaf_at from all there ∙ ap (drop from) (values o)) in
+      let sound_all : sound (values_of_numbers leaf_at front ++ values_of_numbers leaf_at back) = subst sound (sym (values o) ∙ (ap (values_of_numbers leaf_at) split ∙ gathered-append leaf_at front back)) s in
+      let sound_behind : sound (values_of_numbers leaf_at back) = stand_laws.back (values_of_numbers leaf_at front) (values_of_numbers leaf_at back) sound_all in
+      let told : values_of_numbers leaf_at (take many back) ≡ slice_range (leaf_values leaf_at o) from to = gathered_take leaf_at many back there_behind ∙ ap (take many) (gathered_drop leaf_at from all there ∙ ap (drop from) (values o)) in
       subst (StandFor stands (part leaf_at node_at) children) told
-      (parts_stand join fits cost sound stands stand_laws cost_law leaf_at node_at o children (take many back) (drop many back) k h (subst (AreThere leaf_at) halves there_behind) (subst sound (ap (gathered leaf_at) halves) sound_behind))
+      (parts_stand join fits cost sound stands stand_laws cost_law leaf_at node_at o children (take many back) (drop many back) k h (subst (AreThere leaf_at) halves there_behind) (subst sound (ap (values_of_numbers leaf_at) halves) sound_behind))
     where
-      values : (o : Option Tree) → gathered leaf_at (leaves_of_tree o) ≡ leaf_values leaf_at o
+      values : (o : Option Tree) → values_of_numbers leaf_at (leaves_of_tree o) ≡ leaf_values leaf_at o
       values None = refl
       values (Some t) = refl

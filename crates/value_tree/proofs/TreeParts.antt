@@ -5,11 +5,11 @@ use Rattle.std.proofs.lemmas.List.{append_assoc, append-nil, take-append-le, tak
 use Rattle.tree_shape.specs.declared.node.Child.{Child}
 use Rattle.tree_shape.specs.declared.node.Child.TheVariants.{Leaf, Inner}
 use Rattle.tree_shape.specs.Tree.{Tree, leaf, inner, name, leaves, count}
-use Rattle.tree_shape.specs.Changes.{IsPart, IsPartOf}
+use Rattle.tree_shape.specs.Changes.{IsSubtree, IsSubtreeOf}
 use Rattle.tree_shape.specs.Composing.{StandLaws, Costs}
-use Rattle.tree_shape.specs.Values.{part, gathered, AreThere, Keeps, KeepsAll, leaf_values}
+use Rattle.tree_shape.specs.Values.{part, values_of_numbers, AreThere, KeepsNodeValues, KeepsAll, leaf_values}
 use Rattle.tree_shape.specs.Fewest.{highest}
-use Rattle.tree_shape.specs.View.{IsBalancedTree, count_of, leaves_of_tree, height_of_tree}
+use Rattle.tree_shape.specs.View.{IsBalancedTree, leaf_count_of, leaves_of_tree, height_of_tree}
 use Rattle.tree_shape.proofs.ArenaTrees.{length_leaves}
 use Rattle.tree_shape.proofs.HeightBounds.{highest_bounds}
 use Rattle.tree_shape.proofs.NodeValues.{value_of_child}
@@ -17,27 +17,27 @@ use Rattle.tree_shape.proofs.PlanSteps.{standing, gathered-append, gathered_take
 use Rattle.value_tree.specs.Parts.{AreParts, StandFor, IsPartingAt, IsParting}
 use Rattle.value_tree.specs.declared.parts.Parting.{Parting}
 
-pub part_self : (t : Tree) → IsPart t t
+pub part_self : (t : Tree) → IsSubtree t t
 part_self (leaf n) = refl
 part_self (inner n l r) = inl refl
 
-part_left : (n : ℕ) (l r t : Tree) → IsPart (inner n l r) t → IsPart l t
+part_left : (n : ℕ) (l r t : Tree) → IsSubtree (inner n l r) t → IsSubtree l t
 part_left n l r (leaf m) p = cc (p)
-part_left n l r (inner m a b) (inl p) = let is : a ≡ l = cc (p) in inr (inl (subst (λ u. IsPart u a) is (part_self a)))
+part_left n l r (inner m a b) (inl p) = let is : a ≡ l = cc (p) in inr (inl (subst (λ u. IsSubtree u a) is (part_self a)))
 part_left n l r (inner m a b) (inr (inl p)) = inr (inl (part_left n l r a p))
 part_left n l r (inner m a b) (inr (inr p)) = inr (inr (part_left n l r b p))
 
-part_right : (n : ℕ) (l r t : Tree) → IsPart (inner n l r) t → IsPart r t
+part_right : (n : ℕ) (l r t : Tree) → IsSubtree (inner n l r) t → IsSubtree r t
 part_right n l r (leaf m) p = cc (p)
-part_right n l r (inner m a b) (inl p) = let is : b ≡ r = cc (p) in inr (inr (subst (λ u. IsPart u b) is (part_self b)))
+part_right n l r (inner m a b) (inl p) = let is : b ≡ r = cc (p) in inr (inr (subst (λ u. IsSubtree u b) is (part_self b)))
 part_right n l r (inner m a b) (inr (inl p)) = inr (inl (part_right n l r a p))
 part_right n l r (inner m a b) (inr (inr p)) = inr (inr (part_right n l r b p))
 
-pub left_of : (n : ℕ) (l r : Tree) (o : Option Tree) → IsPartOf (inner n l r) o → IsPartOf l o
+pub left_of : (n : ℕ) (l r : Tree) (o : Option Tree) → IsSubtreeOf (inner n l r) o → IsSubtreeOf l o
 left_of n l r None p = p
 left_of n l r (Some t) p = part_left n l r t p
 
-pub right_of : (n : ℕ) (l r : Tree) (o : Option Tree) → IsPartOf (inner n l r) o → IsPartOf r o
+pub right_of : (n : ℕ) (l r : Tree) (o : Option Tree) → IsSubtreeOf (inner n l r) o → IsSubtreeOf r o
 right_of n l r None p = p
 right_of n l r (Some t) p = part_right n l r t p
 
@@ -53,7 +53,7 @@ take_past (x ∷ xs) ys (suc n) h =
     ap (λ v. x ∷ v) (take_past xs ys n (omega arith)) ∙ ap (λ k. (x ∷ xs) ++ take k ys) same
 
 -- one part more, behind the others
-one_more : (tree : Option Tree) (children : List Child) (numbers : List ℕ) (t : Tree) → AreParts tree children numbers → IsPartOf t tree → AreParts tree (children ++ name t ∷ []) (numbers ++ leaves t)
+one_more : (tree : Option Tree) (children : List Child) (numbers : List ℕ) (t : Tree) → AreParts tree children numbers → IsSubtreeOf t tree → AreParts tree (children ++ name t ∷ []) (numbers ++ leaves t)
 one_more tree [] numbers t e p = (t, [], refl, p, ap (λ v. v ++ leaves t) e ∙ sym (append-nil (leaves t)), refl)
 one_more tree (child ∷ children) numbers t h p = (h.0, h.1 ++ leaves t, h.2, h.3, ap (λ v. v ++ leaves t) h.4 ∙ append_assoc (leaves h.0) h.1 (leaves t), one_more tree children h.1 t h.5 p)
 
@@ -105,7 +105,7 @@ at_end tree before done high parting parts w h = ending w.0 w.1
     ending (inner n l r) v = absurd (omega (arith, v.low))
 
 -- the walk's beginning
-pub begins : (o : Option Tree) (root : Child) (at : ℕ) → Some root ≡ option_map name o → at < count_of o → IsParting o (take at (leaves_of_tree o)) 0 (height_of_tree o) (record { child = root; at = at }) []
+pub begins : (o : Option Tree) (root : Child) (at : ℕ) → Some root ≡ option_map name o → at < leaf_count_of o → IsParting o (take at (leaves_of_tree o)) 0 (height_of_tree o) (record { child = root; at = at }) []
 begins None root at e place = cc (e)
 begins (Some t) root at e place =
     let is : root ≡ name t = cc (e) in
@@ -121,33 +121,33 @@ last_stands stands value_of (c ∷ children) child all h =
 
 -- The values of the parts stand for their leaves.
 module _ {V : Type 0} (join : V → V → V) (fits : V → V → Type 0) (cost : V → ℕ) (sound : List V → Type 0) (stands : List V → V → Type 0) (stand_laws : StandLaws sound stands join fits) (cost_law : (xs : List V) → sound xs → (each : ℕ) × Costs stands cost each xs) (leaf_at node_at : ℕ → Option V) where
-  keeps_part : (t whole : Tree) → IsPart t whole → Keeps join leaf_at node_at whole → Keeps join leaf_at node_at t
-  keeps_part t (leaf n) p k = subst (Keeps join leaf_at node_at) (sym p) k
-  keeps_part t (inner n l r) (inl p) k = subst (Keeps join leaf_at node_at) (sym p) k
+  keeps_part : (t whole : Tree) → IsSubtree t whole → KeepsNodeValues join leaf_at node_at whole → KeepsNodeValues join leaf_at node_at t
+  keeps_part t (leaf n) p k = subst (KeepsNodeValues join leaf_at node_at) (sym p) k
+  keeps_part t (inner n l r) (inl p) k = subst (KeepsNodeValues join leaf_at node_at) (sym p) k
   keeps_part t (inner n l r) (inr (inl p)) k = keeps_part t l p k.1
   keeps_part t (inner n l r) (inr (inr p)) k = keeps_part t r p k.2
 
-  keeps_of : (t : Tree) (o : Option Tree) → IsPartOf t o → KeepsAll join leaf_at node_at o → Keeps join leaf_at node_at t
+  keeps_of : (t : Tree) (o : Option Tree) → IsSubtreeOf t o → KeepsAll join leaf_at node_at o → KeepsNodeValues join leaf_at node_at t
   keeps_of t None p k = absurd p
   keeps_of t (Some whole) p k = keeps_part t whole p k
 
-  pub parts_stand : (o : Option Tree) (children : List Child) (numbers rest : List ℕ) → KeepsAll join leaf_at node_at o → AreParts o children numbers → AreThere leaf_at (numbers ++ rest) → sound (gathered leaf_at (numbers ++ rest))
-      → StandFor stands (part leaf_at node_at) children (gathered leaf_at numbers)
-  parts_stand o [] numbers rest k e there s = ap (gathered leaf_at) e
+  pub parts_stand : (o : Option Tree) (children : List Child) (numbers rest : List ℕ) → KeepsAll join leaf_at node_at o → AreParts o children numbers → AreThere leaf_at (numbers ++ rest) → sound (values_of_numbers leaf_at (numbers ++ rest))
+      → StandFor stands (part leaf_at node_at) children (values_of_numbers leaf_at numbers)
+  parts_stand o [] numbers rest k e there s = ap (values_of_numbers leaf_at) e
   parts_stand o (child ∷ children) numbers rest k h there s =
       let t = h.0 in
       let more = h.1 in
       let split : numbers ++ rest ≡ leaves t ++ (more ++ rest) = ap (λ v. v ++ rest) h.4 ∙ append_assoc (leaves t) more rest in
       let there_all : AreThere leaf_at (leaves t ++ (more ++ rest)) = subst (AreThere leaf_at) split there in
-      let s_all : sound (gathered leaf_at (leaves t) ++ gathered leaf_at (more ++ rest)) = subst sound (ap (gathered leaf_at) split ∙ gathered-append leaf_at (leaves t) (more ++ rest)) s in
-      let s_front = stand_laws.front (gathered leaf_at (leaves t)) (gathered leaf_at (more ++ rest)) s_all in
-      let s_back = stand_laws.back (gathered leaf_at (leaves t)) (gathered leaf_at (more ++ rest)) s_all in
-      let some_cost = cost_law (gathered leaf_at (leaves t)) s_front in
+      let s_all : sound (values_of_numbers leaf_at (leaves t) ++ values_of_numbers leaf_at (more ++ rest)) = subst sound (ap (values_of_numbers leaf_at) split ∙ gathered-append leaf_at (leaves t) (more ++ rest)) s in
+      let s_front = stand_laws.front (values_of_numbers leaf_at (leaves t)) (values_of_numbers leaf_at (more ++ rest)) s_all in
+      let s_back = stand_laws.back (values_of_numbers leaf_at (leaves t)) (values_of_numbers leaf_at (more ++ rest)) s_all in
+      let some_cost = cost_law (values_of_numbers leaf_at (leaves t)) s_front in
       let st = standing sound stands join fits cost leaf_at stand_laws some_cost.0 t (there_front leaf_at (leaves t) (more ++ rest) there_all) s_front some_cost.1 in (
-        gathered leaf_at (leaves t),
-        gathered leaf_at more,
+        values_of_numbers leaf_at (leaves t),
+        values_of_numbers leaf_at more,
         st.v,
-        ap (gathered leaf_at) h.4 ∙ gathered-append leaf_at (leaves t) more,
+        ap (values_of_numbers leaf_at) h.4 ∙ gathered-append leaf_at (leaves t) more,
         ap (part leaf_at node_at) h.2 ∙ (value_of_child join leaf_at node_at t (keeps_of t o h.3 k) ∙ st.value_is),
         st.stands_for,
         parts_stand o children more rest k h.5 (there_back leaf_at (leaves t) (more ++ rest) there_all) s_back,
@@ -159,14 +159,14 @@ module _ {V : Type 0} (join : V → V → V) (fits : V → V → Type 0) (cost :
   parts_before_stand o children at k there s h =
       let all : leaves_of_tree o ≡ take at (leaves_of_tree o) ++ drop at (leaves_of_tree o) = sym (take-append-drop at (leaves_of_tree o)) in
       subst (StandFor stands (part leaf_at node_at) children) (gathered_take leaf_at at (leaves_of_tree o) there ∙ ap (take at) (values o))
-      (parts_stand o children (take at (leaves_of_tree o)) (drop at (leaves_of_tree o)) k h (subst (AreThere leaf_at) all there) (subst sound (sym (values o) ∙ ap (gathered leaf_at) all) s))
+      (parts_stand o children (take at (leaves_of_tree o)) (drop at (leaves_of_tree o)) k h (subst (AreThere leaf_at) all there) (subst sound (sym (values o) ∙ ap (values_of_numbers leaf_at) all) s))
     where
-      values : (o : Option Tree) → gathered leaf_at (leaves_of_tree o) ≡ leaf_values leaf_at o
+      values : (o : Option Tree) → values_of_numbers leaf_at (leaves_of_tree o) ≡ leaf_values leaf_at o
       values None = refl
       values (Some t) = refl
 
 -- no more parts than the tree is high
 pub few_parts : (o : Option Tree) (before : List ℕ) (done : ℕ) (parting : Parting) (parts : List Child) → IsBalancedTree o → IsParting o before done (height_of_tree o) parting parts → done ≤ height_of_tree o
-    → length parts ≤ highest (count_of o)
+    → length parts ≤ highest (leaf_count_of o)
 few_parts None before done parting parts b w h = omega (arith, w.1.few, h)
 few_parts (Some t) before done parting parts b w h = omega (arith, w.1.few, h, highest_bounds (count t) t b refl)

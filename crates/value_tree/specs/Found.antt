@@ -2,17 +2,17 @@
 use Rattle.std.specs.Prelude.{ℕ, ◌+◌, ◌-◌, nat_lt, cond, List, [], ◌∷◌, Option, Some, None}
 
 -- so many places further on
-abbrev pub further : ℕ → Option (ℕ × ℕ) → Option (ℕ × ℕ)
-further n None = None
-further n (Some p) = Some (n + p.0, p.1)
+abbrev pub place_further : ℕ → Option (ℕ × ℕ) → Option (ℕ × ℕ)
+place_further n None = None
+place_further n (Some p) = Some (n + p.0, p.1)
 
 module _ {V : Type 0} (count : V → ℕ) where
   -- all that they count
-  abbrev pub total : List V → ℕ
-  total [] = 0
-  total (v ∷ vs) = count v + total vs
+  abbrev pub total_count : List V → ℕ
+  total_count [] = 0
+  total_count (v ∷ vs) = count v + total_count vs
 
   -- the place of the value that has the offset, and the offset within it
   abbrev pub found_in : List V → ℕ → Option (ℕ × ℕ)
   found_in [] offset = None
-  found_in (v ∷ vs) offset = cond (nat_lt offset (count v)) (Some (0, offset)) (further 1 (found_in vs (offset - count v)))
+  found_in (v ∷ vs) offset = cond (nat_lt offset (count v)) (Some (0, offset)) (place_further 1 (found_in vs (offset - count v)))

@@ -7,7 +7,7 @@ use Rattle.tree_shape.specs.View.{ShapeView, leaves_of_tree, rows_above, rows_wi
 use Rattle.tree_shape.specs.Values.{AreThere, KeepsAll, leaf_values, with_node, composed_all}
 
 -- each leaf has a value, these may stand in one tree, each inner node has the value composed of its leaves', and there is a place for each number drawn
-pub record IsKept {V : Type 0} (join : V → V → V) (sound : List V → Type 0) (leaf_at node_at : ℕ → Option V) (slots : ℕ) (shape : ShapeView) : Type 0 where
+pub record KeepsLeafValues {V : Type 0} (join : V → V → V) (sound : List V → Type 0) (leaf_at node_at : ℕ → Option V) (slots : ℕ) (shape : ShapeView) : Type 0 where
   pub there : AreThere leaf_at (leaves_of_tree shape.tree)
   pub sound_leaves : sound (leaf_values leaf_at shape.tree)
   pub keeps : KeepsAll join leaf_at node_at shape.tree

@@ -5,7 +5,7 @@ use Rattle.tree_shape.specs.declared.node.Child.{Child}
 use Rattle.tree_shape.specs.declared.node.Child.TheVariants.{Leaf, Inner}
 use Rattle.tree_shape.specs.declared.dirty.DirtyRow.{DirtyRow}
 use Rattle.tree_shape.specs.Values.{with_node}
-use Rattle.tree_shape.specs.Composing.{latest}
+use Rattle.tree_shape.specs.Composing.{latest_room}
 use Rattle.value_tree.specs.declared.need.NewLeaf.{NewLeaf}
 
 -- the rooms of the leaves, one of them new
@@ -25,4 +25,4 @@ more_rooms (Some new) = new.room ∷ []
 -- the room of a child, after some rows have theirs
 abbrev pub found_at : {V R : Type 0} → (V → R) → (ℕ → Option V) → (ℕ → Option V) → Option (NewLeaf R) → List DirtyRow → List R → Child → Option R
 found_at room leaf_at node_at new rows rs (Leaf n) = leaf_rooms room leaf_at new n
-found_at room leaf_at node_at new rows rs (Inner n) = latest n rows rs (node_rooms room node_at n)
+found_at room leaf_at node_at new rows rs (Inner n) = latest_room n rows rs (node_rooms room node_at n)

@@ -2,8 +2,8 @@
 ghost use Rattle.std.specs.Prelude.{◌≡◌, ◌+◌, ◌*◌, ◌≤◌, ◌++◌, length, slice_range, OnOk, IfOk};
 ghost use Rattle.tree_shape.specs.Fewest.{highest};
 ghost use Rattle.tree_shape.specs.Tree.{Tree};
-ghost use Rattle.tree_shape.specs.View.{count_of, leaves_of_tree};
-ghost use Rattle.value_tree.specs.Between.{between, IsStretch};
+ghost use Rattle.tree_shape.specs.View.{leaf_count_of, leaves_of_tree};
+ghost use Rattle.value_tree.specs.Between.{tree_parts_between, IsStretch};
 ghost use Rattle.value_tree.specs.Parts.{AreParts};
 
 use knit_base::NoMemory;
@@ -24,9 +24,9 @@ pub(crate) fn parts_between(
     from: u32,
     to: u32,
 ) -> Result<Vec<Child>, NoMemory>
-    requires { to ≤ count_of shape.now.tree }
+    requires { to ≤ leaf_count_of shape.now.tree }
     ensures parts { IfOk result (λ parts. AreParts shape.now.tree parts.items (slice_range (leaves_of_tree shape.now.tree) from to)) }
-    ensures few { IfOk result (λ parts. length parts.items ≤ 2 * highest (count_of shape.now.tree) + 1) }
+    ensures few { IfOk result (λ parts. length parts.items ≤ 2 * highest (leaf_count_of shape.now.tree) + 1) }
 {
     let mut parts = Vec::new(alloc);
     let leaves = shape.len();
@@ -46,7 +46,7 @@ fn add_between(
     parts: &mut Vec<Child>,
 ) -> Result<(), NoMemory>
     requires { (t : Tree) × IsStretch shape.now.tree counted to t }
-    ensures { OnOk result ((t : Tree) → IsStretch shape.now.tree counted to t → parts.new.items ≡ parts.old.items ++ between from to t) }
+    ensures { OnOk result ((t : Tree) → IsStretch shape.now.tree counted to t → parts.new.items ≡ parts.old.items ++ tree_parts_between from to t) }
 {
     if to <= from {
         return Ok(());

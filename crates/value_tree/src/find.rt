@@ -20,7 +20,7 @@ pub trait Counts: Values {
 
 /// How far a walk down the tree has come: a child, the leaves before it, and the offset from there.
 #[derive(Clone, Copy)]
-pub(crate) struct Walk {
+pub(crate) struct LeafWalk {
     pub child: Child,
     pub at: u32,
     pub left: u64,

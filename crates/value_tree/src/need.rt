@@ -3,7 +3,7 @@ ghost use Rattle.std.specs.Prelude.{◌≡◌, ℕ, ◌+◌, ◌<◌, ◌≤◌,
 ghost use Rattle.std.specs.Option.{option_map};
 ghost use Rattle.tree_shape.specs.declared.node.Child.TheVariants.{Leaf};
 ghost use Rattle.tree_shape.specs.Values.{part, composed_all};
-ghost use Rattle.tree_shape.specs.Composing.{latest};
+ghost use Rattle.tree_shape.specs.Composing.{latest_room};
 ghost use Rattle.value_tree.specs.Need.{leaf_rooms, node_rooms, more_rooms, found_at};
 
 use crate::values::Values;
@@ -20,7 +20,7 @@ pub(crate) struct NewLeaf<R> {
 fn found<S: Values>(need: &S::Need, dirty: &Dirty, rows: u32, node: u32) -> Option<S::Room>
     requires rows { rows ≡ length (S.rooms need.now) }
     requires few { rows ≤ length dirty.now }
-    ensures { result ≡ latest node dirty.now (S.rooms need.now) None }
+    ensures { result ≡ latest_room node dirty.now (S.rooms need.now) None }
 {
     for behind in 0..rows {
         let i = rows - 1 - behind;

@@ -1,7 +1,7 @@
 //! The parts of a tree that lie whole before a position.
 ghost use Rattle.std.specs.Prelude.{ℕ, ◌+◌, ◌<◌, ◌≤◌, List, length, take, OnOk, IfOk};
 ghost use Rattle.tree_shape.specs.Fewest.{highest};
-ghost use Rattle.tree_shape.specs.View.{count_of, leaves_of_tree};
+ghost use Rattle.tree_shape.specs.View.{leaf_count_of, leaves_of_tree};
 ghost use Rattle.value_tree.specs.Parts.{AreParts, IsParting};
 
 use knit_base::NoMemory;
@@ -17,9 +17,9 @@ pub(crate) struct Parting {
 
 /// The children that lie whole before a position, from the first on, no more than one a level.
 pub(crate) fn parts_before(alloc: Global, shape: &Shape, at: u32) -> Result<Vec<Child>, NoMemory>
-    requires { at < count_of shape.now.tree }
+    requires { at < leaf_count_of shape.now.tree }
     ensures parts { IfOk result (λ parts. AreParts shape.now.tree parts.items (take at (leaves_of_tree shape.now.tree))) }
-    ensures few { IfOk result (λ parts. length parts.items ≤ highest (count_of shape.now.tree)) }
+    ensures few { IfOk result (λ parts. length parts.items ≤ highest (leaf_count_of shape.now.tree)) }
 {
     let mut parts = Vec::new(alloc);
     let _len = shape.len();

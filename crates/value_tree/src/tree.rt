@@ -2,19 +2,19 @@
 ghost use Rattle.std.specs.Prelude.{◌≡◌, ℕ, ◌+◌, ◌*◌, ◌<◌, ◌≤◌, List, [], ◌∷◌, length, take, slice_range, Option, Some, true, slice_index, slice_set, OnOk, IfOk, IsOk, IfSome, IsNone, ◌↔◌};
 ghost use Rattle.std.specs.List.{slice_get};
 ghost use Rattle.std.specs.Option.{option_map};
-ghost use Rattle.tree_shape.specs.Fewest.{highest, inserted, removed};
+ghost use Rattle.tree_shape.specs.Fewest.{highest, list_inserted, list_removed};
 ghost use Rattle.tree_shape.specs.Numbers.{next_number};
-ghost use Rattle.tree_shape.specs.View.{ShapeView, IsSameShape, count_of, leaves_of_tree, rows_above, rows_with, rows_without};
+ghost use Rattle.tree_shape.specs.View.{ShapeView, IsSameShape, leaf_count_of, leaves_of_tree, rows_above, rows_with, rows_without};
 ghost use Rattle.tree_shape.specs.Composing.{Costs};
-ghost use Rattle.tree_shape.specs.Values.{AreThere, gathered, leaf_values, part, with_node};
+ghost use Rattle.tree_shape.specs.Values.{AreThere, values_of_numbers, leaf_values, part, with_node};
 ghost use Rattle.tree_shape.specs.Changes.{numbers_below};
-ghost use Rattle.value_tree.specs.Found.{found_in, total};
-ghost use Rattle.value_tree.specs.Kept.{HasLeafPlace, IsKept, IsReplaceNeed, IsInsertNeed, IsRemoveNeed, KeepsNeeds};
+ghost use Rattle.value_tree.specs.Found.{found_in, total_count};
+ghost use Rattle.value_tree.specs.Kept.{HasLeafPlace, KeepsLeafValues, IsReplaceNeed, IsInsertNeed, IsRemoveNeed, KeepsNeeds};
 ghost use Rattle.value_tree.specs.Parts.{StandFor};
 
 use crate::before::{Descent, descend};
 use crate::between::parts_between;
-use crate::find::{Counts, Walk, step};
+use crate::find::{Counts, LeafWalk, step};
 use crate::need::{NewLeaf, fill_need, need_of};
 use crate::parts::parts_before;
 use crate::refresh::refresh;
@@ -37,16 +37,16 @@ impl<S: Values> ValueTree<S> {
     pub fn replace<F, L: Ledger>(&mut self, at: u32, leaf: F, steps: &mut Steps<L>)
     where
         S: Takes<F>,
-        requires kept { IsKept S.join S.sound (S.leaf_at self.old.store) (S.node_at self.old.store) (S.slots self.old.store) self.old.shape }
-        requires place { at < count_of self.old.shape.tree }
+        requires kept { KeepsLeafValues S.join S.sound (S.leaf_at self.old.store) (S.node_at self.old.store) (S.slots self.old.store) self.old.shape }
+        requires place { at < leaf_count_of self.old.shape.tree }
         requires lawful { S.may_stand leaf }
         requires sound { S.sound (slice_set (leaf_values (S.leaf_at self.old.store) self.old.shape.tree) at (S.value_of leaf)) }
         requires need { (needed : List S.Room) × S.meets self.old.store needed × IsReplaceNeed S.room S.after (S.leaf_at self.old.store) (S.node_at self.old.store) self.old.shape at (S.room (S.value_of leaf)) needed }
-        ensures kept { IsKept S.join S.sound (S.leaf_at self.new.store) (S.node_at self.new.store) (S.slots self.new.store) self.new.shape }
+        ensures kept { KeepsLeafValues S.join S.sound (S.leaf_at self.new.store) (S.node_at self.new.store) (S.slots self.new.store) self.new.shape }
         ensures leaves { leaf_values (S.leaf_at self.new.store) self.new.shape.tree ≡ slice_set (leaf_values (S.leaf_at self.old.store) self.old.shape.tree) at (S.value_of leaf) }
         ensures shape { self.new.shape ≡ self.old.shape }
         ensures steps { (each : ℕ) → Costs S.stands S.cost each (slice_set (leaf_values (S.leaf_at self.old.store) self.old.shape.tree) at (S.value_of leaf)) → steps.new ≤ steps.old + 3 * each * length (rows_above at self.old.shape.tree) }
-        ensures rows { length (rows_above at self.old.shape.tree) ≤ highest (count_of self.old.shape.tree) }
+        ensures rows { length (rows_above at self.old.shape.tree) ≤ highest (leaf_count_of self.old.shape.tree) }
     {
         let mut dirty = Dirty::new();
         let _len = self.shape.len();
@@ -60,21 +60,21 @@ impl<S: Values> ValueTree<S> {
     pub fn insert<F, L: Ledger>(&mut self, at: u32, leaf: F, steps: &mut Steps<L>) -> u32
     where
         S: Takes<F>,
-        requires kept { IsKept S.join S.sound (S.leaf_at self.old.store) (S.node_at self.old.store) (S.slots self.old.store) self.old.shape }
-        requires place { at ≤ count_of self.old.shape.tree }
-        requires few { count_of self.old.shape.tree < 65536 }
+        requires kept { KeepsLeafValues S.join S.sound (S.leaf_at self.old.store) (S.node_at self.old.store) (S.slots self.old.store) self.old.shape }
+        requires place { at ≤ leaf_count_of self.old.shape.tree }
+        requires few { leaf_count_of self.old.shape.tree < 65536 }
         requires room { self.old.shape.room ≡ true }
         requires leaf_slot { self.old.shape.leaf_numbers.drawn < S.slots self.old.store }
         requires inner_slot { self.old.shape.inner_numbers.drawn < S.slots self.old.store }
         requires lawful { S.may_stand leaf }
-        requires sound { S.sound (inserted at (S.value_of leaf) (leaf_values (S.leaf_at self.old.store) self.old.shape.tree)) }
+        requires sound { S.sound (list_inserted at (S.value_of leaf) (leaf_values (S.leaf_at self.old.store) self.old.shape.tree)) }
         requires need { (needed : List S.Room) × S.meets self.old.store needed × IsInsertNeed S.room S.after (S.leaf_at self.old.store) (S.node_at self.old.store) self.old.shape at (S.room (S.value_of leaf)) needed }
-        ensures kept { IsKept S.join S.sound (S.leaf_at self.new.store) (S.node_at self.new.store) (S.slots self.new.store) self.new.shape }
-        ensures leaves { leaf_values (S.leaf_at self.new.store) self.new.shape.tree ≡ inserted at (S.value_of leaf) (leaf_values (S.leaf_at self.old.store) self.old.shape.tree) }
+        ensures kept { KeepsLeafValues S.join S.sound (S.leaf_at self.new.store) (S.node_at self.new.store) (S.slots self.new.store) self.new.shape }
+        ensures leaves { leaf_values (S.leaf_at self.new.store) self.new.shape.tree ≡ list_inserted at (S.value_of leaf) (leaf_values (S.leaf_at self.old.store) self.old.shape.tree) }
         ensures number { result ≡ next_number self.old.shape.leaf_numbers }
-        ensures numbers { leaves_of_tree self.new.shape.tree ≡ inserted at result (leaves_of_tree self.old.shape.tree) }
-        ensures steps { (each : ℕ) → Costs S.stands S.cost each (inserted at (S.value_of leaf) (leaf_values (S.leaf_at self.old.store) self.old.shape.tree)) → steps.new ≤ steps.old + 3 * each * length (rows_with at (next_number self.old.shape.leaf_numbers) (next_number self.old.shape.inner_numbers) self.old.shape.tree) }
-        ensures rows { length (rows_with at (next_number self.old.shape.leaf_numbers) (next_number self.old.shape.inner_numbers) self.old.shape.tree) ≤ 3 * (highest (count_of self.new.shape.tree) + 2) }
+        ensures numbers { leaves_of_tree self.new.shape.tree ≡ list_inserted at result (leaves_of_tree self.old.shape.tree) }
+        ensures steps { (each : ℕ) → Costs S.stands S.cost each (list_inserted at (S.value_of leaf) (leaf_values (S.leaf_at self.old.store) self.old.shape.tree)) → steps.new ≤ steps.old + 3 * each * length (rows_with at (next_number self.old.shape.leaf_numbers) (next_number self.old.shape.inner_numbers) self.old.shape.tree) }
+        ensures rows { length (rows_with at (next_number self.old.shape.leaf_numbers) (next_number self.old.shape.inner_numbers) self.old.shape.tree) ≤ 3 * (highest (leaf_count_of self.new.shape.tree) + 2) }
     {
         let mut dirty = Dirty::new();
         let _before = self.shape.len();
@@ -87,16 +87,16 @@ impl<S: Values> ValueTree<S> {
 
     /// Takes the leaf at a position out and answers its number. Takes no memory.
     pub fn remove<L: Ledger>(&mut self, at: u32, steps: &mut Steps<L>) -> u32
-        requires kept { IsKept S.join S.sound (S.leaf_at self.old.store) (S.node_at self.old.store) (S.slots self.old.store) self.old.shape }
-        requires place { at < count_of self.old.shape.tree }
-        requires sound { S.sound (removed at (leaf_values (S.leaf_at self.old.store) self.old.shape.tree)) }
+        requires kept { KeepsLeafValues S.join S.sound (S.leaf_at self.old.store) (S.node_at self.old.store) (S.slots self.old.store) self.old.shape }
+        requires place { at < leaf_count_of self.old.shape.tree }
+        requires sound { S.sound (list_removed at (leaf_values (S.leaf_at self.old.store) self.old.shape.tree)) }
         requires need { (needed : List S.Room) × S.meets self.old.store needed × IsRemoveNeed S.room S.after (S.leaf_at self.old.store) (S.node_at self.old.store) self.old.shape at needed }
-        ensures kept { IsKept S.join S.sound (S.leaf_at self.new.store) (S.node_at self.new.store) (S.slots self.new.store) self.new.shape }
-        ensures leaves { leaf_values (S.leaf_at self.new.store) self.new.shape.tree ≡ removed at (leaf_values (S.leaf_at self.old.store) self.old.shape.tree) }
+        ensures kept { KeepsLeafValues S.join S.sound (S.leaf_at self.new.store) (S.node_at self.new.store) (S.slots self.new.store) self.new.shape }
+        ensures leaves { leaf_values (S.leaf_at self.new.store) self.new.shape.tree ≡ list_removed at (leaf_values (S.leaf_at self.old.store) self.old.shape.tree) }
         ensures number { result ≡ slice_index (leaves_of_tree self.old.shape.tree) at }
-        ensures numbers { leaves_of_tree self.new.shape.tree ≡ removed at (leaves_of_tree self.old.shape.tree) }
-        ensures steps { (each : ℕ) → Costs S.stands S.cost each (removed at (leaf_values (S.leaf_at self.old.store) self.old.shape.tree)) → steps.new ≤ steps.old + 3 * each * length (rows_without at self.old.shape.tree) }
-        ensures rows { length (rows_without at self.old.shape.tree) ≤ 3 * (highest (count_of self.old.shape.tree) + 2) }
+        ensures numbers { leaves_of_tree self.new.shape.tree ≡ list_removed at (leaves_of_tree self.old.shape.tree) }
+        ensures steps { (each : ℕ) → Costs S.stands S.cost each (list_removed at (leaf_values (S.leaf_at self.old.store) self.old.shape.tree)) → steps.new ≤ steps.old + 3 * each * length (rows_without at self.old.shape.tree) }
+        ensures rows { length (rows_without at self.old.shape.tree) ≤ 3 * (highest (leaf_count_of self.old.shape.tree) + 2) }
     {
         let mut dirty = Dirty::new();
         let _before = self.shape.len();
@@ -111,8 +111,8 @@ impl<S: Values> ValueTree<S> {
 
     /// What putting a value of this room at a position needs. It stays a need until the next change.
     pub fn need_replace(&self, at: u32, room: S::Room) -> S::Need
-        requires kept { IsKept S.join S.sound (S.leaf_at self.now.store) (S.node_at self.now.store) (S.slots self.now.store) self.now.shape }
-        requires place { at < count_of self.now.shape.tree }
+        requires kept { KeepsLeafValues S.join S.sound (S.leaf_at self.now.store) (S.node_at self.now.store) (S.slots self.now.store) self.now.shape }
+        requires place { at < leaf_count_of self.now.shape.tree }
         ensures need { IsReplaceNeed S.room S.after (S.leaf_at self.now.store) (S.node_at self.now.store) self.now.shape at room (S.rooms result) }
     {
         let mut need = S::no_need();
@@ -122,8 +122,8 @@ impl<S: Values> ValueTree<S> {
 
     /// The same, put into a need in place of what it had.
     pub fn fill_replace(&self, at: u32, room: S::Room, need: &mut S::Need)
-        requires kept { IsKept S.join S.sound (S.leaf_at self.now.store) (S.node_at self.now.store) (S.slots self.now.store) self.now.shape }
-        requires place { at < count_of self.now.shape.tree }
+        requires kept { KeepsLeafValues S.join S.sound (S.leaf_at self.now.store) (S.node_at self.now.store) (S.slots self.now.store) self.now.shape }
+        requires place { at < leaf_count_of self.now.shape.tree }
         ensures need { IsReplaceNeed S.room S.after (S.leaf_at self.now.store) (S.node_at self.now.store) self.now.shape at room (S.rooms need.new) }
     {
         let mut dirty = Dirty::new();
@@ -135,9 +135,9 @@ impl<S: Values> ValueTree<S> {
 
     /// What inserting a value of this room at a position needs.
     pub fn need_insert(&self, at: u32, room: S::Room) -> S::Need
-        requires kept { IsKept S.join S.sound (S.leaf_at self.now.store) (S.node_at self.now.store) (S.slots self.now.store) self.now.shape }
-        requires place { at ≤ count_of self.now.shape.tree }
-        requires few { count_of self.now.shape.tree < 65536 }
+        requires kept { KeepsLeafValues S.join S.sound (S.leaf_at self.now.store) (S.node_at self.now.store) (S.slots self.now.store) self.now.shape }
+        requires place { at ≤ leaf_count_of self.now.shape.tree }
+        requires few { leaf_count_of self.now.shape.tree < 65536 }
         ensures need { IsInsertNeed S.room S.after (S.leaf_at self.now.store) (S.node_at self.now.store) self.now.shape at room (S.rooms result) }
     {
         let mut dirty = Dirty::new();
@@ -148,8 +148,8 @@ impl<S: Values> ValueTree<S> {
 
     /// What taking out the leaf of a position needs.
     pub fn need_remove(&self, at: u32) -> S::Need
-        requires kept { IsKept S.join S.sound (S.leaf_at self.now.store) (S.node_at self.now.store) (S.slots self.now.store) self.now.shape }
-        requires place { at < count_of self.now.shape.tree }
+        requires kept { KeepsLeafValues S.join S.sound (S.leaf_at self.now.store) (S.node_at self.now.store) (S.slots self.now.store) self.now.shape }
+        requires place { at < leaf_count_of self.now.shape.tree }
         ensures need { IsRemoveNeed S.room S.after (S.leaf_at self.now.store) (S.node_at self.now.store) self.now.shape at (S.rooms result) }
     {
         let mut dirty = Dirty::new();
@@ -161,8 +161,8 @@ impl<S: Values> ValueTree<S> {
     /// Makes the room that a need asks for. Where it is there already, it takes no memory and is `Ok`. Fails where memory runs
     /// out, with the same tree.
     pub fn reserve(&mut self, need: &S::Need) -> Result<(), NoMemory>
-        requires kept { IsKept S.join S.sound (S.leaf_at self.old.store) (S.node_at self.old.store) (S.slots self.old.store) self.old.shape }
-        ensures kept { IsKept S.join S.sound (S.leaf_at self.new.store) (S.node_at self.new.store) (S.slots self.new.store) self.new.shape }
+        requires kept { KeepsLeafValues S.join S.sound (S.leaf_at self.old.store) (S.node_at self.old.store) (S.slots self.old.store) self.old.shape }
+        ensures kept { KeepsLeafValues S.join S.sound (S.leaf_at self.new.store) (S.node_at self.new.store) (S.slots self.new.store) self.new.shape }
         ensures leaves { (k : ℕ) → S.leaf_at self.new.store k ≡ S.leaf_at self.old.store k }
         ensures nodes { (k : ℕ) → S.node_at self.new.store k ≡ S.node_at self.old.store k }
         ensures shape { self.new.shape ≡ self.old.shape }
@@ -181,8 +181,8 @@ impl<S: Values> ValueTree<S> {
     /// Makes the room that a need asks for, and a place for one more leaf and one more inner node. Fails where memory runs out,
     /// with the same tree.
     pub fn reserve_insert(&mut self, need: &S::Need) -> Result<(), NoMemory>
-        requires kept { IsKept S.join S.sound (S.leaf_at self.old.store) (S.node_at self.old.store) (S.slots self.old.store) self.old.shape }
-        ensures kept { IsKept S.join S.sound (S.leaf_at self.new.store) (S.node_at self.new.store) (S.slots self.new.store) self.new.shape }
+        requires kept { KeepsLeafValues S.join S.sound (S.leaf_at self.old.store) (S.node_at self.old.store) (S.slots self.old.store) self.old.shape }
+        ensures kept { KeepsLeafValues S.join S.sound (S.leaf_at self.new.store) (S.node_at self.new.store) (S.slots self.new.store) self.new.shape }
         ensures leaves { (k : ℕ) → S.leaf_at self.new.store k ≡ S.leaf_at self.old.store k }
         ensures nodes { (k : ℕ) → S.node_at self.new.store k ≡ S.node_at self.old.store k }
         ensures shape { IsSameShape self.old.shape self.new.shape }
@@ -216,7 +216,7 @@ impl<S: Values> ValueTree<S> {
     /// A tree without leaves. Takes no memory.
     pub fn new(alloc: Global, store: S) -> ValueTree<S>
         requires none { S.sound [] }
-        ensures kept { IsKept S.join S.sound (S.leaf_at result.store) (S.node_at result.store) (S.slots result.store) result.shape }
+        ensures kept { KeepsLeafValues S.join S.sound (S.leaf_at result.store) (S.node_at result.store) (S.slots result.store) result.shape }
         ensures empty { leaf_values (S.leaf_at result.store) result.shape.tree ≡ [] }
     {
         ValueTree {
@@ -236,10 +236,10 @@ impl<S: Values> ValueTree<S> {
         requires few { leaves ≤ 65536 }
         requires places { leaves ≤ S.slots store }
         requires there { AreThere (S.leaf_at store) (numbers_below leaves) }
-        requires sound { S.sound (gathered (S.leaf_at store) (numbers_below leaves)) }
-        ensures kept { IfOk result (λ tree. IsKept S.join S.sound (S.leaf_at tree.store) (S.node_at tree.store) (S.slots tree.store) tree.shape) }
-        ensures leaves { IfOk result (λ tree. leaf_values (S.leaf_at tree.store) tree.shape.tree ≡ gathered (S.leaf_at store) (numbers_below leaves)) }
-        ensures steps { (each : ℕ) → Costs S.stands S.cost each (gathered (S.leaf_at store) (numbers_below leaves)) → steps.new ≤ steps.old + 3 * each * leaves }
+        requires sound { S.sound (values_of_numbers (S.leaf_at store) (numbers_below leaves)) }
+        ensures kept { IfOk result (λ tree. KeepsLeafValues S.join S.sound (S.leaf_at tree.store) (S.node_at tree.store) (S.slots tree.store) tree.shape) }
+        ensures leaves { IfOk result (λ tree. leaf_values (S.leaf_at tree.store) tree.shape.tree ≡ values_of_numbers (S.leaf_at store) (numbers_below leaves)) }
+        ensures steps { (each : ℕ) → Costs S.stands S.cost each (values_of_numbers (S.leaf_at store) (numbers_below leaves)) → steps.new ≤ steps.old + 3 * each * leaves }
     {
         let shape = Shape::build(alloc, leaves)?;
         let _len = shape.len();
@@ -249,7 +249,7 @@ impl<S: Values> ValueTree<S> {
 
     /// The number of leaves.
     pub fn len(&self) -> u32
-        ensures len { result ≡ count_of self.now.shape.tree }
+        ensures len { result ≡ leaf_count_of self.now.shape.tree }
         ensures few { result ≤ 65536 }
     {
         self.shape.len()
@@ -267,7 +267,7 @@ impl<S: Values> ValueTree<S> {
 
     /// The root, if there is a leaf: what it has stands for all leaves.
     pub fn root(&self) -> Option<Child>
-        requires kept { IsKept S.join S.sound (S.leaf_at self.now.store) (S.node_at self.now.store) (S.slots self.now.store) self.now.shape }
+        requires kept { KeepsLeafValues S.join S.sound (S.leaf_at self.now.store) (S.node_at self.now.store) (S.slots self.now.store) self.now.shape }
         ensures none { IsNone result → leaf_values (S.leaf_at self.now.store) self.now.shape.tree ≡ [] }
         ensures stands { IfSome result (λ child. (v : S.Value) × (part (S.leaf_at self.now.store) (S.node_at self.now.store) child ≡ Some v) × S.stands (leaf_values (S.leaf_at self.now.store) self.now.shape.tree) v) }
     {
@@ -278,7 +278,7 @@ impl<S: Values> ValueTree<S> {
     pub fn find(&self, offset: u64) -> Option<(u32, u64)>
     where
         S: Counts,
-        requires kept { IsKept S.join S.sound (S.leaf_at self.now.store) (S.node_at self.now.store) (S.slots self.now.store) self.now.shape }
+        requires kept { KeepsLeafValues S.join S.sound (S.leaf_at self.now.store) (S.node_at self.now.store) (S.slots self.now.store) self.now.shape }
         ensures { result ≡ found_in S.count (leaf_values (S.leaf_at self.now.store) self.now.shape.tree) offset }
     {
         let _len = self.shape.len();
@@ -288,7 +288,7 @@ impl<S: Values> ValueTree<S> {
         if self.store.count_of(root) <= offset {
             return None;
         }
-        let mut walk = Walk {
+        let mut walk = LeafWalk {
             child: root,
             at: 0,
             left: offset,
@@ -303,9 +303,9 @@ impl<S: Values> ValueTree<S> {
     pub fn count_before(&self, at: u32) -> u64
     where
         S: Counts,
-        requires kept { IsKept S.join S.sound (S.leaf_at self.now.store) (S.node_at self.now.store) (S.slots self.now.store) self.now.shape }
-        requires place { at ≤ count_of self.now.shape.tree }
-        ensures { result ≡ total S.count (take at (leaf_values (S.leaf_at self.now.store) self.now.shape.tree)) }
+        requires kept { KeepsLeafValues S.join S.sound (S.leaf_at self.now.store) (S.node_at self.now.store) (S.slots self.now.store) self.now.shape }
+        requires place { at ≤ leaf_count_of self.now.shape.tree }
+        ensures { result ≡ total_count S.count (take at (leaf_values (S.leaf_at self.now.store) self.now.shape.tree)) }
     {
         let leaves = self.shape.len();
         let Some(root) = self.shape.root() else {
@@ -329,10 +329,10 @@ impl<S: Values> ValueTree<S> {
     /// The children that lie whole before a position, from the first on, no more than one a level: what they have stands for the
     /// leaves there, one child after the other. Fails where memory runs out.
     pub fn parts_before(&self, alloc: Global, at: u32) -> Result<Vec<Child>, NoMemory>
-        requires kept { IsKept S.join S.sound (S.leaf_at self.now.store) (S.node_at self.now.store) (S.slots self.now.store) self.now.shape }
-        requires place { at < count_of self.now.shape.tree }
+        requires kept { KeepsLeafValues S.join S.sound (S.leaf_at self.now.store) (S.node_at self.now.store) (S.slots self.now.store) self.now.shape }
+        requires place { at < leaf_count_of self.now.shape.tree }
         ensures stand { IfOk result (λ parts. StandFor S.stands (part (S.leaf_at self.now.store) (S.node_at self.now.store)) parts.items (take at (leaf_values (S.leaf_at self.now.store) self.now.shape.tree))) }
-        ensures few { IfOk result (λ parts. length parts.items ≤ highest (count_of self.now.shape.tree)) }
+        ensures few { IfOk result (λ parts. length parts.items ≤ highest (leaf_count_of self.now.shape.tree)) }
     {
         parts_before(alloc, &self.shape, at)
     }
@@ -340,18 +340,18 @@ impl<S: Values> ValueTree<S> {
     /// The children that lie whole from one position to another, which isn't counted, from the first on, no more than two a level:
     /// what they have stands for the leaves there, one child after the other. Fails where memory runs out.
     pub fn parts_between(&self, alloc: Global, from: u32, to: u32) -> Result<Vec<Child>, NoMemory>
-        requires kept { IsKept S.join S.sound (S.leaf_at self.now.store) (S.node_at self.now.store) (S.slots self.now.store) self.now.shape }
-        requires place { to ≤ count_of self.now.shape.tree }
+        requires kept { KeepsLeafValues S.join S.sound (S.leaf_at self.now.store) (S.node_at self.now.store) (S.slots self.now.store) self.now.shape }
+        requires place { to ≤ leaf_count_of self.now.shape.tree }
         ensures stand { IfOk result (λ parts. StandFor S.stands (part (S.leaf_at self.now.store) (S.node_at self.now.store)) parts.items (slice_range (leaf_values (S.leaf_at self.now.store) self.now.shape.tree) from to)) }
-        ensures few { IfOk result (λ parts. length parts.items ≤ 2 * highest (count_of self.now.shape.tree) + 1) }
+        ensures few { IfOk result (λ parts. length parts.items ≤ 2 * highest (leaf_count_of self.now.shape.tree) + 1) }
     {
         parts_between(alloc, &self.shape, from, to)
     }
 
     /// The number of the leaf at a position.
     pub fn leaf(&self, at: u32) -> u32
-        requires kept { IsKept S.join S.sound (S.leaf_at self.now.store) (S.node_at self.now.store) (S.slots self.now.store) self.now.shape }
-        requires place { at < count_of self.now.shape.tree }
+        requires kept { KeepsLeafValues S.join S.sound (S.leaf_at self.now.store) (S.node_at self.now.store) (S.slots self.now.store) self.now.shape }
+        requires place { at < leaf_count_of self.now.shape.tree }
         ensures { (v : S.Value) × (S.leaf_at self.now.store result ≡ Some v) × (slice_get (leaf_values (S.leaf_at self.now.store) self.now.shape.tree) at ≡ Some v) }
     {
         self.shape.leaf(at)

@@ -2,7 +2,7 @@
 ghost use Rattle.std.specs.Prelude.{◌≡◌, ◌≢◌, ℕ, ◌+◌, ◌<◌, ◌≤◌, ◌↔◌, Bool, true, List, [], ◌∷◌, ◌++◌, length, Option, Some, None, OnOk, OnErr};
 ghost use Rattle.std.specs.List.{slice_get};
 ghost use Rattle.std.specs.Option.{option_map};
-ghost use Rattle.tree_shape.specs.Values.{part, composed};
+ghost use Rattle.tree_shape.specs.Values.{part, row_value};
 ghost use Rattle.tree_shape.specs.Composing.{StandLaws, RoomLaws, Costs};
 
 use knit_base::{NoMemory, Steps};
@@ -102,7 +102,7 @@ pub trait Values: Drop {
     fn compose<L: Ledger>(&mut self, row: DirtyRow, steps: &mut Steps<L>)
         requires place { row.node < slots self.old }
         requires parts { (a : Self.Value) × (b : Self.Value) × (part (leaf_at self.old) (node_at self.old) row.left ≡ Some a) × (part (leaf_at self.old) (node_at self.old) row.right ≡ Some b) × fits a b × (r : Self.Room) × (rest : List Self.Room) × within (after (room a) (room b)) r × meets self.old (r ∷ rest) }
-        ensures node { node_at self.new row.node ≡ composed join (leaf_at self.old) (node_at self.old) row }
+        ensures node { node_at self.new row.node ≡ row_value join (leaf_at self.old) (node_at self.old) row }
         ensures others { (k : ℕ) → k ≢ row.node → node_at self.new k ≡ node_at self.old k }
         ensures leaves { (k : ℕ) → leaf_at self.new k ≡ leaf_at self.old k }
         ensures slots { slots self.new ≡ slots self.old }

@@ -17,10 +17,10 @@ use Rattle.carriage_model.specs.declared.verdict.Stack.{Stack}
 use Rattle.carriage_model.specs.declared.verdict.Verdict.{Verdict}
 use Rattle.carriage_model.specs.declared.verdict.Verdict.TheVariants.{Sound, Broken}
 use Rattle.carriage_model.specs.Verdict.{held_on}
-use Rattle.verdict_report.specs.Carriers.{carriers_in}
+use Rattle.verdict_report.specs.Carriers.{carriers_of_set}
 use Rattle.verdict_report.specs.VerdictText.{Text}
 use Rattle.verdict_report.specs.VerdictJson.{broken_value, count_value, list_value, loop_value, name_value, set_value, sound_value, stack_value, verdict_json, with_loops}
-use Rattle.verdict_report.specs.JsonText.{broken_back, broken_front, json_line, list_text, loop_json, loop_place, loops_member, more_text, sound_back, sound_front, stack_json, string_of}
+use Rattle.verdict_report.specs.JsonText.{broken_back, broken_front, verdict_json_line, list_text, loop_json, loop_place, loops_member, more_text, sound_back, sound_front, stack_json, string_of}
 use Rattle.verdict_report.proofs.PlainText.{dir_plain, needle_plain, quoted-plain, rack_plain, rule_plain}
 
 -- ---- lists
@@ -52,12 +52,12 @@ names_is : (names : List Text) (cs : List CarrierNo) → list_text (string_of (m
 names_is names cs = list_is (string_of (map quoted names)) (name_value names) (string_is names) cs
 
 abbrev set_list : List Text → ℕ → Text
-set_list names set = list_text (string_of (map quoted names)) (carriers_in (length (map quoted names)) set)
+set_list names set = list_text (string_of (map quoted names)) (carriers_of_set (length (map quoted names)) set)
 
 set_is : (names : List Text) (set : ℕ) → set_list names set ≡ compact_text (set_value names set)
 set_is names set =
-    ap (λ n. list_text (string_of (map quoted names)) (carriers_in n set)) (length-map names quoted)
-    ∙ names_is names (carriers_in (length names) set)
+    ap (λ n. list_text (string_of (map quoted names)) (carriers_of_set n set)) (length-map names quoted)
+    ∙ names_is names (carriers_of_set (length names) set)
 
 -- ---- needles and their loops
 
@@ -180,7 +180,7 @@ line_shape front made back = simp append_assoc
 
 -- the text that is written piece by piece is the report
 pub line_is : (names : List Text) (line : Text) (verdict : Verdict) (facts : Option (List LoopFact))
-    → json_line (map quoted names) line verdict facts ≡ verdict_json names line verdict facts
+    → verdict_json_line (map quoted names) line verdict facts ≡ verdict_json names line verdict facts
 line_is names line (Sound final) facts =
     line_shape (sound_front (map quoted names) final) (loops_member (map quoted names) facts) (sound_back final)
     ∙ ap (λ t. t ++ codes "\n") (sound_is names final facts)

@@ -9,9 +9,9 @@ abbrev pub carrier : ℕ → CarrierNo
 carrier number = record { 0 = number }
 
 -- the carriers of a set, of so many that are declared, in the order of the header
-abbrev pub carriers_in : ℕ → ℕ → List CarrierNo
-carriers_in declared set = filter (contains_carrier set) (map carrier (range_with_len 0 declared))
+abbrev pub carriers_of_set : ℕ → ℕ → List CarrierNo
+carriers_of_set declared set = filter (contains_carrier set) (map carrier (range_with_len 0 declared))
 
 -- the name of a carrier, where the names stand in the order of the header. One that isn't declared has none
-abbrev pub name_of : List (List ℕ) → CarrierNo → List ℕ
-name_of names c = unwrap_or (slice_get names c.0) []
+abbrev pub carrier_name_of : List (List ℕ) → CarrierNo → List ℕ
+carrier_name_of names c = unwrap_or (slice_get names c.0) []

@@ -1,7 +1,7 @@
 -- The text of a verdict's value piece by piece, for private clauses. `proofs/CompactText` shows that it is the value's compact text.
 use Rattle.std.specs.Prelude.{ℕ, Option, None, Some, List, [], ◌∷◌, ◌++◌, length, flat_map, codes, decimal, unwrap_or, slice_get}
 use Rattle.json.specs.Print.{quoted}
-use Rattle.knit_base.specs.Spelling.{dir_word, labelled, needle_text, rack_text, rule_name}
+use Rattle.knit_base.specs.Spelling.{dir_word, labelled_number, needle_text, rack_text, rule_name}
 use Rattle.knit_base.specs.declared.needle.Dir.{Dir}
 use Rattle.knit_base.specs.declared.needle.Needle.{Needle}
 use Rattle.knit_base.specs.declared.rule.Fault.{Fault}
@@ -13,7 +13,7 @@ use Rattle.carriage_model.specs.declared.verdict.Stack.{Stack}
 use Rattle.carriage_model.specs.declared.verdict.Verdict.{Verdict}
 use Rattle.carriage_model.specs.declared.verdict.Verdict.TheVariants.{Sound, Broken}
 use Rattle.carriage_model.specs.Verdict.{held_on}
-use Rattle.verdict_report.specs.Carriers.{carriers_in}
+use Rattle.verdict_report.specs.Carriers.{carriers_of_set}
 use Rattle.verdict_report.specs.VerdictText.{Text}
 
 -- a comma and the text of the item
@@ -39,7 +39,7 @@ list_member key text items = key ++ list_text text items
 
 -- the names of a set of carriers, behind their key
 abbrev pub set_member : Text → List Text → ℕ → Text
-set_member key strings set = list_member key (string_of strings) (carriers_in (length strings) set)
+set_member key strings set = list_member key (string_of strings) (carriers_of_set (length strings) set)
 
 -- the needle, behind a list or a number
 abbrev pub needle_member : Needle → Text
@@ -55,7 +55,7 @@ dir_member dir = codes "{\"dir\":\"" ++ (dir_word dir ++ codes "\"")
 
 -- the first three members of a loop
 unfoldable pub loop_place : LoopFact → Text
-loop_place fact = dir_member fact.dir ++ (labelled (codes ",\"line\":") fact.line ++ needle_member fact.needle)
+loop_place fact = dir_member fact.dir ++ (labelled_number (codes ",\"line\":") fact.line ++ needle_member fact.needle)
 
 -- a loop
 unfoldable pub loop_json : List Text → LoopFact → Text
@@ -69,8 +69,8 @@ loops_member strings (Some facts) = list_member (codes ",\"made_loops\":") (loop
 
 -- the members of a sound verdict before the loops made
 abbrev pub sound_front : List Text → Final → Text
-sound_front strings final = labelled (codes "{\"held\":") (held_on final.stacks) ++ (set_member (codes ",\"hook\":") strings final.hook
-    ++ (set_member (codes ",\"in\":") strings final.ins ++ (labelled (codes ",\"lines\":") final.lines ++ labelled (codes ",\"made\":") final.made)))
+sound_front strings final = labelled_number (codes "{\"held\":") (held_on final.stacks) ++ (set_member (codes ",\"hook\":") strings final.hook
+    ++ (set_member (codes ",\"in\":") strings final.ins ++ (labelled_number (codes ",\"lines\":") final.lines ++ labelled_number (codes ",\"made\":") final.made)))
 
 -- the members of a sound verdict behind the loops made
 abbrev pub sound_back : Final → Text
@@ -78,7 +78,7 @@ sound_back final = list_member (codes ",\"needles\":") stack_json final.stacks +
 
 -- the members of a broken verdict before the loops made
 abbrev pub broken_front : Fault → Text
-broken_front fault = labelled (codes "{\"at\":") fault.reason.at ++ labelled (codes ",\"line\":") fault.line
+broken_front fault = labelled_number (codes "{\"at\":") fault.reason.at ++ labelled_number (codes ",\"line\":") fault.line
 
 -- the members of a broken verdict behind the loops made
 abbrev pub broken_back : Text → Rule → Text
@@ -95,5 +95,5 @@ back_text line (Sound final) = sound_back final
 back_text line (Broken fault) = broken_back line fault.reason.rule
 
 -- the whole line
-abbrev pub json_line : List Text → Text → Verdict → Option (List LoopFact) → Text
-json_line strings line verdict facts = front_text strings verdict ++ (loops_member strings facts ++ (back_text line verdict ++ codes "\n"))
+abbrev pub verdict_json_line : List Text → Text → Verdict → Option (List LoopFact) → Text
+verdict_json_line strings line verdict facts = front_text strings verdict ++ (loops_member strings facts ++ (back_text line verdict ++ codes "\n"))

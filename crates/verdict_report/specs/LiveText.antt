@@ -10,7 +10,7 @@ use Rattle.edit_journal.specs.declared.opening.Opening.{Opening}
 use Rattle.edit_journal.specs.Documents.{body, document_of, names_at}
 use Rattle.edit_journal.specs.Entries.{head_id}
 use Rattle.edit_journal.specs.EntryLine.{entry_line}
-use Rattle.knit_base.specs.Spelling.{labelled}
+use Rattle.knit_base.specs.Spelling.{labelled_number}
 use Rattle.edit_book.specs.declared.reply.Reply.{Reply}
 use Rattle.edit_book.specs.declared.reply.Reply.TheVariants as reply
 use Rattle.edit_book.specs.declared.reply.Which.{Which}
@@ -31,24 +31,24 @@ which_word which.Blocks = codes "blocks"
 which_word which.Lines = codes "lines"
 
 -- a line of a block, behind a bar
-abbrev pub barred : Text → Text
-barred line = codes "|" ++ (line ++ codes "\n")
+abbrev pub barred_line : Text → Text
+barred_line line = codes "|" ++ (line ++ codes "\n")
 
 -- a block by its id, or the header
 unfoldable pub block_text : ℕ → Text
-block_text block = if block == head_id then codes " block head" else labelled (codes " block ") block
+block_text block = if block == head_id then codes " block head" else labelled_number (codes " block ") block
 
 -- a version and a block, behind a word
 abbrev pub at_block : Text → ℕ → ℕ → Text
-at_block word version block = labelled word version ++ block_text block
+at_block word version block = labelled_number word version ++ block_text block
 
 abbrev pub accepted_text : ℕ → ℕ → Brief → Text
 accepted_text version block told = at_block (codes "accepted version ") version block ++ (codes " " ++ (brief_text told ++ codes "\n"))
 
 abbrev pub shown_text : ℕ → ℕ → ℕ → ℕ → List Text → Text
 shown_text version block stamp first lines =
-    at_block (codes "shown version ") version block ++ (labelled (codes " stamp ") stamp ++ (labelled (codes " first ") first
-    ++ (labelled (codes " lines ") (length lines) ++ (codes "\n" ++ flat_map barred lines))))
+    at_block (codes "shown version ") version block ++ (labelled_number (codes " stamp ") stamp ++ (labelled_number (codes " first ") first
+    ++ (labelled_number (codes " lines ") (length lines) ++ (codes "\n" ++ flat_map barred_line lines))))
 
 -- the loop that was asked for, or that there is none
 abbrev pub fact_text : List Text → Option LoopFact → Text
@@ -56,24 +56,24 @@ fact_text names None = codes "none\n"
 fact_text names (Some fact) = loop_text names fact
 
 abbrev pub stale_text : ℕ → ℕ → ℕ → ℕ → Text
-stale_text version block seen now = at_block (codes "stale version ") version block ++ (labelled (codes " seen ") seen ++ (labelled (codes " now ") now ++ codes "\n"))
+stale_text version block seen now = at_block (codes "stale version ") version block ++ (labelled_number (codes " seen ") seen ++ (labelled_number (codes " now ") now ++ codes "\n"))
 
 abbrev pub full_text : ℕ → Which → ℕ → Text
-full_text version what limit = labelled (codes "full version ") version ++ (codes " " ++ (which_word what ++ (labelled (codes " limit ") limit ++ codes "\n")))
+full_text version what limit = labelled_number (codes "full version ") version ++ (codes " " ++ (which_word what ++ (labelled_number (codes " limit ") limit ++ codes "\n")))
 
 -- a reply, with these names of carriers
 abbrev pub reply_text : List Text → Reply → Text
 reply_text names (reply.Accepted version block told) = accepted_text version block told
 reply_text names (reply.Shown version block stamp first lines) = shown_text version block stamp first lines
-reply_text names (reply.Loop version fact) = labelled (codes "loop version ") version ++ (codes " " ++ fact_text names fact)
-reply_text names (reply.Now version verdict line) = labelled (codes "verdict version ") version ++ (codes "\n" ++ end_text names line verdict)
+reply_text names (reply.Loop version fact) = labelled_number (codes "loop version ") version ++ (codes " " ++ fact_text names fact)
+reply_text names (reply.Now version verdict line) = labelled_number (codes "verdict version ") version ++ (codes "\n" ++ end_text names line verdict)
 reply_text names (reply.Texts version blocks) = []
 reply_text names (reply.Stale version block seen now) = stale_text version block seen now
-reply_text names (reply.Gone version block at) = at_block (codes "gone version ") version block ++ (labelled (codes " at ") at ++ codes "\n")
-reply_text names (reply.NoBlock version block ids) = at_block (codes "noblock version ") version block ++ (labelled (codes " ids ") ids ++ codes "\n")
+reply_text names (reply.Gone version block at) = at_block (codes "gone version ") version block ++ (labelled_number (codes " at ") at ++ codes "\n")
+reply_text names (reply.NoBlock version block ids) = at_block (codes "noblock version ") version block ++ (labelled_number (codes " ids ") ids ++ codes "\n")
 reply_text names (reply.Full version what limit) = full_text version what limit
 reply_text names (reply.Unseen block) = codes "unseen " ++ (block_name_text block ++ codes "\n")
-reply_text names (reply.BlockLong lines) = labelled (codes "blocklong lines ") lines ++ codes "\n"
+reply_text names (reply.BlockLong lines) = labelled_number (codes "blocklong lines ") lines ++ codes "\n"
 reply_text names reply.NoMemory = codes "nomemory\n"
 
 -- the version whose names a reply is told with; for a reply that names no carrier it is any
@@ -97,7 +97,7 @@ replies_text names n (r ∷ rs) = numbered_reply names n r ++ replies_text names
 
 -- a session's number, and its replies
 abbrev pub session_text : (ℕ → List Text) → ℕ → List Reply → Text
-session_text names s rs = labelled (codes "session ") s ++ (codes "\n" ++ replies_text names 1 rs)
+session_text names s rs = labelled_number (codes "session ") s ++ (codes "\n" ++ replies_text names 1 rs)
 
 -- the sessions, numbered from here on, each with its replies
 abbrev pub sessions_text : (ℕ → List Text) → ℕ → List (List Reply) → Text
@@ -115,11 +115,11 @@ entries_text n (e ∷ es) = entry_text n e ++ entries_text (n + 1) es
 
 -- how many entries there are, and the entries
 abbrev pub journal_text : List Entry → Text
-journal_text entries = labelled (codes "journal ") (length entries) ++ (codes "\n" ++ entries_text 1 entries)
+journal_text entries = labelled_number (codes "journal ") (length entries) ++ (codes "\n" ++ entries_text 1 entries)
 
 -- the version at the end and its verdict, of which the broken line is given
 abbrev pub final_text : List Text → ℕ → Text → Verdict → Text
-final_text names version line verdict = labelled (codes "final version ") version ++ (codes "\n" ++ end_text names line verdict)
+final_text names version line verdict = labelled_number (codes "final version ") version ++ (codes "\n" ++ end_text names line verdict)
 
 -- the version at the end, and the verdict on its document, which is what one carriage makes of its lines
 pub record IsFinalReport (opening : Opening) (entries : List Entry) (text : Text) : Type 0 where

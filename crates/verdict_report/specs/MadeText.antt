@@ -3,12 +3,12 @@ use Rattle.std.specs.Prelude.{ℕ, ◌++◌, codes}
 use Rattle.carriage_model.specs.declared.verdict.Verdict.{Verdict}
 use Rattle.carriage_model.specs.Verdict.{brief_of}
 use Rattle.verdict_report.specs.PassesText.{counts_text}
-use Rattle.knit_base.specs.Spelling.{labelled}
+use Rattle.knit_base.specs.Spelling.{labelled_number}
 use Rattle.verdict_report.specs.VerdictText.{Text, brief_text}
 
 -- how many lines and blocks were made
 abbrev pub sizes_text : ℕ → ℕ → Text
-sizes_text lines blocks = labelled (codes "maker lines ") lines ++ (labelled (codes " blocks ") blocks ++ codes "\n")
+sizes_text lines blocks = labelled_number (codes "maker lines ") lines ++ (labelled_number (codes " blocks ") blocks ++ codes "\n")
 
 -- the sizes, the verdict in short, and how many passes, operations and windows there are
 abbrev pub made_text : ℕ → ℕ → Verdict → ℕ → ℕ → ℕ → Text

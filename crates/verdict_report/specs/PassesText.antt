@@ -1,6 +1,6 @@
 -- The lines of the passes of a program.
 use Rattle.std.specs.Prelude.{ℕ, ◌-◌, Option, None, Some, List, [], ◌∷◌, ◌++◌, length, flat_map, option_map, unwrap_or, slice_get, codes}
-use Rattle.knit_base.specs.Spelling.{dir_word, labelled}
+use Rattle.knit_base.specs.Spelling.{dir_word, labelled_number}
 use Rattle.knit_base.specs.declared.needle.Dir.{Dir}
 use Rattle.knit_base.specs.declared.yarns.CarrierNo.{CarrierNo}
 use Rattle.pass_grouping.specs.declared.operation.Class.{Class}
@@ -28,7 +28,7 @@ carriers_text names Drop cs = []
 
 -- two lines, the first and the last of something
 abbrev pub range_text : Text → ℕ → ℕ → Text
-range_text label first last = labelled label first ++ labelled (codes "-") last
+range_text label first last = labelled_number label first ++ labelled_number (codes "-") last
 
 -- a class and a direction
 abbrev pub kind_words : Class → Dir → Text
@@ -41,7 +41,7 @@ kind_text first last = kind_words first.class (way_of first.dir first.place last
 -- the line of a pass with these ends and so many operations
 abbrev pub ends_text : List Text → PassOp → PassOp → ℕ → Text
 ends_text names first last count =
-    range_text (codes "pass ") first.line last.line ++ (kind_text first last ++ (labelled (codes " ops ") count ++ (carriers_text names first.class first.yarns ++ codes "\n")))
+    range_text (codes "pass ") first.line last.line ++ (kind_text first last ++ (labelled_number (codes " ops ") count ++ (carriers_text names first.class first.yarns ++ codes "\n")))
 
 -- the line of a pass with these operations
 abbrev pub pass_text : List Text → List PassOp → Text
@@ -59,7 +59,7 @@ window_text ops window = range_text (codes "window ") (line_at ops window.from) 
 -- how many passes, operations and windows there are, which were checked
 abbrev pub counts_text : ℕ → ℕ → ℕ → Text
 counts_text passes operations windows =
-    labelled (codes "passes ") passes ++ (labelled (codes " operations ") operations ++ (labelled (codes " windows ") windows ++ codes " checked\n"))
+    labelled_number (codes "passes ") passes ++ (labelled_number (codes " operations ") operations ++ (labelled_number (codes " windows ") windows ++ codes " checked\n"))
 
 -- the whole report: the counts, a line for each pass, and a line for each window
 abbrev pub passes_text : List Text → List PassOp → List ℕ → List Window → Text
@@ -70,7 +70,7 @@ passes_text names ops starts windows =
 abbrev pub fact_text : List Text → PassFact → Text
 fact_text names fact =
     range_text (codes "pass ") fact.first_line fact.last_line
-    ++ (kind_words fact.class fact.way ++ (labelled (codes " ops ") fact.count ++ (carriers_text names fact.class fact.yarns ++ codes "\n")))
+    ++ (kind_words fact.class fact.way ++ (labelled_number (codes " ops ") fact.count ++ (carriers_text names fact.class fact.yarns ++ codes "\n")))
 
 -- the line of the window from the pass before, if there is one, to the pass that begins at this line
 abbrev pub window_before : Option ℕ → ℕ → Text

@@ -12,7 +12,7 @@ use Rattle.carriage_model.specs.declared.verdict.Stack.{Stack}
 use Rattle.carriage_model.specs.declared.verdict.Verdict.{Verdict}
 use Rattle.carriage_model.specs.declared.verdict.Verdict.TheVariants.{Sound, Broken}
 use Rattle.carriage_model.specs.Verdict.{held_on}
-use Rattle.verdict_report.specs.Carriers.{carriers_in, name_of}
+use Rattle.verdict_report.specs.Carriers.{carriers_of_set, carrier_name_of}
 use Rattle.verdict_report.specs.VerdictText.{Text}
 
 -- a list, item by item
@@ -25,11 +25,11 @@ count_value n = number (unsigned n)
 
 -- a carrier, by its name
 abbrev pub name_value : List Text → CarrierNo → Data
-name_value names c = string (name_of names c)
+name_value names c = string (carrier_name_of names c)
 
 -- the names of a set of carriers, in the order of the header
 abbrev pub set_value : List Text → ℕ → Data
-set_value names set = list_value (name_value names) (carriers_in (length names) set)
+set_value names set = list_value (name_value names) (carriers_of_set (length names) set)
 
 -- a needle, and the lines of its loops in the order of arrival
 abbrev pub stack_value : Stack → Data

@@ -3,8 +3,8 @@
 ghost use Rattle.std.specs.Prelude.{◌≡◌, ◌≤◌, ◌++◌, ◌∷◌, [], length, map, string_bytes, IfOk, OnOk, OnErr};
 ghost use Rattle.std.specs.Option.{option_copied};
 ghost use Rattle.json.specs.Print.{quoted};
-ghost use Rattle.verdict_report.specs.Carriers.{carrier, name_of};
-ghost use Rattle.verdict_report.specs.JsonText.{back_text, broken_back, broken_front, front_text, json_line, loops_member, sound_back, sound_front};
+ghost use Rattle.verdict_report.specs.Carriers.{carrier, carrier_name_of};
+ghost use Rattle.verdict_report.specs.JsonText.{back_text, broken_back, broken_front, front_text, verdict_json_line, loops_member, sound_back, sound_front};
 ghost use Rattle.verdict_report.specs.VerdictJson.{verdict_json};
 
 use crate::json_items::append_set;
@@ -31,7 +31,7 @@ fn push_quoted(
     declared: &Declared,
     strings: &mut Vec<String>,
 ) -> Result<(), NoMemory>
-    ensures { OnOk result (map string_bytes strings.new.items ≡ map string_bytes strings.old.items ++ quoted (name_of declared.now (carrier number)) ∷ []) }
+    ensures { OnOk result (map string_bytes strings.new.items ≡ map string_bytes strings.old.items ++ quoted (carrier_name_of declared.now (carrier number)) ∷ []) }
 {
     let string = quoted_text(alloc, declared.name(CarrierNo(number)).unwrap_or(""))?;
     strings.push(string)?;
@@ -154,7 +154,7 @@ fn append_json(
     out: &mut Vec<u8>,
 ) -> Result<(), NoMemory>
     requires { length strings.now ≤ 64 }
-    ensures { OnOk result (out.new.items ≡ out.old.items ++ json_line (map string_bytes strings.now) broken.now verdict.now (option_copied facts.entry)) }
+    ensures { OnOk result (out.new.items ≡ out.old.items ++ verdict_json_line (map string_bytes strings.now) broken.now verdict.now (option_copied facts.entry)) }
 {
     append_front(alloc, verdict, strings, out)?;
     append_made(facts, strings, out)?;

@@ -37,13 +37,13 @@ pub fn report_live<L: Ledger>(
 
 /// The verdict on the document as it is, and the line at which it is broken.
 #[derive(Drop)]
-struct Ending {
+struct LiveVerdict {
     verdict: Verdict,
     broken: Text,
 }
 
 // What the document comes to at its version.
-fn ending_of<L: Ledger>(book: &Book, steps: &mut Steps<L>) -> Result<Ending, NoMemory>
+fn ending_of<L: Ledger>(book: &Book, steps: &mut Steps<L>) -> Result<LiveVerdict, NoMemory>
     ensures ending { IfOk result (λ ending. let d = document_of book.now.opening book.now.entries in HasVerdict (setting_of book.now.opening d) (body d) ending.verdict × (ending.broken ≡ broken_line (setting_of book.now.opening d).first (body d) ending.verdict)) }
     ensures steps { steps.new ≤ steps.old + 1 }
 {
@@ -52,7 +52,7 @@ fn ending_of<L: Ledger>(book: &Book, steps: &mut Steps<L>) -> Result<Ending, NoM
             version: _,
             verdict,
             text,
-        } => Ok(Ending {
+        } => Ok(LiveVerdict {
             verdict,
             broken: text,
         }),
@@ -64,12 +64,12 @@ fn ending_of<L: Ledger>(book: &Book, steps: &mut Steps<L>) -> Result<Ending, NoM
 fn append_final(
     alloc: Global,
     book: &Book,
-    ending: &Ending,
+    ending: &LiveVerdict,
     out: &mut Vec<u8>,
 ) -> Result<(), NoMemory>
     ensures { OnOk result (out.new.items ≡ out.old.items ++ final_text (document_of book.now.opening book.now.entries).header.names (length book.now.entries) ending.now.broken ending.now.verdict) }
 {
-    let Ending { verdict, broken } = ending;
+    let LiveVerdict { verdict, broken } = ending;
     let declared = &book.setting().declared;
     append_verdict(
         alloc,

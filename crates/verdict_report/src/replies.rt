@@ -2,9 +2,9 @@
 ghost use Rattle.std.specs.Prelude.{◌≡◌, ◌+◌, ◌++◌, codes, drop, flat_map, length, OnOk, OnErr};
 ghost use Rattle.carriage_model.specs.FactList.{lent_fact};
 ghost use Rattle.edit_book.specs.declared.reply.Reply.TheVariants as reply;
-ghost use Rattle.knit_base.specs.Spelling.{labelled};
+ghost use Rattle.knit_base.specs.Spelling.{labelled_number};
 ghost use Rattle.verdict_report.specs.VerdictText.{end_text};
-ghost use Rattle.verdict_report.specs.LiveText.{accepted_text, at_block, barred, block_name_text, block_text, fact_text, full_text, reply_text, shown_text, stale_text, which_word};
+ghost use Rattle.verdict_report.specs.LiveText.{accepted_text, at_block, barred_line, block_name_text, block_text, fact_text, full_text, reply_text, shown_text, stale_text, which_word};
 
 use crate::brief::append_brief;
 use crate::text::{append_end, append_loop};
@@ -67,7 +67,7 @@ fn append_accepted(version: u32, block: u32, told: Brief, out: &mut Vec<u8>) -> 
 
 // Appends a line of a block, behind a bar.
 fn append_barred(line: &str, out: &mut Vec<u8>) -> Result<(), NoMemory>
-    ensures { OnOk result (out.new.items ≡ out.old.items ++ barred line.now) }
+    ensures { OnOk result (out.new.items ≡ out.old.items ++ barred_line line.now) }
 {
     out.extend_from_slice(b"|")?;
     out.extend_from_slice(line.as_bytes())?;
@@ -77,7 +77,7 @@ fn append_barred(line: &str, out: &mut Vec<u8>) -> Result<(), NoMemory>
 
 // Appends the line at this place, if there is one.
 fn append_line_at(i: u32, lines: &Lines, out: &mut Vec<u8>) -> Result<(), NoMemory>
-    ensures { OnOk result (out.new.items ++ flat_map barred (drop (i + 1) lines.now) ≡ out.old.items ++ flat_map barred (drop i lines.now)) }
+    ensures { OnOk result (out.new.items ++ flat_map barred_line (drop (i + 1) lines.now) ≡ out.old.items ++ flat_map barred_line (drop i lines.now)) }
 {
     match lines.get(i) {
         Some(line) => append_barred(line, out),
@@ -87,7 +87,7 @@ fn append_line_at(i: u32, lines: &Lines, out: &mut Vec<u8>) -> Result<(), NoMemo
 
 // Appends the lines of a block.
 fn append_text(lines: &Lines, out: &mut Vec<u8>) -> Result<(), NoMemory>
-    ensures { OnOk result (out.new.items ≡ out.old.items ++ flat_map barred lines.now) }
+    ensures { OnOk result (out.new.items ≡ out.old.items ++ flat_map barred_line lines.now) }
 {
     'lines: for i in 0..lines.len() {
         append_line_at(i, lines, out)?;
@@ -97,7 +97,7 @@ fn append_text(lines: &Lines, out: &mut Vec<u8>) -> Result<(), NoMemory>
 
 // Appends the number of a block's first line, and its lines.
 fn append_lines(first: u32, lines: &Lines, out: &mut Vec<u8>) -> Result<(), NoMemory>
-    ensures { OnOk result (out.new.items ≡ out.old.items ++ (labelled (codes " first ") first ++ (labelled (codes " lines ") (length lines.now) ++ (codes "\n" ++ flat_map barred lines.now)))) }
+    ensures { OnOk result (out.new.items ≡ out.old.items ++ (labelled_number (codes " first ") first ++ (labelled_number (codes " lines ") (length lines.now) ++ (codes "\n" ++ flat_map barred_line lines.now)))) }
 {
     append_labelled(" first ", u64::from(first), out)?;
     append_labelled(" lines ", u64::from(lines.len()), out)?;
@@ -175,7 +175,7 @@ pub(crate) fn append_verdict(
     broken: &str,
     out: &mut Vec<u8>,
 ) -> Result<(), NoMemory>
-    ensures { OnOk result (out.new.items ≡ out.old.items ++ labelled label.now version ++ (codes "\n" ++ end_text declared.now broken.now verdict.now)) }
+    ensures { OnOk result (out.new.items ≡ out.old.items ++ labelled_number label.now version ++ (codes "\n" ++ end_text declared.now broken.now verdict.now)) }
 {
     append_labelled(label, u64::from(version), out)?;
     out.extend_from_slice(b"\n")?;
@@ -184,7 +184,7 @@ pub(crate) fn append_verdict(
 
 // Appends the stamp that was seen, and the one that there is.
 fn append_stamps(seen: u32, now: u32, out: &mut Vec<u8>) -> Result<(), NoMemory>
-    ensures { OnOk result (out.new.items ≡ out.old.items ++ (labelled (codes " seen ") seen ++ (labelled (codes " now ") now ++ codes "\n"))) }
+    ensures { OnOk result (out.new.items ≡ out.old.items ++ (labelled_number (codes " seen ") seen ++ (labelled_number (codes " now ") now ++ codes "\n"))) }
 {
     append_labelled(" seen ", u64::from(seen), out)?;
     append_labelled(" now ", u64::from(now), out)?;
@@ -215,7 +215,7 @@ fn append_numbered_block(
     number: u32,
     out: &mut Vec<u8>,
 ) -> Result<(), NoMemory>
-    ensures { OnOk result (out.new.items ≡ out.old.items ++ (at_block label.now version block ++ (labelled number_label.now number ++ codes "\n"))) }
+    ensures { OnOk result (out.new.items ≡ out.old.items ++ (at_block label.now version block ++ (labelled_number number_label.now number ++ codes "\n"))) }
 {
     append_at_block(label, version, block, out)?;
     append_labelled(number_label, u64::from(number), out)?;
@@ -225,7 +225,7 @@ fn append_numbered_block(
 
 // Appends a count and its limit.
 fn append_limit(which: Which, limit: u32, out: &mut Vec<u8>) -> Result<(), NoMemory>
-    ensures { OnOk result (out.new.items ≡ out.old.items ++ (codes " " ++ (which_word which ++ (labelled (codes " limit ") limit ++ codes "\n")))) }
+    ensures { OnOk result (out.new.items ≡ out.old.items ++ (codes " " ++ (which_word which ++ (labelled_number (codes " limit ") limit ++ codes "\n")))) }
 {
     out.extend_from_slice(b" ")?;
     out.extend_from_slice(which_word(which).as_bytes())?;
@@ -254,7 +254,7 @@ fn append_unseen(name: BlockName, out: &mut Vec<u8>) -> Result<(), NoMemory>
 
 // Appends that a block can't have so many lines.
 fn append_block_long(lines: u32, out: &mut Vec<u8>) -> Result<(), NoMemory>
-    ensures { OnOk result (out.new.items ≡ out.old.items ++ (labelled (codes "blocklong lines ") lines ++ codes "\n")) }
+    ensures { OnOk result (out.new.items ≡ out.old.items ++ (labelled_number (codes "blocklong lines ") lines ++ codes "\n")) }
 {
     append_labelled("blocklong lines ", u64::from(lines), out)?;
     out.extend_from_slice(b"\n")?;

@@ -3,7 +3,7 @@ ghost use Rattle.std.specs.Prelude.{◌≡◌, ◌+◌, ◌++◌, ◌<◌, ◌^�
 ghost use Rattle.std.specs.Option.{option_copied};
 ghost use Rattle.carriage_model.specs.FactList.{lent_fact};
 ghost use Rattle.carriage_model.specs.Verdict.{held_on};
-ghost use Rattle.verdict_report.specs.VerdictText.{broken_brief, broken_text, end_text, line_word, lines_text, loop_text, loops_text, name_word, names_text, place_text, rule_word, set_text, sound_brief, sound_text, stack_text, verdict_text};
+ghost use Rattle.verdict_report.specs.VerdictText.{broken_brief, broken_text, end_text, line_word, lines_text, loop_text, loops_text, name_word, names_text, loop_place_text, rule_word, set_text, sound_brief, sound_text, stack_text, verdict_text};
 
 use crate::carriers::carriers_of;
 use carriage_model::{FactRef, Facts, Final, Stack, Verdict};
@@ -186,7 +186,7 @@ pub(crate) fn append_end(
 
 // Appends the line that made a loop, its needle and its direction.
 fn append_place(fact: &FactRef, out: &mut Vec<u8>) -> Result<(), NoMemory>
-    ensures { OnOk result (out.new.items ≡ out.old.items ++ place_text (lent_fact fact.now)) }
+    ensures { OnOk result (out.new.items ≡ out.old.items ++ loop_place_text (lent_fact fact.now)) }
 {
     append_labelled("loop ", u64::from(fact.line), out)?;
     out.extend_from_slice(b" on ")?;

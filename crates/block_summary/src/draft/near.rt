@@ -12,7 +12,7 @@ ghost use Rattle.face_data.specs.Composition.{composed};
 ghost use Rattle.face_data.specs.Conditions.Ask.{carrier_in, last_near, size_at_most};
 ghost use Rattle.face_data.specs.Lasts.{put_last};
 ghost use Rattle.face_data.specs.Segments.{segments_on};
-ghost use Rattle.carrier_rules.specs.Carriers.{last_of};
+ghost use Rattle.carrier_rules.specs.Carriers.{carrier_last};
 ghost use Rattle.block_summary.specs.DraftKnowledge.{AreNearIn, HoldsAfter, HasAsked, effect_in};
 ghost use Rattle.block_summary.specs.LineSummaries.{line_summary};
 
@@ -65,7 +65,7 @@ impl Draft {
         carriers: &[CarrierNo],
         at: Option<i16>,
     ) -> Result<(), NoMemory>
-        ensures lasts { OnOk result (self.new ≡ record self.old { lasts = fold put_last self.old.lasts (map (last_of at) carriers.now) }) }
+        ensures lasts { OnOk result (self.new ≡ record self.old { lasts = fold put_last self.old.lasts (map (carrier_last at) carriers.now) }) }
         ensures through { self.old.ending ≡ Through (effect_in self.old.ending) }
     {
         for c in carriers {

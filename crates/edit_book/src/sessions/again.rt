@@ -5,7 +5,7 @@ ghost use Rattle.block_summary.specs.declared.prepared.Prepared.{Prepared};
 ghost use Rattle.knit_base.specs.Limits.{IsLawfulProfile};
 ghost use Rattle.edit_journal.specs.declared.edit.Entry.{Entry};
 ghost use Rattle.edit_journal.specs.declared.opening.Opening.{Opening};
-ghost use Rattle.edit_book.specs.Turns.{AreFitAgain, AreGiven};
+ghost use Rattle.edit_book.specs.Turns.{AreFitAgain, AreTextsGiven};
 ghost use Rattle.edit_book.specs.declared.reply.Again.{Again};
 
 use crate::{Again, AgainList, block_texts};
@@ -25,7 +25,7 @@ pub fn summarised<R: Threads + Sync>(
 ) -> Result<AgainList, NoMemory>
     requires { IsLawfulProfile setting.now.profile }
     ensures texts { IfOk result (λ again. map (λ (one : Again). one.prepared.text) again ≡ map (λ block. block.text) blocks.now) }
-    ensures fits { IfOk result (λ again. (opening : Opening) (journal : List Entry) → opening.setting.profile ≡ setting.now.profile → AreGiven opening journal blocks.now → AreFitAgain opening journal setting.now.declared again) }
+    ensures fits { IfOk result (λ again. (opening : Opening) (journal : List Entry) → opening.setting.profile ≡ setting.now.profile → AreTextsGiven opening journal blocks.now → AreFitAgain opening journal setting.now.declared again) }
 {
     let texts = block_texts(alloc, blocks)?.into_vec();
     match prepare_all(rt, alloc, texts, setting) {
@@ -42,7 +42,7 @@ fn blocks_again(
 ) -> Result<AgainList, NoMemory>
     requires { map (λ (prepared : Prepared). prepared.text) summaries.items ≡ map (λ block. block.text) blocks.now }
     ensures summaries { IfOk result (λ again. map (λ (one : Again). one.prepared) again ≡ summaries.items) }
-    ensures fits { IfOk result (λ again. (opening : Opening) (journal : List Entry) (names : List (List ℕ)) → All (IsPreparedFor opening.setting.profile names) summaries.items → AreGiven opening journal blocks.now → AreFitAgain opening journal names again) }
+    ensures fits { IfOk result (λ again. (opening : Opening) (journal : List Entry) (names : List (List ℕ)) → All (IsPreparedFor opening.setting.profile names) summaries.items → AreTextsGiven opening journal blocks.now → AreFitAgain opening journal names again) }
 {
     let mut again = ListOf::with_capacity(alloc, blocks.len())?;
     let mut at = 0;

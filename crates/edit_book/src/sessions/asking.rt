@@ -3,12 +3,12 @@ ghost use Rattle.std.specs.Prelude.{◌≡◌, ◌⊎◌, ℕ, ◌+◌, ◌<◌,
 ghost use Rattle.edit_journal.specs.declared.edit.Entry.{Entry};
 ghost use Rattle.edit_journal.specs.declared.opening.Opening.{Opening};
 ghost use Rattle.edit_journal.specs.Documents.{names_given};
-ghost use Rattle.edit_book.specs.Replies.{Request, request_of};
-ghost use Rattle.edit_book.specs.Turns.{IsFit};
+ghost use Rattle.edit_book.specs.Replies.{Request, request_of_command};
+ghost use Rattle.edit_book.specs.Turns.{IsFitBookCommand};
 ghost use Rattle.block_summary.specs.Prepared.{IsPreparedFor};
 ghost use Rattle.knit_base.specs.Limits.{IsLawfulProfile};
-ghost use Rattle.edit_book.specs.Asking.{IsAskedBy, TellsNoHeader};
-ghost use Rattle.edit_book.specs.Memory.{Memory, asked, if_anchored, if_named, if_seen, text_limit, unless_long};
+ghost use Rattle.edit_book.specs.Asking.{CommandAsks, TellsNoHeader};
+ghost use Rattle.edit_book.specs.Memory.{Memory, asked_of_book, if_anchored, if_named, if_seen, text_limit, unless_long};
 ghost use Rattle.edit_book.specs.Session.{HasLearned, Teaches};
 ghost use Rattle.edit_book.specs.declared.reply.Reply.{Reply};
 ghost use Rattle.edit_journal.specs.declared.edit.Anchor.{Anchor};
@@ -35,9 +35,9 @@ pub fn ask<L: Ledger>(
     steps: &mut Steps<L>,
 ) -> Result<BookCommand, Reply>
     requires { IsLawfulProfile header.now.profile }
-    ensures fits { IfOk result (λ request. (opening : Opening) (journal : List Entry) → opening.setting.profile ≡ header.now.profile → names_given opening journal learned.now.head ≡ Some header.now.declared → IsFit opening journal request) }
-    ensures asked { (m : Memory) → HasLearned learned.now m → MatchResult result (λ request. asked m command.now ≡ Ok (request_of request)) (λ reply. (reply ≡ Reply.NoMemory) ⊎ (asked m command.now ≡ Err reply)) }
-    ensures kind { IfOk result (λ request. IsAskedBy command.now (request_of request)) }
+    ensures fits { IfOk result (λ request. (opening : Opening) (journal : List Entry) → opening.setting.profile ≡ header.now.profile → names_given opening journal learned.now.head ≡ Some header.now.declared → IsFitBookCommand opening journal request) }
+    ensures asked { (m : Memory) → HasLearned learned.now m → MatchResult result (λ request. asked_of_book m command.now ≡ Ok (request_of_command request)) (λ reply. (reply ≡ Reply.NoMemory) ⊎ (asked_of_book m command.now ≡ Err reply)) }
+    ensures kind { IfOk result (λ request. CommandAsks command.now (request_of_command request)) }
     ensures untold { IfErr result TellsNoHeader }
 {
     match command {
@@ -69,9 +69,9 @@ fn ask_put<L: Ledger>(
     steps: &mut Steps<L>,
 ) -> Result<BookCommand, Reply>
     requires { IsLawfulProfile setting.now.profile }
-    ensures fits { IfOk result (λ request. (opening : Opening) (journal : List Entry) → opening.setting.profile ≡ setting.now.profile → names_given opening journal learned.now.head ≡ Some setting.now.declared → IsFit opening journal request) }
-    ensures asked { (m : Memory) → HasLearned learned.now m → MatchResult result (λ request. asked m (Command.Put name text.now) ≡ Ok (request_of request)) (λ reply. (reply ≡ Reply.NoMemory) ⊎ (asked m (Command.Put name text.now) ≡ Err reply)) }
-    ensures kind { IfOk result (λ request. IsAskedBy (Command.Put name text.now) (request_of request)) }
+    ensures fits { IfOk result (λ request. (opening : Opening) (journal : List Entry) → opening.setting.profile ≡ setting.now.profile → names_given opening journal learned.now.head ≡ Some setting.now.declared → IsFitBookCommand opening journal request) }
+    ensures asked { (m : Memory) → HasLearned learned.now m → MatchResult result (λ request. asked_of_book m (Command.Put name text.now) ≡ Ok (request_of_command request)) (λ reply. (reply ≡ Reply.NoMemory) ⊎ (asked_of_book m (Command.Put name text.now) ≡ Err reply)) }
+    ensures kind { IfOk result (λ request. CommandAsks (Command.Put name text.now) (request_of_command request)) }
     ensures untold { IfErr result TellsNoHeader }
 {
     let (block, seen) = match seen(learned, name) {
@@ -100,9 +100,9 @@ fn ask_add<L: Ledger>(
     steps: &mut Steps<L>,
 ) -> Result<BookCommand, Reply>
     requires { IsLawfulProfile setting.now.profile }
-    ensures fits { IfOk result (λ request. (opening : Opening) (journal : List Entry) → opening.setting.profile ≡ setting.now.profile → names_given opening journal learned.now.head ≡ Some setting.now.declared → IsFit opening journal request) }
-    ensures asked { (m : Memory) → HasLearned learned.now m → MatchResult result (λ request. asked m (Command.Add place text.now) ≡ Ok (request_of request)) (λ reply. (reply ≡ Reply.NoMemory) ⊎ (asked m (Command.Add place text.now) ≡ Err reply)) }
-    ensures kind { IfOk result (λ request. IsAskedBy (Command.Add place text.now) (request_of request)) }
+    ensures fits { IfOk result (λ request. (opening : Opening) (journal : List Entry) → opening.setting.profile ≡ setting.now.profile → names_given opening journal learned.now.head ≡ Some setting.now.declared → IsFitBookCommand opening journal request) }
+    ensures asked { (m : Memory) → HasLearned learned.now m → MatchResult result (λ request. asked_of_book m (Command.Add place text.now) ≡ Ok (request_of_command request)) (λ reply. (reply ≡ Reply.NoMemory) ⊎ (asked_of_book m (Command.Add place text.now) ≡ Err reply)) }
+    ensures kind { IfOk result (λ request. CommandAsks (Command.Add place text.now) (request_of_command request)) }
     ensures untold { IfErr result TellsNoHeader }
 {
     let anchor = match anchor(learned, place) {
@@ -121,9 +121,9 @@ fn ask_add<L: Ledger>(
 
 // Other names of the header, with no block's summary under them.
 fn ask_put_head(alloc: Global, learned: &Learned, declared: &Declared) -> Result<BookCommand, Reply>
-    ensures fits { IfOk result (λ request. (opening : Opening) (journal : List Entry) → IsFit opening journal request) }
-    ensures asked { (m : Memory) → HasLearned learned.now m → MatchResult result (λ request. asked m (Command.PutHead declared.now) ≡ Ok (request_of request)) (λ reply. reply ≡ Reply.NoMemory) }
-    ensures kind { IfOk result (λ request. IsAskedBy (Command.PutHead declared.now) (request_of request)) }
+    ensures fits { IfOk result (λ request. (opening : Opening) (journal : List Entry) → IsFitBookCommand opening journal request) }
+    ensures asked { (m : Memory) → HasLearned learned.now m → MatchResult result (λ request. asked_of_book m (Command.PutHead declared.now) ≡ Ok (request_of_command request)) (λ reply. reply ≡ Reply.NoMemory) }
+    ensures kind { IfOk result (λ request. CommandAsks (Command.PutHead declared.now) (request_of_command request)) }
     ensures untold { IfErr result TellsNoHeader }
 {
     match declared.try_clone() {
@@ -140,7 +140,7 @@ fn ask_put_head(alloc: Global, learned: &Learned, declared: &Declared) -> Result
 #[tactic(auto, using(crate::proofs::Asks::long_text))]
 pub fn put_too_long(learned: &Learned, name: BlockName, lines: u32) -> Reply
     requires long { text_limit < lines }
-    ensures asked { (m : Memory) (text : List (List ℕ)) → HasLearned learned.now m → length text ≡ lines → asked m (Command.Put name text) ≡ Err result }
+    ensures asked { (m : Memory) (text : List (List ℕ)) → HasLearned learned.now m → length text ≡ lines → asked_of_book m (Command.Put name text) ≡ Err result }
     ensures untaught { Teaches result → ⊥ }
     ensures untold { TellsNoHeader result }
 {
@@ -154,7 +154,7 @@ pub fn put_too_long(learned: &Learned, name: BlockName, lines: u32) -> Reply
 #[tactic(auto, using(crate::proofs::Asks::long_text))]
 pub fn add_too_long(learned: &Learned, place: Place, lines: u32) -> Reply
     requires long { text_limit < lines }
-    ensures asked { (m : Memory) (text : List (List ℕ)) → HasLearned learned.now m → length text ≡ lines → asked m (Command.Add place text) ≡ Err result }
+    ensures asked { (m : Memory) (text : List (List ℕ)) → HasLearned learned.now m → length text ≡ lines → asked_of_book m (Command.Add place text) ≡ Err result }
     ensures untaught { Teaches result → ⊥ }
     ensures untold { TellsNoHeader result }
 {

@@ -3,8 +3,8 @@ ghost use Rattle.std.specs.Prelude.{◌≡◌, ℕ, ◌<◌, ◌≤◌, ◌+◌,
 ghost use Rattle.std.specs.Bool.{OnTrue};
 ghost use Rattle.std.specs.HashMap.{get, spare};
 ghost use Rattle.edit_journal.specs.declared.opening.Opening.{Opening};
-ghost use Rattle.edit_book.specs.Memory.{Memory, first_memory, memory_after, head_told, with_put, with_stamp, with_told, told_by, named, with_missed};
-ghost use Rattle.edit_book.specs.Session.{HasLearned, HasRoom, Teaches};
+ghost use Rattle.edit_book.specs.Memory.{Memory, first_memory, memory_after, head_told, with_put, with_stamp, with_told, stamp_told_by, block_id_of_name, with_missed};
+ghost use Rattle.edit_book.specs.Session.{HasLearned, HasStampRoom, Teaches};
 
 use crate::Reply;
 use edit_journal::{BlockName, HEAD};
@@ -46,7 +46,7 @@ fn set_made(made: &mut HashMap<u64, u32>, n: u64, block: u32)
 
 /// The block of which a reply tells the stamp, and that stamp.
 fn told(command: &Command, reply: &Reply) -> Option<(u32, u32)>
-    ensures told { result ≡ told_by command.now reply.now }
+    ensures told { result ≡ stamp_told_by command.now reply.now }
     ensures teaches { IsSome result → Teaches reply.now }
 {
     match reply {
@@ -98,7 +98,7 @@ impl Learned {
     pub fn make_room(&mut self, count: u32) -> bool
         ensures kept { (m : Memory) → HasLearned self.old m → HasLearned self.new m }
         ensures head { self.new.head ≡ self.old.head }
-        ensures room { OnTrue result (HasRoom count self.new) }
+        ensures room { OnTrue result (HasStampRoom count self.new) }
     {
         let count = count as usize;
         self.stamps.reserve(count).is_ok() && self.made.reserve(count).is_ok()
@@ -106,7 +106,7 @@ impl Learned {
 
     /// The block that a name means.
     pub fn named(&self, name: &BlockName) -> Option<u32>
-        ensures { (m : Memory) → HasLearned self.now m → result ≡ named m name.now }
+        ensures { (m : Memory) → HasLearned self.now m → result ≡ block_id_of_name m name.now }
     {
         match name {
             BlockName::Id(id) => Some(*id),
@@ -129,10 +129,10 @@ impl Learned {
     /// Learns from a reply to a command.
     #[tactic(auto, using(crate::proofs::OwnBlocks::made, crate::proofs::Stamps::stamps))]
     pub fn learn(&mut self, command: &Command, reply: &Reply)
-        requires { Teaches reply.now → HasRoom 1 self.old }
+        requires { Teaches reply.now → HasStampRoom 1 self.old }
         ensures learned { (m : Memory) → HasLearned self.old m → HasLearned self.new (memory_after m command.now reply.now) }
-        ensures room { (more : ℕ) → HasRoom (more + 1) self.old → HasRoom more self.new }
-        ensures head { self.new.head ≡ head_told (told_by command.now reply.now) self.old.head }
+        ensures room { (more : ℕ) → HasStampRoom (more + 1) self.old → HasStampRoom more self.new }
+        ensures head { self.new.head ≡ head_told (stamp_told_by command.now reply.now) self.old.head }
     {
         let told = told(command, reply);
         self.head = learn_head(self.head, told);
@@ -157,7 +157,7 @@ impl Learned {
     /// Learns that a block got this stamp, otherwise than by a command: an undo put its text back.
     #[tactic(auto, using(crate::proofs::Stamps::stamps))]
     pub fn learn_put(&mut self, block: u32, stamp: u32)
-        requires { HasRoom 1 self.old }
+        requires { HasStampRoom 1 self.old }
         ensures learned { (m : Memory) → HasLearned self.old m → HasLearned self.new (with_put block stamp m) }
         ensures head { self.new.head ≡ head_told (Some (block, stamp)) self.old.head }
     {

@@ -8,12 +8,12 @@ ghost use Rattle.script_reader.specs.declared.step.Step.TheVariants as step;
 ghost use Rattle.edit_journal.specs.Documents.{names_given};
 ghost use Rattle.edit_journal.specs.declared.edit.Entry.{Entry};
 ghost use Rattle.edit_journal.specs.declared.opening.Opening.{Opening};
-ghost use Rattle.edit_book.specs.Memory.{Memory, asked};
-ghost use Rattle.edit_book.specs.Session.{HasLearned, HasNames, HasRoom, Remembers};
-ghost use Rattle.edit_groups.specs.Chunks.{entries_of};
+ghost use Rattle.edit_book.specs.Memory.{Memory, asked_of_book};
+ghost use Rattle.edit_book.specs.Session.{HasLearned, HasNames, HasStampRoom, Remembers};
+ghost use Rattle.edit_groups.specs.Chunks.{entries_of_chunks};
 ghost use Rattle.edit_groups.specs.Groups.{AreFitEdits, IsFitEdit, edit_asked};
-ghost use Rattle.edit_groups.specs.Shared.{opening_of};
-ghost use Rattle.edit_groups.specs.Turns.{IsDone, IsGroupHeard, is_one_put};
+ghost use Rattle.edit_groups.specs.Shared.{group_book_opening};
+ghost use Rattle.edit_groups.specs.Turns.{IsStepDone, IsGroupHeard, is_one_put};
 ghost use Rattle.edit_groups.specs.declared.reply.GroupReply.TheVariants as reply;
 ghost use Rattle.turn_book.specs.Passes.{IsPassOf, view_of};
 
@@ -43,14 +43,14 @@ pub(crate) fn do_group<L: Ledger, R: Wait>(
 ) -> GroupReply
     requires of_this { IsPassOf shared.now pass.old }
     requires number { ((view_of pass.old).first ≤ session.old.session.number) × (session.old.session.number < (view_of pass.old).past) }
-    requires setting { (opening_of shared.now).setting.profile ≡ session.old.session.header.profile }
+    requires setting { (group_book_opening shared.now).setting.profile ≡ session.old.session.header.profile }
     requires profile { IsLawfulProfile session.old.session.header.profile }
     requires step { is_lawful_step (step.Group commands.now) ≡ true }
-    requires names { HasNames (opening_of shared.now) (entries_of (view_of pass.old).seen) session.old.session }
+    requires names { HasNames (group_book_opening shared.now) (entries_of_chunks (view_of pass.old).seen) session.old.session }
     ensures of_this { IsPassOf shared.now pass.new }
     ensures range { ((view_of pass.new).first ≡ (view_of pass.old).first) × ((view_of pass.new).past ≡ (view_of pass.old).past) }
     ensures number { session.new.session.number ≡ session.old.session.number }
-    ensures done { (m : Memory) → Remembers session.old.session m → IsDone (opening_of shared.now) m (step.Group commands.now) result (view_of pass.old) (view_of pass.new) session.old session.new }
+    ensures done { (m : Memory) → Remembers session.old.session m → IsStepDone (group_book_opening shared.now) m (step.Group commands.now) result (view_of pass.old) (view_of pass.new) session.old session.new }
 {
     let GroupSession { session, last_put } = session;
     let Session {
@@ -105,16 +105,16 @@ fn take_group<L: Ledger, R: Wait>(
 ) -> Told
     requires of_this { IsPassOf shared.now pass.old }
     requires number { ((view_of pass.old).first ≤ number) × (number < (view_of pass.old).past) }
-    requires setting { (opening_of shared.now).setting.profile ≡ header.now.profile }
+    requires setting { (group_book_opening shared.now).setting.profile ≡ header.now.profile }
     requires profile { IsLawfulProfile header.now.profile }
     requires step { is_lawful_step (step.Group commands.now) ≡ true }
-    requires names { names_given (opening_of shared.now) (entries_of (view_of pass.old).seen) learned.old.head ≡ Some header.now.declared }
+    requires names { names_given (group_book_opening shared.now) (entries_of_chunks (view_of pass.old).seen) learned.old.head ≡ Some header.now.declared }
     ensures of_this { IsPassOf shared.now pass.new }
     ensures range { ((view_of pass.new).first ≡ (view_of pass.old).first) × ((view_of pass.new).past ≡ (view_of pass.old).past) }
     ensures head { learned.new.head ≡ learned.old.head }
     ensures kept { (m : Memory) → HasLearned learned.old m → HasLearned learned.new m }
-    ensures room { (version from : ℕ) (brief : Brief) → result.reply ≡ reply.Done version from brief → HasRoom (length commands.now) learned.new }
-    ensures heard { (m : Memory) → HasLearned learned.old m → IsGroupHeard (opening_of shared.now) number m commands.now result (view_of pass.old) (view_of pass.new) }
+    ensures room { (version from : ℕ) (brief : Brief) → result.reply ≡ reply.Done version from brief → HasStampRoom (length commands.now) learned.new }
+    ensures heard { (m : Memory) → HasLearned learned.old m → IsGroupHeard (group_book_opening shared.now) number m commands.now result (view_of pass.old) (view_of pass.new) }
 {
     if !learned.make_room(commands.len() as u32) {
         return no_memory();
@@ -150,7 +150,7 @@ fn asked_edits<L: Ledger>(
     requires few { length commands.now ≤ 64 }
     ensures count { IfOk result (λ edits. length edits ≡ length commands.now) }
     ensures fit { IfOk result (λ edits. (opening : Opening) (journal : List Entry) → opening.setting.profile ≡ header.now.profile → names_given opening journal learned.now.head ≡ Some header.now.declared → AreFitEdits opening journal edits) }
-    ensures asked { IfOk result (λ edits. (m : Memory) → HasLearned learned.now m → map edit_asked edits ≡ map (asked m) commands.now) }
+    ensures asked { IfOk result (λ edits. (m : Memory) → HasLearned learned.now m → map edit_asked edits ≡ map (asked_of_book m) commands.now) }
 {
     let mut edits = ListOf::new(alloc);
     for command in commands {
@@ -170,7 +170,7 @@ fn asked_edit<L: Ledger>(
     requires profile { IsLawfulProfile header.now.profile }
     requires edit { is_edit command.now ≡ true }
     ensures fits { IfOk result (λ edit. (opening : Opening) (journal : List Entry) → opening.setting.profile ≡ header.now.profile → names_given opening journal learned.now.head ≡ Some header.now.declared → IsFitEdit opening journal edit) }
-    ensures asked { IfOk result (λ edit. (m : Memory) → HasLearned learned.now m → edit_asked edit ≡ asked m command.now) }
+    ensures asked { IfOk result (λ edit. (m : Memory) → HasLearned learned.now m → edit_asked edit ≡ asked_of_book m command.now) }
 {
     match ask(alloc, header, learned, draft, command, steps) {
         Ok(asked) => Ok(GroupEdit::Ready(asked)),

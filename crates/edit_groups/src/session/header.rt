@@ -2,10 +2,10 @@
 ghost use Rattle.std.specs.Prelude.{◌≡◌, ◌<◌, ◌≤◌, ℕ, Some, IfSome};
 ghost use Rattle.knit_base.specs.Limits.{IsLawfulProfile};
 ghost use Rattle.edit_journal.specs.Documents.{names_given};
-ghost use Rattle.edit_book.specs.Memory.{Memory, head_of, head_told, told_by};
-ghost use Rattle.edit_book.specs.Turns.{AreGiven};
-ghost use Rattle.edit_groups.specs.Chunks.{entries_of};
-ghost use Rattle.edit_groups.specs.Shared.{opening_of, session_of};
+ghost use Rattle.edit_book.specs.Memory.{Memory, known_header_stamp, head_told, stamp_told_by};
+ghost use Rattle.edit_book.specs.Turns.{AreTextsGiven};
+ghost use Rattle.edit_groups.specs.Chunks.{entries_of_chunks};
+ghost use Rattle.edit_groups.specs.Shared.{group_book_opening, session_of_chunk};
 ghost use Rattle.edit_groups.specs.Turns.{IsOneHeard};
 ghost use Rattle.turn_book.specs.Passes.{IsPassOf, view_of};
 ghost use Rattle.turn_book.specs.Taken.{SeesMore};
@@ -39,9 +39,9 @@ pub(crate) fn look_head<L: Ledger, R: Threads + Wait>(
     ensures of_this { IsPassOf shared.now pass.new }
     ensures range { ((view_of pass.new).first ≡ (view_of pass.old).first) × ((view_of pass.new).past ≡ (view_of pass.old).past) }
     ensures profile { header.new.profile ≡ header.old.profile }
-    ensures names { (head : ℕ) → names_given (opening_of shared.now) (entries_of (view_of pass.old).seen) head ≡ Some header.old.declared
-        → names_given (opening_of shared.now) (entries_of (view_of pass.new).seen) (head_told (told_by Command.LookHead result) head) ≡ Some header.new.declared }
-    ensures heard { (m : Memory) → IsOneHeard (opening_of shared.now) number m Command.LookHead result (view_of pass.old) (view_of pass.new) }
+    ensures names { (head : ℕ) → names_given (group_book_opening shared.now) (entries_of_chunks (view_of pass.old).seen) head ≡ Some header.old.declared
+        → names_given (group_book_opening shared.now) (entries_of_chunks (view_of pass.new).seen) (head_told (stamp_told_by Command.LookHead result) head) ≡ Some header.new.declared }
+    ensures heard { (m : Memory) → IsOneHeard (group_book_opening shared.now) number m Command.LookHead result (view_of pass.old) (view_of pass.new) }
 {
     let reply = turn_one(rt, shared, pass, number, BookCommand::LookHead, steps);
     match names_shown(alloc, &reply) {
@@ -69,14 +69,14 @@ pub(crate) fn put_head<L: Ledger, R: Threads + Wait + Sync>(
 ) -> Reply
     requires of_this { IsPassOf shared.now pass.old }
     requires number { ((view_of pass.old).first ≤ number) × (number < (view_of pass.old).past) }
-    requires setting { (opening_of shared.now).setting.profile ≡ header.old.profile }
+    requires setting { (group_book_opening shared.now).setting.profile ≡ header.old.profile }
     requires profile { IsLawfulProfile header.old.profile }
     ensures of_this { IsPassOf shared.now pass.new }
     ensures range { ((view_of pass.new).first ≡ (view_of pass.old).first) × ((view_of pass.new).past ≡ (view_of pass.old).past) }
     ensures profile { header.new.profile ≡ header.old.profile }
-    ensures names { names_given (opening_of shared.now) (entries_of (view_of pass.old).seen) seen ≡ Some header.old.declared
-        → names_given (opening_of shared.now) (entries_of (view_of pass.new).seen) (head_told (told_by (Command.PutHead declared.now) result) seen) ≡ Some header.new.declared }
-    ensures heard { (m : Memory) → head_of m ≡ seen → IsOneHeard (opening_of shared.now) number m (Command.PutHead declared.now) result (view_of pass.old) (view_of pass.new) }
+    ensures names { names_given (group_book_opening shared.now) (entries_of_chunks (view_of pass.old).seen) seen ≡ Some header.old.declared
+        → names_given (group_book_opening shared.now) (entries_of_chunks (view_of pass.new).seen) (head_told (stamp_told_by (Command.PutHead declared.now) result) seen) ≡ Some header.new.declared }
+    ensures heard { (m : Memory) → known_header_stamp m ≡ seen → IsOneHeard (group_book_opening shared.now) number m (Command.PutHead declared.now) result (view_of pass.old) (view_of pass.new) }
 {
     let Ok(names) = declared.try_clone() else {
         return Reply::NoMemory;
@@ -118,8 +118,8 @@ fn all_texts<L: Ledger, R: Wait>(
     requires of_this { IsPassOf shared.now pass.old }
     requires number { ((view_of pass.old).first ≤ number) × (number < (view_of pass.old).past) }
     ensures of_this { IsPassOf shared.now pass.new }
-    ensures more { SeesMore session_of (view_of pass.old) (view_of pass.new) }
-    ensures given { IfSome result (λ blocks. AreGiven (opening_of shared.now) (entries_of (view_of pass.new).seen) blocks) }
+    ensures more { SeesMore session_of_chunk (view_of pass.old) (view_of pass.new) }
+    ensures given { IfSome result (λ blocks. AreTextsGiven (group_book_opening shared.now) (entries_of_chunks (view_of pass.new).seen) blocks) }
 {
     match turn_one(rt, shared, pass, number, BookCommand::Texts, steps) {
         Reply::Texts { version: _, blocks } => Some(blocks),

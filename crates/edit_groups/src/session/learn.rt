@@ -2,7 +2,7 @@
 ghost use Rattle.std.specs.Prelude.{◌≡◌, List, length};
 ghost use Rattle.edit_journal.specs.declared.edit.Edit.{Edit};
 ghost use Rattle.edit_book.specs.Memory.{Memory};
-ghost use Rattle.edit_book.specs.Session.{HasLearned, HasRoom};
+ghost use Rattle.edit_book.specs.Session.{HasLearned, HasStampRoom};
 ghost use Rattle.edit_groups.specs.Sessions.{done_memory, missed_memory};
 ghost use Rattle.edit_groups.specs.Turns.{IsTaught, ids_drawn, taught_block, undone_head, undone_memory};
 
@@ -21,7 +21,7 @@ pub(crate) fn learn_done(
     ids: u32,
     brief: Brief,
 )
-    requires room { HasRoom (length commands.now) learned.old }
+    requires room { HasStampRoom (length commands.now) learned.old }
     ensures learned { (m : Memory) (edits : List Edit) → HasLearned learned.old m → IsTaught m from ids commands.now edits → HasLearned learned.new (done_memory m from brief commands.now edits) }
     ensures head { (m : Memory) (edits : List Edit) → HasLearned learned.old m → IsTaught m from ids commands.now edits → learned.new.head ≡ learned.old.head }
 {
@@ -62,7 +62,7 @@ fn ids_drawn(command: &Command) -> u32
 
 /// What an undo teaches, where it is known whether that was to put a text back: the stamp that the block then has.
 pub(crate) fn learn_undo(learned: &mut Learned, last_put: bool, reply: &GroupReply)
-    requires room { HasRoom 1 learned.old }
+    requires room { HasStampRoom 1 learned.old }
     ensures learned { (m : Memory) → HasLearned learned.old m → HasLearned learned.new (undone_memory m last_put reply.now) }
     ensures head { learned.new.head ≡ undone_head last_put reply.now learned.old.head }
 {

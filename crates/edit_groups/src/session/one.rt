@@ -3,12 +3,12 @@ ghost use Rattle.std.specs.Prelude.{◌≡◌, ◌<◌, ◌≤◌, Some};
 ghost use Rattle.knit_base.specs.Limits.{IsLawfulProfile};
 ghost use Rattle.script_reader.specs.declared.step.Step.TheVariants as step;
 ghost use Rattle.edit_journal.specs.Documents.{names_given};
-ghost use Rattle.edit_book.specs.Memory.{Memory, head_told, told_by};
-ghost use Rattle.edit_book.specs.Session.{HasLearned, HasNames, HasRoom, Remembers, Teaches};
-ghost use Rattle.edit_book.specs.Turns.{IsFit};
-ghost use Rattle.edit_groups.specs.Chunks.{entries_of};
-ghost use Rattle.edit_groups.specs.Shared.{opening_of};
-ghost use Rattle.edit_groups.specs.Turns.{IsDone, IsOneHeard, IsOneTurn, one_reply, put_after};
+ghost use Rattle.edit_book.specs.Memory.{Memory, head_told, stamp_told_by};
+ghost use Rattle.edit_book.specs.Session.{HasLearned, HasNames, HasStampRoom, Remembers, Teaches};
+ghost use Rattle.edit_book.specs.Turns.{IsFitBookCommand};
+ghost use Rattle.edit_groups.specs.Chunks.{entries_of_chunks};
+ghost use Rattle.edit_groups.specs.Shared.{group_book_opening};
+ghost use Rattle.edit_groups.specs.Turns.{IsStepDone, IsOneHeard, IsOneTurn, one_reply, put_after};
 ghost use Rattle.edit_groups.specs.declared.reply.GroupReply.TheVariants as group;
 ghost use Rattle.edit_book.specs.declared.reply.Reply.{Reply};
 ghost use Rattle.edit_book.specs.declared.reply.Reply.TheVariants as book_reply;
@@ -41,13 +41,13 @@ pub(crate) fn do_one<L: Ledger, R: Threads + Wait + Sync>(
 ) -> GroupReply
     requires of_this { IsPassOf shared.now pass.old }
     requires number { ((view_of pass.old).first ≤ session.old.session.number) × (session.old.session.number < (view_of pass.old).past) }
-    requires setting { (opening_of shared.now).setting.profile ≡ session.old.session.header.profile }
+    requires setting { (group_book_opening shared.now).setting.profile ≡ session.old.session.header.profile }
     requires profile { IsLawfulProfile session.old.session.header.profile }
-    requires names { HasNames (opening_of shared.now) (entries_of (view_of pass.old).seen) session.old.session }
+    requires names { HasNames (group_book_opening shared.now) (entries_of_chunks (view_of pass.old).seen) session.old.session }
     ensures of_this { IsPassOf shared.now pass.new }
     ensures range { ((view_of pass.new).first ≡ (view_of pass.old).first) × ((view_of pass.new).past ≡ (view_of pass.old).past) }
     ensures number { session.new.session.number ≡ session.old.session.number }
-    ensures done { (m : Memory) → Remembers session.old.session m → IsDone (opening_of shared.now) m (step.One command.now) result (view_of pass.old) (view_of pass.new) session.old session.new }
+    ensures done { (m : Memory) → Remembers session.old.session m → IsStepDone (group_book_opening shared.now) m (step.One command.now) result (view_of pass.old) (view_of pass.new) session.old session.new }
 {
     let GroupSession { session, last_put } = session;
     let Session {
@@ -100,17 +100,17 @@ fn take_one<L: Ledger, R: Threads + Wait + Sync>(
 ) -> Reply
     requires of_this { IsPassOf shared.now pass.old }
     requires number { ((view_of pass.old).first ≤ number) × (number < (view_of pass.old).past) }
-    requires setting { (opening_of shared.now).setting.profile ≡ header.old.profile }
+    requires setting { (group_book_opening shared.now).setting.profile ≡ header.old.profile }
     requires profile { IsLawfulProfile header.old.profile }
-    requires names { names_given (opening_of shared.now) (entries_of (view_of pass.old).seen) learned.old.head ≡ Some header.old.declared }
+    requires names { names_given (group_book_opening shared.now) (entries_of_chunks (view_of pass.old).seen) learned.old.head ≡ Some header.old.declared }
     ensures of_this { IsPassOf shared.now pass.new }
     ensures range { ((view_of pass.new).first ≡ (view_of pass.old).first) × ((view_of pass.new).past ≡ (view_of pass.old).past) }
     ensures profile { header.new.profile ≡ header.old.profile }
     ensures head { learned.new.head ≡ learned.old.head }
     ensures kept { (m : Memory) → HasLearned learned.old m → HasLearned learned.new m }
-    ensures room { Teaches result → HasRoom 1 learned.new }
-    ensures names { names_given (opening_of shared.now) (entries_of (view_of pass.new).seen) (head_told (told_by command.now result) learned.old.head) ≡ Some header.new.declared }
-    ensures heard { (m : Memory) → HasLearned learned.old m → IsOneHeard (opening_of shared.now) number m command.now result (view_of pass.old) (view_of pass.new) }
+    ensures room { Teaches result → HasStampRoom 1 learned.new }
+    ensures names { names_given (group_book_opening shared.now) (entries_of_chunks (view_of pass.new).seen) (head_told (stamp_told_by command.now result) learned.old.head) ≡ Some header.new.declared }
+    ensures heard { (m : Memory) → HasLearned learned.old m → IsOneHeard (group_book_opening shared.now) number m command.now result (view_of pass.old) (view_of pass.new) }
 {
     if !learned.make_room(1) {
         return Reply::NoMemory;
@@ -146,9 +146,9 @@ pub(crate) fn turn_one<L: Ledger, R: Wait>(
 ) -> Reply
     requires of_this { IsPassOf shared.now pass.old }
     requires number { ((view_of pass.old).first ≤ number) × (number < (view_of pass.old).past) }
-    requires fits { IsFit (opening_of shared.now) (entries_of (view_of pass.old).seen) command }
+    requires fits { IsFitBookCommand (group_book_opening shared.now) (entries_of_chunks (view_of pass.old).seen) command }
     ensures of_this { IsPassOf shared.now pass.new }
-    ensures turned { IsOneTurn (opening_of shared.now) number command result (view_of pass.old) (view_of pass.new) }
+    ensures turned { IsOneTurn (group_book_opening shared.now) number command result (view_of pass.old) (view_of pass.new) }
 {
     let told = shared.turn(rt, pass, number, GroupCommand::One(command), steps);
     one_in(told.reply)

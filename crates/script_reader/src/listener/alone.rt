@@ -1,8 +1,8 @@
 //! What a session asks where no group is open.
 ghost use Rattle.std.specs.Prelude.{◌≡◌, ◌<◌, ℕ, None, [], false, true};
-ghost use Rattle.script_reader.specs.Hearing.{Hearing, Nothing, alone, awaited, marked, whole};
+ghost use Rattle.script_reader.specs.Hearing.{Hearing, Nothing, asked_alone, edit_awaited, mark_heard, whole};
 ghost use Rattle.script_reader.specs.Hearing.{command_with};
-ghost use Rattle.script_reader.specs.Listener.{IsMoved, counted};
+ghost use Rattle.script_reader.specs.Listener.{IsListenerMoved, capped_adds};
 ghost use Rattle.script_reader.specs.Listening.{IsFairAsked};
 ghost use Rattle.script_reader.specs.Script.{takes_text};
 
@@ -11,7 +11,7 @@ use crate::line::{CommandLine, Mark};
 use crate::listener::counts::{names_known, question_known};
 use crate::listener::edits::{LINE_LIMIT, command_without_text, edit_of};
 use crate::listener::state::{
-    LongText, Moved, OpenGroup, PartText, Request, State, ordered, quiet, refusal,
+    ListenerMove, LongText, OpenGroup, PartText, Request, State, ordered, quiet, refusal,
 };
 use crate::order::Order;
 use crate::step::Step;
@@ -20,10 +20,10 @@ use knit_base::{Lines, ListOf};
 use std::alloc::Global;
 
 /// What a session asks where no group is open, and no text is awaited.
-pub(crate) fn alone(alloc: Global, number: u64, request: Request) -> Moved
+pub(crate) fn alone(alloc: Global, number: u64, request: Request) -> ListenerMove
     requires fair { IsFairAsked request.asked }
     ensures broken { result.broken_off ≡ false }
-    ensures moved { (h : Hearing) → h.group ≡ None → h.awaiting ≡ Nothing → request.adds ≡ counted (h.adds request.session) → IsMoved result h.adds number (alone h number request.session request.asked) }
+    ensures moved { (h : Hearing) → h.group ≡ None → h.awaiting ≡ Nothing → request.adds ≡ capped_adds (h.adds request.session) → IsListenerMoved result h.adds number (asked_alone h number request.session request.asked) }
 {
     match request.asked {
         Asked::Plain(command_line) => {
@@ -53,9 +53,9 @@ pub(crate) fn alone(alloc: Global, number: u64, request: Request) -> Moved
 }
 
 // A command whose text, if it takes one, is empty.
-fn whole(alloc: Global, session: u32, command_line: CommandLine) -> Moved
+fn whole(alloc: Global, session: u32, command_line: CommandLine) -> ListenerMove
     ensures broken { result.broken_off ≡ false }
-    ensures moved { (h : Hearing) (number : ℕ) → h.group ≡ None → h.awaiting ≡ Nothing → IsMoved result h.adds number (whole h session (command_with command_line [])) }
+    ensures moved { (h : Hearing) (number : ℕ) → h.group ≡ None → h.awaiting ≡ Nothing → IsListenerMoved result h.adds number (whole h session (command_with command_line [])) }
 {
     match command_without_text(alloc, command_line) {
         None => quiet(State::Rest),
@@ -67,10 +67,10 @@ fn whole(alloc: Global, session: u32, command_line: CommandLine) -> Moved
 }
 
 // An edit with so many lines of text.
-fn awaited(alloc: Global, session: u32, command_line: CommandLine, count: u32) -> Moved
+fn awaited(alloc: Global, session: u32, command_line: CommandLine, count: u32) -> ListenerMove
     requires { takes_text command_line ≡ true }
     ensures broken { result.broken_off ≡ false }
-    ensures moved { (h : Hearing) (number : ℕ) → h.group ≡ None → h.awaiting ≡ Nothing → IsMoved result h.adds number (awaited h session command_line count []) }
+    ensures moved { (h : Hearing) (number : ℕ) → h.group ≡ None → h.awaiting ≡ Nothing → IsListenerMoved result h.adds number (edit_awaited h session command_line count []) }
 {
     if count == 0 {
         return whole(alloc, session, command_line);
@@ -92,9 +92,9 @@ fn awaited(alloc: Global, session: u32, command_line: CommandLine, count: u32) -
     }))
 }
 
-fn marked(alloc: Global, number: u64, session: u32, mark: Mark) -> Moved
+fn marked(alloc: Global, number: u64, session: u32, mark: Mark) -> ListenerMove
     ensures broken { result.broken_off ≡ false }
-    ensures moved { (h : Hearing) → h.group ≡ None → h.awaiting ≡ Nothing → IsMoved result h.adds number (marked h number session mark) }
+    ensures moved { (h : Hearing) → h.group ≡ None → h.awaiting ≡ Nothing → IsListenerMoved result h.adds number (mark_heard h number session mark) }
 {
     match mark {
         Mark::Group => quiet(State::Group(OpenGroup {

@@ -1,8 +1,8 @@
 //! How many adds of each session were heard.
 ghost use Rattle.std.specs.Prelude.{◌≡◌, ℕ, Some, get_or};
 ghost use Rattle.script_reader.specs.Hearing.{question_known, with_adds};
-ghost use Rattle.script_reader.specs.Listener.{AreCounts, adds_behind, counted, line_of_edit};
-ghost use Rattle.script_reader.specs.Script.{adds_of, is_known, names_known};
+ghost use Rattle.script_reader.specs.Listener.{AreCounts, adds_behind, capped_adds, line_of_edit};
+ghost use Rattle.script_reader.specs.Script.{adds_of, is_known_name, names_known};
 
 use crate::command::Place;
 use crate::groups::adds_in_step;
@@ -68,7 +68,7 @@ pub(crate) fn adds_of_edit(edit: TextEdit) -> u32
 
 /// Whether a question names blocks that can have been made, behind so many adds of its session.
 pub(crate) fn question_known(adds: u64, question: Question) -> bool
-    ensures { (all : ℕ) → adds ≡ counted all → result ≡ question_known all question }
+    ensures { (all : ℕ) → adds ≡ capped_adds all → result ≡ question_known all question }
 {
     match question {
         Question::TextAt(name, _) => is_known(adds, name),
@@ -78,7 +78,7 @@ pub(crate) fn question_known(adds: u64, question: Question) -> bool
 
 /// The same of a command line.
 pub(crate) fn names_known(adds: u64, command_line: CommandLine) -> bool
-    ensures { (all : ℕ) → adds ≡ counted all → result ≡ names_known all command_line }
+    ensures { (all : ℕ) → adds ≡ capped_adds all → result ≡ names_known all command_line }
 {
     match command_line {
         CommandLine::Look(name) | CommandLine::Put(name) | CommandLine::Cut(name) => is_known(
@@ -94,7 +94,7 @@ pub(crate) fn names_known(adds: u64, command_line: CommandLine) -> bool
 }
 
 fn is_known(adds: u64, name: BlockName) -> bool
-    ensures { (all : ℕ) → adds ≡ counted all → result ≡ is_known all name }
+    ensures { (all : ℕ) → adds ≡ capped_adds all → result ≡ is_known_name all name }
 {
     match name {
         BlockName::Id(_) => true,

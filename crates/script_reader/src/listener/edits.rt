@@ -3,7 +3,7 @@ ghost use Rattle.std.specs.Prelude.{◌≡◌, ◌<◌, ◌+◌, ◌-◌, ◌++�
 ghost use Rattle.std.specs.Option.{option_map_or};
 ghost use Rattle.knit_base.specs.Lines.{IsLine};
 ghost use Rattle.script_reader.specs.Hearing.{command_with};
-ghost use Rattle.script_reader.specs.Listener.{Keeps, line_of_edit};
+ghost use Rattle.script_reader.specs.Listener.{KeepsItems, line_of_edit};
 ghost use Rattle.script_reader.specs.Orders.{edit_with};
 ghost use Rattle.script_reader.specs.Script.{adds_of, command_line_in, takes_text};
 ghost use Rattle.script_reader.specs.declared.command.Command as declared;
@@ -67,7 +67,7 @@ pub(crate) fn with_line(part: PartText, line: &str) -> PartText
     ensures session { result.session ≡ part.session }
     ensures edit { result.edit ≡ part.edit }
     ensures missing { result.missing ≡ part.missing - 1 }
-    ensures keeps { (before : List (List ℕ)) → Keeps part.lines before → Keeps result.lines (before ++ line.now ∷ []) }
+    ensures keeps { (before : List (List ℕ)) → KeepsItems part.lines before → KeepsItems result.lines (before ++ line.now ∷ []) }
 {
     PartText {
         session: part.session,
@@ -80,7 +80,7 @@ pub(crate) fn with_line(part: PartText, line: &str) -> PartText
 // The lines with one more behind them, where there is room for it.
 fn line_pushed(kept: Option<Lines>, line: &str) -> Option<Lines>
     requires line { IsLine line.now }
-    ensures { (before : List (List ℕ)) → Keeps kept before → Keeps result (before ++ line.now ∷ []) }
+    ensures { (before : List (List ℕ)) → KeepsItems kept before → KeepsItems result (before ++ line.now ∷ []) }
 {
     let mut lines = kept?;
     if LINE_LIMIT <= lines.len() {
@@ -97,7 +97,7 @@ pub(crate) fn with_edit(group: OpenGroup, edit: Command) -> OpenGroup
     ensures session { result.session ≡ group.session }
     ensures edits { result.edits ≡ min (group.edits + 1) 4294967295 }
     ensures adds { result.adds ≡ min (group.adds + adds_of (command_line_in edit)) 4294967295 }
-    ensures keeps { (before : List declared.Command) → Keeps group.commands before → Keeps result.commands (before ++ edit ∷ []) }
+    ensures keeps { (before : List declared.Command) → KeepsItems group.commands before → KeepsItems result.commands (before ++ edit ∷ []) }
 {
     OpenGroup {
         session: group.session,
@@ -109,7 +109,7 @@ pub(crate) fn with_edit(group: OpenGroup, edit: Command) -> OpenGroup
 
 // The commands with one more behind them, where there is room for it.
 fn command_pushed(kept: Option<CommandList>, command: Command) -> Option<CommandList>
-    ensures { (before : List declared.Command) → Keeps kept before → Keeps result (before ++ command ∷ []) }
+    ensures { (before : List declared.Command) → KeepsItems kept before → KeepsItems result (before ++ command ∷ []) }
 {
     let mut commands = kept?;
     if EDIT_LIMIT <= commands.len() {
@@ -126,7 +126,7 @@ pub(crate) fn without_edits(group: OpenGroup, edit: TextEdit) -> OpenGroup
     ensures session { result.session ≡ group.session }
     ensures edits { result.edits ≡ min (group.edits + 1) 4294967295 }
     ensures adds { result.adds ≡ min (group.adds + adds_of (line_of_edit edit)) 4294967295 }
-    ensures keeps { (commands : List declared.Command) → Keeps result.commands commands }
+    ensures keeps { (commands : List declared.Command) → KeepsItems result.commands commands }
 {
     OpenGroup {
         session: group.session,

@@ -1,7 +1,7 @@
 //! What a session asks where a group is open.
 ghost use Rattle.std.specs.Prelude.{◌≡◌, ◌<◌, ℕ, Some, [], List, false, true, length};
-ghost use Rattle.script_reader.specs.Hearing.{Hearing, Nothing, closed, edit_grouped, has_place, in_group};
-ghost use Rattle.script_reader.specs.Listener.{HoldsGroup, IsMoved, counted};
+ghost use Rattle.script_reader.specs.Hearing.{Hearing, Nothing, group_closed, edit_grouped, has_place, in_group};
+ghost use Rattle.script_reader.specs.Listener.{HoldsGroup, IsListenerMoved, capped_adds};
 ghost use Rattle.script_reader.specs.Listening.{IsFairAsked};
 ghost use Rattle.script_reader.specs.Script.{takes_text};
 ghost use Rattle.script_reader.specs.declared.command.Command as declared;
@@ -10,7 +10,9 @@ use crate::fault::Cause;
 use crate::line::{CommandLine, Mark};
 use crate::listener::counts::names_known;
 use crate::listener::edits::{EDIT_LIMIT, LINE_LIMIT, command_without_text, edit_of, with_edit};
-use crate::listener::state::{Moved, OpenGroup, PartText, Request, State, ordered, quiet, refusal};
+use crate::listener::state::{
+    ListenerMove, OpenGroup, PartText, Request, State, ordered, quiet, refusal,
+};
 use crate::order::Order;
 use crate::step::Step;
 use crate::talk_line::Asked;
@@ -18,10 +20,15 @@ use knit_base::Lines;
 use std::alloc::Global;
 
 /// What a session asks where this group is open, and no text is awaited.
-pub(crate) fn in_group(alloc: Global, number: u64, group: OpenGroup, request: Request) -> Moved
+pub(crate) fn in_group(
+    alloc: Global,
+    number: u64,
+    group: OpenGroup,
+    request: Request,
+) -> ListenerMove
     requires fair { IsFairAsked request.asked }
     ensures broken { result.broken_off ≡ false }
-    ensures moved { (h : Hearing) (commands : List declared.Command) → HoldsGroup group commands → h.session ≡ group.session → h.group ≡ Some commands → h.awaiting ≡ Nothing → request.adds ≡ counted (h.adds request.session) → IsMoved result h.adds number (in_group h number request.session commands request.asked) }
+    ensures moved { (h : Hearing) (commands : List declared.Command) → HoldsGroup group commands → h.session ≡ group.session → h.group ≡ Some commands → h.awaiting ≡ Nothing → request.adds ≡ capped_adds (h.adds request.session) → IsListenerMoved result h.adds number (in_group h number request.session commands request.asked) }
 {
     if request.session != group.session {
         return refusal(number, Cause::BadLine);
@@ -59,10 +66,10 @@ fn edit_grouped(
     adds: u64,
     command_line: CommandLine,
     count: u32,
-) -> Moved
+) -> ListenerMove
     requires takes { 0 < count → takes_text command_line ≡ true }
     ensures broken { result.broken_off ≡ false }
-    ensures moved { (h : Hearing) (commands : List declared.Command) → HoldsGroup group commands → h.session ≡ group.session → h.group ≡ Some commands → h.awaiting ≡ Nothing → adds ≡ counted (h.adds group.session) → IsMoved result h.adds number (edit_grouped h number group.session commands command_line count) }
+    ensures moved { (h : Hearing) (commands : List declared.Command) → HoldsGroup group commands → h.session ≡ group.session → h.group ≡ Some commands → h.awaiting ≡ Nothing → adds ≡ capped_adds (h.adds group.session) → IsListenerMoved result h.adds number (edit_grouped h number group.session commands command_line count) }
 {
     if !has_place(group.edits, command_line, count) {
         return refusal(number, Cause::BadLine);
@@ -98,9 +105,9 @@ fn has_place(edits: u32, command_line: CommandLine, count: u32) -> bool
 }
 
 // The end of a group, which has an edit.
-fn closed(number: u64, group: OpenGroup) -> Moved
+fn closed(number: u64, group: OpenGroup) -> ListenerMove
     ensures broken { result.broken_off ≡ false }
-    ensures moved { (h : Hearing) (commands : List declared.Command) → HoldsGroup group commands → h.awaiting ≡ Nothing → IsMoved result h.adds number (closed h number group.session commands) }
+    ensures moved { (h : Hearing) (commands : List declared.Command) → HoldsGroup group commands → h.awaiting ≡ Nothing → IsListenerMoved result h.adds number (group_closed h number group.session commands) }
 {
     let OpenGroup {
         session,

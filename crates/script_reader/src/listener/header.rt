@@ -7,11 +7,11 @@ ghost use Rattle.knit_base.specs.Lines.{IsLine};
 ghost use Rattle.knitout_reader.specs.Head.{has_name_twice, names_in_line};
 ghost use Rattle.knitout_reader.specs.Tokens.{tokens_of};
 ghost use Rattle.script_reader.specs.Hearing.{Hearing, header_heard};
-ghost use Rattle.script_reader.specs.Listener.{IsMoved};
+ghost use Rattle.script_reader.specs.Listener.{IsListenerMoved};
 
 use crate::command::Command;
 use crate::fault::Cause;
-use crate::listener::state::{Moved, ordered, refusal};
+use crate::listener::state::{ListenerMove, ordered, refusal};
 use crate::order::Order;
 use crate::step::Step;
 use knit_base::NoMemory;
@@ -25,10 +25,10 @@ const CARRIERS: &[u8] = b";;Carriers:";
 const NAME_LIMIT: u32 = 64;
 
 /// The names of the header, which the text line with this number gives.
-pub(crate) fn header_heard(alloc: Global, session: u32, number: u64, text: &str) -> Moved
+pub(crate) fn header_heard(alloc: Global, session: u32, number: u64, text: &str) -> ListenerMove
     requires line { IsLine text.now }
     requires short { length text.now ≤ 4096 }
-    ensures { (h : Hearing) → h.session ≡ session → h.group ≡ None → IsMoved result h.adds number (header_heard h number (names_in_line text.now)) }
+    ensures { (h : Hearing) → h.session ≡ session → h.group ≡ None → IsListenerMoved result h.adds number (header_heard h number (names_in_line text.now)) }
 {
     // Whether the text gives names is known without memory, so that want of it changes no refusal.
     if !gives_names(text.as_bytes()) {

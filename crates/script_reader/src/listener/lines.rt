@@ -1,8 +1,8 @@
 //! One line of a conversation, heard behind those before it.
 ghost use Rattle.std.specs.Prelude.{◌≡◌, ◌≤◌, ◌<◌, MatchResult, false, None, Some, length};
 ghost use Rattle.knit_base.specs.Lines.{HasNoLineEnd, IsLine};
-ghost use Rattle.script_reader.specs.Hearing.{Hearing, Nothing, asks, behind, broken_off, fault_of, heard, line_heard, settled};
-ghost use Rattle.script_reader.specs.Listener.{AreCounts, IsGroup, IsMoved, IsState, counted};
+ghost use Rattle.script_reader.specs.Hearing.{Hearing, Nothing, asks, heard_behind_orders, broken_off, fault_of, heard, line_heard, hearing_settled};
+ghost use Rattle.script_reader.specs.Listener.{AreCounts, IsGroupOpen, IsListenerMoved, IsState, capped_adds};
 ghost use Rattle.script_reader.specs.Listening.{IsFairAsked, IsFairLine};
 
 use crate::fault::Cause;
@@ -10,7 +10,9 @@ use crate::line::{is_text_line, text_of};
 use crate::listener::alone::alone;
 use crate::listener::counts::adds_heard;
 use crate::listener::grouped::in_group;
-use crate::listener::state::{Moved, OpenGroup, Request, Settled, State, quiet, refused, settle};
+use crate::listener::state::{
+    ListenerMove, OpenGroup, Request, SettledGroup, State, quiet, refused, settle,
+};
 use crate::listener::texts::{bad_text_heard, text_heard};
 use crate::talk_line::{TalkLine, talk_line};
 use std::alloc::Global;
@@ -25,9 +27,9 @@ pub(crate) fn line_heard(
     state: State,
     number: u64,
     line: &[u8],
-) -> Moved
+) -> ListenerMove
     requires line { HasNoLineEnd line.now }
-    ensures { (h : Hearing) → AreCounts adds.now h.adds → IsState state h → IsMoved result h.adds number (heard h number line.now) }
+    ensures { (h : Hearing) → AreCounts adds.now h.adds → IsState state h → IsListenerMoved result h.adds number (heard h number line.now) }
 {
     match readable(line) {
         Ok(read) => {
@@ -60,9 +62,9 @@ fn readable(line: &[u8]) -> Result<&str, Cause>
 }
 
 // A line that says this, and is no text line.
-fn said(alloc: Global, adds: &[u64; 64], state: State, number: u64, said: TalkLine) -> Moved
+fn said(alloc: Global, adds: &[u64; 64], state: State, number: u64, said: TalkLine) -> ListenerMove
     requires fair { IsFairLine said }
-    ensures { (h : Hearing) → AreCounts adds.now h.adds → IsState state h → IsMoved result h.adds number (line_heard h number said) }
+    ensures { (h : Hearing) → AreCounts adds.now h.adds → IsState state h → IsListenerMoved result h.adds number (line_heard h number said) }
 {
     match said {
         TalkLine::Skipped => quiet(state),
@@ -80,14 +82,14 @@ fn said(alloc: Global, adds: &[u64; 64], state: State, number: u64, said: TalkLi
 }
 
 // What a session asks: a text that is awaited is broken off by it.
-fn asks(alloc: Global, state: State, number: u64, request: Request) -> Moved
+fn asks(alloc: Global, state: State, number: u64, request: Request) -> ListenerMove
     requires session { request.session < 64 }
     requires fair { IsFairAsked request.asked }
-    ensures { (h : Hearing) → IsState state h → request.adds ≡ counted (h.adds request.session) → IsMoved result h.adds number (behind (broken_off number h.awaiting) (asks (settled h h.awaiting) number request.session request.asked)) }
+    ensures { (h : Hearing) → IsState state h → request.adds ≡ capped_adds (h.adds request.session) → IsListenerMoved result h.adds number (heard_behind_orders (broken_off number h.awaiting) (asks (hearing_settled h h.awaiting) number request.session request.asked)) }
 {
-    let Settled { broken_off, group } = settle(state);
+    let SettledGroup { broken_off, group } = settle(state);
     let moved = group_asks(alloc, group, number, request);
-    Moved {
+    ListenerMove {
         broken_off,
         state: moved.state,
         order: moved.order,
@@ -95,10 +97,15 @@ fn asks(alloc: Global, state: State, number: u64, request: Request) -> Moved
 }
 
 // What a session asks, where no text is awaited.
-fn group_asks(alloc: Global, group: Option<OpenGroup>, number: u64, request: Request) -> Moved
+fn group_asks(
+    alloc: Global,
+    group: Option<OpenGroup>,
+    number: u64,
+    request: Request,
+) -> ListenerMove
     requires fair { IsFairAsked request.asked }
     ensures broken { result.broken_off ≡ false }
-    ensures moved { (h : Hearing) → IsGroup group h → h.awaiting ≡ Nothing → request.adds ≡ counted (h.adds request.session) → IsMoved result h.adds number (asks h number request.session request.asked) }
+    ensures moved { (h : Hearing) → IsGroupOpen group h → h.awaiting ≡ Nothing → request.adds ≡ capped_adds (h.adds request.session) → IsListenerMoved result h.adds number (asks h number request.session request.asked) }
 {
     match group {
         None => alone(alloc, number, request),

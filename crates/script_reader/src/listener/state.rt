@@ -1,7 +1,7 @@
 //! What a listener keeps between two lines.
 ghost use Rattle.std.specs.Prelude.{◌≡◌, ℕ, false, None, Some};
-ghost use Rattle.script_reader.specs.Hearing.{Hearing, broken_off, refused, settled};
-ghost use Rattle.script_reader.specs.Listener.{IsMoved, IsSettled, IsState, moved};
+ghost use Rattle.script_reader.specs.Hearing.{Hearing, broken_off, refused_line, hearing_settled};
+ghost use Rattle.script_reader.specs.Listener.{IsListenerMoved, IsListenerSettled, IsState, listener_moved};
 ghost use Rattle.script_reader.specs.Orders.{breaking};
 ghost use Rattle.script_reader.specs.declared.listener.state.State.TheVariants as states;
 ghost use Rattle.script_reader.specs.declared.order.Order.TheVariants as orders;
@@ -60,7 +60,7 @@ pub(crate) enum State {
 
 /// What a line leaves, and what it asks for: first the refusal of the text that it broke off, if it did, and then an order.
 #[derive(Drop)]
-pub(crate) struct Moved {
+pub(crate) struct ListenerMove {
     pub broken_off: bool,
     pub state: State,
     pub order: Option<Order>,
@@ -76,16 +76,16 @@ pub(crate) struct Request {
 
 /// Whether a command line breaks a text off, and the group that is open behind that.
 #[derive(Drop)]
-pub(crate) struct Settled {
+pub(crate) struct SettledGroup {
     pub broken_off: bool,
     pub group: Option<OpenGroup>,
 }
 
 /// Nothing is asked for.
-pub(crate) fn quiet(state: State) -> Moved
-    ensures { result ≡ moved false state None }
+pub(crate) fn quiet(state: State) -> ListenerMove
+    ensures { result ≡ listener_moved false state None }
 {
-    Moved {
+    ListenerMove {
         broken_off: false,
         state,
         order: None,
@@ -93,10 +93,10 @@ pub(crate) fn quiet(state: State) -> Moved
 }
 
 /// This is asked for, and nothing is awaited.
-pub(crate) fn ordered(order: Order) -> Moved
-    ensures { result ≡ moved false states.Rest (Some order) }
+pub(crate) fn ordered(order: Order) -> ListenerMove
+    ensures { result ≡ listener_moved false states.Rest (Some order) }
 {
-    Moved {
+    ListenerMove {
         broken_off: false,
         state: State::Rest,
         order: Some(order),
@@ -104,10 +104,10 @@ pub(crate) fn ordered(order: Order) -> Moved
 }
 
 /// The line with this number is refused, where no text is broken off.
-pub(crate) fn refusal(number: u64, cause: Cause) -> Moved
-    ensures { result ≡ moved false states.Passing (Some (orders.Refuse number cause)) }
+pub(crate) fn refusal(number: u64, cause: Cause) -> ListenerMove
+    ensures { result ≡ listener_moved false states.Passing (Some (orders.Refuse number cause)) }
 {
-    Moved {
+    ListenerMove {
         broken_off: false,
         state: State::Passing,
         order: Some(Order::Refuse {
@@ -118,11 +118,11 @@ pub(crate) fn refusal(number: u64, cause: Cause) -> Moved
 }
 
 /// The line with this number is refused, which breaks off a text that is awaited.
-pub(crate) fn refused(state: State, number: u64, cause: Cause) -> Moved
-    ensures { (h : Hearing) → IsState state h → IsMoved result h.adds number (refused h number cause) }
+pub(crate) fn refused(state: State, number: u64, cause: Cause) -> ListenerMove
+    ensures { (h : Hearing) → IsState state h → IsListenerMoved result h.adds number (refused_line h number cause) }
 {
     let settled = settle(state);
-    Moved {
+    ListenerMove {
         broken_off: settled.broken_off,
         state: State::Passing,
         order: Some(Order::Refuse {
@@ -133,21 +133,22 @@ pub(crate) fn refused(state: State, number: u64, cause: Cause) -> Moved
 }
 
 /// What a command line finds.
-pub(crate) fn settle(state: State) -> Settled
-    ensures settled { (h : Hearing) → IsState state h → IsSettled result (settled h h.awaiting) }
-    ensures adds { (h : Hearing) → IsState state h → (settled h h.awaiting).adds ≡ h.adds }
+pub(crate) fn settle(state: State) -> SettledGroup
+    ensures settled { (h : Hearing) → IsState state h → IsListenerSettled result (hearing_settled h h.awaiting) }
+    ensures adds { (h : Hearing) → IsState state h → (hearing_settled h h.awaiting).adds ≡ h.adds }
     ensures broken { (h : Hearing) (number : ℕ) → IsState state h → broken_off number h.awaiting ≡ breaking number result.broken_off }
 {
     match state {
-        State::Rest | State::Passing => Settled {
+        State::Rest | State::Passing => SettledGroup {
             broken_off: false,
             group: None,
         },
-        State::Header(_) | State::Long(_) | State::Text(_) | State::GroupText(_, _) => Settled {
-            broken_off: true,
-            group: None,
-        },
-        State::Group(group) => Settled {
+        State::Header(_) | State::Long(_) | State::Text(_) | State::GroupText(_, _) =>
+            SettledGroup {
+                broken_off: true,
+                group: None,
+            },
+        State::Group(group) => SettledGroup {
             broken_off: false,
             group: Some(group),
         },

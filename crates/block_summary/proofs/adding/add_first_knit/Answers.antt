@@ -6,7 +6,7 @@ use Rattle.knit_base.specs.declared.rule.Reason.{Reason}
 use Rattle.knit_base.specs.declared.usual.Usual.TheVariants as usual
 use Rattle.face_data.specs.Summaries.{Summary}
 use Rattle.block_summary.specs.DraftKnowledge.{HasAskedAll}
-use Rattle.block_summary.specs.LineSummaries.{asked_by}
+use Rattle.block_summary.specs.LineSummaries.{conditions_of_instr}
 use Rattle.block_summary.proofs.AskedHold.{slider_asked_holds}
 use Rattle.block_summary.proofs.Blocks.{rows_wider, stops_lines}
 use Rattle.block_summary.proofs.KnownKnits.{adds_after, known_adds, known_lines, known_rows, lines_after, not_known, rows_along, stops_first}
@@ -18,7 +18,7 @@ returns-in-Some c =
     let instr = Knit c.args.dir c.args.n (c.args.c ∷ []) in
     let old = c.args.draft.now in
     let mid = c.ask_usual_knit.new.self in
-    let asked = subst (λ (stop : Option Reason). HasAskedAll old mid (asked_by profile instr) stop) c.in-Some.is (c.in_ok-reason.ensures profile c.args.dir c.requires.floats) in
+    let asked = subst (λ (stop : Option Reason). HasAskedAll old mid (conditions_of_instr profile instr) stop) c.in-Some.is (c.in_ok-reason.ensures profile c.args.dir c.requires.floats) in
     let adds = stops_first profile (length c.args.setting.now.declared) instr old mid c.stop.new.self c.args.loops.now c.in-Some.reason c.stop.result c.stop.ensures.through c.requires.lawful asked
     c.stop.ensures.fault c.stop.ensures.line in
     let lines = stops_lines profile (read.Instr instr) old c.stop.new.self c.stop.result adds.added.0 in
@@ -34,7 +34,7 @@ pub note_bare-requires : goal.note_bare-requires
 note_bare-requires c =
     let instr = Knit c.args.dir c.args.n (c.args.c ∷ []) in
     slider_asked_holds c.args.setting.now.profile instr c.args.draft.now c.ask_usual_knit.new.self c.args.n refl
-    (subst (λ (stop : Option Reason). HasAskedAll c.args.draft.now c.ask_usual_knit.new.self (asked_by c.args.setting.now.profile instr) stop) c.in_default.is (c.in_ok-reason.ensures c.args.setting.now.profile c.args.dir c.requires.floats))
+    (subst (λ (stop : Option Reason). HasAskedAll c.args.draft.now c.ask_usual_knit.new.self (conditions_of_instr c.args.setting.now.profile instr) stop) c.in_default.is (c.in_ok-reason.ensures c.args.setting.now.profile c.args.dir c.requires.floats))
 
 pub add_knit-requires-clause-few : goal.add_knit-requires-clause-few
 add_knit-requires-clause-few c =
@@ -61,7 +61,7 @@ returns-then-branch c =
     let rows = c.args.loops.now in
     let more = c.add_knit.new.loops in
     let known = c.in_ok-add_knit.field-0 in
-    let asked = subst (λ (stop : Option Reason). HasAskedAll old mid (asked_by profile instr) stop) c.in_default.is (c.in_ok-reason.ensures profile c.args.dir c.requires.floats) in
+    let asked = subst (λ (stop : Option Reason). HasAskedAll old mid (conditions_of_instr profile instr) stop) c.in_default.is (c.in_ok-reason.ensures profile c.args.dir c.requires.floats) in
     let adds = known_adds profile carriers (usual.Knit c.args.dir c.args.n c.args.c) c.args.dir c.args.n c.args.c known now new rows more refl c.requires.floats c.requires.lawful c.if-branch.true c.in_ok-add_knit.ensures in
     let counted = ap (λ (s : Summary). s.lines) c.note_bare.ensures.same ∙ lines_after old mid profile instr None asked in
     record {
@@ -94,7 +94,7 @@ returns-clause-added c =
     let old = c.args.draft.now in
     let mid = c.ask_usual_knit.new.self in
     let none = not_known c.args.dir c.args.n c.args.c c.in_ok-add_knit.field-0 c.note_bare.new.self c.add_knit.new.draft c.args.loops.now c.add_knit.new.loops c.if-branch.false c.in_ok-add_knit.ensures in
-    let asked = subst (λ (stop : Option Reason). HasAskedAll old mid (asked_by profile instr) stop) c.in_default.is (c.in_ok-reason.ensures profile c.args.dir c.requires.floats) in
+    let asked = subst (λ (stop : Option Reason). HasAskedAll old mid (conditions_of_instr profile instr) stop) c.in_default.is (c.in_ok-reason.ensures profile c.args.dir c.requires.floats) in
     IfOk-weaker c.add_reading.result _ _
     (λ stop adds.
     adds_after profile carriers instr old mid c.add_knit.new.draft c.add_reading.new.draft c.args.loops.now c.add_knit.new.loops c.add_reading.new.loops stop (none.0 ∙ c.note_bare.ensures.same) none.1

@@ -2,7 +2,7 @@
 use Rattle.std.proofs.Common.{subst}
 use Rattle.knit_base.specs.declared.instr.Instr.TheVariants.{Xfer}
 use Rattle.knit_base.specs.declared.instr.Read.TheVariants as read
-use Rattle.block_summary.specs.declared.line.LineEnd.{LineEnd}
+use Rattle.block_summary.specs.declared.line.DraftedLineEnd.{DraftedLineEnd}
 use Rattle.block_summary.specs.LineEnds.{EndsAs}
 use Rattle.block_summary.proofs.Blocks.{goes_lines, stops_lines, rows_wider}
 use Rattle.block_summary.proofs.adding.add_transfer.Goals as goal
@@ -13,7 +13,7 @@ returns-in-Stops-clause-lines c =
     let xfer = read.Instr (Xfer c.args.n c.args.n2) in
     let old = c.args.draft.now in
     let new = c.transfer.new.self in
-    stops_lines profile xfer old new c.in-Stops.fault (subst (λ (end : LineEnd). EndsAs profile xfer old new end) c.in-Stops.is c.in_ok-fault.ensures)
+    stops_lines profile xfer old new c.in-Stops.fault (subst (λ (end : DraftedLineEnd). EndsAs profile xfer old new end) c.in-Stops.is c.in_ok-fault.ensures)
 
 pub returns-in-Stops-clause-rows : goal.returns-in-Stops-clause-rows
 returns-in-Stops-clause-rows c =
@@ -22,7 +22,7 @@ returns-in-Stops-clause-rows c =
     let old = c.args.draft.now in
     let new = c.transfer.new.self in
     rows_wider old.lines new.lines c.args.loops.now
-    (stops_lines profile xfer old new c.in-Stops.fault (subst (λ (end : LineEnd). EndsAs profile xfer old new end) c.in-Stops.is c.in_ok-fault.ensures)) c.requires.rows
+    (stops_lines profile xfer old new c.in-Stops.fault (subst (λ (end : DraftedLineEnd). EndsAs profile xfer old new end) c.in-Stops.is c.in_ok-fault.ensures)) c.requires.rows
 
 pub returns-clause-lines : goal.returns-clause-lines
 returns-clause-lines c =
@@ -30,7 +30,7 @@ returns-clause-lines c =
     let xfer = read.Instr (Xfer c.args.n c.args.n2) in
     let old = c.args.draft.now in
     let new = c.transfer.new.self in
-    goes_lines profile xfer old new c.in-GoesOn.field-0 (subst (λ (end : LineEnd). EndsAs profile xfer old new end) c.in-GoesOn.is c.in_ok-fault.ensures)
+    goes_lines profile xfer old new c.in-GoesOn.field-0 (subst (λ (end : DraftedLineEnd). EndsAs profile xfer old new end) c.in-GoesOn.is c.in_ok-fault.ensures)
 
 pub returns-clause-rows : goal.returns-clause-rows
 returns-clause-rows c =
@@ -39,4 +39,4 @@ returns-clause-rows c =
     let old = c.args.draft.now in
     let new = c.transfer.new.self in
     rows_wider old.lines new.lines c.args.loops.now
-    (goes_lines profile xfer old new c.in-GoesOn.field-0 (subst (λ (end : LineEnd). EndsAs profile xfer old new end) c.in-GoesOn.is c.in_ok-fault.ensures)) c.requires.rows
+    (goes_lines profile xfer old new c.in-GoesOn.field-0 (subst (λ (end : DraftedLineEnd). EndsAs profile xfer old new end) c.in-GoesOn.is c.in_ok-fault.ensures)) c.requires.rows

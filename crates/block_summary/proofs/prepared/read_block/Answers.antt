@@ -6,7 +6,7 @@ use Rattle.knitout_reader.specs.Reading.{ReadsAs}
 use Rattle.face_data.specs.Summaries.{Summary}
 use Rattle.loop_history.specs.declared.row.LoopRow.{LoopRow}
 use Rattle.block_summary.specs.DraftKnowledge.{stopped_at}
-use Rattle.block_summary.specs.Prepared.{AreRowsOf, HasRead, IsMadeOf}
+use Rattle.block_summary.specs.Prepared.{AreRowsOf, DraftHasRead, IsMadeOf}
 use Rattle.block_summary.proofs.Blocks.{all_read, read_more, read_stopped, zip_at}
 use Rattle.block_summary.proofs.LinePlaces.{part_at, part_len}
 use Rattle.block_summary.proofs.prepared.read_block.Goals as goal
@@ -54,7 +54,7 @@ loop-i-preserved g c =
           let within : k < length lines = omega (arith, long, c.loop-i-test.true, begun) in
           let here = zip_at (ReadsAs profile names) part lines k c.line-line.result.now read.Blank reads
           (part_at c.args.text.now c.args.start c.args.end i c.line-line.result.now c.requires.inside begun c.loop-i-test.true c.line-line.ensures.line) in
-          subst (λ n. HasRead profile (length names) lines n c.add_line.new.draft c.add_line.new.loops) next
+          subst (λ n. DraftHasRead profile (length names) lines n c.add_line.new.draft c.add_line.new.loops) next
           (read_more profile (length names) lines k read.Blank c.loop-i.draft c.add_line.new.draft c.loop-i.loops c.add_line.new.loops c.in_ok-add_line.field-0 c.requires.profile.some within
           (c.in_ok-add_line.ensures.added (get_or lines k read.Blank) here) c.in-None.is (c.loop-i.invariant.read lines reads));
     }

@@ -1,6 +1,6 @@
 use Rattle.std.proofs.Common.{refl, rules, subst}
 use Rattle.command_words.specs.declared.command.Command.{Command}
-use Rattle.input_answers.specs.Asked.{Ask}
+use Rattle.input_answers.specs.Asked.{AsksCommand}
 use Rattle.input_answers.specs.Played.{nothing_played}
 use Rattle.check_main.specs.Top.{made}
 use Rattle.check_main.proofs.Calls.{called-as}
@@ -13,6 +13,6 @@ pub returns-in_ok-ending-in-Make-clause-ok : goal.returns-in_ok-ending-in-Make-c
 returns-in_ok-ending-in-Make-clause-ok g c = λ words ask.
     let ending = c.in_ok-ending-in-Make.ending in
     called-as words _ c.without_sessions.result ending.text.items ending.status nothing_played
-    (made c.in-Make.rows c.in-Make.start c.args.plan.now.chosen ending.text.items ending.status (subst (λ (x : Command). Ask words x c.args.plan.now.chosen) c.in-Make.is ask)
+    (made c.in-Make.rows c.in-Make.start c.args.plan.now.chosen ending.text.items ending.status (subst (λ (x : Command). AsksCommand words x c.args.plan.now.chosen) c.in-Make.is ask)
     (record { left = refl; faults = refl }) c.in_ok-ending-in-Make.ensures)
     c.without_sessions.ensures.text c.without_sessions.ensures.status c.without_sessions.ensures.played

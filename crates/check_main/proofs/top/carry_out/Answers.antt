@@ -1,6 +1,6 @@
 use Rattle.std.proofs.Common.{Bool, subst, sym}
 use Rattle.command_words.specs.declared.command.Command.{Command}
-use Rattle.input_answers.specs.Asked.{Ask, as_json}
+use Rattle.input_answers.specs.Asked.{AsksCommand, as_json}
 use Rattle.input_answers.specs.declared.outcome.Status.{Status}
 use Rattle.live_talk.specs.Served.{Served}
 use Rattle.check_main.proofs.Calls.{ended-for}
@@ -15,5 +15,5 @@ returns-in-Live g c = λ words ask.
 pub returns-in-Serve : goal.returns-in-Serve
 returns-in-Serve g c = λ words ask.
     let s = c.serve-status.ensures.served in
-    conversed _ c.args.plan.now.chosen s.0 (subst (λ (x : Command). Ask words x c.args.plan.now.chosen) c.in-Serve.is ask) c.without_sessions.ensures.played
+    conversed _ c.args.plan.now.chosen s.0 (subst (λ (x : Command). AsksCommand words x c.args.plan.now.chosen) c.in-Serve.is ask) c.without_sessions.ensures.played
     (subst (λ (p : Bool × Status). Served p.0 c.args.plan.now.chosen s.0 p.1) (λ i. (as_json (c.in-Serve.is i), sym c.without_sessions.ensures.status i)) s.2)

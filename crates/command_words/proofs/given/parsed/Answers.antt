@@ -6,7 +6,7 @@ use Rattle.command_words.specs.Grammar.{Low, High, Rack, Hold, Block, Float, Loo
 use Rattle.command_words.specs.Arguments.{check_app}
 use Rattle.command_words.proofs.Rules.{first, second, third, is_free_app, is_simple_app}
 use Rattle.command_words.proofs.Agreement.{flag_stands_is}
-use Rattle.command_words.proofs.Results.{all_utf8, refused, taken}
+use Rattle.command_words.proofs.Results.{all_utf8, refusal_spells_nothing, faultless_words_found}
 use Rattle.clap.specs.Kinds.{IsAmong}
 use Rattle.clap.specs.Values.{kind_of}
 use Rattle.command_words.proofs.Faults.{usage_from}
@@ -18,7 +18,7 @@ returns-in_err-matches-clause-usage c = λ usage items is fit.
     let kinds = c.in_err-matches.ensures.kinds (ap is_simple_and_free app ∙ is_free_app) in
     elim kinds [
       | inl memory ↦ absurd (usage_from _ _ c.from_residual-in_err-matches.ensures.1 usage memory)
-      | inr among ↦ refused (map string_bytes c.args.words.now) (all_utf8 c.args.words.now) _
+      | inr among ↦ refusal_spells_nothing (map string_bytes c.args.words.now) (all_utf8 c.args.words.now) _
           (subst (λ a. IsAmong (kind_of c.in_err-matches.field-0.0) (fault_of a (map string_bytes c.args.words.now))) app among) items is fit
     ]
 
@@ -28,7 +28,7 @@ returns-clause-ok c =
     let words = map string_bytes c.args.words.now in
     let none : fault_of check_app words ≡ [] = ap (λ a. fault_of a words) (sym app) ∙ c.in_ok-matches.ensures.kinds (ap is_simple_and_free app ∙ is_free_app) in
     let rows = (c.in_ok-matches.ensures.matches (ap is_simple app ∙ is_simple_app)).0 ∙ ap (λ a. matches_of a words) app in
-    let t = taken words (found_of c.in_ok-matches.matches) (all_utf8 c.args.words.now) none rows in (
+    let t = faultless_words_found words (found_of c.in_ok-matches.matches) (all_utf8 c.args.words.now) none rows in (
       t.items,
       t.spelled,
       t.distinct,

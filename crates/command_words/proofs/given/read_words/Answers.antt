@@ -2,7 +2,7 @@ use Rattle.std.proofs.Common.{◌≡◌, ◌∙◌, sym, ap, subst, List, Option
 use Rattle.std.proofs.lemmas.Bool.{true≢false}
 use Rattle.std.specs.Prelude.{unwrap_or}
 use Rattle.command_words.specs.Grammar.{Item}
-use Rattle.command_words.specs.Given.{IsGiven}
+use Rattle.command_words.specs.Given.{IsGivenByItems}
 use Rattle.command_words.proofs.Agreement.{lawful_from, read_from, taken_from, test_from}
 use Rattle.command_words.proofs.given.read_words.Goals as goal
 
@@ -17,7 +17,7 @@ pub returns-then-not-is_lawful-clause-usage : goal.returns-then-not-is_lawful-cl
 returns-then-not-is_lawful-clause-usage c = λ usage items is lawful.
     let found = c.in-Ok.ensures.ok in
     let same = same_items found.1 (taken_from (map string_bytes c.args.words.now) items is) in
-    let given : IsGiven items c.in-Ok.given = subst (λ l. IsGiven l c.in-Ok.given) same found.4 in
+    let given : IsGivenByItems items c.in-Ok.given = subst (λ l. IsGivenByItems l c.in-Ok.given) same found.4 in
     true≢false (sym (test_from items c.in-Ok.given given lawful) ∙ sym c.is_lawful.ensures ∙ c.if-not-is_lawful.true)
 
 pub returns-clause-ok : goal.returns-clause-ok

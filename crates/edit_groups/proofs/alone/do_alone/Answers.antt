@@ -1,5 +1,5 @@
 use Rattle.std.proofs.Common.{◌≡◌, ◌∙◌, ap, refl, sym, arith}
-use Rattle.edit_groups.specs.Shared.{opening_of}
+use Rattle.edit_groups.specs.Shared.{group_book_opening}
 use Rattle.edit_groups.proofs.AnsweredAlone.{answered_whole}
 use Rattle.turn_book.specs.Passes.{view_of}
 use Rattle.edit_groups.proofs.alone.do_alone.Goals as goal
@@ -9,7 +9,7 @@ do_step-reply-requires-clause-number g c κs within = (let low = c.requires.whol
 
 pub returns : goal.returns
 returns g c =
-    let o = opening_of c.args.shared.now in let v = view_of c.args.pass.now in let u = view_of c.do_step-reply.new.pass in let w = view_of c.newest.new.pass in
+    let o = group_book_opening c.args.shared.now in let v = view_of c.args.pass.now in let u = view_of c.do_step-reply.new.pass in let w = view_of c.newest.new.pass in
     let s = c.args.session.now in
     let counts : u.count ≡ v.count = c.do_step-reply.ensures.of_this.2 ∙ sym c.requires.of_this.2 in
     let low : u.first ≡ 0 = c.do_step-reply.ensures.range.0 ∙ c.requires.whole.0 in

@@ -5,7 +5,7 @@ use Rattle.edit_journal.specs.declared.opening.Opening.{Opening}
 use Rattle.edit_journal.specs.Documents.{document_of}
 use Rattle.edit_book.specs.Books.{document}
 use Rattle.edit_groups.specs.Carried.{IsCarriedOut, IsEditDone}
-use Rattle.edit_groups.specs.Groups.{AreFitEdits, each_limit, edit_asked, edit_limit}
+use Rattle.edit_groups.specs.Groups.{AreFitEdits, each_limit, edit_asked, group_edit_limit}
 use Rattle.edit_groups.specs.declared.reply.GroupEdit.{GroupEdit}
 use Rattle.edit_groups.proofs.Runs.{carried_more, fits_behind, steps_behind}
 use Rattle.edit_groups.proofs.group.carry_out.Goals as goal
@@ -42,8 +42,8 @@ loop-edit-preserved g c =
           (subst (λ (p : Opening). AreFitEdits p now (c.in-Some.edit ∷ rest)) at.opening (subst (AreFitEdits c.loop-edit.book.opening now) steps at.fits)));
       carried = carried_more o c.args.number c.args.book.now.entries c.loop-edit.yielded c.loop-edit.done c.push.new.self now next c.in-Some.edit c.in-Ok.edit at.carried done pushed;
       steps =
-          let one : c.carry_out_one.new.steps ≤ c.loop-edit.steps + edit_limit o (document_of o now) c.in-Some.edit =
-          subst (λ (p : Opening). c.carry_out_one.new.steps ≤ c.loop-edit.steps + edit_limit p (document_of p now) c.in-Some.edit) at.opening c.carry_out_one.ensures.steps in
+          let one : c.carry_out_one.new.steps ≤ c.loop-edit.steps + group_edit_limit o (document_of o now) c.in-Some.edit =
+          subst (λ (p : Opening). c.carry_out_one.new.steps ≤ c.loop-edit.steps + group_edit_limit p (document_of p now) c.in-Some.edit) at.opening c.carry_out_one.ensures.steps in
           let behind = steps_behind o c.args.number now next c.in-Some.edit c.in-Ok.edit rest c.loop-edit.steps c.carry_out_one.new.steps done one in
           let front : each_limit c.loop-edit.book.opening (document c.loop-edit.book) (length now) (into_iter_items c.loop-edit.edit-iterator) ≡ each_limit o (document_of o now) (length now) (c.in-Some.edit ∷ rest) =
           ap (λ (p : Opening × List GroupEdit). each_limit p.0 (document_of p.0 now) (length now) p.1) (λ i. (at.opening i, steps i)) in

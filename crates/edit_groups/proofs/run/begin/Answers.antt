@@ -3,7 +3,7 @@ use Rattle.std.specs.List.{list_all}
 use Rattle.std.proofs.lemmas.List.{take_more, length-take}
 use Rattle.script_reader.specs.Groups.{is_lawful_step}
 use Rattle.script_reader.specs.declared.step.Step.{Step}
-use Rattle.edit_groups.specs.Talks.{IsReady}
+use Rattle.edit_groups.specs.Talks.{IsGroupTalkReady}
 use Rattle.edit_groups.specs.declared.talk.Talk.{Talk}
 use Rattle.edit_groups.proofs.GroupAsked.{all_got}
 use Rattle.turn_book.specs.Ready.{AreReady}
@@ -18,7 +18,7 @@ loop-i-preserved c = record {
       let scripts = c.args.scripts.now in
       let made : Talk = record { session = c.in_ok-session.session; replies = c.in_ok-replies.replies } in
       let number = c.in_ok-session.ensures.number in
-      let one : IsReady opening (c.args.first + length (take i scripts)) c.index-scripts-i.result made = record {
+      let one : IsGroupTalkReady opening (c.args.first + length (take i scripts)) c.index-scripts-i.result made = record {
         number = search (rules, length-take);
         stands = c.in_ok-session.ensures.stands opening [] blocks names refl;
         empty = c.in_ok-replies.ensures.items;
@@ -26,6 +26,6 @@ loop-i-preserved c = record {
         lawful = ap (list_all is_lawful_step) c.index-scripts-i.is ∙ all_got (list_all is_lawful_step) scripts i c.index-scripts-i.result c.requires.steps c.loop-i-test.true;
       } in
       let more : take (i + 1) scripts ≡ take i scripts ++ c.index-scripts-i.result ∷ [] = take_more scripts i c.index-scripts-i.result c.loop-i-test.true ∙ ap (λ x. take i scripts ++ x ∷ []) (sym c.index-scripts-i.is) in
-      subst (λ (p : List (List Step) × List Talk). AreReady (IsReady opening) c.args.first p.0 p.1) (λ k. (sym more k, sym c.in_ok-push.ensures.items k))
-      (ready_more (IsReady opening) c.args.first (take i scripts) c.loop-i.talks.items c.index-scripts-i.result made (c.loop-i.invariant.ready opening blocks names) one);
+      subst (λ (p : List (List Step) × List Talk). AreReady (IsGroupTalkReady opening) c.args.first p.0 p.1) (λ k. (sym more k, sym c.in_ok-push.ensures.items k))
+      (ready_more (IsGroupTalkReady opening) c.args.first (take i scripts) c.loop-i.talks.items c.index-scripts-i.result made (c.loop-i.invariant.ready opening blocks names) one);
 }

@@ -1,11 +1,11 @@
 use Rattle.std.proofs.Common.{◌≡◌, length, take}
 use Rattle.edit_journal.specs.declared.opening.Opening.{Opening}
-use Rattle.edit_groups.specs.Talks.{IsReady}
+use Rattle.edit_groups.specs.Talks.{IsGroupTalkReady}
 use Rattle.turn_book.specs.Ready.{AreReady}
 use Rattle.edit_groups.proofs.run.begin.Given as goal
 
 abbrev pub invariant-loop-i : goal.invariant-loop-i
 invariant-loop-i l = record {
   count : length l.talks.items ≡ l.i;
-  ready : (opening : Opening) → length opening.texts ≡ l.blocks → opening.setting.declared ≡ l.declared → AreReady (IsReady opening) l.first (take l.i l.scripts) l.talks.items;
+  ready : (opening : Opening) → length opening.texts ≡ l.blocks → opening.setting.declared ≡ l.declared → AreReady (IsGroupTalkReady opening) l.first (take l.i l.scripts) l.talks.items;
 }

@@ -3,7 +3,7 @@ use Rattle.std.proofs.lemmas.Grind.{common_steps}
 use Rattle.std.proofs.lemmas.List.{length-map, map-append}
 use Rattle.std.specs.Vec.Iter.{into_iter_items}
 use Rattle.edit_book.specs.declared.reply.Reply.{Reply}
-use Rattle.edit_sessions.specs.Talks.{replies_of}
+use Rattle.edit_sessions.specs.Talks.{talk_replies}
 use Rattle.edit_sessions.proofs.run.into_replies.Goals as goal
 
 nothing_left : {X : Type 0} (l : List X) → length l ≡ 0 → l ≡ []
@@ -25,7 +25,7 @@ pub push_reserved-requires : goal.push_reserved-requires
 push_reserved-requires c =
     let at = c.loop-talk in
     let lists : length (map (λ (list : Vec Reply Global). list.items) at.lists.items) ≡ length at.lists.items = length-map at.lists.items (λ list. list.items) in
-    let talks : length (map replies_of at.yielded) ≡ length at.yielded = length-map at.yielded replies_of in
+    let talks : length (map talk_replies at.yielded) ≡ length at.yielded = length-map at.yielded talk_replies in
     let same = ap length at.invariant.same in
     let all : length at.yielded + length (into_iter_items at.talk-iterator) ≡ length (into_iter_items c.into_iter-talk-iterator.result) = sym (length-append at.yielded (into_iter_items at.talk-iterator)) ∙ ap length at.invariant.all in
     let some = ap length c.in-Some.ensures.steps.0 in
@@ -37,4 +37,4 @@ returns c =
     let at = c.loop-talk in
     let empty : into_iter_items at.talk-iterator ≡ [] = nothing_left (into_iter_items at.talk-iterator) (sym at.invariant.left ∙ c.in-None.ensures.steps.0) in
     let all : at.yielded ≡ c.args.talks.items = sym (append-nil at.yielded) ∙ rw empty at at.invariant.all ∙ c.into_iter-talk-iterator.ensures.into_iter_gives.0 in
-    at.invariant.same ∙ ap (map replies_of) all
+    at.invariant.same ∙ ap (map talk_replies) all

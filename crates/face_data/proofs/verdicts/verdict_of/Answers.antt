@@ -1,12 +1,12 @@
 use Rattle.std.proofs.Common.{◌∙◌}
 use Rattle.carriage_model.specs.declared.verdict.Verdict.TheVariants.{Sound}
 use Rattle.face_data.specs.View.{summary_of}
-use Rattle.face_data.proofs.EmptyBeds.{judged, sound_told}
+use Rattle.face_data.proofs.EmptyBeds.{told_verdict_holds, sound_told}
 use Rattle.face_data.proofs.verdicts.verdict_of.Goals as goal
 
 pub returns-in_ok-stacks_of-in-Ok-clause-stands : goal.returns-in_ok-stacks_of-in-Ok-clause-stands
 returns-in_ok-stacks_of-in-Ok-clause-stands c profile lines =
-    judged profile (summary_of c.args.face.now) lines c.args.first
+    told_verdict_holds profile (summary_of c.args.face.now) lines c.args.first
     (Sound (record {
       lines = c.args.face.now.lines;
       made = c.args.face.now.made;

@@ -1,7 +1,7 @@
 use Rattle.std.proofs.Common.{refl, subst}
 use Rattle.std.proofs.lemmas.Result.{IfOk-weaker}
 use Rattle.command_words.specs.declared.command.Command.TheVariants.{Check}
-use Rattle.input_answers.specs.Due.{Fits}
+use Rattle.input_answers.specs.Due.{BodyFits}
 use Rattle.input_answers.proofs.Dues.{due-judged, due-too_large}
 use Rattle.input_answers.proofs.answers.check.Goals as goal
 
@@ -18,5 +18,5 @@ returns-in-None g c =
     IfOk-weaker c.judge.result _ _
     (λ ending is input are.
     due-judged c.args.style.loops c.args.style.json c.args.plan.now.chosen input ending.text.items ending.status c.args.body.now.lines c.args.body.now.head are
-    c.args.body.now.good c.args.body.now.headed (subst (Fits c.args.plan.now.chosen.block) c.len.ensures c.in-None.ensures) is)
+    c.args.body.now.good c.args.body.now.headed (subst (BodyFits c.args.plan.now.chosen.block) c.len.ensures c.in-None.ensures) is)
     c.judge.ensures

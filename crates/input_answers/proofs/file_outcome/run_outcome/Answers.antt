@@ -1,7 +1,7 @@
 use Rattle.std.proofs.Common.{◌≡◌, length, refl, sym, subst, ◌∙◌, arith}
 use Rattle.knit_base.specs.Lines.{lines_of}
 use Rattle.file_run.specs.Runs.{IsRun}
-use Rattle.input_answers.specs.Due.{Fits}
+use Rattle.input_answers.specs.Due.{BodyFits}
 use Rattle.input_answers.proofs.BodyRuns.{body_len, head_len-le}
 use Rattle.input_answers.proofs.Dues.{due-bad_head, due-too_large}
 use Rattle.input_answers.proofs.FileDues.{input-few}
@@ -37,7 +37,7 @@ returns g c = λ loops start input begins taken.
     let read = c.in-Ok.ensures.file start (lines_of input) taken in
     record {
       headed = record { good = read.good; head_is = read.head_is };
-      fits = subst (Fits c.args.plan.now.chosen.block) (body_len (lines_of input) _ _ read.counted read.head_is.len) c.in_default.ensures;
+      fits = subst (BodyFits c.args.plan.now.chosen.block) (body_len (lines_of input) _ _ read.counted read.head_is.len) c.in_default.ensures;
       counted = read.counted;
       ran =
           subst (λ b. IsRun _ g.T.Taker.has b c.args.plan.now.chosen.profile c.in-Ok.file.head.declared (lines_of input) c.in_ok-run.run') begins.way

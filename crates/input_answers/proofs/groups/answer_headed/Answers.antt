@@ -1,11 +1,11 @@
 use Rattle.std.proofs.Common.{subst}
 use Rattle.std.proofs.lemmas.Result.{IfOk-weaker}
-use Rattle.input_answers.specs.Due.{Fits}
+use Rattle.input_answers.specs.Due.{BodyFits}
 use Rattle.input_answers.proofs.GroupDues.{groups-too_large}
 use Rattle.input_answers.proofs.groups.answer_headed.Goals as goal
 
 pub carry_out-requires-clause-fits : goal.carry_out-requires-clause-fits
-carry_out-requires-clause-fits g c = λ κs live. subst (Fits c.args.plan.now.chosen.block) c.body_len-lines.ensures c.in-None.ensures
+carry_out-requires-clause-fits g c = λ κs live. subst (BodyFits c.args.plan.now.chosen.block) c.body_len-lines.ensures c.in-None.ensures
 
 pub returns-in-Some : goal.returns-in-Some
 returns-in-Some g c =

@@ -1,7 +1,7 @@
 use Rattle.std.proofs.Common.{All, List, ℕ, subst}
 use Rattle.std.proofs.lemmas.Result.{IfOk-weaker}
 use Rattle.line_cutter.specs.Cut.{IsGoodLine}
-use Rattle.script_reader.specs.Script.{IsRefusal, IsScript}
+use Rattle.script_reader.specs.Script.{IsScriptRefusal, IsScript}
 use Rattle.input_answers.specs.LiveText.{output_of}
 use Rattle.input_answers.proofs.LiveDues.{live-bad_script}
 use Rattle.input_answers.proofs.ScriptTexts.{few_sessions, short_texts}
@@ -22,5 +22,5 @@ returns-in-Ok g c =
 pub returns-in-Err-At : goal.returns-in-Err-At
 returns-in-Err-At g c =
     IfOk-weaker c.refusal.result _ _
-    (λ answer is input are. live-bad_script (output_of c.args.plan.now.command) c.args.plan.now.chosen input answer c.args.lines _ _ are c.requires (subst (IsRefusal c.args.lines) c.in-Err-At.field-0-is c.in-Err-At.ensures.fault) is)
+    (λ answer is input are. live-bad_script (output_of c.args.plan.now.command) c.args.plan.now.chosen input answer c.args.lines _ _ are c.requires (subst (IsScriptRefusal c.args.lines) c.in-Err-At.field-0-is c.in-Err-At.ensures.fault) is)
     c.refusal.ensures

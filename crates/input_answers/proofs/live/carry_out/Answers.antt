@@ -5,7 +5,7 @@ use Rattle.edit_sessions.specs.Laws.{IsLegal}
 use Rattle.knitout_reader.specs.Head.{head_len, head_of}
 use Rattle.input_answers.specs.declared.live_text.LiveOutput.{LiveOutput}
 use Rattle.input_answers.specs.DueLive.{edited}
-use Rattle.input_answers.specs.LiveText.{IsTold, output_of}
+use Rattle.input_answers.specs.LiveText.{IsLiveText, output_of}
 use Rattle.input_answers.proofs.BodyRuns.{head_len-le}
 use Rattle.input_answers.proofs.live.carry_out.Goals as goal
 
@@ -30,7 +30,7 @@ returns g c = λ input has.
     edited c.args.head.now opening (record { script = c.args.script; entries = c.in_ok-text.journal.entries; replies = c.in_ok-book.replies; groups = None }) c.in_ok-text.text.items has c.requires.fits
     c.in_ok-opened.ensures.opening
     (subst (λ (entries : List Entry). IsLegal opening c.args.script.sessions entries c.in_ok-book.replies) (sym c.in_ok-text.ensures.entries) c.in_ok-book.ensures.legal) refl
-    (subst (λ (h : List (List ℕ)). IsTold output h opening c.in_ok-text.journal.entries c.in_ok-book.replies c.in_ok-text.text.items) head
-    (subst (λ (o : Opening). IsTold output (take (c.in_ok-book.book.opening.setting.first - 1) text) o c.in_ok-text.journal.entries c.in_ok-book.replies c.in_ok-text.text.items) c.in_ok-book.ensures.opening
-    (subst (λ (entries : List Entry). IsTold output (take (c.in_ok-book.book.opening.setting.first - 1) text) c.in_ok-book.book.opening entries c.in_ok-book.replies c.in_ok-text.text.items) (sym c.in_ok-text.ensures.entries)
-    (subst (λ (out : LiveOutput). IsTold out (take (c.in_ok-book.book.opening.setting.first - 1) text) c.in_ok-book.book.opening c.in_ok-book.book.entries c.in_ok-book.replies c.in_ok-text.text.items) c.output_of.ensures c.in_ok-text.ensures.text))))
+    (subst (λ (h : List (List ℕ)). IsLiveText output h opening c.in_ok-text.journal.entries c.in_ok-book.replies c.in_ok-text.text.items) head
+    (subst (λ (o : Opening). IsLiveText output (take (c.in_ok-book.book.opening.setting.first - 1) text) o c.in_ok-text.journal.entries c.in_ok-book.replies c.in_ok-text.text.items) c.in_ok-book.ensures.opening
+    (subst (λ (entries : List Entry). IsLiveText output (take (c.in_ok-book.book.opening.setting.first - 1) text) c.in_ok-book.book.opening entries c.in_ok-book.replies c.in_ok-text.text.items) (sym c.in_ok-text.ensures.entries)
+    (subst (λ (out : LiveOutput). IsLiveText out (take (c.in_ok-book.book.opening.setting.first - 1) text) c.in_ok-book.book.opening c.in_ok-book.book.entries c.in_ok-book.replies c.in_ok-text.text.items) c.output_of.ensures c.in_ok-text.ensures.text))))

@@ -1,6 +1,6 @@
 use Rattle.std.proofs.Common.{subst}
 use Rattle.std.proofs.lemmas.Result.{IfOk-weaker}
-use Rattle.input_answers.specs.Due.{Fits, IsSizeRefusal}
+use Rattle.input_answers.specs.Due.{BodyFits, IsSizeRefusal}
 use Rattle.input_answers.proofs.MadeDues.{made-large, made-summary}
 use Rattle.input_answers.proofs.made.made_by_blocks.Goals as goal
 
@@ -15,4 +15,4 @@ returns-in-Some g c =
 pub returns : goal.returns
 returns g c =
     made-summary c.args.plan.now.chosen c.args.rows c.args.start c.in_ok-ending-in-None.ending.text.items c.in_ok-ending-in-None.ending.status c.in_ok-body.body.lines c.in_ok-body.body.head c.in_ok-body.ensures
-    c.in_ok-body.body.headed (subst (Fits c.args.plan.now.chosen.block) c.len.ensures c.in-None.ensures) (c.in_ok-ending-in-None.ensures.report, c.in_ok-ending-in-None.ensures.status)
+    c.in_ok-body.body.headed (subst (BodyFits c.args.plan.now.chosen.block) c.len.ensures c.in-None.ensures) (c.in_ok-ending-in-None.ensures.report, c.in_ok-ending-in-None.ensures.status)

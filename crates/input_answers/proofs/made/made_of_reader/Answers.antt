@@ -4,7 +4,7 @@ use Rattle.knitout_reader.specs.Head.{IsHeadFault}
 use Rattle.pass_grouping.specs.declared.tally.Tally.{Tally}
 use Rattle.pass_grouping.specs.Tallies.{HasTallied}
 use Rattle.file_run.specs.Runs.{IsRun}
-use Rattle.input_answers.specs.Due.{Fits, IsSizeRefusal}
+use Rattle.input_answers.specs.Due.{BodyFits, IsSizeRefusal}
 use Rattle.input_answers.proofs.BodyRuns.{body_len, head_len-le}
 use Rattle.input_answers.proofs.FileDues.{all-counted, input-few, made-headed}
 use Rattle.input_answers.proofs.MadeDues.{made-large, made-summary}
@@ -45,7 +45,7 @@ returns c = λ begun input rows start are begins taken.
     (subst (λ p. IsRun Tally HasTallied begun.work.with_loops p head.declared (lines_of input) c.in_ok-run.run') begins.profile
     (c.in_ok-run.ensures begun.work head (lines_of input) read.head_is read.taken)) in
     made-summary chosen rows start c.in_ok-ending-2.ending.text.items c.in_ok-ending-2.ending.status (lines_of input) head are read.head_is
-    (subst (Fits chosen.block) (body_len (lines_of input) _ _ read.counted read.head_is.len) c.in_default.ensures) (
+    (subst (BodyFits chosen.block) (body_len (lines_of input) _ _ read.counted read.head_is.len) c.in_default.ensures) (
       c.in_ok-ending-2.ensures.report head.declared (lines_of input) ran.judgement.made read.counted (body_len (lines_of input) _ _ read.counted read.head_is.len) ran.judgement.judged
           (all-counted chosen.profile head.declared (lines_of input) c.in_ok-run.run'.taker c.counts-counts.result ran.taken c.counts-counts.ensures),
       c.in_ok-ending-2.ensures.status,

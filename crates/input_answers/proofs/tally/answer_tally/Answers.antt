@@ -1,6 +1,6 @@
 use Rattle.std.proofs.Common.{◌∙◌, ℕ, List, ap, subst, sym}
 use Rattle.std.proofs.lemmas.Result.{IfOk-weaker}
-use Rattle.journal_file.specs.Faults.{IsBadJournal, IsRefused}
+use Rattle.journal_file.specs.Faults.{IsBadJournal, IsSavedTextRefused}
 use Rattle.tally_tree.specs.Docs.{DocView}
 use Rattle.verdict_report.specs.Refusals.{refusal_text}
 use Rattle.input_answers.specs.declared.outcome.Status.{Status}
@@ -25,5 +25,5 @@ returns-in-Err-At g c =
     subst (λ (t : List ℕ). DueTally c.args.from c.args.to input t ending.status) (sym (is.0 ∙ ap refusal_text c.refusal_of_journal.ensures))
     (subst (λ (s : Status). DueTally c.args.from c.args.to input (refusal_text (journal_refusal c.in-Err-At.line c.in-Err-At.cause)) s) (sym is.1)
     (bad_journal c.in-Err-At.line c.in-Err-At.cause (subst (IsBadJournal input) c.in-Err-At.field-0-is c.in-Err-At.ensures.bad)
-    (subst (IsRefused input) c.in-Err-At.field-0-is c.in-Err-At.ensures.refused))))
+    (subst (IsSavedTextRefused input) c.in-Err-At.field-0-is c.in-Err-At.ensures.refused))))
     c.refusal.ensures

@@ -3,7 +3,7 @@ use Rattle.std.proofs.lemmas.Result.{IfOk-weaker}
 use Rattle.verdict_report.specs.declared.refusal.Refusal.TheVariants.{BadRange}
 use Rattle.verdict_report.specs.Refusals.{refusal_text}
 use Rattle.tally_tree.specs.Docs.{DocView, HasBlocks, IsRange, doc_view, setting_now}
-use Rattle.tally_tree.specs.Tallies.{Counted}
+use Rattle.tally_tree.specs.Tallies.{TallyCounts}
 use Rattle.input_answers.specs.declared.outcome.Status.{Status}
 use Rattle.input_answers.specs.declared.outcome.Status.TheVariants.{Done}
 use Rattle.input_answers.specs.DueTally.{IsDueRange, bad_range, tallied}
@@ -21,12 +21,12 @@ returns-then-not-has_blocks g c =
     c.refusal.ensures
 
 -- what is due for the document that was made is due for that of the outline
-due : (doc : DocView) (from to : ℕ) (text : List ℕ) → HasBlocks doc from to → (v : Counted) × IsRange doc from to v × (text ≡ tally_text from to (setting_now doc).declared v) → IsDueRange doc from to text Done
+due : (doc : DocView) (from to : ℕ) (text : List ℕ) → HasBlocks doc from to → (v : TallyCounts) × IsRange doc from to v × (text ≡ tally_text from to (setting_now doc).declared v) → IsDueRange doc from to text Done
 due doc from to text has told = subst (λ (t : List ℕ). IsDueRange doc from to t Done) (sym told.2) (tallied told.0 has told.1)
 
 pub returns : goal.returns
 returns g c =
     let there : c.has_blocks.result ≡ true = c.if-not-has_blocks.false in
     due (doc_view c.args.outline) c.args.from c.args.to c.in_ok-text.text.items (c.has_blocks.ensures.0 there)
-    (subst (λ (d : DocView). (v : Counted) × IsRange d c.args.from c.args.to v × (c.in_ok-text.text.items ≡ tally_text c.args.from c.args.to (setting_now d).declared v))
+    (subst (λ (d : DocView). (v : TallyCounts) × IsRange d c.args.from c.args.to v × (c.in_ok-text.text.items ≡ tally_text c.args.from c.args.to (setting_now d).declared v))
     (λ i. record { opening = c.in_ok-doc.ensures.opening i; entries = c.in_ok-doc.ensures.entries i }) c.in_ok-text.ensures)

@@ -1,19 +1,19 @@
 use Rattle.std.proofs.Common.{arith, codes, map, sym, subst}
-use Rattle.journal_file.specs.BlockForms.{AreBlocks}
-use Rattle.journal_file.specs.Reading.{HasRead, IsFault}
+use Rattle.journal_file.specs.BlockForms.{BlocksForm}
+use Rattle.journal_file.specs.Reading.{FormHasRead, IsFault}
 use Rattle.journal_file.specs.SavedForms.{AreFirst, block_words}
 use Rattle.journal_file.proofs.OpeningReadings.{counted_fault, counted_read, no_blocks}
 use Rattle.journal_file.proofs.blocks.read_blocks.Goals as goal
 
 pub returns-in-Ok-clause-read : goal.returns-in-Ok-clause-read
 returns-in-Ok-clause-read c =
-    subst (λ n. HasRead AreFirst c.args.start.rest.now c.args.start.taken (n, map block_words c.in-Ok.texts) c.in-Ok.behind.rest.now c.in-Ok.behind.taken) (sym c.in-Ok.ensures.len)
-    (counted_read (codes "blocks ") 0 65536 (omega arith) (λ many. AreBlocks many) c.args.start.rest.now c.args.start.taken c.in-Some.many c.in-Some.at.rest.now c.in-Some.at.taken (map block_words c.in-Ok.texts) c.in-Ok.behind.rest.now c.in-Ok.behind.taken
+    subst (λ n. FormHasRead AreFirst c.args.start.rest.now c.args.start.taken (n, map block_words c.in-Ok.texts) c.in-Ok.behind.rest.now c.in-Ok.behind.taken) (sym c.in-Ok.ensures.len)
+    (counted_read (codes "blocks ") 0 65536 (omega arith) (λ many. BlocksForm many) c.args.start.rest.now c.args.start.taken c.in-Some.many c.in-Some.at.rest.now c.in-Some.at.taken (map block_words c.in-Ok.texts) c.in-Ok.behind.rest.now c.in-Ok.behind.taken
     c.in-Some.ensures.count c.in-Some.ensures.taken c.in-Ok.ensures.read)
 
 pub returns-in-Err-clause-fault : goal.returns-in-Err-clause-fault
 returns-in-Err-clause-fault c =
-    counted_fault (codes "blocks ") 0 65536 (omega arith) (λ many. AreBlocks many) c.args.start.rest.now c.args.start.taken c.in-Some.many c.in-Some.at.rest.now c.in-Some.at.taken
+    counted_fault (codes "blocks ") 0 65536 (omega arith) (λ many. BlocksForm many) c.args.start.rest.now c.args.start.taken c.in-Some.many c.in-Some.at.rest.now c.in-Some.at.taken
     c.in-Some.ensures.count c.in-Some.ensures.taken c.in-Err.fault c.in-Err.ensures.fault
 
 pub returns-in-None-clause-fault : goal.returns-in-None-clause-fault

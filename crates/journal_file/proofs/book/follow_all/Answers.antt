@@ -4,7 +4,7 @@ use Rattle.std.specs.Vec.Iter.{into_iter_items, into_iter_len}
 use Rattle.edit_journal.specs.declared.edit.Entry.{Entry}
 use Rattle.edit_book.specs.Outlines.{MayCome}
 use Rattle.std.proofs.lemmas.List.{nil_from_length}
-use Rattle.journal_file.specs.SavedParts.{IsWritten, MayAllCome}
+use Rattle.journal_file.specs.SavedParts.{IsSpelledEntry, MayAllCome}
 use Rattle.journal_file.proofs.Reopened.{short_given}
 use Rattle.journal_file.proofs.book.follow_all.Goals as goal
 
@@ -18,7 +18,7 @@ loop-entry-init c =
       left = left;
       come = subst (λ (es : List Entry). MayAllCome c.args.outline.now.opening es (into_iter_items c.into_iter-entry-iterator.result)) (sym c.requires.none)
           (subst (MayAllCome c.args.outline.now.opening []) (sym given) c.requires.come);
-      written = subst (All IsWritten) (sym given) c.requires.written;
+      written = subst (All IsSpelledEntry) (sym given) c.requires.written;
     }
 
 pub follow-requires-clause-comes : goal.follow-requires-clause-comes
@@ -32,7 +32,7 @@ pub follow-requires-clause-short : goal.follow-requires-clause-short
 follow-requires-clause-short c =
     let at = c.loop-entry in
     let rest : into_iter_items at.entry-iterator ≡ c.in-Some.entry ∷ into_iter_items c.next.new.self = c.in-Some.ensures.steps.0 in
-    short_given c.in-Some.entry.edit (All-head IsWritten c.in-Some.entry (into_iter_items c.next.new.self) (subst (All IsWritten) rest at.invariant.written)).given
+    short_given c.in-Some.entry.edit (All-head IsSpelledEntry c.in-Some.entry (into_iter_items c.next.new.self) (subst (All IsSpelledEntry) rest at.invariant.written)).given
 
 pub loop-entry-preserved : goal.loop-entry-preserved
 loop-entry-preserved c =
@@ -46,7 +46,7 @@ loop-entry-preserved c =
       all = ap (λ (es : List Entry). es ++ more) entered ∙ (append_assoc at.outline.entries (e ∷ []) more ∙ (ap (λ (es : List Entry). at.outline.entries ++ es) (sym rest) ∙ at.invariant.all));
       left = let was = at.invariant.left in let gone = c.in-Some.ensures.steps.1 in let short = ap length rest in omega arith;
       come = subst (λ (es : List Entry). MayAllCome c.args.outline.now.opening es more) (sym entered) (subst (MayAllCome c.args.outline.now.opening at.outline.entries) rest at.invariant.come).1;
-      written = All-tail IsWritten e more (subst (All IsWritten) rest at.invariant.written);
+      written = All-tail IsSpelledEntry e more (subst (All IsSpelledEntry) rest at.invariant.written);
     }
 
 pub returns-clause-opening : goal.returns-clause-opening

@@ -3,7 +3,7 @@ use Rattle.edit_journal.specs.declared.edit.Entry.{Entry}
 use Rattle.edit_journal.specs.declared.opening.Opening.{Opening}
 use Rattle.journal_file.specs.EntryForms.{AreEntries}
 use Rattle.journal_file.specs.Faults.{AreEntriesFault}
-use Rattle.journal_file.specs.Reading.{HasRead}
+use Rattle.journal_file.specs.Reading.{FormHasRead}
 use Rattle.journal_file.specs.SavedForms.{entry_said}
 use Rattle.journal_file.specs.SavedParts.{MayAllCome, opening_with}
 use Rattle.journal_file.proofs.EntriesReadings.{entries_past}
@@ -25,5 +25,5 @@ returns-in_ok-saved-in-Ok-clause-read c =
       said.0,
       c.in_ok-saved-in-Ok.ensures.entries ∙ said.1,
       c.in-Ok.at.taken,
-      subst (λ r. HasRead (AreEntries c.args.opening.entries) c.args.start.rest.now c.args.start.taken said.0 r c.in-Ok.at.taken) none said.2,
+      subst (λ r. FormHasRead (AreEntries c.args.opening.entries) c.args.start.rest.now c.args.start.taken said.0 r c.in-Ok.at.taken) none said.2,
     )

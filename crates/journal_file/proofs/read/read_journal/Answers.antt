@@ -1,5 +1,5 @@
 use Rattle.std.proofs.lemmas.Result.{IfErr-weaker, IfOk-weaker}
-use Rattle.journal_file.specs.Faults.{AreEntriesFault, IsBadJournal, IsOneSpelling, IsRefused}
+use Rattle.journal_file.specs.Faults.{AreEntriesFault, IsBadJournal, IsOneSpelling, IsSavedTextRefused}
 use Rattle.journal_file.specs.SavedParts.{opening_with}
 use Rattle.journal_file.proofs.JournalReadings.{bad_refused, opening_bad}
 use Rattle.journal_file.proofs.WholeReadings.{IsSavedBy, lawful_so, opening_bounds, saved_once, saved_whole, spelt_so, whole_bad}
@@ -33,7 +33,7 @@ returns-in-Ok-clause-bad c =
 
 pub returns-in-Ok-clause-refused : goal.returns-in-Ok-clause-refused
 returns-in-Ok-clause-refused c =
-    IfErr-weaker c.read_behind.result (AreEntriesFault (opening_with c.in-Ok.opening.head c.in-Ok.opening.profile c.in-Ok.opening.texts) c.in-Ok.opening.entries c.in-Ok.at.rest.now c.in-Ok.at.taken) (IsRefused c.args.bytes.now)
+    IfErr-weaker c.read_behind.result (AreEntriesFault (opening_with c.in-Ok.opening.head c.in-Ok.opening.profile c.in-Ok.opening.texts) c.in-Ok.opening.entries c.in-Ok.at.rest.now c.in-Ok.at.taken) (IsSavedTextRefused c.args.bytes.now)
     (λ fault stops. bad_refused c.args.bytes.now fault (whole_bad c.args.bytes.now c.in-Ok.opening c.in-Ok.at.rest.now c.in-Ok.at.taken c.in-Ok.ensures.read fault stops)) c.read_behind.ensures.fault
 
 pub returns-in-Err-clause-bad : goal.returns-in-Err-clause-bad

@@ -1,6 +1,6 @@
 use Rattle.std.proofs.Common.{arith, ◌≡◌, ◌∙◌, ◌+◌, ◌-◌, suc, ap, sym, subst, length, length-append, append_assoc, ◌++◌, ◌∷◌, []}
-use Rattle.journal_file.specs.Reading.{HasRead, IsStop}
-use Rattle.journal_file.specs.Texts.{AreTexts}
+use Rattle.journal_file.specs.Reading.{FormHasRead, IsFormStop}
+use Rattle.journal_file.specs.Texts.{TextLinesForm}
 use Rattle.journal_file.proofs.Readings.{read-more, stop-here, text_has_none}
 use Rattle.journal_file.proofs.text.read_text.Goals as goal
 
@@ -13,7 +13,7 @@ push-requires-clause-few c = omega (arith, c.requires.few, c.loop-i-test.true, c
 pub returns-in-None-clause-fault : goal.returns-in-None-clause-fault
 returns-in-None-clause-fault c =
     let many : c.loop-i.i + suc (c.args.many - c.loop-i.i - 1) ≡ c.args.many = omega (arith, c.loop-i-test.true) in
-    subst (λ n. IsStop (AreTexts n) c.args.start.rest.now c.args.start.taken (c.loop-i.at.taken + 1)) many
+    subst (λ n. IsFormStop (TextLinesForm n) c.args.start.rest.now c.args.start.taken (c.loop-i.at.taken + 1)) many
     (stop-here c.loop-i.i (c.args.many - c.loop-i.i - 1) c.args.start.rest.now c.args.start.taken c.loop-i.invariant.1.0 c.loop-i.at.rest.now c.loop-i.at.taken c.loop-i.invariant.1.3 c.in-None.ensures.text)
 
 pub loop-i-preserved : goal.loop-i-preserved
@@ -24,7 +24,7 @@ loop-i-preserved c =
         so_far.0 ++ c.in-Some.text.now ∷ [],
         c.in_ok-push-in-Some.ensures.ok ∙ ap (λ t. t ++ c.in-Some.text.now ∷ []) so_far.1 ∙ append_assoc c.args.texts.now so_far.0 (c.in-Some.text.now ∷ []),
         omega (arith, so_far.2, length-append so_far.0 (c.in-Some.text.now ∷ [])),
-        subst (λ n. HasRead (AreTexts (c.loop-i.i + 1)) c.args.start.rest.now c.args.start.taken (so_far.0 ++ c.in-Some.text.now ∷ []) c.in-Some.next.rest.now n) (sym c.in-Some.ensures.count)
+        subst (λ n. FormHasRead (TextLinesForm (c.loop-i.i + 1)) c.args.start.rest.now c.args.start.taken (so_far.0 ++ c.in-Some.text.now ∷ []) c.in-Some.next.rest.now n) (sym c.in-Some.ensures.count)
             (read-more c.loop-i.i c.args.start.rest.now c.args.start.taken so_far.0 c.loop-i.at.rest.now c.loop-i.at.taken c.in-Some.text.now c.in-Some.next.rest.now so_far.3 c.in-Some.ensures.text),
       ),
     )

@@ -1,6 +1,6 @@
 use Rattle.std.proofs.Common.{arith, ◌≡◌, inl, inr, sym, subst}
-use Rattle.knitout_reader.specs.Numbers.{number_of}
-use Rattle.journal_file.specs.Words.{IsFront}
+use Rattle.knitout_reader.specs.Numbers.{value_of_digits}
+use Rattle.journal_file.specs.Words.{BeginsWithNumber}
 use Rattle.journal_file.proofs.Numbers.{front-found, none-found}
 use Rattle.journal_file.proofs.words.number.Goals as goal
 
@@ -16,8 +16,8 @@ returns-then-value-eq-TOO_GREAT c =
 
 pub returns : goal.returns
 returns c =
-    let small : c.value_of-value.result ≡ number_of c.split_digits.result.0.now = omega (arith, c.if-value-eq-TOO_GREAT.false, c.value_of-value.ensures) in
+    let small : c.value_of-value.result ≡ value_of_digits c.split_digits.result.0.now = omega (arith, c.if-value-eq-TOO_GREAT.false, c.value_of-value.ensures) in
     let plain = c.are_plain.ensures.yes c.if-not-are_plain.false in
-    subst (λ n. IsFront c.args.text.now n c.split_digits.result.1.now) (sym small)
+    subst (λ n. BeginsWithNumber c.args.text.now n c.split_digits.result.1.now) (sym small)
     (front-found c.args.text.now _ _ c.split_digits.ensures.split c.split_digits.ensures.digits c.split_digits.ensures.ends plain.0 plain.1
     (omega (arith, c.if-value-eq-TOO_GREAT.false, c.value_of-value.ensures)))

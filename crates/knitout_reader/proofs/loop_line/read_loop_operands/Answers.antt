@@ -3,11 +3,11 @@ use Rattle.std.proofs.lemmas.Result.{IfOk-weaker}
 use Rattle.knitout_reader.specs.Tokens.{tokens_of}
 use Rattle.knitout_reader.proofs.FewCarriers.{few_at_loop}
 use Rattle.knitout_reader.proofs.Marks.{loop-reading}
-use Rattle.knitout_reader.proofs.OperandShapes.{unformed}
+use Rattle.knitout_reader.proofs.OperandShapes.{no_needle_no_loop_shape}
 use Rattle.knitout_reader.proofs.loop_line.read_loop_operands.Goals as goal
 
 pub returns-in_default-clause-reads : goal.returns-in_default-clause-reads
-returns-in_default-clause-reads c = inr (unformed c.args.which _ _ c.args.dir refl c.in_default.ensures, c.no_shape.ensures)
+returns-in_default-clause-reads c = inr (no_needle_no_loop_shape c.args.which _ _ c.args.dir refl c.in_default.ensures, c.no_shape.ensures)
 
 pub returns-clause-reads : goal.returns-clause-reads
 returns-clause-reads c =

@@ -2,12 +2,12 @@ use Rattle.std.proofs.Common.{inr, [], refl, subst}
 use Rattle.knitout_reader.specs.Shapes.{BeginsWithNeedle}
 use Rattle.knitout_reader.specs.Tokens.{tokens_of}
 use Rattle.knitout_reader.proofs.Marks.{needle-reading}
-use Rattle.knitout_reader.proofs.OperandShapes.{unnamed}
+use Rattle.knitout_reader.proofs.OperandShapes.{more_tokens_no_needle_shape}
 use Rattle.knitout_reader.proofs.TokenRuns.{none_found}
 use Rattle.knitout_reader.proofs.needle_line.read_needle_operation.Goals as goal
 
 pub returns-in_default : goal.returns-in_default
-returns-in_default c = λ names. inr (unnamed c.args.which _ (λ bed at. c.in_default.ensures bed at []), c.no_shape.ensures)
+returns-in_default c = λ names. inr (more_tokens_no_needle_shape c.args.which _ (λ bed at. c.in_default.ensures bed at []), c.no_shape.ensures)
 
 pub returns : goal.returns
 returns c = λ names.

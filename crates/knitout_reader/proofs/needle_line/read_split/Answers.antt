@@ -3,12 +3,12 @@ use Rattle.std.proofs.lemmas.Result.{IfOk-weaker}
 use Rattle.knitout_reader.specs.Shapes.{SplitShape}
 use Rattle.knitout_reader.specs.Tokens.{tokens_of}
 use Rattle.knitout_reader.proofs.FewCarriers.{few_at_split}
-use Rattle.knitout_reader.proofs.OperandShapes.{undivided, undivided-2}
+use Rattle.knitout_reader.proofs.OperandShapes.{no_needle_no_split_shape, undivided-2}
 use Rattle.knitout_reader.proofs.needle_line.read_split.Goals as goal
 
 pub returns-in_default-next_needle-clause-reads : goal.returns-in_default-next_needle-clause-reads
 returns-in_default-next_needle-clause-reads c =
-    inr (undivided _ _ _ c.in-Some.ensures c.in_default-next_needle.ensures, c.no_shape-in_default-next_needle.ensures)
+    inr (no_needle_no_split_shape _ _ _ c.in-Some.ensures c.in_default-next_needle.ensures, c.no_shape-in_default-next_needle.ensures)
 
 pub returns-in_default-next_needle-2-clause-reads : goal.returns-in_default-next_needle-2-clause-reads
 returns-in_default-next_needle-2-clause-reads c =

@@ -1,12 +1,12 @@
 use Rattle.std.proofs.Common.{inl, inr, [], refl, subst}
 use Rattle.knitout_reader.specs.Shapes.{BeginsWithNeedle, XferShape}
 use Rattle.knitout_reader.specs.Tokens.{tokens_of}
-use Rattle.knitout_reader.proofs.OperandShapes.{unmoved, unmoved-2}
+use Rattle.knitout_reader.proofs.OperandShapes.{no_needle_no_xfer_shape, unmoved-2}
 use Rattle.knitout_reader.proofs.TokenRuns.{none_found}
 use Rattle.knitout_reader.proofs.needle_line.read_xfer.Goals as goal
 
 pub returns-in_default : goal.returns-in_default
-returns-in_default c = λ names. inr (unmoved _ c.in_default.ensures, c.no_shape.ensures)
+returns-in_default c = λ names. inr (no_needle_no_xfer_shape _ c.in_default.ensures, c.no_shape.ensures)
 
 pub returns-in_default-next_needle : goal.returns-in_default-next_needle
 returns-in_default-next_needle c = λ names.

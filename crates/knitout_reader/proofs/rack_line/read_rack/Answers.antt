@@ -1,11 +1,11 @@
 use Rattle.std.proofs.Common.{◌∷◌, inl, inr, codes, ap, ◌∙◌}
 use Rattle.knitout_reader.specs.Shapes.{RackShape}
-use Rattle.knitout_reader.proofs.OperandShapes.{unracked}
+use Rattle.knitout_reader.proofs.OperandShapes.{no_rack_no_shape}
 use Rattle.knitout_reader.proofs.TokenRuns.{none_found}
 use Rattle.knitout_reader.proofs.rack_line.read_rack.Goals as goal
 
 pub returns-in_default-rack : goal.returns-in_default-rack
-returns-in_default-rack c = λ names. inr (unracked _ _ _ c.in-Some.ensures.split c.in_default-rack.ensures, c.no_shape-in_default-rack.ensures)
+returns-in_default-rack c = λ names. inr (no_rack_no_shape _ _ _ c.in-Some.ensures.split c.in_default-rack.ensures, c.no_shape-in_default-rack.ensures)
 
 pub returns : goal.returns
 returns c = λ names.

@@ -2,7 +2,7 @@ use Rattle.std.proofs.Common.{◌≡◌, ◌∙◌, ℕ, List, length, ap, flat_
 use Rattle.knit_ports.specs.WholeLines.{with_feed}
 use Rattle.input_answers.specs.DueReplay.{journal_refusal}
 use Rattle.input_answers.specs.declared.outcome.Status.TheVariants as status
-use Rattle.journal_file.specs.Faults.{IsBadJournal, IsRefused}
+use Rattle.journal_file.specs.Faults.{IsBadJournal, IsSavedTextRefused}
 use Rattle.verdict_report.specs.declared.refusal.Refusal.{Refusal}
 use Rattle.live_talk.specs.Begins.{RefusesText}
 use Rattle.live_talk.proofs.Documents.{begins-again, refused-again}
@@ -19,4 +19,4 @@ pub returns-in-Err-At : goal.returns-in-Err-At
 returns-in-Err-At g c = λ told is same.
     subst (λ (r : Refusal). RefusesText c.args.plan.now told r status.BadInput) (sym (c.refusal_of_journal.ensures ∙ (λ i. journal_refusal (c.in-Err-At.line-is i) (c.in-Err-At.cause-is i))))
     (refused-again c.args.plan.now told c.args.lines c.in_ok-bytes.bytes.items c.in-Err-At.line c.in-Err-At.cause is same c.in_ok-bytes.ensures
-    (subst (IsBadJournal c.in_ok-bytes.bytes.items) c.in-Err-At.field-0-is c.in-Err-At.ensures.bad) (subst (IsRefused c.in_ok-bytes.bytes.items) c.in-Err-At.field-0-is c.in-Err-At.ensures.refused))
+    (subst (IsBadJournal c.in_ok-bytes.bytes.items) c.in-Err-At.field-0-is c.in-Err-At.ensures.bad) (subst (IsSavedTextRefused c.in_ok-bytes.bytes.items) c.in-Err-At.field-0-is c.in-Err-At.ensures.refused))

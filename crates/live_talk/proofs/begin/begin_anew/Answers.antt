@@ -1,6 +1,6 @@
 use Rattle.std.proofs.Common.{◌≡◌, ◌∙◌, ℕ, List, length, ap, subst, sym}
 use Rattle.file_run.specs.Bodies.{body_of}
-use Rattle.input_answers.specs.Due.{Fits, IsSizeRefusal}
+use Rattle.input_answers.specs.Due.{BodyFits, IsSizeRefusal}
 use Rattle.knitout_reader.specs.Head.{IsHead, IsHeadFault}
 use Rattle.live_talk.specs.Begins.{bad_head, too_large}
 use Rattle.live_talk.proofs.Documents.{begins-anew}
@@ -19,4 +19,4 @@ pub returns : goal.returns
 returns g c = λ told is same.
     let b = c.in_ok-begun-in-None.ensures in
     begins-anew c.args.plan.now told c.in_ok-text.text c.in-Ok.head b.0 c.in_ok-begun-in-None.begun is (c.in_ok-text.ensures ∙ sym same) c.in-Ok.ensures.head
-    (subst (Fits c.args.plan.now.chosen.block) c.body_len.ensures c.in-None.ensures) b.1 b.2
+    (subst (BodyFits c.args.plan.now.chosen.block) c.body_len.ensures c.in-None.ensures) b.1 b.2

@@ -3,7 +3,7 @@ use Rattle.std.proofs.lemmas.List.Elements.{All-weaker}
 use Rattle.knit_base.specs.Limits.{IsLawfulProfile}
 use Rattle.edit_journal.specs.declared.edit.Entry.{Entry}
 use Rattle.edit_journal.specs.declared.opening.Opening.{Opening}
-use Rattle.journal_file.specs.SavedParts.{IsWritten}
+use Rattle.journal_file.specs.SavedParts.{IsSpelledEntry}
 use Rattle.live_talk.specs.Begins.{HasBegun}
 use Rattle.live_talk.specs.declared.begin.Begun.{Begun}
 use Rattle.live_talk.proofs.Documents.{if-ok}
@@ -15,7 +15,7 @@ begin_at-requires-clause-profile g c κs within = subst (λ (o : Opening). IsLaw
 pub begin_at-requires-clause-sessions : goal.begin_at-requires-clause-sessions
 begin_at-requires-clause-sessions g c κs within =
     subst (All (λ (e : Entry). e.session < 64)) (sym c.in_ok-book.ensures.entries)
-    (All-weaker IsWritten (λ (e : Entry). e.session < 64) (λ (e : Entry) w. w.session) c.args.saved.journal.entries c.requires.bounds.written)
+    (All-weaker IsSpelledEntry (λ (e : Entry). e.session < 64) (λ (e : Entry) w. w.session) c.args.saved.journal.entries c.requires.bounds.written)
 
 pub returns : goal.returns
 returns g c =

@@ -1,6 +1,6 @@
 use Rattle.std.proofs.Common.{◌∙◌, ◌++◌, List, [], inr, refl, subst}
 use Rattle.std.specs.Prelude.{Err}
-use Rattle.knit_ports.specs.Pieces.{GoesOn, Piece}
+use Rattle.knit_ports.specs.Pieces.{PiecesGoOn, Piece}
 use Rattle.knit_ports.proofs.SaidPieces.{goes-trans}
 use Rattle.input_answers.specs.Asked.{as_json}
 use Rattle.input_answers.specs.declared.outcome.Status.TheVariants as status
@@ -30,7 +30,7 @@ returns-in-Ok-hear_opening-clause-served g c =
 pub returns-in-Err-At-clause-served : goal.returns-in-Err-At-clause-served
 returns-in-Err-At-clause-served g c =
     let h = c.in-Err-At.ensures.heard in
-    let said = subst (λ (r : Refusal). (more : List Piece) × GoesOn (g.T.Talk.told c.hear_opening.new.talk) (g.T.Talk.told c.refuse.new.talk) more × IsEnded (refusal_text r) status.BadInput more c.refuse.result) (c.line_refusal.ensures ∙ (λ i. line_refusal (c.in-Err-At.line-is i) (c.in-Err-At.cause-is i))) c.refuse.ensures.said in
+    let said = subst (λ (r : Refusal). (more : List Piece) × PiecesGoOn (g.T.Talk.told c.hear_opening.new.talk) (g.T.Talk.told c.refuse.new.talk) more × IsEnded (refusal_text r) status.BadInput more c.refuse.result) (c.line_refusal.ensures ∙ (λ i. line_refusal (c.in-Err-At.line-is i) (c.in-Err-At.cause-is i))) c.refuse.ensures.said in
     serve-refused (as_json c.args.plan.now.command) c.args.plan.now.chosen (g.T.Talk.told c.args.talk.now) (g.T.Talk.told c.hear_opening.new.talk) (g.T.Talk.told c.refuse.new.talk) h.0 c.hear_opening.new.ear.pending _ status.BadInput c.refuse.result h.1
     (bad_line c.in-Err-At.line c.in-Err-At.cause (subst (λ (f : OpeningFault). EndsOpening h.0 c.hear_opening.new.ear.pending (Err f)) c.in-Err-At.field-0-is h.2)) said
 

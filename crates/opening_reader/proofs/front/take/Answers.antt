@@ -1,7 +1,7 @@
 use Rattle.std.proofs.Common.{ℕ, Some, ◌≡◌, ◌∙◌, ◌+◌, ◌≤◌, ap, sym, subst}
 use Rattle.knit_base.specs.Lines.{HasNoLineEnd, without_return}
 use Rattle.knit_ports.specs.declared.limit.TheConstants.{HEARD_LIMIT}
-use Rattle.opening_reader.specs.Fronts.{IsTaken}
+use Rattle.opening_reader.specs.Fronts.{IsOpeningLineTaken}
 use Rattle.opening_reader.specs.Openings.{CanBeRead, fault_within, limit_behind, unreadable}
 use Rattle.opening_reader.proofs.ReadLines.{kept-bad, kept-good, one-without}
 use Rattle.opening_reader.proofs.TakenLines.{limit-is, limit-low}
@@ -22,7 +22,7 @@ returns-in-Ok c = λ lines line holds kept.
     let read : without_return c.args.kept.now ≡ without_return line = kept-good limit line c.args.kept.now low kept (ap (fault_within limit) (sym c.without_return.ensures) ∙ p.0) in
     let same : c.in-Ok.line.now ≡ without_return line = p.1 ∙ c.without_return.ensures ∙ read in
     let good : CanBeRead (limit_behind lines) c.in-Ok.line.now = subst (λ (n : ℕ). CanBeRead n c.in-Ok.line.now) known (ap (fault_within limit) p.1 ∙ p.0) in
-    subst (IsTaken c.take_readable.result c.take_readable.new.text lines) same (c.take_readable.ensures lines holds good)
+    subst (IsOpeningLineTaken c.take_readable.result c.take_readable.new.text lines) same (c.take_readable.ensures lines holds good)
 
 pub returns-in-Err : goal.returns-in-Err
 returns-in-Err c = λ lines line holds kept.

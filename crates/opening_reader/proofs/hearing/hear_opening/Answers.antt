@@ -1,17 +1,17 @@
 use Rattle.std.proofs.Common.{◌∙◌, map, refl, subst}
 use Rattle.knit_base.specs.Lines.{without_return}
-use Rattle.knit_ports.specs.Ears.{IsHeard}
-use Rattle.opening_reader.proofs.HeardSoFar.{calm-stopped, calm-told, failed, few-told, goes-on, input-over, never-over, opened, short-told, starts, stopped, texts-told}
+use Rattle.knit_ports.specs.Ears.{IsLineHeard}
+use Rattle.opening_reader.proofs.HeardSoFar.{calm-stopped, calm-told, ended_by_failure, few-told, goes-on, input-over, never-over, ended_by_whole_opening, short-told, nothing_heard_so_far, ended_by_refused_line, texts-told}
 use Rattle.opening_reader.proofs.ReadLines.{kept-one}
 use Rattle.opening_reader.proofs.TakenLines.{few-of, front-of, has-room, whole-of}
 use Rattle.opening_reader.proofs.hearing.hear_opening.Goals as goal
 
 pub hearing-init : goal.hearing-init
-hearing-init g c = record { calm = refl; so_far = starts (g.T.Talk.told c.args.talk.now) _ _ _ c.requires.fresh c.new-text.ensures refl refl refl }
+hearing-init g c = record { calm = refl; so_far = nothing_heard_so_far (g.T.Talk.told c.args.talk.now) _ _ _ c.requires.fresh c.new-text.ensures refl refl refl }
 
 pub returns-in-Err-clause-heard : goal.returns-in-Err-clause-heard
 returns-in-Err-clause-heard g c =
-    failed (g.T.Talk.told c.args.talk.now) (g.T.Talk.told c.hearing.talk) (g.T.Talk.told c.hear.new.talk) c.hearing.ear c.hear.new.self c.hearing.text c.hearing.front c.hearing.i c.hearing.invariant.so_far c.in-Err.ensures.front
+    ended_by_failure (g.T.Talk.told c.args.talk.now) (g.T.Talk.told c.hearing.talk) (g.T.Talk.told c.hear.new.talk) c.hearing.ear c.hear.new.self c.hearing.text c.hearing.front c.hearing.i c.hearing.invariant.so_far c.in-Err.ensures.front
 
 pub finish-requires : goal.finish-requires
 finish-requires g c =
@@ -45,9 +45,9 @@ take-requires-clause-room g c = let s = c.hearing.invariant.so_far in has-room c
 
 pub returns-in-Err-take-clause-heard : goal.returns-in-Err-take-clause-heard
 returns-in-Err-take-clause-heard g c =
-    let h = subst (IsHeard (g.T.Talk.told c.hearing.talk) (g.T.Talk.told c.hear.new.talk) c.hearing.ear c.hear.new.self) c.in-LineFeed.is c.in-Ok.ensures.heard in
+    let h = subst (IsLineHeard (g.T.Talk.told c.hearing.talk) (g.T.Talk.told c.hear.new.talk) c.hearing.ear c.hear.new.self) c.in-LineFeed.is c.in-Ok.ensures.heard in
     let s = c.hearing.invariant.so_far in
-    stopped (g.T.Talk.told c.args.talk.now) (g.T.Talk.told c.hearing.talk) (g.T.Talk.told c.hear.new.talk) c.hearing.ear c.hear.new.self c.hearing.text c.hearing.front c.hearing.i s h c.in-Err-take.fault
+    ended_by_refused_line (g.T.Talk.told c.args.talk.now) (g.T.Talk.told c.hearing.talk) (g.T.Talk.told c.hear.new.talk) c.hearing.ear c.hear.new.self c.hearing.text c.hearing.front c.hearing.i s h c.in-Err-take.fault
     (c.in-Err-take.ensures (map without_return s.came) h.line s.holds (c.line-in-hearing.ensures ∙ h.kept))
 
 pub returns-in-Err-take-clause-cause : goal.returns-in-Err-take-clause-cause
@@ -59,10 +59,10 @@ returns-in-Err-take-clause-cause g c =
 
 pub returns-in-Some-clause-heard : goal.returns-in-Some-clause-heard
 returns-in-Some-clause-heard g c =
-    let h = subst (IsHeard (g.T.Talk.told c.hearing.talk) (g.T.Talk.told c.hear.new.talk) c.hearing.ear c.hear.new.self) c.in-LineFeed.is c.in-Ok.ensures.heard in
+    let h = subst (IsLineHeard (g.T.Talk.told c.hearing.talk) (g.T.Talk.told c.hear.new.talk) c.hearing.ear c.hear.new.self) c.in-LineFeed.is c.in-Ok.ensures.heard in
     let s = c.hearing.invariant.so_far in
     let held = c.in-Ok-take.ensures (map without_return s.came) h.line s.holds (c.line-in-hearing.ensures ∙ h.kept) in
-    opened (g.T.Talk.told c.args.talk.now) (g.T.Talk.told c.hearing.talk) (g.T.Talk.told c.hear.new.talk) c.hearing.ear c.hear.new.self c.hearing.text c.hearing.front c.hearing.i s h _
+    ended_by_whole_opening (g.T.Talk.told c.args.talk.now) (g.T.Talk.told c.hearing.talk) (g.T.Talk.told c.hear.new.talk) c.hearing.ear c.hear.new.self c.hearing.text c.hearing.front c.hearing.i s h _
     (whole-of c.in-Ok-take.front (map without_return s.came) (without_return h.line) c.take.new.text c.in-Some.kind _ held c.in-Some.ensures
     (front-of c.hearing.front (map without_return s.came) c.hearing.text s.holds s.wanted).unfinished refl refl refl)
 
@@ -78,7 +78,7 @@ returns-in-Some-clause-few g c =
 
 pub hearing-preserved : goal.hearing-preserved
 hearing-preserved g c =
-    let h = subst (IsHeard (g.T.Talk.told c.hearing.talk) (g.T.Talk.told c.hear.new.talk) c.hearing.ear c.hear.new.self) c.in-LineFeed.is c.in-Ok.ensures.heard in
+    let h = subst (IsLineHeard (g.T.Talk.told c.hearing.talk) (g.T.Talk.told c.hear.new.talk) c.hearing.ear c.hear.new.self) c.in-LineFeed.is c.in-Ok.ensures.heard in
     let s = c.hearing.invariant.so_far in
     record {
       calm = c.in-Ok.ensures.calm ∙ c.hearing.invariant.calm;

@@ -4,7 +4,7 @@ use Rattle.serde_json.specs.Data.{Members, array, member, no_members}
 use Rattle.serde_json.specs.View.{items_of}
 use Rattle.serde_json.specs.Written.{members_text}
 use Rattle.pass_grouping.specs.declared.operation.Class.TheVariants as class
-use Rattle.tally_tree.specs.Tallies.{Counted, counted}
+use Rattle.tally_tree.specs.Tallies.{TallyCounts, counts_of_tally}
 use Rattle.verdict_report.specs.VerdictJson.{list_value}
 use Rattle.reply_report.specs.TalkJson.{count_member, frame_members}
 use Rattle.reply_report.specs.TallyJson.{carrier_values, class_count, needle_value}
@@ -12,7 +12,7 @@ use Rattle.reply_report.proofs.tally_json.append_tally.Goals as goal
 
 pub returns : goal.returns
 returns c =
-    let v : Counted = counted c.args.tally.now in
+    let v : TallyCounts = counts_of_tally c.args.tally.now in
     let r9 : Members = member (codes "with") (array (items_of (carrier_values c.args.declared.now v.with_each))) no_members in
     let r8 : Members = count_member (codes "to") c.args.to r9 in
     let r7 : Members = count_member (codes "split") (class_count v class.Split) r8 in

@@ -2,7 +2,7 @@ use Rattle.std.proofs.Common.{◌≡◌, ◌&&◌, arith, ap, sym, subst, ◌∙
 use Rattle.std.proofs.lemmas.Bool.{ltb-true}
 use Rattle.std.proofs.lemmas.Result.{err_from_is_err_and}
 use Rattle.script_reader.specs.Groups.{group_grammar, is_edit}
-use Rattle.script_reader.specs.Reading.{IsStop, edits_parts, is_edit_kind, is_end_kind, open_of}
+use Rattle.script_reader.specs.Reading.{IsGrammarStop, edits_parts, is_edit_kind, is_end_kind, open_of}
 use Rattle.script_reader.specs.Script.{adds_of, command_line_in}
 use Rattle.script_reader.specs.Statements.{kind_of}
 use Rattle.script_reader.specs.declared.line.Kind.TheVariants as kinds
@@ -28,7 +28,7 @@ returns-then-not-takes_edit-clause-fault c =
     let no_edit : (is_edit_kind (kind_of (get_or c.args.lines.now c.loop-at.at [])) && ltb (length c.loop-at.commands) 64) ≡ false =
     sym (c.takes_edit.ensures ∙ (ap (λ n. is_edit_kind c.kind_of-kind.result && ltb n 64) c.len-edits.ensures ∙ ap (λ k. is_edit_kind k && ltb (length c.loop-at.commands) 64) is)) ∙ c.if-not-takes_edit.true in
     λ text done steps lawful same.
-    subst (IsStop group_grammar (open_of text (done ++ steps ∷ []) None) c.args.lines.now c.args.start) (sym c.bad_line.ensures)
+    subst (IsGrammarStop group_grammar (open_of text (done ++ steps ∷ []) None) c.args.lines.now c.args.start) (sym c.bad_line.ensures)
     (line_stops c.args.lines.now c.args.start c.requires.at c.requires.kind c.loop-at.at c.loop-at.commands c.args.adds_before c.loop-at.adds c.loop-at.invariant.read c.loop-at.invariant.few text done steps lawful same (omega arith) (λ e. c.in_default.not-Skipped (is ∙ e)) no_end no_edit)
 
 pub returns-in_err-command-clause-fault : goal.returns-in_err-command-clause-fault
@@ -44,7 +44,7 @@ returns-in_err-command-clause-fault c =
 
 pub returns-clause-fault : goal.returns-clause-fault
 returns-clause-fault c = λ text done steps lawful same.
-    subst (IsStop group_grammar (open_of text (done ++ steps ∷ []) None) c.args.lines.now c.args.start) (sym c.bad_line-2.ensures)
+    subst (IsGrammarStop group_grammar (open_of text (done ++ steps ∷ []) None) c.args.lines.now c.args.start) (sym c.bad_line-2.ensures)
     (end_stops c.args.lines.now c.args.start c.requires.at c.requires.kind c.loop-at.at c.loop-at.commands c.args.adds_before c.loop-at.adds c.loop-at.invariant.read c.loop-at.invariant.few text done steps lawful same c.len-2.result c.len-2.ensures.len (omega arith))
 
 pub loop-at-smaller : goal.loop-at-smaller

@@ -2,11 +2,11 @@
 use Rattle.std.proofs.Common.{rules, w16, ℤ, ◌∙◌, ap, sym, subst, arith, length}
 use Rattle.std.proofs.lemmas.Int.{to_z-of_z}
 use Rattle.face_data.specs.Chains.{chain_at}
-use Rattle.face_data.specs.Composition.{from_bearing, settled}
+use Rattle.face_data.specs.Composition.{from_bearing, answer_of_kept}
 use Rattle.face_data.specs.Conditions.Ask.{last_near}
 use Rattle.face_data.specs.Lasts.{last_bearing}
 use Rattle.face_data.specs.Segments.{names_through}
-use Rattle.face_data.specs.View.{names_of}
+use Rattle.face_data.specs.View.{size_needles_of}
 use Rattle.summary_compose.specs.Changes.{changes_in}
 use Rattle.summary_compose.specs.Known.{IsPlainCond, StepIs}
 use Rattle.summary_compose.proofs.Answers.{near_step, plain_step, sized_step}
@@ -16,7 +16,7 @@ use Rattle.summary_compose.proofs.asking.ask.Goals as goal
 pub ask_sized-requires-clause-index_room : goal.ask_sized-requires-clause-index_room
 ask_sized-requires-clause-index_room c =
     let size = known_length c.args.digest.now c.args.index.now.notes c.args.kept.now.checks c.requires.knows in
-    let same = ap (λ ns. length (names_through (changes_in c.args.a.now) ns)) (ap (names_of c.args.names.now) c.in-SizeAtMost.is ∙ sym c.names_at.ensures) in
+    let same = ap (λ ns. length (names_through (changes_in c.args.a.now) ns)) (ap (size_needles_of c.args.names.now) c.in-SizeAtMost.is ∙ sym c.names_at.ensures) in
     omega (arith, size, same, c.requires.index_room)
 
 pub returns-in-SizeAtMost-clause-step : goal.returns-in-SizeAtMost-clause-step
@@ -58,5 +58,5 @@ pub returns-in-LastNear-clause-step : goal.returns-in-LastNear-clause-step
 returns-in-LastNear-clause-step c =
     near_step c.args.digest.now (chain_at c.args.kept.now.checks) c.args.effect.now c.args.a.now.lasts.now (changes_in c.args.a.now) c.args.names.now c.args.cond c.in-LastNear.c c.in-LastNear.at c.in-LastNear.float c.args.kept.now.checks c.ask_near.new.kept.checks c.args.fault c.ask_near.result
     c.in-LastNear.is
-    (subst (λ (n : ℤ). StepIs (from_bearing (last_bearing c.args.a.now.lasts.now c.in-LastNear.c n c.in-LastNear.float) (settled c.args.kept.now.checks (last_near c.in-LastNear.c n c.in-LastNear.float))) c.args.kept.now.checks c.args.fault c.ask_near.result c.ask_near.new.kept.checks)
+    (subst (λ (n : ℤ). StepIs (from_bearing (last_bearing c.args.a.now.lasts.now c.in-LastNear.c n c.in-LastNear.float) (answer_of_kept c.args.kept.now.checks (last_near c.in-LastNear.c n c.in-LastNear.float))) c.args.kept.now.checks c.args.fault c.ask_near.result c.ask_near.new.kept.checks)
     (to_z-of_z w16 c.in-LastNear.at (search rules)) c.ask_near.ensures.step)

@@ -1,10 +1,10 @@
 use Rattle.std.proofs.Common.{◌≡◌, ◌≤◌, [], take}
-use Rattle.face_data.specs.Segments.{entries_of, new_of}
+use Rattle.face_data.specs.Segments.{entry_needles_of, new_of}
 use Rattle.summary_compose.proofs.laid.count_new.Given as goal
 
 abbrev pub invariant-loop-seg : goal.invariant-loop-seg
 invariant-loop-seg l = record {
-  entries : entries_of (take l.seg-index l.segs) ≡ [];
+  entries : entry_needles_of (take l.seg-index l.segs) ≡ [];
   count : l.count ≡ new_of (take l.seg-index l.segs);
   few : l.count ≤ l.seg-index;
 }

@@ -1,6 +1,6 @@
 -- One change more.
 use Rattle.std.proofs.Common.{◌+◌, max, drop, map, length, ap, ◌∙◌, arith}
-use Rattle.face_data.specs.Segments.{entries_of}
+use Rattle.face_data.specs.Segments.{entry_needles_of}
 use Rattle.face_data.specs.View.{changed_of}
 use Rattle.summary_compose.specs.Rooms.{widest_of}
 use Rattle.summary_compose.proofs.Widths.{widest_some, widest_step, widest_left}
@@ -19,7 +19,7 @@ loop-change-preserved c =
       | then-from-widest w ↦ record {
         some = omega (arith, w.widest-is, w.max-widest.ensures, c.loop-change.invariant.some);
         rest = widest_step segs changes c.loop-change.change-index _ c.loop-change.widest whole c.loop-change-test.true c.loop-change.invariant.rest c.if-from-widest.widest
-            (w.widest-is ∙ w.max-widest.ensures ∙ ap (max c.loop-change.widest) (w.entries_in.ensures ∙ ap (λ part. length (entries_of part)) w.part_in.ensures));
+            (w.widest-is ∙ w.max-widest.ensures ∙ ap (max c.loop-change.widest) (w.entries_in.ensures ∙ ap (λ part. length (entry_needles_of part)) w.part_in.ensures));
       }
       | else-from-widest w ↦ record {
         some = omega (arith, w.widest-is, c.loop-change.invariant.some);

@@ -1,6 +1,6 @@
 use Rattle.std.proofs.Common.{rules, ◌≢◌, ◌<◌, ◌∙◌, [], ◌∷◌, ◌++◌, length, ap, sym, subst, arith, length-append}
 use Rattle.std.proofs.lemmas.Bool.{eqb-false}
-use Rattle.talk_loop.specs.Conversed.{IsAnswered, IsLast}
+use Rattle.talk_loop.specs.Conversed.{IsLineAnswered, IsLast}
 use Rattle.talk_loop.proofs.Last.{last-by, no-last, none-kept, on-ok}
 use Rattle.talk_loop.proofs.conversation.append_last.Goals as goal
 
@@ -21,7 +21,7 @@ returns g c = let asking = g.D.Desk.asking (g.D.Desk.opening c.args.desk.now) in
       let e = f (lines ++ rest ∷ []) (as_ ++ a.0) a.1 (omega (arith, counted, first, length-append lines (rest ∷ []))) in (
         a.0,
         last-by asking ends lines as_ a.0 rest c.args.line.now c.hear.new.out.items c.end-2.new.out.items e.0 some kept given
-            (subst (λ l. IsAnswered asking lines as_ rest l c.hear.new.out.items a.0) c.requires.empty a.2)
+            (subst (λ l. IsLineAnswered asking lines as_ rest l c.hear.new.out.items a.0) c.requires.empty a.2)
             (subst (λ o. g.D.Desk.ends o (lines ++ rest ∷ []) (as_ ++ a.0) e.0) same e.2) e.1,
       )) c.end-2.ensures.last;
 }

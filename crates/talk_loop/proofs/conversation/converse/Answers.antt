@@ -1,19 +1,19 @@
 use Rattle.std.proofs.Common.{ℕ, ◌+◌, ◌∙◌, [], sym, subst, refl, arith}
 use Rattle.std.specs.Prelude.{Err}
 use Rattle.knit_ports.specs.Pieces.{Says, SaysFront}
-use Rattle.knit_ports.specs.Ears.{IsHeard}
+use Rattle.knit_ports.specs.Ears.{IsLineHeard}
 use Rattle.knit_ports.specs.Faults.{Rose}
-use Rattle.talk_loop.specs.Conversed.{HasTalkCause, IsAnswered}
+use Rattle.talk_loop.specs.Conversed.{HasTalkCause, IsLineAnswered}
 use Rattle.talk_loop.specs.declared.conversation.TalkFault.TheVariants as fault
 use Rattle.talk_loop.proofs.Last.{kept-one}
-use Rattle.talk_loop.proofs.Loop.{Ended, SoFar, count-over, goes-on, hearing-failed, input-over, memory-failed, saying-failed, starts}
+use Rattle.talk_loop.proofs.Loop.{Ended, SoFar, count-over, goes-on, hearing-failed, input-over, memory-failed, saying-failed, so_far_at_start}
 use Rattle.talk_loop.proofs.conversation.converse.Goals as goal
 
 pub lines-init : goal.lines-init
 lines-init g c = record {
   same = refl;
   calm = refl;
-  so_far = starts (g.D.Desk.asking (g.D.Desk.opening c.args.desk.now)) (g.D.Desk.ends (g.D.Desk.opening c.args.desk.now)) (g.D.Desk.behind c.args.desk.now) _ _ c.args.first _ refl c.requires.first c.requires.nothing c.requires.begun;
+  so_far = so_far_at_start (g.D.Desk.asking (g.D.Desk.opening c.args.desk.now)) (g.D.Desk.ends (g.D.Desk.opening c.args.desk.now)) (g.D.Desk.behind c.args.desk.now) _ _ c.args.first _ refl c.requires.first c.requires.nothing c.requires.begun;
 }
 
 pub returns-in-Err : goal.returns-in-Err
@@ -56,27 +56,27 @@ hear-requires-in-lines-clause-begun g c =
 pub returns-in_default-hear : goal.returns-in_default-hear
 returns-in_default-hear g c = record {
   conversed = memory-failed (g.D.Desk.asking (g.D.Desk.opening c.args.desk.now)) (g.D.Desk.ends (g.D.Desk.opening c.args.desk.now)) (g.D.Desk.behind c.lines.desk) (g.T.Talk.told c.args.talk.now) c.args.ear.now.pending _ _ c.lines.ear c.hear.new.self c.lines.number c.lines.invariant.so_far
-      (subst (IsHeard (g.T.Talk.told c.lines.talk) (g.T.Talk.told c.hear.new.talk) c.lines.ear c.hear.new.self) c.in-LineFeed.is c.in-Ok.ensures.heard);
+      (subst (IsLineHeard (g.T.Talk.told c.lines.talk) (g.T.Talk.told c.hear.new.talk) c.lines.ear c.hear.new.self) c.in-LineFeed.is c.in-Ok.ensures.heard);
   cause = c.in-Ok.ensures.calm ∙ c.lines.invariant.calm;
 }
 
 pub returns-in-Err-say_whole : goal.returns-in-Err-say_whole
 returns-in-Err-say_whole g c =
-    let h = subst (IsHeard (g.T.Talk.told c.lines.talk) (g.T.Talk.told c.hear.new.talk) c.lines.ear c.hear.new.self) c.in-LineFeed.is c.in-Ok.ensures.heard in
+    let h = subst (IsLineHeard (g.T.Talk.told c.lines.talk) (g.T.Talk.told c.hear.new.talk) c.lines.ear c.hear.new.self) c.in-LineFeed.is c.in-Ok.ensures.heard in
     let same = c.lines.invariant.same in
     let s = subst (λ o. SoFar (g.D.Desk.asking o) (g.D.Desk.ends o) (g.D.Desk.behind c.lines.desk) (g.T.Talk.told c.args.talk.now) c.args.ear.now.pending (g.T.Talk.told c.lines.talk) c.lines.ear.pending c.lines.number) (sym same) c.lines.invariant.so_far in
     let a = c.in-Ok-hear.ensures.answered s.lines s.answers h.line s.stands s.counted (c.line-in-lines.ensures ∙ h.kept) in
     record {
       conversed = subst (λ o. Ended (g.D.Desk.asking o) (g.D.Desk.ends o) (g.D.Desk.behind c.lines.desk) (g.T.Talk.told c.args.talk.now) c.args.ear.now.pending (g.T.Talk.told c.say_whole.new.talk) (Err fault.Saying)) same
           (saying-failed (g.D.Desk.asking (g.D.Desk.opening c.lines.desk)) (g.D.Desk.ends (g.D.Desk.opening c.lines.desk)) (g.D.Desk.behind c.lines.desk) (g.T.Talk.told c.args.talk.now) c.args.ear.now.pending _ _ _ c.lines.ear c.hear.new.self c.lines.number s h a.0 c.hear-in-lines.new.out.items
-          (subst (λ l. IsAnswered (g.D.Desk.asking (g.D.Desk.opening c.lines.desk)) s.lines s.answers h.line l c.hear-in-lines.new.out.items a.0) c.clear.ensures.items a.2)
+          (subst (λ l. IsLineAnswered (g.D.Desk.asking (g.D.Desk.opening c.lines.desk)) s.lines s.answers h.line l c.hear-in-lines.new.out.items a.0) c.clear.ensures.items a.2)
           (subst (SaysFront (g.T.Talk.told c.hear.new.talk) (g.T.Talk.told c.say_whole.new.talk)) c.deref.ensures.value c.in-Err-say_whole.ensures.err));
       cause = subst (λ (n : ℕ). Rose n (g.T.Talk.faults c.say_whole.new.talk)) (c.in-Ok.ensures.calm ∙ c.lines.invariant.calm) c.in-Err-say_whole.ensures.cause;
     }
 
 pub lines-preserved : goal.lines-preserved
 lines-preserved g c =
-    let h = subst (IsHeard (g.T.Talk.told c.lines.talk) (g.T.Talk.told c.hear.new.talk) c.lines.ear c.hear.new.self) c.in-LineFeed.is c.in-Ok.ensures.heard in
+    let h = subst (IsLineHeard (g.T.Talk.told c.lines.talk) (g.T.Talk.told c.hear.new.talk) c.lines.ear c.hear.new.self) c.in-LineFeed.is c.in-Ok.ensures.heard in
     let same = c.lines.invariant.same in
     let s = subst (λ o. SoFar (g.D.Desk.asking o) (g.D.Desk.ends o) (g.D.Desk.behind c.lines.desk) (g.T.Talk.told c.args.talk.now) c.args.ear.now.pending (g.T.Talk.told c.lines.talk) c.lines.ear.pending c.lines.number) (sym same) c.lines.invariant.so_far in
     let a = c.in-Ok-hear.ensures.answered s.lines s.answers h.line s.stands s.counted (c.line-in-lines.ensures ∙ h.kept) in
@@ -85,7 +85,7 @@ lines-preserved g c =
       calm = c.in-Ok-say_whole.ensures.calm ∙ (c.in-Ok.ensures.calm ∙ c.lines.invariant.calm);
       so_far = subst (λ o. SoFar (g.D.Desk.asking o) (g.D.Desk.ends o) (g.D.Desk.behind c.hear-in-lines.new.self) (g.T.Talk.told c.args.talk.now) c.args.ear.now.pending (g.T.Talk.told c.say_whole.new.talk) c.hear.new.self.pending (c.lines.number + 1)) same
           (goes-on (g.D.Desk.asking (g.D.Desk.opening c.lines.desk)) (g.D.Desk.ends (g.D.Desk.opening c.lines.desk)) (g.D.Desk.behind c.lines.desk) (g.D.Desk.behind c.hear-in-lines.new.self) (g.T.Talk.told c.args.talk.now) c.args.ear.now.pending _ _ _ c.lines.ear c.hear.new.self c.lines.number s h a.0 c.hear-in-lines.new.out.items a.1
-          (subst (λ l. IsAnswered (g.D.Desk.asking (g.D.Desk.opening c.lines.desk)) s.lines s.answers h.line l c.hear-in-lines.new.out.items a.0) c.clear.ensures.items a.2)
+          (subst (λ l. IsLineAnswered (g.D.Desk.asking (g.D.Desk.opening c.lines.desk)) s.lines s.answers h.line l c.hear-in-lines.new.out.items a.0) c.clear.ensures.items a.2)
           (subst (Says (g.T.Talk.told c.hear.new.talk) (g.T.Talk.told c.say_whole.new.talk)) c.deref.ensures.value c.in-Ok-say_whole.ensures.ok));
     }
 

@@ -2,7 +2,7 @@ use Rattle.std.proofs.Common.{◌+◌, ◌≤◌, List, [], sym, ap, subst, arit
 use Rattle.face_data.specs.Summaries.{Summary}
 use Rattle.face_data.specs.View.{summary_of}
 use Rattle.std.specs.Prelude.{slice_set}
-use Rattle.summary_tree.specs.Leaves.{Leaf, AreSound, lines_of}
+use Rattle.summary_tree.specs.Leaves.{Leaf, AreSound, leaf_line_count}
 use Rattle.tree_examples.proofs.PlainLeaves.{lines_set, sound_instead_face}
 use Rattle.tree_examples.proofs.summary_tests.put.Goals as goal
 
@@ -16,4 +16,4 @@ replace-requires-clause-sound g c =
 pub returns : goal.returns
 returns g c =
     let leaf : Leaf = (summary_of c.plain-face.result, c.new.result) in
-    omega (arith, ap lines_of c.replace.ensures.leaves, lines_set c.args.at leaf c.reserve.new.self.leaves, ap lines_of c.reserve.ensures.same.leaves, ap (λ (face : Summary). face.lines) c.plain-face.ensures.summary)
+    omega (arith, ap leaf_line_count c.replace.ensures.leaves, lines_set c.args.at leaf c.reserve.new.self.leaves, ap leaf_line_count c.reserve.ensures.same.leaves, ap (λ (face : Summary). face.lines) c.plain-face.ensures.summary)

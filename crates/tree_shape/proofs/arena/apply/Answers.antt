@@ -3,7 +3,7 @@ use Rattle.std.specs.Prelude.{slice_set}
 use Rattle.std.specs.List.{slice_get}
 use Rattle.tree_shape.specs.declared.node.Node.{Node}
 use Rattle.tree_shape.specs.declared.dirty.DirtyRow.{DirtyRow}
-use Rattle.tree_shape.specs.Apply.{FitsRow, FitRows, applied, written}
+use Rattle.tree_shape.specs.Apply.{FitsRow, FitRows, nodes_with_rows, nodes_with_row}
 use Rattle.tree_shape.proofs.arena.apply.Goals as goal
 use Rattle.tree_shape.proofs.arena.apply.Goals.{in-Some, in_default}
 
@@ -17,7 +17,7 @@ some_row [] i h = absurd (omega arith)
 some_row (x ∷ xs) zero h = (x, refl)
 some_row (x ∷ xs) (suc i) h = some_row xs i (omega arith)
 
-fits : (nodes : List Node) (xs : List DirtyRow) (i : ℕ) (row : DirtyRow) → Some row ≡ slice_get xs i → FitRows nodes (drop i xs) → FitsRow nodes row × FitRows (written nodes row) (drop (i + 1) xs)
+fits : (nodes : List Node) (xs : List DirtyRow) (i : ℕ) (row : DirtyRow) → Some row ≡ slice_get xs i → FitRows nodes (drop i xs) → FitsRow nodes row × FitRows (nodes_with_row nodes row) (drop (i + 1) xs)
 fits nodes xs i row e f = let g = subst (FitRows nodes) (next_row xs i row (sym e)) f in (g.0, rw add-one g.1)
 
 pub node_of-node-requires : goal.node_of-node-requires
@@ -31,9 +31,9 @@ loop-i-preserved c =
     elim c.match-get.branch [
       | in-Some w ↦
           let f = fits c.loop-i.nodes c.args.dirty.now c.loop-i.i w.in-Some.row w.in-Some.ensures c.loop-i.invariant.fit in
-          let after : c.match-get.nodes ≡ written c.loop-i.nodes w.in-Some.row = w.nodes-is ∙ ap (slice_set c.loop-i.nodes w.in-Some.row.node) w.node_of-node.ensures in
+          let after : c.match-get.nodes ≡ nodes_with_row c.loop-i.nodes w.in-Some.row = w.nodes-is ∙ ap (slice_set c.loop-i.nodes w.in-Some.row.node) w.node_of-node.ensures in
           record {
-            same = rw (after, add-one) (ap (applied c.loop-i.nodes) (sym (next_row c.args.dirty.now c.loop-i.i w.in-Some.row (sym w.in-Some.ensures))) ∙ c.loop-i.invariant.same);
+            same = rw (after, add-one) (ap (nodes_with_rows c.loop-i.nodes) (sym (next_row c.args.dirty.now c.loop-i.i w.in-Some.row (sym w.in-Some.ensures))) ∙ c.loop-i.invariant.same);
             fit = rw after f.1;
           }
       | in_default w ↦ let s = some_row c.args.dirty.now c.loop-i.i (omega arith) in absurd (w.in_default.not-Some s.0 (c.get.ensures ∙ s.1))

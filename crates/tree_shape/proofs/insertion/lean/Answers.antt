@@ -1,7 +1,7 @@
 use Rattle.std.proofs.Common.{◌≡◌, ◌+◌, ◌≤◌, ◌⊎◌, inl, inr, sym, ◌∙◌, arith, false, nat_le, ℕ}
 use Rattle.std.proofs.lemmas.Bool.{lt-leb}
 use Rattle.tree_shape.specs.Tree.{height}
-use Rattle.tree_shape.specs.Plan.{erase, way_through}
+use Rattle.tree_shape.specs.Plan.{tree_of_plan, way_through}
 use Rattle.tree_shape.specs.declared.node.Side.{Side}
 use Rattle.tree_shape.specs.declared.insertion.Way.TheVariants.{Twice}
 use Rattle.tree_shape.proofs.Turns.{height_pending, leaned_turned, leaned_is_over, way_over, way_over_turned, set_over}
@@ -11,13 +11,13 @@ use Rattle.tree_shape.proofs.insertion.lean.Goals.{in-Twice+else-above-upper, in
 pub returns-then-above-upper : goal.returns-then-above-upper
 returns-then-above-upper c = λ p before f l.
     let high = height_pending _ p l.pending in
-    let tall : nat_le (height (erase p)) (height f + 1) ≡ false = lt-leb _ _ (omega (arith, l.high)) in
+    let tall : nat_le (height (tree_of_plan p)) (height f + 1) ≡ false = lt-leb _ _ (omega (arith, l.high)) in
     rw (leaned_turned c.args.upper.side c.args.upper.node p f tall) (c.turn.ensures p before f l)
 
 pub returns : goal.returns
 returns c = λ p before f l.
     let high = height_pending _ p l.pending in
-    let low : (height (erase p) ≤ height f + 1) ⊎ ((third : Side) (x y : ℕ) → c.args.part.way ≡ Twice third x y → ⊥) =
+    let low : (height (tree_of_plan p) ≤ height f + 1) ⊎ ((third : Side) (x y : ℕ) → c.args.part.way ≡ Twice third x y → ⊥) =
     elim c.match-part.branch [
       | in-Twice+else-above-upper w ↦ inl (omega (arith, l.high))
       | in_default w ↦ inr w.in_default.not-Twice

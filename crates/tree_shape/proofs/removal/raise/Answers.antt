@@ -1,12 +1,12 @@
 use Rattle.std.proofs.Common.{arith, sym, ◌∙◌}
-use Rattle.tree_shape.specs.Removal.{beside, outer}
+use Rattle.tree_shape.specs.Removal.{part_beside, outer}
 use Rattle.tree_shape.proofs.OtherParts.{opened_on, once_is, twice_is}
 use Rattle.tree_shape.proofs.removal.raise.Goals as goal
 
 pub returns-then-beside-outer : goal.returns-then-beside-outer
 returns-then-beside-outer c = λ p before f l.
     let v = opened_on _ c.args.side _ f c.row-high.result l.named l.stands c.row-high.ensures in
-    let b = beside c.args.side v.left v.right in
+    let b = part_beside c.args.side v.left v.right in
     let o = outer c.args.side v.left v.right in
     let eb = c.beside_of.ensures ∙ v.beside_is in
     let eo = c.outer_of.ensures ∙ v.outer_is in
@@ -19,7 +19,7 @@ pub raise_twice-requires : goal.raise_twice-requires
 raise_twice-requires c =
     let r = c.requires in
     let v = opened_on _ c.args.side _ r.2 c.row-high.result r.3.named r.3.stands c.row-high.ensures in
-    let b = beside c.args.side v.left v.right in
+    let b = part_beside c.args.side v.left v.right in
     let o = outer c.args.side v.left v.right in
     let eb = c.beside_of.ensures ∙ v.beside_is in
     let eo = c.outer_of.ensures ∙ v.outer_is in
@@ -38,7 +38,7 @@ raise_twice-requires c =
 pub returns-in-Inner : goal.returns-in-Inner
 returns-in-Inner c = λ p before f l.
     let v = opened_on _ c.args.side _ f c.row-high.result l.named l.stands c.row-high.ensures in
-    let b = beside c.args.side v.left v.right in
+    let b = part_beside c.args.side v.left v.right in
     let o = outer c.args.side v.left v.right in
     let eb = c.beside_of.ensures ∙ v.beside_is in
     let eo = c.outer_of.ensures ∙ v.outer_is in

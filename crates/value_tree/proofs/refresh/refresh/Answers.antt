@@ -1,8 +1,8 @@
 use Rattle.std.proofs.Common.{◌≡◌, ◌<◌, [], drop, length, refl, sym, ◌∙◌, ap, arith}
 use Rattle.std.proofs.Math.Seq.{drop-length}
 use Rattle.tree_shape.specs.declared.dirty.DirtyRow.{DirtyRow}
-use Rattle.tree_shape.specs.Values.{refreshed}
-use Rattle.tree_shape.specs.Composing.{spent}
+use Rattle.tree_shape.specs.Values.{values_refreshed}
+use Rattle.tree_shape.specs.Composing.{steps_of_rows}
 use Rattle.tree_shape.proofs.Rows.{some_row}
 use Rattle.tree_shape.proofs.RowWalks.{next_of, all_get}
 use Rattle.value_tree.proofs.Starts.{steps_moved}
@@ -14,7 +14,7 @@ loop-i-init g c =
     let f = c.requires.fit in
     record {
       underway = (
-        spent g.S.Values.join g.S.Values.cost (g.S.Values.leaf_at c.args.store.now) (g.S.Values.node_at c.args.store.now) c.args.dirty.now,
+        steps_of_rows g.S.Values.join g.S.Values.cost (g.S.Values.leaf_at c.args.store.now) (g.S.Values.node_at c.args.store.now) c.args.dirty.now,
         record { now = g.S.Values.node_at c.args.store.now; rooms = f.0; nodes = λ k. refl; leaves = λ k. refl; fit = f.1; rest = refl; steps = refl; meets_rest = f.2 },
         refl,
       );
@@ -55,8 +55,8 @@ returns g c =
     let leaf_at = g.S.Values.leaf_at c.args.store.now in
     let last : c.loop-i.i ≡ len = omega (arith, c.loop-i-test.false, c.loop-i.auto.i-end, c.len-i-end.ensures.len) in
     let done : drop c.loop-i.i c.args.dirty.now ≡ [] = rw last (drop-length c.args.dirty.now) in
-    let same : u.now ≡ refreshed g.S.Values.join leaf_at (g.S.Values.node_at c.args.store.now) c.args.dirty.now = sym (ap (refreshed g.S.Values.join leaf_at u.now) done) ∙ u.rest in
-    let none : c.loop-i.invariant.underway.0 ≡ 0 = sym u.steps ∙ ap (spent g.S.Values.join g.S.Values.cost leaf_at u.now) done in
+    let same : u.now ≡ values_refreshed g.S.Values.join leaf_at (g.S.Values.node_at c.args.store.now) c.args.dirty.now = sym (ap (values_refreshed g.S.Values.join leaf_at u.now) done) ∙ u.rest in
+    let none : c.loop-i.invariant.underway.0 ≡ 0 = sym u.steps ∙ ap (steps_of_rows g.S.Values.join g.S.Values.cost leaf_at u.now) done in
     record {
       nodes = λ k. u.nodes k ∙ ap (λ f. f k) same;
       leaves = u.leaves;

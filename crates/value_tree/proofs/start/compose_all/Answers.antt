@@ -3,8 +3,8 @@ use Rattle.std.proofs.Math.Seq.{drop-length}
 use Rattle.tree_shape.specs.declared.dirty.DirtyRow.{DirtyRow}
 use Rattle.tree_shape.specs.Building.{all_rows}
 use Rattle.tree_shape.specs.Changes.{HasInner}
-use Rattle.tree_shape.specs.Composing.{spent}
-use Rattle.tree_shape.specs.Values.{refreshed}
+use Rattle.tree_shape.specs.Composing.{steps_of_rows}
+use Rattle.tree_shape.specs.Values.{values_refreshed}
 use Rattle.tree_shape.proofs.AllRows.{row_of, listed_row, length_rows}
 use Rattle.tree_shape.proofs.RowWalks.{next_of}
 use Rattle.value_tree.proofs.Starts.{steps_moved}
@@ -15,7 +15,7 @@ loop-node-init g c =
     let f = c.requires.fit in
     record {
       underway = (
-        spent g.S.Values.join g.S.Values.cost (g.S.Values.leaf_at c.args.store.now) (g.S.Values.node_at c.args.store.now) (all_rows c.args.shape.now.tree),
+        steps_of_rows g.S.Values.join g.S.Values.cost (g.S.Values.leaf_at c.args.store.now) (g.S.Values.node_at c.args.store.now) (all_rows c.args.shape.now.tree),
         record { now = g.S.Values.node_at c.args.store.now; rooms = f.0; nodes = λ k. refl; leaves = λ k. refl; fit = f.1; rest = refl; steps = refl; meets_rest = tt },
         refl,
       );
@@ -57,5 +57,5 @@ returns-clause-nodes g c =
     let rows = all_rows c.args.shape.now.tree in
     let last : c.loop-node.node ≡ length rows = omega (arith, c.loop-node-test.false, c.loop-node.auto.node-end, c.inner_numbers-node-end.ensures, length_rows c.args.shape.now.tree c.args.shape.now.inner_numbers.drawn c.requires.ordered) in
     let done : drop c.loop-node.node rows ≡ [] = rw last (drop-length rows) in
-    let same : u.now ≡ refreshed g.S.Values.join (g.S.Values.leaf_at c.args.store.now) (g.S.Values.node_at c.args.store.now) rows = sym (ap (refreshed g.S.Values.join (g.S.Values.leaf_at c.args.store.now) u.now) done) ∙ u.rest in
+    let same : u.now ≡ values_refreshed g.S.Values.join (g.S.Values.leaf_at c.args.store.now) (g.S.Values.node_at c.args.store.now) rows = sym (ap (values_refreshed g.S.Values.join (g.S.Values.leaf_at c.args.store.now) u.now) done) ∙ u.rest in
     λ k. u.nodes k ∙ ap (λ f. f k) same

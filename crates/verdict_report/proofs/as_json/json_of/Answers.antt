@@ -1,7 +1,7 @@
 use Rattle.std.proofs.Common.{◌≡◌, ◌∙◌, ◌≤◌, ◌++◌, length, map, string_bytes, ap, subst, sym, ℕ}
 use Rattle.std.specs.Option.{option_copied}
 use Rattle.json.specs.Print.{quoted}
-use Rattle.verdict_report.specs.JsonText.{json_line}
+use Rattle.verdict_report.specs.JsonText.{verdict_json_line}
 use Rattle.verdict_report.proofs.CompactText.{line_is}
 use Rattle.verdict_report.proofs.as_json.json_of.Goals as goal
 
@@ -15,6 +15,6 @@ pub returns : goal.returns
 returns c =
     let strings : map string_bytes c.deref.result.now ≡ map quoted c.args.declared.now = ap (map string_bytes) c.deref.ensures.value ∙ c.in_ok-strings.ensures.strings in
     c.in_ok-append_json.ensures
-    ∙ ap (λ start. start ++ json_line (map string_bytes c.deref.result.now) c.args.broken.now c.args.verdict.now (option_copied c.args.facts)) c.new-text.ensures.items
-    ∙ ap (λ names. json_line names c.args.broken.now c.args.verdict.now (option_copied c.args.facts)) strings
+    ∙ ap (λ start. start ++ verdict_json_line (map string_bytes c.deref.result.now) c.args.broken.now c.args.verdict.now (option_copied c.args.facts)) c.new-text.ensures.items
+    ∙ ap (λ names. verdict_json_line names c.args.broken.now c.args.verdict.now (option_copied c.args.facts)) strings
     ∙ line_is c.args.declared.now c.args.broken.now c.args.verdict.now (option_copied c.args.facts)

@@ -1,7 +1,7 @@
 use Rattle.std.proofs.Common.{◌≡◌, ◌∙◌, ◌<◌, ◌≤◌, ◌++◌, [], ◌∷◌, length, map, string_bytes, ap, arith}
 use Rattle.std.proofs.lemmas.List.{length-map, take_all}
 use Rattle.json.specs.Print.{quoted}
-use Rattle.verdict_report.specs.Carriers.{carrier, name_of}
+use Rattle.verdict_report.specs.Carriers.{carrier, carrier_name_of}
 use Rattle.verdict_report.proofs.Names.{quoted_more}
 use Rattle.verdict_report.proofs.as_json.quoted_names.Goals as goal
 
@@ -9,7 +9,7 @@ pub names-preserved : goal.names-preserved
 names-preserved c =
     let within : c.names.number < length c.args.declared.now = omega arith in
     c.in_ok-push_quoted.ensures
-    ∙ ap (λ strings. strings ++ quoted (name_of c.args.declared.now (carrier c.names.number)) ∷ []) c.names.invariant
+    ∙ ap (λ strings. strings ++ quoted (carrier_name_of c.args.declared.now (carrier c.names.number)) ∷ []) c.names.invariant
     ∙ quoted_more c.args.declared.now c.names.number within
 
 pub returns-clause-few : goal.returns-clause-few

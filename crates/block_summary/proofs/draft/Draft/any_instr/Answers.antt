@@ -7,8 +7,8 @@ use Rattle.face_data.specs.Summaries.{Summary}
 use Rattle.block_summary.specs.declared.instr_ask.InstrAsk.{InstrAsk}
 use Rattle.block_summary.specs.Asks.{instr_ask}
 use Rattle.block_summary.specs.DraftKnowledge.{CanBeAsked, HasAskedAll, IsSmall, stopped_at}
-use Rattle.block_summary.specs.LineEnds.{carried}
-use Rattle.block_summary.specs.LineSummaries.{asked_by}
+use Rattle.block_summary.specs.LineEnds.{summary_with_line}
+use Rattle.block_summary.specs.LineSummaries.{conditions_of_instr}
 use Rattle.block_summary.proofs.AskedHold.{some_slider_holds}
 use Rattle.block_summary.proofs.LineSteps.{conds_can, sizes_small, slider_small, line_stops, line_goes}
 use Rattle.block_summary.proofs.draft.Draft.any_instr.Goals as goal
@@ -37,7 +37,7 @@ returns-in-Some c =
     let mid = c.ask_all.new.self in
     let is = c.in_ok-ask.ensures.is ∙ ap (instr_ask profile instr) c.contents.ensures.contents in
     line_stops profile instr old mid c.in-Some.reason c.contents.ensures.through
-    (subst (λ (stop : Option Reason). HasAskedAll old mid (asked_by profile instr) stop) c.in-Some.is (c.in_ok-reason.ensures profile instr is))
+    (subst (λ (stop : Option Reason). HasAskedAll old mid (conditions_of_instr profile instr) stop) c.in-Some.is (c.in_ok-reason.ensures profile instr is))
     ∙ (λ i. stopped_at (sym c.stop.ensures.fault i) (sym c.stop.ensures.line i))
 
 pub returns-in_ok-carry_out-in-None : goal.returns-in_ok-carry_out-in-None
@@ -49,9 +49,9 @@ returns-in_ok-carry_out-in-None c =
     let is = c.in_ok-ask.ensures.is ∙ ap (instr_ask profile instr) c.contents.ensures.contents in
     let lawful = c.requires.lawful in (
       c.in_ok-carry_out-in-None.ensures
-          ∙ ap (λ (s : Summary). carried s c.in_ok-ask.ask) c.note_slider.ensures
+          ∙ ap (λ (s : Summary). summary_with_line s c.in_ok-ask.ask) c.note_slider.ensures
           ∙ line_goes profile lawful.0 instr old mid c.in_ok-ask.ask c.contents.ensures.through c.contents.ensures.rising lawful.2 is
-          (subst (λ (stop : Option Reason). HasAskedAll old mid (asked_by profile instr) stop) c.in-None.is (c.in_ok-reason.ensures profile instr is)),
+          (subst (λ (stop : Option Reason). HasAskedAll old mid (conditions_of_instr profile instr) stop) c.in-None.is (c.in_ok-reason.ensures profile instr is)),
       ap (λ (a : InstrAsk). a.formed) is,
     )
 
@@ -63,4 +63,4 @@ note_slider-requires c =
     let mid = c.ask_all.new.self in
     let is = c.in_ok-ask.ensures.is ∙ ap (instr_ask profile instr) c.contents.ensures.contents in
     some_slider_holds profile instr old mid c.forming_needle.result c.forming_needle.ensures
-    (subst (λ (stop : Option Reason). HasAskedAll old mid (asked_by profile instr) stop) c.in-None.is (c.in_ok-reason.ensures profile instr is))
+    (subst (λ (stop : Option Reason). HasAskedAll old mid (conditions_of_instr profile instr) stop) c.in-None.is (c.in_ok-reason.ensures profile instr is))

@@ -5,7 +5,7 @@ use Rattle.knit_base.specs.declared.instr.Instr.{Instr}
 use Rattle.knit_base.specs.declared.instr.Read.TheVariants as read
 use Rattle.face_data.specs.Conditions.Ask.{last_near}
 use Rattle.face_data.specs.Summaries.{Summary}
-use Rattle.block_summary.specs.declared.line.LineEnd.TheVariants.{GoesOn}
+use Rattle.block_summary.specs.declared.line.DraftedLineEnd.TheVariants.{GoesOn}
 use Rattle.block_summary.specs.DraftKnowledge.{AreNearIn, HoldsAfter}
 use Rattle.block_summary.specs.LineEnds.{EndsAs}
 use Rattle.block_summary.proofs.draft.Draft.any_knit.Goals as goal

@@ -1,6 +1,6 @@
 use Rattle.std.proofs.Common.{[], ◌∷◌, ap, ◌∙◌}
 use Rattle.face_data.specs.Sizes.{size_ask}
-use Rattle.bed_rules.specs.Beds.{crowded}
+use Rattle.bed_rules.specs.Beds.{crowded_needles}
 use Rattle.block_summary.proofs.TransferSteps.{room_small, transfer_asked, transfer_roomy, transfer_stops}
 use Rattle.block_summary.proofs.draft.Draft.ask_transfer.Goals as goal
 
@@ -21,4 +21,4 @@ pub returns : goal.returns
 returns c profile limit =
     transfer_asked profile c.args.hold c.args.instr.now c.args.n c.args.n2 c.args.self.now c.ask_rack.new.self c.ask_size-2.new.self c.ask.result c.in_ok-reason.field-0 c.reason_unless.result c.in_ok-ask.ask
     c.in_ok-goes.goes limit c.requires.transfer c.ask.ensures.is c.in_ok-reason.ensures c.in_default.is
-    (c.in_ok-ask.ensures.is ∙ ap (λ cs. size_ask cs (crowded 2 (c.args.n2 ∷ c.args.n ∷ []) c.args.hold)) c.contents.ensures.contents) c.in_ok-goes.ensures.asked c.reason_unless.ensures
+    (c.in_ok-ask.ensures.is ∙ ap (λ cs. size_ask cs (crowded_needles 2 (c.args.n2 ∷ c.args.n ∷ []) c.args.hold)) c.contents.ensures.contents) c.in_ok-goes.ensures.asked c.reason_unless.ensures

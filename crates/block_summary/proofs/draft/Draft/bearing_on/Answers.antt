@@ -1,7 +1,7 @@
 use Rattle.std.proofs.Common.{◌≡◌, [], sym, ◌∙◌, subst}
 use Rattle.face_data.specs.declared.bearing.Bearing.TheVariants.{Implied, Refuted}
 use Rattle.face_data.specs.Answers.{read_answer}
-use Rattle.face_data.specs.Answers.Answer.{yes_it_does, no_it_does_not, asks}
+use Rattle.face_data.specs.Answers.ConditionAnswer.{yes_it_does, no_it_does_not, asks}
 use Rattle.face_data.specs.Composition.{against_kept, from_bearing}
 use Rattle.face_data.specs.Conditions.{ask_of}
 use Rattle.face_data.specs.Summaries.{Summary}

@@ -1,7 +1,7 @@
 use Rattle.std.proofs.Common.{None, sym, subst, ◌∙◌, refl}
 use Rattle.knit_base.specs.declared.instr.Instr.{Instr}
 use Rattle.knit_base.specs.declared.instr.Read.TheVariants as read
-use Rattle.block_summary.specs.declared.line.LineEnd.TheVariants.{GoesOn}
+use Rattle.block_summary.specs.declared.line.DraftedLineEnd.TheVariants.{GoesOn}
 use Rattle.block_summary.specs.LineEnds.{EndsAs}
 use Rattle.block_summary.proofs.LineSteps.{pause_goes}
 use Rattle.block_summary.proofs.draft.Draft.instr.Goals as goal

@@ -1,6 +1,6 @@
 use Rattle.std.proofs.Common.{[]}
 use Rattle.face_data.specs.Conditions.{ask_of}
-use Rattle.face_data.specs.Summaries.{Asked}
+use Rattle.face_data.specs.Summaries.{AskedCondition}
 use Rattle.block_summary.proofs.DraftSteps.{kept_more, left_to_ask}
 use Rattle.block_summary.proofs.draft.Draft.keep_if_silent.Goals as goal
 
@@ -12,5 +12,5 @@ keep-requires-clause-silent c =
 pub invariant_of-self-in-Silent : goal.invariant_of-self-in-Silent
 invariant_of-self-in-Silent c =
     let inside = c.self.inside in
-    let more : Asked = record { fault = record { line = inside.lines; reason = c.args.reason }; ask = ask_of [] c.args.cond } in
+    let more : AskedCondition = record { fault = record { line = inside.lines; reason = c.args.reason }; ask = ask_of [] c.args.cond } in
     kept_more inside.lines inside.made inside.kept c.keep.new.self inside.effect inside.lasts.lasts inside.symbols inside.bare more c.in_ok-keep-in-Silent.ensures.ok c.self.invariant

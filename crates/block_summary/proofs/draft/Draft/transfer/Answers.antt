@@ -5,7 +5,7 @@ use Rattle.face_data.specs.Composition.{effect_of_both}
 use Rattle.face_data.specs.Summaries.{Summary}
 use Rattle.block_summary.specs.Asks.{formed_loop}
 use Rattle.block_summary.specs.DraftKnowledge.{HasAskedAll, effect_in, stopped_at}
-use Rattle.block_summary.specs.LineSummaries.{asked_by}
+use Rattle.block_summary.specs.LineSummaries.{conditions_of_instr}
 use Rattle.block_summary.proofs.KnitSteps.{lines_before, through_before}
 use Rattle.block_summary.proofs.LineSteps.{line_stops}
 use Rattle.block_summary.proofs.TransferSteps.{transfer_goes, rising_before}
@@ -20,7 +20,7 @@ returns-in-Some c =
     let instr = c.args.instr.now in
     let old = c.args.self.now in
     let mid = c.ask_transfer.new.self in
-    let asked = subst (λ (stop : Option Reason). HasAskedAll old mid (asked_by profile instr) stop) c.in-Some.is (c.in_ok-reason.ensures profile refl) in
+    let asked = subst (λ (stop : Option Reason). HasAskedAll old mid (conditions_of_instr profile instr) stop) c.in-Some.is (c.in_ok-reason.ensures profile refl) in
     line_stops profile instr old mid c.in-Some.reason (through_before old mid asked.rest_stays c.stop.ensures.through) asked
     ∙ (λ i. stopped_at (sym c.stop.ensures.fault i) (sym c.stop.ensures.line i))
 
@@ -35,7 +35,7 @@ returns c =
     let instr = c.args.instr.now in
     let old = c.args.self.now in
     let mid = c.ask_transfer.new.self in
-    let asked = subst (λ (stop : Option Reason). HasAskedAll old mid (asked_by profile instr) stop) c.in_default.is (c.in_ok-reason.ensures profile refl) in
+    let asked = subst (λ (stop : Option Reason). HasAskedAll old mid (conditions_of_instr profile instr) stop) c.in_default.is (c.in_ok-reason.ensures profile refl) in
     let lawful = c.requires.lawful in (
       transfer_goes c.args.profile.now lawful.0 instr c.args.n c.args.n2 old mid c.move_loops.new.self c.move_on.new.self (through_before old mid asked.rest_stays c.move_loops.ensures.through)
           (rising_before old mid asked.rest_stays c.move_loops.ensures.rising) lawful.2 c.requires.transfer asked c.in_ok-move_loops.ensures.changes

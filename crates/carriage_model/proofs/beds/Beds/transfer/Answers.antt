@@ -1,5 +1,5 @@
 use Rattle.std.proofs.Common.{length, ap, ◌∙◌, arith}
-use Rattle.carriage_model.specs.Beds.{Holds, loops_at}
+use Rattle.carriage_model.specs.Beds.{BedsHold, loops_at}
 use Rattle.carriage_model.proofs.BedChanges.{exchange-transfers, moved-transfers, returned-holds, other_stack, still-on, nil_from_test}
 use Rattle.carriage_model.proofs.beds.Beds.transfer.Goals as goal
 
@@ -22,7 +22,7 @@ receive-requires-clause-room c =
 
 pub give_room-requires : goal.give_room-requires
 give_room-requires c =
-    let received : Holds c.take-moved.new.self c.receive.new.self _ = c.in-Ok.ensures.ok in
+    let received : BedsHold c.take-moved.new.self c.receive.new.self _ = c.in-Ok.ensures.ok in
     still-on c.take-moved.new.self c.receive.new.self c.args.n.at received.same (still-on c.args.self.now c.take-moved.new.self c.args.n.at c.take-moved.ensures.left.same c.requires.from)
 
 pub returns-in-Ok-clause-ok : goal.returns-in-Ok-clause-ok
@@ -32,7 +32,7 @@ returns-in-Ok-clause-ok c =
 
 pub put-requires : goal.put-requires
 put-requires c =
-    let received : Holds c.take-moved.new.self c.receive.new.self _ = c.in-Err.ensures.err in
+    let received : BedsHold c.take-moved.new.self c.receive.new.self _ = c.in-Err.ensures.err in
     still-on c.take-moved.new.self c.receive.new.self c.args.n.at received.same (still-on c.args.self.now c.take-moved.new.self c.args.n.at c.take-moved.ensures.left.same c.requires.from)
 
 pub returns-in-Err-clause-err : goal.returns-in-Err-clause-err

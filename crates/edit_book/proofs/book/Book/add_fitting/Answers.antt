@@ -2,13 +2,13 @@ use Rattle.std.proofs.Common.{◌≡◌, ◌++◌, ◌∷◌, [], ap, sym, subst
 use Rattle.edit_journal.specs.declared.edit.Edit.TheVariants as edit
 use Rattle.edit_journal.specs.declared.opening.Opening.{Opening}
 use Rattle.face_data.specs.Summaries.{Summary}
-use Rattle.edit_book.specs.Books.{BookView, IsLawful, IsLawfulOutline}
+use Rattle.edit_book.specs.Books.{BookView, AreLawfulLeaves, IsLawfulOutline}
 use Rattle.edit_book.proofs.Boxes.{count_of, leaves_again, root_of}
 use Rattle.edit_book.proofs.Trees.{root_fits, root_good}
 use Rattle.edit_book.specs.Replies.{Add}
 use Rattle.edit_book.proofs.Added.{add_anchored, add_comes, add_fits, add_granted, add_is_short, add_made, add_sound, add_work}
 use Rattle.edit_book.proofs.Made.{turn_made}
-use Rattle.edit_book.proofs.Rooms.{failed, kept_more, made, no_longer}
+use Rattle.edit_book.proofs.Rooms.{err_holds, kept_more, ok_holds, no_longer}
 use Rattle.summary_tree.specs.Trees.{CanInsert, IsSameTree, TreeView}
 use Rattle.edit_book.proofs.book.Book.add_fitting.Given.{Over}
 use Rattle.edit_book.proofs.book.Book.add_fitting.Goals as goal
@@ -38,22 +38,22 @@ insert-requires-clause-place g c =
 
 pub insert-requires-clause-room : goal.insert-requires-clause-room
 insert-requires-clause-room g c =
-    let met = made c.reserve.result _ (sym c.is_err.ensures.value ∙ c.if-is_err.false) c.reserve.ensures.ok in
+    let met = ok_holds c.reserve.result _ (sym c.is_err.ensures.value ∙ c.if-is_err.false) c.reserve.ensures.ok in
     let same = subst (λ (t : TreeView). IsSameTree t c.reserve.new.self) (c.deref_mut.ensures.value ∙ sym c.deref.ensures) c.reserve.ensures.same in
     subst (λ (p : TreeView × Summary). CanInsert p.0 c.place_after-at.result p.1) (λ i. (sym c.deref_mut-2.ensures.value i, (c.view.ensures.summary ∙ sym c.view-2.ensures.summary) i))
     ((c.need_insert-need.ensures c.reserve.new.self same).0 met)
 
 pub insert-requires-clause-sound : goal.insert-requires-clause-sound
 insert-requires-clause-sound g c =
-    add_sound _ _ c.args.session c.args.id c.place_after-at.result c.args.anchor c.args.head c.args.prepared c.args.self.now _ _ c.self.invariant c.self.view_is c.requires.free c.requires.prepared c.requires.id c.place_after-at.ensures.place _ (made c.enter_add.result _ (sym c.is_err-2.ensures.value ∙ c.if-is_err-2.false) c.enter_add.ensures.ok)
+    add_sound _ _ c.args.session c.args.id c.place_after-at.result c.args.anchor c.args.head c.args.prepared c.args.self.now _ _ c.self.invariant c.self.view_is c.requires.free c.requires.prepared c.requires.id c.place_after-at.ensures.place _ (ok_holds c.enter_add.result _ (sym c.is_err-2.ensures.value ∙ c.if-is_err-2.false) c.enter_add.ensures.ok)
     (subst (λ (o : Opening). IsLawfulOutline o c.enter_add.new.self.entries) c.enter_add.ensures.opening c.enter_add.ensures.lawful) _ _ (leaves_again _ _ _ _ c.deref_mut.ensures.value c.reserve.ensures.same c.deref_mut-2.ensures.value) c.view-2.ensures.summary
 
 -- the entry stands behind the others
 longer : (g : Over) (c : After-first g) → c.enter_add.new.self.entries ≡ c.self.inside.outline.entries ++ record { session = c.args.session; edit = edit.Add c.args.anchor c.args.id c.args.prepared.text } ∷ []
-longer g c = (made c.enter_add.result _ (sym c.is_err-2.ensures.value ∙ c.if-is_err-2.false) c.enter_add.ensures.ok)
+longer g c = (ok_holds c.enter_add.result _ (sym c.is_err-2.ensures.value ∙ c.if-is_err-2.false) c.enter_add.ensures.ok)
 
 -- what is kept then is lawful
-keeps : (g : Over) (c : After-first g) → IsLawful c.self.inside.outline.opening c.enter_add.new.self.entries c.insert.new.self.leaves
+keeps : (g : Over) (c : After-first g) → AreLawfulLeaves c.self.inside.outline.opening c.enter_add.new.self.entries c.insert.new.self.leaves
 keeps g c =
     add_made _ _ c.args.session c.args.id c.place_after-at.result c.args.anchor c.args.head c.args.prepared c.args.self.now _ _ c.self.invariant c.self.view_is c.requires.free c.requires.prepared c.requires.id c.place_after-at.ensures.place _ (longer g c)
     (subst (λ (o : Opening). IsLawfulOutline o c.enter_add.new.self.entries) c.enter_add.ensures.opening c.enter_add.ensures.lawful) _ _ (leaves_again _ _ _ _ c.deref_mut.ensures.value c.reserve.ensures.same c.deref_mut-2.ensures.value) c.view-2.ensures.summary _ c.insert.ensures.leaves
@@ -72,7 +72,7 @@ brief_of-brief-requires-clause-lines g c =
 
 pub invariant_of-self-2 : goal.invariant_of-self-2
 invariant_of-self-2 g c =
-    subst (λ (o : Opening). IsLawful o c.enter_add.new.self.entries c.insert.new.self.leaves) (sym c.enter_add.ensures.opening) (keeps g (goal.at.invariant_of-self-2 g c).After-first)
+    subst (λ (o : Opening). AreLawfulLeaves o c.enter_add.new.self.entries c.insert.new.self.leaves) (sym c.enter_add.ensures.opening) (keeps g (goal.at.invariant_of-self-2 g c).After-first)
 
 pub returns-clause-turned : goal.returns-clause-turned
 returns-clause-turned g c =
@@ -92,7 +92,7 @@ returns-then-is_err-clause-kept g c = λ stays. kept_more _ _ _ _ _ _ _ _ _ _ _ 
 pub returns-then-is_err-2-clause-kept : goal.returns-then-is_err-2-clause-kept
 returns-then-is_err-2-clause-kept g c = λ stays.
     let err = sym c.is_err-2.ensures.value ∙ c.if-is_err-2.true in
-    kept_more _ _ _ _ _ _ _ _ _ _ _ c.self.view_is refl c.enter_add.ensures.opening (failed c.enter_add.result _ err c.enter_add.ensures.err) (failed c.enter_add.result _ err c.enter_add.ensures.room) c.deref_mut.ensures.value
+    kept_more _ _ _ _ _ _ _ _ _ _ _ c.self.view_is refl c.enter_add.ensures.opening (err_holds c.enter_add.result _ err c.enter_add.ensures.err) (err_holds c.enter_add.result _ err c.enter_add.ensures.room) c.deref_mut.ensures.value
     c.reserve.ensures.same c.reserve.ensures.keeps
 
 pub returns-clause-kept : goal.returns-clause-kept

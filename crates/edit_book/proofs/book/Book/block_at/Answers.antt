@@ -1,7 +1,7 @@
 use Rattle.std.proofs.Common.{◌≡◌, ℕ, ◌+◌, Some, ap, sym, ◌∙◌, arith}
 use Rattle.std.specs.Option.{option_copied}
 use Rattle.edit_book.proofs.Boxes.{before_of, count_of}
-use Rattle.edit_book.proofs.HeldTexts.{held, stamp_here}
+use Rattle.edit_book.proofs.HeldTexts.{held_block_here, stamp_here}
 use Rattle.edit_book.proofs.Listings.{at_leaf, begins_within, listed_here, unlisted_here}
 use Rattle.edit_book.proofs.book.Book.block_at.Goals as goal
 
@@ -10,7 +10,7 @@ returns-in_default c = unlisted_here _ _ c.args.self.now _ _ c.self.invariant c.
 
 pub unreachable-requires : goal.unreachable-requires
 unreachable-requires c =
-    let here = held _ _ c.args.self.now _ _ c.self.invariant c.self.view_is c.args.at c.in-Some.block (sym c.id_at.ensures ∙ c.in-Some.is) in
+    let here = held_block_here _ _ c.args.self.now _ _ c.self.invariant c.self.view_is c.args.at c.in-Some.block (sym c.id_at.ensures ∙ c.in-Some.is) in
     let there = stamp_here _ _ _ here in
     cc
 

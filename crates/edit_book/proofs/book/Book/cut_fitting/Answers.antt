@@ -1,13 +1,13 @@
 use Rattle.std.proofs.Common.{◌≡◌, ◌++◌, ◌∷◌, [], ap, sym, subst, ◌∙◌, arith, length, refl}
 use Rattle.edit_journal.specs.declared.edit.Edit.TheVariants as edit
 use Rattle.edit_journal.specs.declared.opening.Opening.{Opening}
-use Rattle.edit_book.specs.Books.{BookView, IsLawful, IsLawfulOutline}
+use Rattle.edit_book.specs.Books.{BookView, AreLawfulLeaves, IsLawfulOutline}
 use Rattle.edit_book.proofs.Boxes.{count_of, leaves_again, root_of}
 use Rattle.edit_book.proofs.Trees.{root_fits, root_good}
 use Rattle.edit_book.specs.Replies.{Cut}
 use Rattle.edit_book.proofs.Made.{at_fits, turn_made}
 use Rattle.edit_book.proofs.Removed.{cut_comes, cut_made, cut_unplaced, cut_work}
-use Rattle.edit_book.proofs.Rooms.{failed, kept_more, made, no_longer}
+use Rattle.edit_book.proofs.Rooms.{err_holds, kept_more, ok_holds, no_longer}
 use Rattle.summary_tree.specs.Trees.{CanRemove, IsSameTree, TreeView}
 use Rattle.edit_book.proofs.book.Book.cut_fitting.Given.{Over}
 use Rattle.edit_book.proofs.book.Book.cut_fitting.Goals as goal
@@ -34,16 +34,16 @@ remove-requires-clause-place g c =
 
 pub remove-requires-clause-room : goal.remove-requires-clause-room
 remove-requires-clause-room g c =
-    let met = made c.reserve.result _ (sym c.is_err.ensures.value ∙ c.if-is_err.false) c.reserve.ensures.ok in
+    let met = ok_holds c.reserve.result _ (sym c.is_err.ensures.value ∙ c.if-is_err.false) c.reserve.ensures.ok in
     let same = subst (λ (t : TreeView). IsSameTree t c.reserve.new.self) (c.deref_mut.ensures.value ∙ sym c.deref.ensures) c.reserve.ensures.same in
     subst (λ (t : TreeView). CanRemove t c.in-Some.at) (sym c.deref_mut-2.ensures.value) ((c.need_remove-need.ensures c.reserve.new.self same).0 met)
 
 -- the entry stands behind the others
 longer : (g : Over) (c : After-first g) → c.enter_cut.new.self.entries ≡ c.self.inside.outline.entries ++ record { session = c.args.session; edit = edit.Cut c.args.id c.args.seen } ∷ []
-longer g c = (made c.enter_cut.result _ (sym c.is_err-2.ensures.value ∙ c.if-is_err-2.false) c.enter_cut.ensures.ok)
+longer g c = (ok_holds c.enter_cut.result _ (sym c.is_err-2.ensures.value ∙ c.if-is_err-2.false) c.enter_cut.ensures.ok)
 
 -- what is kept then is lawful
-keeps : (g : Over) (c : After-first g) → IsLawful c.self.inside.outline.opening c.enter_cut.new.self.entries c.remove.new.self.leaves
+keeps : (g : Over) (c : After-first g) → AreLawfulLeaves c.self.inside.outline.opening c.enter_cut.new.self.entries c.remove.new.self.leaves
 keeps g c =
     cut_made _ _ c.args.session c.args.id c.args.seen c.args.self.now _ _ c.self.invariant c.self.view_is c.requires c.in-Some.at (sym c.place.ensures ∙ c.in-Some.is) _ (longer g c)
     (subst (λ (o : Opening). IsLawfulOutline o c.enter_cut.new.self.entries) c.enter_cut.ensures.opening c.enter_cut.ensures.lawful) _ _ (leaves_again _ _ _ _ c.deref_mut.ensures.value c.reserve.ensures.same c.deref_mut-2.ensures.value) c.remove.ensures.leaves
@@ -62,7 +62,7 @@ brief_of-brief-requires-clause-lines g c =
 
 pub invariant_of-self-2 : goal.invariant_of-self-2
 invariant_of-self-2 g c =
-    subst (λ (o : Opening). IsLawful o c.enter_cut.new.self.entries c.remove.new.self.leaves) (sym c.enter_cut.ensures.opening) (keeps g (goal.at.invariant_of-self-2 g c).After-first)
+    subst (λ (o : Opening). AreLawfulLeaves o c.enter_cut.new.self.entries c.remove.new.self.leaves) (sym c.enter_cut.ensures.opening) (keeps g (goal.at.invariant_of-self-2 g c).After-first)
 
 pub returns-clause-turned : goal.returns-clause-turned
 returns-clause-turned g c =
@@ -82,7 +82,7 @@ returns-then-is_err-clause-kept g c = λ stays. kept_more _ _ _ _ _ _ _ _ _ _ _ 
 pub returns-then-is_err-2-clause-kept : goal.returns-then-is_err-2-clause-kept
 returns-then-is_err-2-clause-kept g c = λ stays.
     let err = sym c.is_err-2.ensures.value ∙ c.if-is_err-2.true in
-    kept_more _ _ _ _ _ _ _ _ _ _ _ c.self.view_is refl c.enter_cut.ensures.opening (failed c.enter_cut.result _ err c.enter_cut.ensures.err) (failed c.enter_cut.result _ err c.enter_cut.ensures.room) c.deref_mut.ensures.value
+    kept_more _ _ _ _ _ _ _ _ _ _ _ c.self.view_is refl c.enter_cut.ensures.opening (err_holds c.enter_cut.result _ err c.enter_cut.ensures.err) (err_holds c.enter_cut.result _ err c.enter_cut.ensures.room) c.deref_mut.ensures.value
     c.reserve.ensures.same c.reserve.ensures.keeps
 
 pub returns-clause-kept : goal.returns-clause-kept

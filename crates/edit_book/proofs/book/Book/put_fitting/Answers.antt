@@ -2,12 +2,12 @@ use Rattle.std.proofs.Common.{◌≡◌, ◌++◌, ◌∷◌, [], ap, sym, subst
 use Rattle.edit_journal.specs.declared.edit.Edit.TheVariants as edit
 use Rattle.edit_journal.specs.declared.opening.Opening.{Opening}
 use Rattle.face_data.specs.Summaries.{Summary}
-use Rattle.edit_book.specs.Books.{BookView, IsLawful, IsLawfulOutline}
+use Rattle.edit_book.specs.Books.{BookView, AreLawfulLeaves, IsLawfulOutline}
 use Rattle.edit_book.proofs.Boxes.{count_of, leaves_again, root_of}
 use Rattle.edit_book.proofs.Trees.{root_fits, root_good}
 use Rattle.edit_book.specs.Replies.{Put}
 use Rattle.edit_book.proofs.Made.{at_fits, put_comes, put_is_short, put_made, put_sound, put_unplaced, put_work, turn_made}
-use Rattle.edit_book.proofs.Rooms.{failed, kept_more, made, no_longer}
+use Rattle.edit_book.proofs.Rooms.{err_holds, kept_more, ok_holds, no_longer}
 use Rattle.summary_tree.specs.Trees.{CanReplace, TreeView}
 use Rattle.edit_book.proofs.book.Book.put_fitting.Given.{Over}
 use Rattle.edit_book.proofs.book.Book.put_fitting.Goals as goal
@@ -37,20 +37,20 @@ replace-requires-clause-place g c =
 
 pub replace-requires-clause-room : goal.replace-requires-clause-room
 replace-requires-clause-room g c =
-    let met = made c.reserve_replace.result _ (sym c.is_err.ensures.value ∙ c.if-is_err.false) c.reserve_replace.ensures.ok in
+    let met = ok_holds c.reserve_replace.result _ (sym c.is_err.ensures.value ∙ c.if-is_err.false) c.reserve_replace.ensures.ok in
     subst (λ (p : TreeView × Summary). CanReplace p.0 c.in-Some.at p.1) (λ i. (sym c.deref_mut-2.ensures.value i, (c.view.ensures.summary ∙ sym c.view-2.ensures.summary) i)) met
 
 pub replace-requires-clause-sound : goal.replace-requires-clause-sound
 replace-requires-clause-sound g c =
-    put_sound _ _ c.args.session c.args.id c.args.seen c.args.head c.args.prepared c.args.self.now _ _ c.self.invariant c.self.view_is c.requires.free c.requires.prepared c.in-Some.at (sym c.place.ensures ∙ c.in-Some.is) _ (made c.enter_put.result _ (sym c.is_err-2.ensures.value ∙ c.if-is_err-2.false) c.enter_put.ensures.ok)
+    put_sound _ _ c.args.session c.args.id c.args.seen c.args.head c.args.prepared c.args.self.now _ _ c.self.invariant c.self.view_is c.requires.free c.requires.prepared c.in-Some.at (sym c.place.ensures ∙ c.in-Some.is) _ (ok_holds c.enter_put.result _ (sym c.is_err-2.ensures.value ∙ c.if-is_err-2.false) c.enter_put.ensures.ok)
     (subst (λ (o : Opening). IsLawfulOutline o c.enter_put.new.self.entries) c.enter_put.ensures.opening c.enter_put.ensures.lawful) _ _ (leaves_again _ _ _ _ c.deref_mut.ensures.value c.reserve_replace.ensures.same c.deref_mut-2.ensures.value) c.view-2.ensures.summary
 
 -- the entry stands behind the others
 longer : (g : Over) (c : After-first g) → c.enter_put.new.self.entries ≡ c.self.inside.outline.entries ++ record { session = c.args.session; edit = edit.Put c.args.id c.args.seen c.args.prepared.text } ∷ []
-longer g c = (made c.enter_put.result _ (sym c.is_err-2.ensures.value ∙ c.if-is_err-2.false) c.enter_put.ensures.ok)
+longer g c = (ok_holds c.enter_put.result _ (sym c.is_err-2.ensures.value ∙ c.if-is_err-2.false) c.enter_put.ensures.ok)
 
 -- what is kept then is lawful
-keeps : (g : Over) (c : After-first g) → IsLawful c.self.inside.outline.opening c.enter_put.new.self.entries c.replace.new.self.leaves
+keeps : (g : Over) (c : After-first g) → AreLawfulLeaves c.self.inside.outline.opening c.enter_put.new.self.entries c.replace.new.self.leaves
 keeps g c =
     put_made _ _ c.args.session c.args.id c.args.seen c.args.head c.args.prepared c.args.self.now _ _ c.self.invariant c.self.view_is c.requires.free c.requires.prepared c.in-Some.at (sym c.place.ensures ∙ c.in-Some.is) _ (longer g c)
     (subst (λ (o : Opening). IsLawfulOutline o c.enter_put.new.self.entries) c.enter_put.ensures.opening c.enter_put.ensures.lawful) _ _ (leaves_again _ _ _ _ c.deref_mut.ensures.value c.reserve_replace.ensures.same c.deref_mut-2.ensures.value) c.view-2.ensures.summary _ c.replace.ensures.leaves
@@ -69,7 +69,7 @@ brief_of-brief-requires-clause-lines g c =
 
 pub invariant_of-self-2 : goal.invariant_of-self-2
 invariant_of-self-2 g c =
-    subst (λ (o : Opening). IsLawful o c.enter_put.new.self.entries c.replace.new.self.leaves) (sym c.enter_put.ensures.opening) (keeps g (goal.at.invariant_of-self-2 g c).After-first)
+    subst (λ (o : Opening). AreLawfulLeaves o c.enter_put.new.self.entries c.replace.new.self.leaves) (sym c.enter_put.ensures.opening) (keeps g (goal.at.invariant_of-self-2 g c).After-first)
 
 pub returns-clause-turned : goal.returns-clause-turned
 returns-clause-turned g c =
@@ -89,7 +89,7 @@ returns-then-is_err-clause-kept g c = λ stays. kept_more _ _ _ _ _ _ _ _ _ _ _ 
 pub returns-then-is_err-2-clause-kept : goal.returns-then-is_err-2-clause-kept
 returns-then-is_err-2-clause-kept g c = λ stays.
     let err = sym c.is_err-2.ensures.value ∙ c.if-is_err-2.true in
-    kept_more _ _ _ _ _ _ _ _ _ _ _ c.self.view_is refl c.enter_put.ensures.opening (failed c.enter_put.result _ err c.enter_put.ensures.err) (failed c.enter_put.result _ err c.enter_put.ensures.room) c.deref_mut.ensures.value
+    kept_more _ _ _ _ _ _ _ _ _ _ _ c.self.view_is refl c.enter_put.ensures.opening (err_holds c.enter_put.result _ err c.enter_put.ensures.err) (err_holds c.enter_put.result _ err c.enter_put.ensures.room) c.deref_mut.ensures.value
     c.reserve_replace.ensures.same c.reserve_replace.ensures.keeps
 
 pub returns-clause-kept : goal.returns-clause-kept

@@ -2,14 +2,14 @@ use Rattle.std.proofs.Common.{◌≡◌, ◌++◌, ◌∷◌, [], List, ap, inl,
 use Rattle.edit_journal.specs.declared.edit.Edit.TheVariants as edit
 use Rattle.edit_journal.specs.declared.edit.Entry.{Entry}
 use Rattle.edit_journal.specs.declared.opening.Opening.{Opening}
-use Rattle.edit_book.specs.Books.{BookView, IsLawful, IsLawfulOutline}
+use Rattle.edit_book.specs.Books.{BookView, AreLawfulLeaves, IsLawfulOutline}
 use Rattle.edit_book.proofs.Boxes.{root_of}
 use Rattle.edit_book.proofs.Trees.{root_fits, root_good}
 use Rattle.edit_journal.specs.Entries.{head_id}
 use Rattle.edit_book.specs.Replies.{PutHead}
 use Rattle.edit_book.proofs.HeaderPuts.{head_comes, head_made}
 use Rattle.edit_book.proofs.Made.{turn_made}
-use Rattle.edit_book.proofs.Rooms.{failed, kept_more, made, no_longer, same_tree}
+use Rattle.edit_book.proofs.Rooms.{err_holds, kept_more, ok_holds, no_longer, same_tree}
 use Rattle.edit_book.proofs.book.Book.put_head_fitting.Goals as goal
 use Rattle.edit_book.proofs.book.Book.put_head_fitting.Goals.{After-first}
 
@@ -18,20 +18,20 @@ enter_head-requires c = head_comes _ _ c.args.session c.args.seen c.args.declare
 
 pub invariant_of-self : goal.invariant_of-self
 invariant_of-self c =
-    let same = failed c.enter_head.result _ (sym c.is_err.ensures.value ∙ c.if-is_err.true) c.enter_head.ensures.err in
-    subst (λ (p : Opening × List Entry). IsLawful p.0 p.1 c.self.inside.tree.value.leaves) (λ i. (sym c.enter_head.ensures.opening i, sym same i)) c.self.invariant
+    let same = err_holds c.enter_head.result _ (sym c.is_err.ensures.value ∙ c.if-is_err.true) c.enter_head.ensures.err in
+    subst (λ (p : Opening × List Entry). AreLawfulLeaves p.0 p.1 c.self.inside.tree.value.leaves) (λ i. (sym c.enter_head.ensures.opening i, sym same i)) c.self.invariant
 
 pub returns-then-is_err-clause-turned : goal.returns-then-is_err-clause-turned
 returns-then-is_err-clause-turned c =
-    let same = failed c.enter_head.result _ (sym c.is_err.ensures.value ∙ c.if-is_err.true) c.enter_head.ensures.err in
+    let same = err_holds c.enter_head.result _ (sym c.is_err.ensures.value ∙ c.if-is_err.true) c.enter_head.ensures.err in
     inl (refl, same ∙ ap (λ (w : BookView). w.entries) c.self.view_is)
 
 -- the entry stands behind the others
 longer : (c : After-first) → c.enter_head.new.self.entries ≡ c.self.inside.outline.entries ++ record { session = c.args.session; edit = edit.Head c.args.seen c.args.declared } ∷ []
-longer c = (made c.enter_head.result _ (sym c.is_err.ensures.value ∙ c.if-is_err.false) c.enter_head.ensures.ok)
+longer c = (ok_holds c.enter_head.result _ (sym c.is_err.ensures.value ∙ c.if-is_err.false) c.enter_head.ensures.ok)
 
 -- what is kept then is lawful
-keeps : (c : After-first) → IsLawful c.self.inside.outline.opening c.enter_head.new.self.entries c.args.tree.leaves
+keeps : (c : After-first) → AreLawfulLeaves c.self.inside.outline.opening c.enter_head.new.self.entries c.args.tree.leaves
 keeps c =
     head_made _ _ c.args.session c.args.seen c.args.declared c.args.self.now _ _ c.self.invariant c.self.view_is c.requires.free _ c.args.tree.leaves (longer c)
     (subst (λ (o : Opening). IsLawfulOutline o c.enter_head.new.self.entries) c.enter_head.ensures.opening c.enter_head.ensures.lawful) c.requires.leaves
@@ -50,7 +50,7 @@ brief_of-brief-requires-clause-lines c =
 
 pub invariant_of-self-2 : goal.invariant_of-self-2
 invariant_of-self-2 c =
-    subst (λ (o : Opening). IsLawful o c.enter_head.new.self.entries c.args.tree.leaves) (sym c.enter_head.ensures.opening) (keeps (goal.at.invariant_of-self-2 c).After-first)
+    subst (λ (o : Opening). AreLawfulLeaves o c.enter_head.new.self.entries c.args.tree.leaves) (sym c.enter_head.ensures.opening) (keeps (goal.at.invariant_of-self-2 c).After-first)
 
 pub returns-clause-turned : goal.returns-clause-turned
 returns-clause-turned c =
@@ -61,7 +61,7 @@ returns-clause-turned c =
 pub returns-then-is_err-clause-kept : goal.returns-then-is_err-clause-kept
 returns-then-is_err-clause-kept c = λ stays.
     let err = sym c.is_err.ensures.value ∙ c.if-is_err.true in
-    kept_more _ _ _ _ _ _ _ _ _ _ _ c.self.view_is refl c.enter_head.ensures.opening (failed c.enter_head.result _ err c.enter_head.ensures.err) (failed c.enter_head.result _ err c.enter_head.ensures.room) refl
+    kept_more _ _ _ _ _ _ _ _ _ _ _ c.self.view_is refl c.enter_head.ensures.opening (err_holds c.enter_head.result _ err c.enter_head.ensures.err) (err_holds c.enter_head.result _ err c.enter_head.ensures.room) refl
     (same_tree c.self.inside.tree.value) (λ need met. met)
 
 pub returns-clause-kept : goal.returns-clause-kept

@@ -1,14 +1,14 @@
 use Rattle.std.proofs.Common.{length, ap, sym, ◌∙◌, arith}
 use Rattle.std.specs.Option.{option_copied}
 use Rattle.edit_book.proofs.HandedOver.{prepared_leaf}
-use Rattle.edit_book.proofs.HeldTexts.{IsTextAt, held, held_text, text_here}
+use Rattle.edit_book.proofs.HeldTexts.{IsTextAt, held_block_here, held_text, text_here}
 use Rattle.edit_book.proofs.book.Book.summarised.Goals as goal
 use Rattle.edit_book.proofs.book.Book.summarised.Given.{Over}
 use Rattle.edit_book.proofs.book.Book.summarised.Goals.{In_ok-try_clone}
 
 pub unreachable-requires-in_default-text_of : goal.unreachable-requires-in_default-text_of
 unreachable-requires-in_default-text_of g c =
-    let here = held _ _ c.args.self.now _ _ c.self.invariant c.self.view_is c.args.at c.in-Some.id (sym c.id_at.ensures ∙ c.in-Some.is) in
+    let here = held_block_here _ _ c.args.self.now _ _ c.self.invariant c.self.view_is c.args.at c.in-Some.id (sym c.id_at.ensures ∙ c.in-Some.is) in
     let there = text_here _ _ _ here in
     let none = sym c.text_of.ensures.text ∙ ap option_copied c.in_default-text_of.is in
     cc

@@ -3,7 +3,7 @@ use Rattle.std.proofs.lemmas.Grind.{common_steps}
 use Rattle.std.specs.Vec.Iter.{into_iter_items}
 use Rattle.edit_book.specs.declared.reply.Again.{Again}
 use Rattle.edit_book.specs.Books.{BookView, document}
-use Rattle.edit_book.specs.HeaderTrees.{AreTaken, IsTaken}
+use Rattle.edit_book.specs.HeaderTrees.{AreLeavesTaken, IsLeafTaken}
 use Rattle.edit_book.proofs.HandedOver.{taken_first}
 use Rattle.edit_book.proofs.Openings.{nothing_left}
 use Rattle.edit_book.proofs.Trees.{zip_count}
@@ -17,7 +17,7 @@ loop-item-init c = record {
 }
 
 pub take_leaf-requires : goal.take_leaf-requires
-take_leaf-requires c = zip_count (IsTaken c.loop-item.yielded) c.loop-item.taken.items _ c.loop-item.invariant.taken
+take_leaf-requires c = zip_count (IsLeafTaken c.loop-item.yielded) c.loop-item.taken.items _ c.loop-item.invariant.taken
 
 pub loop-item-preserved : goal.loop-item-preserved
 loop-item-preserved c =
@@ -34,4 +34,4 @@ returns c =
     let at = c.loop-item in
     let empty : into_iter_items at.item-iterator ≡ [] = nothing_left (into_iter_items at.item-iterator) (sym at.invariant.left ∙ c.in-None.ensures.steps.0) in
     let all : at.yielded ≡ c.args.again = sym (append-nil at.yielded) ∙ rw empty at at.invariant.all ∙ c.into_iter-item-iterator.ensures.into_iter_gives.0 ∙ c.into_vec-item-items.ensures.items in
-    subst (λ (l : List Again). AreTaken l at.taken.items (document c.args.self.now).blocks) all at.invariant.taken
+    subst (λ (l : List Again). AreLeavesTaken l at.taken.items (document c.args.self.now).blocks) all at.invariant.taken

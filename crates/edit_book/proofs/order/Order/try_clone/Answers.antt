@@ -1,8 +1,8 @@
 use Rattle.std.proofs.Common.{◌≡◌, ℕ, List, Some, length, position, slice_get, ap, sym, subst, ◌∙◌, arith}
 use Rattle.tree_shape.specs.Changes.{numbers_below}
-use Rattle.tree_shape.specs.Values.{gathered}
+use Rattle.tree_shape.specs.Values.{values_of_numbers}
 use Rattle.tree_shape.specs.View.{leaves_of_tree}
-use Rattle.edit_book.specs.Orders.{AreKept, OrderView, is_id, number_at}
+use Rattle.edit_book.specs.Orders.{LeavesHaveIds, OrderView, is_id, number_at}
 use Rattle.edit_book.proofs.CopiedOrders.{copied_ids, copied_kept, own_place}
 use Rattle.edit_book.proofs.Orders.{kept_count, leaves_once}
 use Rattle.edit_book.proofs.order.Order.try_clone.Goals as goal
@@ -21,11 +21,11 @@ pub invariant_of-result : goal.invariant_of-result
 invariant_of-result c =
     let here = (goal.at.invariant_of-result c).In_ok-leaves in
     let own = own_place c.self.inside.shape.tree _ _ c.self.invariant (leaves_once c.self.inside.shape c.len.ensures.lawful) in
-    subst (λ (l : List ℕ). AreKept l (number_at c.in_ok-ids.ids.items) (number_at c.in_ok-leaves.leaves.items)) (sym (leaves_are here))
+    subst (λ (l : List ℕ). LeavesHaveIds l (number_at c.in_ok-ids.ids.items) (number_at c.in_ok-leaves.leaves.items)) (sym (leaves_are here))
     (copied_kept c.args.self.now.ids _ _ c.in_ok-ids.ensures c.in_ok-leaves.ensures
     (subst (λ (v : OrderView). (at id : ℕ) → slice_get v.ids at ≡ Some id → position (is_id id) v.ids ≡ Some at) c.self.view_is own))
 
 pub returns : goal.returns
 returns c =
     let here = (goal.at.returns c).In_ok-leaves in
-    ap (gathered (number_at c.in_ok-ids.ids.items)) (leaves_are here) ∙ copied_ids c.args.self.now.ids _ c.in_ok-ids.ensures
+    ap (values_of_numbers (number_at c.in_ok-ids.ids.items)) (leaves_are here) ∙ copied_ids c.args.self.now.ids _ c.in_ok-ids.ensures

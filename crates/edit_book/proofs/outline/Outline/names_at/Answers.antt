@@ -2,13 +2,13 @@ use Rattle.std.proofs.Common.{◌≡◌, ap, subst, sym, ◌∙◌}
 use Rattle.std.specs.Option.{option_copied}
 use Rattle.edit_journal.specs.Documents.{names_at}
 use Rattle.edit_book.specs.Outlines.{OutlineView}
-use Rattle.edit_book.specs.Headers.{AreRising, last_not_above}
+use Rattle.edit_book.specs.Headers.{AreNumbersRising, last_not_above}
 use Rattle.edit_book.proofs.HeaderNames.{header_rises, names_of_entry, names_of_opening}
 use Rattle.edit_book.proofs.KeptHeaders.{changed_lent}
 use Rattle.edit_book.proofs.outline.Outline.names_at.Goals as goal
 
 pub stamp_at-requires : goal.stamp_at-requires
-stamp_at-requires c = subst AreRising (sym (changed_lent _ _ _ _ _ c.self.invariant.1 c.deref.ensures)) (header_rises c.self.inside.journal.entries)
+stamp_at-requires c = subst AreNumbersRising (sym (changed_lent _ _ _ _ _ c.self.invariant.1 c.deref.ensures)) (header_rises c.self.inside.journal.entries)
 
 pub unreachable-requires : goal.unreachable-requires
 unreachable-requires c =

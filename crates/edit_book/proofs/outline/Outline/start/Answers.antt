@@ -1,6 +1,6 @@
 use Rattle.std.proofs.Common.{ℕ, List, length, flat_map, subst, ap, sym, ◌∙◌}
 use Rattle.edit_journal.specs.declared.edit.Entry.{Entry}
-use Rattle.edit_book.specs.Books.{Stands}
+use Rattle.edit_book.specs.Books.{OutlineStands}
 use Rattle.edit_book.proofs.Openings.{opened_header, opened_stands}
 use Rattle.tree_shape.specs.Changes.{numbers_below}
 use Rattle.std.specs.Prelude.{replicate}
@@ -9,7 +9,7 @@ use Rattle.edit_book.proofs.outline.Outline.start.Goals as goal
 
 pub invariant_of-result : goal.invariant_of-result
 invariant_of-result c = (
-  subst (λ (l : List Entry). Stands (record { setting = c.args.setting; texts = c.args.texts }) l c.in_ok-states.states.items c.in_ok-order.order.ids c.lines_of-lines.result) (sym c.new-3.ensures)
+  subst (λ (l : List Entry). OutlineStands (record { setting = c.args.setting; texts = c.args.texts }) l c.in_ok-states.states.items c.in_ok-order.order.ids c.lines_of-lines.result) (sym c.new-3.ensures)
       (opened_stands c.args.setting c.args.texts c.in_ok-states.states.items c.in_ok-order.order.ids c.lines_of-lines.result
       (record { profile = c.requires.profile; carriers = c.len-carriers.ensures.few; first = c.requires.first }) c.requires.short c.requires.few c.requires.lines
       (c.in_ok-states.ensures ∙ ap (λ (n : ℕ). replicate n (There 0)) c.len-count.ensures) (c.in_ok-order.ensures ∙ ap numbers_below c.len-count.ensures)

@@ -7,7 +7,7 @@ use Rattle.block_summary.specs.declared.prepared.Prepared.{Prepared}
 use Rattle.edit_journal.specs.declared.edit.BlockAt.{BlockAt}
 use Rattle.edit_book.specs.declared.reply.Again.{Again}
 use Rattle.edit_book.specs.Turns.{AreFitAgain}
-use Rattle.edit_book.proofs.GivenTexts.{Found, fit_more, found, given_at}
+use Rattle.edit_book.proofs.GivenTexts.{Found, fit_more, given_text_found, given_at}
 use Rattle.edit_book.proofs.sessions.again.blocks_again.Goals as goal
 use Rattle.edit_book.proofs.sessions.again.blocks_again.Goals.{In-Some}
 
@@ -22,7 +22,7 @@ ends (x ∷ xs) none = absurd (omega (arith, none))
 
 -- the block of the summary
 block_found : (c : In-Some) → Found c.args.blocks.now c.loop-prepared.at c.in-Some.prepared.text (map (λ (p : Prepared). p.text) (into_iter_items c.next.new.self))
-block_found c = found _ _ _ _ (sym (ap (map (λ (p : Prepared). p.text)) c.in-Some.ensures.steps.0) ∙ c.loop-prepared.invariant.texts)
+block_found c = given_text_found _ _ _ _ (sym (ap (map (λ (p : Prepared). p.text)) c.in-Some.ensures.steps.0) ∙ c.loop-prepared.invariant.texts)
 
 pub unreachable-requires : goal.unreachable-requires
 unreachable-requires c =

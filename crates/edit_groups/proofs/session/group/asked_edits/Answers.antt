@@ -2,7 +2,7 @@ use Rattle.std.proofs.Common.{◌≡◌, ◌≤◌, ◌+◌, ◌++◌, ◌∷◌
 use Rattle.std.proofs.lemmas.List.{map-append, take_all, take_more}
 use Rattle.script_reader.specs.Groups.{is_edit}
 use Rattle.script_reader.specs.declared.command.Command.{Command}
-use Rattle.edit_book.specs.Memory.{asked}
+use Rattle.edit_book.specs.Memory.{asked_of_book}
 use Rattle.edit_groups.specs.Groups.{AreFitEdits, edit_asked}
 use Rattle.edit_groups.specs.declared.reply.GroupEdit.{GroupEdit}
 use Rattle.edit_groups.proofs.GroupAsked.{all_got, fit_edits_more}
@@ -35,9 +35,9 @@ loop-command-preserved g c =
           ap (map edit_asked) pushed
           ∙ map-append edit_asked c.loop-command.edits (e ∷ [])
           ∙ ap (λ l. l ++ edit_asked e ∷ []) (c.loop-command.invariant.asked m had)
-          ∙ ap (λ a. map (asked m) (take i cs) ++ a ∷ []) (c.in_ok-asked_edit.ensures.asked m had)
-          ∙ sym (map-append (asked m) (take i cs) (x ∷ []))
-          ∙ ap (map (asked m)) (sym more);
+          ∙ ap (λ a. map (asked_of_book m) (take i cs) ++ a ∷ []) (c.in_ok-asked_edit.ensures.asked m had)
+          ∙ sym (map-append (asked_of_book m) (take i cs) (x ∷ []))
+          ∙ ap (map (asked_of_book m)) (sym more);
     }
 
 pub returns-clause-count : goal.returns-clause-count
@@ -47,4 +47,4 @@ pub returns-clause-fit : goal.returns-clause-fit
 returns-clause-fit g c = c.loop-command.invariant.fit
 
 pub returns-clause-asked : goal.returns-clause-asked
-returns-clause-asked g c = λ m had. c.loop-command.invariant.asked m had ∙ ap (map (asked m)) (take_all c.loop-command.command-index c.args.commands.now c.loop-command-test.false)
+returns-clause-asked g c = λ m had. c.loop-command.invariant.asked m had ∙ ap (map (asked_of_book m)) (take_all c.loop-command.command-index c.args.commands.now c.loop-command-test.false)

@@ -2,9 +2,9 @@ use Rattle.std.proofs.Common.{◌≡◌, refl, sym, ap, ◌∙◌, subst}
 use Rattle.edit_journal.specs.Documents.{names_given}
 use Rattle.script_reader.specs.declared.step.Step.TheVariants as step
 use Rattle.edit_book.specs.Session.{HasLearned}
-use Rattle.edit_groups.specs.Chunks.{entries_of}
+use Rattle.edit_groups.specs.Chunks.{entries_of_chunks}
 use Rattle.edit_groups.specs.Sessions.{group_memory}
-use Rattle.edit_groups.specs.Shared.{opening_of}
+use Rattle.edit_groups.specs.Shared.{group_book_opening}
 use Rattle.edit_groups.specs.Turns.{IsTaught, IsTaughtWhereDone}
 use Rattle.edit_groups.specs.declared.reply.GroupReply.{GroupReply}
 use Rattle.edit_groups.specs.declared.reply.GroupReply.TheVariants.{Done}
@@ -16,7 +16,7 @@ use Rattle.edit_groups.proofs.session.group.do_group.Goals as goal
 
 pub returns-in-Done-clause-done : goal.returns-in-Done-clause-done
 returns-in-Done-clause-done g c = λ m remembers.
-    let o = opening_of c.args.shared.now in let s = c.args.session.now in let n = s.session.number in let cs = c.args.commands.now in
+    let o = group_book_opening c.args.shared.now in let s = c.args.session.now in let n = s.session.number in let cs = c.args.commands.now in
     let v = view_of c.args.pass.now in let w = view_of c.take_group-told.new.pass in
     let h = c.take_group-told.ensures.heard m remembers in let e = h.heard.edits in
     let is : h.heard.reply ≡ Done c.in-Done.version c.in-Done.from c.in-Done.brief = sym h.reply_is ∙ c.in-Done.is in
@@ -31,7 +31,7 @@ returns-in-Done-clause-done g c = λ m remembers.
         memory = group_memory m cs h.heard.reply e;
         remembers = knows;
         names =
-            ap (names_given o (entries_of w.seen)) (c.learn_done.ensures.head m e kept taught ∙ c.take_group-told.ensures.head)
+            ap (names_given o (entries_of_chunks w.seen)) (c.learn_done.ensures.head m e kept taught ∙ c.take_group-told.ensures.head)
             ∙ names_along o n m (step.Group cs) h.heard v w s.session.learned.head s.session.header.declared h.taken c.requires.names;
       };
       remembers = λ known. knows;
@@ -40,7 +40,7 @@ returns-in-Done-clause-done g c = λ m remembers.
 
 pub returns-in_default : goal.returns-in_default
 returns-in_default g c =
-    let o = opening_of c.args.shared.now in let s = c.args.session.now in let n = s.session.number in let cs = c.args.commands.now in
+    let o = group_book_opening c.args.shared.now in let s = c.args.session.now in let n = s.session.number in let cs = c.args.commands.now in
     let v = view_of c.args.pass.now in let w = view_of c.take_group-told.new.pass in
     record {
       of_this = c.take_group-told.ensures.of_this;
@@ -58,7 +58,7 @@ returns-in_default g c =
               memory = group_memory m cs h.heard.reply h.heard.edits;
               remembers = knows;
               names =
-                  ap (names_given o (entries_of w.seen)) (c.learn_missed.ensures.head ∙ c.take_group-told.ensures.head)
+                  ap (names_given o (entries_of_chunks w.seen)) (c.learn_missed.ensures.head ∙ c.take_group-told.ensures.head)
                   ∙ names_along o n m (step.Group cs) h.heard v w s.session.learned.head s.session.header.declared h.taken c.requires.names;
             };
             remembers = λ known. knows;

@@ -1,12 +1,12 @@
 use Rattle.std.proofs.Common.{◌≡◌, ◌+◌, ◌-◌, ◌^◌, ◌∷◌, ◌∙◌, ℕ, min, drop, length, sym, ap, subst, arith}
 use Rattle.script_reader.specs.declared.command.Command.{Command}
-use Rattle.edit_book.specs.Session.{HasRoom}
+use Rattle.edit_book.specs.Session.{HasStampRoom}
 use Rattle.edit_groups.proofs.Learning.{drop_all, drop_got, learning_begins, learning_ends, learning_goes_on}
 use Rattle.edit_groups.proofs.session.learn.learn_done.Goals as goal
 
 pub loop-command-init : goal.loop-command-init
 loop-command-init c = record {
-  room = λ more is. subst (λ (n : ℕ). HasRoom n c.args.learned.now) (omega (arith, is)) c.requires.room;
+  room = λ more is. subst (λ (n : ℕ). HasStampRoom n c.args.learned.now) (omega (arith, is)) c.requires.room;
   learning = λ m edits had taught. learning_begins m c.args.from c.args.ids c.args.brief c.args.commands.now edits c.args.learned.now had taught;
 }
 

@@ -3,7 +3,7 @@ use Rattle.std.proofs.lemmas.List.{drop-drop, take_all}
 use Rattle.knit_base.specs.Lawful.{IsLawfulRead}
 use Rattle.knit_base.specs.Usual.{usual_read}
 use Rattle.carriage_model.specs.declared.carriage.Carriage.{Carriage}
-use Rattle.carriage_model.specs.Carriage.{RanOn, next_line, profile_of}
+use Rattle.carriage_model.specs.Carriage.{RanOn, next_carriage_line, profile_of}
 use Rattle.file_run.proofs.BrokenLines.{keeps-none}
 use Rattle.file_run.proofs.BodySteps.{carries-out, is-running, next-number, next-taken, usual-stands}
 use Rattle.file_run.proofs.body_run.BodyRun.take_line.Goals as goal
@@ -40,7 +40,7 @@ carry_on-requires-clause-lawful g c =
 
 pub carry_on-requires-clause-lines : goal.carry_on-requires-clause-lines
 carry_on-requires-clause-lines g c =
-    subst (λ (k : Carriage). next_line k + 1 < 4294967296) (sym (c.in_ok-carry_usual.ensures.same c.if-branch.false))
+    subst (λ (k : Carriage). next_carriage_line k + 1 < 4294967296) (sym (c.in_ok-carry_usual.ensures.same c.if-branch.false))
     (omega (arith, c.requires.few, c.requires.ran.2, next-number _ g.T.Taker.has c.requires.ran.0 c.args.head.now c.requires.ran.1 c.args.self.now c.requires.ran.3))
 
 pub returns-then-branch-clause-ok : goal.returns-then-branch-clause-ok

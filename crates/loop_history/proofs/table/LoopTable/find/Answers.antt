@@ -1,5 +1,5 @@
 use Rattle.std.proofs.Common.{◌+◌, ◌-◌, ◌/◌, ℕ, sym, refl, arith}
-use Rattle.loop_history.proofs.Search.{missed, missed_all, placed, probing-start, probing-above, probing-below}
+use Rattle.loop_history.proofs.Search.{row_not_found, missed_all, row_found_at_place, probing-start, probing-above, probing-below}
 use Rattle.loop_history.proofs.table.LoopTable.find.Goals.{then-found-offset-2, else-found-offset-2}
 use Rattle.loop_history.proofs.table.LoopTable.find.Goals as goal
 
@@ -11,11 +11,11 @@ loop-probe-init g c = record {
 
 pub returns-then-low-high-clause-place : goal.returns-then-low-high-clause-place
 returns-then-low-high-clause-place g c =
-    sym (missed c.args.self.now c.args.offset c.loop-probe.low c.loop-probe.high c.loop-probe._probe c.loop-probe.invariant.probing c.if-low-high.true)
+    sym (row_not_found c.args.self.now c.args.offset c.loop-probe.low c.loop-probe.high c.loop-probe._probe c.loop-probe.invariant.probing c.if-low-high.true)
 
 pub returns-then-found-offset-clause-place : goal.returns-then-found-offset-clause-place
 returns-then-found-offset-clause-place g c =
-    sym (placed c.args.self.now c.args.offset (c.loop-probe.low + (c.loop-probe.high - c.loop-probe.low) / 2) c.row.result.now c.len-high.ensures.rising
+    sym (row_found_at_place c.args.self.now c.args.offset (c.loop-probe.low + (c.loop-probe.high - c.loop-probe.low) / 2) c.row.result.now c.len-high.ensures.rising
     (omega (arith, c.loop-probe.invariant.probing.within)) c.row.ensures.row c.if-found-offset.true)
 
 pub loop-probe-preserved : goal.loop-probe-preserved

@@ -3,9 +3,9 @@ use Rattle.std.specs.Prelude.{slice_index_or, slice_set}
 use Rattle.std.specs.Option.{option_map}
 use Rattle.std.proofs.lemmas.List.{map-set}
 use Rattle.span_pool.specs.Pool.{spare_of}
-use Rattle.summary_tree.specs.Faces.{FacesView, IsTable, KeepsSpares, class_in, pool_in, summary_in, table_view}
+use Rattle.summary_tree.specs.Faces.{FacesView, IsEntryTable, KeepsSpares, class_in, pool_in, summary_in, table_view}
 use Rattle.summary_tree.proofs.SpanCounts.{no_fewer}
-use Rattle.summary_tree.proofs.FaceTables.{are_out, emptied, keeps_spares, read_at}
+use Rattle.summary_tree.proofs.FaceTables.{are_out, table_emptied, keeps_spares, read_at}
 use Rattle.summary_tree.proofs.faces.Faces.clear.Goals as goal
 
 pub give-requires : goal.give-requires
@@ -16,8 +16,8 @@ give-requires c =
 pub invariant_of-self : goal.invariant_of-self
 invariant_of-self c =
     let here : slice_index_or c.self.inside.entries.items c.args.at None ≡ Some c.in-Some.entry = read_at c.self.inside.entries.items c.args.at c.index_mut.result.now (Some c.in-Some.entry) c.index_mut.ensures.value (omega arith) (sym c.take.ensures.value ∙ c.in-Some.is) in
-    subst (λ o. IsTable (slice_set c.self.inside.entries.items c.args.at o) c.give.new.self) (sym c.take.ensures.after)
-    (emptied c.self.inside.entries.items c.self.inside.pools c.give.new.self c.args.at c.in-Some.entry c.self.invariant (omega arith) here c.give.ensures.out)
+    subst (λ o. IsEntryTable (slice_set c.self.inside.entries.items c.args.at o) c.give.new.self) (sym c.take.ensures.after)
+    (table_emptied c.self.inside.entries.items c.self.inside.pools c.give.new.self c.args.at c.in-Some.entry c.self.invariant (omega arith) here c.give.ensures.out)
 
 pub returns-in-Some-clause-faces : goal.returns-in-Some-clause-faces
 returns-in-Some-clause-faces c =

@@ -2,7 +2,7 @@ use Rattle.std.proofs.Common.{◌≡◌, ◌+◌, ◌<◌, List, ◌++◌, ◌�
 use Rattle.std.specs.Prelude.{slice_set}
 use Rattle.std.proofs.Math.Seq.{take-suc-set, length-take-le}
 use Rattle.summary_compose.specs.declared.room.Room.{Room}
-use Rattle.summary_compose.specs.Rooms.{greater}
+use Rattle.summary_compose.specs.Rooms.{greater_room}
 use Rattle.summary_tree.specs.Rooms.{greatest_of}
 use Rattle.summary_tree.proofs.RoomBounds.{greatest_push}
 use Rattle.summary_tree.proofs.rooms.Rooms.push.Goals as goal
@@ -18,5 +18,5 @@ invariant_of-self c =
     record {
       few = omega (arith, below);
       long = search rules;
-      greatest = c.max-self-inside.ensures.exact ∙ (ap (λ m. greater m c.args.room) c.self.invariant.greatest ∙ (sym (greatest_push before c.args.room) ∙ ap greatest_of (sym list)));
+      greatest = c.max-self-inside.ensures.exact ∙ (ap (λ m. greater_room m c.args.room) c.self.invariant.greatest ∙ (sym (greatest_push before c.args.room) ∙ ap greatest_of (sym list)));
     }

@@ -5,7 +5,7 @@ use Rattle.face_data.specs.Summaries.Outcome.{went_on}
 use Rattle.tree_shape.specs.Values.{leaf_values, part}
 use Rattle.value_tree.specs.Parts.{StandFor}
 use Rattle.summary_tree.specs.declared.store.FaceStore.{FaceStore}
-use Rattle.summary_tree.specs.Leaves.{WholeLeaf, applied_each, lines_of}
+use Rattle.summary_tree.specs.Leaves.{WholeLeaf, applied_each, leaf_line_count}
 use Rattle.summary_tree.specs.Store.{leaf_in, node_in}
 use Rattle.summary_tree.specs.Trees.{TreeView}
 use Rattle.summary_tree.proofs.Layouts.{count_is}
@@ -24,7 +24,7 @@ loops_behind-requires c =
       first,
       taken_together c.args.at (leaf_values (leaf_in here.store.faces here.store.tables.items) here.shape.tree) c.self.invariant.sound_leaves,
       subst (λ (s : FaceStore). StandFor WholeLeaf (part (leaf_in s.faces s.tables.items) (node_in s.faces)) c.in_ok-parts.parts.items first) (sym c.store.ensures) c.in_ok-parts.ensures.stand,
-      omega (arith, c.requires.lines, fewer_lines c.args.at (leaf_values (leaf_in here.store.faces here.store.tables.items) here.shape.tree), ap (λ (v : TreeView). lines_of v.leaves) c.self.view_is),
+      omega (arith, c.requires.lines, fewer_lines c.args.at (leaf_values (leaf_in here.store.faces here.store.tables.items) here.shape.tree), ap (λ (v : TreeView). leaf_line_count v.leaves) c.self.view_is),
     )
 
 pub returns : goal.returns

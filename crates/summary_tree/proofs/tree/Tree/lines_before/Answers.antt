@@ -1,7 +1,7 @@
 use Rattle.std.proofs.Common.{take, ◌∙◌, ap, arith}
 use Rattle.tree_shape.specs.Values.{leaf_values}
 use Rattle.value_tree.proofs.Descents.{total_some}
-use Rattle.summary_tree.specs.Leaves.{leaf_lines, lines_of}
+use Rattle.summary_tree.specs.Leaves.{leaf_lines, leaf_line_count}
 use Rattle.summary_tree.specs.Store.{leaf_in}
 use Rattle.summary_tree.specs.Trees.{TreeView}
 use Rattle.summary_tree.proofs.Layouts.{count_is, total_lines}
@@ -22,4 +22,4 @@ pub returns : goal.returns
 returns c =
     let here = c.self.inside.whole in
     let all = leaf_values (leaf_in here.store.faces here.store.tables.items) here.shape.tree in
-    c.count_before.ensures ∙ (total_lines (take c.args.at all) ∙ ap (λ (v : TreeView). lines_of (take c.args.at v.leaves)) c.self.view_is)
+    c.count_before.ensures ∙ (total_lines (take c.args.at all) ∙ ap (λ (v : TreeView). leaf_line_count (take c.args.at v.leaves)) c.self.view_is)

@@ -1,6 +1,6 @@
 use Rattle.std.proofs.Common.{ap}
 use Rattle.tree_shape.specs.View.{ShapeView}
-use Rattle.summary_tree.specs.Store.{places_in}
+use Rattle.summary_tree.specs.Store.{faces_place_count}
 use Rattle.summary_tree.proofs.Layouts.{is_same, keeps_place, keeps_room}
 use Rattle.summary_tree.proofs.tree.Tree.reserve.Goals as goal
 
@@ -32,4 +32,4 @@ returns-else-need-clause-keeps c =
     let then = c.reserve.new.self in
     let e = c.reserve.ensures in
     keeps_room here.shape here.store.faces here.store.tables.items here.store.scratch.room c.args.self.now c.self.view_is c.self.invariant then.shape then.store.faces then.store.tables.items then.store.scratch.room e.memory
-    (keeps_place (places_in here.store.faces here.store.tables.items) (places_in then.store.faces then.store.tables.items) here.shape then.shape e.slots e.shape)
+    (keeps_place (faces_place_count here.store.faces here.store.tables.items) (faces_place_count then.store.faces then.store.tables.items) here.shape then.shape e.slots e.shape)

@@ -6,7 +6,7 @@ use Rattle.tree_shape.specs.View.{ShapeView, IsSameShape}
 use Rattle.value_tree.specs.Kept.{IsReplaceNeed}
 use Rattle.summary_tree.specs.Leaves.{leaf_room}
 use Rattle.summary_tree.specs.Rooms.{kept_room}
-use Rattle.summary_tree.specs.Store.{leaf_in, node_in, places_in, HasRooms}
+use Rattle.summary_tree.specs.Store.{leaf_in, node_in, faces_place_count, HasRooms}
 use Rattle.summary_tree.specs.Trees.{TreeView, Meets, laid_out}
 use Rattle.summary_tree.proofs.Layouts.{count_is, is_same, keeps_place, keeps_room}
 use Rattle.summary_tree.proofs.Needs.{replace_met, same_self}
@@ -57,7 +57,7 @@ returns-in-Some-clause-keeps c =
     let then = c.reserve.new.self in
     let e = c.reserve.ensures in
     keeps_room here.shape here.store.faces here.store.tables.items here.store.scratch.room c.args.self.now c.self.view_is c.self.invariant then.shape then.store.faces then.store.tables.items then.store.scratch.room e.memory
-    (keeps_place (places_in here.store.faces here.store.tables.items) (places_in then.store.faces then.store.tables.items) here.shape then.shape e.slots e.shape)
+    (keeps_place (faces_place_count here.store.faces here.store.tables.items) (faces_place_count then.store.faces then.store.tables.items) here.shape then.shape e.slots e.shape)
 
 pub returns-in-None-clause-keeps : goal.returns-in-None-clause-keeps
 returns-in-None-clause-keeps c = λ need m. c.reserve_anew.ensures.keeps need (subst (λ (v : TreeView). Meets v need) (sym c.self.view_is) m)

@@ -4,7 +4,7 @@ use Rattle.tree_shape.specs.Values.{leaf_values}
 use Rattle.summary_tree.specs.declared.store.FaceStore.{FaceStore}
 use Rattle.summary_tree.specs.Faces.{face_in}
 use Rattle.summary_tree.specs.Leaves.{Leaf, IsRootOf, IsWholeOf}
-use Rattle.summary_tree.specs.Store.{leaf_in, place_of}
+use Rattle.summary_tree.specs.Store.{leaf_in, child_slot}
 use Rattle.summary_tree.specs.Trees.{TreeView}
 use Rattle.summary_tree.proofs.Meets.{part_face, same_there}
 use Rattle.summary_tree.proofs.Roots.{no_leaves}
@@ -25,7 +25,7 @@ returns-in-Some-face c =
     let all = leaf_values (leaf_in here.store.faces here.store.tables.items) here.shape.tree in
     let view = c.in-Some-face.face in
     let top = c.in-Some.ensures.stands in
-    let place = place_of c.in-Some.root in
+    let place = child_slot c.in-Some.root in
     let seen : face_in here.store.faces place ≡ Some (summary_of view) = ap (λ (s : FaceStore). face_in s.faces place) (sym c.store.ensures) ∙ c.in-Some-face.ensures.some in
     let there : face_in here.store.faces place ≡ Some top.0.0 = part_face here.store.faces here.store.tables.items c.in-Some.root top.0 top.1 in
     let whole = subst (IsWholeOf all) (same_there (face_in here.store.faces place) top.0.0 (summary_of view) there seen) top.2 in

@@ -1,7 +1,7 @@
 use Rattle.std.proofs.Common.{◌∙◌, ap, length, arith}
 use Rattle.std.proofs.lemmas.Result.{IfOk-weaker}
 use Rattle.knit_base.specs.declared.setting.Setting.{Setting}
-use Rattle.tally_tree.specs.Tallies.{counted}
+use Rattle.tally_tree.specs.Tallies.{counts_of_tally}
 use Rattle.tally_tree.proofs.DocRanges.{HasParts, has_parts, parts_cost, parts_seen, parts_told, some_range, tree_count, value_in}
 use Rattle.tally_tree.proofs.doc.TallyDoc.range.Given.{Over}
 use Rattle.tally_tree.proofs.doc.TallyDoc.range.Goals as goal
@@ -27,7 +27,7 @@ sum_of-requires-clause-stand g c =
 pub returns-clause-tally : goal.returns-clause-tally
 returns-clause-tally g c =
     let h = parts_seen _ _ _ _ _ _ _ _ (parts_now g (goal.at.returns-clause-tally g c).In_ok-parts) c.store.ensures c.deref.ensures.value in
-    IfOk-weaker _ _ _ (λ tally told. parts_told _ _ _ _ _ _ h (counted tally) told) c.sum_of.ensures.tally
+    IfOk-weaker _ _ _ (λ tally told. parts_told _ _ _ _ _ _ h (counts_of_tally tally) told) c.sum_of.ensures.tally
 
 pub returns-clause-steps : goal.returns-clause-steps
 returns-clause-steps g c =

@@ -2,7 +2,7 @@ use Rattle.std.proofs.Common.{◌≡◌, ◌+◌, ◌-◌, List, length, Some, s
 use Rattle.std.specs.List.{All}
 use Rattle.tree_shape.specs.declared.node.Node.{Node}
 use Rattle.tree_shape.specs.Numbers.{NumbersView}
-use Rattle.tree_shape.specs.Parents.{ParentsView, parents_of, rows_in, with_parents, RowIsPlaced, AreLinked}
+use Rattle.tree_shape.specs.Parents.{ParentsView, parents_of, rows_in, with_parents, RowIsPlaced, PartsHaveParents}
 use Rattle.tree_shape.specs.View.{tree_at}
 use Rattle.tree_shape.proofs.Halves.{built_shape, built_linked}
 use Rattle.tree_shape.proofs.shape.Shape.build.Goals as goal
@@ -30,7 +30,7 @@ invariant_of-result c =
       omega (arith, c.build_below-root.ensures.len, c.in_ok-nodes.ensures.len, more),
       omega (arith, c.in_ok-leaves.ensures.room, drawn),
       omega (arith, c.in_ok-inners.ensures.room, more),
-      subst (λ (w : ParentsView). AreLinked w (Some (tree_at nodes c.build_below-root.result))) (sym noted) (built_linked v nodes c.args.leaves c.build_below-root.result built.0 b c.in_ok-reserve.ensures.leaves c.in_ok-reserve.ensures.inners).0,
+      subst (λ (w : ParentsView). PartsHaveParents w (Some (tree_at nodes c.build_below-root.result))) (sym noted) (built_linked v nodes c.args.leaves c.build_below-root.result built.0 b c.in_ok-reserve.ensures.leaves c.in_ok-reserve.ensures.inners).0,
       record {
         leaves = omega (arith, drawn, c.in_ok-reserve.ensures.leaves, c.note_nodes.ensures.leaves);
         inners = omega (arith, more, c.in_ok-reserve.ensures.inners, c.note_nodes.ensures.inners);

@@ -1,10 +1,10 @@
 use Rattle.std.proofs.Common.{◌≡◌, ◌≤◌, length, Some, refl, sym, ◌∙◌, ap, subst, arith}
 use Rattle.tree_shape.specs.Tree.{leaves}
-use Rattle.tree_shape.specs.Plan.{erase}
+use Rattle.tree_shape.specs.Plan.{tree_of_plan}
 use Rattle.tree_shape.specs.Numbers.{NumbersView, next_number}
-use Rattle.tree_shape.specs.View.{count_of, leaves_of_tree, tree_with}
-use Rattle.tree_shape.specs.Values.{refreshed}
-use Rattle.tree_shape.specs.Composing.{Costs, spent}
+use Rattle.tree_shape.specs.View.{leaf_count_of, leaves_of_tree, tree_with}
+use Rattle.tree_shape.specs.Values.{values_refreshed}
+use Rattle.tree_shape.specs.Composing.{Costs, steps_of_rows}
 use Rattle.tree_shape.proofs.NumberCounts.{fresh, next_place}
 use Rattle.tree_shape.proofs.Shapes.{taken_drawn}
 use Rattle.tree_shape.proofs.PlanSteps.{gathered_same}
@@ -66,17 +66,17 @@ returns g c =
           let slots : g.S.Values.slots c.refresh.new.store ≡ g.S.Values.slots c.args.self.now.store = c.refresh.ensures.slots ∙ c.set_leaf.ensures.slots in
           ended g.S.Values.join g.S.Values.fits g.S.Values.cost g.S.Values.room g.S.Values.after g.S.Values.within g.S.Values.sound g.S.Values.stands then (g.S.Values.leaf_at c.refresh.new.store) nodes (g.S.Values.node_at c.refresh.new.store) step.0 need.2.0 after_shape (g.S.Values.slots c.refresh.new.store)
           (seen ∙ ap (λ v. Some v) step.1) step.3.change c.refresh.ensures.leaves
-          (λ k. c.refresh.ensures.nodes k ∙ ap (λ xs. refreshed g.S.Values.join then nodes xs k) (c.insert-number.ensures.listed ∙ step.2))
+          (λ k. c.refresh.ensures.nodes k ∙ ap (λ xs. values_refreshed g.S.Values.join then nodes xs k) (c.insert-number.ensures.listed ∙ step.2))
           step.3.there step.3.sound_then
           (omega (arith, slots, c.requires.leaf_slot, ap (λ (v : NumbersView). v.drawn) c.insert-number.ensures.leaf_numbers, taken_drawn old.leaf_numbers))
           (omega (arith, slots, c.requires.inner_slot, ap (λ (v : NumbersView). v.drawn) c.insert-number.ensures.inner_numbers, inners_drawn old.tree old.inner_numbers));
       leaves =
           let end = g.S.Values.leaf_at c.refresh.new.store in
-          rw (seen ∙ ap (λ v. Some v) step.1) (sym (gathered_same then end (leaves (erase step.0)) (λ k h. sym (c.refresh.ensures.leaves k))) ∙ step.3.values);
+          rw (seen ∙ ap (λ v. Some v) step.1) (sym (gathered_same then end (leaves (tree_of_plan step.0)) (λ k h. sym (c.refresh.ensures.leaves k))) ∙ step.3.values);
       steps = λ each costs.
           let few = step.3.change.few each (subst (Costs g.S.Values.stands g.S.Values.cost each) (sym step.3.values) costs) in
-          rw step.2 (omega (arith, few, c.refresh.ensures.steps, ap (spent g.S.Values.join g.S.Values.cost then nodes) (c.insert-number.ensures.listed ∙ step.2)));
+          rw step.2 (omega (arith, few, c.refresh.ensures.steps, ap (steps_of_rows g.S.Values.join g.S.Values.cost then nodes) (c.insert-number.ensures.listed ∙ step.2)));
       number = c.insert-number.ensures.number;
       numbers = c.insert-number.ensures.leaves;
-      rows = let n = count_of after_shape.tree in omega (arith, c.insert-number.ensures.few (highest n) (highest_bounds n), ap length c.insert-number.ensures.listed);
+      rows = let n = leaf_count_of after_shape.tree in omega (arith, c.insert-number.ensures.few (highest n) (highest_bounds n), ap length c.insert-number.ensures.listed);
     }
