@@ -1,30 +1,48 @@
 //! The loops made, as JSON.
-ghost use Rattle.std.specs.Prelude.{◌≡◌, ◌+◌, ◌++◌, codes, drop, map, string_bytes, OnOk};
+ghost use Rattle.std.specs.Prelude.{◌≡◌, ◌+◌, ◌++◌, ◌∷◌, [], codes, decimal, drop, map, string_bytes, OnOk};
 ghost use Rattle.carriage_model.specs.FactList.{lent_fact};
-ghost use Rattle.verdict_report.specs.JsonText.{dir_member, list_member, list_text, loop_json, loop_place, more_text, next_text};
+ghost use Rattle.verdict_report.specs.JsonText.{list_member, list_text, loop_json, loop_place, more_text, next_text};
 
-use crate::json_items::append_needle_member;
 use crate::json_list::append_list_member;
+use crate::strip::Strip;
 use carriage_model::{FactRef, Facts};
-use knit_base::{Dir, NoMemory, append_labelled};
-
-// Appends a direction, behind its key.
-fn append_dir(dir: Dir, out: &mut Vec<u8>) -> Result<(), NoMemory>
-    ensures { OnOk result (out.new.items ≡ out.old.items ++ dir_member dir) }
-{
-    out.extend_from_slice(b"{\"dir\":\"")?;
-    out.extend_from_slice(dir.sign().as_bytes())?;
-    out.extend_from_slice(b"\"")?;
-    Ok(())
-}
+use knit_base::NoMemory;
 
 // Appends the direction, the line and the needle of a loop.
 fn append_place(fact: &FactRef, out: &mut Vec<u8>) -> Result<(), NoMemory>
     ensures { OnOk result (out.new.items ≡ out.old.items ++ loop_place (lent_fact fact.now)) }
 {
-    append_dir(fact.dir, out)?;
-    append_labelled(",\"line\":", u64::from(fact.line), out)?;
-    append_needle_member(fact.needle, out)?;
+    let mut place = Strip::new();
+    place.put("\"");
+    place.put_needle(fact.needle);
+    place.put(",\"needle\":\"");
+    place.put_number(fact.line);
+    place.put("\",\"line\":");
+    place.put(fact.dir.sign());
+    place.put("{\"dir\":\"");
+    out.extend_from_slice(place.as_slice())?;
+    Ok(())
+}
+
+// Appends the lines of the loops that a loop goes through, behind their key.
+fn append_through(lines: &[u32], strings: &[String], out: &mut Vec<u8>) -> Result<(), NoMemory>
+    ensures { OnOk result (out.new.items ≡ out.old.items ++ list_member (codes ",\"through\":") decimal lines.now) }
+{
+    match lines {
+        [line] => append_through_one(*line, out),
+        _ => append_list_member(",\"through\":", lines, strings, out),
+    }
+}
+
+// The same of one loop.
+fn append_through_one(line: u32, out: &mut Vec<u8>) -> Result<(), NoMemory>
+    ensures { OnOk result (out.new.items ≡ out.old.items ++ list_member (codes ",\"through\":") decimal (line ∷ [])) }
+{
+    let mut text = Strip::new();
+    text.put("]");
+    text.put_number(line);
+    text.put(",\"through\":[");
+    out.extend_from_slice(text.as_slice())?;
     Ok(())
 }
 
@@ -33,7 +51,7 @@ fn append_loop(fact: &FactRef, strings: &[String], out: &mut Vec<u8>) -> Result<
     ensures { OnOk result (out.new.items ≡ out.old.items ++ loop_json (map string_bytes strings.now) (lent_fact fact.now)) }
 {
     append_place(fact, out)?;
-    append_list_member(",\"through\":", fact.through, strings, out)?;
+    append_through(fact.through, strings, out)?;
     append_list_member(",\"yarns\":", fact.yarns, strings, out)?;
     out.extend_from_slice(b"}")?;
     Ok(())

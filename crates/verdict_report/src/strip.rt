@@ -1,7 +1,10 @@
 //! A line that is put together from its end, in place.
 ghost use Rattle.std.specs.Prelude.{◌≡◌, ◌+◌, ◌≤◌, [], ◌++◌, decimal, length};
+ghost use Rattle.std.specs.Fmt.{signed_decimal};
+ghost use Rattle.knit_base.specs.Spelling.{needle_text};
 
 use itoa::write_digits;
+use knit_base::Needle;
 use std::marker::Model;
 
 // How many bytes there is room for.
@@ -58,6 +61,30 @@ impl Strip {
         ensures len { length self.new ≤ 10 + length self.old }
     {
         self.start = write_digits(u64::from(number), &mut self.bytes, self.start);
+    }
+
+    /// Puts a needle before the line: its bed and its number.
+    #[inline(always)]
+    pub fn put_needle(&mut self, needle: Needle)
+        requires room { 13 + length self.old ≤ 64 }
+        ensures text { self.new ≡ needle_text needle ++ self.old }
+        ensures len { length self.new ≤ 13 + length self.old }
+    {
+        self.put_signed(needle.at);
+        self.put(needle.bed.letters());
+    }
+
+    // Puts a number with its sign before the line, in decimal.
+    #[inline(always)]
+    fn put_signed(&mut self, number: i16)
+        requires room { 11 + length self.old ≤ 64 }
+        ensures text { self.new ≡ signed_decimal number ++ self.old }
+        ensures len { length self.new ≤ 11 + length self.old }
+    {
+        self.put_number(u32::from(number.unsigned_abs()));
+        if number < 0 {
+            self.put("-");
+        }
     }
 
     /// The line's bytes.

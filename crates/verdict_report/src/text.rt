@@ -6,6 +6,7 @@ ghost use Rattle.carriage_model.specs.Verdict.{held_on};
 ghost use Rattle.verdict_report.specs.VerdictText.{broken_brief, broken_text, end_text, line_word, lines_text, loop_text, loops_text, name_word, names_text, loop_place_text, rule_word, set_text, sound_brief, sound_text, stack_text, verdict_text};
 
 use crate::carriers::carriers_of;
+use crate::strip::Strip;
 use carriage_model::{FactRef, Facts, Final, Stack, Verdict};
 use knit_base::{
     CarrierNo, Declared, Fault, NoMemory, Quarter, Rule, append_labelled, append_needle,
@@ -188,11 +189,41 @@ pub(crate) fn append_end(
 fn append_place(fact: &FactRef, out: &mut Vec<u8>) -> Result<(), NoMemory>
     ensures { OnOk result (out.new.items ≡ out.old.items ++ loop_place_text (lent_fact fact.now)) }
 {
-    append_labelled("loop ", u64::from(fact.line), out)?;
-    out.extend_from_slice(b" on ")?;
-    append_needle(fact.needle, out)?;
-    out.extend_from_slice(b" ")?;
-    out.extend_from_slice(fact.dir.sign().as_bytes())?;
+    let mut place = Strip::new();
+    place.put(fact.dir.sign());
+    place.put(" ");
+    place.put_needle(fact.needle);
+    place.put(" on ");
+    place.put_number(fact.line);
+    place.put("loop ");
+    out.extend_from_slice(place.as_slice())?;
+    Ok(())
+}
+
+// Appends the lines of the loops that a loop goes through, and ends its line.
+fn append_through(lines: &[u32], out: &mut Vec<u8>) -> Result<(), NoMemory>
+    ensures { OnOk result (out.new.items ≡ out.old.items ++ (codes " through" ++ (lines_text lines.now ++ codes "\n"))) }
+{
+    match lines {
+        [line] => append_through_one(*line, out),
+        _ => {
+            out.extend_from_slice(b" through")?;
+            append_lines(lines, out)?;
+            out.extend_from_slice(b"\n")?;
+            Ok(())
+        }
+    }
+}
+
+// The same of one loop.
+fn append_through_one(line: u32, out: &mut Vec<u8>) -> Result<(), NoMemory>
+    ensures { OnOk result (out.new.items ≡ out.old.items ++ (codes " through" ++ (line_word line ++ codes "\n"))) }
+{
+    let mut text = Strip::new();
+    text.put("\n");
+    text.put_number(line);
+    text.put(" through ");
+    out.extend_from_slice(text.as_slice())?;
     Ok(())
 }
 
@@ -207,10 +238,7 @@ pub(crate) fn append_loop(
     append_place(fact, out)?;
     out.extend_from_slice(b" with")?;
     append_names(fact.yarns, declared, out)?;
-    out.extend_from_slice(b" through")?;
-    append_lines(fact.through, out)?;
-    out.extend_from_slice(b"\n")?;
-    Ok(())
+    append_through(fact.through, out)
 }
 
 // Appends the line of the loop at this place, if there is one.

@@ -7,8 +7,8 @@ use Rattle.verdict_report.proofs.json_loops.append_loop.Goals as goal
 pub returns : goal.returns
 unfolding loop_json
 returns c =
-    let end : c.extend_from_slice.new.self.items ≡ c.append_list_member-2.new.out.items ++ codes "}" = search rules in
-    after_four c.args.out.now.items c.append_place.new.out.items c.append_list_member.new.out.items c.append_list_member-2.new.out.items c.extend_from_slice.new.self.items
+    let end : c.extend_from_slice.new.self.items ≡ c.append_list_member.new.out.items ++ codes "}" = search rules in
+    after_four c.args.out.now.items c.append_place.new.out.items c.append_through.new.out.items c.append_list_member.new.out.items c.extend_from_slice.new.self.items
     (loop_place (lent_fact c.args.fact.now)) (list_member (codes ",\"through\":") decimal c.args.fact.now.through.now)
     (list_member (codes ",\"yarns\":") (string_of (map string_bytes c.args.strings.now)) c.args.fact.now.yarns.now) (codes "}")
-    c.in_ok-append_place.ensures c.in_ok-append_list_member.ensures c.in_ok-append_list_member-2.ensures end
+    c.in_ok-append_place.ensures c.in_ok-append_through.ensures c.in_ok-append_list_member.ensures end
