@@ -122,9 +122,9 @@ impl Chains {
     /// Whether a condition to which a link of this chain leads says that these needles hold at most so many loops together.
     pub fn finds(&self, chain: usize, names: &[Needle], needles: &[Needle], most: u8) -> bool
         requires chain { chain < 256 }
-        requires fit { (l : Link) → Contains self.now.links l → CondFits names.now l.cond }
-        ensures yes { IsTrue result → (l : Link) × Contains self.now.links l × (bearing (ask_of names.now l.cond) (size_at_most needles.now most) ≡ Implied) }
-        ensures none { result ≡ false → (l : Link) → Contains self.now.links l → l.chain ≡ chain → bearing (ask_of names.now l.cond) (size_at_most needles.now most) ≡ Silent }
+        requires fit { (l : ConditionLink) → Contains self.now.links l → CondFits names.now l.cond }
+        ensures yes { IsTrue result → (l : ConditionLink) × Contains self.now.links l × (bearing (ask_of names.now l.cond) (size_at_most needles.now most) ≡ Implied) }
+        ensures none { result ≡ false → (l : ConditionLink) → Contains self.now.links l → l.chain ≡ chain → bearing (ask_of names.now l.cond) (size_at_most needles.now most) ≡ Silent }
     {
         let mut limit = self.links.len();
         let mut place = self.lasts.get(chain);

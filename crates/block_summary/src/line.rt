@@ -239,7 +239,7 @@ impl Draft {
     ) -> Result<Option<FormedLoop>, NoMemory>
         requires hook { 1 ≤ length yarns.now → is_slider n.bed ≡ false }
         requires few { self.old.lines < 2 ^ 32 - 1 }
-        ensures { IfOk result (λ formed. MatchOption formed (self.new ≡ self.old) (λ l. (profile : Profile) → profile.float ≡ limit → AreNearIn self.old limit n yarns.now → EndsAs profile (read.Instr (Knit dir n yarns.now)) self.old self.new (LineEnd.GoesOn (Some l)))) }
+        ensures { IfOk result (λ formed. MatchOption formed (self.new ≡ self.old) (λ l. (profile : Profile) → profile.float ≡ limit → AreNearIn self.old limit n yarns.now → EndsAs profile (read.Instr (Knit dir n yarns.now)) self.old self.new (DraftedLineEnd.GoesOn (Some l)))) }
     {
         if yarns.len() == 0 {
             return Ok(None);
